@@ -1,18 +1,13 @@
 -- A script whose checkpoints exist is refused only by a sink or for lack of memory.
-use Rattle.std.proofs.Common.{Bool, ◌≡◌, ℕ, zero, suc, ◌+◌, ◌<◌, List, [], ◌∷◌, length, map}
-use Rattle.std.proofs.Common.{take, drop, Option, Some, ap, subst, ◌∙◌, arith, length-append}
-use Rattle.std.specs.List.{slice_get}
+use Rattle.std.proofs.Common.{Bool, ◌≡◌, ℕ, zero, suc, ◌+◌, ◌<◌, List, [], ◌∷◌, length, map, take}
+use Rattle.std.proofs.Common.{drop, Option, Some, ap, subst, ◌∙◌, arith, length-append, slice_get}
 use Rattle.std.proofs.lemmas.Option.{slice_get_within}
 use Rattle.tape_set.specs.Layout.{FileSet}
-use Rattle.tape_run.specs.Mount.{MountEvent}
-use Rattle.tape_run.specs.declared.script.Step.{Step}
+use Rattle.tape_run.specs.{Mount.MountEvent, Headline.reels_in, Seen.Seen, History.IsHistory}
+use Rattle.tape_run.specs.declared.{script.Step.Step, fault.RunFault.RunFault}
 use Rattle.tape_run.specs.declared.script.Step.TheVariants.{Reel, Save, Restart}
-use Rattle.tape_run.specs.declared.fault.RunFault.{RunFault}
 use Rattle.tape_run.specs.declared.fault.RunFault.TheVariants.{Sink, NoSuchPoint, TooFewReels}
 use Rattle.tape_run.specs.declared.fault.RunFault.TheVariants.{OutOfMemory, OtherFile}
-use Rattle.tape_run.specs.Headline.{reels_in}
-use Rattle.tape_run.specs.Seen.{Seen}
-use Rattle.tape_run.specs.History.{IsHistory}
 use Rattle.tape_run.specs.Runs.{Runs, RunsUpTo, Fails, IsRefusal}
 use Rattle.tape_run.specs.Steps.{ReelFails, SaveFails, RestartFails}
 use Rattle.tape_run.proofs.Headline.{took_so_many}
@@ -47,8 +42,7 @@ first_refusal : (step : Step) (steps : List Step) (bytes given : List (List ℕ)
     → IsHistory set (length old.notes) (step ∷ steps) given (h ∷ hs) → IsRefusal fault
 first_refusal Reel steps bytes [] fault old new set x hs m f h = absurd h
 first_refusal Reel steps [] (g ∷ given) fault old new set x hs m f h = absurd (omega (arith, m))
-first_refusal Reel steps (b ∷ bs) (g ∷ given) fault old new set x hs m f h =
-    reel_refusal fault b old new f
+first_refusal Reel steps (b ∷ bs) (g ∷ given) fault old new set x hs m f h = reel_refusal _ _ _ _ f
 first_refusal Save steps bytes given fault old new set x hs m f h = save_refusal fault old new f
 first_refusal (Restart k) steps bytes given fault old new set x hs m f (e, less, h) =
     restart_refusal fault k old new less f
@@ -98,5 +92,4 @@ pub answered : (which : List Bool) (old new : Seen) (steps : List Step)
     → length given ≡ length bytes → RunsUpTo which old steps (map Some bytes) left n fault new
     → IsHistory set (length old.notes) steps given hs → IsRefusal fault
 answered which old new steps bytes given left n fault set hs m r h =
-    at_step n r.step which old r.mid new steps bytes given left fault set hs m r.at r.runs r.fails
-    h
+    at_step _ _ _ _ _ _ _ _ _ _ _ _ _ m r.at r.runs r.fails h

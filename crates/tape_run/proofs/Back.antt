@@ -1,23 +1,19 @@
 -- Complete readings of all volumes recover a complete file.
-use Rattle.std.proofs.Common.{◌≡◌, ℕ, zero, suc, ◌+◌, ◌<◌, ◌≤◌, Bool, true, false, List}
-use Rattle.std.proofs.Common.{[], ◌∷◌, ◌++◌}
-use Rattle.std.proofs.Common.{length, map, Option, Some, None, refl, sym, ap, subst, ◌∙◌, arith}
-use Rattle.std.specs.Prelude.{IsSome, replicate, min, unwrap_or}
+use Rattle.std.proofs.Common.{◌≡◌, ℕ, zero, suc, ◌+◌, ◌<◌, ◌≤◌, Bool, true, false, List, [], ◌∷◌}
+use Rattle.std.proofs.Common.{◌++◌, length, map, Option, Some, None, refl, sym, ap, subst, ◌∙◌}
+use Rattle.std.proofs.Common.{arith, IsSome, replicate, min, unwrap_or}
 use Rattle.tape_blocks.specs.Spans.{join}
 use Rattle.tape_image.specs.Tape.{TapeItem}
 use Rattle.tape_set.specs.declared.position.Position.TheVariants.{Finished}
 use Rattle.tape_set.specs.Layout.{FileSet, Section, Volume, nth, file_of, items}
-use Rattle.tape_set.specs.Lawful.{IsLawful}
-use Rattle.tape_set.specs.Before.{before, section_parts}
+use Rattle.tape_set.specs.{Lawful.IsLawful, Before.before, Before.section_parts, Reach.far}
+use Rattle.tape_set.specs.Reach.{far_over}
 use Rattle.tape_set.specs.Reading.{Reading, as_read, whole_reading, whole_readings}
-use Rattle.tape_set.specs.Reach.{far, far_over}
 use Rattle.tape_set.proofs.AllVolumes.{file_is_lawful, there_and_back}
 use Rattle.tape_set.proofs.FileParts.{file_whole}
-use Rattle.tape_run.specs.Mount.{reads, IsCopy, IsMountOf}
-use Rattle.tape_run.specs.History.{Course, course, IsHistory}
-use Rattle.tape_run.specs.Seen.{Seen}
-use Rattle.tape_run.specs.Headline.{begins, IsRead}
-use Rattle.tape_run.specs.Given.{AreGivenBy, failed_of, counted_up}
+use Rattle.tape_run.specs.{Mount.reads, Mount.IsCopy, Mount.IsMountOf, History.Course}
+use Rattle.tape_run.specs.{History.course, History.IsHistory, Seen.Seen, Headline.begins}
+use Rattle.tape_run.specs.{Headline.IsRead, Given.AreGivenBy, Given.failed_of, Given.counted_up}
 use Rattle.tape_run.specs.Back.{reels_of, AreVolumes}
 
 -- ---- a history of readings

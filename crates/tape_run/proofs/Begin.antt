@@ -1,23 +1,16 @@
 -- Sessions that begin.
 use Rattle.std.proofs.Common.{◌≡◌, ℕ, List, [], Option, refl, sym, ap, subst, ◌∙◌, length}
 use Rattle.tape_blocks.specs.Block.{Portion}
-use Rattle.tape_set.specs.Position.{start}
-use Rattle.tape_set.specs.Layout.{FileSet}
-use Rattle.tape_set.specs.Before.{before, IsIn}
+use Rattle.tape_set.specs.{Position.start, Layout.FileSet, Before.before, Before.IsIn}
 use Rattle.tape_set.proofs.AllVolumes.{has_start}
-use Rattle.tape_core.specs.Point.{Point}
-use Rattle.tape_core.specs.State.{State}
-use Rattle.tape_core.specs.Table.{reader_of}
-use Rattle.tape_core.specs.Stands.{Stands}
+use Rattle.tape_core.specs.{Point.Point, State.State, Table.reader_of, Stands.Stands, Follows.IsAt}
 use Rattle.tape_core.specs.Place.{rest_of, place_of, IsPlaced}
-use Rattle.tape_core.specs.Follows.{IsAt}
 use Rattle.tape_core.proofs.Standing.{rests, stood}
 use Rattle.tape_run.specs.declared.script.Step.{Step}
 use Rattle.tape_run.specs.Seen.{Seen, IsSession, IsKept}
 use Rattle.tape_run.specs.History.{Course, course, course_of, IsHistory}
 use Rattle.tape_run.specs.Headline.{HasRun, begins, IsNew, IsStart, IsRead}
-use Rattle.tape_run.specs.Given.{counted_up, failed_of}
-use Rattle.tape_run.specs.Lead.{at_start}
+use Rattle.tape_run.specs.{Given.counted_up, Given.failed_of, Lead.at_start}
 
 pub is_new : (set : FileSet) (set_id : List ℕ)
     (file : ℕ) (core place : State) (failures refusals : ℕ) (notes : List Point)

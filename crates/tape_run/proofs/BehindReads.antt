@@ -1,35 +1,24 @@
 -- If the table leads over a mount of a valid set, that mount was read.
 use Rattle.std.proofs.Common.{◌≡◌, ◌≢◌, ◌⊎◌, inl, inr, ℕ, ◌+◌, ◌<◌, List, [], ◌∷◌, ◌++◌, length}
 use Rattle.std.proofs.Common.{drop, Some, refl, sym, ap, subst, ◌∙◌, arith, append-nil}
-use Rattle.std.proofs.Common.{append_assoc, length-append}
-use Rattle.std.specs.List.{slice_get}
+use Rattle.std.proofs.Common.{append_assoc, length-append, slice_get}
 use Rattle.tape_blocks.specs.Block.{Portion}
 use Rattle.tape_image.specs.Tape.{TapeItem, block}
 use Rattle.tape_set.specs.declared.position.Position.{Position}
-use Rattle.tape_set.specs.Layout.{FileSet}
-use Rattle.tape_set.specs.Lawful.{IsLawful}
-use Rattle.tape_set.specs.Position.{part_of}
-use Rattle.tape_set.specs.Before.{before}
-use Rattle.tape_core.specs.declared.event.Answer.{Answer}
+use Rattle.tape_set.specs.{Layout.FileSet, Lawful.IsLawful, Position.part_of, Before.before}
+use Rattle.tape_core.specs.declared.event.{Answer.Answer, Phase.Phase, Phase.TheVariants.Broken}
 use Rattle.tape_core.specs.declared.event.Answer.TheVariants.{Passed, Deliver, SectionDone}
 use Rattle.tape_core.specs.declared.event.Answer.TheVariants.{Complete, Useless}
-use Rattle.tape_core.specs.State.{State}
-use Rattle.tape_core.specs.declared.event.Phase.{Phase}
-use Rattle.tape_core.specs.declared.event.Phase.TheVariants.{Broken}
-use Rattle.tape_core.specs.Place.{IsPlaced, rest_of, resting}
+use Rattle.tape_core.specs.{State.State, Place.IsPlaced, Place.rest_of, Place.resting}
 use Rattle.tape_core.specs.Table.{step_of, mount_of, mounted}
 use Rattle.tape_set.specs.declared.position.Position.TheVariants.{Awaits, Finished}
 use Rattle.tape_core.proofs.OneFile.{step_file}
 use Rattle.tape_run.specs.Mount.{MountEvent, IsMount, after_mount, cut}
-use Rattle.tape_run.specs.Reels.{behind_items}
-use Rattle.tape_run.specs.ByTable.{parts_at, delivered_parts, IsLed}
-use Rattle.tape_run.specs.GoesBehind.{ReadsByHistory}
-use Rattle.tape_run.specs.Steps.{ReadBy}
-use Rattle.tape_run.specs.Under.{is_under}
-use Rattle.tape_run.proofs.ByTable.{puts_delivered, puts_none}
-use Rattle.tape_run.proofs.GoesBehind.{leads_over_all}
-use Rattle.tape_run.proofs.Mounts.{Both, both, reached, cut_whole, begins}
+use Rattle.tape_run.specs.{Reels.behind_items, ByTable.parts_at, ByTable.delivered_parts}
+use Rattle.tape_run.specs.{ByTable.IsLed, GoesBehind.ReadsByHistory, Steps.ReadBy, Under.is_under}
+use Rattle.tape_run.proofs.{ByTable.puts_delivered, ByTable.puts_none, GoesBehind.leads_over_all}
 use Rattle.tape_run.proofs.Places.{gives_block, gives_none}
+use Rattle.tape_run.proofs.Mounts.{Both, both, reached, cut_whole, begins}
 
 deliver_or : (a : Answer) → (a ≡ Deliver) ⊎ (a ≢ Deliver)
 deliver_or Deliver = inl refl
@@ -80,29 +69,27 @@ read_on set p h taken [] whole core held l is m at under =
     let all : whole ≡ taken = is ∙ append-nil taken in
     record {
       at = subst (λ (q : List Portion). IsPlaced set (rest_of core) q) (sym (append-nil held)) at;
-      position = reached core set p whole (length taken) h l m under
-          ∙ ap (after_mount set core.file p) (ap (λ (z : List TapeItem). cut (length z) h) (sym all)
-          ∙ cut_whole set whole h m);
+      position = reached _ _ _ _ _ _ l m under ∙ ap (after_mount set core.file p) (ap
+          (λ (z : List TapeItem). cut (length z) h) (sym all) ∙ cut_whole _ _ _ m);
     }
 read_on set p h taken (x ∷ rest) whole core held l is m at under =
     let here : Some x ≡ slice_get whole (length taken) =
     sym (ap (λ (z : List TapeItem). slice_get z (length taken)) is ∙ slice_at taken rest x) in
     let less : length taken < length whole =
     omega (arith, ap length is, length-append taken (x ∷ rest)) in
-    let b = both core (step_of core (Some x)) (Some x) refl set held p whole (length taken) h l m at
-    under less here in
+    let b = both _ (step_of core (Some x)) _ refl _ _ _ _ _ _ l m at under less here in
     let new = (step_of core (Some x)).1 in
     let more : whole ≡ (taken ++ x ∷ []) ++ rest = is ∙ sym (append_assoc taken (x ∷ []) rest) in
     let count : length taken + 1 ≡ length (taken ++ x ∷ []) =
     sym (length-append taken (x ∷ [])) in
     let then = read_on set p h (taken ++ x ∷ []) rest whole new (held ++ parts_at core x) l more m
-    (placed_behind core x set held p whole (length taken) h at b)
-    (subst (λ n. is_under new set p whole n h) count b.under) in
+    (placed_behind _ _ _ _ _ _ _ _ at b) (subst (λ n. is_under new set p whole n h) count b.under)
+    in
     let file : new.file ≡ core.file = step_file core (step_of core (Some x)) (Some x) refl in
     subst (λ (q : List Portion). ReadBy set core.file p h (rest_of (behind_items new rest)) q)
-    (append_assoc held (parts_at core x) (delivered_parts new rest))
-    (subst (λ (f : ℕ). ReadBy set f p h (rest_of (behind_items new rest))
-    ((held ++ parts_at core x) ++ delivered_parts new rest)) file then)
+    (append_assoc held (parts_at core x) (delivered_parts new rest)) (subst (λ (f : ℕ). ReadBy set f
+    p h (rest_of (behind_items new rest)) ((held ++ parts_at core x) ++ delivered_parts new rest))
+    file then)
 
 rest_mounted : (p : Phase) (q : Position) → resting (mounted p q) ≡ resting p
 rest_mounted Broken q = refl
@@ -132,8 +119,6 @@ led_reads set h xs place new held now l m rest at led =
 
 pub reads_by_history : ReadsByHistory
 reads_by_history set h old new core bytes left failed front more end stop l rest m at over r b =
-    led_reads set h (front ++ more) old.place new.place old.parts new.parts l m
-    (rest ∙ (ap (λ f. record core { phase = f }) (sym (rest_twice core.phase))
-    ∙ ap rest_of (sym rest))) at
-    (leads_over_all old.place new.place front more old.parts new.parts over
-    (r.table more end stop b))
+    led_reads _ _ _ _ _ _ _ l m (rest ∙ (ap (λ f. record core { phase = f })
+    (sym (rest_twice core.phase)) ∙ ap rest_of (sym rest))) at (leads_over_all old.place new.place
+    front more old.parts new.parts over (r.table more end stop b))

@@ -2,18 +2,13 @@
 use Rattle.std.proofs.Common.{◌≡◌, ℕ, zero, suc, ◌<◌, ◌≤◌, Bool, List, [], ◌∷◌, ◌++◌, length, map}
 use Rattle.std.proofs.Common.{◌+◌, take, drop, refl, sym, ap, subst, ◌∙◌, arith, append_assoc}
 use Rattle.std.proofs.Common.{append-nil, length-append}
-use Rattle.tape_blocks.specs.declared.parts.Part.{Part}
-use Rattle.tape_blocks.specs.Block.{Portion}
-use Rattle.tape_blocks.specs.Spans.{leaves}
-use Rattle.tape_blocks.specs.Parts.{view}
-use Rattle.std.specs.Iterator.{YieldsFirstBy, Yields}
-use Rattle.tape_blocks.specs.declared.parts.Parts.{Parts}
-use Rattle.tape_blocks.specs.PartsLeft.{parts_left}
-use Rattle.tape_blocks.proofs.YieldLaws.{yielded_parts}
+use Rattle.tape_blocks.specs.declared.parts.{Part.Part, Parts.Parts}
+use Rattle.tape_blocks.specs.{Block.Portion, Spans.leaves, Parts.view, PartsLeft.parts_left}
 use Rattle.tape_blocks.specs.Judged.{begun_behind}
+use Rattle.std.specs.Iterator.{YieldsFirstBy, Yields}
+use Rattle.tape_blocks.proofs.YieldLaws.{yielded_parts}
 use Rattle.tape_core.specs.declared.sink.PartSink.{Ghosts}
-use Rattle.tape_core.proofs.Crashes.{only_same}
-use Rattle.tape_core.proofs.StateLaws.{one_more}
+use Rattle.tape_core.proofs.{Crashes.only_same, StateLaws.one_more}
 use Rattle.tape_run.specs.Crash.{BringsNoMore}
 use Rattle.tape_run.proofs.Crashes.{adds_then}
 
@@ -77,9 +72,8 @@ module _ {S : Type 0} (g : Ghosts S) (old : S) (first : ℕ) (begun : Bool) wher
   -- one more part was put
   pub one_put : (mid new : S) (seen : ℕ) (going : Bool) (came : List Portion) (p : Portion)
       → first ≤ seen → ((parts : List Portion) → g.holds mid parts → g.holds new (parts ++ p ∷ []))
-      → g.refusals new ≡ g.refusals mid
-      → BringsNoMore g mid new
-      → Puts mid seen going came → Puts new (seen + 1) (leaves p.span) (came ++ p ∷ [])
+      → g.refusals new ≡ g.refusals mid → BringsNoMore g mid new → Puts mid seen going came
+      → Puts new (seen + 1) (leaves p.span) (came ++ p ∷ [])
   one_put mid new seen going came p le put calm crash s =
       let next = drop_push first came p (omega (arith, le, s.count)) in
       record {

@@ -1,31 +1,24 @@
 -- Items that the table processes one after another.
-use Rattle.std.proofs.Common.{zero, suc, ◌+◌, ◌-◌, ◌<◌, ◌≤◌, arith, take, length, length-drop}
+use Rattle.std.proofs.Common.{zero, suc, ◌+◌, ◌-◌, ◌<◌, ◌≤◌, arith, take, length, length-drop, ◌≡◌}
+use Rattle.std.proofs.Common.{◌≢◌, ℕ, List, [], ◌∷◌, ◌++◌, drop, Option, Some, None, refl, sym, ap}
+use Rattle.std.proofs.Common.{subst, ◌∙◌, append_assoc, append-nil}
 use Rattle.std.proofs.Math.Seq.{take-nil}
-use Rattle.std.proofs.Common.{◌≡◌, ◌≢◌, ℕ, List, [], ◌∷◌, ◌++◌, drop, Option, Some, None, refl, sym}
-use Rattle.std.proofs.Common.{ap, subst, ◌∙◌, append_assoc, append-nil}
-use Rattle.tape_blocks.specs.Block.{Portion, Holds}
-use Rattle.tape_blocks.specs.Judged.{begun_behind}
+use Rattle.tape_blocks.specs.{Block.Portion, Block.Holds, Judged.begun_behind}
 use Rattle.tape_image.specs.Tape.{TapeItem, block}
-use Rattle.tape_set.specs.Lawful.{FileForm}
+use Rattle.tape_set.specs.{Lawful.FileForm, Position.part_of, Position.at_part}
 use Rattle.tape_set.specs.declared.position.Position.{Position}
-use Rattle.tape_set.specs.Position.{part_of, at_part}
-use Rattle.tape_core.specs.declared.event.Answer.{Answer}
+use Rattle.tape_core.specs.declared.event.{Answer.Answer, Phase.Phase, Phase.TheVariants.Broken}
 use Rattle.tape_core.specs.declared.event.Answer.TheVariants.{Passed, Deliver, SectionDone}
 use Rattle.tape_core.specs.declared.event.Answer.TheVariants.{Complete, Useless}
-use Rattle.tape_core.specs.State.{State}
-use Rattle.tape_core.specs.Parts.{parts_in}
+use Rattle.tape_core.specs.{State.State, Parts.parts_in, Follows.IsFinal}
 use Rattle.tape_core.specs.Place.{rest_of, place_of, resting}
 use Rattle.tape_core.specs.Table.{step_of, saved, mount_of, mounted}
-use Rattle.tape_core.specs.Follows.{IsFinal}
 use Rattle.tape_core.proofs.BlockLaws.{parts_in_it}
-use Rattle.tape_run.specs.Reels.{behind_items}
-use Rattle.tape_run.specs.ByTable.{parts_by, parts_at, parts_of_arrival, delivered_parts}
-use Rattle.tape_run.specs.ByTable.{IsLed, StopsInside}
-use Rattle.tape_run.specs.Puts.{refused_point}
+use Rattle.tape_run.specs.{Reels.behind_items, Puts.refused_point}
+use Rattle.tape_run.specs.ByTable.{parts_by, parts_at, parts_of_arrival, delivered_parts, IsLed}
+use Rattle.tape_run.specs.ByTable.{StopsInside}
 use Rattle.tape_run.proofs.Places.{refused_position}
 use Rattle.tape_run.proofs.Finals.{IsIdle, behind_final, idle_items}
-use Rattle.tape_core.specs.declared.event.Phase.{Phase}
-use Rattle.tape_core.specs.declared.event.Phase.TheVariants.{Broken}
 use Rattle.tape_set.specs.declared.position.Position.TheVariants.{Awaits, Finished}
 
 -- ---- one item
@@ -138,8 +131,7 @@ led_by_final old mid new answer held then items more xs item step final core par
 -- all items were taken
 pub led_to_end : (old mid new : State) (held now : List Portion) (items xs : List TapeItem)
     → rest_of new ≡ rest_of mid → mid ≡ behind_items old items
-    → now ≡ held ++ delivered_parts old items → xs ≡ items
-    → IsLed xs old (rest_of new) held now
+    → now ≡ held ++ delivered_parts old items → xs ≡ items → IsLed xs old (rest_of new) held now
 led_to_end old mid new held now items xs same core parts e = record {
   place = same ∙ (ap rest_of core ∙ ap (λ (z : List TapeItem). rest_of (behind_items old z))
       (sym e));
@@ -169,8 +161,7 @@ mount_rest core =
 
 -- if a file is complete, nothing is read
 pub led_nowhere : (core : State) (held : List Portion) (xs : List TapeItem)
-    → core.position ≡ Finished
-    → IsLed xs (mount_of (rest_of core)) (rest_of core) held held
+    → core.position ≡ Finished → IsLed xs (mount_of (rest_of core)) (rest_of core) held held
 led_nowhere core held xs e =
     let mount = mount_of (rest_of core) in
     let (rest, none) = idle_items xs mount (subst (λ (p : Position). IsIdle p mount.phase) (sym e)

@@ -1,30 +1,19 @@
 -- The state that a crash leaves is valid.
-use Rattle.std.proofs.Common.{Bool, ◌≡◌, ◌⊎◌, ℕ, List, [], ◌∷◌, ◌++◌, Option, Some, Result}
-use Rattle.std.proofs.Common.{Ok, Err, OnOk, length, map, refl, sym, ap, subst, ◌∙◌, inl, inr}
-use Rattle.std.specs.List.{slice_get}
+use Rattle.std.proofs.Common.{Bool, ◌≡◌, ◌⊎◌, ℕ, List, [], ◌∷◌, ◌++◌, Option, Some, Result, Ok, Err}
+use Rattle.std.proofs.Common.{OnOk, length, map, refl, sym, ap, subst, ◌∙◌, inl, inr, slice_get}
 use Rattle.std.proofs.lemmas.Option.{slice_get-map}
 use Rattle.tape_blocks.specs.Block.{Portion}
-use Rattle.tape_set.specs.Layout.{FileSet}
-use Rattle.tape_set.specs.Lawful.{IsLawful}
-use Rattle.tape_set.specs.Before.{before}
-use Rattle.tape_core.specs.Point.{Point}
-use Rattle.tape_core.specs.State.{State}
-use Rattle.tape_core.specs.Stands.{Stands}
+use Rattle.tape_set.specs.{Layout.FileSet, Lawful.IsLawful, Before.before}
+use Rattle.tape_core.specs.{Point.Point, State.State, Stands.Stands, Crash.OnlyThis, Crash.Returns}
 use Rattle.tape_core.proofs.Standing.{noted}
-use Rattle.tape_run.specs.Mount.{MountEvent}
+use Rattle.tape_run.specs.{Mount.MountEvent, Seen.Seen, Seen.IsSession, Runs.Runs, Crash.IsOf}
+use Rattle.tape_run.specs.Crash.{StoodAt}
 use Rattle.tape_run.specs.declared.script.Step.{Step}
 use Rattle.tape_run.specs.declared.script.Step.TheVariants.{Reel, Save, Restart}
-use Rattle.tape_run.specs.Seen.{Seen, IsSession}
 use Rattle.tape_run.specs.History.{Course, course, course_of, IsHistory}
-use Rattle.tape_run.specs.Runs.{Runs}
-use Rattle.tape_run.specs.Crash.{IsOf, StoodAt}
 use Rattle.tape_run.specs.CrashRuns.{IsPlaceOf, ComesBack, CrashRun, IsResumed, Outlives}
-use Rattle.tape_run.specs.CrashRuns.{AreHistories}
-use Rattle.tape_run.specs.CrashRuns.{ResumedGoesOn, LivesOn}
-use Rattle.tape_run.proofs.Notes.{same_front, note_at}
-use Rattle.tape_core.specs.Crash.{OnlyThis, Returns}
-use Rattle.tape_run.proofs.Headline.{headline}
-use Rattle.tape_run.proofs.Begin.{is_resumed}
+use Rattle.tape_run.specs.CrashRuns.{AreHistories, ResumedGoesOn, LivesOn}
+use Rattle.tape_run.proofs.{Notes.same_front, Notes.note_at, Headline.headline, Begin.is_resumed}
 
 -- a position or checkpoint of a session is valid
 of_stands : (set : FileSet) (s : Seen) (back : Point) (there : List Portion) → IsSession set s
@@ -70,8 +59,7 @@ behind : (old : Seen) (steps : List Step) (bytes : List (List ℕ))
     → Behind old steps (map Some bytes) left back there
 behind old [] bytes left back there h = none_made old [] _ left back there h
 behind old (Reel ∷ steps) [] left back there h = none_made old (Reel ∷ steps) _ left back there h
-behind old (Reel ∷ steps) (b ∷ bs) [] back there h =
-    none_made old (Reel ∷ steps) _ [] back there h
+behind old (Reel ∷ steps) (b ∷ bs) [] back there h = none_made _ (Reel ∷ steps) _ [] _ _ h
 behind old (Reel ∷ steps) (b ∷ bs) (l ∷ left) back there (inl h) =
     none_made old (Reel ∷ steps) _ (l ∷ left) back there h
 behind old (Reel ∷ steps) (b ∷ bs) (l ∷ left) back there (inr (failed, mid, r, h)) =
@@ -85,8 +73,7 @@ behind old (Reel ∷ steps) (b ∷ bs) (l ∷ left) back there (inr (failed, mid
       runs = (mid, r, n.runs);
       is_of = n.is_of;
     }
-behind old (Save ∷ steps) bytes left back there (inl h) =
-    none_made old (Save ∷ steps) _ left back there h
+behind old (Save ∷ steps) bytes left back there (inl h) = none_made _ (Save ∷ steps) _ left _ _ h
 behind old (Save ∷ steps) bytes left back there (inr (mid, v, h)) =
     let n = behind mid steps bytes left back there h in
     record {
@@ -152,8 +139,7 @@ resumed_session set c ps s r st =
 one_life : (set : FileSet) (c : Point) (ps : List Portion) (life : CrashRun) (hs : List MountEvent)
     (back : Point) (there : List Portion)
     → IsLawful set → Stands set c.file c ps → IsResumed c ps life.began
-    → IsHistory set 0 life.done life.given hs
-    → ((back ≡ c) × (there ≡ ps))
+    → IsHistory set 0 life.done life.given hs → ((back ≡ c) × (there ≡ ps))
     ⊎ ComesBack life.began life.steps life.done life.bytes life.left life.given back there
     → Stands set c.file back there
 one_life set c ps life hs back there l st r h (inl (e, f)) = rw (e, f) st

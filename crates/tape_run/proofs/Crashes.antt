@@ -2,23 +2,19 @@
 use Rattle.std.proofs.Common.{◌≡◌, ℕ, List, [], ◌∷◌, ◌++◌, Option, Some, None, sym, subst}
 use Rattle.std.proofs.Common.{slice_get, inl}
 use Rattle.tape_blocks.specs.Block.{Portion}
-use Rattle.tape_core.specs.Point.{Point}
-use Rattle.tape_core.specs.Stands.{weight_of}
-use Rattle.tape_core.specs.Weight.{IsFront}
+use Rattle.tape_core.specs.{Point.Point, Stands.weight_of, Weight.IsFront}
 use Rattle.tape_core.specs.Crash.{AddsNothing, AddsOnly, Crashes, IsThis, Returns}
 use Rattle.tape_core.proofs.Crashes.{only_among, only_then}
 use Rattle.tape_run.specs.declared.script.Step.{Step}
 use Rattle.tape_run.specs.declared.script.Step.TheVariants.{Reel, Save, Restart}
-use Rattle.tape_run.specs.Seen.{Seen, IsKept}
-use Rattle.tape_run.specs.Crash.{IsOf, IsNoteOf, StoodAt}
+use Rattle.tape_run.specs.{Seen.Seen, Seen.IsKept, Crash.IsOf, Crash.IsNoteOf, Crash.StoodAt}
 use Rattle.tape_run.proofs.Sessions.{kept_at}
 
 pub adds_then : (a b c : Crashes) → AddsNothing a b → AddsNothing b c → AddsNothing a c
 adds_then a b c = only_then (λ back there. ⊥) (λ back there. ⊥) a b c (λ back there h. h)
 
 pub only_nothing : (these : Returns) (a b : Crashes) → AddsNothing a b → AddsOnly these a b
-only_nothing these a b =
-    only_among (λ back there. ⊥) these a b (λ back there h. absurd h)
+only_nothing these a b = only_among (λ back there. ⊥) these a b (λ back there h. absurd h)
 
 -- the state belongs to the session that makes the steps
 pub stood_here : (s : Seen) (steps : List Step) (reels left : List (Option (List ℕ)))

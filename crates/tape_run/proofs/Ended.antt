@@ -1,33 +1,24 @@
 -- A run that ended with a fault is where its earlier steps lead, or at a part that was refused.
 use Rattle.std.proofs.Common.{Bool, ◌≡◌, ℕ, suc, ◌≤◌, List, [], ◌∷◌, length, map, take, drop}
 use Rattle.std.proofs.Common.{Option, Some, Result, Ok, Err, refl, sym, ap, subst, ◌∙◌, arith}
+use Rattle.std.proofs.Common.{IfErr, IsErrAnd}
 use Rattle.std.proofs.lemmas.List.{drop-map}
-use Rattle.std.specs.Result.{IfErr, IsErrAnd}
-use Rattle.tape_image.specs.Tape.{TapeItem}
-use Rattle.tape_image.specs.Begins.{Stop, Begins}
-use Rattle.tape_set.specs.Layout.{FileSet}
-use Rattle.tape_set.specs.Lawful.{IsLawful}
+use Rattle.tape_image.specs.{Tape.TapeItem, Begins.Stop, Begins.Begins}
+use Rattle.tape_set.specs.{Layout.FileSet, Lawful.IsLawful}
 use Rattle.tape_set.specs.declared.position.Position.{Position}
-use Rattle.tape_core.specs.Point.{Point}
-use Rattle.tape_run.specs.Mount.{MountEvent, IsMount}
-use Rattle.tape_run.specs.declared.script.Step.{Step}
+use Rattle.tape_core.specs.{Point.Point, State.State, Table.mount_of}
+use Rattle.tape_run.specs.{Mount.MountEvent, Mount.IsMount, Seen.Seen, Seen.AreNotes, Seen.IsKept}
+use Rattle.tape_run.specs.{History.Course, History.course, History.course_of, Runs.RunsUpTo}
+use Rattle.tape_run.specs.{Runs.Fails, ByTable.IsCutAt}
+use Rattle.tape_run.specs.declared.{script.Step.Step, fault.RunFault.RunFault}
 use Rattle.tape_run.specs.declared.script.Step.TheVariants.{Reel, Save, Restart}
-use Rattle.tape_run.specs.declared.fault.RunFault.{RunFault}
 use Rattle.tape_run.specs.declared.fault.RunFault.TheVariants.{Sink, NoSuchPoint, TooFewReels}
 use Rattle.tape_run.specs.declared.fault.RunFault.TheVariants.{OutOfMemory, OtherFile}
-use Rattle.tape_run.specs.Seen.{Seen, AreNotes, IsKept}
-use Rattle.tape_run.specs.History.{Course, course, course_of}
 use Rattle.tape_run.specs.Headline.{Ran, HasStopped, StopsStep, PutRefused, reels_in}
 use Rattle.tape_run.specs.Steps.{StoppedBy, CutShort, Unmoved, ReelFails, SaveFails, RestartFails}
-use Rattle.tape_run.specs.Runs.{RunsUpTo, Fails}
 use Rattle.tape_blocks.specs.Block.{Portion}
-use Rattle.tape_core.specs.State.{State}
-use Rattle.tape_core.specs.Table.{mount_of}
-use Rattle.tape_run.specs.ByTable.{IsCutAt}
 use Rattle.tape_run.specs.Lead.{Lead, lead, AreNoted, StandsThere, StopsBy}
-use Rattle.tape_run.proofs.Notes.{notes_grow}
-use Rattle.tape_run.proofs.Headline.{headline}
-use Rattle.tape_run.proofs.Lead.{noted_grow}
+use Rattle.tape_run.proofs.{Notes.notes_grow, Headline.headline, Lead.noted_grow}
 
 -- ---- results
 
@@ -36,8 +27,7 @@ pub if_err : {B : Type 0} (r : Result (Unit {0}) B) (P Q : B → Type 0) → ((e
 if_err (Ok x) P Q f h = tt
 if_err (Err e) P Q f h = f e h
 
-pub told_err : {A B : Type 0} (r : Result A B) (e : B) (P : B → Type 0)
-    → IsErrAnd r (λ x. x ≡ e)
+pub told_err : {A B : Type 0} (r : Result A B) (e : B) (P : B → Type 0) → IsErrAnd r (λ x. x ≡ e)
     → P e → IfErr r P
 told_err (Ok x) e P h p = tt
 told_err (Err x) e P h p = subst P (sym h) p
@@ -140,10 +130,9 @@ cut_there : (t : Lead) (old new : Seen) (bytes : List ℕ) → CutShort bytes ol
     → IsCutAt xs (mount_of t.place) new.place t.parts new.parts)
 cut_there t old new bytes c s = (
   subst (λ (cs : List Point). AreNoted [] t.notes cs new.parts) (sym c.notes)
-      (noted_grow [] t.notes old.notes old.parts new.parts c.grows s.notes),
-  λ xs end stop b.
-      subst (λ (l : List Portion). IsCutAt xs (mount_of t.place) new.place l new.parts) s.parts
-      (subst (λ (z : State). IsCutAt xs (mount_of z) new.place old.parts new.parts) s.place
+      (noted_grow [] _ _ _ _ c.grows s.notes),
+  λ xs end stop b. subst (λ (l : List Portion). IsCutAt xs (mount_of t.place) new.place l new.parts)
+      s.parts (subst (λ (z : State). IsCutAt xs (mount_of z) new.place old.parts new.parts) s.place
       (c.table xs end stop b)),
 )
 
@@ -212,11 +201,9 @@ fails_stops : (step : Step) (bs : List (List ℕ)) (fault : RunFault) (set : Fil
 fails_stops Reel [] fault set old mid new hs (is, same) l r =
     subst (λ (z : RunFault). StopsStep set old hs Reel [] z new) (sym is)
     (same_there set old mid new hs same r)
-fails_stops Reel (b ∷ bs) fault set old mid new hs h l r =
-    reel_stops set old mid new hs b bs fault h l r
+fails_stops Reel (b ∷ bs) fault set old mid new hs h l r = reel_stops _ _ _ _ _ _ bs _ h l r
 fails_stops Save bs fault set old mid new hs h l r = save_stops set old mid new hs bs fault h r
-fails_stops (Restart n) bs fault set old mid new hs h l r =
-    restart_stops set old mid new hs n bs fault h r
+fails_stops (Restart n) bs fault set old mid new hs h l r = restart_stops _ _ _ _ _ _ bs _ h r
 
 fails_led : (step : Step) (bs : List (List ℕ)) (fault : RunFault) (t : Lead) (mid new : Seen)
     → Fails step (map Some bs) fault mid new → StandsThere t mid → StopsBy t step bs fault new
@@ -242,18 +229,16 @@ stopped which old new steps bytes unread n fault r =
     let fails : Fails r.step (map Some left) fault r.mid new =
     subst (λ (z : List (Option (List ℕ))). Fails r.step z fault r.mid new)
     (drop-map Some (reels_in (take n steps)) bytes) r.fails in
-    let (run, same) = headline which old r.mid (take n steps) bytes unread r.runs in (
+    let (run, same) = headline _ _ _ _ _ _ r.runs in (
       record {
         step = r.step;
         at = r.at;
         given = run.given;
         which = run.which;
         are_given = run.are_given;
-        count = fails_count r.step left fault r.mid new fails ∙ run.count;
-        stops = λ set hs l h s.
-            fails_stops r.step left fault set old r.mid new hs fails l (run.ran set hs l h s);
-        led = λ t reels a s. fails_led r.step left fault (lead t (take n steps) reels) r.mid new
-            fails (run.led t reels a s);
+        count = fails_count _ _ _ _ _ fails ∙ run.count;
+        stops = λ set hs l h s. fails_stops _ _ _ _ _ _ _ _ fails l (run.ran set hs l h s);
+        led = λ t reels a s. fails_led _ _ _ _ _ _ fails (run.led t reels a s);
       },
       same,
     )

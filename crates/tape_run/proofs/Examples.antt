@@ -1,43 +1,30 @@
 -- The test cases for sessions and their histories.
 use Rattle.std.proofs.Common.{◌≡◌, ℕ, zero, suc, List, [], ◌∷◌, ◌++◌, ◌∙◌, inr, arith, append-nil}
 use Rattle.std.proofs.Common.{length, true, false, Option, Some, None, refl, sym, ap, subst, inl}
-use Rattle.std.proofs.Common.{◌+◌, length-append}
-use Rattle.std.specs.Prelude.{slice_get, slice_index}
+use Rattle.std.proofs.Common.{◌+◌, length-append, slice_get, slice_index}
 use Rattle.std.proofs.lemmas.Option.{slice_get_within}
 use Rattle.tape_image.specs.declared.item.Ending.TheVariants as endings
-use Rattle.tape_image.specs.Tape.{TapeItem, block}
-use Rattle.tape_image.specs.Begins.{Begins, ends, nothing}
-use Rattle.tape_label.specs.Kinds.{kind_at}
+use Rattle.tape_image.specs.{Tape.TapeItem, Tape.block, Begins.Begins, Begins.ends, Begins.nothing}
+use Rattle.tape_label.specs.{Kinds.kind_at, VolumeLabels.is_volume_label}
 use Rattle.tape_label.specs.Reading.{head_at, head1_at}
-use Rattle.tape_label.specs.VolumeLabels.{is_volume_label}
 use Rattle.tape_blocks.specs.Block.{Portion}
 use Rattle.tape_set.specs.declared.position.Position.{Position}
-use Rattle.tape_set.specs.Layout.{FileSet, items, entries}
-use Rattle.tape_set.specs.Reach.{passes}
-use Rattle.tape_set.specs.Reading.{Reading, IsReadingOf, as_read}
-use Rattle.tape_core.specs.Point.{Point}
-use Rattle.tape_core.specs.Stands.{weight_of}
-use Rattle.tape_core.specs.Table.{saved}
-use Rattle.tape_core.specs.Weight.{IsFront}
-use Rattle.tape_set.specs.Lawful.{IsLawful}
-use Rattle.tape_run.specs.declared.fault.RunFault.{RunFault}
-use Rattle.tape_run.specs.declared.fault.RunFault.TheVariants.{TooFewReels}
+use Rattle.tape_set.specs.{Layout.FileSet, Layout.items, Layout.entries, Reach.passes}
+use Rattle.tape_set.specs.{Reading.Reading, Reading.IsReadingOf, Reading.as_read, Lawful.IsLawful}
+use Rattle.tape_core.specs.{Point.Point, Stands.weight_of, Table.saved, Weight.IsFront}
+use Rattle.tape_run.specs.declared.fault.{RunFault.RunFault, RunFault.TheVariants.TooFewReels}
 use Rattle.tape_run.specs.declared.script.Step.{Step}
 use Rattle.tape_run.specs.declared.script.Step.TheVariants.{Reel, Save, Restart}
-use Rattle.tape_run.specs.Crash.{IsOf, LastAlone}
-use Rattle.tape_run.specs.Given.{IsGiven, AreGivenBy}
-use Rattle.tape_run.specs.History.{course_of, IsHistory}
-use Rattle.tape_run.specs.Headline.{HasStopped, StopsStep}
-use Rattle.tape_run.specs.CrashRuns.{IsPlaceOf}
+use Rattle.tape_run.specs.{Crash.IsOf, Crash.LastAlone, Given.IsGiven, Given.AreGivenBy}
+use Rattle.tape_run.specs.{History.course_of, History.IsHistory, Headline.HasStopped}
+use Rattle.tape_run.specs.{Headline.StopsStep, CrashRuns.IsPlaceOf, Runs.Runs, Runs.RunsUpTo}
+use Rattle.tape_run.specs.{Runs.Fails, WorkedHistory.worked_set, WorkedHistory.vol1}
+use Rattle.tape_run.specs.{WorkedHistory.hdr1, CasesOfSaves.comes_now, CasesOfRuns.CasesOfStops}
 use Rattle.tape_run.specs.Mount.{MountEvent, foreign_reel, reads, IsMount}
-use Rattle.tape_run.specs.Runs.{Runs, RunsUpTo, Fails}
 use Rattle.tape_run.specs.Seen.{Seen, IsKept, IsSession, KeepsNotes}
 use Rattle.tape_run.specs.Steps.{Reeled, ReelFails, Saved, WentBack}
-use Rattle.tape_run.specs.WorkedHistory.{worked_set, vol1, hdr1}
 use Rattle.tape_run.specs.Cases.{CasesOfMounts, CasesOfHistories, CasesOfGiven, CasesOfVolumes}
 use Rattle.tape_run.specs.Cases.{CasesOfSessions, CasesOfMade, CasesOfCrashes, came_by}
-use Rattle.tape_run.specs.CasesOfSaves.{comes_now}
-use Rattle.tape_run.specs.CasesOfRuns.{CasesOfStops}
 use Rattle.tape_run.proofs.ExamplesOfSaves.{one_note, of_one_note}
 
 -- ---- what may be mounted
@@ -200,8 +187,7 @@ two_were_made old new bytes l (first, saved, (second, reeled, (last, went, (none
 
 second_was_not : (old new : Seen) (fault : RunFault) (bytes : List ℕ) (l : Option (List ℕ))
     → RunsUpTo (true ∷ []) old (Reel ∷ Reel ∷ Save ∷ []) (Some bytes ∷ []) (l ∷ []) 1 fault new
-    → (mid : Seen) × Reeled bytes l true old mid
-    × (fault ≡ TooFewReels) × (new ≡ mid)
+    → (mid : Seen) × Reeled bytes l true old mid × (fault ≡ TooFewReels) × (new ≡ mid)
 second_was_not old new fault bytes l r =
     let (mid, reeled, (none, same)) = r.runs in
     let f = subst (λ z. Fails z [] fault r.mid new) (step_is Reel r.step r.at) r.fails in
@@ -213,8 +199,7 @@ third_was_not : (old new : Seen) (fault : RunFault) (bytes other : List ℕ) (l 
     × Reeled bytes l false first mid × ReelFails other fault mid new
 third_was_not old new fault bytes other l m r =
     let (first, saved, (mid, reeled, (none, same))) = r.runs in
-    let f = subst (λ z. Fails z (Some other ∷ []) fault r.mid new) (step_is Reel r.step r.at)
-    r.fails in
+    let f = subst (λ z. Fails z (Some other ∷ []) fault r.mid new) (step_is _ _ r.at) r.fails in
     (first, mid, saved, reeled, subst (λ z. ReelFails other fault z new) same f)
 
 pub cases_of_made : CasesOfMade
@@ -292,8 +277,7 @@ of_session s back there none (inr (n, (noted, front, weighs))) =
     absurd (none_noted n back (subst (λ notes. slice_get notes n ≡ Some back) none noted))
 
 of_a_note : (s : Seen) (back : Point) (there : List Portion) → s.notes ≡ back ∷ []
-    → IsFront there s.parts → weight_of there ≡ back.staged
-    → IsOf s back there
+    → IsFront there s.parts → weight_of there ≡ back.staged → IsOf s back there
 of_a_note s back there one front weighs = inr ((0, (rw one refl, front, weighs)))
 
 alone : (s : Seen) (c p : Point) (ps : List Portion) → s.notes ≡ c ∷ []

@@ -1,20 +1,14 @@
 -- The examples for catalogues, and for reports on reels.
-use Rattle.std.proofs.Common.{◌≡◌, ℕ, zero, suc, List, [], ◌∷◌, ◌++◌, length}
-use Rattle.std.proofs.Common.{true, refl, ap, inl, inr, arith, ◌∙◌, Some, None, option_map}
-use Rattle.std.specs.Prelude.{slice_index, get_or}
+use Rattle.std.proofs.Common.{◌≡◌, ℕ, zero, suc, List, [], ◌∷◌, ◌++◌, length, true, refl, ap, inl}
+use Rattle.std.proofs.Common.{inr, arith, ◌∙◌, Some, None, option_map, slice_index, get_or}
 use Rattle.tape_set.specs.Layout.{Volume, Section}
 use Rattle.tape_run.specs.declared.fault.EngineFault.TheVariants.{Run}
 use Rattle.tape_run.specs.declared.fault.RunFault.TheVariants.{NoSuchPoint}
-use Rattle.tape_run.specs.declared.section.SectionKey.{SectionKey}
-use Rattle.tape_run.specs.declared.section.SectionState.TheVariants.{Good}
-use Rattle.tape_run.specs.Cases.{on_one_volume}
+use Rattle.tape_run.specs.declared.section.{SectionKey.SectionKey, SectionState.TheVariants.Good}
+use Rattle.tape_run.specs.{Cases.on_one_volume, Lacks.IsFirstLack, Lacks.lack_of, Noted.KeepsPlaces}
+use Rattle.tape_run.specs.{Noted.GoodIsShown, Passing.Told, Reeling.Took, Reeling.AreMounted}
+use Rattle.tape_run.specs.{Shown.Shown, WholeSet.HasEach}
 use Rattle.tape_run.specs.Checked.{IsCheckFault, IsReel, Reel}
-use Rattle.tape_run.specs.Lacks.{IsFirstLack, lack_of}
-use Rattle.tape_run.specs.Noted.{KeepsPlaces, GoodIsShown}
-use Rattle.tape_run.specs.Passing.{Told}
-use Rattle.tape_run.specs.Reeling.{Took, AreMounted}
-use Rattle.tape_run.specs.Shown.{Shown}
-use Rattle.tape_run.specs.WholeSet.{HasEach}
 use Rattle.tape_run.specs.CasesOfCatalogues.{CasesOfCatalogues, CasesOfImages, CasesOfCopies}
 use Rattle.tape_run.specs.CasesOfCatalogues.{CasesOfReports, met}
 

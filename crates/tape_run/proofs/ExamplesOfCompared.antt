@@ -1,12 +1,9 @@
 -- The test cases for copies that are compared.
 use Rattle.std.proofs.Common.{◌≡◌, ℕ, true, List, [], ◌++◌, ◌∙◌, refl, sym, ap, chars, codes}
-use Rattle.std.proofs.Common.{encode_utf8_all}
-use Rattle.std.proofs.lemmas.Str.{chars-encodes}
+use Rattle.std.proofs.Common.{encode_utf8_all, flat_map}
+use Rattle.std.proofs.{lemmas.Str.chars-encodes, Math.Utf8.encode, Math.Utf8.scalars}
 use Rattle.std.specs.Fmt.{digits}
-use Rattle.std.specs.List.{flat_map}
-use Rattle.std.proofs.Math.Utf8.{encode, scalars}
-use Rattle.tape_run.specs.CasesOfCompared.{CasesOfCompared}
-use Rattle.tape_run.specs.Quoting.{name_text, quoted}
+use Rattle.tape_run.specs.{CasesOfCompared.CasesOfCompared, Quoting.name_text, Quoting.quoted}
 use Rattle.tape_run.specs.SurveyDigest.{digest_by, words_of}
 
 -- a name that is printed unchanged

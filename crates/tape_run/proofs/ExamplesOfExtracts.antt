@@ -1,40 +1,30 @@
 -- The test cases for recovered files.
 use Rattle.std.proofs.Common.{◌≡◌, ◌⊎◌, inl, inr, ℕ, List, [], ◌∷◌, Some, None, refl, sym, ap}
-use Rattle.std.proofs.Common.{subst, ◌∙◌, false, true, length, arith, Bool}
-use Rattle.std.specs.Prelude.{Option, get_or, map, set, ◌++◌, slice_get, ◌-◌}
+use Rattle.std.proofs.Common.{subst, ◌∙◌, false, true, length, arith, Bool, Option, get_or, map}
+use Rattle.std.proofs.Common.{set, ◌++◌, slice_get, ◌-◌}
 use Rattle.tape_run.specs.Reeling.{Opened, IsNoted, Follows, goes_back, IsKeptFor, counts_differ}
 use Rattle.tape_run.specs.Reeling.{Turn, IsTurn, Took, AreTurns, AreFirstTurns, answer_of}
-use Rattle.tape_run.specs.Stopping.{NotNoted, StopsAt}
-use Rattle.tape_core.specs.State.{State}
-use Rattle.tape_run.specs.Seen.{Seen, seen}
-use Rattle.tape_run.specs.Steps.{WentBack}
-use Rattle.tape_core.specs.Stands.{weight_of}
-use Rattle.tape_core.specs.Table.{saved}
+use Rattle.tape_run.specs.{Stopping.NotNoted, Stopping.StopsAt, Seen.Seen, Seen.seen}
+use Rattle.tape_run.specs.{Steps.WentBack, ReelLine.reel_lines, RecordText.output_of}
+use Rattle.tape_run.specs.{Causes.CannotEnd, Extracting.IsWritten, Extracting.TellsEnd}
+use Rattle.tape_core.specs.{State.State, Stands.weight_of, Table.saved, Point.Point, Weight.Rose}
 use Rattle.tape_run.proofs.Noting.{noted_here}
-use Rattle.tape_core.specs.Point.{Point}
 use Rattle.tape_blocks.specs.Spans.{join}
 use Rattle.tape_image.specs.Written.{AppendsFront}
-use Rattle.tape_run.specs.ReelLine.{reel_lines}
-use Rattle.tape_run.specs.RecordText.{output_of}
 use Rattle.tape_blocks.specs.declared.parts.Form.{Form}
-use Rattle.tape_set.specs.declared.position.Position.TheVariants.{Finished}
+use Rattle.tape_set.specs.declared.position.{Position.TheVariants.Finished, Want.Want}
 use Rattle.tape_run.specs.CasesOfExtracts.{CasesOfTurns, CasesOfOutputs, Listed, as_sink, Known}
 use Rattle.tape_run.specs.CasesOfExtracts.{Readers, ExtractsListed, StopsListed, StopsListedNow}
 use Rattle.tape_run.specs.CasesOfExtracts.{CasesOfCauses, FailsEmpty, FailsUnknown}
-use Rattle.tape_core.specs.Weight.{Rose}
 use Rattle.tape_core.specs.declared.sink.SinkFault.{SinkFault}
 use Rattle.tape_core.specs.declared.sink.SinkFault.TheVariants.{Device, Failed}
 use Rattle.tape_run.specs.declared.fault.EngineFault.TheVariants.{Run, WriteFailed}
 use Rattle.tape_run.specs.declared.fault.RunFault.TheVariants.{Sink, OutOfMemory}
-use Rattle.tape_run.specs.Causes.{CannotEnd}
-use Rattle.tape_run.specs.Extracting.{IsWritten, TellsEnd}
-use Rattle.tape_set.specs.declared.position.Want.{Want}
 use Rattle.tape_set.specs.Position.{want_at}
 
 -- the last of two checkpoints is the second
 went_to_last : (old new : Seen) (c d : Point) → old.notes ≡ c ∷ d ∷ []
-    → IsNoted true false true false old new
-    → WentBack 1 old new
+    → IsNoted true false true false old new → WentBack 1 old new
 went_to_last old new c d two (n, many, went) =
     let one : n ≡ 1 = omega (arith, many, ap length two) in
     subst (λ m. WentBack m old new) one went
@@ -136,8 +126,7 @@ cases_of_turns = record {
 
 -- a session without checkpoints keeps its own
 none_kept : (session : Listed) → session.notes ≡ []
-    → IsKeptFor (goes_back session.notes)
-    (seen as_sink session session.sink)
+    → IsKeptFor (goes_back session.notes) (seen as_sink session session.sink)
 none_kept session none =
     subst (λ n. IsKeptFor (goes_back n) (seen as_sink session session.sink))
     (sym none) tt
@@ -212,8 +201,7 @@ complete_is_named session shelf left form out now said says s none more =
 
 output_stopped_now : (session : Listed) (shelf left : Readers) (form : Form)
     (out now said says : Known)
-    → StopsListedNow session shelf left form out now said says
-    → (now ≡ out)
+    → StopsListedNow session shelf left form out now said says → (now ≡ out)
     ⊎ ((s : Seen) × (s.place.position ≡ Finished) × (now ≡ Some (output_of form s.parts)))
 output_stopped_now session shelf left form out now said says s =
     let (last, seen, follows, stood, tells, wrote) = s.follows session.sink refl in elim wrote [

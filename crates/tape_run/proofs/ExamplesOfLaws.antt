@@ -1,28 +1,17 @@
 -- The test cases for the laws.
-use Rattle.std.proofs.Common.{◌≡◌, ◌≢◌, ℕ, List, [], ◌∷◌, Some, None, refl, ap, sym, ◌∙◌}
-use Rattle.std.proofs.Common.{subst, arith, true, false, inr}
-use Rattle.std.specs.Prelude.{MatchOption, Option}
+use Rattle.std.proofs.Common.{◌≡◌, ◌≢◌, ℕ, List, [], ◌∷◌, Some, None, refl, ap, sym, ◌∙◌, subst}
+use Rattle.std.proofs.Common.{arith, true, false, inr, MatchOption, Option}
 use Rattle.tape_blocks.specs.Block.{Portion}
-use Rattle.tape_set.specs.Before.{before}
-use Rattle.tape_set.specs.Layout.{FileSet}
-use Rattle.tape_set.specs.Lawful.{IsLawful}
-use Rattle.tape_set.specs.Reach.{far}
+use Rattle.tape_set.specs.{Before.before, Layout.FileSet, Lawful.IsLawful, Reach.far}
 use Rattle.tape_set.specs.Reading.{Reading}
-use Rattle.tape_core.specs.Point.{Point}
-use Rattle.tape_core.specs.Stands.{Stands}
-use Rattle.tape_run.specs.declared.script.Step.TheVariants.{Reel}
-use Rattle.tape_run.specs.Headline.{HasRun}
-use Rattle.tape_run.specs.History.{Course, IsHistory}
-use Rattle.tape_run.specs.CrashRuns.{IsResumed, ResumedGoesOn}
-use Rattle.tape_run.specs.Mount.{reads}
-use Rattle.tape_run.specs.Seen.{Seen}
-use Rattle.tape_run.specs.declared.section.SectionKey.{SectionKey}
+use Rattle.tape_core.specs.{Point.Point, Stands.Stands}
+use Rattle.tape_run.specs.declared.{script.Step.TheVariants.Reel, section.SectionKey.SectionKey}
+use Rattle.tape_run.specs.{Headline.HasRun, History.Course, History.IsHistory, CrashRuns.IsResumed}
+use Rattle.tape_run.specs.{CrashRuns.ResumedGoesOn, Mount.reads, Seen.Seen, OneEntry.HasOneEach}
+use Rattle.tape_run.specs.{Passing.Told, CasesOfCatalogues.met, CasesOfLaws.CasesOfRunLaws}
+use Rattle.tape_run.specs.CasesOfLaws.{CasesOfCatalogueLaws}
 use Rattle.tape_run.specs.declared.section.SectionState.TheVariants.{Good, Cut}
 use Rattle.tape_run.specs.Lacks.{LackIsFirst, IsFoundWhole, IsFirstLack, lack_of}
-use Rattle.tape_run.specs.OneEntry.{HasOneEach}
-use Rattle.tape_run.specs.Passing.{Told}
-use Rattle.tape_run.specs.CasesOfCatalogues.{met}
-use Rattle.tape_run.specs.CasesOfLaws.{CasesOfRunLaws, CasesOfCatalogueLaws}
 
 went_on : ResumedGoesOn → (set : FileSet) (c : Point) (ps : List Portion) (began new : Seen)
     (bytes : List ℕ) (left : List (Option (List ℕ))) (r : Reading) → IsLawful set
@@ -63,8 +52,7 @@ none_lacks law c id file e =
     subst (λ l. MatchOption l (IsFoundWhole c id file) (IsFirstLack c id file)) e (law c id file)
 
 first_lacks : LackIsFirst → (c : List Told) (id : List ℕ) (file sect : ℕ)
-    → lack_of c id file ≡ Some sect
-    → IsFirstLack c id file sect
+    → lack_of c id file ≡ Some sect → IsFirstLack c id file sect
 first_lacks law c id file sect e =
     subst (λ l. MatchOption l (IsFoundWhole c id file) (IsFirstLack c id file)) e (law c id file)
 

@@ -2,19 +2,14 @@
 use Rattle.std.proofs.Common.{◌≡◌, ◌+◌, [], ◌∷◌, Some, refl, ap, ◌∙◌, inl, inr, arith}
 use Rattle.tape_image.specs.declared.item.Ending.TheVariants.{Physical}
 use Rattle.tape_image.specs.Begins.{ends}
-use Rattle.tape_label.specs.Kinds.{kind_at}
+use Rattle.tape_label.specs.{Kinds.kind_at, VolumeLabels.is_volume_label}
 use Rattle.tape_label.specs.Reading.{head_at, head1_at, head2_at, format_at, offset_at}
-use Rattle.tape_label.specs.VolumeLabels.{is_volume_label}
-use Rattle.tape_blocks.specs.Units.{unit_at}
-use Rattle.tape_blocks.specs.Parts.{parts_by}
-use Rattle.tape_blocks.specs.Judged.{judged}
+use Rattle.tape_blocks.specs.{Units.unit_at, Parts.parts_by, Judged.judged}
 use Rattle.tape_set.specs.Position.{part_of}
-use Rattle.tape_core.specs.State.{State}
-use Rattle.tape_core.specs.Table.{step_of}
+use Rattle.tape_core.specs.{State.State, Table.step_of}
 use Rattle.tape_core.specs.declared.event.Answer.TheVariants.{Complete}
 use Rattle.tape_run.specs.declared.script.Step.TheVariants.{Save, Restart}
-use Rattle.tape_run.specs.Lead.{Lead, lead}
-use Rattle.tape_run.specs.Reels.{GoesOn}
+use Rattle.tape_run.specs.{Lead.Lead, Lead.lead, Reels.GoesOn}
 use Rattle.tape_run.proofs.Examples.{empty_begins}
 use Rattle.tape_run.proofs.Places.{refused_position, stands_first, stands_behind}
 use Rattle.tape_run.specs.CasesOfReels.{CasesOfAnswers, CasesOfTable, CasesOfLeads}

@@ -1,14 +1,13 @@
 -- The cases of rounds.
 use Rattle.std.proofs.Common.{◌≡◌, ◌⊎◌, List, [], ◌∷◌, inl, inr, refl, sym, ap, subst, ◌∙◌, arith}
-use Rattle.std.specs.Prelude.{Option, Bool, None, true}
+use Rattle.std.proofs.Common.{Option, Bool, None, true}
 use Rattle.tape_set.specs.declared.position.Want.{Want}
 use Rattle.tape_set.specs.Position.{want_at}
 use Rattle.tape_core.specs.State.{State}
 use Rattle.tape_run.specs.Reeling.{Turn, AreTurns, Follows, Took}
 use Rattle.tape_run.specs.Rounds.{Round, AreRounds, IsEnough, GoesRound}
-use Rattle.tape_run.specs.Seen.{Seen, seen}
+use Rattle.tape_run.specs.{Seen.Seen, Seen.seen, CasesOfRounds.CasesOfRounds}
 use Rattle.tape_run.specs.CasesOfExtracts.{as_sink, Known, Readers}
-use Rattle.tape_run.specs.CasesOfRounds.{CasesOfRounds}
 
 enough : (before want : Option Want) → IsEnough 3 6 before want → (want ≡ None) ⊎ (want ≡ before)
 enough before want (inl none) = inl none

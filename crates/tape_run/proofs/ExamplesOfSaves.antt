@@ -1,23 +1,16 @@
 -- The examples for saves, and for the states that a crash leaves of a session.
-use Rattle.std.proofs.Common.{◌≡◌, ◌⊎◌, inl, inr, ℕ, ◌≤◌, List, [], ◌∷◌, Some}
-use Rattle.std.proofs.Common.{refl, sym, ap, subst, ◌∙◌, length, arith}
-use Rattle.std.specs.Prelude.{slice_get}
-use Rattle.tape_core.specs.Place.{rest_of}
-use Rattle.tape_core.specs.Stands.{weight_of}
-use Rattle.tape_core.specs.Weight.{IsFront}
-use Rattle.tape_run.specs.Crash.{IsNoteOf, IsLast, BringsLast, KeepsLast, LeavesSaved}
-use Rattle.tape_core.specs.Table.{saved}
-use Rattle.tape_run.specs.Reeling.{StoodSaved}
-use Rattle.tape_run.specs.Seen.{Seen, seen}
-use Rattle.tape_run.specs.SessionState.{SessionState}
+use Rattle.std.proofs.Common.{◌≡◌, ◌⊎◌, inl, inr, ℕ, ◌≤◌, List, [], ◌∷◌, Some, refl, sym, ap, subst}
+use Rattle.std.proofs.Common.{◌∙◌, length, arith, slice_get}
+use Rattle.tape_core.specs.{Place.rest_of, Stands.weight_of, Weight.IsFront, Table.saved}
 use Rattle.tape_core.specs.Point.{Point}
+use Rattle.tape_run.specs.Crash.{IsNoteOf, IsLast, BringsLast, KeepsLast, LeavesSaved}
+use Rattle.tape_run.specs.{Reeling.StoodSaved, Seen.Seen, Seen.seen, SessionState.SessionState}
 use Rattle.tape_blocks.specs.Block.{Portion}
-use Rattle.tape_run.specs.CasesOfSaves.{CasesOfSaved, brings, comes_now, comes_since}
-use Rattle.tape_run.specs.CasesOfSaves.{weighing, holding_none}
+use Rattle.tape_run.specs.CasesOfSaves.{CasesOfSaved, brings, comes_now, comes_since, weighing}
+use Rattle.tape_run.specs.CasesOfSaves.{holding_none}
 
 only_first : (s : Seen) (c d back : Point) (there : List Portion) → s.notes ≡ c ∷ d ∷ []
-    → IsNoteOf 0 s back there
-    → (back ≡ c) × IsFront there s.parts × (weight_of there ≡ back.staged)
+    → IsNoteOf 0 s back there → (back ≡ c) × IsFront there s.parts × (weight_of there ≡ back.staged)
 only_first s c d back there two (is, front, weighs) =
     (let e = is in let f = ap (λ l. slice_get l 0) two in cc, front, weighs)
 
@@ -62,8 +55,7 @@ alone_before old held ps c had came front weighs back there (b, t) = (
 
 came_alone : (old new : SessionState Point) (held now ps : List Portion) (c : Point)
     → old.notes ≡ c ∷ [] → new.notes ≡ c ∷ [] → old.sink ≡ c → IsFront ps held
-    → weight_of ps ≡ c.staged → KeepsLast (weighing (comes_now ps)) old held new now
-    → new.sink ≡ c
+    → weight_of ps ≡ c.staged → KeepsLast (weighing (comes_now ps)) old held new now → new.sink ≡ c
 came_alone old new held now ps c had has came front weighs keeps =
     (one_note (seen (weighing (comes_now ps)) new now) c new.sink ps has
     (keeps.last (λ same. alone_before old held ps c had came front weighs))).0
@@ -78,16 +70,14 @@ alone_since old new held now ps c t had has came front weighs le keeps =
     (alone_before old held ps c had came front weighs))).0
 
 on_the_way : (old new : SessionState Point) (held now ps : List Portion) (c : Point)
-    → old.notes ≡ [] → new.notes ≡ c ∷ []
-    → KeepsLast (weighing (comes_now ps)) old held new now
+    → old.notes ≡ [] → new.notes ≡ c ∷ [] → KeepsLast (weighing (comes_now ps)) old held new now
     → (new.sink ≡ c) × IsFront ps now
 on_the_way old new held now ps c none has keeps =
     one_note (seen (weighing (comes_now ps)) new now) c new.sink ps has (keeps.last (λ same.
     absurd (let e : 1 ≡ 0 = sym (ap length has) ∙ same ∙ ap length none in omega (arith, e))))
 
 stood_so : (old new : SessionState Point) (held ps : List Portion) (now : Seen) (c : Point)
-    → old.notes ≡ [] → now.notes ≡ c ∷ []
-    → StoodSaved (weighing (comes_now ps)) old held new
+    → old.notes ≡ [] → now.notes ≡ c ∷ [] → StoodSaved (weighing (comes_now ps)) old held new
     now
     → (new.sink ≡ c) × (now.place ≡ rest_of new.core)
     × IsFront ps now.parts × (c.staged ≡ weight_of now.parts)
@@ -102,8 +92,7 @@ stood_so old new held ps now c none has (parts, holds, is, keeps) =
     )
 
 left_at_a_fault : (old new : SessionState Point) (held ps : List Portion) (now : Seen) (c : Point)
-    → old.notes ≡ [] → now.notes ≡ c ∷ []
-    → LeavesSaved (weighing (comes_now ps)) old held now
+    → old.notes ≡ [] → now.notes ≡ c ∷ [] → LeavesSaved (weighing (comes_now ps)) old held now
     new
     → ((new.sink ≡ c) × IsFront ps now.parts)
     ⊎ ((new.sink.staged ≡ weight_of ps) × IsFront now.parts ps

@@ -1,7 +1,6 @@
 -- The test cases for sections, and for lines about them.
 use Rattle.std.proofs.Common.{refl}
-use Rattle.tape_run.specs.Lacks.{lack_of}
-use Rattle.tape_run.specs.CasesOfSections.{CasesOfSections}
+use Rattle.tape_run.specs.{Lacks.lack_of, CasesOfSections.CasesOfSections}
 
 pub cases_of_sections : CasesOfSections
 unfolding lack_of

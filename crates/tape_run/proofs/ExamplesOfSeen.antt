@@ -1,33 +1,26 @@
 -- The examples for sessions with known parts, and for readers that know their bytes.
-use Rattle.std.proofs.Common.{◌≡◌, ◌⊎◌, ℕ, List, [], ◌∷◌, length, Bool, Some, None, refl, sym}
-use Rattle.std.proofs.Common.{ap, arith, inl, inr, ◌∙◌}
+use Rattle.std.proofs.Common.{◌≡◌, ◌⊎◌, ℕ, List, [], ◌∷◌, length, Bool, Some, None, refl, sym, ap}
+use Rattle.std.proofs.Common.{arith, inl, inr, ◌∙◌}
 use Rattle.tape_blocks.specs.Block.{Portion}
-use Rattle.tape_core.specs.Point.{Point}
+use Rattle.tape_core.specs.{Point.Point, Weight.Rose}
 use Rattle.tape_core.proofs.Crashes.{or_nothing}
-use Rattle.tape_run.specs.CasesOfSaves.{comes_now, weighing}
-use Rattle.tape_run.specs.CasesOfSeen.{CasesOfSeen, counting}
-use Rattle.tape_run.specs.Crash.{BringsNoMore}
-use Rattle.tape_run.specs.Given.{IfTold}
+use Rattle.tape_run.specs.{CasesOfSaves.comes_now, CasesOfSaves.weighing, CasesOfSeen.CasesOfSeen}
+use Rattle.tape_run.specs.{CasesOfSeen.counting, Crash.BringsNoMore, Given.IfTold}
+use Rattle.tape_run.specs.{Steps.RefusesRestart, SessionState.SessionState}
 use Rattle.tape_run.specs.Seen.{seen, IsKept, IfSeen, IsSeen}
-use Rattle.tape_run.specs.Steps.{RefusesRestart}
 use Rattle.tape_run.specs.Causes.{ExtractFails, ReadingFails, RefusesAny}
-use Rattle.tape_run.specs.declared.fault.EngineFault.TheVariants.{Run}
-use Rattle.tape_run.specs.declared.fault.RunFault.TheVariants.{Sink}
-use Rattle.tape_core.specs.Weight.{Rose}
+use Rattle.tape_run.specs.declared.fault.{EngineFault.TheVariants.Run, RunFault.TheVariants.Sink}
 use Rattle.tape_core.specs.declared.sink.SinkFault.{SinkFault}
 use Rattle.tape_core.specs.declared.sink.SinkFault.TheVariants.{Device, Full, Failed}
-use Rattle.tape_run.specs.SessionState.{SessionState}
 
 each_part : (s : SessionState ℕ) (p : Portion) → s.sink ≡ 1
     → IfSeen counting s (λ is. is.parts ≡ p ∷ []) → (q : Portion) → q ≡ p
 each_part s p one so q = let e = so (q ∷ []) (sym one) in cc
 
 no_part : (s : SessionState ℕ) → s.sink ≡ 1 → IsSeen counting s (λ is. is.parts ≡ []) → ⊥
-no_part s one (now, count, none) =
-    absurd (omega (arith, one, count, ap length none))
+no_part s one (now, count, none) = absurd (omega (arith, one, count, ap length none))
 
-both_told : (a b : List ℕ)
-    → IfTold (λ r. r) (Some a ∷ Some b ∷ []) (λ bytes. bytes ≡ a ∷ b ∷ [])
+both_told : (a b : List ℕ) → IfTold (λ r. r) (Some a ∷ Some b ∷ []) (λ bytes. bytes ≡ a ∷ b ∷ [])
 both_told a b [] e = absurd (cc)
 both_told a b (x ∷ []) e = absurd (cc)
 both_told a b (x ∷ y ∷ []) e = let f = e in cc
@@ -40,8 +33,7 @@ one_untold a (b ∷ c ∷ bytes) e = absurd (cc)
 
 brings_no_more : (old new : Point) → old.staged ≡ 0
     → BringsNoMore (weighing (comes_now [])) old new → new ≡ old
-brings_no_more old new none brings =
-    (or_nothing ((brings [] none).now new [] (refl, refl))).0
+brings_no_more old new none brings = (or_nothing ((brings [] none).now new [] (refl, refl))).0
 
 back_refused : (cause : SinkFault) (n : ℕ) (old new : SessionState ℕ)
     → RefusesRestart counting n (Sink cause) old new → (new.failures ≡ old.failures)

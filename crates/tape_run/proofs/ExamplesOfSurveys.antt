@@ -1,16 +1,12 @@
 -- The cases of surveys.
-use Rattle.std.proofs.Common.{◌≡◌, Bool, List, [], ◌∷◌, ◌++◌, Option, refl, ap, ◌∙◌}
-use Rattle.std.specs.Prelude.{map, is_some, if◌then◌else◌}
+use Rattle.std.proofs.Common.{◌≡◌, Bool, List, [], ◌∷◌, ◌++◌, Option, refl, ap, ◌∙◌, map, is_some}
+use Rattle.std.proofs.Common.{if◌then◌else◌, flat_map}
 use Rattle.indexmap.specs.IndexMap.{insert_entry}
 use Rattle.std.specs.Fmt.{digits}
-use Rattle.std.specs.List.{flat_map}
 use Rattle.tape_image.specs.Tape.{TapeItem, block, mark}
-use Rattle.tape_label.specs.Kinds.{kind_at}
-use Rattle.tape_label.specs.Reading.{vol1_at}
+use Rattle.tape_label.specs.{Kinds.kind_at, Reading.vol1_at}
 use Rattle.tape_run.specs.Lacks.{lack_of, key_at}
-use Rattle.tape_run.specs.Noted.{same_key}
-use Rattle.tape_run.specs.SurveyGlance.{is_ebcdic}
-use Rattle.tape_run.specs.SurveyWording.{found_text}
+use Rattle.tape_run.specs.{Noted.same_key, SurveyGlance.is_ebcdic, SurveyWording.found_text}
 use Rattle.tape_run.specs.SurveyLaws.{IsVolumeInOrder, end_marks}
 use Rattle.tape_run.specs.CasesOfSurveys.{CasesOfGlances, CasesOfWholes, CasesOfSurveys}
 

@@ -1,11 +1,10 @@
 -- The cases of unpacking.
 use Rattle.std.proofs.Common.{refl, ap, sym, ◌∙◌, ◌≡◌, map, [], ◌∷◌, inl, arith, length, codes}
-use Rattle.std.proofs.Common.{decimal, length-append}
-use Rattle.std.specs.Prelude.{if◌then◌else◌, option_map, ◌||◌, ◌&&◌, ◌==◌, nat_lt, is_some}
+use Rattle.std.proofs.Common.{decimal, length-append, if◌then◌else◌, option_map, ◌||◌, ◌&&◌, ◌==◌}
+use Rattle.std.proofs.Common.{nat_lt, is_some}
 use Rattle.std.specs.Fmt.{digits}
 use Rattle.tape_run.specs.declared.unpack.SetFile.{SetFile}
-use Rattle.tape_run.specs.CasesOfUnpacking.{CasesOfUnpacking}
-use Rattle.tape_run.specs.SurveyCopies.{dispute_at}
+use Rattle.tape_run.specs.{CasesOfUnpacking.CasesOfUnpacking, SurveyCopies.dispute_at}
 use Rattle.tape_run.specs.SurveyFiles.{file_key}
 use Rattle.tape_run.specs.Unpacking.{file_by, is_earlier, volume_in}
 

@@ -1,45 +1,33 @@
 -- After a final answer of a core nothing is delivered, and nothing that the core stores changes.
-use Rattle.std.proofs.Common.{◌≡◌, ℕ, Bool, true, false, List, [], ◌∷◌, ◌++◌, Option, Some}
-use Rattle.std.proofs.Common.{Result, Ok, Err, refl, sym, ap, ◌∙◌, subst}
-use Rattle.std.specs.Prelude.{if◌then◌else◌, not, nat_lt, ◌==◌, ⊤}
-use Rattle.std.specs.Str.{bytes_eq}
-use Rattle.tape_label.specs.VolumeLabels.{is_volume_label}
-use Rattle.tape_core.specs.Labels.{other_file_id, other_shape, form_at}
-use Rattle.tape_blocks.specs.Block.{Portion}
+use Rattle.std.proofs.Common.{◌≡◌, ℕ, Bool, true, false, List, [], ◌∷◌, ◌++◌, Option, Some, Result}
+use Rattle.std.proofs.Common.{Ok, Err, refl, sym, ap, ◌∙◌, subst, if◌then◌else◌, not, nat_lt, ◌==◌}
+use Rattle.std.specs.{Prelude.⊤, Str.bytes_eq}
+use Rattle.tape_label.specs.{VolumeLabels.is_volume_label, Kinds.kind_at}
+use Rattle.tape_core.specs.{Labels.other_file_id, Labels.other_shape, Labels.form_at, State.State}
+use Rattle.tape_core.specs.{Parts.begun_before, Parts.other_front, Follows.IsFinal, Place.rest_of}
+use Rattle.tape_blocks.specs.{Block.Portion, Judged.judged}
 use Rattle.tape_image.specs.Tape.{TapeItem, block, bad, mark}
+use Rattle.tape_label.specs.declared.values.{Kind.Kind, Head1.Head1, Head2.Head2, Trail1.Trail1}
 use Rattle.tape_label.specs.declared.label.LabelFault.{LabelFault}
-use Rattle.tape_label.specs.declared.values.Kind.{Kind}
 use Rattle.tape_label.specs.declared.values.Kind.TheVariants.{Vol1 as AVol1, Hdr1 as AHdr1}
 use Rattle.tape_label.specs.declared.values.Kind.TheVariants.{Hdr2 as AHdr2}
-use Rattle.tape_label.specs.declared.values.Head1.{Head1}
-use Rattle.tape_label.specs.declared.values.Head2.{Head2}
-use Rattle.tape_label.specs.declared.values.Trail1.{Trail1}
-use Rattle.tape_label.specs.Kinds.{kind_at}
 use Rattle.tape_label.specs.Reading.{head1_at, head2_at, trail1_at}
 use Rattle.tape_blocks.specs.declared.check.BlockFault.{BlockFault}
-use Rattle.tape_blocks.specs.Judged.{judged}
 use Rattle.tape_set.specs.declared.position.Position.{Position}
 use Rattle.tape_set.specs.declared.position.Position.TheVariants.{Awaits, Finished}
 use Rattle.tape_set.specs.Position.{next_section, sect_of, block_of, part_of}
 use Rattle.tape_set.specs.Lawful.{FileForm, label_count, most_blocks}
-use Rattle.tape_core.specs.declared.event.Answer.{Answer}
-use Rattle.tape_core.specs.declared.event.Reason.{Reason}
-use Rattle.tape_core.specs.declared.event.Heading.{Heading}
+use Rattle.tape_core.specs.declared.event.{Answer.Answer, Reason.Reason, Heading.Heading}
 use Rattle.tape_core.specs.declared.event.Phase.{Phase}
 use Rattle.tape_core.specs.declared.event.Phase.TheVariants.{Over, Broken, Volume, VolumeLabels}
 use Rattle.tape_core.specs.declared.event.Phase.TheVariants.{Header2, Headers, DataPassed}
 use Rattle.tape_core.specs.declared.event.Phase.TheVariants.{DataWanted, TrailerPassed}
 use Rattle.tape_core.specs.declared.event.Phase.TheVariants.{TrailerWanted, Trailers, NextFile}
-use Rattle.tape_core.specs.State.{State}
-use Rattle.tape_core.specs.Parts.{begun_before, other_front}
-use Rattle.tape_core.specs.Follows.{IsFinal}
-use Rattle.tape_core.specs.Place.{rest_of}
 use Rattle.tape_core.specs.Table.{Outcome, passed, useless, broken, first_label, at_head1, at_block}
 use Rattle.tape_core.specs.Table.{first_labels, at_head2, second_label, at_judged, at_data}
-use Rattle.tape_core.specs.Table.{at_passed_trailer, at_end, at_wanted_trailer}
-use Rattle.tape_core.specs.Table.{at_mark, at_bad, at_item, unless_complete, step_of, other_numbers}
-use Rattle.tape_run.specs.Reels.{behind_items}
-use Rattle.tape_run.specs.ByTable.{parts_at, delivered_parts}
+use Rattle.tape_core.specs.Table.{at_passed_trailer, at_end, at_wanted_trailer, at_mark, at_bad}
+use Rattle.tape_core.specs.Table.{at_item, unless_complete, step_of, other_numbers}
+use Rattle.tape_run.specs.{Reels.behind_items, ByTable.parts_at, ByTable.delivered_parts}
 
 -- no reading is under way
 abbrev pub IsIdle : Position → Phase → Type 0
@@ -191,8 +179,7 @@ idle_at : (set_id : List ℕ) (file : ℕ) (p : Position) (begun : Bool) (known 
       known = known;
       phase = phase;
     }) x
-idle_at set_id file Finished begun known phase x h =
-    record { rest = refl; idle = tt; none = refl }
+idle_at set_id file Finished begun known phase x h = record { rest = refl; idle = tt; none = refl }
 idle_at set_id file (Awaits sect b part) begun known Over (block bytes) h =
     record { rest = refl; idle = tt; none = refl }
 idle_at set_id file (Awaits sect b part) begun known Over x h =
@@ -204,8 +191,7 @@ idle_at set_id file (Awaits sect b part) begun known Broken x h =
 idle_at set_id file (Awaits sect b part) begun known _ x h = absurd h
 
 idle_step : (core : State) (x : TapeItem) → IsIdle core.position core.phase → Stays core x
-idle_step core x h = idle_at core.set_id core.file core.position core.begun core.known core.phase x
-    h
+idle_step core x h = idle_at core.set_id core.file _ core.begun core.known _ x h
 
 -- no items change the preserved state, and none delivers parts
 pub idle_items : (xs : List TapeItem) (core : State) → IsIdle core.position core.phase

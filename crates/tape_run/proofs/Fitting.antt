@@ -1,7 +1,6 @@
 -- Faults, and prefixes of texts, in the forms that occur in answers.
-use Rattle.std.proofs.Common.{◌≡◌, ℕ, Bool, true, false, List, [], Option, Result, Ok, Err}
-use Rattle.std.proofs.Common.{OnErr, Some, None, refl, sym, ◌∙◌, append-nil}
-use Rattle.std.specs.Prelude.{if◌then◌else◌}
+use Rattle.std.proofs.Common.{◌≡◌, ℕ, Bool, true, false, List, [], Option, Result, Ok, Err, OnErr}
+use Rattle.std.proofs.Common.{Some, None, refl, sym, ◌∙◌, append-nil, if◌then◌else◌}
 use Rattle.std.specs.Io.KnownBytes.{Appends, Keeps}
 use Rattle.std.proofs.KnownBytes.{Appends-nil}
 use Rattle.tape_image.specs.Written.{AppendsFront}

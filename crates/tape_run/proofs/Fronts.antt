@@ -1,24 +1,17 @@
 -- A prefix of a mount is a mount.
 use Rattle.std.proofs.Common.{◌≡◌, ◌≢◌, ◌≤◌, ℕ, zero, suc, ◌+◌, List, [], ◌∷◌, ◌++◌, Bool, true}
 use Rattle.std.proofs.Common.{false, length, take, refl, sym, ap, subst, ◌∙◌, arith, length-append}
-use Rattle.std.specs.Prelude.{if◌then◌else◌, drop, ◌&&◌, Option}
-use Rattle.tape_image.specs.Tape.{TapeItem, block, bad, mark}
-use Rattle.tape_image.specs.Begins.{Walks}
-use Rattle.tape_image.proofs.Leads.{Leads-before}
-use Rattle.tape_image.proofs.Existence.{Begins-some}
-use Rattle.tape_image.proofs.Callers.{walked_front}
-use Rattle.tape_label.specs.Kinds.{kind_at}
-use Rattle.tape_label.specs.VolumeLabels.{is_volume_label}
-use Rattle.tape_label.specs.Reading.{head1_at}
+use Rattle.std.proofs.Common.{if◌then◌else◌, drop, ◌&&◌, Option}
+use Rattle.tape_image.specs.{Tape.TapeItem, Tape.block, Tape.bad, Tape.mark, Begins.Walks}
+use Rattle.tape_image.proofs.{Leads.Leads-before, Existence.Begins-some, Callers.walked_front}
+use Rattle.tape_label.specs.{Kinds.kind_at, VolumeLabels.is_volume_label, Reading.head1_at}
 use Rattle.tape_core.specs.Foreign.{starts_set, labels_of_set, is_of_set, is_vol1}
 use Rattle.tape_set.specs.Layout.{FileSet, items, entries}
-use Rattle.tape_set.specs.Reading.{Reading, as_read}
-use Rattle.tape_set.specs.Reach.{passes}
+use Rattle.tape_set.specs.{Reading.Reading, Reading.as_read, Reach.passes}
 use Rattle.tape_run.specs.Mount.{MountEvent, reads, foreign_reel, saves, restarts, IsCopy, IsMount}
 use Rattle.tape_run.specs.Mount.{IsMountOf, cut}
 use Rattle.tape_run.specs.Fronts.{FrontsAreMounts, GivenIsHistory}
-use Rattle.tape_run.specs.Given.{IsGiven}
-use Rattle.tape_run.specs.History.{IsHistory}
+use Rattle.tape_run.specs.{Given.IsGiven, History.IsHistory}
 use Rattle.tape_run.specs.declared.script.Step.TheVariants.{Reel, Save, Restart}
 
 -- ---- copies
@@ -142,23 +135,21 @@ pub fronts_are_mounts : FrontsAreMounts
 fronts_are_mounts set front rest h (xs, end, stop, b, m) =
     let (ys, at, why, c) = Begins-some 0 front (omega arith) in
     let (more, whole, _) = walked_front 0 (front ++ rest) (c.rest ++ rest) ys xs at end stop
-    (walks_before front rest c.rest ys at c.walks) c.within b in (
+    (walks_before _ rest _ _ _ c.walks) c.within b in (
       length ys,
       (
         ys,
         at,
         why,
         c,
-        front_of_mount set ys more h
-            (subst (λ z. IsMount set z h) whole m),
+        front_of_mount set ys more h (subst (λ z. IsMount set z h) whole m),
       ),
     )
 
 -- ---- histories
 
-mount_given : (set : FileSet) (b g : List ℕ) (h : MountEvent) → IsMountOf set b h
-    → (failed : Bool) (left : Option (List ℕ)) → IsGiven failed b left g
-    → (h' : MountEvent) × IsMountOf set g h'
+mount_given : (set : FileSet) (b g : List ℕ) (h : MountEvent) → IsMountOf set b h → (failed : Bool)
+    (left : Option (List ℕ)) → IsGiven failed b left g → (h' : MountEvent) × IsMountOf set g h'
 mount_given set b g h m false left same = (h, subst (λ z. IsMountOf set z h) (sym same) m)
 mount_given set b g h m true left (rest, is, whole) =
     let (n, front) = fronts_are_mounts set g rest h (subst (λ z. IsMountOf set z h) whole m) in

@@ -1,36 +1,28 @@
 -- A reading of a later file continues after that of an earlier one.
-use Rattle.std.proofs.Common.{◌≡◌, ◌≢◌, ℕ, ◌<◌, inl, inr, List, [], ◌∷◌, ◌++◌, Bool, false}
-use Rattle.std.proofs.Common.{Option, Some, refl, sym, ap, subst, ◌∙◌}
+use Rattle.std.proofs.Common.{◌≡◌, ◌≢◌, ℕ, ◌<◌, inl, inr, List, [], ◌∷◌, ◌++◌, Bool, false, Option}
+use Rattle.std.proofs.Common.{Some, refl, sym, ap, subst, ◌∙◌}
 use Rattle.std.specs.List.{AllByRecursion}
 use Rattle.tape_blocks.specs.Block.{Portion}
 use Rattle.tape_image.specs.Tape.{TapeItem}
 use Rattle.tape_set.specs.declared.position.Position.{Position}
 use Rattle.tape_set.specs.declared.position.Position.TheVariants.{Awaits, Finished}
-use Rattle.tape_core.specs.declared.event.Answer.{Answer}
+use Rattle.tape_core.specs.declared.event.{Answer.Answer, Phase.Phase}
 use Rattle.tape_core.specs.declared.event.Answer.TheVariants.{Passed, Deliver, SectionDone}
 use Rattle.tape_core.specs.declared.event.Answer.TheVariants.{Complete, Useless}
-use Rattle.tape_core.specs.declared.event.Phase.{Phase}
 use Rattle.tape_core.specs.declared.event.Phase.TheVariants as phases
 use Rattle.tape_core.specs.declared.event.Phase.TheVariants.{Over, Broken, Volume, Trailers}
 use Rattle.tape_core.specs.Behind.{passed_over, expected_over, PassesTo, AreInOrder, behind_of}
 use Rattle.tape_core.specs.Behind.{mounted_behind}
-use Rattle.tape_core.specs.Known.{is_finished}
-use Rattle.tape_core.specs.State.{State}
+use Rattle.tape_core.specs.{Known.is_finished, State.State, Point.Point, Weight.IsFront}
 use Rattle.tape_core.specs.Table.{Outcome, in_phase, passed, step_of, mount_of, mounted}
-use Rattle.tape_core.proofs.OneFile.{step_set_id, step_file}
-use Rattle.tape_core.proofs.Behind.{step_law}
+use Rattle.tape_core.proofs.{OneFile.step_set_id, OneFile.step_file, Behind.step_law}
 use Rattle.tape_run.specs.Reels.{behind_items, answers_to, GoesOn}
 use Rattle.tape_run.specs.ByTable.{delivered_parts, parts_by, parts_at, IsLed}
 use Rattle.tape_core.specs.Place.{rest_of, resting}
-use Rattle.tape_core.specs.Point.{Point}
-use Rattle.tape_core.specs.Weight.{IsFront}
 use Rattle.tape_run.specs.GoesBehind.{EndsSection, PassesFiles, LeadsOverAll, ReeledBehind}
-use Rattle.tape_run.specs.Given.{counted, IsGiven}
-use Rattle.tape_run.specs.Seen.{Seen}
-use Rattle.tape_run.specs.Taking.{ReadsImage}
+use Rattle.tape_run.specs.{Given.counted, Given.IsGiven, Seen.Seen, Taking.ReadsImage}
 use Rattle.tape_run.proofs.ByTable.{behind_app, delivered_app, led_nowhere}
-use Rattle.tape_run.proofs.Notes.{front_self}
-use Rattle.tape_run.proofs.Completes.{step_tells}
+use Rattle.tape_run.proofs.{Notes.front_self, Completes.step_tells}
 
 -- an item after which the other reader continues: its effect on a reader of a later file
 pub record PassedOne (first later : State) (x : TapeItem) : Type 0 where
@@ -110,8 +102,7 @@ passed_from : (first later : State) (items : List TapeItem) (item : TapeItem)
     → EndsSection (step_of (behind_items first items) (Some item)).0
     → PassedFrom later (items ++ item ∷ [])
 passed_from first later [] item o there on ended =
-    let p = end_one first later item (step_of first (Some item)) (step_law first later item o there)
-    ended in
+    let p = end_one first _ _ _ (step_law _ _ item o there) ended in
     let answer : (step_of later (Some item)).0 ≡ Passed = ap (λ (z : Outcome). z.0) p in
     let none : parts_at later item ≡ [] = no_parts item later.position
     (step_of later (Some item)).1.known (step_of later (Some item)).0 answer in
@@ -121,12 +112,11 @@ passed_from first later [] item o there on ended =
       nothing = ap (λ (l : List Portion). l ++ []) none;
     }
 passed_from first later (x ∷ xs) item o there (on, rest) ended =
-    let one = on_one first later x (step_of first (Some x)) refl (step_law first later x o there)
-    on in
+    let one = on_one first _ _ _ refl (step_law _ _ x o there) on in
     let then = passed_from (step_of first (Some x)).1 (step_of later (Some x)).1 xs item
-    (in_order_on first later x o on one) (ap (λ (z : State). z.phase) one.next) rest ended in
-    let none : parts_at later x ≡ [] = no_parts x later.position
-    (step_of later (Some x)).1.known (step_of later (Some x)).0 one.answer in
+    (in_order_on _ _ _ o on one) (ap (λ (z : State). z.phase) one.next) rest ended in
+    let none : parts_at later x ≡ [] = no_parts x later.position (step_of later (Some x)).1.known
+    (step_of later (Some x)).0 one.answer in
     record {
       answers = (one.answer, then.answers);
       behind = then.behind ∙ ap (λ (z : State). in_phase z Trailers) one.next;
@@ -136,8 +126,7 @@ passed_from first later (x ∷ xs) item o there (on, rest) ended =
 
 -- ---- a reel that is mounted
 
-volume_of : (p : Phase) (q : Position) → p ≢ Broken → is_finished q ≡ false
-    → mounted p q ≡ Volume
+volume_of : (p : Phase) (q : Position) → p ≢ Broken → is_finished q ≡ false → mounted p q ≡ Volume
 volume_of Broken q sound waits = absurd (sound refl)
 volume_of Over Finished sound waits = absurd (cc)
 volume_of Over (Awaits sect b part) sound waits = refl
@@ -194,8 +183,7 @@ behind_rest core = ap (λ p. record core { phase = p })
 
 -- if a file is complete, nothing is read
 pub led_nowhere_behind : (core : State) (held : List Portion) (xs : List TapeItem)
-    → core.position ≡ Finished
-    → IsLed xs (behind_of (rest_of core)) (rest_of core) held held
+    → core.position ≡ Finished → IsLed xs (behind_of (rest_of core)) (rest_of core) held held
 led_nowhere_behind core held xs e =
     let over : behind_of (rest_of core) ≡ mount_of (rest_of core) =
     ap (λ p. record core { phase = p }) (at_end (resting core.phase) core.position e) in
@@ -230,8 +218,7 @@ pub reeled_behind : (failed : Bool) (mounted new : State) (held now : List Porti
     (f1 f2 r1 r2 : ℕ) → left ≡ unread
     → (rest_of new).set_id ≡ p.set_id → (rest_of new).file ≡ p.file → r2 ≡ r1
     → IsFront held now → f2 ≡ counted failed f1 → mounted ≡ behind_of p
-    → ReadsImage failed mounted new held now unread bytes
-    → ReeledBehind bytes left failed (record {
+    → ReadsImage failed mounted new held now unread bytes → ReeledBehind bytes left failed (record {
       place = p;
       parts = held;
       notes = notes;

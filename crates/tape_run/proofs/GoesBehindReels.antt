@@ -2,22 +2,17 @@
 use Rattle.std.proofs.Common.{◌≡◌, ℕ, inl, inr, List, [], ◌∷◌, ◌++◌, false, Some, refl, sym, ap}
 use Rattle.std.proofs.Common.{subst, ◌∙◌}
 use Rattle.std.specs.List.{AllByRecursion}
-use Rattle.tape_image.specs.Tape.{TapeItem}
+use Rattle.tape_image.specs.{Tape.TapeItem, Begins.Walks}
 use Rattle.tape_set.specs.declared.position.Position.{Position}
 use Rattle.tape_set.specs.declared.position.Position.TheVariants.{Awaits, Finished}
-use Rattle.tape_core.specs.declared.event.Answer.TheVariants.{Passed}
-use Rattle.tape_core.specs.declared.event.Phase.{Phase}
+use Rattle.tape_core.specs.declared.event.{Answer.TheVariants.Passed, Phase.Phase}
 use Rattle.tape_core.specs.declared.event.Phase.TheVariants.{Broken}
-use Rattle.tape_core.specs.Behind.{behind_of}
-use Rattle.tape_core.specs.Known.{is_finished}
-use Rattle.tape_core.specs.State.{State}
+use Rattle.tape_core.specs.{Behind.behind_of, Known.is_finished, State.State}
 use Rattle.tape_core.specs.Table.{Outcome, passed, step_of, mount_of, unless_complete, at_reel_end}
 use Rattle.tape_run.specs.Reels.{behind_items, answers_to, GoesOn, ReadsReel}
 use Rattle.tape_run.specs.GoesBehind.{EndsSection, LeavesBehind, LeavesBehindAgain}
-use Rattle.tape_image.specs.Begins.{Walks}
 use Rattle.tape_run.specs.declared.reel_reader.ReelAnswer.{ReelAnswer}
-use Rattle.tape_run.proofs.ByTable.{behind_app}
-use Rattle.tape_run.proofs.GoesBehind.{still_waits}
+use Rattle.tape_run.proofs.{ByTable.behind_app, GoesBehind.still_waits}
 
 -- ---- from reel to reel
 
@@ -81,18 +76,17 @@ passed_goes_on core (x ∷ xs) ys (one, rest) on =
 
 pub leaves_behind_again : LeavesBehindAgain
 leaves_behind_again core new front bytes left answer waits sound over r ends =
-    let e = ended_well (behind_of core) new bytes left answer waits r ends in (
+    let e = ended_well _ _ _ _ _ waits r ends in (
       e.items,
       e.item,
       e.at,
       record {
         sound = sound;
-        on = passed_goes_on (mount_of core) front e.items over.answers
-            (subst (λ (z : State). AllByRecursion GoesOn (answers_to z e.items)) (sym over.behind)
-            e.on);
-        ended = subst (λ (z : State). EndsSection (step_of z (Some e.item)).0)
-            (sym (behind_app (mount_of core) front e.items
-            ∙ ap (λ (z : State). behind_items z e.items) over.behind)) e.ended;
+        on = passed_goes_on _ _ e.items over.answers (subst
+            (λ (z : State). AllByRecursion GoesOn (answers_to z e.items)) (sym over.behind) e.on);
+        ended = subst (λ (z : State). EndsSection (step_of z (Some e.item)).0) (sym (behind_app
+            (mount_of core) front e.items ∙ ap (λ (z : State). behind_items z e.items) over.behind))
+            e.ended;
       },
       e.taken,
     )

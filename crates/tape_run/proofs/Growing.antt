@@ -1,10 +1,8 @@
 -- The contents of a sink grow from call to call.
 use Rattle.std.proofs.Common.{List}
 use Rattle.tape_blocks.specs.Block.{Portion}
-use Rattle.tape_core.specs.Crash.{AddsNothing, Crashes}
-use Rattle.tape_core.specs.Weight.{IsFront}
-use Rattle.tape_run.proofs.Crashes.{adds_then}
-use Rattle.tape_run.proofs.Notes.{front_trans}
+use Rattle.tape_core.specs.{Crash.AddsNothing, Crash.Crashes, Weight.IsFront}
+use Rattle.tape_run.proofs.{Crashes.adds_then, Notes.front_trans}
 
 -- Whatever list of parts one of the sinks contains, the other contains a list that begins with it
 -- and satisfies the relation.

@@ -1,27 +1,19 @@
 -- A run is where its history leads.
 use Rattle.std.proofs.Common.{◌≡◌, ℕ, zero, suc, ◌+◌, ◌<◌, Bool, true, false, List, [], ◌∷◌, length}
 use Rattle.std.proofs.Common.{map, take, Option, Some, refl, sym, ap, subst, ◌∙◌, arith}
-use Rattle.std.proofs.Common.{length-append}
-use Rattle.std.specs.List.{slice_get}
-use Rattle.std.proofs.lemmas.List.{map-append, take-map}
-use Rattle.std.proofs.lemmas.Option.{slice_get-map}
-use Rattle.tape_set.specs.Layout.{FileSet}
-use Rattle.tape_set.specs.Lawful.{IsLawful}
+use Rattle.std.proofs.Common.{length-append, slice_get}
+use Rattle.std.proofs.lemmas.{List.map-append, List.take-map, Option.slice_get-map}
+use Rattle.tape_set.specs.{Layout.FileSet, Lawful.IsLawful}
 use Rattle.tape_set.specs.declared.position.Position.{Position}
-use Rattle.tape_core.specs.Point.{Point}
-use Rattle.tape_core.specs.State.{State}
-use Rattle.tape_core.specs.Stands.{Stands, weight_of}
-use Rattle.tape_core.specs.Table.{saved}
+use Rattle.tape_core.specs.{Point.Point, State.State, Stands.Stands, Stands.weight_of, Table.saved}
 use Rattle.tape_run.specs.Mount.{MountEvent, reads, foreign_reel, saves, restarts, IsMountOf}
 use Rattle.tape_run.specs.Mount.{after_mount}
 use Rattle.tape_run.specs.declared.script.Step.{Step}
 use Rattle.tape_run.specs.declared.script.Step.TheVariants.{Reel, Save, Restart}
-use Rattle.tape_run.specs.Given.{failed_of, counted, counted_up}
-use Rattle.tape_run.specs.Seen.{Seen, AreNotes, IsSession}
+use Rattle.tape_run.specs.{Given.failed_of, Given.counted, Given.counted_up, Seen.Seen}
+use Rattle.tape_run.specs.{Seen.AreNotes, Seen.IsSession, Steps.Reeled, Steps.Saved, Steps.WentBack}
+use Rattle.tape_run.specs.{Runs.Runs, Headline.Ran, Headline.HasRun}
 use Rattle.tape_run.specs.History.{after, course, course_of, IsHistory}
-use Rattle.tape_run.specs.Steps.{Reeled, Saved, WentBack}
-use Rattle.tape_run.specs.Runs.{Runs}
-use Rattle.tape_run.specs.Headline.{Ran, HasRun}
 use Rattle.tape_core.proofs.Standing.{stood, noted}
 use Rattle.tape_run.proofs.Lead.{led_nothing, led_reel, led_save, led_restart}
 use Rattle.tape_run.proofs.Notes.{same_front, notes_grow, notes_push, note_at}
@@ -41,8 +33,7 @@ course_same old new p e f = rw (e, f) refl
 after_reel : (set : FileSet) (old new : Seen) (given : List ℕ) (h : MountEvent)
     → IsMountOf set given h
     → new.place.position ≡ after_mount set old.place.file old.place.position h
-    → new.notes ≡ old.notes
-    → after set old.place.file (course_of old) h ≡ course_of new
+    → new.notes ≡ old.notes → after set old.place.file (course_of old) h ≡ course_of new
 after_reel set old new given (reads r) m e f = course_same old new _ (sym e) (sym f)
 after_reel set old new given foreign_reel m e f = course_same old new _ (sym e) (sym f)
 after_reel set old new given saves (xs, end, stop, b, m) e f = absurd m
@@ -211,8 +202,7 @@ headline [] old new (Reel ∷ steps) bytes left none = absurd none
 headline (failed ∷ which) old new (Reel ∷ steps) [] left none = absurd none
 headline (failed ∷ which) old new (Reel ∷ steps) (b ∷ bs) [] none = absurd none
 headline (failed ∷ which) old new (Reel ∷ steps) (b ∷ bs) (l ∷ left) (mid, r, runs) =
-    reel_given which old mid new steps b bs l left failed r
-    (headline which mid new steps bs left runs)
+    reel_given _ _ _ _ _ _ _ _ _ _ r (headline which mid new steps bs left runs)
 headline which old new (Save ∷ steps) bytes left (mid, v, runs) =
     let (rest, same) = headline which mid new steps bytes left runs in (
       record {

@@ -1,42 +1,33 @@
 -- The items of an image, processed one after another.
-use Rattle.std.proofs.Common.{◌≡◌, ◌≢◌, ◌⊎◌, ℕ, ◌<◌, ◌≤◌, false, List, [], ◌∷◌, length-append}
-use Rattle.std.proofs.Common.{◌++◌, length, Option, Some, None, IfSome, Result, Ok, Err, refl}
-use Rattle.std.proofs.Common.{sym, ap, subst, ◌∙◌, inl, inr, arith, append_assoc, append-nil}
-use Rattle.std.specs.List.{slice_get}
+use Rattle.std.proofs.Common.{◌≡◌, ◌≢◌, ◌⊎◌, ℕ, ◌<◌, ◌≤◌, false, List, [], ◌∷◌, length-append, ◌++◌}
+use Rattle.std.proofs.Common.{length, Option, Some, None, IfSome, Result, Ok, Err, refl, sym, ap}
+use Rattle.std.proofs.Common.{subst, ◌∙◌, inl, inr, arith, append_assoc, append-nil, slice_get}
 use Rattle.tape_blocks.specs.Block.{Portion}
-use Rattle.tape_image.specs.declared.item.Ending.{Ending}
-use Rattle.tape_image.specs.declared.item.ImageFault.{ImageFault}
+use Rattle.tape_image.specs.declared.item.{Ending.Ending, ImageFault.ImageFault}
 use Rattle.tape_image.specs.declared.item.ImageCause.{ImageCause}
 use Rattle.tape_image.specs.declared.item.ImageCause.TheVariants.{Truncated, LengthsDiffer}
 use Rattle.tape_image.specs.declared.item.ImageCause.TheVariants.{Reserved, TooLong, Device}
 use Rattle.tape_image.specs.declared.item.ImageCause.TheVariants.{OutOfMemory}
-use Rattle.tape_image.specs.Tape.{TapeItem}
+use Rattle.tape_image.specs.{Tape.TapeItem, Reader.Reader, Reader.IfKnown}
 use Rattle.tape_image.specs.Begins.{image_limit, Stop, ends, faults, Begins, Walks}
-use Rattle.tape_image.specs.Reader.{Reader, IfKnown}
 use Rattle.tape_image.specs.Step as image
 use Rattle.tape_image.specs.Step.{TakesEnd, TakesFault, Meets, GivesItem}
-use Rattle.tape_image.proofs.Callers.{front_of_image}
-use Rattle.tape_image.proofs.Uniqueness.{Begins-one}
+use Rattle.tape_image.proofs.{Callers.front_of_image, Uniqueness.Begins-one}
 use Rattle.tape_image.proofs.Walks.{Walks-nil, TakesEnd-behind, TakesFault-behind, known_same}
 use Rattle.tape_image.proofs.Walks.{TakesFault-begins, TakesFault-device, known_then, known_all}
-use Rattle.tape_set.specs.Layout.{FileSet}
-use Rattle.tape_set.specs.Lawful.{IsLawful}
+use Rattle.tape_set.specs.{Layout.FileSet, Lawful.IsLawful}
 use Rattle.tape_set.specs.declared.position.Position.{Position}
 use Rattle.tape_core.specs.declared.event.Answer.{Answer}
-use Rattle.tape_core.specs.State.{State}
+use Rattle.tape_core.specs.{State.State, Follows.IsFinal, Table.step_of}
 use Rattle.tape_core.specs.Place.{IsPlaced, rest_of}
 use Rattle.tape_run.specs.Mount.{MountEvent, IsMount, cut, after_mount}
-use Rattle.tape_core.specs.Follows.{IsFinal}
-use Rattle.tape_run.specs.Under.{is_under}
+use Rattle.tape_run.specs.{Under.is_under, Reels.behind_items}
 use Rattle.tape_run.specs.Taking.{Taken, TakesItem, RefusesItem, ReadsItems, ReadsImage}
 use Rattle.tape_run.specs.Taking.{RefusesImage, CutsTable, came_of, fault_of}
-use Rattle.tape_core.specs.Table.{step_of}
 use Rattle.tape_run.specs.ByTable.{parts_of_arrival, delivered_parts, StopsInside}
 use Rattle.tape_run.proofs.ByTable.{core_more, parts_more, led_by_final, led_to_end}
 use Rattle.tape_run.specs.Given.{is_device_cause, is_device}
-use Rattle.tape_run.proofs.Mounts.{reached, cut_whole}
-use Rattle.tape_run.specs.Reels.{behind_items}
-use Rattle.tape_run.proofs.Reels.{walks_on}
+use Rattle.tape_run.proofs.{Mounts.reached, Mounts.cut_whole, Reels.walks_on}
 
 -- So far these items were processed, up to an offset of all the bytes that the reader has.
 pub record SoFar (old new : State) (held now : List Portion) (at : ℕ) (bytes left : List ℕ)
@@ -54,8 +45,7 @@ pub record SoFar (old new : State) (held now : List Portion) (at : ℕ) (bytes l
 
 whole_image : (bytes : List ℕ) (taken xs : List TapeItem) (end far : ℕ) (stop other : Stop)
     → Begins 0 bytes taken far other → Begins 0 bytes xs end stop → xs ≡ taken
-whole_image bytes taken xs end far stop other a b =
-    (Begins-one 0 bytes xs taken end far stop other b a).0
+whole_image bytes taken xs end far stop other a b = (Begins-one _ _ _ _ _ _ _ _ b a).0
 
 item_here : (taken rest : List TapeItem) (item : TapeItem)
     → (length taken < length (taken ++ item ∷ rest))
@@ -257,8 +247,7 @@ known_so : (all left next : Option (List ℕ)) (P Q : List ℕ → List ℕ → 
     (R : List ℕ → Type 0) → ((xs ys zs : List ℕ) → P xs ys → Q ys zs → R xs)
     → IfKnown all left P → IfKnown left next Q → IfSome all R
 known_so all left next P Q R f a b =
-    known_all all next (λ xs zs. R xs) R (λ xs zs r. r)
-    (known_then all left next P Q (λ xs zs. R xs) f a b)
+    known_all _ _ (λ xs zs. R xs) R (λ xs zs r. r) (known_then _ _ _ _ _ (λ xs zs. R xs) f a b)
 
 -- The same facts, expressed by the bytes that are left.
 known_by : (all left next : Option (List ℕ)) (P Q : List ℕ → List ℕ → Type 0)

@@ -2,10 +2,8 @@
 use Rattle.std.proofs.Common.{◌≡◌, Bool, true, false, List, [], ◌∷◌, refl}
 use Rattle.std.specs.Map.{lookup}
 use Rattle.indexmap.specs.IndexMap.{insert_entry}
-use Rattle.tape_run.specs.declared.section.SectionKey.{SectionKey}
-use Rattle.tape_run.specs.declared.section.Entry.{Entry}
-use Rattle.tape_run.specs.Passing.{Told}
-use Rattle.tape_run.specs.Noted.{same_key, kept, noted}
+use Rattle.tape_run.specs.declared.section.{SectionKey.SectionKey, Entry.Entry}
+use Rattle.tape_run.specs.{Passing.Told, Noted.same_key, Noted.kept, Noted.noted}
 
 inserted_here : (x : Told) (es : List Told) (key : SectionKey) (entry : Entry) (b : Bool)
     → same_key key x.0 ≡ b
@@ -19,5 +17,4 @@ inserted_here x es key entry false e rest = simp (e, rest)
 pub inserted : (es : List Told) (key : SectionKey) (entry : Entry)
     → insert_entry same_key es key (kept (lookup (same_key key) es) entry) ≡ noted es (key, entry)
 inserted [] key entry = refl
-inserted (x ∷ es) key entry =
-    inserted_here x es key entry (same_key key x.0) refl (inserted es key entry)
+inserted (x ∷ es) key entry = inserted_here x _ _ _ (same_key key x.0) refl (inserted es key entry)

@@ -1,18 +1,13 @@
 -- The parts of a catalogue that adding sections does not change.
 use Rattle.std.proofs.Common.{◌≡◌, ◌⊎◌, inl, inr, ℕ, Bool, true, false, List, [], ◌∷◌, ◌++◌, refl}
-use Rattle.std.proofs.Common.{sym, ap, subst, ◌∙◌, append_assoc, append-nil, arith, ⊎_elim}
-use Rattle.std.specs.Prelude.{map, if◌then◌else◌, ◌==◌, ◌&&◌, not}
-use Rattle.std.specs.List.{AllByRecursion}
-use Rattle.std.specs.Str.{bytes_eq}
-use Rattle.std.proofs.lemmas.Bool.{and_parts}
-use Rattle.std.proofs.lemmas.Slice.Eq.{bytes_eq-Decides}
-use Rattle.std.proofs.lemmas.Bool.Decides.{nat_tests}
+use Rattle.std.proofs.Common.{sym, ap, subst, ◌∙◌, append_assoc, append-nil, arith, ⊎_elim, map}
+use Rattle.std.proofs.Common.{if◌then◌else◌, ◌==◌, ◌&&◌, not}
+use Rattle.std.specs.{List.AllByRecursion, Str.bytes_eq}
+use Rattle.std.proofs.lemmas.{Bool.and_parts, Slice.Eq.bytes_eq-Decides, Bool.Decides.nat_tests}
 use Rattle.tape_image.specs.Tape.{TapeItem}
-use Rattle.tape_run.specs.declared.section.SectionKey.{SectionKey}
+use Rattle.tape_run.specs.declared.section.{SectionKey.SectionKey, Entry.Entry}
 use Rattle.tape_run.specs.declared.section.SectionState.TheVariants.{Good}
-use Rattle.tape_run.specs.declared.section.Entry.{Entry}
-use Rattle.tape_run.specs.Passing.{Told, met_in}
-use Rattle.tape_run.specs.Shown.{Shown}
+use Rattle.tape_run.specs.{Passing.Told, Passing.met_in, Shown.Shown}
 use Rattle.tape_run.specs.Noted.{same_key, is_good, better, noted, noted_all, StandsIn, KeepsPlaces}
 use Rattle.tape_run.specs.Noted.{GoodIsShown}
 use Rattle.tape_run.proofs.ShownSections.{good_are_shown}
@@ -92,13 +87,11 @@ good_there : (items : List TapeItem) (x : Told) (xs : List Told) (t u : Told) (b
     → StandsIn (if b then (x.0, better x.1 t.1) ∷ xs else x ∷ noted xs t) u → u.1.state ≡ Good
     → StandsIn (x ∷ xs) u ⊎ Shown items u.0 u.1
 good_there items x xs t u true e h rest at good =
-    ⊎_elim (λ is. good_here items x xs t u (is_good t.1.state && not (is_good x.1.state))
-    (one_key t.0 x.0 e) h is good) (λ s. inl (stands_behind x xs u s))
-    (split (x.0, better x.1 t.1) xs u at)
+    ⊎_elim (λ is. good_here items _ xs _ _ _ (one_key _ _ e) h is good)
+    (λ s. inl (stands_behind x _ _ s)) (split _ _ _ at)
 good_there items x xs t u false e h rest at good =
-    ⊎_elim (λ is. inl ([], xs, ap (λ (w : Told). w ∷ xs) is))
-    (λ s. ⊎_elim (λ z. inl (stands_behind x xs u z)) (λ z. inr z) (rest s))
-    (split x (noted xs t) u at)
+    ⊎_elim (λ is. inl ([], xs, ap (λ (w : Told). w ∷ xs) is)) (λ s. ⊎_elim
+    (λ z. inl (stands_behind x _ _ z)) (λ z. inr z) (rest s)) (split _ _ _ at)
 
 good_one : (items : List TapeItem) (xs : List Told) (t u : Told)
     → (t.1.state ≡ Good → Shown items t.0 t.1) → u.1.state ≡ Good → StandsIn (noted xs t) u

@@ -1,8 +1,8 @@
 -- The search for a missing section.
 use Rattle.std.proofs.Common.{◌≡◌, ⊎_elim, ℕ, zero, suc, ◌+◌, ◌-◌, ◌<◌, ◌≤◌, Bool, true, false}
 use Rattle.std.proofs.Common.{List, Option, Some, None, refl, sym, ap, subst, ◌∙◌, arith}
+use Rattle.std.proofs.Common.{MatchOption}
 use Rattle.tape_run.specs.Passing.{Told}
-use Rattle.std.specs.Prelude.{MatchOption}
 use Rattle.std.proofs.lemmas.Bool.{cases_eq}
 use Rattle.tape_run.specs.Lacks.{entry_at, key_at, good_end, lack_by, first_lack, lack_of, GoesOnTo}
 use Rattle.tape_run.specs.Lacks.{IsFoundWhole, IsFirstLack, LackIsFirst}
@@ -44,8 +44,7 @@ lack_here c set_id file sect n (Some false) e least most before rest =
     rest (one_more c set_id file sect before e)
 
 lack_from : (c : List Told) (set_id : List ℕ) (file sect n : ℕ) → 1 ≤ sect → sect + n ≡ 10000
-    → GoesOnTo c set_id file sect
-    → Told_by c set_id file (first_lack c set_id file sect n)
+    → GoesOnTo c set_id file sect → Told_by c set_id file (first_lack c set_id file sect n)
 lack_from c set_id file sect zero least all before =
     let last : sect ≡ 10000 = omega (arith, all) in
     record {

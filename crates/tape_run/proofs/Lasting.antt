@@ -1,20 +1,14 @@
 -- After a crash the last checkpoint of a session is left.
-use Rattle.std.proofs.Common.{◌≡◌, ◌⊎◌, ℕ, ◌+◌, List, [], ◌∷◌, ◌++◌, length, Some}
-use Rattle.std.proofs.Common.{refl, sym, ap, subst, ◌∙◌, arith, inl, inr, append-nil, length-append}
+use Rattle.std.proofs.Common.{◌≡◌, ◌⊎◌, ℕ, ◌+◌, List, [], ◌∷◌, ◌++◌, length, Some, refl, sym, ap}
+use Rattle.std.proofs.Common.{subst, ◌∙◌, arith, inl, inr, append-nil, length-append, slice_get}
 use Rattle.std.proofs.lemmas.List.{take_all}
-use Rattle.std.specs.List.{slice_get}
 use Rattle.tape_blocks.specs.Block.{Portion}
 use Rattle.tape_core.specs.Crash.{Returns, Crashes, AddsNothing, AddsOnly, OnlyThis, ThisAlone}
 use Rattle.tape_core.proofs.Crashes.{or_nothing}
-use Rattle.tape_core.specs.Point.{Point}
-use Rattle.tape_core.specs.Stands.{weight_of}
-use Rattle.tape_core.specs.Table.{saved}
-use Rattle.tape_core.specs.Weight.{IsFront}
+use Rattle.tape_core.specs.{Point.Point, Stands.weight_of, Table.saved, Weight.IsFront}
 use Rattle.tape_core.specs.declared.sink.PartSink.{Ghosts}
 use Rattle.tape_run.specs.Crash.{IsNoteOf, BringsLast, LastAlone, KeepsLast, IsWalked}
-use Rattle.tape_run.specs.Reeling.{StoodSaved}
-use Rattle.tape_run.specs.Seen.{Seen, seen}
-use Rattle.tape_run.specs.Steps.{Saved, WentBack}
+use Rattle.tape_run.specs.{Reeling.StoodSaved, Seen.Seen, Seen.seen, Steps.Saved, Steps.WentBack}
 use Rattle.tape_run.specs.SessionState.{SessionState}
 use Rattle.tape_run.proofs.Notes.{front_self, front_trans, same_front}
 
@@ -168,9 +162,8 @@ last_kept g a b held now point these here alone s adds =
     }
 
 -- the session rolled back to its last checkpoint
-pub last_went : {S : Type 0} (g : Ghosts S) (a b : SessionState S)
-    (held now : List Portion) (n : ℕ) → length a.notes ≡ n + 1
-    → WentBack n (seen g a held) (seen g b now)
+pub last_went : {S : Type 0} (g : Ghosts S) (a b : SessionState S) (held now : List Portion) (n : ℕ)
+    → length a.notes ≡ n + 1 → WentBack n (seen g a held) (seen g b now)
     → AddsOnly (IsNoteOf n (seen g a held)) (g.crashes a.sink) (g.crashes b.sink)
     → KeepsLast g a held b now
 last_went g a b held now n count went adds =
@@ -191,21 +184,17 @@ last_went g a b held now n count went adds =
 
 -- if only a walk over the sink was made, the state of the session is unchanged
 pub walked_seen : {S : Type 0} (g : Ghosts S) (a b : SessionState S) (parts : List Portion)
-    → IsWalked g a b → g.refusals b.sink ≡ g.refusals a.sink
-    → seen g a parts ≡ seen g b parts
-walked_seen g a b parts w calm =
-    rw (w.core, w.notes, w.failures, calm) refl
+    → IsWalked g a b → g.refusals b.sink ≡ g.refusals a.sink → seen g a parts ≡ seen g b parts
+walked_seen g a b parts w calm = rw (w.core, w.notes, w.failures, calm) refl
 
 -- the result for the images, after the walk that writes the file
 pub stood_walked : {S : Type 0} (g : Ghosts S) (a b c : SessionState S) (held parts : List Portion)
-    → g.holds b.sink parts → KeepsLast g a held b parts
-    → IsWalked g b c → g.refusals c.sink ≡ g.refusals b.sink
-    → StoodSaved g a held c (seen g b parts)
+    → g.holds b.sink parts → KeepsLast g a held b parts → IsWalked g b c
+    → g.refusals c.sink ≡ g.refusals b.sink → StoodSaved g a held c (seen g b parts)
 stood_walked g a b c held parts has last w calm = (
   parts,
   w.kept parts has,
-  walked_seen g b c parts w calm,
-  last_then g a b c held parts parts last
-      (last_stays g b c parts parts w.notes (front_self parts)
+  walked_seen _ _ _ parts w calm,
+  last_then _ _ _ _ _ _ _ last (last_stays _ _ _ _ _ w.notes (front_self parts)
       (w.crash parts has)),
 )

@@ -1,26 +1,17 @@
 -- A run is where the table leads it.
 use Rattle.std.proofs.Common.{◌≡◌, ℕ, zero, suc, ◌+◌, List, [], ◌∷◌, ◌++◌, take, Some, refl, sym}
-use Rattle.std.proofs.Common.{ap, ◌∙◌, arith, Bool, Option}
-use Rattle.std.specs.List.{slice_get}
+use Rattle.std.proofs.Common.{ap, ◌∙◌, arith, Bool, Option, slice_get}
 use Rattle.tape_blocks.specs.Block.{Portion}
-use Rattle.tape_image.specs.Tape.{TapeItem}
-use Rattle.tape_image.specs.Begins.{Stop, Begins}
-use Rattle.tape_core.specs.Point.{Point}
-use Rattle.tape_core.specs.State.{State}
-use Rattle.tape_core.specs.Place.{rest_of, place_of}
-use Rattle.tape_core.specs.Table.{saved, mount_of}
-use Rattle.tape_core.specs.Stands.{weight_of}
-use Rattle.tape_core.specs.Weight.{IsFront}
+use Rattle.tape_image.specs.{Tape.TapeItem, Begins.Stop, Begins.Begins}
+use Rattle.tape_core.specs.{Point.Point, State.State, Place.rest_of, Place.place_of, Table.saved}
+use Rattle.tape_core.specs.{Table.mount_of, Stands.weight_of, Weight.IsFront}
 use Rattle.tape_run.specs.declared.script.Step.{Step}
 use Rattle.tape_run.specs.declared.script.Step.TheVariants.{Reel, Save, Restart}
-use Rattle.tape_run.specs.Reels.{behind_items}
-use Rattle.tape_run.specs.ByTable.{delivered_parts}
-use Rattle.tape_run.specs.Seen.{Seen}
+use Rattle.tape_run.specs.{Reels.behind_items, ByTable.delivered_parts, Seen.Seen}
 use Rattle.tape_run.specs.Steps.{Reeled, Saved, WentBack}
 use Rattle.tape_run.specs.Lead.{Noted, Lead, over_reel, over_save, back_to, AreItems, AreNoted}
 use Rattle.tape_run.specs.Lead.{StandsThere, LeadsBy, ItemsAreThere}
-use Rattle.tape_image.proofs.Existence.{Begins-some}
-use Rattle.tape_image.proofs.Uniqueness.{Begins-one}
+use Rattle.tape_image.proofs.{Existence.Begins-some, Uniqueness.Begins-one}
 use Rattle.tape_run.proofs.Notes.{front_self, front_trans, same_front}
 
 -- ---- notes
@@ -95,12 +86,10 @@ there_reel : (old new : Seen) (bytes : List ℕ) (failed : Bool) {left : Option 
 there_reel old new bytes failed r xs end stop b t s =
     let led = r.table xs end stop b in
     record {
-      place = led.place
-          ∙ ap (λ (z : State). rest_of (behind_items (mount_of z) xs)) s.place;
+      place = led.place ∙ ap (λ (z : State). rest_of (behind_items (mount_of z) xs)) s.place;
       parts = led.parts ∙ (ap (λ (l : List Portion). l ++ delivered_parts (mount_of old.place) xs)
-          s.parts
-          ∙ ap (λ (z : State). t.parts ++ delivered_parts (mount_of z) xs) s.place);
-      notes = rw r.notes (noted_grow [] t.notes old.notes old.parts new.parts r.grows s.notes);
+          s.parts ∙ ap (λ (z : State). t.parts ++ delivered_parts (mount_of z) xs) s.place);
+      notes = rw r.notes (noted_grow [] _ _ _ _ r.grows s.notes);
     }
 
 there_save : (old new : Seen) → Saved old new → (t : Lead) → StandsThere t old
@@ -108,17 +97,15 @@ there_save : (old new : Seen) → Saved old new → (t : Lead) → StandsThere t
 there_save old new v t s = record {
   place = v.place ∙ s.place;
   parts = v.parts ∙ s.parts;
-  notes = rw (v.notes, v.parts, sym s.place, sym s.parts)
-      (noted_push [] t.notes old.notes old.place old.parts s.notes);
+  notes = rw (v.notes, v.parts, sym s.place, sym s.parts) (noted_push [] _ _ old.place _ s.notes);
 }
 
 there_restart : (old new : Seen) (n : ℕ) → WentBack n old new → (t : Lead) → StandsThere t old
     → StandsThere (back_to t n (slice_get t.notes n)) new
 there_restart old new n w t s =
-    let at = noted_at [] t.notes old.notes n w.point old.parts w.noted s.notes in
+    let at = noted_at [] _ _ _ _ _ w.noted s.notes in
     let same : new.parts ≡ at.note.parts =
-    same_front new.parts at.note.parts old.parts w.front at.is_front
-    (w.weighs ∙ ap (λ (c : Point). c.staged) at.point) in
+    same_front _ _ _ w.front at.is_front (w.weighs ∙ ap (λ (c : Point). c.staged) at.point) in
     rw at.found (record {
       place = w.place ∙ ap place_of at.point;
       parts = same;
@@ -144,8 +131,7 @@ led_save old mid new steps given v rest t reels a s =
     rest (over_save t) reels a (there_save old mid v t s)
 
 pub led_restart : (old mid new : Seen) (n : ℕ) (steps : List Step) (given : List (List ℕ))
-    → WentBack n old mid
-    → LeadsBy mid steps given new → LeadsBy old (Restart n ∷ steps) given new
+    → WentBack n old mid → LeadsBy mid steps given new → LeadsBy old (Restart n ∷ steps) given new
 led_restart old mid new n steps given w rest t reels a s =
     rest (back_to t n (slice_get t.notes n)) reels a (there_restart old mid n w t s)
 

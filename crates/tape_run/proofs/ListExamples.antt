@@ -1,11 +1,10 @@
 -- The meaning of the outcomes of `list`.
 use Rattle.std.proofs.Common.{ℕ, ◌+◌, List, [], ◌++◌, length, Option, sym, ap, ◌∙◌, append_assoc}
-use Rattle.std.specs.List.{flat_map}
+use Rattle.std.proofs.Common.{flat_map}
 use Rattle.tape_image.specs.Written.{AppendsFront}
-use Rattle.tape_run.specs.ListLine.{line_of}
+use Rattle.tape_run.specs.{ListLine.line_of, ListExamples.StopSays}
 use Rattle.tape_run.specs.Listing.{lines_from, end_line}
 use Rattle.tape_run.specs.Listed.{AppendsInto, at_item, at_end, at_fault}
-use Rattle.tape_run.specs.ListExamples.{StopSays}
 
 pub into_front : (old new : Option (List ℕ)) (all part : List ℕ) → AppendsInto old new all part
     → AppendsFront old new (all ++ part)

@@ -2,8 +2,7 @@
 use Rattle.std.proofs.Common.{◌≡◌, ℕ, ◌+◌, List, [], ◌∷◌, ◌++◌, length, sym, ap, ◌∙◌, arith}
 use Rattle.std.proofs.Common.{append_assoc}
 use Rattle.tape_image.specs.Tape.{TapeItem}
-use Rattle.tape_run.specs.ListLine.{line_of}
-use Rattle.tape_run.specs.Listing.{lines_from}
+use Rattle.tape_run.specs.{ListLine.line_of, Listing.lines_from}
 
 pub lines_from-append : (n : ℕ) (items more : List TapeItem)
     → lines_from n (items ++ more) ≡ lines_from n items ++ lines_from (n + length items) more

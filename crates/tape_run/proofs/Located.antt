@@ -1,18 +1,15 @@
 -- Images that stay open, and are read file by file.
-use Rattle.std.proofs.Common.{◌≡◌, ◌≢◌, ◌⊎◌, inl, inr, ℕ, Bool, false, List, [], ◌∷◌, ◌++◌}
-use Rattle.std.proofs.Common.{Option, Some, None, refl, sym, ap, subst, ◌∙◌, true, length, arith}
+use Rattle.std.proofs.Common.{◌≡◌, ◌≢◌, ◌⊎◌, inl, inr, ℕ, Bool, false, List, [], ◌∷◌, ◌++◌, Option}
+use Rattle.std.proofs.Common.{Some, None, refl, sym, ap, subst, ◌∙◌, true, length, arith}
 use Rattle.std.proofs.Common.{length-append}
-use Rattle.tape_set.specs.declared.position.Position.TheVariants.{Finished}
-use Rattle.tape_set.specs.declared.position.Want.{Want}
+use Rattle.tape_set.specs.declared.position.{Position.TheVariants.Finished, Want.Want}
 use Rattle.tape_core.specs.Table.{in_phase, mounted}
 use Rattle.tape_core.specs.declared.sink.PartSink.{Ghosts}
 use Rattle.tape_run.specs.ExtractingLocated.{IsHeld, Stretch, IsPartOf, AreFrom, held_behind}
 use Rattle.tape_run.specs.ExtractingLocated.{ReadsPart, ReadsLocated, ReadsSections, EndsReading}
 use Rattle.tape_run.specs.ExtractingLocated.{BeginsOn, NextBeginsOn}
-use Rattle.tape_run.specs.Reeling.{Mounting}
+use Rattle.tape_run.specs.{Reeling.Mounting, SessionState.SessionState, SurveyLocations.Located}
 use Rattle.tape_run.specs.Seen.{seen, IfSeen, IsSeen}
-use Rattle.tape_run.specs.SessionState.{SessionState}
-use Rattle.tape_run.specs.SurveyLocations.{Located}
 use Rattle.tape_run.specs.declared.extract.located.Mounted.{Mounted}
 use Rattle.tape_run.proofs.BehindReads.{rest_twice}
 use Rattle.tape_run.proofs.LocatedParts.{FollowsOn, follows_more, gathers_of}
@@ -151,10 +148,8 @@ more_read {S} {L} {R} g on gives remaining session mid new shelf left next opene
     of : ((open_behind opened s.stretches ≡ true) × (image ≡ held_behind whole s.stretches)
         × (next ≡ left))
         ⊎ ((number : ℕ) × on number × (device : R) × gives left number (Some device) next
-        × (image ≡ remaining device))
-        → ((open_behind opened s.stretches ≡ true)
-        × (p.stretch.whole ≡ held_behind whole s.stretches)
-        × (next ≡ left))
+        × (image ≡ remaining device)) → ((open_behind opened s.stretches ≡ true)
+        × (p.stretch.whole ≡ held_behind whole s.stretches) × (next ≡ left))
         ⊎ ((number : ℕ) × on number × (device : R) × gives left number (Some device) next
         × (p.stretch.whole ≡ remaining device))
     of (inl (is, same, left)) = inl (is, p.of_image ∙ same, left)

@@ -2,30 +2,20 @@
 use Rattle.std.proofs.Common.{◌≡◌, ℕ, ◌<◌, Bool, false, List, [], ◌∷◌, ◌++◌, Option, Some, None}
 use Rattle.std.proofs.Common.{IfSome, refl, sym, ap, subst, ◌∙◌}
 use Rattle.tape_blocks.specs.Block.{Portion}
-use Rattle.tape_image.specs.Begins.{Walks}
-use Rattle.tape_image.specs.Reader.{IfKnown}
-use Rattle.tape_image.specs.Tape.{TapeItem}
+use Rattle.tape_image.specs.{Begins.Walks, Reader.IfKnown, Tape.TapeItem}
 use Rattle.tape_image.proofs.Walks.{Walks-nil}
-use Rattle.tape_set.specs.Layout.{FileSet}
-use Rattle.tape_set.specs.Lawful.{IsLawful}
-use Rattle.tape_core.specs.Known.{is_finished}
-use Rattle.tape_core.specs.Place.{IsPlaced, rest_of}
-use Rattle.tape_core.specs.State.{State}
+use Rattle.tape_set.specs.{Layout.FileSet, Lawful.IsLawful}
+use Rattle.tape_core.specs.{Known.is_finished, Place.IsPlaced, Place.rest_of, State.State}
 use Rattle.tape_core.specs.Table.{in_phase, mount_of}
 use Rattle.tape_core.specs.declared.sink.PartSink.{Ghosts}
-use Rattle.tape_run.specs.ByTable.{delivered_parts, IsLed}
+use Rattle.tape_run.specs.{ByTable.delivered_parts, ByTable.IsLed, GoesBehind.ReeledBehind}
+use Rattle.tape_run.specs.{Lead.Lead, Lead.over_reel, Mount.MountEvent, Mount.IsMount}
+use Rattle.tape_run.specs.{Reels.behind_items, Steps.Reeled, SessionState.SessionState}
 use Rattle.tape_run.specs.ExtractingLocated.{PassesTo, IsHeld, Stretch, ReadsOn, AreGivenOf}
-use Rattle.tape_run.specs.ExtractingLocated.{AreTapesOf, AreMountsOf, GathersOf, ReadsPart}
-use Rattle.tape_run.specs.ExtractingLocated.{reached, Arrives, over_tapes, IsThere}
-use Rattle.tape_run.specs.GoesBehind.{ReeledBehind}
-use Rattle.tape_run.specs.Lead.{Lead, over_reel}
-use Rattle.tape_run.specs.Mount.{MountEvent, IsMount}
-use Rattle.tape_run.specs.Reels.{behind_items}
+use Rattle.tape_run.specs.ExtractingLocated.{AreTapesOf, AreMountsOf, GathersOf, ReadsPart, reached}
+use Rattle.tape_run.specs.ExtractingLocated.{Arrives, over_tapes, IsThere}
 use Rattle.tape_run.specs.Seen.{Seen, seen, IfSeen, IsSeen}
-use Rattle.tape_run.specs.Steps.{Reeled}
-use Rattle.tape_run.specs.SessionState.{SessionState}
-use Rattle.tape_run.specs.declared.extract.located.Mounted.{Mounted}
-use Rattle.tape_run.specs.declared.survey.files.FileKey.{FileKey}
+use Rattle.tape_run.specs.declared.{extract.located.Mounted.Mounted, survey.files.FileKey.FileKey}
 use Rattle.tape_run.proofs.BehindReads.{led_reads, rest_twice}
 use Rattle.tape_run.proofs.LocatedReaders.{leads_on, front_of}
 
@@ -68,8 +58,7 @@ pub part_on : {S R : Type 0} (g : Ghosts S) (remaining : R → Option (List ℕ)
     (whole had left : Option (List ℕ)) (failed : Bool) (before : FileKey) (old new : SessionState S)
     (after : Option (Mounted R)) → is_finished old.core.position ≡ false
     → before.set_id ≡ old.core.set_id → before.file < old.core.file
-    → (p : IfKnown whole had (PassesTo before))
-    → IfSeen g old (λ was. IsSeen g new (λ is.
+    → (p : IfKnown whole had (PassesTo before)) → IfSeen g old (λ was. IsSeen g new (λ is.
     IfSome had (λ b. ReeledBehind b left failed was is)))
     → IsHeld remaining after whole → ReadsPart g remaining whole old new after
 part_on {S} {R} g remaining whole had left failed before old new after waits same less p reads held

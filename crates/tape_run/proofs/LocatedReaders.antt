@@ -2,30 +2,24 @@
 use Rattle.std.proofs.Common.{◌≡◌, ◌≢◌, ◌⊎◌, inl, inr, ℕ, ◌+◌, ◌<◌, false, List, [], ◌∷◌, ◌++◌}
 use Rattle.std.proofs.Common.{Option, Some, None, refl, sym, ap, subst, ◌∙◌, arith, append_assoc}
 use Rattle.tape_blocks.specs.Block.{Portion}
-use Rattle.tape_image.specs.Begins.{Walks}
-use Rattle.tape_image.specs.Reader.{IfKnown}
+use Rattle.tape_image.specs.{Begins.Walks, Reader.IfKnown}
 use Rattle.tape_image.specs.Tape.{TapeItem, block, bad, mark}
 use Rattle.tape_image.proofs.Walks.{Walks-trans}
 use Rattle.tape_set.specs.declared.position.Position.{Position}
 use Rattle.tape_set.specs.declared.position.Position.TheVariants.{Awaits, Finished}
 use Rattle.tape_core.specs.Behind.{AreInOrder, behind_of, mounted_behind}
-use Rattle.tape_core.specs.Known.{is_finished}
-use Rattle.tape_core.specs.Place.{rest_of}
-use Rattle.tape_core.specs.State.{State}
+use Rattle.tape_core.specs.{Known.is_finished, Place.rest_of, State.State}
 use Rattle.tape_core.specs.Table.{Outcome, at_item, in_phase, unless_complete, step_of, mount_of}
 use Rattle.tape_core.specs.Table.{mounted}
-use Rattle.tape_core.specs.declared.event.Answer.{Answer}
-use Rattle.tape_core.specs.declared.event.Answer.TheVariants.{Useless}
-use Rattle.tape_core.specs.declared.event.Phase.{Phase}
-use Rattle.tape_core.specs.declared.event.Phase.TheVariants as phases
+use Rattle.tape_core.specs.declared.event.{Answer.Answer, Phase.Phase, Answer.TheVariants.Useless}
 use Rattle.tape_core.specs.declared.event.Phase.TheVariants.{Broken}
+use Rattle.tape_core.specs.declared.event.Phase.TheVariants as phases
 use Rattle.tape_core.specs.declared.event.Reason.TheVariants as reasons
 use Rattle.tape_run.specs.ByTable.{parts_by, delivered_parts, IsLed}
 use Rattle.tape_run.specs.ExtractingLocated.{PassesTo}
 use Rattle.tape_run.specs.GoesBehind.{EndsSection, PassedOver, ReadsBehind}
 use Rattle.tape_run.specs.Reels.{behind_items, Reads, ReadsReel}
-use Rattle.tape_run.specs.declared.reel_reader.ReelAnswer.{ReelAnswer}
-use Rattle.tape_run.specs.declared.survey.files.FileKey.{FileKey}
+use Rattle.tape_run.specs.declared.{reel_reader.ReelAnswer.ReelAnswer, survey.files.FileKey.FileKey}
 use Rattle.tape_run.proofs.GoesBehindReels.{ended_well, leaves_behind, leaves_behind_again}
 use Rattle.tape_run.proofs.GoesBehind.{leads_over_all, passes_files}
 
@@ -52,8 +46,7 @@ broken_step core x (Awaits sect b part) is waits e =
 
 -- no item changes a broken reader, and none delivers a part
 broken_items : (core : State) (xs : List TapeItem) → is_finished core.position ≡ false
-    → core.phase ≡ Broken
-    → (behind_items core xs ≡ core) × (delivered_parts core xs ≡ [])
+    → core.phase ≡ Broken → (behind_items core xs ≡ core) × (delivered_parts core xs ≡ [])
 broken_items core [] waits e = (refl, refl)
 broken_items core (x ∷ xs) waits e =
     let one = broken_step core x core.position refl waits e in
@@ -70,9 +63,8 @@ never_useless a e (inl is) = absurd (let c = sym e ∙ is in cc)
 never_useless a e (inr is) = absurd (let c = sym e ∙ is in cc)
 
 -- so no section ends
-never_ends : (core : State) (xs : List TapeItem) (x : TapeItem)
-    → is_finished core.position ≡ false → core.phase ≡ Broken
-    → EndsSection (step_of (behind_items core xs) (Some x)).0 → ⊥
+never_ends : (core : State) (xs : List TapeItem) (x : TapeItem) → is_finished core.position ≡ false
+    → core.phase ≡ Broken → EndsSection (step_of (behind_items core xs) (Some x)).0 → ⊥
 never_ends core xs x waits e ends =
     let (behind, none) = broken_items core xs waits e in
     never_useless (step_of core (Some x)).0
@@ -81,8 +73,7 @@ never_ends core xs x waits e ends =
 
 mounted_broken : (p : Phase) (q : Position) → p ≡ Broken
     → (mounted p q ≡ Broken) × (mounted_behind p q ≡ Broken)
-mounted_broken p q e =
-    (ap (λ r. mounted r q) e ∙ refl, ap (λ r. mounted_behind r q) e ∙ refl)
+mounted_broken p q e = (ap (λ r. mounted r q) e ∙ refl, ap (λ r. mounted_behind r q) e ∙ refl)
 
 -- The whole image leads where the continued reading leads: its first items are skipped, or the
 -- reader is broken.
@@ -121,9 +112,8 @@ pub passes_front : (core new : State) (bytes left : List ℕ) (answer : ReelAnsw
     → PassesTo key bytes left
 passes_front core new bytes left answer key waits set file ends r = elim (broken_or core.phase) [
   | inl broken ↦
-      let e = ended_well (mount_of core) new bytes left answer waits r ends in
-      absurd (never_ends (mount_of core) e.items e.item waits
-      (mounted_broken core.phase core.position broken).0 e.ended)
+      let e = ended_well _ _ _ _ _ waits r ends in
+      absurd (never_ends _ e.items e.item waits (mounted_broken _ core.position broken).0 e.ended)
   | inr sound ↦
       let (items, item, at, s, walks) = leaves_behind core new bytes left answer waits sound r ends
       in
@@ -132,7 +122,7 @@ passes_front core new bytes left answer key waits set file ends r = elim (broken
         at = at;
         walks = walks;
         passed = λ later same less later_waits whole. passes_files core later items item
-            (in_order core later key waits set file same less later_waits) whole s;
+            (in_order _ _ _ waits set file same less later_waits) whole s;
       }
 ]
 
@@ -144,25 +134,22 @@ pub passes_on : (core new : State) (front : List TapeItem) (place : ℕ) (whole 
 passes_on core new front place whole bytes left answer key waits set file ends over before r =
     elim (broken_or core.phase) [
       | inl broken ↦
-          let e = ended_well (behind_of core) new bytes left answer waits r ends in
-          absurd (never_ends (behind_of core) e.items e.item waits
-          (mounted_broken core.phase core.position broken).1 e.ended)
+          let e = ended_well _ _ _ _ _ waits r ends in
+          absurd (never_ends _ e.items e.item waits (mounted_broken _ core.position broken).1
+          e.ended)
       | inr sound ↦
           let (items, item, at, s, walks) = leaves_behind_again core new front bytes left answer
-          waits
-          sound (over sound) r ends in
+          waits sound (over sound) r ends in
           let moved : Walks place bytes (items ++ item ∷ []) (place + at) left =
           record { leads = walks.leads; moves = omega (arith, walks.moves) } in
           record {
             front = (front ++ items) ++ item ∷ [];
             at = place + at;
             walks = subst (λ xs. Walks 0 whole xs (place + at) left)
-                (sym (append_assoc front items (item ∷ [])))
-                (Walks-trans 0 place (place + at) whole bytes left front (items ++ item ∷ [])
-                before moved);
-            passed = λ later same less later_waits sound. passes_files core later
-                (front ++ items) item
-                (in_order core later key waits set file same less later_waits) sound s;
+                (sym (append_assoc front items (item ∷ []))) (Walks-trans _ _ _ _ _ _ _ _ before
+                moved);
+            passed = λ later same less later_waits sound. passes_files core later (front ++ items)
+                item (in_order _ _ _ waits set file same less later_waits) sound s;
           }
     ]
 
@@ -191,8 +178,7 @@ pub held_front : (had left : Option (List ℕ)) (core new : State) (answer : Ree
 held_front None left core new answer key waits set file ends r = tt
 held_front (Some bytes) None core new answer key waits set file ends r = r
 held_front (Some bytes) (Some left) core new answer key waits set file ends r =
-    passes_front core new bytes left answer key waits set file ends
-    (reads_waits core.position core new bytes left answer waits r)
+    passes_front _ _ _ _ _ _ waits set file ends (reads_waits _ _ _ _ _ _ waits r)
 
 -- what the image that was mounted left: its front, where its bytes are known
 abbrev pub front_of : (whole had : Option (List ℕ)) (key : FileKey)

@@ -1,20 +1,14 @@
 -- Steps of a run that succeeded, one after another.
 use Rattle.std.proofs.Common.{◌≡◌, ℕ, zero, suc, ◌+◌, Bool, true, false, List, [], ◌∷◌, drop}
 use Rattle.std.proofs.Common.{Option, Some, None, ◌≤◌, length, take, IfSome, refl, sym, ap, ◌∙◌}
-use Rattle.std.proofs.Common.{subst, inr, ◌<◌, arith, append-nil, ◌++◌, slice_set}
+use Rattle.std.proofs.Common.{subst, inr, ◌<◌, arith, append-nil, ◌++◌, slice_set, slice_get}
 use Rattle.std.proofs.lemmas.List.{append_assoc, take-append-drop, drop_all}
-use Rattle.std.specs.List.{slice_get}
-use Rattle.tape_core.specs.Crash.{AddsNothing, Crashes}
-use Rattle.tape_core.specs.Weight.{IsFront}
-use Rattle.tape_run.specs.Crash.{LastAlone, StoodAt}
-use Rattle.tape_run.specs.declared.fault.RunFault.{RunFault}
-use Rattle.tape_run.specs.declared.script.Step.{Step}
+use Rattle.tape_core.specs.{Crash.AddsNothing, Crash.Crashes, Weight.IsFront}
+use Rattle.tape_run.specs.{Crash.LastAlone, Crash.StoodAt, Given.written, Headline.LosesParts}
+use Rattle.tape_run.specs.{Made.HasMade, Made.IsMade, Made.WritesFrom, Runs.Runs, Runs.RunsUpTo}
+use Rattle.tape_run.specs.{Runs.Fails, Seen.Seen}
+use Rattle.tape_run.specs.declared.{fault.RunFault.RunFault, script.Step.Step}
 use Rattle.tape_run.specs.declared.script.Step.TheVariants.{Reel, Save, Restart}
-use Rattle.tape_run.specs.Given.{written}
-use Rattle.tape_run.specs.Headline.{LosesParts}
-use Rattle.tape_run.specs.Made.{HasMade, IsMade, WritesFrom}
-use Rattle.tape_run.specs.Runs.{Runs, RunsUpTo, Fails}
-use Rattle.tape_run.specs.Seen.{Seen}
 use Rattle.tape_run.specs.Steps.{Reeled, Saved, WentBack, ReelFails}
 use Rattle.tape_run.proofs.Lasting.{alone_still}
 
@@ -71,9 +65,8 @@ save_makes old mid v readers steps = record {
   stood = λ behind back there h. inr ((mid, v, h));
 }
 
-restart_makes : (old mid : Seen) (k : ℕ) → WentBack k old mid
-    → (readers : List (Option (List ℕ))) (steps : List Step)
-    → HasMade 1 [] old (Restart k ∷ steps) readers [] mid steps readers
+restart_makes : (old mid : Seen) (k : ℕ) → WentBack k old mid → (readers : List (Option (List ℕ)))
+    (steps : List Step) → HasMade 1 [] old (Restart k ∷ steps) readers [] mid steps readers
 restart_makes old mid k w readers steps = record {
   runs = λ more behind end h. (mid, w, h);
   stops = λ more behind n fault end h. later _ _ _ _ _ n fault end (record {
@@ -89,8 +82,7 @@ restart_makes old mid k w readers steps = record {
 -- a reel was read: the checkpoints are unchanged, and no part was removed
 pub reel_made : (old mid : Seen) (o l : Option (List ℕ)) (failed : Bool)
     → IfSome o (λ bytes. Reeled bytes l failed old mid) → (readers : List (Option (List ℕ)))
-    (was now : Crashes) → mid.notes ≡ old.notes → IsFront old.parts mid.parts
-    → AddsNothing was now
+    (was now : Crashes) → mid.notes ≡ old.notes → IsFront old.parts mid.parts → AddsNothing was now
     → IsMade (failed ∷ []) Reel (o ∷ readers) (l ∷ []) readers was now old mid
 reel_made old mid o l failed r readers was now notes front none = record {
   makes = reel_makes old mid o l failed r readers;

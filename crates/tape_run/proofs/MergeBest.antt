@@ -1,9 +1,7 @@
 -- The merged tape is as long as the longest reading, and an item of it is bad only if it is bad in
 -- all readings.
 use Rattle.std.proofs.Common.{◌≡◌, ◌⊎◌, inl, inr, ℕ, zero, suc, ◌<◌, ◌≤◌, List, [], ◌∷◌, length}
-use Rattle.std.proofs.Common.{take}
-use Rattle.std.proofs.Common.{Some, None, refl, ap, ◌∙◌, arith, length-take}
-use Rattle.std.specs.Prelude.{slice_get}
+use Rattle.std.proofs.Common.{take, Some, None, refl, ap, ◌∙◌, arith, length-take, slice_get}
 use Rattle.std.proofs.Math.ListN.{set}
 use Rattle.tape_image.specs.Tape.{TapeItem, bad}
 use Rattle.tape_run.specs.Merging.{IsReadAs, IsReadFrom, AreReadFrom}
@@ -18,8 +16,7 @@ reads_length (x ∷ r) (y ∷ t) h =
     let ih : length r ≤ length t = reads_length r t h.1 in
     omega arith
 
-reads_take : (r t : List TapeItem) (n : ℕ) → IsReadFrom r t → length r ≤ n
-    → IsReadFrom r (take n t)
+reads_take : (r t : List TapeItem) (n : ℕ) → IsReadFrom r t → length r ≤ n → IsReadFrom r (take n t)
 reads_take [] t n h le = tt
 reads_take (x ∷ r) [] n h le = absurd h
 reads_take (x ∷ r) (y ∷ t) zero h le = absurd (omega arith)
@@ -28,8 +25,7 @@ reads_take (x ∷ r) (y ∷ t) (suc n) h le = (h.0, reads_take r t n h.1 (omega 
 all_take : (rs : List (List TapeItem)) (t : List TapeItem) (n : ℕ) → AreReadFrom rs t
     → longest rs ≤ n → AreReadFrom rs (take n t)
 all_take [] t n h le = tt
-all_take (r ∷ rs) t n h le =
-    (reads_take r t n h.0 (omega arith), all_take rs t n h.1 (omega arith))
+all_take (r ∷ rs) t n h le = (reads_take _ _ n h.0 (omega arith), all_take rs t n h.1 (omega arith))
 
 all_within : (rs : List (List TapeItem)) (t : List TapeItem) → AreReadFrom rs t
     → longest rs ≤ length t

@@ -1,17 +1,13 @@
 -- Items that are written one after another, and counted.
 use Rattle.std.proofs.Common.{◌≡◌, ℕ, zero, suc, ◌+◌, ◌<◌, ◌≤◌, List, [], ◌∷◌, ◌++◌, length, Option}
 use Rattle.std.proofs.Common.{Some, None, Bool, true, false, refl, sym, ap, subst, ◌∙◌, arith}
-use Rattle.std.proofs.Common.{length-append}
-use Rattle.std.specs.Prelude.{◌==◌}
+use Rattle.std.proofs.Common.{length-append, ◌==◌}
 use Rattle.tape_image.specs.Tape.{TapeItem, block, bad, mark}
-use Rattle.tape_image.specs.Begins.{image_limit}
-use Rattle.tape_image.specs.Written.{written}
+use Rattle.tape_image.specs.{Begins.image_limit, Written.written}
 use Rattle.tape_image.specs.Writer.{Writer, writing, PutItem, PutItems}
 use Rattle.tape_image.proofs.WrittenItems.{put_item}
-use Rattle.tape_run.specs.declared.merge.Merged.{Merged}
-use Rattle.tape_run.specs.declared.passing.Phase.{Phase}
-use Rattle.tape_run.specs.declared.passing.Phase.TheVariants.{Volume}
-use Rattle.tape_run.specs.declared.section.SectionState.{SectionState}
+use Rattle.tape_run.specs.declared.passing.{Phase.Phase, Phase.TheVariants.Volume}
+use Rattle.tape_run.specs.declared.{merge.Merged.Merged, section.SectionState.SectionState}
 use Rattle.tape_run.specs.declared.section.SectionState.TheVariants as states
 use Rattle.tape_run.specs.Passing.{Told, step, in_list, phase_after, told_from}
 use Rattle.tape_run.specs.MergeSteps.{is_bad_one, one_if}
@@ -109,20 +105,18 @@ pub counts_more : (merged : List TapeItem) (x : TapeItem) (rs ss : List (List Ta
     → ((j : ℕ) → j < length merged → witnesses_at j ss ≡ witnesses_at j rs)
     → witnesses_at (length merged) ss ≡ have → Counts ss (merged ++ x ∷ []) b
 counts_more merged x rs ss a b p q have counts at one same here =
-    let more : miscounted_in (told_from Volume (merged ++ x ∷ []))
-    ≡ miscounted_in (told_from Volume merged) + miscounted_of (step p x).1 =
-    ap miscounted_in (told_from-append Volume merged (x ∷ []))
-    ∙ miscounted-append (told_from Volume merged) (told_from (phase_after Volume merged) (x ∷ []))
-    ∙ ap (λ (s : Phase). miscounted_in (told_from Volume merged)
-    + miscounted_in (told_from s (x ∷ []))) (sym at)
-    ∙ ap (λ k. miscounted_in (told_from Volume merged) + k) (miscounted_one (step p x).1) in
+    let more : miscounted_in (told_from Volume (merged ++ x ∷ [])) ≡ miscounted_in
+    (told_from Volume merged) + miscounted_of (step p x).1 =
+    ap miscounted_in (told_from-append Volume merged (x ∷ [])) ∙ miscounted-append
+    (told_from Volume merged) (told_from (phase_after Volume merged) (x ∷ [])) ∙ ap (λ (s : Phase).
+    miscounted_in (told_from Volume merged) + miscounted_in (told_from s (x ∷ []))) (sym at) ∙ ap
+    (λ k. miscounted_in (told_from Volume merged) + k) (miscounted_one (step p x).1) in
     record {
       items = omega (arith, length-append merged (x ∷ []), counts.items, one.items);
       bad = omega (arith, bads-append merged (x ∷ []), counts.bad, one.bad);
       alone = omega (
         arith,
-        alone_more (length merged) (length (merged ++ x ∷ [])) have rs ss same here
-            (length-append merged (x ∷ [])),
+        alone_more _ _ _ rs _ same here (length-append merged (x ∷ [])),
         counts.alone,
         one.alone,
       );

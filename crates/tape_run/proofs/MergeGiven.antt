@@ -1,10 +1,8 @@
 -- The bytes of an image that readers returned.
 use Rattle.std.proofs.Common.{◌≡◌, ◌⊎◌, inl, inr, ℕ, List, [], ◌∷◌, Some, sym, ap, subst, ◌∙◌}
 use Rattle.tape_image.specs.declared.item.ImageFault.{ImageFault}
-use Rattle.tape_image.specs.Tape.{TapeItem}
-use Rattle.tape_image.specs.Reader.{Reader, Status, going}
+use Rattle.tape_image.specs.{Tape.TapeItem, Reader.Reader, Reader.Status, Reader.going, Calls.Gave}
 use Rattle.tape_image.specs.Step.{MeetsEnd, MeetsFault, TakesEnd, TakesFault}
-use Rattle.tape_image.specs.Calls.{Gave}
 use Rattle.tape_image.proofs.Callers.{Gave-walks, give_up_to_end, give_up_to_fault}
 use Rattle.tape_image.proofs.Walks.{IfKnown-at}
 use Rattle.tape_run.specs.MergeLaws.{TakesAs, ReadersGiveImages}
@@ -23,10 +21,9 @@ at_end : (first behind now : Reader) (items : List TapeItem) (bytes : List ℕ)
     → first.left ≡ Some bytes → Gave first items behind → MeetsEnd behind now
     → Gives first now items bytes
 at_end first behind now items bytes known gave met =
-    let (ys, here, walks) = Gave-walks items first behind bytes known gave in
+    let (ys, here, walks) = Gave-walks _ _ _ _ known gave in
     let (zs, there, takes) =
-    IfKnown-at behind.left now.left (TakesEnd behind.place [] met.ending now.place) ys here
-    met.takes in (
+    IfKnown-at _ _ _ _ here met.takes in (
       zs,
       there,
       subst (λ (s : Status). TakesAs first.place s items now.place bytes zs) (sym met.ended)
@@ -47,8 +44,7 @@ at_fault first behind now items bytes fault known gave met =
     )
 
 given : (first behind now : Reader) (items : List TapeItem) (bytes : List ℕ)
-    → first.status ≡ going → first.left ≡ Some bytes → Gave first items behind
-    → (now ≡ behind)
+    → first.status ≡ going → first.left ≡ Some bytes → Gave first items behind → (now ≡ behind)
     ⊎ (MeetsEnd behind now ⊎ ((fault : ImageFault) × MeetsFault behind fault now))
     → Gives first now items bytes
 given first behind now items bytes on known gave (inl e) =
@@ -59,11 +55,9 @@ given first behind now items bytes on known gave (inl e) =
       subst (λ (s : Status). TakesAs first.place s items behind.place bytes ys)
           (sym (goes_on items first behind on gave)) walks,
     )
-given first behind now items bytes on known gave (inr (inl met)) =
-    at_end first behind now items bytes known gave met
+given first behind now items bytes on known gave (inr (inl met)) = at_end _ _ _ _ _ known gave met
 given first behind now items bytes on known gave (inr (inr (fault, met))) =
     at_fault first behind now items bytes fault known gave met
 
 pub readers_give_images : ReadersGiveImages
-readers_give_images first now items bytes h on known =
-    given first h.behind now items bytes on known h.gave h.stands
+readers_give_images first now items bytes h on known = given _ _ _ _ _ on known h.gave h.stands

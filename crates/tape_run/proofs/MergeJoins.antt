@@ -1,6 +1,5 @@
 -- The merged tape of several readings, from the merged tape of two of them.
-use Rattle.std.proofs.Common.{◌≡◌, ◌⊎◌, inl, inr, ℕ, List, [], ◌∷◌, refl, sym, ap}
-use Rattle.std.proofs.Common.{subst, ◌∙◌}
+use Rattle.std.proofs.Common.{◌≡◌, ◌⊎◌, inl, inr, ℕ, List, [], ◌∷◌, refl, sym, ap, subst, ◌∙◌}
 use Rattle.std.proofs.lemmas.Bool.{cases_eq}
 use Rattle.tape_image.specs.Tape.{TapeItem, block, bad, mark}
 use Rattle.tape_run.specs.Merging.{IsReadAs, IsReadFrom, AreReadFrom, IsMerged, Differ}
@@ -84,8 +83,7 @@ blocks a b (inr never) =
     inr (λ t h k. no_item (block a) (block b) t (λ e. cc e) (λ e. cc e) (λ e. never (cc e)) h k)
 
 tell_item : (x y : TapeItem) → TellItem x y ⊎ NoItem x y
-tell_item bad y =
-    inl (record { item = y; first = inl refl; second = inr refl; least = λ t h k. k })
+tell_item bad y = inl (record { item = y; first = inl refl; second = inr refl; least = λ t h k. k })
 tell_item (block a) bad =
     inl (record { item = block a; first = inr refl; second = inl refl; least = λ t h k. h })
 tell_item mark bad =
@@ -93,10 +91,8 @@ tell_item mark bad =
 tell_item mark mark =
     inl (record { item = mark; first = inr refl; second = inr refl; least = λ t h k. h })
 tell_item (block a) (block b) = blocks a b (same_bytes a b)
-tell_item (block a) mark =
-    inr (λ t h k. no_item (block a) mark t (λ e. cc e) (λ e. cc e) (λ e. cc e) h k)
-tell_item mark (block b) =
-    inr (λ t h k. no_item mark (block b) t (λ e. cc e) (λ e. cc e) (λ e. cc e) h k)
+tell_item (block a) mark = inr (λ t h k. no_item _ _ _ (λ e. cc e) (λ e. cc e) (λ e. cc e) h k)
+tell_item mark (block b) = inr (λ t h k. no_item _ _ _ (λ e. cc e) (λ e. cc e) (λ e. cc e) h k)
 
 -- the merged tape of two readings
 record Join (a b : List TapeItem) : Type 0 where
@@ -134,8 +130,7 @@ join_cons x y a b (inl i) (inr never) = inr (no_rest x y a b never)
 join_cons x y a b (inr never) j = inr (no_first x y a b never)
 
 join : (a b : List TapeItem) → Join a b ⊎ NoJoin a b
-join [] b =
-    inl (record { items = b; first = tt; second = reads_self b; least = λ t h k. k })
+join [] b = inl (record { items = b; first = tt; second = reads_self b; least = λ t h k. k })
 join (x ∷ a) [] = inl (record {
   items = x ∷ a;
   first = reads_self (x ∷ a);
@@ -146,9 +141,8 @@ join (x ∷ a) (y ∷ b) = join_cons x y a b (tell_item x y) (join a b)
 
 -- ---- any number of them
 
-with_first : (r : List TapeItem) (rs : List (List TapeItem)) (m : List TapeItem)
-    → IsMerged rs m → Join r m ⊎ NoJoin r m
-    → ((n : List TapeItem) × IsMerged (r ∷ rs) n) ⊎ Differ (r ∷ rs)
+with_first : (r : List TapeItem) (rs : List (List TapeItem)) (m : List TapeItem) → IsMerged rs m
+    → Join r m ⊎ NoJoin r m → ((n : List TapeItem) × IsMerged (r ∷ rs) n) ⊎ Differ (r ∷ rs)
 with_first r rs m is (inl j) = inl (
   j.items,
   record {
@@ -173,8 +167,7 @@ either (r ∷ rs) = with_rest r rs (either rs)
 reads_one : (ss : List (List TapeItem)) (tape r : List TapeItem) → AreReadFrom ss tape
     → IsOneOf r ss → IsReadFrom r tape
 reads_one [] tape r h k = absurd k
-reads_one (s ∷ ss) tape r h (inl e) =
-    subst (λ (l : List TapeItem). IsReadFrom l tape) (sym e) h.0
+reads_one (s ∷ ss) tape r h (inl e) = subst (λ (l : List TapeItem). IsReadFrom l tape) (sym e) h.0
 reads_one (s ∷ ss) tape r h (inr k) = reads_one ss tape r h.1 k
 
 read_those : (rs ss : List (List TapeItem)) (tape : List TapeItem)

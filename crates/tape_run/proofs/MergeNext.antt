@@ -1,18 +1,14 @@
 -- The meaning of a call of `ImageReader::next` for a reading that is asked for an item.
-use Rattle.std.proofs.Common.{◌≡◌, ◌≢◌, ℕ, Option, Some, None, Result, Ok}
-use Rattle.std.proofs.Common.{true, false, refl, ap, subst, sym, ◌∙◌}
-use Rattle.tape_image.specs.declared.item.Item.{Item}
-use Rattle.tape_image.specs.declared.item.ImageFault.{ImageFault}
+use Rattle.std.proofs.Common.{◌≡◌, ◌≢◌, ℕ, Option, Some, None, Result, Ok, true, false, refl, ap}
+use Rattle.std.proofs.Common.{subst, sym, ◌∙◌}
+use Rattle.tape_image.specs.declared.item.{Item.Item, ImageFault.ImageFault}
 use Rattle.tape_image.specs.Tape.{TapeItem, block, bad, mark}
 use Rattle.tape_image.specs.Reader.{Reader, Status, going, ended, failed, seen, tape_item}
-use Rattle.tape_image.specs.Step.{GivesItem, Meets, Answers}
-use Rattle.tape_image.specs.Next.{HasMoved}
-use Rattle.tape_run.specs.declared.merge.reading.Reading.{Reading}
-use Rattle.tape_run.specs.declared.merge.reading.Verdict.{Verdict}
+use Rattle.tape_image.specs.{Step.GivesItem, Step.Meets, Step.Answers, Next.HasMoved}
+use Rattle.tape_run.specs.declared.merge.reading.{Reading.Reading, Verdict.Verdict}
 use Rattle.tape_run.specs.declared.merge.reading.Verdict.TheVariants as verdicts
-use Rattle.tape_run.specs.MergeSteps.{agrees, Compares, StopsAs, Answered, with_item}
-use Rattle.tape_run.specs.MergeSteps.{is_stop, bad_count, without, RisesBy, is_bad_one, one_if}
-use Rattle.tape_run.specs.MergeSteps.{block_length}
+use Rattle.tape_run.specs.MergeSteps.{agrees, Compares, StopsAs, Answered, with_item, is_stop}
+use Rattle.tape_run.specs.MergeSteps.{bad_count, without, RisesBy, is_bad_one, one_if, block_length}
 use Rattle.tape_run.specs.MergeSteps.{CountsNothing, Asked, gives, stops}
 
 status_gives : (s : Status) (old new : Reader) (r : Result (Option TapeItem) ImageFault)
@@ -30,8 +26,7 @@ pub answered_item : (old new : Reader) (result : Result (Option Item) ImageFault
     → len ≡ block_length (tape_item item)
     → Answered old new verdict len best now other beside
 answered_item old new result item verdict len best now other beside h e compares long =
-    let (on, given) = status_gives old.status old new (seen result) (tape_item item) h.answers
-    (ap seen e) in
+    let (on, given) = status_gives _ _ _ _ (tape_item item) h.answers (ap seen e) in
     with_item (tape_item item) on given compares long
 
 -- ---- the fields

@@ -1,6 +1,6 @@
 -- One more item at a place.
-use Rattle.std.proofs.Common.{◌≡◌, inl, inr, List, [], ◌∷◌, ◌++◌, length, Option, Some, None}
-use Rattle.std.proofs.Common.{refl, sym, ap, subst, append-nil}
+use Rattle.std.proofs.Common.{◌≡◌, inl, inr, List, [], ◌∷◌, ◌++◌, length, Option, Some, None, refl}
+use Rattle.std.proofs.Common.{sym, ap, subst, append-nil}
 use Rattle.tape_image.specs.Tape.{TapeItem, block, bad, mark}
 use Rattle.tape_run.specs.Merging.{IsReadAs, IsReadFrom}
 use Rattle.tape_run.specs.MergeSteps.{agrees, joined, best_items}
@@ -44,17 +44,14 @@ pub best_better : (m : List TapeItem) (best : Option TapeItem) (x : TapeItem)
 best_better m None x =
     subst (λ l. IsReadFrom l (m ++ x ∷ [])) (sym (append-nil m))
     (reads_more m m (x ∷ []) (reads_self m))
-best_better m (Some y) x =
-    reads_one_more m m y (joined (Some y) x) refl (reads_self m) (best_met y x)
+best_better m (Some y) x = reads_one_more _ _ _ _ refl (reads_self m) (best_met y x)
 
 -- a reading that continues with the item is a reading of the tape that continues with the better
 -- item
 pub reads_best : (m r : List TapeItem) (best : Option TapeItem) (x : TapeItem) → agrees best x
     → length r ≡ length m → IsReadFrom r (m ++ best_items best)
     → IsReadFrom (r ++ x ∷ []) (m ++ joined best x ∷ [])
-reads_best m r best x a e h =
-    reads_one_more r m x (joined best x) e (reads_short r m (best_items best) e h)
-    (item_met best x a)
+reads_best m r best x a e h = reads_one_more _ _ _ _ e (reads_short _ _ _ e h) (item_met _ _ a)
 
 -- a reading with the better of the two items is a reading of each tape of which both the earlier
 -- best item and the reading with the item are readings

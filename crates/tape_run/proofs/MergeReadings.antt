@@ -1,6 +1,5 @@
 -- Readings of a longer or a better tape, and readings with one more item.
-use Rattle.std.proofs.Common.{◌≡◌, inl, inr, List, [], ◌∷◌, ◌++◌, length, refl, ◌∙◌}
-use Rattle.std.proofs.Common.{arith}
+use Rattle.std.proofs.Common.{◌≡◌, inl, inr, List, [], ◌∷◌, ◌++◌, length, refl, ◌∙◌, arith}
 use Rattle.tape_image.specs.Tape.{TapeItem}
 use Rattle.tape_run.specs.Merging.{IsReadAs, IsReadFrom, AreReadFrom}
 
@@ -42,8 +41,7 @@ pub reads_one_more : (r t : List TapeItem) (x y : TapeItem) → length r ≡ len
 reads_one_more [] [] x y e h m = (m, tt)
 reads_one_more [] (b ∷ t) x y e h m = absurd (omega arith)
 reads_one_more (a ∷ r) [] x y e h m = absurd h
-reads_one_more (a ∷ r) (b ∷ t) x y e h m =
-    (h.0, reads_one_more r t x y (omega arith) h.1 m)
+reads_one_more (a ∷ r) (b ∷ t) x y e h m = (h.0, reads_one_more r t x y (omega arith) h.1 m)
 
 -- an item of one reading after a prefix is possible there in another reading of the same tape
 pub reads_behind : (s r t : List TapeItem) (x : TapeItem) → length r ≡ length s
@@ -52,8 +50,7 @@ reads_behind [] [] t x e h k = k
 reads_behind [] (a ∷ r) t x e h k = absurd (omega arith)
 reads_behind (b ∷ s) [] t x e h k = absurd (omega arith)
 reads_behind (b ∷ s) (a ∷ r) [] x e h k = absurd h
-reads_behind (b ∷ s) (a ∷ r) (c ∷ t) x e h k =
-    (h.0, reads_behind s r t x (omega arith) h.1 k.1)
+reads_behind (b ∷ s) (a ∷ r) (c ∷ t) x e h k = (h.0, reads_behind s r t x (omega arith) h.1 k.1)
 
 -- two readings of one tape have readings of the same item after prefixes of equal length
 pub meets_both : (r s t : List TapeItem) (x y : TapeItem) → length r ≡ length s

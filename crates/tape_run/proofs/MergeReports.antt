@@ -1,17 +1,15 @@
 -- The lines of readings, one after another, and how the merged image ends.
-use Rattle.std.proofs.Common.{◌≡◌, ℕ, zero, suc, ◌+◌, ◌<◌, ◌≤◌, List, [], ◌∷◌, length}
-use Rattle.std.proofs.Common.{drop, get_or, Option, Some, None, refl, sym, ap, subst, ◌∙◌, inl, inr}
-use Rattle.std.proofs.Common.{◌++◌, arith, append_assoc, append-nil}
+use Rattle.std.proofs.Common.{◌≡◌, ℕ, zero, suc, ◌+◌, ◌<◌, ◌≤◌, List, [], ◌∷◌, length, drop, get_or}
+use Rattle.std.proofs.Common.{Option, Some, None, refl, sym, ap, subst, ◌∙◌, inl, inr, ◌++◌, arith}
+use Rattle.std.proofs.Common.{append_assoc, append-nil}
 use Rattle.std.specs.Io.KnownBytes.{Appends}
 use Rattle.std.proofs.KnownBytes.{Appends-nil, Appends-trans}
 use Rattle.tape_image.specs.declared.item.Ending.{Ending}
 use Rattle.tape_image.specs.declared.item.Ending.TheVariants as endings
 use Rattle.tape_image.specs.Reader.{Status, going, ended, failed, ending_of}
-use Rattle.tape_run.specs.declared.merge.line.MergedEnd.{MergedEnd}
+use Rattle.tape_run.specs.declared.merge.{line.MergedEnd.MergedEnd, reading.Reading.Reading}
+use Rattle.tape_run.specs.declared.merge.{line.HasLine.HasLine, line.ReadingLine.ReadingLine}
 use Rattle.tape_run.specs.declared.merge.line.MergedEnd.TheVariants.{Marked, Physical, Cut}
-use Rattle.tape_run.specs.declared.merge.reading.Reading.{Reading}
-use Rattle.tape_run.specs.declared.merge.line.HasLine.{HasLine}
-use Rattle.tape_run.specs.declared.merge.line.ReadingLine.{ReadingLine}
 use Rattle.tape_run.specs.MergeLines.{lines_from, reading_text, line_of, reading_line, name_at}
 use Rattle.tape_run.specs.MergeLines.{has_of, has_line, item_line, with_name, has_text}
 use Rattle.tape_image.specs.Written.{AppendsFront}
@@ -49,8 +47,7 @@ reports_none line xs old = record { done = []; wrote = Appends-nil old; rest = r
 -- the lines of the others, after one more
 rest_after : {A : Type 0} (line : ℕ → A → List ℕ) (number : ℕ) (xs : List A) (x : A)
     (done text : List ℕ) → number < length xs → x ≡ get_or xs number x → text ≡ line number x
-    → lines_from line 0 xs ≡ done ++ lines_from line number (drop number xs)
-    → lines_from line 0 xs
+    → lines_from line 0 xs ≡ done ++ lines_from line number (drop number xs) → lines_from line 0 xs
     ≡ (done ++ text) ++ lines_from line (number + 1) (drop (number + 1) xs)
 rest_after {A} line number xs x done text lt is this rest =
     let more = lines_from line (number + 1) (drop (number + 1) xs) in
@@ -78,8 +75,7 @@ pub reports_part : {A : Type 0} (line : ℕ → A → List ℕ) (number : ℕ) (
     → x ≡ get_or xs number x → text ≡ line number x → ReportsFirst line number xs old mid
     → AppendsFront mid next text → AppendsFront old next (lines_from line 0 xs)
 reports_part line number xs x old mid next text lt is this h part =
-    front_then old mid next h.done text (lines_from line (number + 1) (drop (number + 1) xs))
-    (lines_from line 0 xs) h.wrote part (rest_after line number xs x h.done text lt is this h.rest)
+    front_then _ _ _ _ _ _ _ h.wrote part (rest_after _ _ _ _ _ _ lt is this h.rest)
 
 pub reports_all : {A : Type 0} (line : ℕ → A → List ℕ) (number : ℕ) (xs : List A)
     (old new : Option (List ℕ)) → length xs ≤ number → ReportsFirst line number xs old new
@@ -170,12 +166,11 @@ pub ends_physical : {R : Type 0} (items number : ℕ) (all : List (Reading R)) (
     → EndsSoFar items (number + 1) all Physical
 ends_physical items number all end r lt is many how h =
     let at : r.image.status ≡ ended endings.Physical =
-    ending_is r.image.status endings.Physical how in
+    ending_is _ _ how in
     record {
-      no_marked = ends_later items number all r endings.Marked lt is (λ _ m. cc (m, at))
-          h.no_marked;
+      no_marked = ends_later items _ _ _ endings.Marked lt is (λ _ m. cc (m, at)) h.no_marked;
       not_marked = λ e. cc e;
-      physical = λ _. ends_here items number all r endings.Physical lt is many at;
+      physical = λ _. ends_here _ _ _ _ _ lt is many at;
       cut = λ e. absurd (cc e);
     }
 
@@ -185,9 +180,8 @@ pub ends_kept : {R : Type 0} (items number : ℕ) (all : List (Reading R)) (end 
     → ((ending : Ending) → r.items ≡ items → r.image.status ≡ ended ending → ⊥)
     → EndsSoFar items number all end → EndsSoFar items (number + 1) all end
 ends_kept items number all end r lt is never h = record {
-  no_marked = ends_later items number all r endings.Marked lt is (never endings.Marked) h.no_marked;
+  no_marked = ends_later items _ _ _ endings.Marked lt is (never endings.Marked) h.no_marked;
   not_marked = h.not_marked;
   physical = h.physical;
-  cut = λ e. ends_later items number all r endings.Physical lt is (never endings.Physical)
-      (h.cut e);
+  cut = λ e. ends_later items _ _ _ endings.Physical lt is (never endings.Physical) (h.cut e);
 }

@@ -3,8 +3,7 @@ use Rattle.std.proofs.Common.{◌≡◌, ℕ, zero, suc, ◌+◌, ◌<◌, ◌�
 use Rattle.std.proofs.Common.{Option, refl, sym, subst, arith}
 use Rattle.std.proofs.Math.ListN.{set}
 use Rattle.tape_image.specs.Tape.{TapeItem}
-use Rattle.tape_run.specs.declared.merge.reading.Reading.{Reading}
-use Rattle.tape_run.specs.declared.merge.reading.Verdict.{Verdict}
+use Rattle.tape_run.specs.declared.merge.reading.{Reading.Reading, Verdict.Verdict}
 use Rattle.tape_run.specs.declared.merge.reading.Verdict.TheVariants as verdicts
 use Rattle.tape_run.specs.MergeSteps.{Asked, AskedAll}
 use Rattle.tape_run.specs.MergeCalls.{has_first, firsts_in}
@@ -86,8 +85,7 @@ pub loop_more : {R : Type 0} (olds nows : List (Reading R)) (i : ℕ)
 loop_more olds nows i best mid now other between beside o n have h lt is asked =
     let next : i + 1 ≡ suc i = omega arith in
     subst (λ (k : ℕ). AskedFirst k olds (set nows i n) best now other beside
-    (have + has_first n.verdict)) (sym next)
-    (first_more i olds nows best mid now other between beside o n have h lt is asked)
+    (have + has_first n.verdict)) (sym next) (first_more _ _ _ _ _ _ _ _ _ _ _ _ h lt is asked)
 
 pub loop_ends : {R : Type 0} (olds nows : List (Reading R)) (i : ℕ)
     (best now other beside : Option TapeItem) (have : ℕ)

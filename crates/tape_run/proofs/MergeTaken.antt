@@ -1,14 +1,11 @@
 -- A reading after one more item, or after it stopped.
 use Rattle.std.proofs.Common.{◌≡◌, ◌≢◌, ◌⊎◌, inl, inr, ℕ, ◌+◌, ◌<◌, ◌≤◌, List, [], ◌∷◌, ◌++◌}
 use Rattle.std.proofs.Common.{length, take, Some, refl, sym, ap, subst, ◌∙◌, arith, zero, suc}
-use Rattle.std.proofs.Common.{length-append}
-use Rattle.std.specs.Prelude.{slice_get}
+use Rattle.std.proofs.Common.{length-append, slice_get}
 use Rattle.std.proofs.lemmas.List.{take_at}
 use Rattle.tape_image.specs.declared.item.ImageFault.{ImageFault}
-use Rattle.tape_image.specs.Tape.{TapeItem}
-use Rattle.tape_image.specs.Reader.{Reader, going}
+use Rattle.tape_image.specs.{Tape.TapeItem, Reader.Reader, Reader.going, Calls.Gave}
 use Rattle.tape_image.specs.Step.{GivesItem, MeetsEnd, MeetsFault}
-use Rattle.tape_image.specs.Calls.{Gave}
 use Rattle.tape_run.specs.declared.merge.reading.Reading.{Reading}
 use Rattle.tape_run.specs.MergeSteps.{Stopped, CountsItem, CountsNothing, HasRead, HasTaken}
 use Rattle.tape_run.specs.MergeSteps.{TookLast, nothing, last, RisesBy, is_bad_one, one_if, bads}
@@ -17,8 +14,7 @@ use Rattle.tape_run.specs.MergeSteps.{TookLast, nothing, last, RisesBy, is_bad_o
 
 gave_more : (items : List TapeItem) (a b c : Reader) (x : TapeItem) → Gave a items b
     → GivesItem b x c → Gave a (items ++ x ∷ []) c
-gave_more [] a b c x same given =
-    (c, subst (λ (r : Reader). GivesItem r x c) same given, refl)
+gave_more [] a b c x same given = (c, subst (λ (r : Reader). GivesItem r x c) same given, refl)
 gave_more (y ∷ items) a b c x (mid, first, then) given =
     (mid, first, gave_more items mid b c x then given)
 
@@ -31,15 +27,12 @@ goes_on_at behind o on (inr (inr (fault, met))) = absurd (cc (on, met.failed))
 
 -- a reader that has not stopped is positioned after the items that it returned
 gave_at : (f o : Reader) (r : List TapeItem) → HasRead f o r → o.status ≡ going → Gave f r o
-gave_at f o r h on =
-    subst (λ (b : Reader). Gave f r b) (sym (goes_on_at h.behind o on h.stands)) h.gave
+gave_at f o r h on = subst (λ (b : Reader). Gave f r b) (sym (goes_on_at _ _ on h.stands)) h.gave
 
-read_stopped : (f o n : Reader) (r : List TapeItem) → HasRead f o r → Stopped o n
-    → HasRead f n r
+read_stopped : (f o n : Reader) (r : List TapeItem) → HasRead f o r → Stopped o n → HasRead f n r
 read_stopped f o n r h (inl (on, met)) =
     record { behind = o; gave = gave_at f o r h on; stands = inr met }
-read_stopped f o n r h (inr (off, same)) =
-    subst (λ (s : Reader). HasRead f s r) (sym same) h
+read_stopped f o n r h (inr (off, same)) = subst (λ (s : Reader). HasRead f s r) (sym same) h
 
 pub stopped_off : (o n : Reader) → Stopped o n → n.status ≢ going
 stopped_off o n (inl (on, inl met)) = λ e. cc (e, met.ended)
@@ -112,6 +105,5 @@ take_past [] (suc k) le = refl
 take_past (x ∷ r) zero le = absurd (omega arith)
 take_past (x ∷ r) (suc k) le = ap (λ (l : List TapeItem). x ∷ l) (take_past r k (omega arith))
 
-pub take_last : (r : List TapeItem) (x : TapeItem) (k : ℕ) → length r ≡ k
-    → take k (r ++ x ∷ []) ≡ r
+pub take_last : (r : List TapeItem) (x : TapeItem) (k : ℕ) → length r ≡ k → take k (r ++ x ∷ []) ≡ r
 take_last r x k e = take_at r (x ∷ []) k e

@@ -1,18 +1,13 @@
 -- Why no merged image is made if it would be too long.
-use Rattle.std.proofs.Common.{◌≡◌, ℕ, ◌+◌, ◌<◌, List, length, Option, Result, IfErr}
-use Rattle.std.proofs.Common.{refl, sym, ap, subst, ◌∙◌, inl, inr, arith}
+use Rattle.std.proofs.Common.{◌≡◌, ℕ, ◌+◌, ◌<◌, List, length, Option, Result, IfErr, refl, sym, ap}
+use Rattle.std.proofs.Common.{subst, ◌∙◌, inl, inr, arith}
 use Rattle.tape_image.specs.declared.item.ImageWriteFault.{ImageWriteFault}
 use Rattle.tape_image.specs.declared.item.ImageWriteFault.TheVariants.{TooLong}
-use Rattle.tape_image.specs.Begins.{image_limit}
-use Rattle.tape_image.specs.Written.{written}
-use Rattle.tape_image.specs.Writer.{Writer, writing}
-use Rattle.tape_run.specs.declared.merge.Merged.{Merged}
-use Rattle.tape_run.specs.declared.merge.MergeFault.{MergeFault}
+use Rattle.tape_image.specs.{Begins.image_limit, Written.written, Writer.Writer, Writer.writing}
+use Rattle.tape_run.specs.declared.merge.line.{MergedEnd.MergedEnd, MergedEnd.TheVariants.Marked}
+use Rattle.tape_run.specs.declared.merge.{Merged.Merged, MergeFault.MergeFault}
+use Rattle.tape_run.specs.declared.merge.{now.MergeStop.MergeStop, reading.Reading.Reading}
 use Rattle.tape_run.specs.declared.merge.MergeFault.TheVariants as faults
-use Rattle.tape_run.specs.declared.merge.line.MergedEnd.{MergedEnd}
-use Rattle.tape_run.specs.declared.merge.line.MergedEnd.TheVariants.{Marked}
-use Rattle.tape_run.specs.declared.merge.now.MergeStop.{MergeStop}
-use Rattle.tape_run.specs.declared.merge.reading.Reading.{Reading}
 use Rattle.tape_run.specs.MergeCalls.{IfImages, RefusesLast}
 use Rattle.tape_run.specs.MergedImages.{TakeImages, MergesImages, FaultsImages}
 use Rattle.tape_run.specs.MergeNow.{EndsAs, end_bytes, IsTooLong, Misses}

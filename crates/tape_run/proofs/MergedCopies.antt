@@ -1,23 +1,18 @@
 -- The merged items of copies of a volume are a copy of it.
-use Rattle.std.proofs.Common.{◌≡◌, ◌≢◌, ◌⊎◌, inl, inr, ◌<◌, ◌≤◌, ℕ, ◌-◌, List, [], ◌∷◌}
-use Rattle.std.proofs.Common.{◌++◌, length, drop, map, Bool, true, false, cond, refl}
-use Rattle.std.proofs.Common.{sym, ap, subst, ◌∙◌, arith, append-nil, length-append}
+use Rattle.std.proofs.Common.{◌≡◌, ◌≢◌, ◌⊎◌, inl, inr, ◌<◌, ◌≤◌, ℕ, ◌-◌, List, [], ◌∷◌, ◌++◌}
+use Rattle.std.proofs.Common.{length, drop, map, Bool, true, false, cond, refl, sym, ap, subst, ◌∙◌}
+use Rattle.std.proofs.Common.{arith, append-nil, length-append}
 use Rattle.std.proofs.lemmas.Bool.{cases_lt}
 use Rattle.tape_image.specs.Tape.{TapeItem, bad}
-use Rattle.tape_set.specs.Layout.{FileSet, Entry, a_label, a_data_block, a_mark, items}
-use Rattle.tape_set.specs.Layout.{entries}
+use Rattle.tape_set.specs.Layout.{FileSet, Entry, a_label, a_data_block, a_mark, items, entries}
 use Rattle.tape_set.specs.Layout.{item_of}
-use Rattle.tape_set.specs.Reading.{Reading, as_read}
-use Rattle.tape_set.specs.Reach.{passes, IsWithin}
-use Rattle.tape_run.specs.Mount.{IsCopy}
+use Rattle.tape_set.specs.{Reading.Reading, Reading.as_read, Reach.passes, Reach.IsWithin}
+use Rattle.tape_run.specs.{Mount.IsCopy, MergeLaws.longest}
 use Rattle.tape_run.specs.Merging.{IsReadAs, IsReadFrom, AreReadFrom}
-use Rattle.tape_run.specs.MergeLaws.{longest}
-use Rattle.tape_run.proofs.MergeReadings.{reads_more}
-use Rattle.tape_run.proofs.MergeBest.{as_long}
+use Rattle.tape_run.proofs.MergeReadings.{reads_more, reads_front}
+use Rattle.tape_run.proofs.{MergeBest.as_long, Mounts.as_read_length}
 use Rattle.tape_run.specs.MergedCopies.{AreCopies, AreWithin, MergedIsCopy}
 use Rattle.tape_set.proofs.Reaching.{passes_better}
-use Rattle.tape_run.proofs.Mounts.{as_read_length}
-use Rattle.tape_run.proofs.MergeReadings.{reads_front}
 
 -- ---- items as they were read
 
@@ -46,14 +41,12 @@ reads_drop (x ∷ a) b (y ∷ t) h = reads_drop a b t h.1
 
 -- a copy is a reading of the volume followed by the items that the merged tape has after it
 copy_reads : (set : FileSet) (k : ℕ) (xs m : List TapeItem) (r : Reading) → IsCopy set xs r
-    → r.volume ≡ k → IsReadFrom xs m
-    → IsReadFrom xs (items set k ++ drop (length (items set k)) m)
+    → r.volume ≡ k → IsReadFrom xs m → IsReadFrom xs (items set k ++ drop (length (items set k)) m)
 copy_reads set k xs m r c same h = go c.more c.whole c.behind
   where
     whole_is : (more : List TapeItem) → xs ≡ as_read (items set r.volume) r.good ++ more
         → xs ≡ as_read (items set k) r.good ++ more
-    whole_is more e =
-        subst (λ (v : ℕ). xs ≡ as_read (items set v) r.good ++ more) same e
+    whole_is more e = subst (λ (v : ℕ). xs ≡ as_read (items set v) r.good ++ more) same e
 
     front : (more : List TapeItem) → more ≡ [] → xs ≡ as_read (items set k) r.good ++ more
         → IsReadFrom xs (items set k ++ drop (length (items set k)) m)
@@ -176,8 +169,7 @@ told_well x y true false some (inr e) off on = absurd (some (e ∙ off refl))
 told_well x y false false some met off on = absurd (cc on)
 
 within : (xs m : List TapeItem) (gs good : List Bool) (more : List TapeItem) → NoBad xs
-    → length gs ≤ length xs → IsReadFrom (as_read xs gs) m → Marks xs m good more
-    → IsWithin gs good
+    → length gs ≤ length xs → IsReadFrom (as_read xs gs) m → Marks xs m good more → IsWithin gs good
 within xs m [] good more none le h k = tt
 within [] m (g ∷ gs) good more none le h k = absurd (omega arith)
 within (x ∷ xs) [] (g ∷ gs) good more none le h k = absurd h
@@ -195,8 +187,7 @@ copy_within set k xs m r good more none c same h marked =
     subst (λ (v : ℕ). length r.good ≤ length (items set v)) same c.is_reading.within in
     let whole : xs ≡ as_read (items set k) r.good ++ c.more =
     subst (λ (v : ℕ). xs ≡ as_read (items set v) r.good ++ c.more) same c.whole in
-    within (items set k) m r.good good more none le
-    (reads_front (as_read (items set k) r.good) c.more m
+    within _ _ _ _ _ none le (reads_front (as_read (items set k) r.good) c.more m
     (subst (λ l. IsReadFrom l m) whole h)) marked
 
 copies_within : (set : FileSet) (k : ℕ) (images : List (List TapeItem)) (rs : List Reading)
@@ -220,8 +211,7 @@ copy_passes set k xs r c same longer = go c.more c.whole c.behind
   where
     go : (more : List TapeItem) → xs ≡ as_read (items set r.volume) r.good ++ more
         → (more ≢ [] → (length r.good ≡ length (items set r.volume))
-        × (passes r.good (entries set r.volume) ≡ true))
-        → passes r.good (entries set k) ≡ true
+        × (passes r.good (entries set r.volume) ≡ true)) → passes r.good (entries set k) ≡ true
     go [] e behind =
         let len : length (as_read (items set r.volume) r.good) ≡ length r.good =
         as_read_length (items set r.volume) r.good c.is_reading.within in

@@ -2,22 +2,19 @@
 -- again.
 use Rattle.std.proofs.Common.{◌≡◌, ◌<◌, ◌≤◌, ◌⊎◌, inl, inr, ℕ, zero, suc, ◌+◌, ◌-◌, List, [], ◌∷◌}
 use Rattle.std.proofs.Common.{length, take, drop, Bool, true, false, cond, ltb, Option, Some, None}
-use Rattle.std.proofs.Common.{refl, sym, ap, subst, ◌∙◌, arith}
-use Rattle.std.specs.Prelude.{◌==◌, ◌&&◌}
+use Rattle.std.proofs.Common.{refl, sym, ap, subst, ◌∙◌, arith, ◌==◌, ◌&&◌}
 use Rattle.std.specs.List.{AllByRecursion}
 use Rattle.std.proofs.lemmas.Bool.Decides.{nat_tests}
 use Rattle.tape_set.specs.declared.position.Position.{Position}
 use Rattle.tape_set.specs.declared.position.Position.TheVariants.{Awaits, Finished}
 use Rattle.tape_set.specs.Position.{awaiting, next_section, IsUpTo}
 use Rattle.tape_set.specs.Layout.{FileSet, Section, section_of, ends_file}
-use Rattle.tape_set.specs.Laws.{GoesOnOnNext}
-use Rattle.tape_set.specs.Reading.{Reading}
+use Rattle.tape_set.specs.{Laws.GoesOnOnNext, Reading.Reading}
 use Rattle.tape_set.specs.Reach.{far, far_in, far_over, before_data, passes, good_run, first_unread}
 use Rattle.tape_set.specs.Reach.{both_good, stopped, moved, behind}
-use Rattle.tape_set.proofs.Orders.{up_to_same, up_to_end}
+use Rattle.tape_set.proofs.{Orders.up_to_same, Orders.up_to_end, AllVolumes.goes_on_on_next}
 use Rattle.tape_set.proofs.Reaching.{and_left, first_unread_most, far_never_falls, up_to_behind}
 use Rattle.tape_set.proofs.Reaching.{far_better}
-use Rattle.tape_set.proofs.AllVolumes.{goes_on_on_next}
 use Rattle.tape_run.specs.MergedCopies.{IsBetter, OnceIsEnough}
 use Rattle.tape_run.proofs.MergedOrders.{up_trans, up_both, up_sect, up_block}
 
@@ -95,8 +92,7 @@ goes t b j w good = one (ltb (length w.blocks) b) refl
 
     whole : (x : Bool) → both_good (drop (length w.blocks) good) ≡ x → b ≤ length w.blocks
         → length w.blocks ≤ first_unread good b (length w.blocks)
-        → Goes t b j w good (cond x (behind t w)
-        (stopped (Awaits t b j) t b (length w.blocks)))
+        → Goes t b j w good (cond x (behind t w) (stopped (Awaits t b j) t b (length w.blocks)))
     whole true e le all = completes all e refl
     whole false e le all = at_end (length w.blocks == b) le all e
 
@@ -134,8 +130,7 @@ moved_within : (t b j c i : ℕ) (w : Section) (good : List Bool) (from there : 
     → Goes t b j w good from → Goes t c i w good there → IsUpTo there from
 moved_within t b j c i w good from there below on is here (stays e) gone =
     let same : Awaits t c i ≡ Awaits t b j =
-    up_both (Awaits t c i) (Awaits t b j)
-    (subst (λ (x : Position). IsUpTo (Awaits t c i) x) e on) below in
+    up_both _ _ (subst (λ (x : Position). IsUpTo (Awaits t c i) x) e on) below in
     inr (here ∙ ap (moves w good) same ∙ sym is)
 moved_within t b j c i w good from there below on is here (reaches le lt e) (stays f) =
     subst (λ (x : Position). IsUpTo x from) (sym f) on
@@ -288,8 +283,7 @@ module _ (set : FileSet) (file : ℕ) (s : Reading) (lawful : GoesOnOnNext set) 
   once (Awaits t b j) Finished below on = on
   once (Awaits t b j) (Awaits x c i) below on = go (section_of set file t) refl
     where
-      passed : (w : Section) → section_of set file t ≡ Some w → past t w ≡ true
-          → (t ≡ x) ⊎ (t < x)
+      passed : (w : Section) → section_of set file t ≡ Some w → past t w ≡ true → (t ≡ x) ⊎ (t < x)
           → IsUpTo (far set file (Awaits x c i) s) (far set file (Awaits t b j) s)
       passed w e f (inr lt) = later_section t b j x c i w (far set file (Awaits t b j) s) e f lt on
           (subst (λ (y : Position). Goes t b j w (rest t w) y) (sym (far_passed t b j w true e f))
@@ -317,8 +311,7 @@ once_is_enough set file p rs s lawful all =
     go rs p (up_to_same p) (far_never_falls set file p s) all
   where
     go : (rs : List Reading) (q : Position) → IsUpTo p q → IsUpTo q (far set file p s)
-        → AllByRecursion (λ r. IsBetter s r) rs
-        → IsUpTo (far_over set file q rs) (far set file p s)
+        → AllByRecursion (λ r. IsBetter s r) rs → IsUpTo (far_over set file q rs) (far set file p s)
     go [] q below on all = on
     go (r ∷ rs) q below on all = go rs (far set file q r)
         (up_trans p q (far set file q r) below (far_never_falls set file q r))

@@ -1,9 +1,7 @@
 -- Wrong answers that the contracts of a catalogue exclude.
 use Rattle.std.proofs.Common.{◌≡◌, ℕ, List, true, false, sym, ap, ◌∙◌}
-use Rattle.tape_label.specs.declared.values.Head1.{Head1}
-use Rattle.tape_label.specs.declared.values.Trail1.{Trail1}
-use Rattle.tape_run.specs.declared.met.Met.{Met}
-use Rattle.tape_run.specs.declared.section.SectionKey.{SectionKey}
+use Rattle.tape_label.specs.declared.values.{Head1.Head1, Trail1.Trail1}
+use Rattle.tape_run.specs.declared.{met.Met.Met, section.SectionKey.SectionKey}
 use Rattle.tape_run.specs.declared.section.SectionState.TheVariants.{Good, Bad, Count}
 use Rattle.tape_run.specs.Passing as passing
 use Rattle.tape_run.proofs.met.Met.told.Reads as told
@@ -25,8 +23,7 @@ trailer head file count = record {
 -- the description of a section with a trailer label
 told_so : (κs : _) (a : _) (z : _) (s : _) (m : Met) (t : Trail1) → told.Learnt κs a z s
     → a.0.now ≡ m → a.1.0.now ≡ t → z ≡ passing.told m t
-told_so κs a z s m t h of by =
-    h ∙ ap (λ v. passing.told v a.1.0.now) of ∙ ap (passing.told m) by
+told_so κs a z s m t h of by = h ∙ ap (λ v. passing.told v a.1.0.now) of ∙ ap (passing.told m) by
 
 -- wrong_count_called_good: the trailer label of a section of five blocks counts four, but the
 -- section is reported as good.

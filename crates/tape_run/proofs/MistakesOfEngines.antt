@@ -1,19 +1,14 @@
 -- Wrong answers that the contracts of the engines exclude.
 use Rattle.std.proofs.Common.{◌≡◌, ℕ, List, [], ◌∷◌, ◌++◌, length, true, false, refl, ap, ◌∙◌}
-use Rattle.std.proofs.Common.{subst, arith, codes}
-use Rattle.std.specs.Prelude.{Bool, Option, Some, None, Ok, option_map, ◌<◌, nat_lt, if◌then◌else◌}
+use Rattle.std.proofs.Common.{subst, arith, codes, Bool, Option, Some, None, Ok, option_map, ◌<◌}
+use Rattle.std.proofs.Common.{nat_lt, if◌then◌else◌}
 use Rattle.std.proofs.lemmas.Bool.{lt-ltb}
-use Rattle.std.specs.Fmt.{digits}
-use Rattle.std.specs.Io.KnownBytes.{Appends}
+use Rattle.std.specs.{Fmt.digits, Io.KnownBytes.Appends}
 use Rattle.tape_run.specs.declared.section.ImageLine.{ImageLine}
-use Rattle.tape_run.specs.Lacks.{found_all}
-use Rattle.tape_run.specs.Passing.{Told}
-use Rattle.tape_run.specs.CheckLine.{image_lines}
+use Rattle.tape_run.specs.{Lacks.found_all, Passing.Told, CheckLine.image_lines, Reeling.Mounting}
+use Rattle.tape_run.specs.{Reeling.AreMounted, SalvageCopies.believed, SalvageBlocks.Salvaged}
 use Rattle.tape_run.specs.Checked.{Reel, IsReel, AddsImages, Reports, IsReport, summary}
-use Rattle.tape_run.specs.Reeling.{Mounting, AreMounted}
 use Rattle.tape_run.specs.declared.salvage.copies.SectionCopy.{SectionCopy}
-use Rattle.tape_run.specs.SalvageCopies.{believed}
-use Rattle.tape_run.specs.SalvageBlocks.{Salvaged}
 use Rattle.tape_run.specs.SalvageEnds.{ended, without_rest, without_gap, read_again}
 use Rattle.tape_run.proofs.check.check_to.Reads as check_to
 use Rattle.tape_run.proofs.extract.extract_to.Reads as extract_to
@@ -80,8 +75,7 @@ nothing_met_is_all_found : (R : _) (L : _) (P : _) (LR : _) (LL : _) (LP : _) (g
     → ((image : _) (next : _) → h.gives a.1.0.now 0 image next → image ≡ None)
     → m.contents a.1.1.0.now ≡ Some [] → m.contents s.1.1.0.now ≡ Some text → ⊥
 nothing_met_is_all_found R L P LR LL LP g d h i m n j κs a s text l one absent old new =
-    let n : true ≡ false = (text_of_none h.size h.gives g.remaining a.1.0.now _ _ _ text true l.ok
-    one absent old new).1 in
+    let n : true ≡ false = (text_of_none _ _ _ _ _ _ _ _ _ l.ok one absent old new).1 in
     absurd (cc)
 
 -- ---- the readable parts of a file
@@ -96,6 +90,4 @@ either_missing false x y is one off = absurd (cc)
 stopped_reading_told_as_complete : (n : ℕ) (c : SectionCopy) (g : Salvaged) → n < believed c
     → (read_again n c g).missing ≡ false → ⊥
 stopped_reading_told_as_complete n c g fewer off =
-    either_missing (nat_lt n (believed c)) (without_rest (without_gap g))
-    (ended c c.closed (without_gap g))
-    (lt-ltb n (believed c) fewer) refl off
+    either_missing _ _ _ (lt-ltb n (believed c) fewer) refl off

@@ -1,14 +1,11 @@
 -- Wrong answers that the contract of listing excludes.
-use Rattle.std.proofs.Common.{◌≡◌, ℕ, List, [], ◌∷◌, length, ap, ◌∙◌, subst, arith, codes}
-use Rattle.std.specs.Prelude.{Some, Ok}
+use Rattle.std.proofs.Common.{◌≡◌, ℕ, List, [], ◌∷◌, length, ap, ◌∙◌, subst, arith, codes, Some, Ok}
 use Rattle.std.specs.Io.KnownBytes.{Appends}
 use Rattle.tape_image.specs.declared.item.Ending.TheVariants.{Physical}
-use Rattle.tape_image.specs.Tape.{TapeItem, mark}
+use Rattle.tape_image.specs.{Tape.TapeItem, Tape.mark, Reader.IfKnown}
 use Rattle.tape_image.specs.Begins.{Begins, ends, faults}
-use Rattle.tape_image.specs.Reader.{IfKnown}
 use Rattle.tape_image.proofs.Uniqueness.{Begins-one}
-use Rattle.tape_run.specs.Listing.{listing_of}
-use Rattle.tape_run.specs.Listed.{ListsToEnd}
+use Rattle.tape_run.specs.{Listing.listing_of, Listed.ListsToEnd}
 use Rattle.tape_run.proofs.list.list_to.Reads as list_to
 
 -- what `list` wrote for bytes that begin with these items and end like this
@@ -19,16 +16,14 @@ listed : (R : _) (W : _) (LR : _) (LW : _) (g : _) (d : _) (h : _) (e : _) (κs 
     → h.contents a.1.1.0.now ≡ Some [] → h.contents s.1.1.0.now ≡ Some text
     → Begins 0 bytes items place (ends ending) → text ≡ listing_of items (ends ending)
 listed R W LR LW g d h e κs a s bytes left text items place ending l b q old new begins =
-    let k : (xs ys : List ℕ) → Type 0 = ListsToEnd (h.contents a.1.1.0.now) (h.contents
-    s.1.1.0.now) in
+    let k : (xs ys : List ℕ) → Type 0 = ListsToEnd (h.contents a.1.1.0.now) (h.contents s.1.1.0.now)
+    in
     let r : k bytes left = subst (λ v. IfKnown (Some bytes) v k) q
     (subst (λ v. IfKnown v (g.remaining s.1.0.now) k) b l.ok) in
-    let one = Begins-one 0 bytes r.items items r.takes.end place (ends r.ending) (ends ending)
-    r.takes.begins begins in
-    let w : Appends (Some []) (Some text) (listing_of r.items (ends r.ending))
-    = subst (λ v. Appends (Some []) v (listing_of r.items (ends r.ending))) new
-    (subst (λ v. Appends v (h.contents s.1.1.0.now) (listing_of r.items (ends r.ending))) old
-    r.wrote) in
+    let one = Begins-one _ _ _ _ _ _ _ _ r.takes.begins begins in
+    let w : Appends (Some []) (Some text) (listing_of r.items (ends r.ending)) = subst
+    (λ v. Appends (Some []) v (listing_of r.items (ends r.ending))) new (subst (λ v. Appends v
+    (h.contents s.1.1.0.now) (listing_of r.items (ends r.ending))) old r.wrote) in
     w ∙ ap (λ is. listing_of is (ends r.ending)) one.0 ∙ ap (listing_of items) one.2
 
 -- stops_after_one_item: only the first of two tape marks is listed
@@ -50,11 +45,9 @@ fault_swallowed : (R : _) (W : _) (LR : _) (LW : _) (g : _) (d : _) (h : _) (e :
     → g.remaining a.1.0.now ≡ Some bytes → g.remaining s.1.0.now ≡ Some left
     → Begins 0 bytes items place (faults cause) → ⊥
 fault_swallowed R W LR LW g d h e κs a s bytes left items place cause l b q begins =
-    let k : (xs ys : List ℕ) → Type 0
-    = ListsToEnd (h.contents a.1.1.0.now) (h.contents s.1.1.0.now) in
+    let k : (xs ys : List ℕ) → Type 0 = ListsToEnd (h.contents a.1.1.0.now) (h.contents s.1.1.0.now)
+    in
     let r : k bytes left = subst (λ v. IfKnown (Some bytes) v k) q
     (subst (λ v. IfKnown v (g.remaining s.1.0.now) k) b l.ok) in
-    let c : faults cause ≡ ends r.ending
-    = (Begins-one 0 bytes items r.items place r.takes.end (faults cause) (ends r.ending)
-    begins r.takes.begins).2 in
+    let c : faults cause ≡ ends r.ending = (Begins-one _ _ _ _ _ _ _ _ begins r.takes.begins).2 in
     absurd (cc)

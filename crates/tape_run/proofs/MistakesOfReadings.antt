@@ -1,28 +1,22 @@
 -- Wrong answers that the contracts of complete readings exclude.
 use Rattle.std.proofs.Common.{◌≡◌, ◌⊎◌, inl, inr, ℕ, List, [], ◌∷◌, map, Bool, false, refl, sym, ap}
-use Rattle.std.proofs.Common.{◌∙◌, subst, arith}
-use Rattle.std.specs.Prelude.{Option, Some, None, Ok, IsSome}
+use Rattle.std.proofs.Common.{◌∙◌, subst, arith, Option, Some, None, Ok, IsSome}
 use Rattle.tape_blocks.specs.Block.{Portion}
 use Rattle.tape_set.specs.declared.position.Position.TheVariants.{Awaits}
-use Rattle.tape_set.specs.Position.{part_of, start}
-use Rattle.tape_set.specs.Before.{before}
-use Rattle.tape_set.specs.Layout.{FileSet, file_of}
-use Rattle.tape_set.specs.Lawful.{IsLawful}
-use Rattle.tape_set.specs.Reach.{far}
+use Rattle.tape_set.specs.{Position.part_of, Position.start, Before.before, Layout.FileSet}
+use Rattle.tape_set.specs.{Layout.file_of, Lawful.IsLawful, Reach.far}
 use Rattle.tape_set.proofs.Reaching.{far_keeps_part}
 use Rattle.tape_core.specs.Stands.{Stands}
 use Rattle.tape_run.specs.declared.script.Step.TheVariants.{Reel}
 use Rattle.tape_run.specs.Given.{IsGiven, AreGivenBy, counted_up, failed_of}
-use Rattle.tape_run.specs.Headline.{begins}
+use Rattle.tape_run.specs.{Headline.begins, Seen.seen}
 use Rattle.tape_run.specs.History.{Course, IsHistory, course, after}
 use Rattle.tape_run.specs.Mount.{MountEvent, reads, foreign_reel, saves, restarts, IsMountOf}
-use Rattle.tape_run.specs.Seen.{seen}
 use Rattle.tape_run.proofs.Back.{none_failed, none_of}
-use Rattle.tape_run.proofs.CrashRuns.{goes_on}
+use Rattle.tape_run.proofs.{CrashRuns.goes_on, MistakesOfRuns.HoldsOne}
 use Rattle.tape_run.proofs.script.run.Reads as run
 use Rattle.tape_run.proofs.whole.resume_and_run.Reads as resume_and_run
 use Rattle.tape_run.proofs.whole.read_file.Reads as read_file
-use Rattle.tape_run.proofs.MistakesOfRuns.{HoldsOne}
 
 -- ---- whole readings
 
@@ -72,13 +66,12 @@ partial_file_given : (R : _) (LR : _) (h : _) (d : _) (κs : _) (a : _) (session
     → session.core.position ≡ Awaits 1 0 3 → ⊥
 partial_file_given R LR h d κs a session s set bytes k lawful id file all one known stands =
     let r = k.read (bytes ∷ []) known in
-    let (m, history, front) = one_given set bytes r.5.which (map h.remaining s.1.1.1.1.0.now)
-    r.5.given all r.5.are_given in
-    let steps : IsHistory set 0 a.1.1.1.0.now r.5.given (m ∷ [])
-    = subst (λ v. IsHistory set 0 v r.5.given (m ∷ [])) (sym one) history in
+    let (m, history, front) = one_given _ _ _ _ _ all r.5.are_given in
+    let steps : IsHistory set 0 a.1.1.1.0.now r.5.given (m ∷ []) = subst
+    (λ v. IsHistory set 0 v r.5.given (m ∷ [])) (sym one) history in
     let c = (r.5.reads set (m ∷ []) lawful id file steps).0 in
-    let n : 3 ≡ 0 = sym (ap part_of stands) ∙ sym (ap (λ v. part_of v.position) r.2)
-    ∙ ap (λ v. part_of v.at) c ∙ front a.1.1.0 in
+    let n : 3 ≡ 0 = sym (ap part_of stands) ∙ sym (ap (λ v. part_of v.position) r.2) ∙ ap
+    (λ v. part_of v.at) c ∙ front a.1.1.0 in
     absurd (omega (arith, n))
 
 -- gone_on_without_reading: no reader failed, but the session is returned as it was resumed. Its

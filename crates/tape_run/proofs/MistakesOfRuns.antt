@@ -1,11 +1,10 @@
 -- Wrong answers that the contract of a run excludes.
-use Rattle.std.proofs.Common.{◌≡◌, List, [], ◌∷◌, map, ap, ◌∙◌, subst, codes}
-use Rattle.std.specs.Prelude.{Some, Ok, slice_get, option_map}
+use Rattle.std.proofs.Common.{◌≡◌, List, [], ◌∷◌, map, ap, ◌∙◌, subst, codes, Some, Ok, slice_get}
+use Rattle.std.proofs.Common.{option_map}
 use Rattle.tape_blocks.specs.declared.parts.Span.TheVariants as spans
 use Rattle.tape_blocks.specs.Block.{Portion}
 use Rattle.tape_set.specs.Position.{start}
-use Rattle.tape_run.specs.Headline.{IsRead, IsStart}
-use Rattle.tape_run.specs.Seen.{Seen, seen}
+use Rattle.tape_run.specs.{Headline.IsRead, Headline.IsStart, Seen.Seen, Seen.seen}
 use Rattle.tape_run.specs.WorkedHistory.{worked_steps, worked_reels, first, middle, last}
 use Rattle.tape_run.proofs.WorkedHistory.{is_worked}
 use Rattle.tape_run.proofs.script.run.Reads as run

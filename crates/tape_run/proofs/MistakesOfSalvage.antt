@@ -1,25 +1,21 @@
 -- Wrong answers of `salvage` that the definitions exclude.
-use Rattle.std.proofs.Common.{◌≡◌, ◌<◌, ℕ, ◌&&◌, ◌||◌, not, Bool, true, false, List, [], ◌∷◌}
-use Rattle.std.proofs.Common.{◌++◌, Option, Some, None, Result, Ok, Err, ap, sym, ◌∙◌, arith}
-use Rattle.std.specs.Prelude.{◌==◌, if◌then◌else◌}
+use Rattle.std.proofs.Common.{◌≡◌, ◌<◌, ℕ, ◌&&◌, ◌||◌, not, Bool, true, false, List, [], ◌∷◌, ◌++◌}
+use Rattle.std.proofs.Common.{Option, Some, None, Result, Ok, Err, ap, sym, ◌∙◌, arith, ◌==◌}
+use Rattle.std.proofs.Common.{if◌then◌else◌}
 use Rattle.tape_image.specs.Tape.{TapeItem, block}
+use Rattle.tape_label.specs.declared.values.{Head1.Head1, Trail1.Trail1}
 use Rattle.tape_label.specs.declared.label.LabelFault.{LabelFault}
-use Rattle.tape_label.specs.declared.values.Head1.{Head1}
-use Rattle.tape_label.specs.declared.values.Trail1.{Trail1}
 use Rattle.tape_set.specs.Lawful.{label_count, FileForm}
-use Rattle.tape_run.specs.declared.section.SectionKey.{SectionKey}
+use Rattle.tape_run.specs.declared.salvage.walk.{Expected.Expected, OpenSection.OpenSection}
+use Rattle.tape_run.specs.declared.salvage.walk.{Closing.Closing, UnnamedItems.UnnamedItems}
 use Rattle.tape_run.specs.declared.salvage.copies.SectionCopy.{SectionCopy}
-use Rattle.tape_run.specs.declared.salvage.walk.Expected.{Expected}
-use Rattle.tape_run.specs.declared.salvage.walk.OpenSection.{OpenSection}
-use Rattle.tape_run.specs.declared.salvage.walk.Closing.{Closing}
-use Rattle.tape_run.specs.declared.salvage.walk.UnnamedItems.{UnnamedItems}
+use Rattle.tape_run.specs.declared.section.SectionKey.{SectionKey}
 use Rattle.tape_run.specs.declared.salvage.walk.Expected.TheVariants.{Trailers, Unnamed}
 use Rattle.tape_run.specs.SalvageWalk.{begun_by, named_by, one_read, unnamed_by}
-use Rattle.tape_run.specs.SalvageCopies.{believed}
-use Rattle.tape_run.specs.SalvageBlocks.{Salvaged, gap_text}
-use Rattle.tape_run.specs.SalvageImage.{ReadsSection, closings}
+use Rattle.tape_run.specs.{SalvageCopies.believed, SalvageBlocks.Salvaged, SalvageBlocks.gap_text}
+use Rattle.tape_run.specs.{SalvageImage.ReadsSection, SalvageImage.closings, SalvageGaps.Gap}
+use Rattle.tape_run.specs.SalvageGaps.{AreGaps}
 use Rattle.tape_run.specs.SalvageConflicts.{are_conflicting, has_conflict, conflict_text, text_if}
-use Rattle.tape_run.specs.SalvageGaps.{Gap, AreGaps}
 
 -- gap_not_reported: blocks are missing, and no line says so
 gap_not_reported : (sect first next records : ℕ) → gap_text sect (Some first) next records ≡ []

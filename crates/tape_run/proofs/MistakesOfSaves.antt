@@ -1,30 +1,21 @@
 -- Wrong answers that the contracts of `Session::reel` and `Session::save` exclude.
 use Rattle.std.proofs.Common.{◌≡◌, ℕ, List, ◌∷◌, ◌++◌, false, sym, ap, ◌∙◌, ◌+◌, subst, arith}
-use Rattle.std.specs.Prelude.{Option, Some, None, Ok, IfSome}
+use Rattle.std.proofs.Common.{Option, Some, None, Ok, IfSome}
 use Rattle.tape_blocks.specs.Block.{Portion}
 use Rattle.tape_image.specs.declared.item.ImageFault.{ImageFault}
-use Rattle.tape_image.specs.Begins.{Begins, Stop}
-use Rattle.tape_image.specs.Reader.{IfKnown}
-use Rattle.tape_image.specs.Tape.{TapeItem}
+use Rattle.tape_image.specs.{Begins.Begins, Begins.Stop, Reader.IfKnown, Tape.TapeItem}
 use Rattle.tape_set.specs.declared.position.Position.{Position}
 use Rattle.tape_set.specs.declared.position.Position.TheVariants.{Awaits, Finished}
 use Rattle.tape_set.specs.Position.{block_of}
 use Rattle.tape_core.specs.declared.event.Answer.TheVariants.{SectionDone, Complete, Useless}
-use Rattle.tape_core.specs.declared.event.Reason.{Reason}
-use Rattle.tape_core.specs.declared.event.Reason.TheVariants.{BlockCount}
-use Rattle.tape_core.specs.Follows.{IsFinal}
-use Rattle.tape_core.specs.Place.{rest_of}
-use Rattle.tape_core.specs.Point.{Point}
-use Rattle.tape_core.specs.State.{State}
+use Rattle.tape_core.specs.declared.event.{Reason.Reason, Reason.TheVariants.BlockCount}
+use Rattle.tape_core.specs.{Follows.IsFinal, Place.rest_of, Point.Point, State.State}
 use Rattle.tape_core.specs.Table.{step_of, mount_of}
 use Rattle.tape_run.specs.Given as given
-use Rattle.tape_run.specs.Given.{IsGiven}
-use Rattle.tape_run.specs.declared.reel_reader.ReelAnswer.{ReelAnswer}
-use Rattle.tape_run.specs.Reels.{Reads, behind_items}
-use Rattle.tape_run.specs.Seen.{Seen, seen}
+use Rattle.tape_run.specs.{Given.IsGiven, Reels.Reads, Reels.behind_items, Seen.Seen, Seen.seen}
 use Rattle.tape_run.specs.Steps.{Reeled}
-use Rattle.tape_run.proofs.ByTable.{behind_app}
-use Rattle.tape_run.proofs.Completes.{step_tells}
+use Rattle.tape_run.specs.declared.reel_reader.ReelAnswer.{ReelAnswer}
+use Rattle.tape_run.proofs.{ByTable.behind_app, Completes.step_tells}
 use Rattle.tape_run.proofs.Finals.{IsIdle, step_ends, idle_items}
 use Rattle.tape_run.proofs.session.Session.reel.Reads as reel
 use Rattle.tape_run.proofs.session.Session.save.Reads as save
@@ -62,8 +53,7 @@ complete_without_end : (S : _) (R : _) (LS : _) (LR : _) (g : _) (d : _) (h : _)
     → a.0.now.core.position ≡ Finished → h.remaining a.1.0.now ≡ Some bytes
     → h.remaining s.1.0.now ≡ Some left → answer.answer ≡ SectionDone → ⊥
 complete_without_end S R LS LR g d h e κs a answer s bytes left l p b q w =
-    let c = read_from a.0.now.core Finished (h.remaining a.1.0.now) (h.remaining s.1.0.now) bytes
-    left answer s.0.now.core l.answer p b q in
+    let c = read_from _ _ _ _ _ _ _ _ l.answer p b q in
     let f : SectionDone ≡ Complete = sym w ∙ c.1 in
     absurd (cc)
 
@@ -104,12 +94,11 @@ not_finished : (core : State) (x : TapeItem) (more : List TapeItem) (why : Reaso
     → (behind_items (step_of core (Some x)).1 more).position ≡ Finished → ⊥
 not_finished core x more why told end =
     let after : State = (step_of core (Some x)).1 in
-    let idle : IsIdle after.position after.phase
-    = (step_ends core x).told (subst IsFinal (sym told) tt) in
-    let stays : (behind_items after more).position ≡ after.position
-    = ap (λ c. c.position) (idle_items more after idle).0 in
-    let f : Useless why ≡ Complete
-    = sym told ∙ (step_tells core (Some x)).told (sym stays ∙ end) in
+    let idle : IsIdle after.position after.phase = (step_ends core x).told
+    (subst IsFinal (sym told) tt) in
+    let stays : (behind_items after more).position ≡ after.position = ap (λ c. c.position)
+    (idle_items more _ idle).0 in
+    let f : Useless why ≡ Complete = sym told ∙ (step_tells core (Some x)).told (sym stays ∙ end) in
     absurd (cc f)
 
 -- count_passed_over: a trailer label counts 9 blocks but 6 were seen, on any tape, and yet the

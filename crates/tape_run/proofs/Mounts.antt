@@ -1,33 +1,26 @@
 -- The reader during a mount: of a copy and the items after it, or of a foreign reel.
 use Rattle.std.proofs.Common.{◌≡◌, ◌≢◌, ◌⊎◌, inl, inr, ℕ, zero, suc, ◌+◌, ◌<◌, ◌≤◌, Bool, cond}
 use Rattle.std.proofs.Common.{List, [], ◌∷◌, ◌++◌, length, take, drop, Option, Some, refl, sym, ap}
-use Rattle.std.proofs.Common.{subst, ◌∙◌, arith, length-append}
-use Rattle.std.specs.List.{slice_get}
+use Rattle.std.proofs.Common.{subst, ◌∙◌, arith, length-append, slice_get}
 use Rattle.std.proofs.lemmas.List.{take-append-drop}
 use Rattle.tape_blocks.specs.Block.{Portion}
 use Rattle.tape_image.specs.Tape.{TapeItem, bad}
 use Rattle.tape_set.specs.declared.position.Position.{Position}
-use Rattle.tape_set.specs.Layout.{FileSet, items}
-use Rattle.tape_set.specs.Lawful.{IsLawful}
-use Rattle.tape_set.specs.Reading.{Reading, as_read}
-use Rattle.tape_set.specs.Reach.{far}
+use Rattle.tape_set.specs.{Layout.FileSet, Layout.items, Lawful.IsLawful, Reading.Reading}
+use Rattle.tape_set.specs.{Reading.as_read, Reach.far}
 use Rattle.tape_core.specs.declared.event.Answer.{Answer}
 use Rattle.tape_core.specs.declared.event.Answer.TheVariants.{Passed, Deliver, SectionDone}
 use Rattle.tape_core.specs.declared.event.Answer.TheVariants.{Complete, Useless}
-use Rattle.tape_core.specs.State.{State}
-use Rattle.tape_core.specs.Place.{rest_of, IsPlaced}
-use Rattle.tape_core.specs.Table.{Outcome, step_of, mount_of}
-use Rattle.tape_core.specs.Foreign.{IsForeignAt, Unmoved}
+use Rattle.tape_core.specs.{State.State, Place.rest_of, Place.IsPlaced, Table.Outcome}
+use Rattle.tape_core.specs.{Table.step_of, Table.mount_of, Foreign.IsForeignAt, Foreign.Unmoved}
 use Rattle.tape_core.specs.Follows.{reading, IsAt, IsFinal, IsReading, Kept, Idle, Gives, Delivers}
 use Rattle.tape_core.specs.Follows.{Checked}
 use Rattle.tape_core.proofs.Steps.{mounts, step_reads, position_reads}
-use Rattle.tape_core.proofs.IdleSteps.{idle_reads}
-use Rattle.tape_core.proofs.ForeignLaws.{foreign_mount, foreign_step}
-use Rattle.tape_core.proofs.Standing.{rests, rested}
+use Rattle.tape_core.proofs.{IdleSteps.idle_reads, ForeignLaws.foreign_mount}
+use Rattle.tape_core.proofs.{ForeignLaws.foreign_step, Standing.rests, Standing.rested}
 use Rattle.tape_run.specs.Mount.{MountEvent, reads, foreign_reel, saves, restarts, IsCopy, IsMount}
 use Rattle.tape_run.specs.Mount.{cut, after_mount}
-use Rattle.tape_run.specs.Puts.{IsChecked}
-use Rattle.tape_run.specs.Under.{is_under}
+use Rattle.tape_run.specs.{Puts.IsChecked, Under.is_under}
 
 -- One item of a mount that began at p: the state agrees with the parts that the step delivered, and
 -- after a final answer no further item of the mount changes the position.
@@ -152,12 +145,10 @@ checked_of item old new k = record {
 
 -- ---- a mount begins
 
-pub begins : (core new : State) → new ≡ mount_of core → rest_of new ≡ rest_of core
-    → (set : FileSet) (parts : List Portion) (xs : List TapeItem) (h : MountEvent) → IsLawful set
-    → IsMount set xs h
+pub begins : (core new : State) → new ≡ mount_of core → rest_of new ≡ rest_of core → (set : FileSet)
+    (parts : List Portion) (xs : List TapeItem) (h : MountEvent) → IsLawful set → IsMount set xs h
     → IsPlaced set (rest_of core) parts → is_under new set core.position xs 0 h
-begins core new is same set parts xs (reads r) l m a =
-    mounts core new is set r.volume (rested set core a.at)
+begins core new is same set parts xs (reads r) l m a = mounts _ _ is _ r.volume (rested _ _ a.at)
 begins core new is same set parts xs foreign_reel l m a =
     (ap (λ (z : State). z.position) same, foreign_mount core new is set xs (rested set core a.at) m)
 begins core new is same set parts xs saves l m a = absurd m
@@ -171,42 +162,38 @@ pub record Both (set : FileSet) (p : Position) (xs : List TapeItem) (i : ℕ) (h
   pub under : is_under out.1 set p xs (i + 1) h
 
 copy_inside : (core : State) (out : Outcome) (arrived : Option TapeItem)
-    → out ≡ step_of core arrived
-    → (set : FileSet) (p : Position) (xs : List TapeItem) (i : ℕ) (r : Reading) → IsLawful set
-    → IsCopy set xs r
-    → IsReading set p r.volume (take i r.good) core → arrived ≡ slice_get xs i → i < length r.good
-    → Both set p xs i (reads r) arrived core out
+    → out ≡ step_of core arrived → (set : FileSet) (p : Position) (xs : List TapeItem) (i : ℕ)
+    (r : Reading) → IsLawful set → IsCopy set xs r → IsReading set p r.volume (take i r.good) core
+    → arrived ≡ slice_get xs i → i < length r.good → Both set p xs i (reads r) arrived core out
 copy_inside core out arrived is set p xs i r l m u e lt =
-    let at = read_at (items set r.volume) r.good m.more i lt m.is_reading.within in
+    let at = read_at _ _ m.more _ lt m.is_reading.within in
     let came : arrived ≡ Some (cond at.g at.item bad) =
     e ∙ (ap (λ z. slice_get z i) m.whole ∙ at.came) in
     let here : slice_get (items set r.volume) (length (take i r.good)) ≡ Some at.item =
     ap (slice_get (items set r.volume)) at.count ∙ at.stands in
     let kept : Kept set p r.volume (take i r.good ++ at.g ∷ []) (cond at.g at.item bad) core out =
-    step_reads core out arrived is set p r.volume
-    (take i r.good) at.g at.item l m.is_reading.volume here came u in
+    step_reads _ _ _ is _ _ _ _ _ _ l m.is_reading.volume here came u in
     let whole : (take i r.good ++ at.g ∷ []) ++ drop (i + 1) r.good ≡ r.good =
     ap (λ z. z ++ drop (i + 1) r.good) (sym at.longer) ∙ take-append-drop (i + 1) r.good in
     record {
       took = record {
-        at = rests set out.1 kept.reads.at;
+        at = rests _ _ kept.reads.at;
         gives = (
           cond at.g at.item bad,
           came,
-          gives_rest set (cond at.g at.item bad) out.0 core out.1 kept.gives,
+          gives_rest _ _ _ _ _ kept.gives,
         );
-        done = λ f. sym (kept.done f (drop (i + 1) r.good))
-            ∙ ap (λ z. far set out.1.file p (reading r.volume z)) whole;
+        done = λ f. sym (kept.done f (drop (i + 1) r.good)) ∙ ap
+            (λ z. far set out.1.file p (reading r.volume z)) whole;
       };
       under = subst (λ z. IsReading set p r.volume z out.1) (sym at.longer) kept.reads;
     }
 
 copy_behind : (core : State) (out : Outcome) (arrived : Option TapeItem)
-    → out ≡ step_of core arrived
-    → (set : FileSet) (p : Position) (xs : List TapeItem) (i : ℕ) (r : Reading) → IsLawful set
-    → IsCopy set xs r
-    → IsReading set p r.volume (take i r.good) core → i < length xs → arrived ≡ slice_get xs i
-    → length r.good ≤ i → Both set p xs i (reads r) arrived core out
+    → out ≡ step_of core arrived → (set : FileSet) (p : Position) (xs : List TapeItem) (i : ℕ)
+    (r : Reading) → IsLawful set → IsCopy set xs r → IsReading set p r.volume (take i r.good) core
+    → i < length xs → arrived ≡ slice_get xs i → length r.good ≤ i
+    → Both set p xs i (reads r) arrived core out
 copy_behind core out arrived is set p xs i r l m u lt e le =
     let at = item_at xs i lt in
     let came : arrived ≡ Some at.item = e ∙ at.there in
@@ -243,19 +230,18 @@ foreign_item : (core : State) (out : Outcome) (arrived : Option TapeItem)
     → IsAt set core → is_under core set p xs i foreign_reel
     → i < length xs → arrived ≡ slice_get xs i → Both set p xs i foreign_reel arrived core out
 foreign_item core out arrived is set p xs i a u lt e =
-    let at = item_at xs i lt in
+    let at = item_at _ _ lt in
     let came : arrived ≡ Some at.item = e ∙ at.there in
     let still : Unmoved set (drop (i + 1) xs) core out =
-    foreign_step core out arrived is set at.item (drop (i + 1) xs) came a
-    (subst (λ z. IsForeignAt set.set_id z core.position core.phase) at.left u.1) in
+    foreign_step _ _ _ is _ _ (drop (i + 1) xs) came a (subst
+    (λ z. IsForeignAt set.set_id z core.position core.phase) at.left u.1) in
     record {
       took = record {
-        at = rests set out.1 still.at;
+        at = rests _ _ still.at;
         gives = (
           at.item,
           came,
-          gives_silent set at.item out.0 core out.1 still.silent still.same_file
-              still.same_position,
+          gives_silent set at.item _ _ _ still.silent still.same_file still.same_position,
         );
         done = λ f. still.same_position ∙ u.0;
       };
@@ -263,11 +249,10 @@ foreign_item core out arrived is set p xs i a u lt e =
     }
 
 pub both : (core : State) (out : Outcome) (arrived : Option TapeItem) → out ≡ step_of core arrived
-    → (set : FileSet) (parts : List Portion) (p : Position) (xs : List TapeItem)
-    (i : ℕ) (h : MountEvent)
-    → IsLawful set → IsMount set xs h
-    → IsPlaced set (rest_of core) parts → is_under core set p xs i h → i < length xs
-    → arrived ≡ slice_get xs i → Both set p xs i h arrived core out
+    → (set : FileSet) (parts : List Portion) (p : Position) (xs : List TapeItem) (i : ℕ)
+    (h : MountEvent) → IsLawful set → IsMount set xs h → IsPlaced set (rest_of core) parts
+    → is_under core set p xs i h → i < length xs → arrived ≡ slice_get xs i
+    → Both set p xs i h arrived core out
 both core out arrived is set parts p xs i (reads r) l m a u lt e = pick (less_or i (length r.good))
   where
     pick : (i < length r.good) ⊎ (length r.good ≤ i) → Both set p xs i (reads r) arrived core out
@@ -283,8 +268,7 @@ pub reached : (core : State) (set : FileSet) (p : Position) (xs : List TapeItem)
     (i : ℕ) (h : MountEvent)
     → IsLawful set → IsMount set xs h → is_under core set p xs i h
     → core.position ≡ after_mount set core.file p (cut i h)
-reached core set p xs i (reads r) l m u =
-    position_reads core set p r.volume (take i r.good) l m.is_reading.volume u
+reached core set p xs i (reads r) l m u = position_reads _ _ _ _ _ l m.is_reading.volume u
 reached core set p xs i foreign_reel l m u = u.0
 reached core set p xs i saves l m u = absurd m
 reached core set p xs i (restarts n) l m u = absurd m

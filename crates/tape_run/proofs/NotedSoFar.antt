@@ -1,33 +1,23 @@
 -- The sections added after some items.
 use Rattle.std.proofs.Common.{◌≡◌, ℕ, ◌+◌, ◌≤◌, List, [], ◌∷◌, ◌++◌, length, Option, Some, None}
 use Rattle.std.proofs.Common.{Result, Ok, Err, Bool, true, false, refl, sym, ap, subst, ◌∙◌, arith}
-use Rattle.std.proofs.Common.{append-nil, append_assoc, length-append}
-use Rattle.std.specs.Prelude.{IfSome, if◌then◌else◌}
-use Rattle.tape_image.specs.declared.item.Ending.{Ending}
+use Rattle.std.proofs.Common.{append-nil, append_assoc, length-append, IfSome, if◌then◌else◌}
+use Rattle.tape_image.specs.declared.item.{Ending.Ending, ImageFault.ImageFault}
 use Rattle.tape_image.specs.declared.item.Ending.TheVariants as endings
-use Rattle.tape_image.specs.declared.item.ImageFault.{ImageFault}
-use Rattle.tape_image.specs.Tape.{TapeItem, block}
-use Rattle.tape_image.specs.Begins.{Walks}
-use Rattle.tape_image.specs.Reader.{IfKnown}
+use Rattle.tape_image.specs.{Tape.TapeItem, Tape.block, Begins.Walks, Reader.IfKnown}
 use Rattle.tape_image.specs.Step.{TakesItem, TakesEnd, TakesFault}
 use Rattle.tape_image.proofs.Walks.{known_start, known_item, known_end, known_fault, IfKnown-map}
 use Rattle.tape_image.proofs.Walks.{IfKnown-some}
+use Rattle.tape_label.specs.declared.values.{Kind.Kind, Vol1.Vol1, Head1.Head1, Trail1.Trail1}
 use Rattle.tape_label.specs.declared.label.LabelFault.{LabelFault}
-use Rattle.tape_label.specs.declared.values.Kind.{Kind}
 use Rattle.tape_label.specs.declared.values.Kind.TheVariants as kinds
-use Rattle.tape_label.specs.declared.values.Vol1.{Vol1}
-use Rattle.tape_label.specs.declared.values.Head1.{Head1}
-use Rattle.tape_label.specs.declared.values.Trail1.{Trail1}
-use Rattle.tape_label.specs.Kinds.{kind_at}
-use Rattle.tape_label.specs.VolumeLabels.{is_volume_label}
+use Rattle.tape_label.specs.{Kinds.kind_at, VolumeLabels.is_volume_label}
 use Rattle.tape_label.specs.Reading.{vol1_at, head1_at, trail1_at}
-use Rattle.tape_run.specs.declared.met.Met.{Met}
-use Rattle.tape_run.specs.declared.passing.Phase.{Phase}
+use Rattle.tape_run.specs.declared.section.{ImageStop.ImageStop, ImageLine.ImageLine}
+use Rattle.tape_run.specs.declared.section.ImageStop.TheVariants.{Fault}
+use Rattle.tape_run.specs.declared.{met.Met.Met, passing.Phase.Phase}
 use Rattle.tape_run.specs.declared.passing.Phase.TheVariants.{Volume, Labels, Second, Headers, Data}
 use Rattle.tape_run.specs.declared.passing.Phase.TheVariants.{Trailer, Trailers, Next, Over}
-use Rattle.tape_run.specs.declared.section.ImageStop.{ImageStop}
-use Rattle.tape_run.specs.declared.section.ImageStop.TheVariants.{Fault}
-use Rattle.tape_run.specs.declared.section.ImageLine.{ImageLine}
 use Rattle.tape_run.specs.Passing.{Told, step, in_list, phase_after, told_from, under_way, met_in}
 use Rattle.tape_run.specs.Passing.{blocks_of, volume_with, header_with, second_with, told_with}
 use Rattle.tape_run.specs.Passing.{closes}
@@ -47,8 +37,7 @@ pub record SoFar (all left : Option (List ℕ)) (place count : ℕ) (old : List 
   pub noted : new ≡ noted_all old (told_from Volume items)
 
 abbrev pub starts : (all left : Option (List ℕ)) (place : ℕ) (old : List Told) → place ≡ 0
-    → left ≡ all
-    → SoFar all left place 0 old Volume old
+    → left ≡ all → SoFar all left place 0 old Volume old
 starts all left place old first same =
     let P : ℕ → Type 0 = λ p. IfKnown all left (λ xs ys. Walks 0 xs [] p ys) in
     record {
@@ -137,11 +126,10 @@ pub at_end : (all left next : Option (List ℕ)) (p q count : ℕ) (ending : End
     → line.items ≡ count → line.stop ≡ stop_at ending
     → Adds all next old line new
 at_end all left next p q count ending old phase mid new line s takes notes counted stop =
-    adds all next old s.items line new (counted ∙ sym s.counted)
-    (subst (λ (r : ImageStop). IfKnown all next (StopsBehind s.items r)) (sym stop)
-    (IfKnown-map all next (TakesEnd 0 s.items ending q) (StopsBehind s.items (stop_at ending))
-    (by_ending s.items ending q) (known_end all left next 0 p q s.items ending s.known takes)))
-    (all_noted all left p count old phase mid new s notes)
+    adds all next _ _ line _ (counted ∙ sym s.counted) (subst
+    (λ (r : ImageStop). IfKnown all next (StopsBehind s.items r)) (sym stop) (IfKnown-map _ _ _
+    (StopsBehind s.items (stop_at ending)) (by_ending s.items ending q)
+    (known_end _ _ _ _ _ _ _ _ s.known takes))) (all_noted all left p count old _ _ _ s notes)
 
 pub at_fault : (all left next : Option (List ℕ)) (p count : ℕ) (fault : ImageFault)
     (old : List Told) (phase : Phase) (mid new : List Told) (line : ImageLine)
@@ -150,10 +138,9 @@ pub at_fault : (all left next : Option (List ℕ)) (p count : ℕ) (fault : Imag
     → line.items ≡ count → line.stop ≡ Fault fault
     → Adds all next old line new
 at_fault all left next p count fault old phase mid new line s takes notes counted stop =
-    adds all next old s.items line new (counted ∙ sym s.counted)
-    (subst (λ (r : ImageStop). IfKnown all next (StopsBehind s.items r)) (sym stop)
-    (known_fault all left next 0 p s.items fault s.known takes))
-    (all_noted all left p count old phase mid new s notes)
+    adds all next _ _ line _ (counted ∙ sym s.counted) (subst
+    (λ (r : ImageStop). IfKnown all next (StopsBehind s.items r)) (sym stop)
+    (known_fault _ _ _ _ _ _ _ s.known takes)) (all_noted all left p count old _ _ _ s notes)
 
 front_of : (all left : Option (List ℕ)) (P : List ℕ → List ℕ → Type 0)
     → IfSome all (λ xs. (ys : List ℕ) × (left ≡ Some ys) × P xs ys)

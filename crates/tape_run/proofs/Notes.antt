@@ -1,13 +1,10 @@
 -- The checkpoints of a session are valid for prefixes of its parts, each at least as long as the
 -- one before.
 use Rattle.std.proofs.Common.{◌≡◌, ℕ, zero, suc, ◌+◌, ◌≤◌, List, [], ◌∷◌, ◌++◌, length, take, Some}
-use Rattle.std.proofs.Common.{refl, sym, ap, subst, ◌∙◌, arith, append_assoc, append-nil}
-use Rattle.std.specs.List.{slice_get}
+use Rattle.std.proofs.Common.{refl, sym, ap, subst, ◌∙◌, arith, append_assoc, append-nil, slice_get}
 use Rattle.tape_blocks.specs.Block.{Portion}
 use Rattle.tape_set.specs.Layout.{FileSet}
-use Rattle.tape_core.specs.Point.{Point}
-use Rattle.tape_core.specs.Stands.{Stands, weight_of}
-use Rattle.tape_core.specs.Weight.{IsFront}
+use Rattle.tape_core.specs.{Point.Point, Stands.Stands, Stands.weight_of, Weight.IsFront}
 use Rattle.tape_run.specs.Seen.{AreNotes}
 
 pub front_self : (xs : List Portion) → IsFront xs xs

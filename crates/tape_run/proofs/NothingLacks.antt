@@ -1,12 +1,10 @@
 -- For complete copies of a valid set's volumes nothing of the set is missing from the catalogue.
 use Rattle.std.proofs.Common.{◌≡◌, ℕ, zero, suc, ◌+◌, ◌≤◌, Bool, true, false, List, [], ◌∷◌, length}
-use Rattle.std.proofs.Common.{Option, Some, None, refl, sym, ap, ◌∙◌, arith}
-use Rattle.std.specs.Prelude.{⊤, if◌then◌else◌, ◌&&◌, not}
-use Rattle.std.specs.List.{AllByRecursion}
-use Rattle.tape_set.specs.Layout.{Section, ends_file}
-use Rattle.tape_set.specs.Lawful.{Ends}
-use Rattle.tape_run.specs.declared.section.SectionKey.{SectionKey}
-use Rattle.tape_run.specs.declared.section.SectionState.{SectionState}
+use Rattle.std.proofs.Common.{Option, Some, None, refl, sym, ap, ◌∙◌, arith, if◌then◌else◌, ◌&&◌}
+use Rattle.std.proofs.Common.{not}
+use Rattle.std.specs.{Prelude.⊤, List.AllByRecursion}
+use Rattle.tape_set.specs.{Layout.Section, Layout.ends_file, Lawful.Ends}
+use Rattle.tape_run.specs.declared.section.{SectionKey.SectionKey, SectionState.SectionState}
 use Rattle.tape_run.specs.declared.section.Entry.{Entry}
 use Rattle.tape_run.specs.Passing.{Told}
 use Rattle.tape_run.specs.Noted.{same_key, is_good, better, noted, noted_all}
@@ -74,9 +72,8 @@ end_is : (c : List Told) (key : SectionKey) (eof : Bool) → GoodAs c key eof
     → good_end (entry_at c key) ≡ Some eof
 end_is c key eof g =
     let e = g.good.entry in
-    ap good_end g.good.there
-    ∙ ap (λ (s : SectionState). if is_good s then Some e.eof else None) g.good.good
-    ∙ ap (λ (b : Bool). Some b) (found_kind c key eof e g.kind g.good.there)
+    ap good_end g.good.there ∙ ap (λ (s : SectionState). if is_good s then Some e.eof else None)
+    g.good.good ∙ ap (λ (b : Bool). Some b) (found_kind _ _ _ _ g.kind g.good.there)
 
 -- the sections of a file, numbered from sect, are good, each with the kind of its own trailer
 abbrev pub FileGood : List Told → List ℕ → ℕ → ℕ → List Section → Type 0

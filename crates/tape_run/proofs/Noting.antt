@@ -1,13 +1,9 @@
 -- Whether the last checkpoint has the session's position.
-use Rattle.std.proofs.Common.{◌≡◌, Bool, true, false, ◌+◌, ◌-◌, ◌<◌, List, [], ◌∷◌, length}
-use Rattle.std.proofs.Common.{Some, refl, sym, ap, ◌∙◌, arith}
+use Rattle.std.proofs.Common.{◌≡◌, Bool, true, false, ◌+◌, ◌-◌, ◌<◌, List, [], ◌∷◌, length, Some}
+use Rattle.std.proofs.Common.{refl, sym, ap, ◌∙◌, arith, slice_get}
 use Rattle.std.specs.Bool.{OnTrue, OnFalse}
-use Rattle.std.specs.List.{slice_get}
-use Rattle.tape_core.specs.Point.{Point}
-use Rattle.tape_core.specs.Stands.{weight_of}
-use Rattle.tape_core.specs.Table.{saved}
-use Rattle.tape_run.specs.Reeling.{HasNotedHere}
-use Rattle.tape_run.specs.Seen.{Seen}
+use Rattle.tape_core.specs.{Point.Point, Stands.weight_of, Table.saved}
+use Rattle.tape_run.specs.{Reeling.HasNotedHere, Seen.Seen}
 use Rattle.tape_run.proofs.Notes.{front_self}
 
 -- the last checkpoint has the session's position
@@ -21,9 +17,8 @@ noted_here s c some last is = (
 )
 
 -- and if its position is different, it does not
-pub noted_elsewhere : (s : Seen) (c : Point)
-    → slice_get s.notes (length s.notes - 1) ≡ Some c → (c ≡ saved s.place (weight_of s.parts) → ⊥)
-    → HasNotedHere s → ⊥
+pub noted_elsewhere : (s : Seen) (c : Point) → slice_get s.notes (length s.notes - 1) ≡ Some c
+    → (c ≡ saved s.place (weight_of s.parts) → ⊥) → HasNotedHere s → ⊥
 noted_elsewhere s c last other (n, count, (is, front, weighs)) =
     let at : n ≡ length s.notes - 1 = omega (arith, count) in
     let same : Some c ≡ Some (saved s.place (weight_of s.parts)) =

@@ -1,9 +1,8 @@
 -- A sink that writes parts as they come: one more part, a part that could not be written, a cut to
 -- all parts.
-use Rattle.std.proofs.Common.{◌≡◌, ℕ, ◌+◌, Bool, true, false, List, [], ◌∷◌, ◌++◌, length}
-use Rattle.std.proofs.Common.{Option, Some, None, refl, sym, ap, subst, ◌∙◌, arith, append_assoc}
-use Rattle.std.proofs.Common.{append-nil, length-append}
-use Rattle.std.specs.Prelude.{if◌then◌else◌, is_some}
+use Rattle.std.proofs.Common.{◌≡◌, ℕ, ◌+◌, Bool, true, false, List, [], ◌∷◌, ◌++◌, length, Option}
+use Rattle.std.proofs.Common.{Some, None, refl, sym, ap, subst, ◌∙◌, arith, append_assoc}
+use Rattle.std.proofs.Common.{append-nil, length-append, if◌then◌else◌, is_some}
 use Rattle.std.specs.Io.KnownBytes.{Appends}
 use Rattle.tape_blocks.specs.Block.{Portion}
 use Rattle.tape_blocks.specs.Spans.{leaves, join, content_after, Joined}
@@ -49,10 +48,8 @@ grows_ended form records front bytes =
     let t = records_text form records in
     let e = record_end form in
     append-nil (records_text form (records ++ c ∷ []))
-    ∙ records_text-append form records (c ∷ [])
-    ∙ ap (λ x. t ++ x) (append-nil (c ++ e))
-    ∙ ap (λ x. t ++ (x ++ e)) (content_is front bytes)
-    ∙ regroup t (begun_text front) bytes e
+    ∙ records_text-append form records (c ∷ []) ∙ ap (λ x. t ++ x) (append-nil (c ++ e))
+    ∙ ap (λ x. t ++ (x ++ e)) (content_is front bytes) ∙ regroup t (begun_text front) bytes e
 
 grows_begun : (form : Form) (records : List (List ℕ)) (front : Option (List ℕ)) (bytes : List ℕ)
     → text_of form (record { records = records; rest = Some (content_after front bytes) })

@@ -2,9 +2,9 @@
 use Rattle.std.proofs.Common.{◌≡◌, ◌≢◌, ◌⊎◌, inl, inr, ℕ, ◌+◌, ◌*◌, ◌-◌, ◌<◌, ◌≤◌, List, [], ◌∷◌}
 use Rattle.std.proofs.Common.{◌++◌, length, drop, refl, sym, ap, subst, ◌∙◌, arith, append_assoc}
 use Rattle.std.proofs.Common.{length-append, mul-le-mul_right, add-mul, one-mul, Bool, true, false}
+use Rattle.std.proofs.Common.{◌==◌}
 use Rattle.std.proofs.lemmas.List.{drop-append-le, length-drop}
 use Rattle.std.proofs.Math.Seq.{drop-append_seam}
-use Rattle.std.specs.Prelude.{◌==◌}
 use Rattle.tape_run.specs.UnpackChoice.{Fits}
 
 -- no character is a star
@@ -66,23 +66,21 @@ plain_first (c ∷ cs) left word (n, ns) (piece, rest, e, r, f) =
 first_or_later : (others rest : List ℕ) → Fits (42 ∷ others) rest
     → Fits others rest ⊎ Later others rest
 first_or_later others rest ([], more, e, r, f) = inl (subst (Fits others) (sym e) f)
-first_or_later others rest (c ∷ cs, more, e, r, f) =
-    inr (c ∷ cs, more, e, omega arith, f)
+first_or_later others rest (c ∷ cs, more, e, r, f) = inr (c ∷ cs, more, e, omega arith, f)
 
 -- If a later part of the word fits the pattern after an earlier star, a later part fits the pattern
 -- after this star.
 still_later : (after from others rest : List ℕ) → Passed after from (42 ∷ others) rest
     → Later after from → Later others rest
 still_later after from others rest (same, a, b, plain) (piece, more, e, some, f) =
-    let (r2, e2, f2) = plain_first same (42 ∷ others) more plain (subst (λ x. Fits x more) a f) in
+    let (r2, e2, f2) = plain_first _ (42 ∷ others) more plain (subst (λ x. Fits x more) a f) in
     let (p2, r3, e3, r, f3) = f2 in
-    let all : same ++ rest ≡ (piece ++ same) ++ (p2 ++ r3)
-    = sym b ∙ e ∙ ap (λ x. piece ++ x) (e2 ∙ ap (λ x. same ++ x) e3)
-    ∙ sym (append_assoc piece same (p2 ++ r3)) in
+    let all : same ++ rest ≡ (piece ++ same) ++ (p2 ++ r3) = sym b ∙ e ∙ ap (λ x. piece ++ x)
+    (e2 ∙ ap (λ x. same ++ x) e3) ∙ sym (append_assoc piece same (p2 ++ r3)) in
     let n : length same ≤ length (piece ++ same) = omega (arith, length-append piece same) in
-    let cut : rest ≡ drop (length same) (piece ++ same) ++ (p2 ++ r3)
-    = sym (drop-append_seam same rest) ∙ ap (drop (length same)) all
-    ∙ drop-append-le (length same) (piece ++ same) (p2 ++ r3) n in
+    let cut : rest ≡ drop (length same) (piece ++ same) ++ (p2 ++ r3) = sym
+    (drop-append_seam same rest) ∙ ap (drop (length same)) all ∙ drop-append-le (length same)
+    (piece ++ same) (p2 ++ r3) n in
     let x = drop (length same) (piece ++ same) in
     let l : 1 ≤ length (x ++ p2) = omega (
       arith,
@@ -94,8 +92,7 @@ still_later after from others rest (same, a, b, plain) (piece, more, e, some, f)
     (x ++ p2, r3, cut ∙ sym (append_assoc x p2 r3), l, f3)
 
 either_later : (after from others rest : List ℕ)
-    → (from ≡ []) ⊎ Passed after from (42 ∷ others) rest
-    → Later after from → Later others rest
+    → (from ≡ []) ⊎ Passed after from (42 ∷ others) rest → Later after from → Later others rest
 either_later after from others rest (inl none) l = absurd (never_later after from none l)
 either_later after from others rest (inr passed) l = still_later after from others rest passed l
 
@@ -124,8 +121,7 @@ tried_star pattern word after from left others rest is t =
 
 -- ---- a character
 
-of_plain : (c : ℕ) (others rest : List ℕ) → c ≢ 42 → Fits (c ∷ others) (c ∷ rest)
-    → Fits others rest
+of_plain : (c : ℕ) (others rest : List ℕ) → c ≢ 42 → Fits (c ∷ others) (c ∷ rest) → Fits others rest
 of_plain c others rest n (piece, more, e, r, f) =
     let is : c ∷ rest ≡ c ∷ more = e ∙ ap (λ x. x ++ more) (r n) in
     subst (Fits others) (sym (ap (drop 1) is)) f
@@ -243,8 +239,7 @@ smaller_star pattern word after from left others rest is t =
       lower (length rest) (length word + 1) p (length others) 0 (omega (arith, t.rest_len))
           (omega (arith, less, t.after_len)),
     ) in
-    let l = lower (length others) (length after) ((length word + 1) * p + 1)
-    (length rest * p + length others) (length from * p + length left) less few in l
+    let l = lower _ _ _ _ (length from * p + length left) less few in l
 
 pub some_left : (b : Bool) (xs : List ℕ) → b ≡ (length xs == 0) → b ≡ false → xs ≢ []
 some_left b xs e f none =

@@ -1,36 +1,25 @@
 -- Positions inside a block.
 use Rattle.std.proofs.Common.{◌≡◌, ◌≢◌, ℕ, zero, suc, ◌-◌, ◌<◌, ◌≤◌, ◌==◌, Bool, true, false}
 use Rattle.std.proofs.Common.{if◌then◌else◌, List, [], ◌∷◌, ◌++◌, length, take, drop, Option, Some}
-use Rattle.std.proofs.Common.{None, refl, sym, ap, subst, ◌∙◌, arith, append-nil}
-use Rattle.std.proofs.lemmas.Bool.Decides.{nat_tests}
-use Rattle.std.proofs.Math.Seq.{take-nil}
-use Rattle.std.specs.Prelude.{Result, Ok, Err, OnOk}
+use Rattle.std.proofs.Common.{None, refl, sym, ap, subst, ◌∙◌, arith, append-nil, Result, Ok, Err}
+use Rattle.std.proofs.Common.{OnOk}
+use Rattle.std.proofs.{lemmas.Bool.Decides.nat_tests, Math.Seq.take-nil}
 use Rattle.tape_blocks.specs.declared.parts.Shape.{Shape}
-use Rattle.tape_blocks.specs.Block.{Portion, Holds}
-use Rattle.tape_blocks.specs.Judged.{begun_behind}
+use Rattle.tape_blocks.specs.{Block.Portion, Block.Holds, Judged.begun_behind}
 use Rattle.tape_blocks.proofs.JoinLaws.{one_list}
 use Rattle.tape_image.specs.Tape.{TapeItem, block}
 use Rattle.tape_set.specs.declared.position.Position.{Position}
 use Rattle.tape_set.specs.declared.position.Position.TheVariants.{Awaits, Finished}
 use Rattle.tape_set.specs.Position.{at_part, part_of}
-use Rattle.tape_set.specs.Layout.{FileSet}
-use Rattle.tape_set.specs.Lawful.{FileForm}
-use Rattle.tape_set.specs.Before.{before}
-use Rattle.tape_core.specs.declared.event.Answer.{Answer}
+use Rattle.tape_set.specs.{Layout.FileSet, Lawful.FileForm, Before.before}
+use Rattle.tape_core.specs.declared.event.{Answer.Answer, Event.Event, Phase.TheVariants.Over}
 use Rattle.tape_core.specs.declared.event.Answer.TheVariants.{Passed, Deliver, SectionDone}
 use Rattle.tape_core.specs.declared.event.Answer.TheVariants.{Complete, Useless}
-use Rattle.tape_core.specs.Arrive.{arrival}
-use Rattle.tape_core.specs.declared.event.Event.{Event}
-use Rattle.tape_core.specs.declared.event.Phase.TheVariants.{Over}
+use Rattle.tape_core.specs.{Arrive.arrival, Point.Point, State.State, Table.saved, Table.Shows}
+use Rattle.tape_core.specs.{Stands.weight_of, Stands.inside_block, Place.place_of, Place.IsPlaced}
 use Rattle.tape_core.specs.declared.event.Event.TheVariants.{Block, Bad, Mark, ReelEnd}
-use Rattle.tape_core.specs.Point.{Point}
-use Rattle.tape_core.specs.State.{State}
-use Rattle.tape_core.specs.Table.{saved, Shows}
 use Rattle.tape_core.specs.Follows.{IsAt, Delivers, Gives}
-use Rattle.tape_core.specs.Stands.{weight_of, inside_block}
-use Rattle.tape_core.specs.Place.{place_of, IsPlaced}
-use Rattle.tape_core.proofs.Standing.{stood}
-use Rattle.tape_core.proofs.PartPoints.{part_stands}
+use Rattle.tape_core.proofs.{Standing.stood, PartPoints.part_stands}
 use Rattle.tape_run.specs.Puts.{refused_point}
 
 -- ---- the position of a refused part
@@ -129,8 +118,7 @@ stands_first old new n begun first =
 -- and after it the block determines its state
 pub stands_behind : (old new : State) (n : ℕ) (begun : Bool) → part_of old.position < n
     → ((place_of (refused_point (saved old 0) (saved new 0) n begun)).known ≡ new.known)
-    × (begun ≡ false
-    → (place_of (refused_point (saved old 0) (saved new 0) n begun)).begun ≡ false)
+    × (begun ≡ false → (place_of (refused_point (saved old 0) (saved new 0) n begun)).begun ≡ false)
 stands_behind old new n begun behind =
     pick_place (n == part_of old.position) (saved old 0)
     (inside_block (saved new 0) old.position n begun 0)

@@ -1,12 +1,10 @@
 -- Names as they are printed: no character is hidden, and different names are printed differently.
-use Rattle.std.proofs.Common.{◌≡◌, ◌≢◌, ℕ, ◌+◌, ◌*◌, ◌/◌, ◌%◌, ◌<◌, Bool, true, false}
-use Rattle.std.proofs.Common.{List, [], ◌∷◌, ◌++◌, refl, sym, ap, subst, ◌∙◌, arith}
-use Rattle.std.proofs.Common.{chars, encode_utf8_all, length}
-use Rattle.std.specs.Prelude.{◌==◌, ◌&&◌, if◌then◌else◌}
-use Rattle.std.specs.List.{AllByRecursion, flat_map}
+use Rattle.std.proofs.Common.{◌≡◌, ◌≢◌, ℕ, ◌+◌, ◌*◌, ◌/◌, ◌%◌, ◌<◌, Bool, true, false, List, []}
+use Rattle.std.proofs.Common.{◌∷◌, ◌++◌, refl, sym, ap, subst, ◌∙◌, arith, chars, encode_utf8_all}
+use Rattle.std.proofs.Common.{length, ◌==◌, ◌&&◌, if◌then◌else◌, flat_map}
+use Rattle.std.specs.List.{AllByRecursion}
 use Rattle.std.proofs.Math.Utf8.{scalar, scalars, low_scalar}
-use Rattle.std.proofs.lemmas.Bool.{and_parts}
-use Rattle.std.proofs.lemmas.Bool.Decides.{nat_tests}
+use Rattle.std.proofs.lemmas.{Bool.and_parts, Bool.Decides.nat_tests}
 use Rattle.std.proofs.lemmas.Nat.{div-add-mod', mod_below, div_below}
 use Rattle.std.proofs.lemmas.Str.{encodes-chars, chars-encodes, encodes_same, scalars-chars}
 use Rattle.tape_run.specs.Quoting.{hex, is_hidden, quoted}
@@ -70,16 +68,13 @@ all_show : (cs : List ℕ) → scalars cs ≡ true → AllByRecursion Shows (fla
 all_show [] s = tt
 all_show (c ∷ cs) s =
     let parts = and_parts _ _ s in
-    all_more Shows (quoted c) (flat_map quoted cs)
-    (kind_shows c parts.0 (c == 92) (is_hidden c) refl refl) (all_show cs parts.1)
+    all_more _ _ _ (kind_shows _ parts.0 (c == 92) (is_hidden c) refl refl) (all_show cs parts.1)
 
 are_scalars : (cs : List ℕ) → AllByRecursion Shows cs → scalars cs ≡ true
 are_scalars [] all = refl
-are_scalars (c ∷ cs) ((_, one), all) =
-    ap (λ b. b && scalars cs) one ∙ are_scalars cs all
+are_scalars (c ∷ cs) ((_, one), all) = ap (λ b. b && scalars cs) one ∙ are_scalars cs all
 
-none_hidden : (cs : List ℕ) → AllByRecursion Shows cs
-    → AllByRecursion (λ c. is_hidden c ≡ false) cs
+none_hidden : (cs : List ℕ) → AllByRecursion Shows cs → AllByRecursion (λ c. is_hidden c ≡ false) cs
 none_hidden [] all = tt
 none_hidden (c ∷ cs) ((one, _), all) = (one, none_hidden cs all)
 
@@ -94,9 +89,8 @@ names_show name is =
 
 by_digit : (a b : ℕ) → a / 16 ≡ b / 16 → hex (a % 16) ≡ hex (b % 16) → a ≡ b
 by_digit a b front digit =
-    sym (div-add-mod' a 16) ∙ ap (λ h. h * 16 + a % 16) front
-    ∙ ap (λ l. b / 16 * 16 + l) (hex_one (a % 16) (b % 16) (low a) (low b) digit)
-    ∙ div-add-mod' b 16
+    sym (div-add-mod' a 16) ∙ ap (λ h. h * 16 + a % 16) front ∙ ap (λ l. b / 16 * 16 + l)
+    (hex_one _ _ (low a) (low b) digit) ∙ div-add-mod' b 16
 
 -- two hidden characters
 split_hidden : (a b : ℕ) (xs ys : List ℕ) → is_hidden a ≡ true → is_hidden b ≡ true
@@ -106,11 +100,10 @@ split_hidden a b xs ys ha hb e =
     let second = tails _ _ _ _ first in
     let third = tails _ _ _ _ second in
     let fourth = tails _ _ _ _ third in
-    let top = hex_one (a / 16 / 16 / 16) (b / 16 / 16 / 16) (high a ha) (high b hb)
-    (heads _ _ _ _ first) in
-    let upper = by_digit (a / 16 / 16) (b / 16 / 16) top (heads _ _ _ _ second) in
-    let lower = by_digit (a / 16) (b / 16) upper (heads _ _ _ _ third) in record {
-      same = by_digit a b lower (heads _ _ _ _ fourth);
+    let top = hex_one _ _ (high _ ha) (high _ hb) (heads _ _ _ _ first) in
+    let upper = by_digit _ _ top (heads _ _ _ _ second) in
+    let lower = by_digit _ _ upper (heads _ _ _ _ third) in record {
+      same = by_digit _ _ lower (heads _ _ _ _ fourth);
       rest = tails _ _ _ _ fourth;
     }
 
@@ -140,8 +133,7 @@ split_by a b xs ys false false false false pa pb ha hb e = record {
 }
 
 split_one : (a b : ℕ) (xs ys : List ℕ) → quoted a ++ xs ≡ quoted b ++ ys → Split a b xs ys
-split_one a b xs ys e =
-    split_by a b xs ys (a == 92) (b == 92) (is_hidden a) (is_hidden b) refl refl refl refl e
+split_one a b xs ys e = split_by _ _ _ _ _ _ _ _ refl refl refl refl e
 
 -- the text of a character is not empty
 some_by : (c : ℕ) (xs : List ℕ) (back hidden : Bool) → by_kind back hidden c ++ xs ≢ []
@@ -151,8 +143,7 @@ some_by c xs false false e = absurd (omega (arith, ap length e))
 
 same_names : (cs ds : List ℕ) → flat_map quoted cs ≡ flat_map quoted ds → cs ≡ ds
 same_names [] [] e = refl
-same_names [] (d ∷ ds) e =
-    absurd (some_by d (flat_map quoted ds) (d == 92) (is_hidden d) (sym e))
+same_names [] (d ∷ ds) e = absurd (some_by d (flat_map quoted ds) (d == 92) (is_hidden d) (sym e))
 same_names (c ∷ cs) [] e = absurd (some_by c (flat_map quoted cs) (c == 92) (is_hidden c) e)
 same_names (c ∷ cs) (d ∷ ds) e =
     let one = split_one c d (flat_map quoted cs) (flat_map quoted ds) e in
@@ -169,18 +160,15 @@ names_tell_apart a b ua ub e =
 kept_by : (c : ℕ) → (back hidden : Bool) → (c == 92) ≡ back → is_hidden c ≡ hidden
     → is_hidden c ≡ false → c ≢ 92 → by_kind back hidden c ≡ c ∷ []
 kept_by c true hidden b h shown other = absurd (other (grind (arith, nat_tests)))
-kept_by c false true b h shown other =
-    absurd (let e : true ≡ false = sym h ∙ shown in cc e)
+kept_by c false true b h shown other = absurd (let e : true ≡ false = sym h ∙ shown in cc e)
 kept_by c false false b h shown other = refl
 
 all_kept : (cs : List ℕ) → AllByRecursion (λ c. (is_hidden c ≡ false) × (c ≢ 92)) cs
     → flat_map quoted cs ≡ cs
 all_kept [] all = refl
 all_kept (c ∷ cs) ((shown, other), all) =
-    ap (λ l. l ++ flat_map quoted cs)
-    (kept_by c (c == 92) (is_hidden c) refl refl shown other)
-    ∙ ap (λ l. c ∷ l) (all_kept cs all)
+    ap (λ l. l ++ flat_map quoted cs) (kept_by _ (c == 92) (is_hidden c) refl refl shown other) ∙ ap
+    (λ l. c ∷ l) (all_kept cs all)
 
 pub names_keep : NamesKeep
-names_keep name is all =
-    ap encode_utf8_all (all_kept (chars name) all) ∙ encodes-chars name is
+names_keep name is all = ap encode_utf8_all (all_kept _ all) ∙ encodes-chars name is

@@ -1,17 +1,13 @@
 -- The order in which the images of a file are read.
 use Rattle.std.proofs.Common.{◌≡◌, ◌≢◌, ◌⊎◌, ◌<◌, ◌||◌, ◌==◌, ℕ, Bool, true, false, List, [], ◌∷◌}
-use Rattle.std.proofs.Common.{◌++◌}
-use Rattle.std.proofs.Common.{length, refl, sym, ◌∙◌, arith, inl, inr}
-use Rattle.std.specs.Prelude.{get_or}
-use Rattle.std.proofs.Math.ListN.{set}
+use Rattle.std.proofs.Common.{◌++◌, length, refl, sym, ◌∙◌, arith, inl, inr, get_or}
+use Rattle.std.proofs.{Math.ListN.set, lemmas.Bool.Decides.nat_tests}
 use Rattle.std.proofs.lemmas.List.{length-set, get_or-set_same, get_or-set_other}
-use Rattle.std.proofs.lemmas.Bool.Decides.{nat_tests}
 use Rattle.tape_run.specs.ReadingOrder.{is_in, with_image, followed_by}
 
 pub is_in_more : (n m : ℕ) (ms : List ℕ) → is_in n (ms ++ m ∷ []) ≡ (is_in n ms || (m == n))
 is_in_more n m [] = grind (arith, nat_tests)
-is_in_more n m (k ∷ ms) =
-    let more = is_in_more n m ms in grind (arith, nat_tests, more)
+is_in_more n m (k ∷ ms) = let more = is_in_more n m ms in grind (arith, nat_tests, more)
 
 -- an image that was added is marked as taken
 pub marked : (taken : List Bool) (numbers : List ℕ) (number : ℕ)

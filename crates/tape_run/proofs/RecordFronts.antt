@@ -1,18 +1,13 @@
 -- The parts before the first one that leaves its record unfinished, found during a walk.
-use Rattle.std.proofs.Common.{Ok, ◌≡◌, ℕ, ◌+◌, ◌-◌, ◌<◌, ◌≤◌, Bool, true, false}
-use Rattle.std.proofs.Common.{List, [], ◌∷◌, ◌++◌, length, Option, Some, None, refl}
-use Rattle.std.proofs.Common.{sym, ap, subst, ◌∙◌, arith, append_assoc, append-nil}
-use Rattle.std.proofs.Common.{drop, length-append}
-use Rattle.std.specs.Prelude.{if◌then◌else◌}
+use Rattle.std.proofs.Common.{Ok, ◌≡◌, ℕ, ◌+◌, ◌-◌, ◌<◌, ◌≤◌, Bool, true, false, List, [], ◌∷◌}
+use Rattle.std.proofs.Common.{◌++◌, length, Option, Some, None, refl, sym, ap, subst, ◌∙◌, arith}
+use Rattle.std.proofs.Common.{append_assoc, append-nil, drop, length-append, if◌then◌else◌}
 use Rattle.std.specs.Io.KnownBytes.{Appends}
 use Rattle.std.proofs.KnownBytes.{Appends-nil, Appends-trans}
-use Rattle.tape_blocks.specs.Block.{Portion}
-use Rattle.tape_blocks.specs.Parts.{view}
+use Rattle.tape_blocks.specs.{Block.Portion, Parts.view}
 use Rattle.tape_blocks.specs.Spans.{leaves, with_record, join_after, join}
-use Rattle.tape_blocks.specs.declared.parts.Form.{Form}
-use Rattle.tape_blocks.specs.declared.parts.Part.{Part}
-use Rattle.tape_core.specs.Walks.{GivesPart}
-use Rattle.tape_core.specs.Stands.{weight_of}
+use Rattle.tape_blocks.specs.declared.parts.{Form.Form, Part.Part}
+use Rattle.tape_core.specs.{Walks.GivesPart, Stands.weight_of}
 use Rattle.tape_image.specs.Written.{AppendsFront}
 use Rattle.tape_run.specs.RecordText.{record_end, records_text, output_of, part_text}
 use Rattle.tape_run.specs.RecordFront.{EachEnds, WritesFront}
@@ -32,10 +27,9 @@ pub front_text : (form : Form) (first rest : List Portion) → EachEnds first
     → output_of form (first ++ rest) ≡ output_of form first ++ output_of form rest
 front_text form [] rest each = refl
 front_text form (p ∷ ps) rest (e, each) =
-    one_text form p (ps ++ rest) e
-    ∙ ap (λ t. part_text form p ++ t) (front_text form ps rest each)
-    ∙ sym (append_assoc (part_text form p) (output_of form ps) (output_of form rest))
-    ∙ ap (λ t. t ++ output_of form rest) (sym (one_text form p ps e))
+    one_text form _ (ps ++ rest) e ∙ ap (λ t. part_text form p ++ t) (front_text form ps rest each)
+    ∙ sym (append_assoc (part_text form p) (output_of form ps) (output_of form rest)) ∙ ap
+    (λ t. t ++ output_of form rest) (sym (one_text form _ ps e))
 
 front_ends : (first rest : List Portion) → EachEnds first
     → ends (first ++ rest) ≡ length first + ends rest
@@ -128,12 +122,10 @@ pub front_failed : (form : Form) (ahead after : List Portion → Type 0) (count 
 front_failed form ahead after count old mid new parts part f gives e wrote =
     let (rest, is, there) = gives f.rest f.is_ahead in
     let p = view part in
-    subst (AppendsFront old new)
-    (sym (ap (output_of form) (f.are ∙ ap (λ t. f.first ++ t) is)
-    ∙ front_text form f.first (p ∷ rest) f.each
-    ∙ ap (λ t. output_of form f.first ++ t) (one_text form p rest e)))
-    (front_behind old mid new (output_of form f.first) (part_text form p ++ output_of form rest)
-    f.wrote (front_more mid new (part_text form p) (output_of form rest) wrote))
+    subst (AppendsFront old new) (sym (ap (output_of form) (f.are ∙ ap (λ t. f.first ++ t) is)
+    ∙ front_text form _ (p ∷ rest) f.each ∙ ap (λ t. output_of form f.first ++ t)
+    (one_text form _ rest e))) (front_behind _ _ _ _ _ f.wrote
+    (front_more _ _ _ (output_of form rest) wrote))
 
 -- the walk was refused
 pub front_refused : (form : Form) (ahead : List Portion → Type 0) (count : ℕ)
@@ -170,8 +162,7 @@ pub rest_written : (form : Form) (count records : ℕ) (all : Bool) (old mid new
     → (records ≡ length (join parts).records) × Appends old new (output_of form parts)
 rest_written form count records all old mid new parts f (counted, wrote) = (
   counted ∙ ap (λ ps. length (join ps).records) (sym f.are),
-  subst (Appends old new) (sym (front_text form f.first f.rest f.each)
-      ∙ ap (output_of form) (sym f.are))
+  subst (Appends old new) (sym (front_text form _ f.rest f.each) ∙ ap (output_of form) (sym f.are))
       (Appends-trans old mid new (output_of form f.first) (output_of form f.rest) f.wrote wrote),
 )
 
@@ -179,9 +170,8 @@ pub rest_failed : (form : Form) (count : ℕ) (all : Bool) (old mid new : Option
     (parts : List Portion) (f : WritesFront form count all old mid parts)
     → AppendsFront mid new (output_of form f.rest) → AppendsFront old new (output_of form parts)
 rest_failed form count all old mid new parts f wrote =
-    subst (AppendsFront old new) (sym (front_text form f.first f.rest f.each)
-    ∙ ap (output_of form) (sym f.are))
-    (front_behind old mid new (output_of form f.first) (output_of form f.rest) f.wrote wrote)
+    subst (AppendsFront old new) (sym (front_text form _ f.rest f.each) ∙ ap (output_of form)
+    (sym f.are)) (front_behind _ _ _ _ _ f.wrote wrote)
 
 -- ---- a walk that skips the parts
 
@@ -208,5 +198,4 @@ pub pass_goes_on : (ahead after : List Portion → Type 0) (left next : ℕ) (re
     (given : Option Part) → Passes ahead left rest → 0 < left → next ≡ left - 1
     → ((xs : List Portion) → ahead xs → GivesPart (Ok given) xs after) → Passes after next rest
 pass_goes_on ahead after left next rest given p some e gives =
-    passed ahead after left next rest given p.before p.counted some e (gives (p.before ++ rest)
-    p.is_ahead)
+    passed ahead _ _ _ _ _ _ p.counted some e (gives (p.before ++ rest) p.is_ahead)

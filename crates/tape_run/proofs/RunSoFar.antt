@@ -1,23 +1,18 @@
 -- A run, up to a step.
-use Rattle.std.proofs.Common.{◌≡◌, ℕ, ◌+◌, ◌≤◌, Bool, true, false, List, [], ◌∷◌, ◌++◌, length}
-use Rattle.std.proofs.Common.{map, take, drop, Option, refl, sym, ap, subst, ◌∙◌, arith}
-use Rattle.std.proofs.lemmas.List.{drop_all, drop-drop, map-append, take-append-drop}
-use Rattle.std.proofs.lemmas.List.{append_assoc}
+use Rattle.std.proofs.Common.{◌≡◌, ℕ, ◌+◌, ◌≤◌, Bool, true, false, List, [], ◌∷◌, ◌++◌, length, map}
+use Rattle.std.proofs.Common.{take, drop, Option, refl, sym, ap, subst, ◌∙◌, arith}
+use Rattle.std.proofs.lemmas.List.{drop_all, drop-drop, map-append, take-append-drop, append_assoc}
 use Rattle.std.proofs.Math.Seq.{take-add}
 use Rattle.tape_blocks.specs.Block.{Portion}
 use Rattle.tape_core.specs.Crash.{AddsOnly, Crashes}
 use Rattle.tape_core.proofs.Crashes.{only_same, only_then}
 use Rattle.tape_core.specs.declared.sink.PartSink.{Ghosts}
-use Rattle.tape_run.specs.Headline.{reels_in}
+use Rattle.tape_run.specs.{Headline.reels_in, Made.HasMade, Made.IsMade, Runs.Runs, Seen.seen}
+use Rattle.tape_run.specs.{Seen.IsKept, SessionState.SessionState}
 use Rattle.tape_run.specs.declared.script.Step.{Step}
 use Rattle.tape_run.specs.declared.script.Step.TheVariants.{Reel, Save, Restart}
 use Rattle.tape_run.specs.Crash.{IsOf, StoodAt, LastAlone, is_saved}
-use Rattle.tape_run.specs.Made.{HasMade, IsMade}
-use Rattle.tape_run.specs.Runs.{Runs}
-use Rattle.tape_run.specs.Seen.{seen, IsKept}
-use Rattle.tape_run.specs.SessionState.{SessionState}
-use Rattle.tape_run.proofs.Crashes.{stood_here}
-use Rattle.tape_run.proofs.Made.{made_none, made_more, all_made}
+use Rattle.tape_run.proofs.{Crashes.stood_here, Made.made_none, Made.made_more, Made.all_made}
 
 -- The first n steps succeeded, in a session whose sink contained these parts before: the current
 -- contents of its sink, the effects of the steps, the states that a crash leaves, and whether these

@@ -1,22 +1,16 @@
 -- A section that closes is exactly the items between two tape marks.
 use Rattle.std.proofs.Common.{◌≡◌, ◌≤◌, inl, inr, ◌⊎◌, ℕ, ◌+◌, ◌==◌, Bool, true, false, List, []}
 use Rattle.std.proofs.Common.{◌∷◌, ◌++◌, Option, Some, None, Result, Ok, Err, refl, ap, ◌∙◌, arith}
-use Rattle.std.specs.Prelude.{if◌then◌else◌, nat_lt, min, option_map}
+use Rattle.std.proofs.Common.{if◌then◌else◌, nat_lt, min, option_map}
 use Rattle.std.specs.List.{AllByRecursion}
 use Rattle.tape_image.specs.Tape.{TapeItem, block, bad, mark}
-use Rattle.tape_label.specs.declared.values.Kind.{Kind}
-use Rattle.tape_label.specs.declared.values.Kind.TheVariants as kinds
-use Rattle.tape_label.specs.declared.values.Head1.{Head1}
-use Rattle.tape_label.specs.declared.values.Head2.{Head2}
-use Rattle.tape_label.specs.declared.values.Trail1.{Trail1}
+use Rattle.tape_label.specs.declared.values.{Kind.Kind, Head1.Head1, Head2.Head2, Trail1.Trail1}
 use Rattle.tape_label.specs.declared.label.LabelFault.{LabelFault}
-use Rattle.tape_label.specs.Kinds.{kind_at}
-use Rattle.tape_label.specs.Reading.{head1_at, head2_at, trail1_at}
+use Rattle.tape_label.specs.declared.values.Kind.TheVariants as kinds
+use Rattle.tape_label.specs.{Kinds.kind_at, Reading.head1_at, Reading.head2_at, Reading.trail1_at}
 use Rattle.tape_set.specs.Lawful.{label_count}
-use Rattle.tape_run.specs.declared.salvage.walk.OpenSection.{OpenSection}
-use Rattle.tape_run.specs.declared.salvage.walk.Closing.{Closing}
-use Rattle.tape_run.specs.declared.salvage.walk.UnnamedItems.{UnnamedItems}
-use Rattle.tape_run.specs.declared.salvage.walk.Expected.{Expected}
+use Rattle.tape_run.specs.declared.salvage.walk.{OpenSection.OpenSection, Closing.Closing}
+use Rattle.tape_run.specs.declared.salvage.walk.{UnnamedItems.UnnamedItems, Expected.Expected}
 use Rattle.tape_run.specs.declared.salvage.walk.Expected.TheVariants.{Outside, Second, Headers}
 use Rattle.tape_run.specs.declared.salvage.walk.Expected.TheVariants.{Data, Trailer, Trailers, Next}
 use Rattle.tape_run.specs.declared.salvage.walk.Expected.TheVariants.{Over, Skipping, Unnamed}
@@ -88,10 +82,8 @@ only_closed x t xs v k none (inr o) = absurd (none o)
 outside : (b : Bool) (n : ℕ) (c : List ℕ) (xs : List TapeItem) (v : OpenSection) (k : Closing)
     → IsClosedIn xs v k ⊎ Open (if b then begun_by (head1_at c) (unnamed_after n one_read)
     else goes_on_by (kind_at c)) xs v k → IsClosedIn (block c ∷ xs) v k
-outside true n c xs v k h = begun c (head1_at c) (unnamed_after n one_read) xs v k refl
-    (none_unnamed (n == 1) one_read xs v k) h
-outside false n c xs v k h =
-    only_closed (block c) (goes_on_by (kind_at c)) xs v k (none_goes_on (kind_at c) xs v k) h
+outside true n c xs v k h = begun c _ _ _ _ _ refl (none_unnamed (n == 1) one_read xs v k) h
+outside false n c xs v k h = only_closed (block c) _ _ _ _ (none_goes_on (kind_at c) xs v k) h
 
 none_bad : (b c : Bool) (r : UnnamedItems) (n : ℕ) (xs : List TapeItem) (v : OpenSection)
     (k : Closing)
@@ -117,8 +109,7 @@ trailer_item : (u : OpenSection) (b : List ℕ) (r : Result Trail1 LabelFault) (
     (v : OpenSection) (k : Closing) → trail1_at b ≡ r → v.after ≡ None
     → IsClosedIn xs v k ⊎ Open (closed_by u r (head1_at b)).0 xs v k
     → IsClosedIn (block b ∷ xs) v k ⊎ Open (Trailer u) (block b ∷ xs) v k
-trailer_item u b (Err f) xs v k is none h =
-    inl (begun b (head1_at b) (Outside 0) xs v k refl (λ o. o) h)
+trailer_item u b (Err f) xs v k is none h = inl (begun b _ _ _ _ _ refl (λ o. o) h)
 trailer_item u b (Ok t) xs v k is none h = chosen (closes u t) refl h
   where
     chosen : (c : Bool) → closes u t ≡ c
@@ -147,8 +138,7 @@ unnamed_item : (r : UnnamedItems) (b : List ℕ) (l : Result Trail1 LabelFault) 
     (v : OpenSection) (k : Closing) → v.after ≡ None
     → IsClosedIn xs v k ⊎ Open (unnamed_by r l (head1_at b)) xs v k
     → IsClosedIn (block b ∷ xs) v k
-unnamed_item r b (Err f) xs v k none h =
-    begun b (head1_at b) (Unnamed one_read) xs v k refl (λ o. o) h
+unnamed_item r b (Err f) xs v k none h = begun b _ _ _ _ _ refl (λ o. o) h
 unnamed_item r b (Ok t) xs v k none h = chosen (t.blocks == label_count r.items) h
   where
     chosen : (c : Bool) → IsClosedIn xs v k ⊎ Open (if c
@@ -212,8 +202,7 @@ back (Data u) bad xs v k h none = either (h none) (further bad xs v k) (λ o. re
 })
 back (Data u) mark xs v k h none =
     either (h none) (further mark xs v k) (at_data_mark u.key u.blocks u.digest u.certain xs v k)
-back (Trailer u) (block b) xs v k h none =
-    trailer_item u b (trail1_at b) xs v k refl none (h none)
+back (Trailer u) (block b) xs v k h none = trailer_item u b (trail1_at b) xs v k refl none (h none)
 back (Trailer u) bad xs v k h none = inl (only_closed bad (Outside 0) xs v k (λ o. o) (h none))
 back (Trailer u) mark xs v k h none = inl (only_closed mark (Outside 1) xs v k (λ o. o) (h none))
 back (Trailers u l) (block b) xs v k h none = either (h none) (further (block b) xs v k)
@@ -225,8 +214,7 @@ back (Trailers u l) (block b) xs v k h none = either (h none) (further (block b)
       after = λ e. none_after u.after (o.after e);
       closing = o.closing;
     })
-back (Trailers u l) bad xs v k h none =
-    inl (only_closed bad (Outside 0) xs v k (λ o. o) (h none))
+back (Trailers u l) bad xs v k h none = inl (only_closed bad (Outside 0) xs v k (λ o. o) (h none))
 back (Trailers u l) mark xs v k h none = inl (only_closed mark Next xs v k (λ o. o) (h none))
 back Next (block b) xs v k h none =
     inl (begun b (head1_at b) (Outside 0) xs v k refl (λ o. o) (h none))
@@ -267,5 +255,4 @@ all_there xs ((place, (v, Some k)) ∷ l) (h, all) =
     (λ none. elim (h none) [ inl c ↦ c | inr o ↦ absurd o ], all_there xs l all)
 
 pub closed_are_there : ClosedAreThere
-closed_are_there items = all_there items (sections_in items)
-    (all_found Comes back here (λ n u xs v k none. inr tt) items)
+closed_are_there items = all_there _ _ (all_found Comes back here (λ n u xs v k none. inr tt) items)

@@ -1,20 +1,16 @@
 -- On a volume of a valid set the data of a section end once.
 use Rattle.std.proofs.Common.{◌≡◌, inl, inr, ℕ, ◌+◌, ◌==◌, ◌&&◌, Bool, true, false, List, [], ◌∷◌}
-use Rattle.std.proofs.Common.{◌++◌, length, Some, refl, sym, ap, ◌∙◌, arith}
-use Rattle.std.specs.Prelude.{if◌then◌else◌}
+use Rattle.std.proofs.Common.{◌++◌, length, Some, refl, sym, ap, ◌∙◌, arith, if◌then◌else◌}
 use Rattle.std.specs.List.{AllByRecursion}
 use Rattle.tape_image.specs.Tape.{TapeItem, mark}
-use Rattle.tape_set.specs.Layout.{Volume}
-use Rattle.tape_set.specs.Lawful.{IsVolume, FileForm}
-use Rattle.tape_run.specs.declared.section.SectionKey.{SectionKey}
-use Rattle.tape_run.specs.Noted.{same_key}
-use Rattle.tape_run.specs.declared.salvage.walk.Expected.{Expected}
+use Rattle.tape_set.specs.{Layout.Volume, Lawful.IsVolume, Lawful.FileForm}
+use Rattle.tape_run.specs.declared.{section.SectionKey.SectionKey, salvage.walk.Expected.Expected}
+use Rattle.tape_run.specs.{Noted.same_key, SalvageBlocks.Salvaged}
 use Rattle.tape_run.specs.declared.salvage.walk.Expected.TheVariants.{Outside, Second, Headers}
 use Rattle.tape_run.specs.declared.salvage.walk.Expected.TheVariants.{Data, Trailer, Trailers, Next}
 use Rattle.tape_run.specs.declared.salvage.walk.Expected.TheVariants.{Over, Skipping, Unnamed}
 use Rattle.tape_run.specs.declared.salvage.walk.Expected.TheVariants.{UnnamedTrailer}
 use Rattle.tape_run.specs.SalvageWalk.{step, expected_after}
-use Rattle.tape_run.specs.SalvageBlocks.{Salvaged}
 use Rattle.tape_run.specs.SalvageImage.{is_in, is_mark, read_in, closings, salvaged_from, EndsData}
 use Rattle.tape_run.specs.SalvageSections.{Labels, SectionRead, IsRead, IsOther, key_of, MayBegin}
 use Rattle.tape_run.specs.SalvageSections.{AreLabels, after_trailers, read_section, read_volume}

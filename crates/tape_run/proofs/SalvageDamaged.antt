@@ -3,15 +3,12 @@ use Rattle.std.proofs.Common.{◌≡◌, ℕ, ◌==◌, ◌&&◌, Bool, true, fa
 use Rattle.std.proofs.Common.{Some, None, Ok, refl, sym, ap, subst, ◌∙◌, arith, append_assoc}
 use Rattle.std.specs.List.{AllByRecursion}
 use Rattle.tape_image.specs.Tape.{TapeItem, block, mark}
-use Rattle.tape_label.specs.declared.values.Head1.{Head1}
-use Rattle.tape_label.specs.declared.values.Trail1.{Trail1}
-use Rattle.tape_label.specs.Kinds.{trailer}
-use Rattle.tape_label.specs.Reading.{head1_at, trail1_at}
+use Rattle.tape_label.specs.declared.values.{Head1.Head1, Trail1.Trail1}
+use Rattle.tape_label.specs.{Kinds.trailer, Reading.head1_at, Reading.trail1_at}
 use Rattle.tape_label.proofs.First.{head1_again, trail1_again}
 use Rattle.tape_set.specs.Lawful.{label_count}
+use Rattle.tape_run.specs.declared.salvage.walk.{OpenSection.OpenSection, Closing.Closing}
 use Rattle.tape_run.specs.declared.section.SectionKey.{SectionKey}
-use Rattle.tape_run.specs.declared.salvage.walk.OpenSection.{OpenSection}
-use Rattle.tape_run.specs.declared.salvage.walk.Closing.{Closing}
 use Rattle.tape_run.specs.SalvageWalk.{FoundAt, section_by, sections_in}
 use Rattle.tape_run.specs.SalvageWhole.{Blocks}
 use Rattle.tape_run.specs.SalvageSections.{Labels, read_labels, read_blocks, AreNoHeads}
@@ -20,10 +17,9 @@ use Rattle.tape_run.specs.SalvageDamaged.{AnySection, if_read, to_trailer, from_
 use Rattle.tape_run.specs.SalvageDamaged.{any_sections, any_volume, IsPlainSection, AreApart}
 use Rattle.tape_run.specs.SalvageDamaged.{key_in, IsExact, IsFoundExactly, ClosedAreExact}
 use Rattle.tape_run.proofs.SalvageChoice.{all_append, all_map}
-use Rattle.tape_run.proofs.SalvageClosed.{closed_are_there}
+use Rattle.tape_run.proofs.{SalvageClosed.closed_are_there, SalvageVolumes.volume_no_heads}
 use Rattle.tape_run.proofs.SalvageOpened.{key_is, long}
 use Rattle.tape_run.proofs.SalvagePlaces.{same_place, between}
-use Rattle.tape_run.proofs.SalvageVolumes.{volume_no_heads}
 use Rattle.tape_run.proofs.SalvagePlain.{IsNoHead1, IsNotOwn, IsNone, is_own, plain_labels}
 use Rattle.tape_run.proofs.SalvagePlain.{plain_blocks, mark_head, mark_own, not_both}
 

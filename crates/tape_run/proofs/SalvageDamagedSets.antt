@@ -1,21 +1,18 @@
 -- Readings of volumes of a valid set, of which any items may be unreadable: what is found on them.
 use Rattle.std.proofs.Common.{◌≡◌, ◌<◌, ℕ, ◌==◌, ◌&&◌, Bool, true, false, List, [], ◌∷◌, ◌++◌}
 use Rattle.std.proofs.Common.{length, map, Option, refl, sym, ap, subst, ◌∙◌, arith, append_assoc}
-use Rattle.std.proofs.Common.{append-nil, suc}
-use Rattle.std.specs.Prelude.{if◌then◌else◌}
+use Rattle.std.proofs.Common.{append-nil, suc, if◌then◌else◌}
 use Rattle.std.specs.List.{AllByRecursion}
 use Rattle.std.proofs.lemmas.Bool.Decides.{nat_tests}
 use Rattle.tape_image.specs.Tape.{TapeItem, block, bad, mark}
 use Rattle.tape_label.specs.declared.values.Kind.TheVariants as kinds
 use Rattle.tape_label.specs.Kinds.{HasKind, trailer}
-use Rattle.tape_label.proofs.First.{head1_found, trail1_found}
-use Rattle.tape_label.proofs.Apart.{HasKind-unique}
+use Rattle.tape_label.proofs.{First.head1_found, First.trail1_found, Apart.HasKind-unique}
 use Rattle.tape_blocks.specs.Tight.{Filled}
 use Rattle.tape_set.specs.Layout.{FileSet, Volume, Placed, Entry, a_label, a_mark, item_of, items}
 use Rattle.tape_set.specs.Layout.{entries, entries_on, nth, on, sections, section_entries}
 use Rattle.tape_set.specs.Layout.{all_entries, data_group, volume_group}
-use Rattle.tape_set.specs.Lawful.{IsLawful, IsVolume, IsSection}
-use Rattle.tape_set.specs.Reading.{as_read}
+use Rattle.tape_set.specs.{Lawful.IsLawful, Lawful.IsVolume, Lawful.IsSection, Reading.as_read}
 use Rattle.tape_set.proofs.Everywhere.{every_at, every-filter, every, nth_found}
 use Rattle.tape_set.proofs.Forms.{form_told}
 use Rattle.tape_set.proofs.Volumes.{IsOn, Rising, sections_on_are, sections_on_rise}
@@ -24,8 +21,7 @@ use Rattle.tape_run.specs.SalvageSections.{Labels, read_labels, labels_of, read_
 use Rattle.tape_run.specs.SalvageDamaged.{AnySection, if_read, any_sections, any_volume, IsPlain}
 use Rattle.tape_run.specs.SalvageDamaged.{IsPlainSection, AreApart, to_trailer, from_trailer}
 use Rattle.tape_run.specs.SalvageDamagedSets.{IsPlainAt, ClosedOfSetAreExact}
-use Rattle.tape_run.proofs.SalvageDamaged.{closed_are_exact}
-use Rattle.tape_run.proofs.WholeVolumes.{some_of}
+use Rattle.tape_run.proofs.{SalvageDamaged.closed_are_exact, WholeVolumes.some_of}
 use Rattle.tape_run.proofs.SalvageSetBlocks.{of_filled}
 
 -- ---- items that were read, with those after them
@@ -236,16 +232,15 @@ plain_section set k p gs l here plain r =
     let told = form_told set p.file l p.sect p.section here.found in
     record {
       is = subst (IsSection id (length set.volumes)) back here.lawful;
-      are_headers = subst (λ (q : Placed). labels_of s.headers
-          ≡ q.section.hdr2 ∷ q.section.headers) back r.headers;
+      are_headers = subst (λ (q : Placed). labels_of s.headers ≡ q.section.hdr2 ∷ q.section.headers)
+          back r.headers;
       are_blocks = subst (λ (q : Placed). filled_of s.blocks ≡ q.section.blocks) back r.blocks;
       are_trailers = subst (λ (q : Placed). labels_of s.trailers ≡ q.section.trailers) back
           r.trailers;
       headers = of_labels (IsPlain id) s.headers (subst (AllByRecursion (IsPlain id))
-          (sym r.headers) (plain_hdr2 id p.section.hdr2 told.1.hdr2.kind, plain.headers));
-      blocks = of_filled (λ (b : Filled). IsPlain id b.bytes) s.blocks
-          (subst (AllByRecursion (λ (b : Filled). IsPlain id b.bytes)) (sym r.blocks)
-          plain.blocks);
+          (sym r.headers) (plain_hdr2 id _ told.1.hdr2.kind, plain.headers));
+      blocks = of_filled (λ (b : Filled). IsPlain id b.bytes) s.blocks (subst
+          (AllByRecursion (λ (b : Filled). IsPlain id b.bytes)) (sym r.blocks) plain.blocks);
       trailers = of_labels (IsPlain id) s.trailers (subst (AllByRecursion (IsPlain id))
           (sym r.trailers) plain.trailers);
     }
@@ -273,8 +268,7 @@ record ReadSections (set : FileSet) (ps : List Placed) (gs : List Bool) : Type 0
 sections_read : (set : FileSet) (k : ℕ) (ps : List Placed) (gs : List Bool) → IsLawful set
     → AllByRecursion (IsOn set k) ps → AllByRecursion (IsPlainAt set.set_id) ps
     → length gs ≡ length (all_entries ps) → ReadSections set ps gs
-sections_read set k [] [] l here plain h =
-    record { reads = []; all = refl; each = tt; is = refl }
+sections_read set k [] [] l here plain h = record { reads = []; all = refl; each = tt; is = refl }
 sections_read set k [] (g ∷ gs) l here plain h = absurd (omega (arith, h))
 sections_read set k (p ∷ ps) gs l (here, all) (plain, plains) h =
     let a = in_two gs (section_entries p.section) (all_entries ps) h in
@@ -312,33 +306,30 @@ pub closed_of_set_are_exact : ClosedOfSetAreExact
 closed_of_set_are_exact set r its more l reading plain splits =
     let k = r.volume in
     let ps = on k (sections set) in
-    let (v, there) = some_of (nth set.volumes k) reading.volume in
-    let at = nth_found set.volumes k v there in
-    let es : entries set k ≡ map a_label (v.vol1 ∷ v.labels)
-    ++ (all_entries ps ++ (a_mark ∷ [])) =
-    ap (λ (o : Option Volume). entries_on o k (sections set)) there
-    ∙ append_assoc (volume_group v) (all_entries ps) (a_mark ∷ []) in
+    let (v, there) = some_of _ reading.volume in
+    let at = nth_found _ _ _ there in
+    let es : entries set k ≡ map a_label (v.vol1 ∷ v.labels) ++ (all_entries ps ++ (a_mark ∷ [])) =
+    ap (λ (o : Option Volume). entries_on o k (sections set)) there ∙ append_assoc (volume_group v)
+    (all_entries ps) (a_mark ∷ []) in
     let w = whole (entries set k) r.good in
     let a = in_two w.all (map a_label (v.vol1 ∷ v.labels)) (all_entries ps ++ (a_mark ∷ []))
     (w.fits ∙ ap length es) in
-    let b = in_two a.more (all_entries ps) (a_mark ∷ []) a.rest in
-    let ls = labels_read a.first (v.vol1 ∷ v.labels) a.fits in
+    let b = in_two _ _ _ a.rest in
+    let ls = labels_read _ _ a.fits in
     let plains = every (λ p. IsPlainAt set.set_id p × ((p.section.volume == k) ≡ true))
-    (IsPlainAt set.set_id) (λ p h. h.0) ps
-    (every-filter (IsPlainAt set.set_id) (λ p. p.section.volume == k) (sections set) plain) in
-    let rs = sections_read set k ps b.first l (sections_on_are set k l) plains b.fits in
-    let last = one_read b.more a_mark b.rest in
+    (IsPlainAt set.set_id) (λ p h. h.0) _ (every-filter _ (λ p. p.section.volume == k) _ plain) in
+    let rs = sections_read _ _ _ _ l (sections_on_are _ k l) plains b.fits in
+    let last = one_read _ a_mark b.rest in
     let is : as_read (items set k) r.good ++ w.more ≡ any_volume ls.labels rs.reads last.0 =
-    w.is ∙ ap (read_as w.all) es ∙ a.is
-    ∙ ap (λ (x : List TapeItem). x ++ read_as a.more (all_entries ps ++ (a_mark ∷ []))) ls.is
-    ∙ ap (λ (x : List TapeItem). read_labels ls.labels ++ x) (b.is
-    ∙ ap (λ (x : List TapeItem). x ++ read_as b.more (a_mark ∷ [])) rs.is
-    ∙ ap (λ (x : List TapeItem). any_sections rs.reads ++ x) last.1) in (
+    w.is ∙ ap (read_as w.all) es ∙ a.is ∙ ap (λ (x : List TapeItem). x ++ read_as a.more
+    (all_entries ps ++ (a_mark ∷ []))) ls.is ∙ ap
+    (λ (x : List TapeItem). read_labels ls.labels ++ x) (b.is ∙ ap
+    (λ (x : List TapeItem). x ++ read_as b.more (a_mark ∷ [])) rs.is ∙ ap
+    (λ (x : List TapeItem). any_sections rs.reads ++ x) last.1) in (
       rs.reads,
       record { each = rs.each; all = rs.all },
       closed_are_exact set.set_id (length set.volumes) v ls.labels rs.reads last.0 its
-          (more ++ w.more) (every_at IsVolume set.volumes at.place v l.volumes at.found) ls.are
-          rs.each (apart rs.reads (subst Rising (sym rs.all) (sections_on_rise set k l)))
-          (sym (append_assoc its more w.more)
+          (more ++ w.more) (every_at _ _ _ _ l.volumes at.found) ls.are rs.each (apart rs.reads
+          (subst Rising (sym rs.all) (sections_on_rise _ k l))) (sym (append_assoc its more w.more)
           ∙ ap (λ (x : List TapeItem). x ++ w.more) splits ∙ is),
     )

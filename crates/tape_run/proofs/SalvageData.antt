@@ -1,31 +1,27 @@
 -- The data items of a section among the items that were read of an image.
 use Rattle.std.proofs.Common.{◌≡◌, ◌<◌, ◌≤◌, ℕ, ◌+◌, ◌-◌, ◌&&◌, Bool, true, false, List, [], ◌∷◌}
 use Rattle.std.proofs.Common.{◌++◌, length, Option, Some, None, refl, sym, ap, subst, ◌∙◌, arith}
-use Rattle.std.proofs.Common.{append_assoc, append-nil}
-use Rattle.std.specs.Prelude.{if◌then◌else◌, nat_lt, min}
+use Rattle.std.proofs.Common.{append_assoc, append-nil, if◌then◌else◌, nat_lt, min}
 use Rattle.std.specs.List.{AllByRecursion}
 use Rattle.std.proofs.lemmas.Bool.Decides.{nat_tests}
 use Rattle.tape_image.specs.Tape.{TapeItem, block, bad, mark}
 use Rattle.tape_set.specs.Lawful.{FileForm}
-use Rattle.tape_run.specs.declared.section.SectionKey.{SectionKey}
-use Rattle.tape_run.specs.Noted.{same_key}
-use Rattle.tape_run.specs.declared.salvage.copies.SectionCopy.{SectionCopy}
-use Rattle.tape_run.specs.declared.salvage.walk.OpenSection.{OpenSection}
-use Rattle.tape_run.specs.declared.salvage.walk.Closing.{Closing}
+use Rattle.tape_run.specs.declared.salvage.walk.{OpenSection.OpenSection, Closing.Closing}
 use Rattle.tape_run.specs.declared.salvage.walk.Expected.{Expected}
+use Rattle.tape_run.specs.declared.salvage.copies.SectionCopy.{SectionCopy}
+use Rattle.tape_run.specs.declared.section.SectionKey.{SectionKey}
+use Rattle.tape_run.specs.{Noted.same_key, SalvageLine.section_line, SalvageTaking.image_number}
 use Rattle.tape_run.specs.declared.salvage.walk.Expected.TheVariants.{Outside, Second, Headers}
 use Rattle.tape_run.specs.declared.salvage.walk.Expected.TheVariants.{Data, Trailer, Trailers, Next}
 use Rattle.tape_run.specs.declared.salvage.walk.Expected.TheVariants.{Over, Skipping, Unnamed}
 use Rattle.tape_run.specs.declared.salvage.walk.Expected.TheVariants.{UnnamedTrailer}
 use Rattle.tape_run.specs.SalvageWalk.{step, expected_after, with_item, with_data, with_unreadable}
 use Rattle.tape_run.specs.SalvageCopies.{believed, start_of, wrong_count}
-use Rattle.tape_run.specs.SalvageLine.{section_line}
 use Rattle.tape_run.specs.SalvageBlocks.{Salvaged, salvaged_at, text_at, gap_text}
 use Rattle.tape_run.specs.SalvageImage.{is_in, is_mark, number_in, read_in, closings, salvaged_from}
 use Rattle.tape_run.specs.SalvageImage.{text_from}
 use Rattle.tape_run.specs.SalvageEnds.{without_rest, without_gap, with_count, ended, end_from}
 use Rattle.tape_run.specs.SalvageEnds.{end_text}
-use Rattle.tape_run.specs.SalvageTaking.{image_number}
 use Rattle.tape_run.specs.SalvageGaps.{datum, data_in, salvaged_data, AreReadOf, GapsAreRuns}
 use Rattle.tape_run.proofs.SalvageOpened.{one_more}
 use Rattle.tape_run.proofs.SalvagedSoFar.{expected_after-append, salvaged_from-append}
@@ -71,12 +67,11 @@ module _ (key : SectionKey) where
     read_of : (u : OpenSection) → same_key u.key key ≡ true → read_in key (Data u) ≡ u.blocks
     read_of u same = ap (λ (b : Bool). if b then u.blocks else 0) same
 
-    one_more_by : (b : Bool) (u v : OpenSection) (x : TapeItem) (g : Salvaged)
-        (xs : List TapeItem) → nat_lt u.blocks most ≡ b → most ≤ 4294967295
-        → same_key u.key key ≡ true → same_key v.key key ≡ true
-        → v.blocks ≡ min (u.blocks + 1) 4294967295
-        → ((n : ℕ) → datum (Some n) x ≡ x ∷ [])
-        → ((h : Salvaged) → HasData (Data v) h xs) → OneMore u v x g xs
+    one_more_by : (b : Bool) (u v : OpenSection) (x : TapeItem) (g : Salvaged) (xs : List TapeItem)
+        → nat_lt u.blocks most ≡ b → most ≤ 4294967295 → same_key u.key key ≡ true
+        → same_key v.key key ≡ true → v.blocks ≡ min (u.blocks + 1) 4294967295
+        → ((n : ℕ) → datum (Some n) x ≡ x ∷ []) → ((h : Salvaged) → HasData (Data v) h xs)
+        → OneMore u v x g xs
     one_more_by true u v x g xs lt fits same same' more is ih =
         let less : u.blocks < most = grind (arith, nat_tests) in
         let num = is_number key most u same less in
@@ -214,8 +209,7 @@ module _ (key : SectionKey) where
         }
 
     -- no data item is a mark
-    no_marks : (s : Expected) (xs : List TapeItem)
-        → AllByRecursion NoMark (data_in key most s xs)
+    no_marks : (s : Expected) (xs : List TapeItem) → AllByRecursion NoMark (data_in key most s xs)
     no_marks s [] = tt
     no_marks s (x ∷ xs) = both (number_in key most s) x (data_in key most (step s x).0 xs)
         (no_marks (step s x).0 xs)
@@ -259,11 +253,8 @@ no_gap_ended c (Some k) g e =
     let h = with_count (wrong_count c) g in
     no_gap_by (k.eof && h.piece.begun) (without_rest h) h e e
 
-no_gap_from : (n : ℕ) (c : SectionCopy) (g : Salvaged) → g.gap ≡ None
-    → (end_from n c g).gap ≡ None
-no_gap_from n c g e =
-    no_gap_by (nat_lt n (believed c)) (without_rest g) (ended c c.closed g) e
-    (no_gap_ended c c.closed g e)
+no_gap_from : (n : ℕ) (c : SectionCopy) (g : Salvaged) → g.gap ≡ None → (end_from n c g).gap ≡ None
+no_gap_from n c g e = no_gap_by (nat_lt n (believed c)) _ _ e (no_gap_ended c c.closed _ e)
 
 pub gaps_are_runs : GapsAreRuns
 gaps_are_runs sect c form items is_ended g fits read none =

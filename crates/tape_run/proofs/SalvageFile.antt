@@ -1,23 +1,20 @@
 -- A file recovered from readings of volumes of a valid set.
 use Rattle.std.proofs.Common.{◌≡◌, ℕ, ◌&&◌, nat_lt, Bool, true, false, List, [], ◌∷◌, ◌++◌, Option}
 use Rattle.std.proofs.Common.{Some, refl, sym, ap, subst, ◌∙◌, arith, append-nil, append_assoc, ◌+◌}
-use Rattle.std.specs.Prelude.{if◌then◌else◌, ◌||◌, is_some}
+use Rattle.std.proofs.Common.{if◌then◌else◌, ◌||◌, is_some}
 use Rattle.std.specs.List.{AllByRecursion}
 use Rattle.std.proofs.lemmas.Bool.Decides.{nat_tests}
 use Rattle.tape_set.specs.Lawful.{FileForm}
+use Rattle.tape_run.specs.declared.salvage.walk.{Closing.Closing, Expected.TheVariants.Outside}
 use Rattle.tape_run.specs.declared.salvage.Content.TheVariants.{Records}
 use Rattle.tape_run.specs.declared.salvage.copies.SectionCopy.{SectionCopy}
-use Rattle.tape_run.specs.declared.salvage.walk.Closing.{Closing}
-use Rattle.tape_run.specs.declared.salvage.walk.Expected.TheVariants.{Outside}
-use Rattle.tape_run.specs.SalvageWalk.{expected_after}
-use Rattle.tape_run.specs.SalvageRecords.{Piece, nothing}
-use Rattle.tape_run.specs.SalvageCopies.{wrong_count}
+use Rattle.tape_run.specs.{SalvageWalk.expected_after, SalvageRecords.Piece, SalvageRecords.nothing}
+use Rattle.tape_run.specs.{SalvageCopies.wrong_count, SalvageImage.read_in}
+use Rattle.tape_run.specs.{SalvageImage.salvaged_from, SalvageWhole.Blocks}
+use Rattle.tape_run.specs.{SalvageWhole.piece_after, SalvageSections.SectionRead}
 use Rattle.tape_run.specs.SalvageBlocks.{Salvaged, none_salvaged, with_block, without_block}
-use Rattle.tape_run.specs.SalvageImage.{read_in, salvaged_from}
 use Rattle.tape_run.specs.SalvageEnds.{with_end, with_count, without_gap, ended, without_rest}
 use Rattle.tape_run.specs.SalvageTaking.{Taken, after_taken, after_copy, after_all, has_form}
-use Rattle.tape_run.specs.SalvageWhole.{Blocks, piece_after}
-use Rattle.tape_run.specs.SalvageSections.{SectionRead}
 use Rattle.tape_run.specs.SalvageFile.{closed_copy, IsTakenFrom, AreTakenFrom, blocks_of}
 use Rattle.tape_run.specs.SalvageFile.{RecoversBlocks, RecoversFile, RecoversUpToGap}
 use Rattle.tape_run.proofs.SalvageChoice.{all_append}
@@ -102,24 +99,19 @@ taken_adds set_id volumes known form eof t r g x =
     x.is_volume x.are_labels x.are_before x.others_before x.are_rest x.others_rest x.is_read x.own
     x.splits x.ends ∙ sym x.counted in
     let is : s ≡ salvaged_blocks (Some form) 0 g r.blocks =
-    ap (λ m. salvaged_from u.key m (Some form) o g x.items) x.counted
-    ∙ reading_salvaged u.key form set_id volumes x.volume x.labels x.before r x.rest g x.items
-    x.unread x.is_volume x.are_labels x.are_before x.others_before x.are_rest x.others_rest
+    ap (λ m. salvaged_from u.key m (Some form) o g x.items) x.counted ∙ reading_salvaged _ form _ _
+    _ _ _ _ _ g _ _ x.is_volume x.are_labels x.are_before x.others_before x.are_rest x.others_rest
     x.is_read x.own x.splits x.ends in
     let whole : after_taken Records known t.copy t.items g ≡ ended c (Some closed) (without_gap s) =
-    ap (λ (z : Taken). after_taken Records known z.copy z.items g) x.is
-    ∙ ap (λ f. if has_form Records f then after_copy c f (Some x.items) g else without_rest g)
-    x.forms
-    ∙ ap (λ (b : Bool). if b then without_rest (without_gap s)
-    else ended c (Some closed) (without_gap s))
-    (not_less n u.blocks counts) in
-    subst (λ h. Adds form eof g h r.blocks) (sym whole)
-    (ended_adds form c closed g s r.blocks is)
+    ap (λ (z : Taken). after_taken Records known z.copy z.items g) x.is ∙ ap (λ f. if has_form
+    Records f then after_copy c f (Some x.items) g else without_rest g) x.forms ∙ ap (λ (b : Bool).
+    if b then without_rest (without_gap s) else ended c (Some closed) (without_gap s))
+    (not_less _ _ counts) in
+    subst (λ h. Adds form eof g h r.blocks) (sym whole) (ended_adds _ c closed _ _ _ is)
 
 -- ---- the sections
 
-blocks_append : (rs qs : List SectionRead)
-    → blocks_of (rs ++ qs) ≡ blocks_of rs ++ blocks_of qs
+blocks_append : (rs qs : List SectionRead) → blocks_of (rs ++ qs) ≡ blocks_of rs ++ blocks_of qs
 blocks_append [] qs = refl
 blocks_append (r ∷ rs) qs = ap (λ (l : Blocks). r.blocks ++ l) (blocks_append rs qs)
     ∙ sym (append_assoc r.blocks (blocks_of rs) (blocks_of qs))
@@ -139,41 +131,38 @@ all_add set_id volumes known form [] [] g x =
 all_add set_id volumes known form [] (r ∷ rs) g x = absurd x
 all_add set_id volumes known form (t ∷ ts) [] g x = absurd x
 all_add set_id volumes known form (t ∷ ts) (r ∷ rs) g (x, xs) =
-    let one = taken_adds set_id volumes known form false t r g x in
+    let one = taken_adds _ _ _ _ _ _ _ g x in
     let h = after_taken Records known t.copy t.items g in
     let rest = all_add set_id volumes known form ts rs h xs in
-    let piece = rest.same refl
-    ∙ ap (λ p. piece_after form p (blocks_of rs)) (one.same refl)
-    ∙ sym (after_append form g.piece r.blocks (blocks_of rs)) in
+    let piece = rest.same refl ∙ ap (λ p. piece_after form p (blocks_of rs)) (one.same refl) ∙ sym
+    (after_append form g.piece r.blocks (blocks_of rs)) in
     record {
       done = ap (λ (p : Piece). p.done) piece;
       same = λ e. piece;
       none = λ e.
           let b = rest.none e in
           let a = one.none b.0 in
-          (a.0, all_append (λ b. b.0 ≡ true) r.blocks (blocks_of rs) a.1 b.1);
+          (a.0, all_append (λ b. b.0 ≡ true) _ _ a.1 b.1);
     }
 
 pub recovers_blocks : RecoversBlocks
 recovers_blocks set_id volumes known form eof ts t rs r xs x =
     let g = after_all Records known ts none_salvaged in
     let h = after_taken Records known t.copy t.items g in
-    let front = all_add set_id volumes known form ts rs none_salvaged xs in
-    let last = taken_adds set_id volumes known form eof t r g x in
+    let front = all_add _ _ _ _ _ _ none_salvaged xs in
+    let last = taken_adds _ _ _ _ _ _ _ g x in
     let one = append-nil r.blocks in
-    let joined = blocks_append rs (r ∷ [])
-    ∙ ap (λ (l : Blocks). blocks_of rs ++ l) one in
+    let joined = blocks_append rs (r ∷ []) ∙ ap (λ (l : Blocks). blocks_of rs ++ l) one in
     let whole = after_more known ts t none_salvaged in (
-      ap (λ (z : Salvaged). z.piece.done) whole ∙ last.done
-          ∙ ap (λ p. (piece_after form p r.blocks).done) (front.same refl)
-          ∙ ap (λ (p : Piece). p.done)
-          (sym (after_append form nothing (blocks_of rs) r.blocks))
-          ∙ ap (λ l. (piece_after form nothing l).done) (sym joined),
+      ap (λ (z : Salvaged). z.piece.done) whole ∙ last.done ∙ ap
+          (λ p. (piece_after form p r.blocks).done) (front.same refl) ∙ ap (λ (p : Piece). p.done)
+          (sym (after_append form nothing (blocks_of rs) r.blocks)) ∙ ap
+          (λ l. (piece_after form nothing l).done) (sym joined),
       λ e.
           let b = last.none (ap (λ (z : Salvaged). z.missing) (sym whole) ∙ e) in
           let a = front.none b.0 in
           subst (λ l. AllByRecursion (λ b. b.0 ≡ true) l) (sym joined)
-          (all_append (λ b. b.0 ≡ true) (blocks_of rs) r.blocks a.1 b.1),
+          (all_append (λ b. b.0 ≡ true) _ _ a.1 b.1),
     )
 
 pub recovers_file : RecoversFile

@@ -1,18 +1,14 @@
 -- A section of a valid set is found to close.
 use Rattle.std.proofs.Common.{◌≡◌, ℕ, Bool, true, false, List, [], ◌∷◌, ◌++◌, Option, Some, None}
 use Rattle.std.proofs.Common.{map, refl, sym, ap, subst, ◌∙◌, append_assoc, append-nil, length, Ok}
-use Rattle.std.specs.Prelude.{if◌then◌else◌, ◌==◌}
+use Rattle.std.proofs.Common.{if◌then◌else◌, ◌==◌}
 use Rattle.std.specs.List.{AllByRecursion}
 use Rattle.tape_image.specs.Tape.{TapeItem, block, bad, mark}
 use Rattle.tape_label.specs.declared.values.Kind.TheVariants as kinds
-use Rattle.tape_label.specs.declared.values.Head1.{Head1}
-use Rattle.tape_label.specs.declared.values.Trail1.{Trail1}
-use Rattle.tape_label.specs.Kinds.{kind_at}
-use Rattle.tape_label.specs.Reading.{head1_at, head2_at, trail1_at}
-use Rattle.tape_set.specs.Layout.{Volume}
-use Rattle.tape_set.specs.Lawful.{FileForm, IsVolume, label_count}
-use Rattle.tape_run.specs.declared.salvage.walk.OpenSection.{OpenSection}
-use Rattle.tape_run.specs.declared.salvage.walk.Closing.{Closing}
+use Rattle.tape_label.specs.declared.values.{Head1.Head1, Trail1.Trail1}
+use Rattle.tape_label.specs.{Kinds.kind_at, Reading.head1_at, Reading.head2_at, Reading.trail1_at}
+use Rattle.tape_set.specs.{Layout.Volume, Lawful.FileForm, Lawful.IsVolume, Lawful.label_count}
+use Rattle.tape_run.specs.declared.salvage.walk.{OpenSection.OpenSection, Closing.Closing}
 use Rattle.tape_run.specs.declared.salvage.walk.Expected.{Expected}
 use Rattle.tape_run.specs.declared.salvage.walk.Expected.TheVariants.{Outside, Second, Headers}
 use Rattle.tape_run.specs.declared.salvage.walk.Expected.TheVariants.{Data, Trailer, Trailers, Next}
@@ -24,12 +20,11 @@ use Rattle.tape_run.specs.SalvageWalk.{sections_in}
 use Rattle.tape_run.specs.SalvageSections.{SectionRead, IsRead, Labels, AreLabels, read_labels}
 use Rattle.tape_run.specs.SalvageSections.{read_section, read_sections, read_volume, key_of}
 use Rattle.tape_run.specs.SalvageSections.{MayBegin, after_trailers, FindsSection}
-use Rattle.tape_run.proofs.SalvagedSoFar.{expected_after-append}
+use Rattle.tape_run.proofs.{SalvagedSoFar.expected_after-append, SalvageVolumes.volume_no_heads}
 use Rattle.tape_run.specs.SalvageWhole.{not_read}
 use Rattle.tape_run.proofs.SalvageOpened.{trailer_step, may_after, AllRead}
 use Rattle.tape_run.proofs.SalvageSteps.{gathered, Quiet, quiet_data, section_walked, outside}
 use Rattle.tape_run.proofs.SalvageSteps.{FirstIsRead}
-use Rattle.tape_run.proofs.SalvageVolumes.{volume_no_heads}
 
 pub found_from-append : (s : Expected) (n : ℕ) (xs ys : List TapeItem)
     → found_from s n (xs ++ ys)
@@ -193,18 +188,16 @@ finds_all set_id volumes (r ∷ rs) s before (read, all) may =
     let ys = read_sections rs in
     let z = after_trailers r.trailers in
     let m = read_after before xs in
-    let one = finds_one set_id volumes r s before read may in
+    let one = finds_one _ _ _ _ before read may in
     let rest = finds_all set_id volumes rs z m all (may_after r.trailers) in
     let is : found_from s before (xs ++ ys) ≡ one.found ∷ found_from z m ys =
-    found_from-append s before xs ys
-    ∙ ap (λ (l : List FoundAt). l ++ found_from (expected_after s xs) m ys) one.only
-    ∙ ap (λ (e : Expected). one.found ∷ found_from e m ys) one.after in
+    found_from-append s before xs ys ∙ ap (λ (l : List FoundAt). l ++ found_from
+    (expected_after s xs) m ys) one.only ∙ ap (λ (e : Expected). one.found ∷ found_from e m ys)
+    one.after in
     record {
       found = subst (AreFound set_id (r ∷ rs)) (sym is) (one.is_found, rest.found);
-      may = subst MayBegin
-          (sym (expected_after-append s xs ys
-          ∙ ap (λ (e : Expected). expected_after e ys) one.after))
-          rest.may;
+      may = subst MayBegin (sym (expected_after-append s xs ys ∙ ap
+          (λ (e : Expected). expected_after e ys) one.after)) rest.may;
     }
 
 none_in : (l : List FoundAt) → map (λ (t : FoundAt). t.1) l ≡ [] → l ≡ []
@@ -233,31 +226,27 @@ volume_found set_id volumes v ls rs is labels read =
     let front = read_labels ls in
     let xs = read_sections rs in
     let end = mark ∷ [] in
-    let w = outside added quiet [] ls (volume_no_heads v ls is labels) in
+    let w = outside added quiet [] ls (volume_no_heads _ _ is labels) in
     let none = none_in (found_from o 0 front) (sym (same_gathered o 0 [] front) ∙ w.gives) in
     let n = read_after 0 front in
-    let all = finds_all set_id volumes rs o n read refl in
+    let all = finds_all _ _ _ o n read refl in
     let s = expected_after o xs in
     let m = read_after n xs in
     let last : found_from s m end ≡ [] =
-    ap (λ (f : Option FoundSection). in_list m f ++ []) (none_ends s mark all.may) in
+    ap (λ (f : Option FoundSection). in_list m f ++ []) (none_ends _ mark all.may) in
     let body : found_from o 0 (front ++ (xs ++ end)) ≡ found_from o n xs =
-    found_from-append o 0 front (xs ++ end)
-    ∙ ap (λ (l : List FoundAt). l ++ found_from (expected_after o front) n (xs ++ end)) none
-    ∙ ap (λ (e : Expected). found_from e n (xs ++ end)) w.after
-    ∙ found_from-append o n xs end
-    ∙ ap (λ (l : List FoundAt). found_from o n xs ++ l) last
+    found_from-append o 0 front (xs ++ end) ∙ ap (λ (l : List FoundAt). l ++ found_from
+    (expected_after o front) n (xs ++ end)) none ∙ ap (λ (e : Expected). found_from e n (xs ++ end))
+    w.after ∙ found_from-append o n xs end ∙ ap (λ (l : List FoundAt). found_from o n xs ++ l) last
     ∙ append-nil (found_from o n xs) in
     let over : expected_after o (front ++ (xs ++ end)) ≡ (step s mark).0 =
-    expected_after-append o front (xs ++ end)
-    ∙ ap (λ (e : Expected). expected_after e (xs ++ end)) w.after
-    ∙ expected_after-append o xs end in
+    expected_after-append o front (xs ++ end) ∙ ap (λ (e : Expected). expected_after e (xs ++ end))
+    w.after ∙ expected_after-append o xs end in
     let tail : open_section (expected_after o (front ++ (xs ++ end))) ≡ None =
-    ap open_section over ∙ none_open s all.may in
+    ap open_section over ∙ none_open _ all.may in
     let whole : sections_in (read_volume ls rs) ≡ found_from o n xs =
     ap (λ (l : List FoundAt). l ++ in_list (read_after 0 (read_volume ls rs))
-    (open_section (expected_after o (read_volume ls rs)))) body
-    ∙ ap (λ (f : Option FoundSection). found_from o n xs
-    ++ in_list (read_after 0 (read_volume ls rs)) f) tail
-    ∙ append-nil (found_from o n xs) in
+    (open_section (expected_after o (read_volume ls rs)))) body ∙ ap (λ (f : Option FoundSection).
+    found_from o n xs ++ in_list (read_after 0 (read_volume ls rs)) f) tail ∙ append-nil
+    (found_from o n xs) in
     subst (AreFound set_id rs) (sym whole) all.found

@@ -1,42 +1,31 @@
 -- The copies that are found on images of a valid set's volumes.
 use Rattle.std.proofs.Common.{◌≡◌, ℕ, ◌+◌, Bool, true, false, List, [], ◌∷◌, ◌++◌, length, Some}
 use Rattle.std.proofs.Common.{None, refl, sym, ap, subst, ◌∙◌, inl, inr, map, append-nil}
-use Rattle.std.specs.Prelude.{if◌then◌else◌, ◌==◌}
-use Rattle.std.specs.Str.{bytes_eq}
-use Rattle.std.specs.List.{AllByRecursion}
-use Rattle.std.proofs.lemmas.Bool.{and_parts}
-use Rattle.std.proofs.lemmas.Slice.Eq.{bytes_eq-Decides}
-use Rattle.tape_image.specs.Tape.{TapeItem, block}
-use Rattle.tape_image.specs.Begins.{Stop, Begins}
+use Rattle.std.proofs.Common.{if◌then◌else◌, ◌==◌}
+use Rattle.std.specs.{Str.bytes_eq, List.AllByRecursion}
+use Rattle.std.proofs.lemmas.{Bool.and_parts, Slice.Eq.bytes_eq-Decides}
+use Rattle.tape_image.specs.{Tape.TapeItem, Tape.block, Begins.Stop, Begins.Begins, Step.IsCause}
 use Rattle.tape_image.specs.declared.item.ImageCause.{ImageCause}
 use Rattle.tape_image.specs.declared.item.ImageCause.TheVariants.{Truncated, LengthsDiffer}
 use Rattle.tape_image.specs.declared.item.ImageCause.TheVariants.{Reserved, TooLong, Device}
 use Rattle.tape_image.specs.declared.item.ImageCause.TheVariants.{OutOfMemory}
-use Rattle.tape_image.specs.Step.{IsCause}
-use Rattle.tape_image.proofs.Callers.{front_of_image}
-use Rattle.tape_image.proofs.Uniqueness.{Begins-one}
-use Rattle.tape_image.proofs.Walks.{IfKnown-at}
+use Rattle.tape_image.proofs.{Callers.front_of_image, Uniqueness.Begins-one, Walks.IfKnown-at}
 use Rattle.tape_set.specs.Layout.{FileSet, Placed, on, sections}
 use Rattle.tape_set.specs.Lawful.{IsLawful, label_count}
 use Rattle.tape_set.proofs.Everywhere.{every_stands, every_front}
-use Rattle.tape_set.proofs.Numbering.{section_stands}
-use Rattle.tape_set.proofs.Volumes.{IsOn, sections_on_are}
-use Rattle.tape_run.specs.declared.section.SectionKey.{SectionKey}
+use Rattle.tape_set.proofs.{Numbering.section_stands, Volumes.IsOn, Volumes.sections_on_are}
+use Rattle.tape_run.specs.declared.section.{SectionKey.SectionKey, ImageStop.ImageStop}
 use Rattle.tape_run.specs.declared.salvage.walk.Closing.{Closing}
-use Rattle.tape_run.specs.declared.section.ImageStop.{ImageStop}
 use Rattle.tape_run.specs.declared.section.ImageStop.TheVariants.{Marked, Physical, Fault}
-use Rattle.tape_run.specs.Added.{StopsBehind}
+use Rattle.tape_run.specs.{Added.StopsBehind, SalvageClosed.IsThere}
 use Rattle.tape_run.specs.SalvageWalk.{FoundAt, sections_in}
 use Rattle.tape_run.specs.SalvageCopies.{is_of, copy_of, of_file}
-use Rattle.tape_run.specs.SalvageClosed.{IsThere}
 use Rattle.tape_run.specs.SalvageDamaged.{AnySection, IsPlainSection, IsFoundExactly}
 use Rattle.tape_run.specs.SalvageDamagedSets.{IsPlainSet, AreAnyRead, IsOtherHead, IsAnyCopy}
 use Rattle.tape_run.specs.SalvageDamagedSets.{IsExactIf, FoundAreExact}
-use Rattle.tape_run.proofs.Fronts.{walks_before}
-use Rattle.tape_run.proofs.SalvageChoice.{all_append, all_map}
-use Rattle.tape_run.proofs.SalvageClosed.{closed_are_there}
-use Rattle.tape_run.proofs.SalvageOpened.{long}
+use Rattle.tape_run.proofs.{Fronts.walks_before, SalvageClosed.closed_are_there, SalvageOpened.long}
 use Rattle.tape_run.proofs.SalvageDamagedSets.{closed_of_set_are_exact}
+use Rattle.tape_run.proofs.SalvageChoice.{all_append, all_map}
 
 -- ---- the items that were read come first among those of the image
 
@@ -55,19 +44,15 @@ by_cause its all Device q xs ys given end why whole (stop, a, cut) b =
     front_of_image (given ++ ys) (a.rest ++ ys) its all q end why w a.within
     (subst (λ (z : List ℕ). Begins 0 z all end why) whole b)
 by_cause its all OutOfMemory q xs ys given end why whole a b = absurd a
-by_cause its all Truncated q xs ys given end why whole a b =
-    same_front its all xs q end _ why a.0 b
+by_cause its all Truncated q xs ys given end why whole a b = same_front _ _ _ _ _ _ _ a.0 b
 by_cause its all _ q xs ys given end why whole a b = same_front its all xs q end _ why a.0 b
 
 stops_front : (its all : List TapeItem) (stop : ImageStop) (xs ys : List ℕ) (end : ℕ) (why : Stop)
     → StopsBehind its stop xs ys → Begins 0 xs all end why
     → (more : List TapeItem) × (all ≡ its ++ more)
-stops_front its all Marked xs ys end why (place, t) b =
-    same_front its all xs t.end end _ why t.begins b
-stops_front its all Physical xs ys end why (place, t) b =
-    same_front its all xs t.end end _ why t.begins b
-stops_front its all (Fault fault) xs ys end why t b =
-    by_cause its all fault.cause fault.place xs ys t.given end why t.whole t.cause b
+stops_front its all Marked xs ys end why (place, t) b = same_front _ _ _ _ _ _ _ t.begins b
+stops_front its all Physical xs ys end why (place, t) b = same_front _ _ _ _ _ _ _ t.begins b
+stops_front its all (Fault fault) xs ys end why t b = by_cause _ _ _ _ _ _ _ _ _ t.whole t.cause b
 
 -- ---- the copies on an image
 

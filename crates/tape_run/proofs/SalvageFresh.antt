@@ -1,29 +1,23 @@
 -- A section whose data have not begun, before and after an item.
 use Rattle.std.proofs.Common.{◌≡◌, ℕ, ◌-◌, ◌==◌, Bool, true, false, Option, Some, None, Result, Ok}
-use Rattle.std.proofs.Common.{Err, refl, sym, subst, ◌∙◌}
-use Rattle.std.specs.Prelude.{if◌then◌else◌, nat_lt}
+use Rattle.std.proofs.Common.{Err, refl, sym, subst, ◌∙◌, if◌then◌else◌, nat_lt}
 use Rattle.tape_image.specs.Tape.{TapeItem, block, bad, mark}
-use Rattle.tape_label.specs.declared.values.Kind.{Kind}
-use Rattle.tape_label.specs.declared.values.Kind.TheVariants as kinds
-use Rattle.tape_label.specs.declared.values.Head1.{Head1}
-use Rattle.tape_label.specs.declared.values.Trail1.{Trail1}
+use Rattle.tape_label.specs.declared.values.{Kind.Kind, Head1.Head1, Trail1.Trail1}
 use Rattle.tape_label.specs.declared.label.LabelFault.{LabelFault}
-use Rattle.tape_label.specs.Kinds.{kind_at}
-use Rattle.tape_label.specs.Reading.{head1_at, head2_at, trail1_at}
+use Rattle.tape_label.specs.declared.values.Kind.TheVariants as kinds
+use Rattle.tape_label.specs.{Kinds.kind_at, Reading.head1_at, Reading.head2_at, Reading.trail1_at}
 use Rattle.tape_set.specs.Lawful.{label_count}
-use Rattle.tape_run.specs.declared.section.SectionKey.{SectionKey}
-use Rattle.tape_run.specs.Noted.{same_key}
-use Rattle.tape_run.specs.declared.salvage.copies.SectionCopy.{SectionCopy}
-use Rattle.tape_run.specs.declared.salvage.walk.OpenSection.{OpenSection}
-use Rattle.tape_run.specs.declared.salvage.walk.UnnamedItems.{UnnamedItems}
+use Rattle.tape_run.specs.declared.salvage.walk.{OpenSection.OpenSection, UnnamedItems.UnnamedItems}
 use Rattle.tape_run.specs.declared.salvage.walk.Expected.{Expected}
+use Rattle.tape_run.specs.declared.salvage.copies.SectionCopy.{SectionCopy}
+use Rattle.tape_run.specs.declared.section.SectionKey.{SectionKey}
+use Rattle.tape_run.specs.{Noted.same_key, SalvageCopies.start_of}
 use Rattle.tape_run.specs.declared.salvage.walk.Expected.TheVariants.{Outside, Second, Headers}
 use Rattle.tape_run.specs.declared.salvage.walk.Expected.TheVariants.{Data, Trailer, Trailers, Next}
 use Rattle.tape_run.specs.declared.salvage.walk.Expected.TheVariants.{Over, Skipping, Unnamed}
 use Rattle.tape_run.specs.declared.salvage.walk.Expected.TheVariants.{UnnamedTrailer}
 use Rattle.tape_run.specs.SalvageWalk.{step, begun_by, closed_by, unnamed_by, goes_on_by, skipping}
 use Rattle.tape_run.specs.SalvageWalk.{unnamed_after, one_read, closes, named_by, unclosed_by}
-use Rattle.tape_run.specs.SalvageCopies.{start_of}
 use Rattle.tape_run.specs.SalvageImage.{is_in, read_in}
 use Rattle.tape_run.proofs.SalvageOpened.{second_is}
 

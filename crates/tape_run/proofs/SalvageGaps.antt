@@ -1,16 +1,14 @@
 -- The gaps that are reported for a section are the longest runs of unreadable blocks.
 use Rattle.std.proofs.Common.{◌≡◌, ◌<◌, ℕ, suc, ◌+◌, ◌-◌, Bool, true, false, List, [], ◌∷◌, ◌++◌}
 use Rattle.std.proofs.Common.{length, Option, Some, None, refl, sym, ap, subst, ◌∙◌, arith}
-use Rattle.std.proofs.Common.{append_assoc, append-nil}
-use Rattle.std.specs.Prelude.{replicate}
+use Rattle.std.proofs.Common.{append_assoc, append-nil, replicate}
 use Rattle.std.specs.List.{AllByRecursion}
 use Rattle.tape_image.specs.Tape.{TapeItem, block, bad, mark}
 use Rattle.tape_blocks.specs.declared.check.BlockFault.{BlockFault}
 use Rattle.tape_set.specs.Lawful.{FileForm}
 use Rattle.tape_run.specs.SalvageBlocks.{Salvaged, salvaged_at, text_at, gap_text, torn_text}
 use Rattle.tape_run.specs.SalvageBlocks.{refused_text}
-use Rattle.tape_run.specs.SalvageWalk.{first_of}
-use Rattle.tape_run.specs.SalvageRecords.{found_fault, is_cut}
+use Rattle.tape_run.specs.{SalvageWalk.first_of, SalvageRecords.found_fault, SalvageRecords.is_cut}
 use Rattle.tape_run.specs.SalvageGaps.{salvaged_data, Gap, BlockLine, a_gap, a_torn, a_refused}
 use Rattle.tape_run.specs.SalvageGaps.{block_line, block_lines, gaps_in, IsReadable, StartsReadable}
 use Rattle.tape_run.specs.SalvageGaps.{AreGaps}

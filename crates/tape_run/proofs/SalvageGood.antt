@@ -1,40 +1,28 @@
 -- The copies of a file's sections on complete readings of the volumes of a valid set.
 use Rattle.std.proofs.Common.{◌≡◌, ℕ, ◌+◌, ◌-◌, ◌==◌, ◌&&◌, Bool, true, false, List, [], ◌∷◌, ◌++◌}
 use Rattle.std.proofs.Common.{length, Option, Some, None, refl, sym, ap, subst, ◌∙◌, arith}
-use Rattle.std.proofs.Common.{append_assoc, suc}
-use Rattle.std.specs.Prelude.{if◌then◌else◌, option_map, slice_get}
-use Rattle.std.specs.List.{AllByRecursion}
-use Rattle.std.specs.Str.{bytes_eq}
-use Rattle.std.proofs.lemmas.Bool.{and_parts}
-use Rattle.std.proofs.lemmas.Bool.Decides.{nat_tests}
+use Rattle.std.proofs.Common.{append_assoc, suc, if◌then◌else◌, option_map, slice_get}
+use Rattle.std.specs.{List.AllByRecursion, Str.bytes_eq}
+use Rattle.std.proofs.lemmas.{Bool.and_parts, Bool.Decides.nat_tests}
 use Rattle.tape_label.specs.declared.values.Kind.TheVariants as kinds
-use Rattle.tape_label.proofs.First.{head1_again, trail1_again}
-use Rattle.tape_label.proofs.Apart.{kind_again}
-use Rattle.tape_set.specs.Layout.{FileSet, Section, Placed, nth, on, sections, section_of}
-use Rattle.tape_set.specs.Layout.{ends_file}
-use Rattle.tape_set.specs.Lawful.{IsLawful, FileForm, TellsForm}
-use Rattle.tape_set.specs.Laws.{StandsIn}
+use Rattle.tape_label.proofs.{First.head1_again, First.trail1_again, Apart.kind_again}
+use Rattle.tape_set.specs.Layout.{FileSet, Section, Placed, nth, on}
+use Rattle.tape_set.specs.{Layout.sections, Layout.section_of, Layout.ends_file, Lawful.IsLawful}
+use Rattle.tape_set.specs.{Lawful.FileForm, Lawful.TellsForm, Laws.StandsIn, Reading.Reading}
 use Rattle.tape_set.proofs.Everywhere.{every_stands, stands_behind, stands_before}
-use Rattle.tape_set.proofs.Numbering.{placed}
+use Rattle.tape_set.proofs.{Numbering.placed, Forms.trailer_ends}
 use Rattle.tape_set.proofs.Volumes.{IsOn, sections_on_are, wanted_lies}
-use Rattle.tape_set.proofs.Forms.{trailer_ends}
-use Rattle.tape_set.specs.Reading.{Reading}
+use Rattle.tape_run.specs.declared.salvage.walk.{OpenSection.OpenSection, Closing.Closing}
 use Rattle.tape_run.specs.declared.salvage.copies.SectionCopy.{SectionCopy}
-use Rattle.tape_run.specs.declared.salvage.walk.OpenSection.{OpenSection}
-use Rattle.tape_run.specs.declared.salvage.walk.Closing.{Closing}
 use Rattle.tape_run.specs.SalvageWalk.{FoundAt, sections_in}
 use Rattle.tape_run.specs.SalvageCopies.{is_of, copy_of, of_file, rank}
 use Rattle.tape_run.specs.SalvageSections.{SectionRead, IsRead, key_of}
-use Rattle.tape_run.specs.SalvageFile.{closed_copy}
-use Rattle.tape_run.specs.SalvageReadings.{IsReadVolume}
+use Rattle.tape_run.specs.{SalvageFile.closed_copy, SalvageReadings.IsReadVolume}
 use Rattle.tape_run.specs.SalvageSets.{items_read, IsCompleteOr, copies_on, HasVolume, rank_of}
-use Rattle.tape_run.proofs.SalvageChoice.{all_append}
+use Rattle.tape_run.proofs.{SalvageChoice.all_append, SalvageSteps.AreHeads, StayingGood.key_again}
+use Rattle.tape_run.proofs.{WholeVolumes.some_of, SalvageRanks.form_read, SalvageRanks.found_rank}
 use Rattle.tape_run.proofs.SalvageFound.{IsFound, AreFound, volume_found}
 use Rattle.tape_run.proofs.SalvageReadings.{placed_of, ReadVolume, volume_read}
-use Rattle.tape_run.proofs.SalvageSteps.{AreHeads}
-use Rattle.tape_run.proofs.StayingGood.{key_again}
-use Rattle.tape_run.proofs.WholeVolumes.{some_of}
-use Rattle.tape_run.proofs.SalvageRanks.{form_read, found_rank}
 
 module _ (set : FileSet) (file : ℕ) (all : List (Option Reading)) where
   -- A copy is a section of the file on one of the images, which was found as it is.
@@ -100,12 +88,10 @@ module _ (set : FileSet) (file : ℕ) (all : List (Option Reading)) where
 
   module _ (n : ℕ) (r : Reading) (v : IsReadVolume set r.volume (items_read set r))
       (at : slice_get all n ≡ Some (Some r)) where
-    of_file_good : (before reads : List SectionRead) (ts : List FoundAt)
-        → v.reads ≡ before ++ reads
+    of_file_good : (before reads : List SectionRead) (ts : List FoundAt) → v.reads ≡ before ++ reads
         → AllByRecursion (λ (s : SectionRead). AreHeads s.headers) reads
         → AllByRecursion (IsRead set.set_id (length set.volumes)) reads
-        → AreFound set.set_id reads ts
-        → AllByRecursion IsGood (of_file set.set_id file n ts)
+        → AreFound set.set_id reads ts → AllByRecursion IsGood (of_file set.set_id file n ts)
     of_file_good before [] [] is firsts read f = tt
     of_file_good before [] (t ∷ ts) is firsts read f = absurd f
     of_file_good before (s ∷ reads) [] is firsts read f = absurd f
@@ -267,14 +253,12 @@ module _ (set : FileSet) (file sect : ℕ) (w : Section) (l : IsLawful set)
 pub placed_at : (before : List SectionRead) (s : SectionRead) (rest : List SectionRead)
     → placed_of (before ++ s ∷ rest) ≡ placed_of before ++ s.placed ∷ placed_of rest
 placed_at [] s rest = refl
-placed_at (b ∷ before) s rest =
-    ap (λ (ps : List Placed). b.placed ∷ ps) (placed_at before s rest)
+placed_at (b ∷ before) s rest = ap (λ (ps : List Placed). b.placed ∷ ps) (placed_at before s rest)
 
 pub good_on : (set : FileSet) (file : ℕ) (all : List (Option Reading)) (c : SectionCopy)
     → IsLawful set → (g : IsGood set file all c) → IsOn set g.reading.volume g.section.placed
 good_on set file all c l g =
-    every_stands (IsOn set g.reading.volume) (on g.reading.volume (sections set)) g.section.placed
-    (sections_on_are set g.reading.volume l) (
+    every_stands _ _ g.section.placed (sections_on_are _ g.reading.volume l) (
       placed_of g.before,
       placed_of g.rest,
       sym g.volume.all ∙ ap placed_of g.is ∙ placed_at g.before g.section g.rest,

@@ -1,11 +1,10 @@
 -- The recovered records grow, and up to the first missing block none is left out.
 use Rattle.std.proofs.Common.{◌≡◌, Bool, true, false, List, [], ◌∷◌, ◌++◌, Result, Ok, Err, Some}
 use Rattle.std.proofs.Common.{◌&&◌, refl, sym, ap, subst, ◌∙◌, append-nil, append_assoc}
-use Rattle.std.specs.Prelude.{if◌then◌else◌}
+use Rattle.std.proofs.Common.{if◌then◌else◌}
 use Rattle.std.specs.List.{AllByRecursion}
 use Rattle.tape_blocks.specs.declared.check.BlockFault.{BlockFault}
-use Rattle.tape_blocks.specs.Block.{Portion}
-use Rattle.tape_blocks.specs.Spans.{continues, leaves, InOrder}
+use Rattle.tape_blocks.specs.{Block.Portion, Spans.continues, Spans.leaves, Spans.InOrder}
 use Rattle.tape_set.specs.Lawful.{FileForm}
 use Rattle.tape_run.specs.SalvageRecords.{Piece, nothing, with_part, with_parts, with_open}
 use Rattle.tape_run.specs.SalvageRecords.{with_end, torn, mended, mended_by, judged_at}

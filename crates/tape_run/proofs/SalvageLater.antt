@@ -1,15 +1,12 @@
 -- What is true of each section that is found: proved from the last item to the first.
 use Rattle.std.proofs.Common.{◌≡◌, ℕ, Bool, true, false, List, [], ◌∷◌, Option, Some, None, Result}
-use Rattle.std.proofs.Common.{Ok, Err, refl, sym, ap, subst, ◌∙◌, ◌⊎◌, inl, inr}
-use Rattle.std.specs.Prelude.{if◌then◌else◌}
+use Rattle.std.proofs.Common.{Ok, Err, refl, sym, ap, subst, ◌∙◌, ◌⊎◌, inl, inr, if◌then◌else◌}
 use Rattle.std.specs.List.{AllByRecursion}
 use Rattle.tape_image.specs.Tape.{TapeItem, block, bad, mark}
-use Rattle.tape_label.specs.declared.values.Head1.{Head1}
-use Rattle.tape_label.specs.declared.values.Trail1.{Trail1}
+use Rattle.tape_label.specs.declared.values.{Head1.Head1, Trail1.Trail1}
 use Rattle.tape_label.specs.declared.label.LabelFault.{LabelFault}
 use Rattle.tape_label.specs.Reading.{head1_at, trail1_at}
-use Rattle.tape_run.specs.declared.salvage.walk.OpenSection.{OpenSection}
-use Rattle.tape_run.specs.declared.salvage.walk.Closing.{Closing}
+use Rattle.tape_run.specs.declared.salvage.walk.{OpenSection.OpenSection, Closing.Closing}
 use Rattle.tape_run.specs.declared.salvage.walk.Expected.{Expected}
 use Rattle.tape_run.specs.declared.salvage.walk.Expected.TheVariants.{Outside, Second, Headers}
 use Rattle.tape_run.specs.declared.salvage.walk.Expected.TheVariants.{Data, Trailer, Trailers, Next}
@@ -83,8 +80,7 @@ module _ (P : Expected → List TapeItem → OpenSection → Closing → Type 0)
       let same : u ≡ v = ap (section_or u) e in
       let alike : l ≡ k = ap (closing_or l) e in named u v l k (mark ∷ xs) same alike
   ends_here (Trailers u l) (block b) xs v k e = absurd (not_closed _ v k e refl)
-  ends_here (Trailer u) (block b) xs v k e =
-      absurd (no_end u (trail1_at b) (head1_at b) v k e)
+  ends_here (Trailer u) (block b) xs v k e = absurd (no_end u (trail1_at b) (head1_at b) v k e)
   ends_here (Outside n) (block b) xs v k e = absurd (not_closed _ v k e refl)
   ends_here (Second u) (block b) xs v k e = absurd (not_closed _ v k e refl)
   ends_here (Headers u) (block b) xs v k e = absurd (not_closed _ v k e refl)
@@ -102,8 +98,7 @@ module _ (P : Expected → List TapeItem → OpenSection → Closing → Type 0)
       let alike : l ≡ k = ap (closing_or l) e in named u v l k [] same alike
   still_open (Outside n) [] v k e = absurd (not_closed _ v k e refl)
   still_open (Skipping n u) [] v k e = skips n u [] v k
-  still_open s (x ∷ xs) v k e =
-      back s x xs v k (still_open (step s x).0 xs v k e)
+  still_open s (x ∷ xs) v k e = back s x xs v k (still_open (step s x).0 xs v k e)
   still_open _ _ v k e = absurd (not_closed _ v k e refl)
 
   -- ---- all sections
@@ -112,8 +107,7 @@ module _ (P : Expected → List TapeItem → OpenSection → Closing → Type 0)
       → AllByRecursion (PAt P (step s x).0 xs) l → AllByRecursion (PAt P s (x ∷ xs)) l
   all_back s x xs [] all = tt
   all_back s x xs ((place, (v, None)) ∷ l) (h, all) = (tt, all_back s x xs l all)
-  all_back s x xs ((place, (v, Some k)) ∷ l) (h, all) =
-      (back s x xs v k h, all_back s x xs l all)
+  all_back s x xs ((place, (v, Some k)) ∷ l) (h, all) = (back s x xs v k h, all_back s x xs l all)
 
   in_list_comes : (s : Expected) (xs : List TapeItem) (n : ℕ) (o : Option FoundSection)
       → ((v : OpenSection) (k : Closing) → o ≡ Some (v, Some k) → P s xs v k)

@@ -1,29 +1,22 @@
 -- No image has more of a section's blocks than the one from which it is recovered.
 use Rattle.std.proofs.Common.{◌≡◌, ◌<◌, ◌≤◌, ℕ, ◌+◌, ◌-◌, ◌==◌, ◌&&◌, Bool, true, false, List, []}
 use Rattle.std.proofs.Common.{◌∷◌, ◌++◌, length, Option, Some, None, refl, sym, ap, subst, ◌∙◌}
-use Rattle.std.proofs.Common.{arith, suc, zero, inl, inr}
-use Rattle.std.specs.Prelude.{if◌then◌else◌, slice_get, not, ◌⊎◌}
+use Rattle.std.proofs.Common.{arith, suc, zero, inl, inr, if◌then◌else◌, slice_get, not, ◌⊎◌}
 use Rattle.std.specs.List.{AllByRecursion}
 use Rattle.std.proofs.lemmas.Bool.Decides.{nat_tests}
 use Rattle.tape_set.specs.Layout.{FileSet, Section, Placed, on, sections, section_of}
-use Rattle.tape_set.specs.Lawful.{IsLawful}
-use Rattle.tape_set.specs.Laws.{StandsIn}
-use Rattle.tape_set.specs.Reading.{Reading}
+use Rattle.tape_set.specs.{Lawful.IsLawful, Laws.StandsIn, Reading.Reading}
 use Rattle.tape_set.proofs.Everywhere.{every_stands, stands_behind, stands_before}
-use Rattle.tape_set.proofs.Numbering.{placed}
-use Rattle.tape_set.proofs.Volumes.{IsOn, sections_on_are}
+use Rattle.tape_set.proofs.{Numbering.placed, Volumes.IsOn, Volumes.sections_on_are}
 use Rattle.tape_run.specs.declared.salvage.copies.SectionCopy.{SectionCopy}
 use Rattle.tape_run.specs.SalvageChoice.{firsts, is_considered, IsBest}
-use Rattle.tape_run.specs.SalvageCopies.{rank}
-use Rattle.tape_run.specs.SalvageSections.{IsRead}
+use Rattle.tape_run.specs.{SalvageCopies.rank, SalvageSections.IsRead}
 use Rattle.tape_run.specs.SalvageSets.{IsCompleteOr, copies_on, HasBlocks, rank_of, NoneHasMore}
 use Rattle.tape_run.specs.SalvageWhole.{Blocks, not_read}
 use Rattle.tape_run.proofs.SalvageChoice.{all_append, all_map}
-use Rattle.tape_run.proofs.SalvageOpened.{long}
-use Rattle.tape_run.proofs.SalvageReadings.{placed_of}
+use Rattle.tape_run.proofs.{SalvageOpened.long, SalvageReadings.placed_of, SalvageSame.same_blocks}
 use Rattle.tape_run.proofs.SalvageAgain.{IsOne, firsts_all}
 use Rattle.tape_run.proofs.SalvageGood.{IsGood, copies_good, good_placed, placed_at, image_has}
-use Rattle.tape_run.proofs.SalvageSame.{same_blocks}
 
 -- ---- the copies that are considered
 
@@ -89,10 +82,9 @@ best_most : (cs : List SectionCopy) (c d : SectionCopy) → IsBest cs (Some c) �
     → rank d ≤ rank c
 best_most cs c d (front, rest, is, less, most) among =
     let le : rank c ≤ rank c = omega arith in
-    every_stands (λ x. rank x ≤ rank c) cs d (subst (AllByRecursion (λ x. rank x ≤ rank c)) (sym is)
-    (all_append (λ x. rank x ≤ rank c) front (c ∷ rest)
-    (all_map (λ x. rank x < rank c) (λ x. rank x ≤ rank c) (λ x h. omega (arith, h)) front less)
-    (le, most))) among
+    every_stands (λ x. rank x ≤ rank c) _ _ (subst (AllByRecursion (λ x. rank x ≤ rank c)) (sym is)
+    (all_append (λ x. rank x ≤ rank c) _ (c ∷ rest) (all_map (λ x. rank x < rank c)
+    (λ x. rank x ≤ rank c) (λ x h. omega (arith, h)) _ less) (le, most))) among
 
 -- ---- the number of blocks
 

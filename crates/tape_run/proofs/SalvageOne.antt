@@ -1,27 +1,21 @@
 -- One section, recovered from its best copy.
 use Rattle.std.proofs.Common.{◌≡◌, ℕ, Bool, true, false, Result, Ok, Err, IfOk, OnOk, List, ◌++◌}
-use Rattle.std.proofs.Common.{Option, Some, None, refl, sym, ap, subst, ◌∙◌}
-use Rattle.std.specs.Prelude.{if◌then◌else◌}
+use Rattle.std.proofs.Common.{Option, Some, None, refl, sym, ap, subst, ◌∙◌, if◌then◌else◌}
 use Rattle.std.specs.Io.KnownBytes.{Appends}
 use Rattle.std.proofs.KnownBytes.{Appends-trans}
 use Rattle.tape_set.specs.Lawful.{FileForm}
-use Rattle.tape_run.specs.declared.salvage.Content.{Content}
 use Rattle.tape_run.specs.declared.salvage.ending.SectionEnd.{SectionEnd}
 use Rattle.tape_run.specs.declared.salvage.ending.SectionEnd.TheVariants.{Unknown}
-use Rattle.tape_run.specs.declared.salvage.copies.SectionCopy.{SectionCopy}
-use Rattle.tape_run.specs.declared.salvage.recovery.Recovery.{Recovery}
-use Rattle.tape_run.specs.Reeling.{Mounting}
-use Rattle.tape_run.specs.SalvageCopies.{believed, start_of}
-use Rattle.tape_run.specs.SalvageLine.{section_line}
-use Rattle.tape_run.specs.SalvageWalk.{expected_after}
+use Rattle.tape_run.specs.declared.salvage.{Content.Content, copies.SectionCopy.SectionCopy}
+use Rattle.tape_run.specs.declared.salvage.{recovery.Recovery.Recovery, walk.Expected.Expected}
+use Rattle.tape_run.specs.{Reeling.Mounting, SalvageLine.section_line, SalvageWalk.expected_after}
+use Rattle.tape_run.specs.{SalvageCopies.believed, SalvageCopies.start_of, SalvageBlocks.Salvaged}
+use Rattle.tape_run.specs.{SalvageBlocks.Recovers, SalvageChoice.firsts, SalvageChoice.IsBest}
 use Rattle.tape_run.specs.SalvageImage.{RecoversSection, read_in, salvaged_from, text_from}
-use Rattle.tape_run.specs.declared.salvage.walk.Expected.{Expected}
-use Rattle.tape_run.specs.SalvageBlocks.{Salvaged, Recovers}
-use Rattle.tape_run.specs.SalvageChoice.{firsts, IsBest}
 use Rattle.tape_run.specs.SalvageTaking.{TakesSection, TakesCopy, end_by, image_number, form_for}
 use Rattle.tape_run.specs.SalvageTaking.{has_form, MountsIf, after_copy, copy_text}
-use Rattle.tape_run.specs.SalvageEnds.{without_rest, no_section_text, no_form_text}
-use Rattle.tape_run.specs.SalvageEnds.{read_again, read_again_text}
+use Rattle.tape_run.specs.SalvageEnds.{without_rest, no_section_text, no_form_text, read_again}
+use Rattle.tape_run.specs.SalvageEnds.{read_again_text}
 
 -- one recovery after another
 pub recovers_then : {W : Type 0} (contents : W → Option (List ℕ)) (old mid new : Recovery W)

@@ -1,30 +1,25 @@
 -- A section of a valid set during the walk over its items: the effect of its labels and blocks.
-use Rattle.std.proofs.Common.{◌≡◌, ◌<◌, ◌≤◌, ℕ, ◌+◌, Bool, true, false, List, [], ◌∷◌, suc}
-use Rattle.std.proofs.Common.{length, Option, Some, None, Ok, Result, refl, ap, ◌∙◌, arith}
-use Rattle.std.specs.Prelude.{if◌then◌else◌, ◌==◌, min, option_map}
+use Rattle.std.proofs.Common.{◌≡◌, ◌<◌, ◌≤◌, ℕ, ◌+◌, Bool, true, false, List, [], ◌∷◌, suc, length}
+use Rattle.std.proofs.Common.{Option, Some, None, Ok, Result, refl, ap, ◌∙◌, arith, if◌then◌else◌}
+use Rattle.std.proofs.Common.{◌==◌, min, option_map}
 use Rattle.std.proofs.lemmas.Bool.Decides.{nat_tests}
 use Rattle.tape_image.specs.Tape.{block}
-use Rattle.tape_label.specs.declared.values.Kind.{Kind}
-use Rattle.tape_label.specs.declared.values.Kind.TheVariants as kinds
-use Rattle.tape_label.specs.declared.values.Head1.{Head1}
-use Rattle.tape_label.specs.declared.values.Head2.{Head2}
-use Rattle.tape_label.specs.declared.values.Trail1.{Trail1}
+use Rattle.tape_label.specs.declared.values.{Kind.Kind, Head1.Head1, Head2.Head2, Trail1.Trail1}
 use Rattle.tape_label.specs.declared.label.LabelFault.{LabelFault}
+use Rattle.tape_label.specs.declared.values.Kind.TheVariants as kinds
 use Rattle.tape_label.specs.Reading.{head1_at, head2_at, trail1_at}
 use Rattle.tape_set.specs.Lawful.{FileForm}
-use Rattle.tape_run.specs.declared.section.SectionKey.{SectionKey}
-use Rattle.tape_run.specs.declared.salvage.walk.OpenSection.{OpenSection}
-use Rattle.tape_run.specs.declared.salvage.walk.Closing.{Closing}
+use Rattle.tape_run.specs.declared.salvage.walk.{OpenSection.OpenSection, Closing.Closing}
 use Rattle.tape_run.specs.declared.salvage.walk.Expected.{Expected}
+use Rattle.tape_run.specs.declared.section.SectionKey.{SectionKey}
 use Rattle.tape_run.specs.declared.salvage.walk.Expected.TheVariants.{Outside, Second, Headers}
-use Rattle.tape_run.specs.declared.salvage.walk.Expected.TheVariants.{Data, Trailer, Trailers}
-use Rattle.tape_run.specs.declared.salvage.walk.Expected.TheVariants.{Next, Over, Skipping}
-use Rattle.tape_run.specs.declared.salvage.walk.Expected.TheVariants.{Unnamed, UnnamedTrailer}
+use Rattle.tape_run.specs.declared.salvage.walk.Expected.TheVariants.{Data, Trailer, Trailers, Next}
+use Rattle.tape_run.specs.declared.salvage.walk.Expected.TheVariants.{Over, Skipping, Unnamed}
+use Rattle.tape_run.specs.declared.salvage.walk.Expected.TheVariants.{UnnamedTrailer}
 use Rattle.tape_run.specs.SalvageWalk.{step, section_by, begun_by, with_item, with_data}
-use Rattle.tape_run.specs.SalvageWalk.{with_unreadable}
-use Rattle.tape_run.specs.SalvageWalk.{doubted, closes, closed_by, second_by, unclosed_by}
-use Rattle.tape_run.specs.SalvageWalk.{with_trailer, unnamed_after, one_read, form_by, form_or}
-use Rattle.tape_run.specs.SalvageWalk.{first_of}
+use Rattle.tape_run.specs.SalvageWalk.{with_unreadable, doubted, closes, closed_by, second_by}
+use Rattle.tape_run.specs.SalvageWalk.{unclosed_by, with_trailer, unnamed_after, one_read, form_by}
+use Rattle.tape_run.specs.SalvageWalk.{form_or, first_of}
 use Rattle.tape_run.specs.SalvageWhole.{Blocks, not_read}
 use Rattle.tape_run.specs.SalvageSections.{Labels, filled_of, MayBegin, after_trailers}
 
@@ -188,8 +183,7 @@ pub unread_section : (u : OpenSection) (bs : Blocks) → u.unreadable + length b
     → (section_after u bs).unreadable ≡ u.unreadable + not_read bs
 unfolding section_after
 unread_section u [] few = omega arith
-unread_section u ((true, f) ∷ bs) few =
-    unread_section (with_data f.bytes u) bs (omega (arith, few))
+unread_section u ((true, f) ∷ bs) few = unread_section (with_data f.bytes u) bs (omega (arith, few))
 unread_section u ((false, f) ∷ bs) few =
     let n : min (u.unreadable + 1) 4294967295 ≡ u.unreadable + 1 = omega (arith, few) in
     let r = unread_section (with_item (with_unreadable u)) bs (omega (arith, n, few)) in

@@ -1,19 +1,15 @@
 -- Items of a volume of a valid set that cannot be mistaken for an HDR1 or a trailer label.
 use Rattle.std.proofs.Common.{◌≡◌, ℕ, ◌==◌, ◌&&◌, Bool, true, false, List, [], ◌∷◌, Ok}
-use Rattle.std.specs.Prelude.{if◌then◌else◌}
+use Rattle.std.proofs.Common.{if◌then◌else◌}
 use Rattle.std.specs.List.{AllByRecursion}
 use Rattle.tape_image.specs.Tape.{TapeItem, block, bad, mark}
 use Rattle.tape_label.specs.declared.values.Kind.TheVariants as kinds
-use Rattle.tape_label.specs.declared.values.Head1.{Head1}
-use Rattle.tape_label.specs.declared.values.Trail1.{Trail1}
-use Rattle.tape_label.specs.Kinds.{HasKind, trailer}
-use Rattle.tape_label.specs.Reading.{head1_at, trail1_at}
-use Rattle.tape_label.proofs.First.{head1_found, trail1_found}
-use Rattle.tape_label.proofs.Apart.{HasKind-unique}
+use Rattle.tape_label.specs.declared.values.{Head1.Head1, Trail1.Trail1}
+use Rattle.tape_label.specs.{Kinds.HasKind, Kinds.trailer, Reading.head1_at, Reading.trail1_at}
+use Rattle.tape_label.proofs.{First.head1_found, First.trail1_found, Apart.HasKind-unique}
 use Rattle.tape_run.specs.declared.section.SectionKey.{SectionKey}
-use Rattle.tape_run.specs.SalvageWhole.{Blocks}
+use Rattle.tape_run.specs.{SalvageWhole.Blocks, SalvageClosed.IsNoMark}
 use Rattle.tape_run.specs.SalvageSections.{Labels, read_labels, read_blocks}
-use Rattle.tape_run.specs.SalvageClosed.{IsNoMark}
 use Rattle.tape_run.specs.SalvageDamaged.{if_read, IsPlain}
 
 module _ (set_id : List ℕ) where
@@ -38,8 +34,7 @@ module _ (set_id : List ℕ) where
 
   plain : (key : SectionKey) (g : Bool) (b : List ℕ) → IsPlain set_id b
       → IsNone key (if g then block b else bad)
-  plain key true b p =
-      record { head = p.no_head; own = λ t e own. p.no_trail t e; off = tt }
+  plain key true b p = record { head = p.no_head; own = λ t e own. p.no_trail t e; off = tt }
   plain key false b p = record { head = tt; own = tt; off = tt }
 
   pub plain_labels : (key : SectionKey) (ls : Labels) → AllByRecursion (λ l. IsPlain set_id l.1) ls
@@ -66,7 +61,6 @@ module _ (set_id : List ℕ) where
   not_both b h t e f = apart t.eof (trail1_found b t f).kind
     where
       apart : (z : Bool) → HasKind b (trailer z) → ⊥
-      apart true c =
-          absurd (cc (HasKind-unique b kinds.Hdr1 kinds.Eof1 (head1_found b h e).kind c))
+      apart true c = absurd (cc (HasKind-unique b kinds.Hdr1 kinds.Eof1 (head1_found b h e).kind c))
       apart false c =
           absurd (cc (HasKind-unique b kinds.Hdr1 kinds.Eov1 (head1_found b h e).kind c))

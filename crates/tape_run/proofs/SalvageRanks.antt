@@ -1,27 +1,21 @@
 -- The form and the rank of a copy that was found as it is.
 use Rattle.std.proofs.Common.{◌≡◌, ◌≤◌, ℕ, ◌+◌, ◌-◌, ◌==◌, ◌&&◌, Bool, true, false, List, length}
 use Rattle.std.proofs.Common.{Option, Some, None, refl, sym, ap, ◌∙◌, arith, inl, inr, eq-eqb}
-use Rattle.std.specs.Prelude.{if◌then◌else◌, nat_le, is_none}
+use Rattle.std.proofs.Common.{if◌then◌else◌, nat_le, is_none}
 use Rattle.std.proofs.lemmas.Bool.Decides.{nat_tests}
 use Rattle.tape_label.specs.declared.values.Kind.TheVariants as kinds
 use Rattle.tape_label.specs.declared.values.Format.{Format}
 use Rattle.tape_label.specs.declared.values.Format.TheVariants.{Fixed, Counted, Spanned}
-use Rattle.tape_label.specs.Formats.{least_record}
-use Rattle.tape_label.specs.Head2.{HasOffset}
-use Rattle.tape_label.specs.Reading.{head2_at}
+use Rattle.tape_label.specs.{Formats.least_record, Head2.HasOffset, Reading.head2_at}
 use Rattle.tape_label.proofs.Second.{head2_again}
 use Rattle.tape_set.specs.Layout.{Section}
 use Rattle.tape_set.specs.Lawful.{FileForm, TellsForm, binding_len, label_count}
-use Rattle.tape_core.specs.Known.{known_of}
-use Rattle.tape_core.specs.Range.{form_in_range}
+use Rattle.tape_core.specs.{Known.known_of, Range.form_in_range}
 use Rattle.tape_run.specs.SalvageWalk.{FoundAt, form_by, form_of}
 use Rattle.tape_run.specs.SalvageCopies.{is_complete, rank}
-use Rattle.tape_run.specs.SalvageWhole.{not_read}
-use Rattle.tape_run.specs.SalvageSections.{SectionRead}
-use Rattle.tape_run.specs.SalvageFile.{closed_copy}
-use Rattle.tape_run.specs.SalvageSets.{rank_of}
-use Rattle.tape_run.proofs.SalvageOpened.{AllRead}
-use Rattle.tape_run.proofs.SalvageFound.{IsFound}
+use Rattle.tape_run.specs.{SalvageWhole.not_read, SalvageSections.SectionRead}
+use Rattle.tape_run.specs.{SalvageFile.closed_copy, SalvageSets.rank_of}
+use Rattle.tape_run.proofs.{SalvageOpened.AllRead, SalvageFound.IsFound}
 
 -- ---- the form that the labels record
 
@@ -48,11 +42,9 @@ form_read form s t =
     let g = t.second in
     let len = t.hdr2.rec_len in
     let most = len.fits in
-    ap (form_by t.head.file_id) (head2_again s.hdr2 kinds.Hdr2 g t.hdr2)
-    ∙ ap (λ (b : Bool). if b then Some (form_of t.head.file_id g) else None)
-    (in_range_by g.format g.rec_len g.offset t.head.file_id len.at_least
-    (omega (arith, most)) (few_digits s.hdr2 g.offset t.hdr2.offset))
-    ∙ ap (λ (f : FileForm). Some f) t.told
+    ap (form_by t.head.file_id) (head2_again _ _ _ t.hdr2) ∙ ap (λ (b : Bool). if b then Some
+    (form_of t.head.file_id g) else None) (in_range_by _ _ _ t.head.file_id len.at_least
+    (omega (arith, most)) (few_digits _ _ t.hdr2.offset)) ∙ ap (λ (f : FileForm). Some f) t.told
 
 -- ---- a copy
 
@@ -85,8 +77,6 @@ pub found_rank : (set_id : List ℕ) (n : ℕ) (s : SectionRead) (t : FoundAt) (
 found_rank set_id n s t f heads =
     let u = f.section in
     ap (λ (b : Bool). (if b then 4294967296 else 0) + (u.blocks - u.unreadable))
-    (all_known set_id n s t f heads (not_read s.blocks == 0) refl)
-    ∙ ap (λ (m : ℕ). (if not_read s.blocks == 0 then 4294967296 else 0) + (m - u.unreadable))
-    f.blocks
-    ∙ ap (λ (m : ℕ). (if not_read s.blocks == 0 then 4294967296 else 0) + (length s.blocks - m))
-    f.unread
+    (all_known set_id n _ t f heads (not_read s.blocks == 0) refl) ∙ ap (λ (m : ℕ).
+    (if not_read s.blocks == 0 then 4294967296 else 0) + (m - u.unreadable)) f.blocks ∙ ap (λ
+    (m : ℕ). (if not_read s.blocks == 0 then 4294967296 else 0) + (length s.blocks - m)) f.unread

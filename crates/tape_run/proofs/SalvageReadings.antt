@@ -1,10 +1,8 @@
 -- A reading in which only data blocks were unreadable, as labels and sections that were read.
 use Rattle.std.proofs.Common.{◌≡◌, ◌<◌, ℕ, ◌==◌, ◌&&◌, ◌||◌, Bool, true, false, List, [], ◌∷◌, ◌++◌}
 use Rattle.std.proofs.Common.{length, map, Option, Some, refl, sym, ap, subst, ◌∙◌, arith}
-use Rattle.std.proofs.Common.{append_assoc}
-use Rattle.std.specs.Prelude.{if◌then◌else◌}
-use Rattle.std.specs.List.{AllByRecursion}
-use Rattle.std.specs.Str.{bytes_eq}
+use Rattle.std.proofs.Common.{append_assoc, if◌then◌else◌}
+use Rattle.std.specs.{List.AllByRecursion, Str.bytes_eq}
 use Rattle.std.proofs.lemmas.Bool.Decides.{nat_tests}
 use Rattle.tape_image.specs.Tape.{TapeItem, block, bad, mark}
 use Rattle.tape_blocks.specs.Tight.{Filled}
@@ -13,8 +11,7 @@ use Rattle.tape_set.specs.Layout.{items, entries, entries_on, nth, on, sections,
 use Rattle.tape_set.specs.Layout.{all_entries, header_group, data_group, trailer_group}
 use Rattle.tape_set.specs.Layout.{volume_group}
 use Rattle.tape_set.specs.Lawful.{IsLawful, IsVolume, IsSection}
-use Rattle.tape_set.specs.Reading.{as_read}
-use Rattle.tape_set.specs.Reach.{passes}
+use Rattle.tape_set.specs.{Reading.as_read, Reach.passes}
 use Rattle.tape_set.proofs.Everywhere.{every_at, nth_found}
 use Rattle.tape_set.proofs.Volumes.{IsOn, Rising, sections_on_are, sections_on_rise}
 use Rattle.tape_run.specs.SalvageWhole.{Blocks}
@@ -22,10 +19,8 @@ use Rattle.tape_run.specs.SalvageSections.{SectionRead, IsRead, Labels, labels_o
 use Rattle.tape_run.specs.SalvageSections.{read_blocks, filled_of, read_section, read_sections}
 use Rattle.tape_run.specs.SalvageSections.{read_volume, NoneBegins, IsOther, IsReadTo, key_of}
 use Rattle.tape_run.specs.SalvageReadings.{IsReadVolume, RecoversReading}
-use Rattle.tape_run.proofs.SalvageOpened.{AllRead}
-use Rattle.tape_run.proofs.SalvageSteps.{AreHeads}
-use Rattle.tape_run.proofs.SalvageClosings.{recovers_from_reading}
-use Rattle.tape_run.proofs.StayingGood.{key_again}
+use Rattle.tape_run.proofs.{SalvageOpened.AllRead, SalvageSteps.AreHeads}
+use Rattle.tape_run.proofs.{SalvageClosings.recovers_from_reading, StayingGood.key_again}
 use Rattle.tape_run.proofs.WholeVolumes.{some_of}
 
 -- ---- entries as they were read
@@ -98,8 +93,7 @@ labels_read (g ∷ gs) (b ∷ bs) h =
     ap (λ (c : Bool). (if c then block b else bad) ∷ read_as gs (map a_label bs)) one
     ∙ ap (λ (l : List TapeItem). block b ∷ l) rest
 
-mark_read : (gs : List Bool) → passes gs (a_mark ∷ []) ≡ true
-    → read_as gs (a_mark ∷ []) ≡ mark ∷ []
+mark_read : (gs : List Bool) → passes gs (a_mark ∷ []) ≡ true → read_as gs (a_mark ∷ []) ≡ mark ∷ []
 mark_read [] h = absurd (cc h)
 mark_read (g ∷ gs) h =
     let one = read_well g (and_left (g || false) true h) in
@@ -197,8 +191,7 @@ record ReadSections (set : FileSet) (ps : List Placed) (gs : List Bool) : Type 0
   is : read_as gs (all_entries ps) ≡ read_sections reads
 
 sections_read : (set : FileSet) (k : ℕ) (ps : List Placed) (gs : List Bool)
-    → AllByRecursion (IsOn set k) ps → passes gs (all_entries ps) ≡ true
-    → ReadSections set ps gs
+    → AllByRecursion (IsOn set k) ps → passes gs (all_entries ps) ≡ true → ReadSections set ps gs
 sections_read set k [] gs all h =
     record { reads = []; all = refl; are_read = tt; firsts = tt; is = none gs }
   where
@@ -282,8 +275,7 @@ false_last false b c e = refl
 
 other_file : (set_id : List ℕ) (s t : SectionRead)
     → (s.placed.file == t.placed.file) ≡ false → IsOther set_id (key_of set_id t) s
-other_file set_id s t e = false_last (bytes_eq set_id set_id) (s.placed.file == t.placed.file)
-    (s.placed.sect == t.placed.sect) e
+other_file set_id s t e = false_last (bytes_eq set_id set_id) _ (s.placed.sect == t.placed.sect) e
 
 abbrev pub placed_of : List SectionRead → List Placed
 placed_of rs = map (λ (r : SectionRead). r.placed) rs
@@ -303,8 +295,7 @@ pub record Others (set_id : List ℕ) (s : SectionRead) (before rest : List Sect
 
 pub others : (set_id : List ℕ) (s : SectionRead) (before rest : List SectionRead)
     → Rising (placed_of (before ++ s ∷ rest)) → Others set_id s before rest
-others set_id s [] rest (all, rise) =
-    record { first = tt; last = later_others set_id s rest all }
+others set_id s [] rest (all, rise) = record { first = tt; last = later_others set_id s rest all }
 others set_id s (r ∷ before) rest (all, rise) =
     let h = others set_id s before rest rise in
     let lt = later before all in
@@ -318,11 +309,9 @@ others set_id s (r ∷ before) rest (all, rise) =
     later (x ∷ xs) all = later xs all.1
 
 pub all_in_two : {A : Type 0} (P : A → Type 0) (xs : List A) (y : A) (zs : List A)
-    → AllByRecursion P (xs ++ y ∷ zs)
-    → AllByRecursion P xs × (P y × AllByRecursion P zs)
+    → AllByRecursion P (xs ++ y ∷ zs) → AllByRecursion P xs × (P y × AllByRecursion P zs)
 all_in_two P [] y zs (h, all) = (tt, (h, all))
-all_in_two P (x ∷ xs) y zs (h, all) =
-    let r = all_in_two P xs y zs all in ((h, r.0), r.1)
+all_in_two P (x ∷ xs) y zs (h, all) = let r = all_in_two P xs y zs all in ((h, r.0), r.1)
 
 pub recovers_reading : RecoversReading
 recovers_reading set r l reading h =

@@ -1,15 +1,14 @@
 -- Nothing more of a section is recovered after the mark that ends its data.
 use Rattle.std.proofs.Common.{◌≡◌, ℕ, ◌+◌, ◌&&◌, nat_lt, Bool, true, false, List, [], ◌∷◌, ◌++◌}
 use Rattle.std.proofs.Common.{Option, Some, None, refl, sym, ap, ◌∙◌, arith, append-nil}
-use Rattle.std.specs.Prelude.{if◌then◌else◌}
+use Rattle.std.proofs.Common.{if◌then◌else◌}
 use Rattle.tape_image.specs.Tape.{TapeItem, block, bad, mark}
 use Rattle.tape_set.specs.Lawful.{FileForm}
-use Rattle.tape_run.specs.declared.section.SectionKey.{SectionKey}
-use Rattle.tape_run.specs.declared.salvage.walk.Expected.{Expected}
+use Rattle.tape_run.specs.declared.{section.SectionKey.SectionKey, salvage.walk.Expected.Expected}
 use Rattle.tape_run.specs.declared.salvage.walk.Expected.TheVariants.{Outside, Second, Headers}
-use Rattle.tape_run.specs.declared.salvage.walk.Expected.TheVariants.{Data, Trailer, Trailers}
-use Rattle.tape_run.specs.declared.salvage.walk.Expected.TheVariants.{Next, Over, Skipping}
-use Rattle.tape_run.specs.declared.salvage.walk.Expected.TheVariants.{Unnamed, UnnamedTrailer}
+use Rattle.tape_run.specs.declared.salvage.walk.Expected.TheVariants.{Data, Trailer, Trailers, Next}
+use Rattle.tape_run.specs.declared.salvage.walk.Expected.TheVariants.{Over, Skipping, Unnamed}
+use Rattle.tape_run.specs.declared.salvage.walk.Expected.TheVariants.{UnnamedTrailer}
 use Rattle.tape_run.specs.SalvageWalk.{step, expected_after}
 use Rattle.tape_run.specs.SalvageBlocks.{Salvaged, salvaged_at, text_at}
 use Rattle.tape_run.specs.SalvageImage.{is_in, is_mark, number_in, salvaged_from, text_from}
@@ -57,8 +56,7 @@ module _ (key : SectionKey) where
         → closings key s xs ≡ 0 → is_in key (expected_after s xs) ≡ false
         → (salvaged_from key most form s g xs ≡ g) × (text_from key most form s g xs ≡ [])
     nothing_by b s g [] is none end = (refl, refl)
-    nothing_by true s g (x ∷ xs) is none end =
-        absurd (cc (open_to_end s (x ∷ xs) is none, end))
+    nothing_by true s g (x ∷ xs) is none end = absurd (cc (open_to_end s (x ∷ xs) is none, end))
     nothing_by false s g (x ∷ xs) is none end =
         let n = no_number most s is in
         let t = (step s x).0 in

@@ -1,18 +1,15 @@
 -- What was read of a volume determines which blocks of each section were read.
 use Rattle.std.proofs.Common.{◌≡◌, ◌<◌, ℕ, Bool, true, false, List, [], ◌∷◌, ◌++◌, length, refl}
-use Rattle.std.proofs.Common.{sym, ap, subst, ◌∙◌, arith, append_assoc}
-use Rattle.std.specs.Prelude.{if◌then◌else◌}
+use Rattle.std.proofs.Common.{sym, ap, subst, ◌∙◌, arith, append_assoc, if◌then◌else◌}
 use Rattle.std.specs.List.{AllByRecursion}
 use Rattle.tape_image.specs.Tape.{TapeItem, block, bad, mark}
 use Rattle.tape_blocks.specs.Tight.{Filled}
 use Rattle.tape_set.specs.Layout.{FileSet, Placed, Volume}
-use Rattle.tape_set.specs.Lawful.{IsLawful}
-use Rattle.tape_set.specs.Reading.{Reading}
+use Rattle.tape_set.specs.{Lawful.IsLawful, Reading.Reading}
 use Rattle.tape_set.proofs.Volumes.{Rising, sections_on_rise}
-use Rattle.tape_run.specs.SalvageWhole.{Blocks}
+use Rattle.tape_run.specs.{SalvageWhole.Blocks, SalvageSets.HasBlocks}
 use Rattle.tape_run.specs.SalvageSections.{Labels, labels_of, read_labels, read_blocks, filled_of}
 use Rattle.tape_run.specs.SalvageSections.{SectionRead, IsRead, read_section, read_sections}
-use Rattle.tape_run.specs.SalvageSets.{HasBlocks}
 use Rattle.tape_run.proofs.SalvageReadings.{placed_of}
 
 -- items after the same labels

@@ -1,22 +1,19 @@
 -- The records recovered from a section of a valid set.
 use Rattle.std.proofs.Common.{◌≡◌, ◌<◌, ◌≤◌, ℕ, ◌+◌, true, false, List, [], ◌∷◌, length, Option}
-use Rattle.std.proofs.Common.{Some, None, refl, sym, ap, subst, ◌∙◌, arith}
-use Rattle.std.specs.Prelude.{nat_lt}
+use Rattle.std.proofs.Common.{Some, None, refl, sym, ap, subst, ◌∙◌, arith, nat_lt}
 use Rattle.std.proofs.lemmas.Bool.Decides.{nat_tests}
 use Rattle.tape_image.specs.Tape.{TapeItem, block, bad, mark}
 use Rattle.tape_set.specs.Lawful.{FileForm}
+use Rattle.tape_run.specs.declared.salvage.walk.{OpenSection.OpenSection, Expected.Expected}
 use Rattle.tape_run.specs.declared.section.SectionKey.{SectionKey}
-use Rattle.tape_run.specs.Noted.{same_key}
-use Rattle.tape_run.specs.declared.salvage.walk.OpenSection.{OpenSection}
-use Rattle.tape_run.specs.declared.salvage.walk.Expected.{Expected}
+use Rattle.tape_run.specs.{Noted.same_key, SalvageImage.salvaged_from, SalvageImage.number_in}
+use Rattle.tape_run.specs.SalvageWhole.{Blocks, piece_after}
 use Rattle.tape_run.specs.declared.salvage.walk.Expected.TheVariants.{Outside, Second, Headers}
 use Rattle.tape_run.specs.declared.salvage.walk.Expected.TheVariants.{Data, Trailer, Trailers, Next}
 use Rattle.tape_run.specs.declared.salvage.walk.Expected.TheVariants.{Over, Skipping, Unnamed}
 use Rattle.tape_run.specs.declared.salvage.walk.Expected.TheVariants.{UnnamedTrailer}
 use Rattle.tape_run.specs.SalvageWalk.{step, with_item, with_data, with_unreadable}
 use Rattle.tape_run.specs.SalvageBlocks.{Salvaged, salvaged_at, with_block, without_block}
-use Rattle.tape_run.specs.SalvageImage.{salvaged_from, number_in}
-use Rattle.tape_run.specs.SalvageWhole.{Blocks, piece_after}
 use Rattle.tape_run.specs.SalvageSections.{SectionRead, IsRead, key_of, read_blocks, read_section}
 use Rattle.tape_run.specs.SalvageSections.{MayBegin, after_trailers, RecoversSectionOf}
 use Rattle.tape_run.specs.SalvageSections.{PassesSection}

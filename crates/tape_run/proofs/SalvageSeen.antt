@@ -1,25 +1,19 @@
 -- The copies found after some items of an image.
-use Rattle.std.proofs.Common.{◌≡◌, ℕ, Bool, true, false, List, [], ◌∷◌, ◌++◌, Option, refl, sym}
-use Rattle.std.proofs.Common.{ap, subst, ◌∙◌, append-nil, append_assoc}
-use Rattle.std.specs.Prelude.{if◌then◌else◌}
-use Rattle.tape_image.specs.Tape.{TapeItem}
-use Rattle.tape_image.specs.Begins.{Walks}
-use Rattle.tape_image.specs.Reader.{IfKnown}
+use Rattle.std.proofs.Common.{◌≡◌, ℕ, Bool, true, false, List, [], ◌∷◌, ◌++◌, Option, refl, sym, ap}
+use Rattle.std.proofs.Common.{subst, ◌∙◌, append-nil, append_assoc, if◌then◌else◌}
+use Rattle.tape_image.specs.{Tape.TapeItem, Begins.Walks, Reader.IfKnown}
 use Rattle.tape_image.specs.Step.{TakesItem, TakesEnd, TakesFault}
-use Rattle.tape_image.specs.declared.item.Ending.{Ending}
-use Rattle.tape_image.specs.declared.item.ImageFault.{ImageFault}
+use Rattle.tape_image.specs.declared.item.{Ending.Ending, ImageFault.ImageFault}
 use Rattle.tape_image.proofs.Walks.{known_start, known_item, known_end, known_fault, IfKnown-map}
+use Rattle.tape_run.specs.declared.salvage.walk.{Expected.Expected, Expected.TheVariants.Outside}
+use Rattle.tape_run.specs.declared.salvage.copies.SectionCopy.{SectionCopy}
 use Rattle.tape_run.specs.declared.section.ImageStop.TheVariants.{Fault}
 use Rattle.tape_run.specs.Added.{StopsBehind, stop_at}
-use Rattle.tape_run.proofs.NotedSoFar.{by_ending}
-use Rattle.tape_run.specs.declared.salvage.copies.SectionCopy.{SectionCopy}
-use Rattle.tape_run.specs.declared.salvage.walk.Expected.{Expected}
-use Rattle.tape_run.specs.declared.salvage.walk.Expected.TheVariants.{Outside}
+use Rattle.tape_run.proofs.{NotedSoFar.by_ending, SalvagedSoFar.expected_after-append}
+use Rattle.tape_run.proofs.SalvageFound.{found_from-append}
 use Rattle.tape_run.specs.SalvageWalk.{FoundAt, step, expected_after, found_from, in_list}
 use Rattle.tape_run.specs.SalvageWalk.{open_section, sections_in, read_after, one_further}
 use Rattle.tape_run.specs.SalvageCopies.{is_of, copy_of, of_file, FindsCopies}
-use Rattle.tape_run.proofs.SalvagedSoFar.{expected_after-append}
-use Rattle.tape_run.proofs.SalvageFound.{found_from-append}
 
 module _ (set_id : List ℕ) (file image : ℕ) where
   abbrev its : List FoundAt → List SectionCopy

@@ -1,28 +1,21 @@
 -- The blocks of a file of a valid set, each with whether it was recovered, and its records.
 use Rattle.std.proofs.Common.{◌≡◌, ℕ, ◌+◌, true, false, List, [], ◌∷◌, ◌++◌, length, Option, refl}
-use Rattle.std.proofs.Common.{sym, ap, subst, ◌∙◌, append_assoc, inl, inr}
-use Rattle.std.specs.Prelude.{◌≢◌}
+use Rattle.std.proofs.Common.{sym, ap, subst, ◌∙◌, append_assoc, inl, inr, ◌≢◌}
 use Rattle.std.specs.List.{AllByRecursion}
-use Rattle.tape_blocks.specs.Block.{Holds}
-use Rattle.tape_blocks.specs.Judged.{begun_behind}
-use Rattle.tape_blocks.specs.Spans.{InOrder}
+use Rattle.tape_blocks.specs.{Block.Holds, Judged.begun_behind, Spans.InOrder}
 use Rattle.tape_blocks.specs.Tight.{Filled, parts_of_all}
 use Rattle.tape_set.specs.Layout.{FileSet, Section, Placed, numbered}
-use Rattle.tape_set.specs.Lawful.{FileForm, HasForm}
-use Rattle.tape_set.specs.Before.{blocks_of_all, section_parts}
-use Rattle.tape_set.specs.Reading.{Reading}
+use Rattle.tape_set.specs.{Lawful.FileForm, Lawful.HasForm, Before.blocks_of_all}
+use Rattle.tape_set.specs.{Before.section_parts, Reading.Reading}
 use Rattle.tape_set.proofs.Everywhere.{every_stands, every_front, every-append}
-use Rattle.tape_set.proofs.Numbering.{placed}
-use Rattle.tape_set.proofs.FileParts.{order_front}
+use Rattle.tape_set.proofs.{Numbering.placed, FileParts.order_front}
 use Rattle.tape_run.specs.declared.salvage.copies.SectionCopy.{SectionCopy}
-use Rattle.tape_run.specs.SalvageRecords.{nothing}
-use Rattle.tape_run.specs.SalvageBlocks.{Salvaged}
+use Rattle.tape_run.specs.{SalvageRecords.nothing, SalvageBlocks.Salvaged}
 use Rattle.tape_run.specs.SalvageWhole.{Blocks, IsBlock, all_parts, piece_after}
 use Rattle.tape_run.specs.SalvageSections.{IsRead, filled_of}
 use Rattle.tape_run.specs.SalvageSets.{IsRanked, IsHad, AreHad, joined, IsRecovered}
 use Rattle.tape_run.proofs.SalvageWhole.{gives_whole, all_whole}
-use Rattle.tape_run.proofs.SalvageGrows.{never_less}
-use Rattle.tape_run.proofs.SalvageFile.{AreRead}
+use Rattle.tape_run.proofs.{SalvageGrows.never_less, SalvageFile.AreRead}
 
 filled_append : (bs cs : Blocks) → filled_of (bs ++ cs) ≡ filled_of bs ++ filled_of cs
 filled_append [] cs = refl
@@ -77,8 +70,7 @@ module _ (set : FileSet) (file : ℕ) (f : List Section) (all : List (Option Rea
   blocks_hold : (bs : Blocks) → AllByRecursion (λ b. HasParts b.1) bs
       → AllByRecursion (λ b. b.0 ≡ false → b.1.parts ≢ []) bs → AllByRecursion (IsBlock form) bs
   blocks_hold [] h some = tt
-  blocks_hold (b ∷ bs) (h, hs) (s, ss) =
-      (record { holds = h; some = s }, blocks_hold bs hs ss)
+  blocks_hold (b ∷ bs) (h, hs) (s, ss) = (record { holds = h; some = s }, blocks_hold bs hs ss)
 
   pub recovered : AllByRecursion (HasForm form) f → AllByRecursion (IsRanked set all) copies
       → InOrder false (section_parts f) false

@@ -3,29 +3,24 @@ use Rattle.std.proofs.Common.{◌≡◌, ◌≤◌, ℕ, ◌+◌, Bool, true, fa
 use Rattle.std.proofs.Common.{Option, Some, None, refl, sym, ap, subst, ◌∙◌, arith, append-nil}
 use Rattle.std.proofs.Common.{append_assoc}
 use Rattle.tape_image.specs.Tape.{TapeItem, block, bad, mark}
+use Rattle.tape_run.specs.declared.salvage.walk.{Expected.Expected, OpenSection.OpenSection}
 use Rattle.tape_run.specs.declared.section.SectionKey.{SectionKey}
-use Rattle.tape_run.specs.Noted.{same_key}
-use Rattle.tape_run.specs.declared.salvage.walk.Expected.{Expected}
+use Rattle.tape_run.specs.{Noted.same_key, SalvageWhole.Blocks, SalvageFile.ReportsBlocks}
 use Rattle.tape_run.specs.declared.salvage.walk.Expected.TheVariants.{Outside, Second, Headers}
 use Rattle.tape_run.specs.declared.salvage.walk.Expected.TheVariants.{Data, Trailer, Trailers, Next}
 use Rattle.tape_run.specs.declared.salvage.walk.Expected.TheVariants.{Over, Skipping, Unnamed}
 use Rattle.tape_run.specs.declared.salvage.walk.Expected.TheVariants.{UnnamedTrailer}
-use Rattle.tape_run.specs.declared.salvage.walk.OpenSection.{OpenSection}
 use Rattle.tape_run.specs.SalvageWalk.{step, expected_after, with_item, with_data, with_unreadable}
-use Rattle.tape_run.specs.SalvageWhole.{Blocks}
 use Rattle.tape_run.specs.SalvageImage.{is_in, number_in, closings}
 use Rattle.tape_run.specs.SalvageGaps.{datum, data_in}
 use Rattle.tape_run.specs.SalvageSections.{SectionRead, IsRead, key_of, read_blocks, read_section}
 use Rattle.tape_run.specs.SalvageSections.{MayBegin, after_trailers, read_volume}
-use Rattle.tape_run.specs.SalvageFile.{ReportsBlocks}
-use Rattle.tape_run.proofs.SalvagedSoFar.{expected_after-append}
+use Rattle.tape_run.proofs.{SalvagedSoFar.expected_after-append, SalvageSections.is_number}
+use Rattle.tape_run.proofs.{SalvageVolumes.volume_walked, SalvageClosings.volume_once}
 use Rattle.tape_run.proofs.SalvageOpened.{section_after, one_more, long}
 use Rattle.tape_run.proofs.SalvageSteps.{gathered, gathered-append, Walk, Quiet, first, quiet_data}
 use Rattle.tape_run.proofs.SalvageSteps.{section_walked}
-use Rattle.tape_run.proofs.SalvageSections.{is_number}
-use Rattle.tape_run.proofs.SalvageVolumes.{volume_walked}
 use Rattle.tape_run.proofs.SalvageRest.{no_number, open_to_end, none_after, rest_none}
-use Rattle.tape_run.proofs.SalvageClosings.{volume_once}
 
 module _ (key : SectionKey) (most : ℕ) where
   -- the data items so far, after one more item
@@ -56,8 +51,7 @@ module _ (key : SectionKey) (most : ℕ) where
       by None = append-nil a
       by (Some n) = append-nil a
 
-  none_yet : (s : Expected) (a : List TapeItem) (x : TapeItem) → MayBegin s
-      → with_datum s a x ≡ a
+  none_yet : (s : Expected) (a : List TapeItem) (x : TapeItem) → MayBegin s → with_datum s a x ≡ a
   none_yet (Outside n) a x may = append-nil a
   none_yet Next a x may = append-nil a
   none_yet (Second u) a x may = absurd may
@@ -128,11 +122,9 @@ module _ (key : SectionKey) (most : ℕ) where
 
   -- no data follow the mark that ends them
   none_follow : (b : Bool) (s : Expected) (xs : List TapeItem) → is_in key s ≡ b
-      → closings key s xs ≡ 0 → is_in key (expected_after s xs) ≡ false
-      → data_in key most s xs ≡ []
+      → closings key s xs ≡ 0 → is_in key (expected_after s xs) ≡ false → data_in key most s xs ≡ []
   none_follow b s [] is none end = refl
-  none_follow true s (x ∷ xs) is none end =
-      absurd (cc (open_to_end key s (x ∷ xs) is none, end))
+  none_follow true s (x ∷ xs) is none end = absurd (cc (open_to_end key s (x ∷ xs) is none, end))
   none_follow false s (x ∷ xs) is none end =
       let t = (step s x).0 in
       ap (λ (m : Option ℕ). datum m x ++ data_in key most t xs) (no_number key most s is)
@@ -146,20 +138,19 @@ reports_blocks set_id volumes known form eof t r x =
     let all = read_volume x.labels (x.before ++ r ∷ x.rest) in
     let z = volume_once key set_id volumes x.volume x.labels x.before r x.rest x.is_volume
     x.are_labels x.are_before x.others_before x.are_rest x.others_rest x.is_read x.own in
-    let w = volume_walked (with_datum key most) (quiet key most) set_id volumes key
-    (λ q s a read may other. other_walked key most set_id volumes q s a read may other) x.volume
-    x.labels x.before r x.rest [] (read_blocks r.blocks) x.is_volume x.are_labels x.are_before
-    x.others_before x.are_rest x.others_rest
-    (λ s may. own_walked key most set_id volumes r s [] x.is_read may x.own x.counted) in
+    let w = volume_walked (with_datum key most) (quiet key most) set_id volumes key (λ q s a read
+    may other. other_walked key most set_id volumes q s a read may other) x.volume x.labels x.before
+    r x.rest [] (read_blocks r.blocks) x.is_volume x.are_labels x.are_before x.others_before
+    x.are_rest x.others_rest (λ s may. own_walked key most set_id volumes r s [] x.is_read may x.own
+    x.counted) in
     let whole : data_in key most o all ≡ read_blocks r.blocks =
     sym (same_gathered key most o [] all) ∙ w.walk.gives in
     let s = expected_after o x.items in
-    let none = none_after key o x.items x.unread x.ends
-    (ap (closings key o) (sym x.splits) ∙ z.once) in
+    let none = none_after _ _ _ x.unread x.ends (ap (closings key o) (sym x.splits) ∙ z.once) in
     let end : is_in key (expected_after s x.unread) ≡ false =
-    ap (is_in key) (sym (expected_after-append o x.items x.unread)
-    ∙ ap (expected_after o) (sym x.splits)) ∙ z.done in
+    ap (is_in key) (sym (expected_after-append o x.items x.unread) ∙ ap (expected_after o)
+    (sym x.splits)) ∙ z.done in
     let rest = none_follow key most (is_in key s) s x.unread refl none end in
-    sym (ap (λ (l : List TapeItem). data_in key most o x.items ++ l) rest
-    ∙ append-nil (data_in key most o x.items))
-    ∙ sym (data_append key most o x.items x.unread) ∙ ap (data_in key most o) (sym x.splits) ∙ whole
+    sym (ap (λ (l : List TapeItem). data_in key most o x.items ++ l) rest ∙ append-nil
+    (data_in key most o x.items)) ∙ sym (data_append key most o x.items x.unread) ∙ ap
+    (data_in key most o) (sym x.splits) ∙ whole

@@ -1,17 +1,14 @@
 -- A file of a valid set recovered from complete readings of its volumes.
 use Rattle.std.proofs.Common.{◌≡◌, ◌<◌, ◌≤◌, ℕ, ◌+◌, Bool, true, false, List, [], ◌∷◌, ◌++◌, length}
 use Rattle.std.proofs.Common.{Option, Some, None, refl, sym, ap, subst, ◌∙◌, arith, append-nil}
-use Rattle.std.proofs.Common.{length-append, suc, inl, inr}
-use Rattle.std.specs.Prelude.{if◌then◌else◌, slice_get, option_and_then}
+use Rattle.std.proofs.Common.{length-append, suc, inl, inr, if◌then◌else◌, slice_get}
+use Rattle.std.proofs.Common.{option_and_then}
 use Rattle.std.specs.List.{AllByRecursion}
 use Rattle.tape_set.specs.Layout.{FileSet, Section, Placed, nth, numbered, file_of, section_of}
 use Rattle.tape_set.specs.Layout.{ends_file}
 use Rattle.tape_set.specs.Lawful.{IsLawful, FileForm, HasForm, Ends}
-use Rattle.tape_set.specs.Laws.{StandsIn}
-use Rattle.tape_set.specs.Reading.{Reading}
-use Rattle.tape_set.proofs.Everywhere.{nth_found}
-use Rattle.tape_set.proofs.Numbering.{placed}
-use Rattle.tape_set.proofs.AllVolumes.{file_is_lawful}
+use Rattle.tape_set.specs.{Laws.StandsIn, Reading.Reading}
+use Rattle.tape_set.proofs.{Everywhere.nth_found, Numbering.placed, AllVolumes.file_is_lawful}
 use Rattle.tape_run.specs.declared.salvage.Content.TheVariants.{Records}
 use Rattle.tape_run.specs.declared.salvage.copies.SectionCopy.{SectionCopy}
 use Rattle.tape_run.specs.declared.salvage.ending.SectionEnd.{SectionEnd}
@@ -26,12 +23,11 @@ use Rattle.tape_run.specs.SalvageWhole.{Blocks, piece_after}
 use Rattle.tape_run.specs.SalvageSets.{IsCompleteOr, copies_on, HasVolume, IsReadAgainIf}
 use Rattle.tape_run.specs.SalvageSets.{AreReadAgain, AreHad, joined, IsRecovered, RecoversSet}
 use Rattle.tape_run.proofs.SalvageChoice.{all_append, all_map, last_at, last_most}
-use Rattle.tape_run.proofs.SalvageGrows.{after_append}
-use Rattle.tape_run.proofs.SalvageFile.{AreRead}
+use Rattle.tape_run.proofs.{SalvageGrows.after_append, SalvageFile.AreRead}
+use Rattle.tape_run.proofs.SalvageSetBlocks.{recovered}
 use Rattle.tape_run.proofs.SalvageGood.{IsGood, has_copy, good_on, good_sect}
 use Rattle.tape_run.proofs.SalvageAgain.{ranked_are, lost, filled_lost, none_read, lost_done}
 use Rattle.tape_run.proofs.SalvageAgain.{copies_are, Step, known_step, lost_step, get_less}
-use Rattle.tape_run.proofs.SalvageSetBlocks.{recovered}
 
 -- ---- the end of the file
 
@@ -67,11 +63,9 @@ module _ (set : FileSet) (file : ℕ) (f : List Section) (all : List (Option Rea
   after_one t g = after_taken Records known t.copy t.items g
 
   abbrev OneStep : ℕ → Section → Salvaged → Salvaged → Type 0
-  OneStep i w g h =
-      Step set file all copies form l complete same i w g h
+  OneStep i w g h = Step set file all copies form l complete same i w g h
 
-  last_is : (front : List Taken) (t : Taken)
-      → last_end Records known (front ++ t ∷ []) ≡ end_of t
+  last_is : (front : List Taken) (t : Taken) → last_end Records known (front ++ t ∷ []) ≡ end_of t
   last_is [] t = refl
   last_is (x ∷ []) t = refl
   last_is (x ∷ y ∷ front) t = last_is (y ∷ front) t
@@ -95,8 +89,7 @@ module _ (set : FileSet) (file : ℕ) (f : List Section) (all : List (Option Rea
     count = let c = at.count in omega (arith, c);
   }
 
-  here : (i : ℕ) (w : Section) (ss : List Section) → At i (w ∷ ss)
-      → section_of set file i ≡ Some w
+  here : (i : ℕ) (w : Section) (ss : List Section) → At i (w ∷ ss) → section_of set file i ≡ Some w
   here i w ss at = let n : i + 0 ≡ i = omega arith in
       subst (λ m. section_of set file m ≡ Some w) n (at.each 0 w refl)
 
@@ -235,9 +228,8 @@ module _ (set : FileSet) (file : ℕ) (f : List Section) (all : List (Option Rea
       }
 
   going : (ts : List Taken) (i : ℕ) (ss : List Section) (g : Salvaged) → At i ss
-      → AreReadAgain set all copies i ts → GoOn Records known ts
-      → i + length ts ≤ length f + 1 → last_section copies < i + length ts
-      → Gone i ss g (after_all Records known ts g)
+      → AreReadAgain set all copies i ts → GoOn Records known ts → i + length ts ≤ length f + 1
+      → last_section copies < i + length ts → Gone i ss g (after_all Records known ts g)
   going [] i ss g at read go within past = all_lost i ss g at (omega (arith, past))
   going (t ∷ ts) i [] g at read go within past =
       let c = at.count in absurd (omega (arith, c, within))
@@ -263,8 +255,7 @@ module _ (set : FileSet) (file : ℕ) (f : List Section) (all : List (Option Rea
   last_missing Unknown g off m = m refl
 
   is_missing : (ts : List Taken) (i : ℕ) (ss : List Section) (g : Salvaged) → At i ss
-      → AreReadAgain set all copies i ts → GoOn Records known ts
-      → i + length ts ≤ length f + 1
+      → AreReadAgain set all copies i ts → GoOn Records known ts → i + length ts ≤ length f + 1
       → (at_last (last_end Records known ts) (after_all Records known ts g)).missing ≡ true
   is_missing [] i ss g at read go within = refl
   is_missing (t ∷ ts) i [] g at read go within =

@@ -3,34 +3,29 @@ use Rattle.std.proofs.Common.{◌≡◌, ℕ, true, false, List, [], ◌∷◌, 
 use Rattle.std.proofs.Common.{◌∙◌, arith, Some, None}
 use Rattle.tape_image.specs.Tape.{TapeItem, block, bad, mark}
 use Rattle.tape_label.specs.declared.values.Kind.TheVariants as kinds
-use Rattle.tape_label.specs.declared.values.Head1.{Head1}
-use Rattle.tape_label.specs.declared.values.Trail1.{Trail1}
-use Rattle.tape_label.specs.Kinds.{kind_at}
-use Rattle.tape_label.specs.Reading.{head1_at, head2_at, trail1_at}
+use Rattle.tape_label.specs.declared.values.{Head1.Head1, Trail1.Trail1}
+use Rattle.tape_label.specs.{Kinds.kind_at, Reading.head1_at, Reading.head2_at, Reading.trail1_at}
 use Rattle.tape_label.proofs.First.{head1_again, trail1_again}
 use Rattle.tape_set.specs.Lawful.{FileForm, label_count}
-use Rattle.tape_run.specs.declared.section.SectionKey.{SectionKey}
-use Rattle.tape_run.specs.declared.salvage.walk.OpenSection.{OpenSection}
-use Rattle.tape_run.specs.declared.salvage.walk.Closing.{Closing}
+use Rattle.tape_run.specs.declared.salvage.walk.{OpenSection.OpenSection, Closing.Closing}
 use Rattle.tape_run.specs.declared.salvage.walk.Expected.{Expected}
+use Rattle.tape_run.specs.declared.section.SectionKey.{SectionKey}
 use Rattle.tape_run.specs.declared.salvage.walk.Expected.TheVariants.{Outside, Second, Headers}
-use Rattle.tape_run.specs.declared.salvage.walk.Expected.TheVariants.{Data, Trailer, Trailers}
-use Rattle.tape_run.specs.declared.salvage.walk.Expected.TheVariants.{Next}
+use Rattle.tape_run.specs.declared.salvage.walk.Expected.TheVariants.{Data, Trailer, Trailers, Next}
 use Rattle.tape_run.specs.SalvageWalk.{step, expected_after, section_by, begun_by, with_item}
 use Rattle.tape_run.specs.SalvageWalk.{with_data, with_unreadable, doubted, closes, with_trailer}
 use Rattle.tape_run.specs.SalvageWalk.{form_by}
 use Rattle.tape_run.specs.SalvageWhole.{Blocks, not_read}
-use Rattle.tape_run.specs.SalvageSections.{Labels, read_labels, labels_of, read_blocks}
-use Rattle.tape_run.specs.SalvageSections.{SectionRead, read_section, AreNoHeads, NoneBegins}
-use Rattle.tape_run.specs.SalvageSections.{IsRead, key_of, MayBegin, after_trailers}
+use Rattle.tape_run.specs.SalvageSections.{Labels, read_labels, labels_of, read_blocks, SectionRead}
+use Rattle.tape_run.specs.SalvageSections.{read_section, AreNoHeads, NoneBegins, IsRead, key_of}
+use Rattle.tape_run.specs.SalvageSections.{MayBegin, after_trailers}
 use Rattle.tape_run.proofs.SalvagedSoFar.{expected_after-append}
-use Rattle.tape_run.proofs.SalvageOpened.{may_begin, second_is, closes_it, closed_of}
-use Rattle.tape_run.proofs.SalvageOpened.{trailer_step, key_is, headed, same_headed, none_headed}
-use Rattle.tape_run.proofs.SalvageOpened.{section_after, same_section_after, counted, long}
-use Rattle.tape_run.proofs.SalvageOpened.{trailed, same_trailed, counted_trailed, after_headed}
-use Rattle.tape_run.proofs.SalvageOpened.{form_headed, after_section, form_section}
-use Rattle.tape_run.proofs.SalvageOpened.{after_trailed, form_trailed, unread_headed, AllRead}
-use Rattle.tape_run.proofs.SalvageOpened.{certain_headed, unread_section, certain_section}
+use Rattle.tape_run.proofs.SalvageOpened.{may_begin, second_is, closes_it, closed_of, trailer_step}
+use Rattle.tape_run.proofs.SalvageOpened.{key_is, headed, same_headed, none_headed, section_after}
+use Rattle.tape_run.proofs.SalvageOpened.{same_section_after, counted, long, trailed, same_trailed}
+use Rattle.tape_run.proofs.SalvageOpened.{counted_trailed, after_headed, form_headed, after_section}
+use Rattle.tape_run.proofs.SalvageOpened.{form_section, after_trailed, form_trailed, unread_headed}
+use Rattle.tape_run.proofs.SalvageOpened.{AllRead, certain_headed, unread_section, certain_section}
 use Rattle.tape_run.proofs.SalvageOpened.{doubt_section, unread_trailed}
 
 -- ---- the walk

@@ -1,25 +1,21 @@
 -- The sections of a file, recovered one after another.
-use Rattle.std.proofs.Common.{◌≡◌, ◌≢◌, inl, inr, ℕ, ◌+◌, ◌<◌, List, [], ◌∷◌, ◌++◌, length}
-use Rattle.std.proofs.Common.{Option, None, refl, sym, ap, subst, ◌∙◌, arith, append_assoc}
-use Rattle.std.proofs.Common.{append-nil, length-append}
+use Rattle.std.proofs.Common.{◌≡◌, ◌≢◌, inl, inr, ℕ, ◌+◌, ◌<◌, List, [], ◌∷◌, ◌++◌, length, Option}
+use Rattle.std.proofs.Common.{None, refl, sym, ap, subst, ◌∙◌, arith, append_assoc, append-nil}
+use Rattle.std.proofs.Common.{length-append}
 use Rattle.std.specs.Io.KnownBytes.{Appends}
 use Rattle.std.proofs.KnownBytes.{Appends-nil}
 use Rattle.tape_set.specs.Lawful.{FileForm}
-use Rattle.tape_run.specs.declared.salvage.Content.{Content}
-use Rattle.tape_run.specs.declared.salvage.ending.SectionEnd.{SectionEnd}
-use Rattle.tape_run.specs.declared.salvage.ending.SectionEnd.TheVariants.{FileEnds, Continues}
+use Rattle.tape_run.specs.declared.salvage.{Content.Content, ending.SectionEnd.SectionEnd}
 use Rattle.tape_run.specs.declared.salvage.copies.SectionCopy.{SectionCopy}
 use Rattle.tape_run.specs.declared.salvage.recovery.Recovery.{Recovery}
-use Rattle.tape_run.specs.Reeling.{Mounting}
+use Rattle.tape_run.specs.declared.salvage.ending.SectionEnd.TheVariants.{FileEnds, Continues}
+use Rattle.tape_run.specs.{Reeling.Mounting, SalvageEnds.without_rest, SalvageEnds.no_section_text}
 use Rattle.tape_run.specs.SalvageBlocks.{Salvaged, HasSalvaged, Recovers}
 use Rattle.tape_run.specs.SalvageChoice.{firsts, IsBest, last_section, form_of_file}
 use Rattle.tape_run.specs.SalvageTaking.{Taken, after_taken, taken_text, end_of_taken, AreTaken}
 use Rattle.tape_run.specs.SalvageTaking.{MountsTaken, after_all, all_text, GoOn, last_end}
-use Rattle.tape_run.specs.SalvageTaking.{TakesSection, TakesFile, at_last, last_text}
-use Rattle.tape_run.specs.SalvageTaking.{next_section}
-use Rattle.tape_run.specs.SalvageEnds.{without_rest, no_section_text}
-use Rattle.tape_run.proofs.SalvageChoice.{all_append}
-use Rattle.tape_run.proofs.SalvageOne.{recovers_then}
+use Rattle.tape_run.specs.SalvageTaking.{TakesSection, TakesFile, at_last, last_text, next_section}
+use Rattle.tape_run.proofs.{SalvageChoice.all_append, SalvageOne.recovers_then}
 
 module _ {W L R : Type 0} (contents : W → Option (List ℕ)) (gives : Mounting L R)
     (remaining : R → Option (List ℕ)) (copies : List SectionCopy) (content : Content)

@@ -1,14 +1,11 @@
 -- The text of parts in order is that of the records into which they join.
 use Rattle.std.proofs.Common.{◌≡◌, ℕ, Bool, true, false, List, [], ◌∷◌, ◌++◌, Option, Some, None}
-use Rattle.std.proofs.Common.{refl, sym, ap, ◌∙◌, append-nil, append_assoc}
-use Rattle.std.specs.Prelude.{if◌then◌else◌, is_some}
-use Rattle.tape_blocks.specs.Block.{Portion}
-use Rattle.tape_blocks.specs.Spans.{leaves, join, join_after, with_record, content_after, Joined}
-use Rattle.tape_blocks.specs.Spans.{InOrder}
+use Rattle.std.proofs.Common.{refl, sym, ap, ◌∙◌, append-nil, append_assoc, if◌then◌else◌, is_some}
+use Rattle.tape_blocks.specs.{Block.Portion, Spans.leaves, Spans.join, Spans.join_after}
+use Rattle.tape_blocks.specs.Spans.{with_record, content_after, Joined, InOrder}
 use Rattle.tape_blocks.specs.declared.parts.Form.{Form}
 use Rattle.tape_run.specs.RecordText.{record_end, records_text, output_of}
-use Rattle.tape_run.specs.OutSinks.{begun_text}
-use Rattle.tape_run.specs.SalvageRecords.{parts_text}
+use Rattle.tape_run.specs.{OutSinks.begun_text, SalvageRecords.parts_text}
 use Rattle.tape_run.specs.SalvageWhole.{WritesOutput}
 
 -- the result of joining a list of parts, and how it is written
@@ -29,8 +26,7 @@ text_by : (form : Form) (b : Bool) (begun : Option (List ℕ)) (bytes : List ℕ
 text_by form true begun bytes ps ih =
     let t = parts_text form ps in
     ih (Some (content_after begun bytes))
-    ∙ ap (λ (l : List ℕ). l ++ t) (content_is begun bytes)
-    ∙ append_assoc (begun_text begun) bytes t
+    ∙ ap (λ (l : List ℕ). l ++ t) (content_is begun bytes) ∙ append_assoc (begun_text begun) bytes t
     ∙ ap (λ (l : List ℕ). begun_text begun ++ (l ++ t)) (sym (append-nil bytes))
 text_by form false begun bytes ps ih =
     let t = parts_text form ps in
@@ -46,8 +42,7 @@ text_by form false begun bytes ps ih =
 text_is : (form : Form) (ps : List Portion) (begun : Option (List ℕ))
     → text_of form (join_after begun ps) ≡ begun_text begun ++ parts_text form ps
 text_is form [] begun = sym (append-nil (begun_text begun))
-text_is form (p ∷ ps) begun =
-    text_by form (leaves p.span) begun p.bytes ps (λ o. text_is form ps o)
+text_is form (p ∷ ps) begun = text_by form (leaves p.span) begun p.bytes ps (λ o. text_is form ps o)
 
 -- no record is unfinished after parts in order
 rest_by : (b end : Bool) (c : List ℕ) (ps : List Portion) → InOrder b ps end
@@ -68,7 +63,5 @@ none_left (Some front) e = absurd (cc e)
 
 pub writes_output : WritesOutput
 writes_output form ps o =
-    sym (text_is form ps None)
-    ∙ ap (λ (l : List ℕ). records_text form (join ps).records ++ l)
-    (none_left (join ps).rest (rest_is ps None false o))
-    ∙ append-nil (output_of form ps)
+    sym (text_is form ps None) ∙ ap (λ (l : List ℕ). records_text form (join ps).records ++ l)
+    (none_left (join ps).rest (rest_is _ _ _ o)) ∙ append-nil (output_of form ps)

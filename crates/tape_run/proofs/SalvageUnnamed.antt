@@ -1,23 +1,17 @@
 -- A section that is found without its HDR1 has exactly the items between two tape marks.
 use Rattle.std.proofs.Common.{◌≡◌, inl, inr, ◌⊎◌, ℕ, ◌+◌, ◌==◌, Bool, true, false, List, [], ◌∷◌}
 use Rattle.std.proofs.Common.{Option, Some, None, Result, Ok, Err, refl, sym, ap, ◌∙◌, arith}
-use Rattle.std.specs.Prelude.{if◌then◌else◌, nat_lt, min, option_map}
+use Rattle.std.proofs.Common.{if◌then◌else◌, nat_lt, min, option_map}
 use Rattle.std.specs.List.{AllByRecursion}
 use Rattle.std.proofs.lemmas.Bool.Decides.{nat_tests}
 use Rattle.tape_image.specs.Tape.{TapeItem, block, bad, mark}
-use Rattle.tape_label.specs.declared.values.Kind.{Kind}
-use Rattle.tape_label.specs.declared.values.Kind.TheVariants as kinds
-use Rattle.tape_label.specs.declared.values.Head1.{Head1}
-use Rattle.tape_label.specs.declared.values.Head2.{Head2}
-use Rattle.tape_label.specs.declared.values.Trail1.{Trail1}
+use Rattle.tape_label.specs.declared.values.{Kind.Kind, Head1.Head1, Head2.Head2, Trail1.Trail1}
 use Rattle.tape_label.specs.declared.label.LabelFault.{LabelFault}
-use Rattle.tape_label.specs.Kinds.{kind_at}
-use Rattle.tape_label.specs.Reading.{head1_at, head2_at, trail1_at}
+use Rattle.tape_label.specs.declared.values.Kind.TheVariants as kinds
+use Rattle.tape_label.specs.{Kinds.kind_at, Reading.head1_at, Reading.head2_at, Reading.trail1_at}
 use Rattle.tape_set.specs.Lawful.{label_count}
-use Rattle.tape_run.specs.declared.salvage.walk.OpenSection.{OpenSection}
-use Rattle.tape_run.specs.declared.salvage.walk.Closing.{Closing}
-use Rattle.tape_run.specs.declared.salvage.walk.UnnamedItems.{UnnamedItems}
-use Rattle.tape_run.specs.declared.salvage.walk.Expected.{Expected}
+use Rattle.tape_run.specs.declared.salvage.walk.{OpenSection.OpenSection, Closing.Closing}
+use Rattle.tape_run.specs.declared.salvage.walk.{UnnamedItems.UnnamedItems, Expected.Expected}
 use Rattle.tape_run.specs.declared.salvage.walk.Expected.TheVariants.{Outside, Second, Headers}
 use Rattle.tape_run.specs.declared.salvage.walk.Expected.TheVariants.{Data, Trailer, Trailers, Next}
 use Rattle.tape_run.specs.declared.salvage.walk.Expected.TheVariants.{Over, Skipping, Unnamed}
@@ -63,8 +57,7 @@ outside : (a c : Bool) (b : List ℕ) (xs : List TapeItem) (v : OpenSection) (k 
     → IsUnnamedIn (block b ∷ xs) v k ⊎ AfterOne c (block b ∷ xs) v k
 outside true true b xs v k h = begun b (head1_at b) (Unnamed one_read) xs v k refl
     (λ none d. first_block b xs v k none d) h
-outside true false b xs v k h =
-    begun b (head1_at b) (Outside 0) xs v k refl (λ none o. o) h
+outside true false b xs v k h = begun b (head1_at b) (Outside 0) xs v k refl (λ none o. o) h
 outside false c b xs v k h =
     inl (only (block b) (goes_on_by (kind_at b)) xs v k (none_goes_on (kind_at b) xs v k) h)
 
@@ -105,8 +98,7 @@ trailer_item : (u : OpenSection) (b : List ℕ) (r : Result Trail1 LabelFault) (
     (v : OpenSection) (k : Closing)
     → IsUnnamedIn xs v k ⊎ Open (closed_by u r (head1_at b)).0 xs v k
     → IsUnnamedIn (block b ∷ xs) v k ⊎ NoHdr1 u.after
-trailer_item u b (Err f) xs v k h =
-    begun b (head1_at b) (Outside 0) xs v k refl (λ none o. absurd o) h
+trailer_item u b (Err f) xs v k h = begun b _ _ _ _ _ refl (λ none o. absurd o) h
 trailer_item u b (Ok t) xs v k h = chosen (closes u t) h
   where
     chosen : (c : Bool) → IsUnnamedIn xs v k ⊎ Open (if c
@@ -150,8 +142,7 @@ unnamed_item r b (Ok t) xs v k is h = chosen (t.blocks == label_count r.items) r
 back : (s : Expected) (x : TapeItem) (xs : List TapeItem) (v : OpenSection) (k : Closing)
     → Comes (step s x).0 xs v k → Comes s (x ∷ xs) v k
 back (Outside n) (block b) xs v k h own = outside (nat_lt n 2) (n == 1) b xs v k (h own)
-back (Outside n) bad xs v k h own =
-    outside_bad n (nat_lt n 2) (n == 1) xs v k refl refl (h own)
+back (Outside n) bad xs v k h own = outside_bad n (nat_lt n 2) (n == 1) xs v k refl refl (h own)
 back (Outside n) mark xs v k h own = inl (outside_mark (n == 0) (n == 1) xs v k (h own))
 back (Second u) (block b) xs v k h own =
     either (h own) (further (block b) xs v k) (second u (kind_at b) (head2_at b) xs v k)
@@ -194,8 +185,7 @@ back (Unnamed r) mark xs v k h own = elim (h own) [
     | inr a ↦ inl (at_mark xs v k a)
   ]
 ]
-back (UnnamedTrailer r) (block b) xs v k h own =
-    unnamed_item r b (trail1_at b) xs v k refl (h own)
+back (UnnamedTrailer r) (block b) xs v k h own = unnamed_item r b (trail1_at b) xs v k refl (h own)
 back (UnnamedTrailer r) bad xs v k h own = elim (h own) [
   | inl c ↦ inl (further bad xs v k c)
   | inr d ↦ inr (inr (record {
@@ -207,8 +197,7 @@ back (UnnamedTrailer r) bad xs v k h own = elim (h own) [
     goes = d;
   }))
 ]
-back (UnnamedTrailer r) mark xs v k h own =
-    inl (only mark (Outside 2) xs v k (λ o. o) (h own))
+back (UnnamedTrailer r) mark xs v k h own = inl (only mark (Outside 2) xs v k (λ o. o) (h own))
 back (Skipping n u) x xs v k h own = inr tt
 
 -- ---- all sections
@@ -224,5 +213,4 @@ all_there xs ((place, (v, Some k)) ∷ l) (h, all) =
     (λ own. elim (h own) [ inl c ↦ c | inr o ↦ absurd o ], all_there xs l all)
 
 pub unnamed_are_there : UnnamedAreThere
-unnamed_are_there items = all_there items (sections_in items)
-    (all_found Comes back here (λ n u xs v k own. inr tt) items)
+unnamed_are_there items = all_there _ _ (all_found Comes back here (λ n u xs v k own. inr tt) items)

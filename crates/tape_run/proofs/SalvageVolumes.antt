@@ -4,21 +4,14 @@ use Rattle.std.proofs.Common.{Err, refl, sym, ap, subst, ◌∙◌, append_assoc
 use Rattle.std.specs.List.{AllByRecursion}
 use Rattle.tape_image.specs.Tape.{TapeItem, mark}
 use Rattle.tape_label.specs.declared.values.Kind.TheVariants as kinds
-use Rattle.tape_label.specs.declared.values.Head1.{Head1}
-use Rattle.tape_label.specs.declared.label.LabelFault.{LabelFault}
-use Rattle.tape_label.specs.Kinds.{HasKind}
-use Rattle.tape_label.specs.Reading.{head1_at}
-use Rattle.tape_label.proofs.First.{head1_found}
-use Rattle.tape_label.proofs.Apart.{HasKind-unique}
+use Rattle.tape_label.specs.declared.{values.Head1.Head1, label.LabelFault.LabelFault}
+use Rattle.tape_label.specs.{Kinds.HasKind, Reading.head1_at}
+use Rattle.tape_label.proofs.{First.head1_found, Apart.HasKind-unique}
 use Rattle.tape_label.proofs.VolumeLabels.{volume_label_again, no_volume_label}
-use Rattle.tape_set.specs.Layout.{Volume}
-use Rattle.tape_set.specs.Lawful.{IsVolume, IsVolumeLabel, FileForm}
+use Rattle.tape_set.specs.{Layout.Volume, Lawful.IsVolume, Lawful.IsVolumeLabel, Lawful.FileForm}
+use Rattle.tape_run.specs.declared.salvage.walk.{Expected.Expected, Expected.TheVariants.Outside}
 use Rattle.tape_run.specs.declared.section.SectionKey.{SectionKey}
-use Rattle.tape_run.specs.Noted.{same_key}
-use Rattle.tape_run.specs.declared.salvage.walk.Expected.{Expected}
-use Rattle.tape_run.specs.declared.salvage.walk.Expected.TheVariants.{Outside}
-use Rattle.tape_run.specs.SalvageWalk.{step}
-use Rattle.tape_run.specs.SalvageBlocks.{Salvaged}
+use Rattle.tape_run.specs.{Noted.same_key, SalvageWalk.step, SalvageBlocks.Salvaged}
 use Rattle.tape_run.specs.SalvageImage.{salvaged_from}
 use Rattle.tape_run.specs.SalvageSections.{Labels, labels_of, read_labels, SectionRead, IsNoHead}
 use Rattle.tape_run.specs.SalvageSections.{AreNoHeads, IsRead, IsOther, MayBegin, after_trailers}
@@ -112,8 +105,7 @@ module _ {A : Type 0} (act : Expected → A → TapeItem → A) (q : Quiet act) 
       (r : SectionRead) (rest : List SectionRead) (a b : A) → IsVolume v → AreLabels v ls
       → AllByRecursion (IsRead set_id volumes) before → AllByRecursion (IsOther set_id key) before
       → AllByRecursion (IsRead set_id volumes) rest → AllByRecursion (IsOther set_id key) rest
-      → ((s : Expected) → MayBegin s
-      → Walk act s a (read_section r) (after_trailers r.trailers) b)
+      → ((s : Expected) → MayBegin s → Walk act s a (read_section r) (after_trailers r.trailers) b)
       → VolumeWalked a (read_volume ls (before ++ r ∷ rest)) b
   volume_walked pass v ls before r rest a b is labels read other read' other' own =
       let o = Outside 0 in

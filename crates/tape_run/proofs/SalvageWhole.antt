@@ -1,12 +1,9 @@
 -- The records that are complete in the blocks that were read.
 use Rattle.std.proofs.Common.{◌≡◌, ◌≢◌, ℕ, Bool, true, false, List, [], ◌∷◌, ◌++◌, refl, sym, ap}
-use Rattle.std.proofs.Common.{subst, ◌∙◌, arith, append-nil, append_assoc, Ok, Some}
-use Rattle.std.specs.Prelude.{if◌then◌else◌}
+use Rattle.std.proofs.Common.{subst, ◌∙◌, arith, append-nil, append_assoc, Ok, Some, if◌then◌else◌}
 use Rattle.std.specs.List.{AllByRecursion}
-use Rattle.tape_blocks.specs.Block.{Portion, Holds}
+use Rattle.tape_blocks.specs.{Block.Portion, Block.Holds, Judged.judged, Tight.Filled}
 use Rattle.tape_blocks.specs.Spans.{continues, leaves, InOrder}
-use Rattle.tape_blocks.specs.Judged.{judged}
-use Rattle.tape_blocks.specs.Tight.{Filled}
 use Rattle.tape_blocks.proofs.JudgedLaws.{judged_only}
 use Rattle.tape_set.specs.Lawful.{FileForm}
 use Rattle.tape_core.specs.Parts.{goes_on_at}
@@ -97,8 +94,7 @@ parts_there p begun all end front [] rest o f = record {
   same = refl;
 }
 parts_there p begun all end front (x ∷ xs) rest (c, o) f =
-    let one = part_there p begun all front x (parts_of_block true xs ++ rest) (leaves x.span) refl c
-    f in
+    let one = part_there _ _ _ _ _ (parts_of_block true xs ++ rest) (leaves x.span) refl c f in
     let more = parts_there (with_part p x) (leaves x.span) one.still end one.later xs rest o
     one.follows in
     record {
@@ -111,8 +107,7 @@ parts_there p begun all end front (x ∷ xs) rest (c, o) f =
 -- ---- the parts of a missing block
 
 lost_step : (front : List Portion) (all l : Bool) (x : Portion) (w : List (Bool × Portion))
-    → leaves x.span ≡ l
-    → whole_from front all ((false, x) ∷ w)
+    → leaves x.span ≡ l → whole_from front all ((false, x) ∷ w)
     ≡ (if l then whole_from (front ++ x ∷ []) false w else whole_from [] true w)
 lost_step front true true x w l = rw l refl
 lost_step front false true x w l = rw l refl
@@ -163,8 +158,7 @@ without_block p begun all end front (x ∷ xs) rest t o none (c, i) =
 -- ---- blocks
 
 pub same_piece : (form : FileForm) (p : Piece) (block : List ℕ) (parts : List Portion) (end : Bool)
-    → Holds form.format form.rec_len form.offset block parts
-    → judged_at form p block ≡ Ok end
+    → Holds form.format form.rec_len form.offset block parts → judged_at form p block ≡ Ok end
     → mended (Some form) p block ≡ with_parts p parts
 same_piece form p block parts end h j =
     ap (mended_by form p block) j ∙ ap (with_parts p) (parts_in_it form block parts h)
@@ -174,8 +168,7 @@ judged_from : (form : FileForm) (p : Piece) (block : List ℕ) (parts : List Por
     → Holds form.format form.rec_len form.offset block parts → InOrder begun parts end
     → begun_at form p block ≡ begun → judged_at form p block ≡ Ok end
 judged_from form p block parts begun end h o e =
-    ap (λ b. judged form.format form.rec_len form.offset b block) e
-    ∙ judged_only form.format form.rec_len form.offset begun end block parts h o
+    ap (λ b. judged form.format form.rec_len form.offset b block) e ∙ judged_only _ _ _ _ _ _ _ h o
 
 at_on : (form : FileForm) (p : Piece) (block : List ℕ) → p.torn ≡ false
     → begun_at form p block ≡ p.begun
@@ -252,8 +245,7 @@ given_of form p begun all end front ((false, f) ∷ bs) (b, blocks) o s =
     given_of form (torn p) cut.0 g.still end g.later bs blocks cut.2 g.follows ∙ g.same
 
 pub gives_whole : RecoversWhole
-gives_whole form bs end blocks o =
-    given_of form nothing false true end [] bs blocks o (on refl refl refl refl)
+gives_whole form bs end blocks o = given_of _ _ _ _ _ [] _ blocks o (on refl refl refl refl)
 
 -- ---- if nothing is missing
 
@@ -267,8 +259,7 @@ kept_by front x xs false l a b =
     rw l (ap (λ (w : List Portion). (front ++ x ∷ []) ++ w) (b refl)
     ∙ append_assoc front (x ∷ []) xs)
 
-all_kept : (front : List Portion) (begun : Bool) (xs : List Portion)
-    → (begun ≡ false → front ≡ [])
+all_kept : (front : List Portion) (begun : Bool) (xs : List Portion) → (begun ≡ false → front ≡ [])
     → InOrder begun xs false → whole_from front true (parts_of_block true xs) ≡ front ++ xs
 all_kept front begun [] n i = sym (append-nil front ∙ n i)
 all_kept front begun (x ∷ xs) n (c, i) = kept_by front x xs (leaves x.span) refl
@@ -287,5 +278,4 @@ there [] all = refl
 there (b ∷ bs) (e, all) = rw (e, there bs all) (joined b.1.parts (all_parts bs))
 
 pub all_whole : AllWhole
-all_whole bs all o =
-    ap (whole_from [] true) (there bs all) ∙ all_kept [] false (all_parts bs) (λ e. refl) o
+all_whole bs all o = ap (whole_from [] true) (there _ all) ∙ all_kept [] _ _ (λ e. refl) o

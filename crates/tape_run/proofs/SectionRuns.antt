@@ -1,19 +1,14 @@
 -- Reading items that are in their proper order.
 use Rattle.std.proofs.Common.{◌≡◌, ℕ, ◌+◌, Bool, true, false, List, [], ◌∷◌, ◌++◌, length, Option}
-use Rattle.std.proofs.Common.{Some, None, Ok, refl, ap, subst, ◌∙◌, arith, append-nil}
-use Rattle.std.specs.Prelude.{map, ◌==◌, not, if◌then◌else◌}
+use Rattle.std.proofs.Common.{Some, None, Ok, refl, ap, subst, ◌∙◌, arith, append-nil, map, ◌==◌}
+use Rattle.std.proofs.Common.{not, if◌then◌else◌}
 use Rattle.std.proofs.lemmas.Bool.Decides.{nat_tests}
 use Rattle.tape_image.specs.Tape.{TapeItem, block, mark}
-use Rattle.tape_label.specs.declared.values.Kind.{Kind}
+use Rattle.tape_label.specs.declared.values.{Kind.Kind, Head1.Head1, Trail1.Trail1}
 use Rattle.tape_label.specs.declared.values.Kind.TheVariants as kinds
-use Rattle.tape_label.specs.declared.values.Head1.{Head1}
-use Rattle.tape_label.specs.declared.values.Trail1.{Trail1}
-use Rattle.tape_label.specs.Kinds.{kind_at}
-use Rattle.tape_label.specs.Reading.{head1_at, trail1_at}
-use Rattle.tape_run.specs.declared.section.SectionKey.{SectionKey}
+use Rattle.tape_label.specs.{Kinds.kind_at, Reading.head1_at, Reading.trail1_at}
+use Rattle.tape_run.specs.declared.{section.SectionKey.SectionKey, met.Met.Met, passing.Phase.Phase}
 use Rattle.tape_run.specs.declared.section.SectionState.TheVariants.{Good, Bad, Count}
-use Rattle.tape_run.specs.declared.met.Met.{Met}
-use Rattle.tape_run.specs.declared.passing.Phase.{Phase}
 use Rattle.tape_run.specs.declared.passing.Phase.TheVariants.{Second, Headers, Data, Trailer}
 use Rattle.tape_run.specs.declared.passing.Phase.TheVariants.{Trailers, Next, Over}
 use Rattle.tape_run.specs.Passing.{Told, cut, told_with, closes, met_by, second_with, step, in_list}
@@ -108,8 +103,7 @@ told_good v key trail n u false same a b file sect count =
 
 pub runs_trailer : (v : List ℕ) (head : Head1) (trail : Trail1) (n : ℕ) (b : List ℕ)
     → trail1_at b ≡ Ok trail → trail.head.sequence ≡ head.sequence → trail.head.sect ≡ head.sect
-    → trail.blocks ≡ label_count n
-    → Runs (Trailer (whole_met v (key_of head) n)) (block b
+    → trail.blocks ≡ label_count n → Runs (Trailer (whole_met v (key_of head) n)) (block b
     ∷ []) (Trailers v) (good_told v head trail n ∷ [])
 runs_trailer v head trail n b is file sect count =
     runs_step (Trailer (whole_met v (key_of head) n)) (Trailers v) (block b)

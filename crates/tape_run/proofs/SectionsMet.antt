@@ -2,25 +2,20 @@
 -- its end.
 use Rattle.std.proofs.Common.{◌≡◌, ℕ, suc, Bool, true, false, List, [], ◌∷◌, ◌++◌, length, Option}
 use Rattle.std.proofs.Common.{Some, None, Result, Ok, Err, refl, ap, ◌∙◌, arith, append_assoc}
-use Rattle.std.proofs.Common.{append-nil, length-append}
-use Rattle.std.specs.Prelude.{⊤, map, ◌==◌, ◌||◌, not, if◌then◌else◌}
+use Rattle.std.proofs.Common.{append-nil, length-append, map, ◌==◌, ◌||◌, not, if◌then◌else◌}
+use Rattle.std.specs.Prelude.{⊤}
 use Rattle.std.proofs.lemmas.Bool.Decides.{nat_tests}
 use Rattle.tape_image.specs.Tape.{TapeItem, block, mark}
+use Rattle.tape_label.specs.declared.values.{Kind.Kind, Vol1.Vol1, Head1.Head1, Trail1.Trail1}
 use Rattle.tape_label.specs.declared.label.LabelFault.{LabelFault}
-use Rattle.tape_label.specs.declared.values.Kind.{Kind}
 use Rattle.tape_label.specs.declared.values.Kind.TheVariants as kinds
-use Rattle.tape_label.specs.declared.values.Vol1.{Vol1}
-use Rattle.tape_label.specs.declared.values.Head1.{Head1}
-use Rattle.tape_label.specs.declared.values.Trail1.{Trail1}
 use Rattle.tape_label.specs.Kinds.{HasKind, kind_at}
 use Rattle.tape_label.specs.Reading.{vol1_at, head1_at, trail1_at}
 use Rattle.tape_label.proofs.First.{vol1_found, head1_found, trail1_found}
 use Rattle.tape_label.proofs.Apart.{kind_found}
-use Rattle.tape_run.specs.declared.section.SectionKey.{SectionKey}
+use Rattle.tape_run.specs.declared.section.{SectionKey.SectionKey, Entry.Entry}
+use Rattle.tape_run.specs.declared.{met.Met.Met, passing.Phase.Phase}
 use Rattle.tape_run.specs.declared.section.SectionState.TheVariants.{Good, Bad, Count}
-use Rattle.tape_run.specs.declared.section.Entry.{Entry}
-use Rattle.tape_run.specs.declared.met.Met.{Met}
-use Rattle.tape_run.specs.declared.passing.Phase.{Phase}
 use Rattle.tape_run.specs.declared.passing.Phase.TheVariants.{Volume, Labels, Second, Headers, Data}
 use Rattle.tape_run.specs.declared.passing.Phase.TheVariants.{Trailer, Trailers, Next, Over}
 use Rattle.tape_run.specs.Passing.{Told, with_block, state_by, closes, told, volume_with}
@@ -176,17 +171,16 @@ long_map (x ∷ xs) = ap suc (long_map xs)
 pub labelled_more : (items : List TapeItem) (met : Met) (b : List ℕ) → Labelled items met
     → Labelled (items ++ block b ∷ []) met
 labelled_more items met b h = record {
-  volume = begins_more items met.volume (block b ∷ []) h.volume;
+  volume = begins_more _ _ (block b ∷ []) h.volume;
   before = h.before;
   hdr1 = h.hdr1;
   hdr2 = h.hdr2;
   headers = h.headers ++ b ∷ [];
   head = h.head;
   second = h.second;
-  stands = ap (λ (r : List TapeItem). r ++ block b ∷ []) h.stands
-      ∙ append_assoc h.before (block h.hdr1 ∷ block h.hdr2 ∷ map block h.headers) (block b ∷ [])
-      ∙ ap (λ (r : List TapeItem). h.before ++ block h.hdr1 ∷ block h.hdr2 ∷ r) (map_push h.headers
-      b);
+  stands = ap (λ (r : List TapeItem). r ++ block b ∷ []) h.stands ∙ append_assoc h.before
+      (block h.hdr1 ∷ block h.hdr2 ∷ map block h.headers) (block b ∷ []) ∙ ap (λ
+      (r : List TapeItem). h.before ++ block h.hdr1 ∷ block h.hdr2 ∷ r) (map_push h.headers b);
   none = h.none;
   good = h.good;
 }

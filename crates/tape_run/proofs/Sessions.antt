@@ -1,30 +1,20 @@
 -- The calls of a session, as steps of a run.
-use Rattle.std.proofs.Common.{◌≡◌, ℕ, zero, suc, ◌+◌, Bool, true, false, List, [], ◌∷◌}
-use Rattle.std.proofs.Common.{◌++◌, take, Option, Some, None, IfSome}
-use Rattle.std.proofs.Common.{refl, sym, ap, subst, ◌∙◌, arith}
-use Rattle.std.specs.Prelude.{is_some, not}
+use Rattle.std.proofs.Common.{◌≡◌, ℕ, zero, suc, ◌+◌, Bool, true, false, List, [], ◌∷◌, ◌++◌, take}
+use Rattle.std.proofs.Common.{Option, Some, None, IfSome, refl, sym, ap, subst, ◌∙◌, arith, is_some}
+use Rattle.std.proofs.Common.{not, slice_get}
 use Rattle.std.proofs.Math.ListN.{set}
-use Rattle.std.specs.List.{slice_get}
 use Rattle.tape_blocks.specs.Block.{Portion}
-use Rattle.tape_set.specs.Layout.{FileSet}
-use Rattle.tape_set.specs.Lawful.{IsLawful}
+use Rattle.tape_set.specs.{Layout.FileSet, Lawful.IsLawful, Position.want_at}
 use Rattle.tape_image.specs.Tape.{TapeItem}
 use Rattle.tape_set.specs.declared.position.Position.{Position}
 use Rattle.tape_set.specs.declared.position.Position.TheVariants.{Awaits, Finished}
-use Rattle.tape_core.specs.Point.{Point}
-use Rattle.tape_set.specs.Position.{want_at}
-use Rattle.tape_core.specs.State.{State}
-use Rattle.tape_core.specs.Place.{IsPlaced, place_of, rest_of}
-use Rattle.tape_core.specs.Table.{saved, mount_of}
+use Rattle.tape_core.specs.{Point.Point, State.State, Place.IsPlaced, Place.place_of, Place.rest_of}
+use Rattle.tape_core.specs.{Table.saved, Table.mount_of, Stands.weight_of, Weight.IsFront}
 use Rattle.tape_run.specs.Mount.{MountEvent, reads, foreign_reel, saves, restarts, IsMount}
 use Rattle.tape_run.specs.Mount.{after_mount}
-use Rattle.tape_core.specs.Stands.{weight_of}
-use Rattle.tape_core.specs.Weight.{IsFront}
-use Rattle.tape_run.specs.ByTable.{IsLed, IsCutAt}
+use Rattle.tape_run.specs.{ByTable.IsLed, ByTable.IsCutAt, Under.is_under, Taking.ReadsImage}
+use Rattle.tape_run.specs.{Taking.RefusesImage, Taking.CutsTable, Given.counted, Given.IsGiven}
 use Rattle.tape_run.proofs.ByTable.{led_nowhere}
-use Rattle.tape_run.specs.Under.{is_under}
-use Rattle.tape_run.specs.Taking.{ReadsImage, RefusesImage, CutsTable}
-use Rattle.tape_run.specs.Given.{counted, IsGiven}
 use Rattle.tape_run.specs.Seen.{Seen, IsNote, KeepsNotes, IsKept}
 use Rattle.tape_run.specs.Steps.{Reeled, CutShort, Saved, WentBack, ReadBy, StoppedBy}
 use Rattle.tape_run.proofs.Notes.{front_self, front_trans, same_front}
@@ -113,8 +103,7 @@ pub reeled : (failed : Bool) (mounted new : State) (held now : List Portion) (by
     → IsMount set xs h → IsPlaced set p parts → is_under mounted set p.position xs 0 h)
     → rest_of mounted ≡ p → (rest_of new).set_id ≡ p.set_id → (rest_of new).file ≡ p.file → r2 ≡ r1
     → IsFront held now → f2 ≡ counted failed f1 → mounted ≡ mount_of p
-    → ReadsImage failed mounted new held now unread bytes
-    → Reeled bytes left failed (record {
+    → ReadsImage failed mounted new held now unread bytes → Reeled bytes left failed (record {
       place = p;
       parts = held;
       notes = notes;
@@ -145,8 +134,7 @@ pub cut_short : (mounted new : State) (held now : List Portion) (bytes : List �
     → IsMount set xs h → IsPlaced set p parts → is_under mounted set p.position xs 0 h)
     → rest_of mounted ≡ p → (rest_of new).set_id ≡ p.set_id → (rest_of new).file ≡ p.file
     → IsFront held now → mounted ≡ mount_of p → CutsTable mounted (rest_of new) held now bytes
-    → RefusesImage mounted new held now bytes
-    → CutShort bytes (record {
+    → RefusesImage mounted new held now bytes → CutShort bytes (record {
       place = p;
       parts = held;
       notes = notes;

@@ -1,6 +1,6 @@
 -- Texts shown by Display, and the bytes written of them.
-use Rattle.std.proofs.Common.{◌≡◌, ℕ, List, Option, Some, None, subst}
-use Rattle.std.specs.Prelude.{Result, Ok, Err, OnOk, OnErr, IfSome}
+use Rattle.std.proofs.Common.{◌≡◌, ℕ, List, Option, Some, None, subst, Result, Ok, Err, OnOk, OnErr}
+use Rattle.std.proofs.Common.{IfSome}
 
 -- a property of the text that was built is also a property of the text that is shown
 pub on_ok_shown : {A E : Type 0} (r : Result A E) (shown : Option (List ℕ)) (P : List ℕ → Type 0)

@@ -1,16 +1,12 @@
 -- The meaning of the items so far, according to what is expected next.
 use Rattle.std.proofs.Common.{◌≡◌, ℕ, Bool, true, false, List, [], ◌∷◌, ◌++◌, Option, Some, None}
-use Rattle.std.proofs.Common.{Result, Ok, Err, refl, sym, subst, append_assoc}
-use Rattle.std.specs.Prelude.{◌||◌, if◌then◌else◌}
+use Rattle.std.proofs.Common.{Result, Ok, Err, refl, sym, subst, append_assoc, ◌||◌, if◌then◌else◌}
 use Rattle.std.specs.List.{AllByRecursion}
 use Rattle.tape_image.specs.Tape.{TapeItem, block, bad, mark}
-use Rattle.tape_label.specs.declared.label.LabelFault.{LabelFault}
-use Rattle.tape_label.specs.declared.values.Trail1.{Trail1}
-use Rattle.tape_label.specs.Kinds.{kind_at}
-use Rattle.tape_label.specs.VolumeLabels.{is_volume_label}
+use Rattle.tape_label.specs.declared.{label.LabelFault.LabelFault, values.Trail1.Trail1}
+use Rattle.tape_label.specs.{Kinds.kind_at, VolumeLabels.is_volume_label}
 use Rattle.tape_label.specs.Reading.{vol1_at, head1_at, trail1_at}
-use Rattle.tape_run.specs.declared.section.SectionState.TheVariants.{Good}
-use Rattle.tape_run.specs.declared.met.Met.{Met}
+use Rattle.tape_run.specs.declared.{section.SectionState.TheVariants.Good, met.Met.Met}
 use Rattle.tape_run.specs.declared.passing.Phase.{Phase}
 use Rattle.tape_run.specs.declared.passing.Phase.TheVariants.{Volume, Labels, Second, Headers, Data}
 use Rattle.tape_run.specs.declared.passing.Phase.TheVariants.{Trailer, Trailers, Next, Over}
@@ -101,13 +97,12 @@ told_shown : (p : Phase) (past items : List TapeItem) → Stood p past
     → AllShown (past ++ items) (told_from p items)
 told_shown p past [] h = tt
 told_shown p past (x ∷ items) h =
-    let (on, first) = stands_on p past x h in
+    let (on, first) = stands_on _ _ x h in
     let whole : (past ++ x ∷ []) ++ items ≡ past ++ x ∷ items = append_assoc past (x ∷ []) items in
-    both_shown (past ++ x ∷ items) (in_list (step p x).1) (told_from (step p x).0 items)
-    (subst (λ (r : List TapeItem). AllShown r (in_list (step p x).1)) whole (later_all
-    (past ++ x ∷ []) items (in_list (step p x).1) (one_shown (past ++ x ∷ []) (step p x).1 first)))
-    (subst (λ (r : List TapeItem). AllShown r (told_from (step p x).0 items)) whole
-    (told_shown (step p x).0 (past ++ x ∷ []) items on))
+    both_shown (past ++ x ∷ items) (in_list (step p x).1) (told_from (step p x).0 items) (subst
+    (λ (r : List TapeItem). AllShown r (in_list (step p x).1)) whole (later_all _ items _
+    (one_shown (past ++ x ∷ []) (step p x).1 first))) (subst (λ (r : List TapeItem). AllShown r
+    (told_from (step p x).0 items)) whole (told_shown (step p x).0 (past ++ x ∷ []) items on))
 
 left_shown : (p : Phase) (items : List TapeItem) → AllShown items (in_list (under_way p))
 left_shown (Data met) items = (λ good. absurd (cc good), tt)
@@ -116,5 +111,4 @@ left_shown _ items = tt
 
 pub good_are_shown : GoodAreShown
 good_are_shown items =
-    both_shown items (told_from Volume items) (in_list (under_way (phase_after Volume items)))
-    (told_shown Volume [] items refl) (left_shown (phase_after Volume items) items)
+    both_shown _ _ _ (told_shown Volume [] items refl) (left_shown (phase_after Volume items) items)

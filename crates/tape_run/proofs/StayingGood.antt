@@ -1,17 +1,13 @@
 -- Sections that are good in a catalogue remain good, and sections reported as good become good.
 use Rattle.std.proofs.Common.{◌≡◌, ℕ, Bool, true, false, List, [], ◌∷◌, Option, Some, None, refl}
-use Rattle.std.proofs.Common.{ap, ◌∙◌, arith}
-use Rattle.std.specs.Prelude.{if◌then◌else◌, ◌==◌, ◌&&◌, not}
+use Rattle.std.proofs.Common.{ap, ◌∙◌, arith, if◌then◌else◌, ◌==◌, ◌&&◌, not}
 use Rattle.std.specs.List.{AllByRecursion}
-use Rattle.std.proofs.lemmas.Slice.Eq.{bytes_eq-Decides}
-use Rattle.std.proofs.lemmas.Bool.Decides.{nat_tests}
-use Rattle.tape_run.specs.declared.section.SectionKey.{SectionKey}
-use Rattle.tape_run.specs.declared.section.SectionState.{SectionState}
-use Rattle.tape_run.specs.declared.section.SectionState.TheVariants.{Good, Bad, Count, Cut}
+use Rattle.std.proofs.lemmas.{Slice.Eq.bytes_eq-Decides, Bool.Decides.nat_tests}
+use Rattle.tape_run.specs.declared.section.{SectionKey.SectionKey, SectionState.SectionState}
 use Rattle.tape_run.specs.declared.section.Entry.{Entry}
-use Rattle.tape_run.specs.Passing.{Told}
+use Rattle.tape_run.specs.declared.section.SectionState.TheVariants.{Good, Bad, Count, Cut}
+use Rattle.tape_run.specs.{Passing.Told, Lacks.entry_at, Lacks.IsGoodAt}
 use Rattle.tape_run.specs.Noted.{same_key, is_good, better, noted, noted_all}
-use Rattle.tape_run.specs.Lacks.{entry_at, IsGoodAt}
 
 pub key_again : (k : SectionKey) → same_key k k ≡ true
 key_again k =
@@ -115,8 +111,7 @@ becomes_one (x ∷ xs) t good =
 pub stays_good : (c ts : List Told) (key : SectionKey) → IsGoodAt c key
     → IsGoodAt (noted_all c ts) key
 stays_good c [] key g = g
-stays_good c (t ∷ ts) key g =
-    stays_good (noted c t) ts key (stays_one c t key g.entry g.good g.there)
+stays_good c (t ∷ ts) key g = stays_good (noted c t) ts key (stays_one _ t _ _ g.good g.there)
 
 -- each section that is reported as good is good afterwards
 pub become_good : (c ts : List Told) → AllByRecursion (λ t. t.1.state ≡ Good) ts

@@ -1,19 +1,15 @@
 -- The text of records, written part by part.
 use Rattle.std.proofs.lemmas.List.{nil_from_length}
-use Rattle.std.proofs.Common.{append-nil, Ok, ◌≡◌, ℕ, zero, suc, ◌+◌, ◌<◌, ◌≤◌, Bool}
-use Rattle.std.proofs.Common.{true, false, List, [], ◌∷◌, ◌++◌, length, Option, Some, None, refl}
-use Rattle.std.proofs.Common.{sym, ap, subst, ◌∙◌, arith, append_assoc}
-use Rattle.std.specs.Prelude.{if◌then◌else◌}
+use Rattle.std.proofs.Common.{append-nil, Ok, ◌≡◌, ℕ, zero, suc, ◌+◌, ◌<◌, ◌≤◌, Bool, true, false}
+use Rattle.std.proofs.Common.{List, [], ◌∷◌, ◌++◌, length, Option, Some, None, refl, sym, ap, subst}
+use Rattle.std.proofs.Common.{◌∙◌, arith, append_assoc, if◌then◌else◌}
 use Rattle.std.specs.Io.KnownBytes.{Appends}
 use Rattle.std.proofs.KnownBytes.{Appends-nil, Appends-trans}
 use Rattle.tape_image.specs.Written.{AppendsFront}
-use Rattle.tape_blocks.specs.Block.{Portion}
+use Rattle.tape_blocks.specs.{Block.Portion, Parts.view}
 use Rattle.tape_blocks.specs.Spans.{leaves, content_after, with_record, join_after, join}
-use Rattle.tape_core.specs.Stands.{weight_of}
-use Rattle.tape_core.specs.Walks.{GivesPart}
-use Rattle.tape_blocks.specs.declared.parts.Part.{Part}
-use Rattle.tape_blocks.specs.Parts.{view}
-use Rattle.tape_blocks.specs.declared.parts.Form.{Form}
+use Rattle.tape_core.specs.{Stands.weight_of, Walks.GivesPart}
+use Rattle.tape_blocks.specs.declared.parts.{Part.Part, Form.Form}
 use Rattle.tape_run.specs.RecordText.{record_end, records_text, output_of, part_text}
 
 -- one more record, if a part ends it
@@ -98,8 +94,7 @@ by_part form true begun bytes ps h all =
     let content = content_is begun bytes in
     ap (λ t. behind begun ++ (t ++ stream form ps)) (append-nil bytes)
     ∙ sym (append_assoc (behind begun) bytes (stream form ps))
-    ∙ ap (λ t. t ++ stream form ps) (sym content)
-    ∙ all (Some (content_after begun bytes)) h
+    ∙ ap (λ t. t ++ stream form ps) (sym content) ∙ all (Some (content_after begun bytes)) h
 by_part form false begun bytes ps h all =
     let end = record_end form in
     let rest = records_text form (join_after None ps).records in

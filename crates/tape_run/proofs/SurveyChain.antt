@@ -1,14 +1,11 @@
 -- The volumes of a set, one section after another.
-use Rattle.std.proofs.Common.{◌≡◌, ℕ, zero, suc, ◌+◌, ◌-◌, ◌<◌, Bool, true, false, List, []}
-use Rattle.std.proofs.Common.{◌++◌, Option, Some, None, refl, ap, sym, ◌∙◌, arith}
-use Rattle.std.proofs.Common.{append_assoc, append-nil}
-use Rattle.std.specs.Prelude.{if◌then◌else◌}
+use Rattle.std.proofs.Common.{◌≡◌, ℕ, zero, suc, ◌+◌, ◌-◌, ◌<◌, Bool, true, false, List, [], ◌++◌}
+use Rattle.std.proofs.Common.{Option, Some, None, refl, ap, sym, ◌∙◌, arith, append_assoc}
+use Rattle.std.proofs.Common.{append-nil, if◌then◌else◌}
 use Rattle.tape_run.specs.Lacks.{entry_at, key_at}
-use Rattle.tape_run.specs.Passing.{Told}
-use Rattle.tape_run.specs.SurveyProblems.{first_after}
-use Rattle.tape_run.specs.SurveyRead.{Found}
-use Rattle.tape_run.specs.SurveyChain.{link_of, is_last, next_first, sections_chain}
-use Rattle.tape_run.specs.SurveyChain.{file_chain, files_chain}
+use Rattle.tape_run.specs.{Passing.Told, SurveyProblems.first_after, SurveyRead.Found}
+use Rattle.tape_run.specs.SurveyChain.{link_of, is_last, next_first, sections_chain, file_chain}
+use Rattle.tape_run.specs.SurveyChain.{files_chain}
 
 -- ---- the sections of a file
 
@@ -45,18 +42,16 @@ section_linked c set_id file old new goal first next before most within is put w
     let entry = entry_at c (key_at set_id file (before + 1)) in
     let here = link_of first (before + 1) entry in
     let next_one = first_after first (before + 1) entry in
-    let (on, same) = goes_on (is_last entry) next next_one is in
+    let (on, same) = goes_on _ _ _ is in
     let rest : ℕ → ℕ → List (Option (List ℕ)) =
     λ n m. sections_chain c set_id file n (before + 1 + 1) m in
     let fewer : most - (before + 1) ≡ most - before - 1 = omega (arith, within) in
     let some : 0 < most - before = omega (arith, within) in
-    ap (λ n. new ++ rest n (most - (before + 1))) same
-    ∙ ap (λ ls. ls ++ rest next_one (most - (before + 1))) put
-    ∙ append_assoc old here (rest next_one (most - (before + 1)))
-    ∙ ap (λ n. old ++ (here ++ rest next_one n)) fewer
-    ∙ ap (λ (b : Bool). old ++ (here ++ (if b then [] else rest next_one (most - before - 1)))) (sym on)
-    ∙ ap (λ ls. old ++ ls) (sym (chain_behind c set_id file first (before + 1) (most - before) some))
-    ∙ was
+    ap (λ n. new ++ rest n (most - (before + 1))) same ∙ ap
+    (λ ls. ls ++ rest next_one (most - (before + 1))) put ∙ append_assoc old here
+    (rest next_one (most - (before + 1))) ∙ ap (λ n. old ++ (here ++ rest next_one n)) fewer ∙ ap (λ
+    (b : Bool). old ++ (here ++ (if b then [] else rest next_one (most - before - 1)))) (sym on)
+    ∙ ap (λ ls. old ++ ls) (sym (chain_behind c set_id file first (before + 1) _ some)) ∙ was
 
 -- a section was added, and it ends the file
 pub section_last : (c : List Told) (set_id : List ℕ) (file : ℕ) (old new goal : List (Option (List ℕ)))
@@ -68,13 +63,12 @@ section_last c set_id file old new goal first before most within is put was =
     let entry = entry_at c (key_at set_id file (before + 1)) in
     let here = link_of first (before + 1) entry in
     let next_one = first_after first (before + 1) entry in
-    let over = is_over (is_last entry) next_one is in
+    let over = is_over _ _ is in
     let rest = sections_chain c set_id file next_one (before + 1 + 1) (most - before - 1) in
     let some : 0 < most - before = omega (arith, within) in
-    put ∙ ap (λ ls. old ++ ls) (sym (append-nil here))
-    ∙ ap (λ (b : Bool). old ++ (here ++ (if b then [] else rest))) (sym over)
-    ∙ ap (λ ls. old ++ ls) (sym (chain_behind c set_id file first (before + 1) (most - before) some))
-    ∙ was
+    put ∙ ap (λ ls. old ++ ls) (sym (append-nil here)) ∙ ap
+    (λ (b : Bool). old ++ (here ++ (if b then [] else rest))) (sym over) ∙ ap (λ ls. old ++ ls)
+    (sym (chain_behind c set_id file first (before + 1) _ some)) ∙ was
 
 -- ---- the files of a set
 
@@ -96,11 +90,9 @@ file_linked d set_id old new goal before greatest within put was =
     let rest : ℕ → List (Option (List ℕ)) = λ m. files_chain d set_id (before + 1 + 1) m in
     let fewer : greatest - (before + 1) ≡ greatest - before - 1 = omega (arith, within) in
     let some : 0 < greatest - before = omega (arith, within) in
-    ap (λ ls. ls ++ rest (greatest - (before + 1))) put
-    ∙ append_assoc old here (rest (greatest - (before + 1)))
-    ∙ ap (λ n. old ++ (here ++ rest n)) fewer
-    ∙ ap (λ ls. old ++ ls) (sym (files_behind d set_id (before + 1) (greatest - before) some))
-    ∙ was
+    ap (λ ls. ls ++ rest (greatest - (before + 1))) put ∙ append_assoc old here
+    (rest (greatest - (before + 1))) ∙ ap (λ n. old ++ (here ++ rest n)) fewer ∙ ap
+    (λ ls. old ++ ls) (sym (files_behind d set_id (before + 1) _ some)) ∙ was
 
 -- nothing is left
 pub files_over : (d : Found) (set_id : List ℕ) (all goal : List (Option (List ℕ))) (file left : ℕ)

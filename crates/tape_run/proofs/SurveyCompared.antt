@@ -1,11 +1,8 @@
 -- The names of images, by their numbers.
-use Rattle.std.proofs.Common.{◌≡◌, ◌<◌, ◌≤◌, ℕ, List, [], length, map, get_or, ap, ◌∙◌, encode_utf8_all}
-use Rattle.std.proofs.Common.{arith}
-use Rattle.std.proofs.lemmas.List.{get_or-map, get_or_past, length-map}
-use Rattle.std.proofs.lemmas.Str.{chars-nil}
-use Rattle.std.specs.List.{flat_map}
-use Rattle.tape_run.specs.SurveyCompared.{name_at}
-use Rattle.tape_run.specs.Quoting.{name_text, quoted}
+use Rattle.std.proofs.Common.{◌≡◌, ◌<◌, ◌≤◌, ℕ, List, [], length, map, get_or, ap, ◌∙◌}
+use Rattle.std.proofs.Common.{encode_utf8_all, arith, flat_map}
+use Rattle.std.proofs.lemmas.{List.get_or-map, List.get_or_past, List.length-map, Str.chars-nil}
+use Rattle.tape_run.specs.{SurveyCompared.name_at, Quoting.name_text, Quoting.quoted}
 
 pub no_name : {X : Type 0} (f : X → List ℕ) (xs : List X) (i : ℕ) → length xs ≤ i
     → name_at (map f xs) i ≡ []

@@ -1,25 +1,19 @@
 -- Copies that are reported to differ do differ.
-use Rattle.std.proofs.Common.{◌≡◌, ℕ, ◌+◌, Bool, true, false, List, [], ◌∷◌, ◌++◌, length}
-use Rattle.std.proofs.Common.{Option, Some, None, refl, sym, ap, subst, ◌∙◌, arith, append_assoc}
-use Rattle.std.proofs.Common.{append-nil, map}
-use Rattle.std.specs.Prelude.{◌==◌, ◌&&◌, if◌then◌else◌, option_map, cond}
+use Rattle.std.proofs.Common.{◌≡◌, ℕ, ◌+◌, Bool, true, false, List, [], ◌∷◌, ◌++◌, length, Option}
+use Rattle.std.proofs.Common.{Some, None, refl, sym, ap, subst, ◌∙◌, arith, append_assoc}
+use Rattle.std.proofs.Common.{append-nil, map, ◌==◌, ◌&&◌, if◌then◌else◌, option_map, cond}
 use Rattle.std.specs.List.{AllByRecursion}
 use Rattle.std.proofs.lemmas.Bool.Decides.{nat_tests}
 use Rattle.indexmap.specs.IndexMap.{insert_entry}
 use Rattle.tape_image.specs.Tape.{TapeItem}
+use Rattle.tape_run.specs.declared.survey.{copies.CopyNote.CopyNote, view.ImageSurvey.ImageSurvey}
 use Rattle.tape_run.specs.declared.section.SectionKey.{SectionKey}
-use Rattle.tape_run.specs.declared.survey.copies.CopyNote.{CopyNote}
-use Rattle.tape_run.specs.declared.survey.view.ImageSurvey.{ImageSurvey}
-use Rattle.tape_run.specs.Checked.{Reel}
-use Rattle.tape_run.specs.Noted.{same_key}
-use Rattle.tape_run.specs.Reeling.{Mounting}
+use Rattle.tape_run.specs.{Checked.Reel, Noted.same_key, Reeling.Mounting, SurveyDigest.digest_of}
+use Rattle.tape_run.specs.SurveyGlance.{or_else}
 use Rattle.tape_run.specs.SurveyConflicts.{Placed, placed_on, placed_in, all_placed, IsIn}
 use Rattle.tape_run.specs.SurveyConflicts.{CopiesDiffer}
 use Rattle.tape_run.specs.SurveyCopies.{Copy, copies_on, Noted, Copied, with_same, with_other}
-use Rattle.tape_run.specs.SurveyCopies.{copy_note}
-use Rattle.tape_run.specs.SurveyCopies.{noted_at, with_good, with_copies}
-use Rattle.tape_run.specs.SurveyDigest.{digest_of}
-use Rattle.tape_run.specs.SurveyGlance.{or_else}
+use Rattle.tape_run.specs.SurveyCopies.{copy_note, noted_at, with_good, with_copies}
 use Rattle.tape_run.specs.SurveyRead.{Found, nothing_found, IsViewed, AreViewed}
 use Rattle.tape_run.proofs.KeepingPlaces.{one_key}
 use Rattle.tape_run.proofs.SurveyShown.{AllShownAs, copies_are_shown}
@@ -118,8 +112,7 @@ which xs x key blocks digest None j k e h is = record {
   on = cc is;
   differs = e;
 }
-which xs x key blocks digest (Some i) j k e h is =
-    other_more xs (x ∷ []) key blocks digest j (h j is)
+which xs x key blocks digest (Some i) j k e h is = other_more _ (x ∷ []) _ _ _ _ (h j is)
 
 -- one copy more
 note_if : (xs : List Placed) (x : Placed) (key : SectionKey) (n : CopyNote) (b : Bool)
@@ -230,8 +223,7 @@ both_counted (x ∷ xs) ys (a, as_) b = (a, both_counted xs ys as_ b)
 counted_in : (reel : Reel) (sight : Option ImageSurvey) (c d : Found) (v : IsViewed reel sight c d)
     → AllCounted (placed_in reel sight c d v)
 counted_in None None c d v = tt
-counted_in (Some before) (Some sight) c d v =
-    counted_on v.1.items c.images (copies_on v.1.items) (copies_are_shown v.1.items)
+counted_in (Some before) (Some sight) c d v = counted_on _ c.images _ (copies_are_shown v.1.items)
 counted_in None (Some sight) c d v = tt
 counted_in (Some before) None c d v = tt
 

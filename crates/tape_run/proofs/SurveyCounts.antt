@@ -1,7 +1,6 @@
 -- How many files of a set are complete, one file after another.
 use Rattle.std.proofs.Common.{◌≡◌, ℕ, zero, suc, ◌+◌, ◌-◌, ◌<◌, List, ap, arith}
-use Rattle.tape_run.specs.SurveyGlance.{one_if}
-use Rattle.tape_run.specs.SurveyRead.{Found}
+use Rattle.tape_run.specs.{SurveyGlance.one_if, SurveyRead.Found}
 use Rattle.tape_run.specs.SurveySets.{is_sure, sure_files}
 
 -- those from one file on

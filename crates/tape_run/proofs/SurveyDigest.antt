@@ -1,10 +1,8 @@
 -- What changes a digest.
 use Rattle.std.proofs.Common.{◌≡◌, ℕ, ◌+◌, ◌-◌, ◌*◌, ◌/◌, ◌%◌, ◌^◌, ◌<◌, List, [], ◌∷◌, ◌++◌, refl}
-use Rattle.std.proofs.Common.{sym, ap, ◌∙◌, arith, length, map, drop, append_assoc}
-use Rattle.std.specs.Prelude.{◌≢◌}
+use Rattle.std.proofs.Common.{sym, ap, ◌∙◌, arith, length, map, drop, append_assoc, ◌≢◌}
 use Rattle.std.specs.Int.{from_le_bytes, w64, rotate_left}
-use Rattle.std.specs.Simd.{first_chunks}
-use Rattle.std.specs.Int.Bits.{bit_or}
+use Rattle.std.specs.{Simd.first_chunks, Int.Bits.bit_or}
 use Rattle.std.proofs.Math.Nat.{mul_assoc, mul-add, mul-one, mod-add-mod, mod-add-div'}
 use Rattle.std.proofs.Math.Nat.{add-mul-mod_self_right, mod-eq_of_lt}
 use Rattle.std.proofs.lemmas.Nat.{mul-mod_first, or_shifted, mod_below}
@@ -46,9 +44,8 @@ one_more p q n e = omega arith
 -- a sum, less the number that was added, is the original value
 taken_off : (r u n : ℕ) → 0 < n → u < n → ((r + u) % n + (n - r % n)) % n ≡ u
 taken_off r u n some below =
-    mod-add-mod (r + u) n (n - r % n)
-    ∙ ap (λ x. x % n) (rest_left r u n (r % n) (r / n * n) (mod-add-div' r n) (mod_below r n some)
-    ∙ ap (λ x. u + x) (one_more (r / n * n) (r / n) n refl))
+    mod-add-mod (r + u) n (n - r % n) ∙ ap (λ x. x % n) (rest_left _ u _ _ _ (mod-add-div' r n)
+    (mod_below r n some) ∙ ap (λ x. u + x) (one_more (r / n * n) (r / n) n refl))
     ∙ add-mul-mod_self_right u (r / n + 1) n ∙ mod-eq_of_lt below
 
 same_added : (r u v n : ℕ) → 0 < n → u < n → v < n → (r + u) % n ≡ (r + v) % n → u ≡ v
@@ -78,8 +75,7 @@ halves d e dn en same = omega arith
 
 same_turned : (d e : ℕ) → d < 2 ^ 64 → e < 2 ^ 64
     → rotate_left w64 d 32 ≡ rotate_left w64 e 32 → d ≡ e
-same_turned d e dn en same =
-    halves d e dn en (sym (turned d dn) ∙ same ∙ turned e en)
+same_turned d e dn en same = halves _ _ dn en (sym (turned _ dn) ∙ same ∙ turned _ en)
 
 -- ---- chains
 
@@ -106,14 +102,12 @@ same_sum : (d e u v : ℕ) → digest_by d u ≡ digest_by e v
     → (rotate_left w64 d 32 + u) % 2 ^ 64 ≡ (rotate_left w64 e 32 + v) % 2 ^ 64
 unfolding digest_by
 same_sum d e u v same =
-    same_factor ((rotate_left w64 d 32 + u) % 2 ^ 64) ((rotate_left w64 e 32 + v) % 2 ^ 64)
-    factor inverse 10771413168148108919 (2 ^ 64)
+    same_factor _ _ _ inverse 10771413168148108919 _
     (mod_below (rotate_left w64 d 32 + u) (2 ^ 64) (omega arith))
     (mod_below (rotate_left w64 e 32 + v) (2 ^ 64) (omega arith)) refl same
 
 same_word : (d u v : ℕ) → u < 2 ^ 64 → v < 2 ^ 64 → digest_by d u ≡ digest_by d v → u ≡ v
-same_word d u v un vn same =
-    same_added (rotate_left w64 d 32) u v (2 ^ 64) (omega arith) un vn (same_sum d d u v same)
+same_word d u v un vn same = same_added _ _ _ _ (omega arith) un vn (same_sum _ _ _ _ same)
 
 same_digest : (d e w : ℕ) → d < 2 ^ 64 → e < 2 ^ 64 → digest_by d w ≡ digest_by e w → d ≡ e
 same_digest d e w dn en same =

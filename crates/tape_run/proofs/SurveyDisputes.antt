@@ -1,19 +1,14 @@
 -- Images that are reported to be in conflict, and images that are not.
 use Rattle.std.proofs.Common.{◌≡◌, ◌⊎◌, inl, inr, ℕ, ◌+◌, Bool, true, false, List, [], ◌∷◌, ◌++◌}
 use Rattle.std.proofs.Common.{Option, Some, None, refl, sym, ap, ◌∙◌, arith, append_assoc}
-use Rattle.std.proofs.Common.{append-nil, map, subst}
-use Rattle.std.specs.Prelude.{◌==◌, if◌then◌else◌, option_map}
-use Rattle.std.specs.List.{flat_map}
-use Rattle.std.proofs.lemmas.Bool.Decides.{nat_tests}
-use Rattle.std.proofs.lemmas.List.{map-append}
+use Rattle.std.proofs.Common.{append-nil, map, subst, ◌==◌, if◌then◌else◌, option_map, flat_map}
+use Rattle.std.proofs.lemmas.{Bool.Decides.nat_tests, List.map-append}
 use Rattle.tape_run.specs.declared.section.SectionKey.{SectionKey}
 use Rattle.tape_run.specs.declared.survey.view.ImageSurvey.{ImageSurvey}
-use Rattle.tape_run.specs.Checked.{Reel}
-use Rattle.tape_run.specs.Reeling.{Mounting}
+use Rattle.tape_run.specs.{Checked.Reel, Reeling.Mounting, SurveyDigest.digest_of}
 use Rattle.tape_run.specs.SurveyConflicts.{Placed, placed_in, all_placed, IsIn, TellsDispute}
 use Rattle.tape_run.specs.SurveyCopies.{Copy, copies_on, Noted, Held, Copied, noted_at, differs}
 use Rattle.tape_run.specs.SurveyCopies.{with_good, with_copies, disputed_by, disputed, disputed_on}
-use Rattle.tape_run.specs.SurveyDigest.{digest_of}
 use Rattle.tape_run.specs.SurveyRead.{Found, nothing_found, IsViewed, AreViewed}
 
 -- ---- each copy was recorded
@@ -31,8 +26,7 @@ held_copies image c (y ∷ ys) =
 
 held_image : (reel : Reel) (sight : Option ImageSurvey) (c d : Found)
     → (v : IsViewed reel sight c d) → d.copies.held ≡ c.copies.held ++ map as_held (placed_in reel sight c d v)
-held_image None None c d v =
-    ap (λ (f : Found). f.copies.held) v ∙ sym (append-nil c.copies.held)
+held_image None None c d v = ap (λ (f : Found). f.copies.held) v ∙ sym (append-nil c.copies.held)
 held_image (Some before) (Some sight) c d v =
     ap (λ (k : Copied). k.held) v.1.copied
     ∙ held_copies c.images c.copies (copies_on v.1.items)
@@ -89,8 +83,7 @@ told_more : (xs : List Placed) (x : Placed) (notes : List Noted) (image : ℕ) (
     → TellsDispute (x ∷ xs) notes image o
 told_more xs x notes image (Some key) not (y, i, on, of, is) = (y, in_rest x y xs i, on, of, is)
 told_more xs x notes image None not all =
-    λ y i on. none_more xs x y notes image not all
-    (first_or_rest x y xs i.front i.rest i.stands) on
+    λ y i on. none_more _ _ _ notes _ not all (first_or_rest _ _ _ _ _ i.stands) on
 
 same_nat : (m n : ℕ) → (m == n) ≡ true → m ≡ n
 same_nat m n e = grind (arith, nat_tests, e)
@@ -105,8 +98,7 @@ told_here : (xs : List Placed) (x : Placed) (notes : List Noted) (image : ℕ) (
     → (x.0 == image) ≡ b → differs (noted_at notes x.1.0.0) ≡ true
     → TellsDispute xs notes image (disputed_on hs image)
     → TellsDispute (x ∷ xs) notes image (if b then Some x.1.0.0 else disputed_on hs image)
-told_here xs x notes image hs true on is h =
-    (x, in_first x xs, same_nat x.0 image on, refl, is)
+told_here xs x notes image hs true on is h = (x, in_first x xs, same_nat _ _ on, refl, is)
 told_here xs x notes image hs false on is h =
     told_more xs x notes image (disputed_on hs image) (λ e. absurd (other_nat x.0 image on e)) h
 
@@ -116,8 +108,7 @@ told_by : (xs : List Placed) (x : Placed) (notes : List Noted) (image : ℕ) (hs
     → TellsDispute (x ∷ xs) notes image
     (disputed_on ((if b then as_held x ∷ [] else []) ++ hs) image)
 told_by xs x notes image hs true is h = told_here xs x notes image hs (x.0 == image) refl is h
-told_by xs x notes image hs false is h =
-    told_more xs x notes image (disputed_on hs image) (λ e. is) h
+told_by xs x notes image hs false is h = told_more _ x _ _ _ (λ e. is) h
 
 none_in : (x : Placed) (front rest : List Placed) → [] ≡ front ++ x ∷ rest → ⊥
 none_in x [] rest e = cc e
@@ -127,8 +118,7 @@ all_told : (xs : List Placed) (notes : List Noted) (image : ℕ) → TellsDisput
     (disputed_on (flat_map (disputed_by notes) (map as_held xs)) image)
 all_told [] notes image = λ x i on. absurd (none_in x i.front i.rest i.stands)
 all_told (x ∷ xs) notes image =
-    told_by xs x notes image (flat_map (disputed_by notes) (map as_held xs))
-    (differs (noted_at notes x.1.0.0)) refl (all_told xs notes image)
+    told_by _ x _ _ _ (differs (noted_at notes x.1.0.0)) refl (all_told xs notes image)
 
 -- ---- together
 

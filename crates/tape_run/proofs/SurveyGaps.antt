@@ -1,9 +1,7 @@
 -- Numbers of files for which no label was found.
-use Rattle.std.proofs.Common.{◌≡◌, ℕ, zero, suc, ◌+◌, ◌-◌, ◌<◌, true, false, List}
-use Rattle.std.proofs.Common.{ap, ◌∙◌, arith}
-use Rattle.std.specs.Prelude.{if◌then◌else◌}
-use Rattle.tape_run.specs.SurveyGaps.{is_found, gap_first}
-use Rattle.tape_run.specs.SurveyRead.{Found}
+use Rattle.std.proofs.Common.{◌≡◌, ℕ, zero, suc, ◌+◌, ◌-◌, ◌<◌, true, false, List, ap, ◌∙◌, arith}
+use Rattle.std.proofs.Common.{if◌then◌else◌}
+use Rattle.tape_run.specs.{SurveyGaps.is_found, SurveyGaps.gap_first, SurveyRead.Found}
 
 -- a number that was not found is skipped
 pub gap_on : (d : Found) (set_id : List ℕ) (n : ℕ) → 0 < n → is_found d set_id n ≡ false

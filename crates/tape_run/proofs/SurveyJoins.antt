@@ -12,5 +12,4 @@ pub five : (old one mid more most new a b c d e : List ℕ) → one ≡ old ++ a
     → more ≡ mid ++ c → most ≡ more ++ d → new ≡ most ++ e
     → new ≡ old ++ ((((a ++ b) ++ c) ++ d) ++ e)
 five old one mid more most new a b c d e x y z v w =
-    two old most new (((a ++ b) ++ c) ++ d) e
-    (two old more most ((a ++ b) ++ c) d (three old one mid more a b c x y z) v) w
+    two _ _ _ _ _ (two _ _ _ _ _ (three _ _ _ _ _ _ _ x y z) v) w

@@ -1,21 +1,17 @@
 -- The volumes of a set are those of its sections, and one for each gap between two of them.
-use Rattle.std.proofs.Common.{◌≡◌, ℕ, zero, suc, ◌+◌, ◌-◌, ◌<◌, ◌≤◌, Bool, true, false, List, [], ◌∷◌}
-use Rattle.std.proofs.Common.{◌++◌, Option, Some, None, refl, ap, sym, ◌∙◌, arith, append_assoc}
-use Rattle.std.proofs.Common.{subst, ◌⊎◌, inl, inr}
-use Rattle.std.specs.Prelude.{if◌then◌else◌, replicate, nat_lt}
+use Rattle.std.proofs.Common.{◌≡◌, ℕ, zero, suc, ◌+◌, ◌-◌, ◌<◌, ◌≤◌, Bool, true, false, List, []}
+use Rattle.std.proofs.Common.{◌∷◌, ◌++◌, Option, Some, None, refl, ap, sym, ◌∙◌, arith}
+use Rattle.std.proofs.Common.{append_assoc, subst, ◌⊎◌, inl, inr, if◌then◌else◌, replicate, nat_lt}
 use Rattle.std.specs.Str.{bytes_eq}
 use Rattle.std.proofs.lemmas.Slice.Eq.{bytes_eq-Decides}
-use Rattle.tape_run.specs.declared.section.Entry.{Entry}
-use Rattle.tape_run.specs.declared.survey.volumes.VolumeItem.{VolumeItem}
+use Rattle.tape_run.specs.declared.{section.Entry.Entry, survey.volumes.VolumeItem.VolumeItem}
 use Rattle.tape_run.specs.declared.survey.volumes.VolumeItem.TheVariants.{Named, MissingAfter}
 use Rattle.tape_run.specs.Lacks.{entry_at, key_at}
-use Rattle.tape_run.specs.Passing.{Told}
-use Rattle.tape_run.specs.SurveyChain.{gap_if, link_of, is_last, sections_chain, found_chain, file_chain}
-use Rattle.tape_run.specs.SurveyChain.{files_chain, is_same, missing_if, items_to, volumes_from}
-use Rattle.tape_run.specs.SurveyConflicts.{IsIn}
-use Rattle.tape_run.specs.SurveyLaws.{VolumesAreListed}
-use Rattle.tape_run.specs.SurveyProblems.{first_after}
-use Rattle.tape_run.specs.SurveyRead.{Found}
+use Rattle.tape_run.specs.{Passing.Told, SurveyConflicts.IsIn, SurveyLaws.VolumesAreListed}
+use Rattle.tape_run.specs.{SurveyProblems.first_after, SurveyRead.Found}
+use Rattle.tape_run.specs.SurveyChain.{gap_if, link_of, is_last, sections_chain, found_chain}
+use Rattle.tape_run.specs.SurveyChain.{file_chain, files_chain, is_same, missing_if, items_to}
+use Rattle.tape_run.specs.SurveyChain.{volumes_from}
 
 -- ---- lists
 
@@ -148,9 +144,8 @@ first_in ys v (inr h) = h
 
 in_chain : (xs : List (Option (List ℕ))) (v : List ℕ) → IsIn xs (Some v)
     → IsIn (volumes_from None false xs) (Named v)
-in_chain xs v h = subst (λ ls. IsIn (volumes_from None false ls) (Named v)) (sym h.stands)
-    (first_in (volumes_from None false (h.front ++ Some v ∷ h.rest)) v
-    (in_volumes None false h.front h.rest v))
+in_chain xs v h = subst (λ ls. IsIn (volumes_from None false ls) (Named v)) (sym h.stands) (first_in
+    _ _ (in_volumes None false h.front h.rest v))
 
 -- ---- a gap
 
@@ -176,12 +171,11 @@ gap u v rest (suc n) other = gap u v rest n other
 
 pub volumes_are_listed : VolumesAreListed
 volumes_are_listed = record {
-  named = λ d x file sect e least most found low high on is.
-      in_chain (files_chain d x.0 1 x.1) e.volume (in_files d x.0 1 x.1 file e.volume least
-      (omega (arith, most)) (subst (λ (b : Bool). IsIn (if b then found_chain d.sections x.0 file
-      else None ∷ []) (Some e.volume)) (sym found)
-      (in_file d.sections x.0 file sect e low high on is)));
-  one = λ front rest u v n other.
-      split None false front (None ∷ (replicate n None ++ Some v ∷ rest)) u
-      ∙ ap (λ ls. volumes_from None false (front ++ Some u ∷ []) ++ ls) (gap u v rest n other);
+  named = λ d x file sect e least most found low high on is. in_chain _ _ (in_files d x.0 _ x.1 _
+      e.volume least (omega (arith, most)) (subst (λ (b : Bool). IsIn (if b then found_chain
+      d.sections x.0 file else None ∷ []) (Some e.volume)) (sym found)
+      (in_file _ _ _ _ _ low high on is)));
+  one = λ front rest u v n other. split None false front
+      (None ∷ (replicate n None ++ Some v ∷ rest)) u ∙ ap
+      (λ ls. volumes_from None false (front ++ Some u ∷ []) ++ ls) (gap _ _ rest n other);
 }

@@ -1,32 +1,24 @@
 -- The items of an image that have been examined so far.
 use Rattle.std.proofs.Common.{◌≡◌, ℕ, ◌+◌, List, [], ◌∷◌, ◌++◌, Option, refl, sym, ap, subst, ◌∙◌}
 use Rattle.std.proofs.Common.{append-nil}
-use Rattle.tape_image.specs.declared.item.Ending.{Ending}
-use Rattle.tape_image.specs.declared.item.ImageFault.{ImageFault}
-use Rattle.tape_image.specs.Tape.{TapeItem}
-use Rattle.tape_image.specs.Reader.{IfKnown}
+use Rattle.tape_image.specs.declared.item.{Ending.Ending, ImageFault.ImageFault}
+use Rattle.tape_image.specs.{Tape.TapeItem, Reader.IfKnown}
 use Rattle.tape_image.specs.Step.{TakesItem, TakesEnd, TakesFault}
 use Rattle.tape_image.proofs.Walks.{known_end, known_fault, IfKnown-map}
-use Rattle.tape_label.specs.declared.values.Head1.{Head1}
-use Rattle.tape_label.specs.declared.values.Head2.{Head2}
-use Rattle.tape_run.specs.declared.survey.files.FileKey.{FileKey}
-use Rattle.tape_run.specs.declared.passing.Phase.{Phase}
-use Rattle.tape_run.specs.declared.passing.Phase.TheVariants.{Volume}
-use Rattle.tape_run.specs.declared.section.ImageStop.{ImageStop}
-use Rattle.tape_run.specs.declared.section.ImageStop.TheVariants.{Fault}
-use Rattle.tape_run.specs.declared.survey.glance.ImageSummary.{ImageSummary}
+use Rattle.tape_label.specs.declared.values.{Head1.Head1, Head2.Head2}
+use Rattle.tape_run.specs.declared.survey.{files.FileKey.FileKey, glance.ImageSummary.ImageSummary}
 use Rattle.tape_run.specs.declared.survey.view.ImageSurvey.{ImageSurvey}
-use Rattle.tape_run.specs.Added.{StopsBehind, stop_at}
-use Rattle.tape_run.specs.Noted.{noted_all}
-use Rattle.tape_run.specs.declared.section.SectionLine.{SectionLine}
+use Rattle.tape_run.specs.declared.passing.{Phase.Phase, Phase.TheVariants.Volume}
+use Rattle.tape_run.specs.declared.section.{ImageStop.ImageStop, SectionLine.SectionLine}
+use Rattle.tape_run.specs.declared.section.ImageStop.TheVariants.{Fault}
+use Rattle.tape_run.specs.{Added.StopsBehind, Added.stop_at, Noted.noted_all, SurveyRead.ViewsItems}
 use Rattle.tape_run.specs.Passing.{Told, step, in_list, phase_after, told_from, under_way, met_in}
 use Rattle.tape_run.specs.SurveyCopies.{Copied, with_told, digest_in}
-use Rattle.tape_run.specs.SurveyFiles.{Filed, with_met, with_form, form_in, with_label}
-use Rattle.tape_run.specs.SurveyFiles.{with_all, filed_in}
+use Rattle.tape_run.specs.SurveyFiles.{Filed, with_met, with_form, form_in, with_label, with_all}
+use Rattle.tape_run.specs.SurveyFiles.{filed_in}
 use Rattle.tape_run.specs.SurveyGlance.{blank_glance, head_in, look_to, look_all, glance_of}
 use Rattle.tape_run.specs.SurveyGlance.{damage_in, damages_in}
 use Rattle.tape_run.specs.SurveyLocations.{Located, with_location, locate_all, located_in}
-use Rattle.tape_run.specs.SurveyRead.{ViewsItems}
 use Rattle.tape_run.proofs.KeepingPlaces.{noted_all-append}
 use Rattle.tape_run.proofs.SurveyCopies.{CopiedSoFar, copied_none, copied_more}
 use Rattle.tape_run.proofs.NotedSoFar.{SoFar, starts, one_more, by_ending, all_noted}
@@ -45,8 +37,7 @@ pub with_all-append : (files : List Filed) (p : Phase) (xs : List TapeItem) (x :
     → with_all files p (xs ++ x ∷ [])
     ≡ with_label (with_all files p xs) (phase_after p xs) x
 with_all-append files p [] x = refl
-with_all-append files p (y ∷ ys) x =
-    with_all-append (with_label files p y) (step p y).0 ys x
+with_all-append files p (y ∷ ys) x = with_all-append (with_label files p y) (step p y).0 ys x
 
 -- and the image of its section was recorded
 pub locate_all-append : (image : ℕ) (sections : List Told) (located : List Located) (p : Phase)
@@ -120,8 +111,7 @@ pub looks_more : (all left next : Option (List ℕ)) (p q image : ℕ) (item : T
     → LookedSoFar all left p image sections files located known phase g digest mid named there found
     listed
     → IfKnown left next (TakesItem p item q) → after ≡ (step phase item).0
-    → told ≡ noted_all mid (in_list (step phase item).1)
-    → filed ≡ with_label named phase item
+    → told ≡ noted_all mid (in_list (step phase item).1) → filed ≡ with_label named phase item
     → locations ≡ with_location mid there image (head_in phase item)
     → here ≡ (step phase item).1 → copies ≡ with_told found image here digest
     → damaged ≡ listed ++ damages_in (in_list here)

@@ -1,20 +1,19 @@
 -- The item that breaks the order of a volume on an image.
-use Rattle.std.proofs.Common.{◌≡◌, ℕ, ◌+◌, Bool, true, false, List, [], ◌∷◌, ◌++◌, length}
-use Rattle.std.proofs.Common.{refl, sym, ap, subst, ◌∙◌, arith, append_assoc}
+use Rattle.std.proofs.Common.{◌≡◌, ℕ, ◌+◌, Bool, true, false, List, [], ◌∷◌, ◌++◌, length, refl}
+use Rattle.std.proofs.Common.{sym, ap, subst, ◌∙◌, arith, append_assoc}
 use Rattle.tape_image.specs.Tape.{TapeItem, block, bad, mark}
+use Rattle.tape_run.specs.declared.survey.course.{ExpectedItem.ExpectedItem, LabelOrder.LabelOrder}
+use Rattle.tape_run.specs.declared.survey.glance.ImageSummary.{ImageSummary}
 use Rattle.tape_run.specs.declared.passing.Phase.{Phase}
 use Rattle.tape_run.specs.declared.passing.Phase.TheVariants.{Volume, Labels, Second, Headers, Data}
 use Rattle.tape_run.specs.declared.passing.Phase.TheVariants.{Trailer, Trailers, Next, Over}
-use Rattle.tape_run.specs.declared.survey.course.ExpectedItem.{ExpectedItem}
-use Rattle.tape_run.specs.declared.survey.course.LabelOrder.{LabelOrder}
-use Rattle.tape_run.specs.declared.survey.course.LabelOrder.TheVariants.{Follows, Blank, Ended, Leaves}
-use Rattle.tape_run.specs.declared.survey.glance.ImageSummary.{ImageSummary}
+use Rattle.tape_run.specs.declared.survey.course.LabelOrder.TheVariants.{Follows, Blank, Ended}
+use Rattle.tape_run.specs.declared.survey.course.LabelOrder.TheVariants.{Leaves}
 use Rattle.tape_run.specs.Passing.{step, phase_after}
-use Rattle.tape_run.specs.SurveyGlance.{blank_glance, look_to, look_all, glance_of}
-use Rattle.tape_run.specs.SurveyGlance.{left_by, behind_mark, behind, course_with}
+use Rattle.tape_run.specs.SurveyGlance.{blank_glance, look_to, look_all, glance_of, left_by}
+use Rattle.tape_run.specs.SurveyGlance.{behind_mark, behind, course_with}
 use Rattle.tape_run.specs.SurveyLaws.{course_of, has_left, IsFirstAstray, LeavesThere}
-use Rattle.tape_run.proofs.NotedSoFar.{phase_after-append}
-use Rattle.tape_run.proofs.SurveyLooks.{look_all-append}
+use Rattle.tape_run.proofs.{NotedSoFar.phase_after-append, SurveyLooks.look_all-append}
 
 -- the summary counts the items
 counts : (g : ImageSummary) (p : Phase) (xs : List TapeItem)

@@ -2,8 +2,7 @@
 use Rattle.std.proofs.Common.{◌≡◌, ℕ, zero, suc, ◌+◌, ◌-◌, ◌<◌, List, ◌++◌, ap, sym, ◌∙◌, arith}
 use Rattle.std.proofs.Common.{append_assoc}
 use Rattle.tape_run.specs.declared.survey.Wording.{Wording}
-use Rattle.tape_run.specs.Lacks.{entry_at, key_at}
-use Rattle.tape_run.specs.Passing.{Told}
+use Rattle.tape_run.specs.{Lacks.entry_at, Lacks.key_at, Passing.Told}
 use Rattle.tape_run.specs.SurveyProblems.{known_text, first_after, sections_from}
 
 -- the lines from one section on
@@ -33,11 +32,9 @@ section_added y c set_id file old new goal first next before most within is put 
     let then = first_after first (before + 1) entry in
     let fewer : most - (before + 1) ≡ most - before - 1 = omega (arith, within) in
     let some : 0 < most - before = omega (arith, within) in
-    ap (λ n. new ++ sections_from y c set_id file n (before + 1 + 1) (most - (before + 1))) is
-    ∙ ap (λ ls. ls ++ sections_from y c set_id file then (before + 1 + 1) (most - (before + 1))) put
-    ∙ append_assoc old here
-    (sections_from y c set_id file then (before + 1 + 1) (most - (before + 1)))
-    ∙ ap (λ n. old ++ (here ++ sections_from y c set_id file then (before + 1 + 1) n)) fewer
-    ∙ ap (λ ls. old ++ ls)
-    (sym (sections_behind y c set_id file first (before + 1) (most - before) some))
-    ∙ was
+    ap (λ n. new ++ sections_from y c set_id file n (before + 1 + 1) (most - (before + 1))) is ∙ ap
+    (λ ls. ls ++ sections_from y c set_id file then (before + 1 + 1) (most - (before + 1))) put
+    ∙ append_assoc old here (sections_from y c set_id file then (before + 1 + 1)
+    (most - (before + 1))) ∙ ap (λ n. old
+    ++ (here ++ sections_from y c set_id file then (before + 1 + 1) n)) fewer ∙ ap (λ ls. old ++ ls)
+    (sym (sections_behind y c set_id file first (before + 1) _ some)) ∙ was

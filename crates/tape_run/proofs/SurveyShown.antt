@@ -1,31 +1,25 @@
 -- The good copies that are compared are shown by the items, with their data blocks.
 use Rattle.std.proofs.Common.{◌≡◌, ℕ, Bool, true, false, List, [], ◌∷◌, ◌++◌, Option, Some, None}
-use Rattle.std.proofs.Common.{Result, Ok, Err, refl, ap, subst, ◌∙◌, append_assoc}
-use Rattle.std.specs.Prelude.{⊤, map, ◌||◌, if◌then◌else◌}
-use Rattle.std.specs.List.{AllByRecursion}
+use Rattle.std.proofs.Common.{Result, Ok, Err, refl, ap, subst, ◌∙◌, append_assoc, map, ◌||◌}
+use Rattle.std.proofs.Common.{if◌then◌else◌}
+use Rattle.std.specs.{Prelude.⊤, List.AllByRecursion}
 use Rattle.tape_image.specs.Tape.{TapeItem, block, bad, mark}
+use Rattle.tape_label.specs.declared.values.{Kind.Kind, Vol1.Vol1, Head1.Head1, Trail1.Trail1}
 use Rattle.tape_label.specs.declared.label.LabelFault.{LabelFault}
-use Rattle.tape_label.specs.declared.values.Kind.{Kind}
 use Rattle.tape_label.specs.declared.values.Kind.TheVariants as kinds
-use Rattle.tape_label.specs.declared.values.Vol1.{Vol1}
-use Rattle.tape_label.specs.declared.values.Head1.{Head1}
-use Rattle.tape_label.specs.declared.values.Trail1.{Trail1}
-use Rattle.tape_label.specs.Kinds.{kind_at}
-use Rattle.tape_label.specs.VolumeLabels.{is_volume_label}
+use Rattle.tape_label.specs.{Kinds.kind_at, VolumeLabels.is_volume_label}
 use Rattle.tape_label.specs.Reading.{vol1_at, head1_at, trail1_at}
-use Rattle.tape_run.specs.declared.section.SectionState.{SectionState}
-use Rattle.tape_run.specs.declared.section.SectionState.TheVariants.{Good, Bad, Count, Cut}
-use Rattle.tape_run.specs.declared.met.Met.{Met}
+use Rattle.tape_run.specs.declared.{section.SectionState.SectionState, met.Met.Met}
 use Rattle.tape_run.specs.declared.passing.Phase.{Phase}
+use Rattle.tape_run.specs.declared.section.SectionState.TheVariants.{Good, Bad, Count, Cut}
 use Rattle.tape_run.specs.declared.passing.Phase.TheVariants.{Volume, Labels, Second, Headers, Data}
 use Rattle.tape_run.specs.declared.passing.Phase.TheVariants.{Trailer, Trailers, Next, Over}
-use Rattle.tape_run.specs.Noted.{is_good}
-use Rattle.tape_run.specs.Passing.{Told, closes, told_with, volume_with, header_with}
-use Rattle.tape_run.specs.Passing.{second_with, step}
+use Rattle.tape_run.specs.{Noted.is_good, SurveyConflicts.ShownAs, SurveyConflicts.CopiesAreShown}
+use Rattle.tape_run.specs.Passing.{Told, closes, told_with, volume_with, header_with, second_with}
+use Rattle.tape_run.specs.Passing.{step}
 use Rattle.tape_run.specs.SurveyCopies.{Copy, blocks_with, good_told, copies_from}
-use Rattle.tape_run.specs.SurveyConflicts.{ShownAs, CopiesAreShown}
-use Rattle.tape_run.proofs.SectionsMet.{Stood, begins_more, shown_more, filled_first}
-use Rattle.tape_run.proofs.SectionsMet.{filled_more, filled_closed, state_good, shown_as, map_push}
+use Rattle.tape_run.proofs.SectionsMet.{Stood, begins_more, shown_more, filled_first, filled_more}
+use Rattle.tape_run.proofs.SectionsMet.{filled_closed, state_good, shown_as, map_push}
 use Rattle.tape_run.proofs.ShownSections.{stands_on, told_if}
 
 -- the data found so far are these blocks, unless one of them is bad
@@ -99,8 +93,7 @@ trailed_as items blocks met b trail false c e h = ((tt, tt), λ good. absurd (cc
 told_as : (items : List TapeItem) (blocks : List (List ℕ)) (met : Met) (b : List ℕ)
     (r : Result Trail1 LabelFault) → trail1_at b ≡ r → StoodAs (Trailer met) items blocks
     → BothAs (items ++ block b ∷ []) (told_with met r) blocks
-told_as items blocks met b (Ok trail) e h =
-    trailed_as items blocks met b trail (closes met trail) refl e h
+told_as items blocks met b (Ok trail) e h = trailed_as _ _ _ _ _ (closes met trail) refl e h
 told_as items blocks met b (Err _) e h = ((tt, tt), λ good. absurd (cc good))
 
 -- one item more

@@ -1,37 +1,26 @@
 -- If a survey reports that everything exists, it does.
 use Rattle.std.proofs.Common.{◌≡◌, ◌≢◌, ℕ, ◌+◌, Bool, true, false, List, [], ◌∷◌, ◌++◌, Option}
-use Rattle.std.proofs.Common.{Some, None, refl, sym, ap, subst, ◌∙◌, arith, append_assoc, append-nil}
-use Rattle.std.proofs.Common.{map}
-use Rattle.std.specs.Prelude.{◌==◌, ◌&&◌, ◌||◌, not, if◌then◌else◌, option_map, cond, is_some}
-use Rattle.std.specs.List.{AllByRecursion}
-use Rattle.std.specs.Map.{lookup}
+use Rattle.std.proofs.Common.{Some, None, refl, sym, ap, subst, ◌∙◌, arith, append_assoc}
+use Rattle.std.proofs.Common.{append-nil, map, ◌==◌, ◌&&◌, ◌||◌, not, if◌then◌else◌, option_map}
+use Rattle.std.proofs.Common.{cond, is_some}
+use Rattle.std.specs.{List.AllByRecursion, Map.lookup}
 use Rattle.std.proofs.lemmas.Bool.Decides.{nat_tests}
 use Rattle.indexmap.specs.IndexMap.{insert_entry}
-use Rattle.tape_run.specs.declared.section.Lack.{Lack}
-use Rattle.tape_run.specs.declared.section.SectionKey.{SectionKey}
+use Rattle.tape_run.specs.declared.section.{Lack.Lack, SectionKey.SectionKey}
 use Rattle.tape_run.specs.declared.section.SectionState.TheVariants.{Good}
-use Rattle.tape_run.specs.declared.survey.copies.CopyNote.{CopyNote}
-use Rattle.tape_run.specs.declared.survey.view.ImageSurvey.{ImageSurvey}
-use Rattle.tape_run.specs.Checked.{Reel}
+use Rattle.tape_run.specs.declared.survey.{copies.CopyNote.CopyNote, view.ImageSurvey.ImageSurvey}
+use Rattle.tape_run.specs.{Checked.Reel, Noted.same_key, Noted.is_good, Passing.Told}
+use Rattle.tape_run.specs.{Reeling.Mounting, SurveyDigest.digest_of, SurveyGlance.or_else}
+use Rattle.tape_run.specs.{SurveyTally.is_whole_sight, SurveySets.all_good, SurveySets.is_all}
 use Rattle.tape_run.specs.Lacks.{lacks, is_none_lacking, found_all}
-use Rattle.tape_run.specs.Noted.{same_key, is_good}
-use Rattle.tape_run.specs.Passing.{Told}
-use Rattle.tape_run.specs.Reeling.{Mounting}
 use Rattle.tape_run.specs.SurveyConflicts.{Placed, placed_on, placed_in, all_placed}
 use Rattle.tape_run.specs.SurveyCopies.{Copy, copies_on, Noted, Disputed, Copied, with_same}
-use Rattle.tape_run.specs.SurveyCopies.{with_other}
-use Rattle.tape_run.specs.SurveyCopies.{copy_note, noted_at, with_conflict, with_good, with_copies}
-use Rattle.tape_run.specs.SurveyCopies.{is_agreed}
-use Rattle.tape_run.specs.SurveyDigest.{digest_of}
+use Rattle.tape_run.specs.SurveyCopies.{with_other, copy_note, noted_at, with_conflict, with_good}
+use Rattle.tape_run.specs.SurveyCopies.{with_copies, is_agreed}
 use Rattle.tape_run.specs.SurveyFiles.{Filed, any_differs, same_file, file_key}
-use Rattle.tape_run.specs.SurveyGlance.{or_else}
 use Rattle.tape_run.specs.SurveyRead.{Found, nothing_found, IsViewed, AreViewed}
-use Rattle.tape_run.specs.SurveyTally.{is_whole_sight}
-use Rattle.tape_run.specs.SurveySets.{all_good, is_all}
 use Rattle.tape_run.specs.SurveySound.{IsWhole, Agree, IsSound}
-use Rattle.tape_run.proofs.KeepingPlaces.{one_key}
-use Rattle.tape_run.proofs.StayingGood.{key_again}
-use Rattle.tape_run.proofs.SurveyConflicts.{of_all}
+use Rattle.tape_run.proofs.{KeepingPlaces.one_key, StayingGood.key_again, SurveyConflicts.of_all}
 use Rattle.tape_run.proofs.SurveyShown.{good_is}
 
 and_left : (a b : Bool) → (a && b) ≡ true → a ≡ true
@@ -154,12 +143,9 @@ never_empty : (b : Bool) (x y : Disputed) (xs ys : List Disputed)
 never_empty true x y xs ys e = cc e
 never_empty false x y xs ys e = cc e
 
-in_conflict : (fs : List Disputed) (k : SectionKey)
-    → is_agreed (with_conflict fs k true) ≡ true → ⊥
+in_conflict : (fs : List Disputed) (k : SectionKey) → is_agreed (with_conflict fs k true) ≡ true → ⊥
 in_conflict [] k e = cc e
-in_conflict (f ∷ fs) k e =
-    never_empty (same_file (file_key k.set_id k.file) f.0) (f.0, k.sect) f fs
-    (insert_entry same_file fs (file_key k.set_id k.file) k.sect) e
+in_conflict (f ∷ fs) k e = never_empty _ _ _ _ _ e
 
 -- no file came into conflict
 no_conflict : (fs : List Disputed) (k : SectionKey) (b : Bool)
@@ -203,8 +189,7 @@ kept : (old : Option CopyNote) (image blocks digest : ℕ)
     → Kept old (copy_note old image blocks digest) blocks digest
 kept None image blocks digest none =
     record { counted = refl; digested = refl; was = λ n is. absurd (cc is) }
-kept (Some n) image blocks digest none =
-    kept_if n image blocks digest ((n.blocks == blocks) && (n.digest == digest)) refl none
+kept (Some n) image blocks digest none = kept_if _ _ blocks digest _ refl none
 
 -- a copy that was found before is still recorded
 noted_by : (es : List Noted) (k : SectionKey) (new : CopyNote) (blocks digest : ℕ) (x : Placed)
@@ -251,10 +236,9 @@ good_noted xs c x h e =
     let blocks = x.1.0.1.blocks in
     let digest = digest_of x.1.1 in
     let new = copy_note (noted_at c.notes k) x.0 blocks digest in
-    let (none, agreed) = no_conflict c.conflicts k (is_some new.other) e in
-    let now = kept (noted_at c.notes k) x.0 blocks digest none in
-    one_more (IsNoted (insert_entry same_key c.notes k new)) xs x
-    (still_noted c.notes k new blocks digest xs now (h agreed)) (record {
+    let (none, agreed) = no_conflict _ _ _ e in
+    let now = kept _ _ _ _ none in
+    one_more _ _ x (still_noted _ _ _ _ _ _ now (h agreed)) (record {
       note = new;
       there = inserted_here c.notes k new;
       counted = now.counted;

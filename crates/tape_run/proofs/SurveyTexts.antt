@@ -1,32 +1,23 @@
 -- The texts of a survey, image by image and file by file.
-use Rattle.std.proofs.Common.{◌≡◌, inr, ℕ, zero, suc, ◌+◌, ◌-◌, ◌<◌, ◌≤◌, Bool, true, false}
-use Rattle.std.proofs.Common.{List, [], ◌∷◌, ◌++◌, length, take, drop, get_or, slice_get}
-use Rattle.std.proofs.Common.{Option, Some, refl, sym, ap, subst, ◌∙◌, arith, append_assoc, append-nil, map}
-use Rattle.std.specs.Prelude.{◌&&◌, ◌||◌}
+use Rattle.std.proofs.Common.{◌≡◌, inr, ℕ, zero, suc, ◌+◌, ◌-◌, ◌<◌, ◌≤◌, Bool, true, false, List}
+use Rattle.std.proofs.Common.{[], ◌∷◌, ◌++◌, length, take, drop, get_or, slice_get, Option, Some}
+use Rattle.std.proofs.Common.{refl, sym, ap, subst, ◌∙◌, arith, append_assoc, append-nil, map, ◌&&◌}
+use Rattle.std.proofs.Common.{◌||◌, flat_map}
 use Rattle.std.proofs.lemmas.List.{get_or-map, at_drop_more, at_drop_all}
-use Rattle.std.specs.List.{flat_map}
 use Rattle.std.specs.Io.KnownBytes.{Appends}
 use Rattle.std.proofs.lemmas.Grind.{flat_map-append}
-use Rattle.tape_run.specs.declared.section.SectionKey.{SectionKey}
-use Rattle.tape_run.specs.declared.survey.Wording.{Wording}
-use Rattle.tape_run.specs.declared.survey.tally.Tally.{Tally}
-use Rattle.tape_run.specs.declared.survey.view.ImageSurvey.{ImageSurvey}
-use Rattle.tape_run.specs.Lacks.{SetFiles}
+use Rattle.tape_run.specs.declared.{section.SectionKey.SectionKey, survey.Wording.Wording}
+use Rattle.tape_run.specs.declared.{survey.tally.Tally.Tally, survey.view.ImageSurvey.ImageSurvey}
+use Rattle.tape_run.specs.{Lacks.SetFiles, Reeling.Mounting, SurveyCopies.Held}
+use Rattle.tape_run.specs.{SurveyCopies.disputed_on, SurveyFiles.Filed, SurveyFiles.any_differs}
+use Rattle.tape_run.specs.{Noted.is_good, Passing.Told, SurveySets.is_all, SurveySets.all_good}
 use Rattle.tape_image.specs.Written.{AppendsFront}
-use Rattle.tape_run.specs.Reeling.{Mounting}
 use Rattle.tape_run.specs.Survey.{image_texts, survey_text, Surveys, SurveysInPart}
-use Rattle.tape_run.specs.SurveyCopies.{Held, disputed_on}
-use Rattle.tape_run.specs.SurveyFiles.{Filed, any_differs}
 use Rattle.tape_run.specs.SurveyWording.{image_text, file_text, file_texts, set_text, set_texts}
 use Rattle.tape_run.specs.SurveyRead.{Found, nothing_found, IsViewed, AreViewed}
-use Rattle.tape_run.specs.Noted.{is_good}
-use Rattle.tape_run.specs.Passing.{Told}
-use Rattle.tape_run.specs.SurveySets.{is_all, all_good}
 use Rattle.tape_run.specs.SurveyTally.{with_state, state_at, tally_from}
-use Rattle.tape_run.proofs.Listing.{take_get}
-use Rattle.tape_run.proofs.SurveyConflicts.{conflicts_are_real}
-use Rattle.tape_run.proofs.SurveyDisputes.{disputes_are_told}
-use Rattle.tape_run.proofs.SurveySound.{all_is_sound}
+use Rattle.tape_run.proofs.{Listing.take_get, SurveyConflicts.conflicts_are_real}
+use Rattle.tape_run.proofs.{SurveyDisputes.disputes_are_told, SurveySound.all_is_sound}
 
 -- ---- files and sets
 
@@ -49,10 +40,9 @@ text_added y d set_id old new goal before greatest within put was =
     let fewer : greatest - (before + 1) ≡ greatest - before - 1 = omega (arith, within) in
     let some : 0 < greatest - before = omega (arith, within) in
     ap (λ ls. ls ++ file_texts y d set_id (before + 1 + 1) (greatest - (before + 1))) put
-    ∙ append_assoc old here (file_texts y d set_id (before + 1 + 1) (greatest - (before + 1)))
-    ∙ ap (λ n. old ++ (here ++ file_texts y d set_id (before + 1 + 1) n)) fewer
-    ∙ ap (λ ls. old ++ ls) (sym (texts_behind y d set_id (before + 1) (greatest - before) some))
-    ∙ was
+    ∙ append_assoc old here (file_texts y d set_id (before + 1 + 1) (greatest - (before + 1))) ∙ ap
+    (λ n. old ++ (here ++ file_texts y d set_id (before + 1 + 1) n)) fewer ∙ ap (λ ls. old ++ ls)
+    (sym (texts_behind y d set_id (before + 1) _ some)) ∙ was
 
 -- and if no file is left
 pub texts_all : (y : Wording) (d : Found) (set_id new goal : List ℕ) (file left : ℕ) → left ≡ 0
@@ -65,10 +55,9 @@ pub flat_more : {X Y : Type 0} (f : X → List Y) (xs : List X) (old new : List 
     → Some x ≡ slice_get xs i → new ≡ old ++ f x
     → old ≡ flat_map f (take i xs) → new ≡ flat_map f (take (i + 1) xs)
 flat_more f xs old new i x at put was =
-    put ∙ ap (λ ls. ls ++ f x) was
-    ∙ ap (λ ls. flat_map f (take i xs) ++ ls) (sym (append-nil (f x)))
-    ∙ sym (flat_map-append f (take i xs) (x ∷ []))
-    ∙ ap (flat_map f) (sym (take_get xs i x at))
+    put ∙ ap (λ ls. ls ++ f x) was ∙ ap (λ ls. flat_map f (take i xs) ++ ls)
+    (sym (append-nil (f x))) ∙ sym (flat_map-append f (take i xs) (x ∷ [])) ∙ ap (flat_map f)
+    (sym (take_get _ _ _ at))
 
 -- that of a set
 pub set_added : (y : Wording) (d : Found) (sets : List SetFiles) (old new : List ℕ) (i : ℕ)

@@ -1,33 +1,26 @@
 -- If a summary says that a volume ended, the items are a volume.
-use Rattle.std.proofs.Common.{◌≡◌, ℕ, ◌+◌, Bool, true, false, List, [], ◌∷◌, ◌++◌}
-use Rattle.std.proofs.Common.{Result, Ok, Err, refl, sym, ap, subst, ◌∙◌, append_assoc}
-use Rattle.std.proofs.Common.{append-nil, arith}
-use Rattle.std.specs.Prelude.{◌≢◌, map}
-use Rattle.std.specs.List.{flat_map}
+use Rattle.std.proofs.Common.{◌≡◌, ℕ, ◌+◌, Bool, true, false, List, [], ◌∷◌, ◌++◌, Result, Ok, Err}
+use Rattle.std.proofs.Common.{refl, sym, ap, subst, ◌∙◌, append_assoc, append-nil, arith, ◌≢◌, map}
+use Rattle.std.proofs.Common.{flat_map}
 use Rattle.std.proofs.lemmas.Bool.Decides.{nat_tests}
 use Rattle.tape_image.specs.Tape.{TapeItem, block, bad, mark}
-use Rattle.tape_label.specs.declared.label.LabelFault.{LabelFault}
-use Rattle.tape_label.specs.declared.values.Trail1.{Trail1}
-use Rattle.tape_label.specs.Kinds.{kind_at}
-use Rattle.tape_label.specs.Trail1.{IsTrail1}
+use Rattle.tape_label.specs.declared.{label.LabelFault.LabelFault, values.Trail1.Trail1}
+use Rattle.tape_label.specs.{Kinds.kind_at, Trail1.IsTrail1, VolumeLabels.is_volume_label}
 use Rattle.tape_label.specs.Reading.{vol1_at, head1_at, trail1_at}
-use Rattle.tape_label.specs.VolumeLabels.{is_volume_label}
 use Rattle.tape_label.proofs.First.{trail1_found}
-use Rattle.tape_run.specs.declared.met.Met.{Met}
-use Rattle.tape_run.specs.declared.passing.Phase.{Phase}
+use Rattle.tape_run.specs.declared.survey.course.LabelOrder.{LabelOrder}
+use Rattle.tape_run.specs.declared.survey.glance.ImageSummary.{ImageSummary}
+use Rattle.tape_run.specs.declared.{met.Met.Met, passing.Phase.Phase}
 use Rattle.tape_run.specs.declared.passing.Phase.TheVariants.{Volume, Labels, Second, Headers, Data}
 use Rattle.tape_run.specs.declared.passing.Phase.TheVariants.{Trailer, Trailers, Next, Over}
-use Rattle.tape_run.specs.declared.survey.course.LabelOrder.{LabelOrder}
 use Rattle.tape_run.specs.declared.survey.course.LabelOrder.TheVariants.{Follows, Blank, Ended}
-use Rattle.tape_run.specs.declared.survey.glance.ImageSummary.{ImageSummary}
 use Rattle.tape_run.specs.Passing.{step, volume_with, header_with, told_with, closes}
 use Rattle.tape_run.specs.SurveyGlance.{blank_glance, look_to, look_all, left_by, course_with}
-use Rattle.tape_run.proofs.ShownSections.{told_if}
+use Rattle.tape_run.proofs.{ShownSections.told_if, SectionsMet.map_push}
 use Rattle.tape_run.specs.SurveyLaws.{IsSectionInOrder, IsVolumeInOrder, EndedIsVolume}
 use Rattle.tape_run.proofs.SurveyStands.{Heads, Fills, Closes, Follow, Marked, At, all_more}
-use Rattle.tape_run.proofs.SectionsMet.{map_push}
-use Rattle.tape_run.proofs.SurveyStands.{joined_push, one_mark, first_label}
-use Rattle.tape_run.proofs.SurveyStands.{head_read, label_read, second_read}
+use Rattle.tape_run.proofs.SurveyStands.{joined_push, one_mark, first_label, head_read, label_read}
+use Rattle.tape_run.proofs.SurveyStands.{second_read}
 
 -- the same labels, followed by other items
 heads_then : (items : List TapeItem) (met met2 : Met) (behind more : List TapeItem)
@@ -85,13 +78,12 @@ fills_more : (items : List TapeItem) (met met2 : Met) (x : TapeItem) → met2.ke
 fills_more items met met2 x same other h =
     let P : List TapeItem → Type 0 = λ r. Heads (items ++ x ∷ []) met2 r in
     let again : (mark ∷ h.content ++ []) ++ x ∷ [] ≡ mark ∷ (h.content ++ x ∷ []) ++ [] =
-    ap (λ (r : List TapeItem). (mark ∷ r) ++ x ∷ []) (append-nil h.content)
-    ∙ sym (ap (λ (r : List TapeItem). mark ∷ r) (append-nil (h.content ++ x ∷ []))) in
+    ap (λ (r : List TapeItem). (mark ∷ r) ++ x ∷ []) (append-nil h.content) ∙ sym (ap
+    (λ (r : List TapeItem). mark ∷ r) (append-nil (h.content ++ x ∷ []))) in
     record {
       content = h.content ++ x ∷ [];
-      no_mark = all_more (λ y. y ≢ mark) h.content x h.no_mark other;
-      heads = subst P again
-          (heads_then items met met2 (mark ∷ h.content ++ []) (x ∷ []) same h.heads);
+      no_mark = all_more (λ y. y ≢ mark) _ _ h.no_mark other;
+      heads = subst P again (heads_then _ _ _ _ (x ∷ []) same h.heads);
     }
 
 fills_closed : (items : List TapeItem) (met : Met) → Fills items met []
@@ -103,8 +95,7 @@ fills_closed items met h =
     record {
       content = h.content;
       no_mark = h.no_mark;
-      heads = subst P again
-          (heads_then items met met (mark ∷ h.content ++ []) (mark ∷ []) refl h.heads);
+      heads = subst P again (heads_then _ _ met _ (mark ∷ []) refl h.heads);
     }
 
 -- a trailer label with its numbers closes a section
@@ -158,8 +149,7 @@ trailer_read items met number b (Ok trail) e h =
     trailer_closes items met number b trail (closes met trail) (trail1_found b trail e) refl h
 trailer_read items met number b (Err f) e h = tt
 
-closes_more : (items : List TapeItem) (b : List ℕ) → Closes items
-    → Closes (items ++ block b ∷ [])
+closes_more : (items : List TapeItem) (b : List ℕ) → Closes items → Closes (items ++ block b ∷ [])
 closes_more items b h = record {
   before = h.before;
   sections = h.sections;
@@ -189,15 +179,14 @@ section_ends items h =
         stands =
             let labels : List TapeItem = block b.vol1 ∷ map block b.labels in
             let flat : List TapeItem = flat_map (λ s. s) h.sections in
-            let again : ((labels ++ flat) ++ h.part ++ map block h.more) ++ mark ∷ []
-            ≡ labels ++ (flat ++ section) = simp append_assoc in
-            ap (λ (r : List TapeItem). r ++ mark ∷ []) (h.stands
-            ∙ ap (λ (r : List TapeItem). r ++ h.part ++ map block h.more) b.stands)
-            ∙ again
-            ∙ ap (λ (r : List TapeItem). labels ++ r) (sym (joined_push h.sections section));
+            let again : ((labels ++ flat) ++ h.part ++ map block h.more) ++ mark ∷ [] ≡ labels
+            ++ (flat ++ section) = simp append_assoc in
+            ap (λ (r : List TapeItem). r ++ mark ∷ []) (h.stands ∙ ap
+            (λ (r : List TapeItem). r ++ h.part ++ map block h.more) b.stands) ∙ again ∙ ap
+            (λ (r : List TapeItem). labels ++ r) (sym (joined_push h.sections section));
         is_label = b.is_label;
         further = b.further;
-        each = all_more IsSectionInOrder h.sections section b.each (h.whole h.more);
+        each = all_more _ _ _ b.each (h.whole h.more);
       };
     }
 
@@ -222,8 +211,7 @@ blank_ends items h = record {
 next_read : (items : List TapeItem) (number : ℕ) (v b : List ℕ) → Follow items
     → At (header_with v (head1_at b) Over)
     (left_by number (Next v) (header_with v (head1_at b) Over)) (items ++ block b ∷ [])
-next_read items number v b h =
-    head_read items (h.sections ++ h.last ∷ []) (Next v) number v b (head1_at b) refl h.begun
+next_read items number v b h = head_read _ _ (Next v) number v b (head1_at b) refl h.begun
 
 no_mark_block : (b : List ℕ) → block b ≢ mark
 no_mark_block b e = absurd (cc e)
@@ -238,20 +226,17 @@ follows_on Volume items (block b) number e =
     subst (λ (r : List TapeItem). At (volume_with (vol1_at b))
     (left_by number Volume (volume_with (vol1_at b))) (r ++ block b ∷ [])) (sym e)
     (first_label b number (vol1_at b) refl)
-follows_on (Labels v) items (block b) number h =
-    label_read items number v b (is_volume_label b) refl h
+follows_on (Labels v) items (block b) number h = label_read _ number v b (is_volume_label b) refl h
 follows_on (Labels v) items mark number h = record { before = items; begun = h; stands = refl }
 follows_on (Second met) items (block b) number h = second_read items met number b (kind_at b) refl h
 follows_on (Headers met) items (block b) number h = heads_more items met b h
 follows_on (Headers met) items mark number h = fills_none items met h
 follows_on (Data met) items (block b) number h =
-    fills_more items met (Rattle.tape_run.specs.Passing.with_block met false) (block b) refl
-    (no_mark_block b) h
+    fills_more _ _ (Rattle.tape_run.specs.Passing.with_block met false) _ refl (no_mark_block b) h
 follows_on (Data met) items bad number h =
     fills_more items met (Rattle.tape_run.specs.Passing.with_block met true) bad refl no_mark_bad h
 follows_on (Data met) items mark number h = fills_closed items met h
-follows_on (Trailer met) items (block b) number h =
-    trailer_read items met number b (trail1_at b) refl h
+follows_on (Trailer met) items (block b) number h = trailer_read _ _ number b (trail1_at b) refl h
 follows_on (Trailers v) items (block b) number h = closes_more items b h
 follows_on (Trailers v) items mark number h = section_ends items h
 follows_on (Next v) items (block b) number h = next_read items number v b h

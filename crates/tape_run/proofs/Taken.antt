@@ -1,27 +1,21 @@
 -- The effect on a reel reader of an item of a mount under way, by its core's answer.
 use Rattle.std.proofs.Common.{◌≡◌, ◌≢◌, ◌+◌, ◌<◌, ◌≤◌, ◌++◌, ℕ, List, length, take, drop, Option}
 use Rattle.std.proofs.Common.{Some, sym, ap, subst, ◌∙◌}
-use Rattle.tape_blocks.specs.Block.{Portion, Holds}
-use Rattle.tape_blocks.specs.Judged.{begun_behind}
+use Rattle.tape_blocks.specs.{Block.Portion, Block.Holds, Judged.begun_behind}
 use Rattle.tape_image.specs.Tape.{TapeItem, block}
-use Rattle.tape_set.specs.Lawful.{FileForm}
-use Rattle.tape_set.specs.Position.{part_of, at_part, next_block}
-use Rattle.tape_core.specs.declared.event.Answer.{Answer}
-use Rattle.tape_core.specs.declared.event.Answer.TheVariants.{Deliver}
+use Rattle.tape_set.specs.{Lawful.FileForm, Position.part_of, Position.at_part, Position.next_block}
+use Rattle.tape_core.specs.declared.event.{Answer.Answer, Answer.TheVariants.Deliver}
 use Rattle.tape_core.specs.Place.{place_of, rest_of, IsPlaced}
-use Rattle.tape_core.specs.State.{State}
-use Rattle.tape_core.specs.Table.{saved, step_of}
-use Rattle.tape_run.specs.Mount.{cut, after_mount}
-use Rattle.tape_run.specs.Puts.{IsChecked, refused_point}
+use Rattle.tape_core.specs.{State.State, Table.saved, Table.step_of}
+use Rattle.tape_run.specs.{Mount.cut, Mount.after_mount, Puts.IsChecked, Puts.refused_point}
 use Rattle.tape_run.specs.Taking.{TakesItem, RefusesItem}
 use Rattle.tape_run.proofs.Mounts.{both, reached}
 use Rattle.tape_run.proofs.Places.{delivered_at, refused_at, refused_position, gives_block}
 use Rattle.tape_run.proofs.Places.{gives_none, came_block}
 
 -- the parts of a block that was checked
-pub checked_parts : (item : Option TapeItem) (new : State) (k : IsChecked item new)
-    (bytes : List ℕ) → item ≡ Some (block bytes)
-    → Holds k.known.format k.known.rec_len k.known.offset bytes k.parts
+pub checked_parts : (item : Option TapeItem) (new : State) (k : IsChecked item new) (bytes : List ℕ)
+    → item ≡ Some (block bytes) → Holds k.known.format k.known.rec_len k.known.offset bytes k.parts
 checked_parts item new k bytes is =
     let same : k.bytes ≡ bytes = let e = k.is_block in cc in
     subst (λ (b : List ℕ). Holds k.known.format k.known.rec_len k.known.offset b k.parts) same

@@ -1,15 +1,11 @@
 -- The calls of a session for images are the steps of a run.
-use Rattle.std.proofs.Common.{◌≡◌, Bool, ℕ, suc, ◌+◌, List, [], ◌∷◌, ◌++◌, length-append}
-use Rattle.std.proofs.Common.{length, map, Option, Some, None, IfSome, refl, sym}
-use Rattle.std.proofs.Common.{ap, subst, ◌∙◌, arith, true, false}
+use Rattle.std.proofs.Common.{◌≡◌, Bool, ℕ, suc, ◌+◌, List, [], ◌∷◌, ◌++◌, length-append, length}
+use Rattle.std.proofs.Common.{map, Option, Some, None, IfSome, refl, sym, ap, subst, ◌∙◌, arith}
+use Rattle.std.proofs.Common.{true, false}
 use Rattle.tape_core.specs.State.{State}
-use Rattle.tape_run.specs.Given.{is_device}
-use Rattle.tape_run.specs.Seen.{Seen}
-use Rattle.tape_run.specs.Runs.{Runs}
-use Rattle.tape_run.specs.declared.script.Step.{Step}
-use Rattle.tape_run.specs.declared.script.Step.TheVariants.{Reel}
+use Rattle.tape_run.specs.{Given.is_device, Seen.Seen, Runs.Runs, Steps.Reeled}
+use Rattle.tape_run.specs.declared.script.{Step.Step, Step.TheVariants.Reel}
 use Rattle.tape_run.proofs.Headline.{headline, took_so_many}
-use Rattle.tape_run.specs.Steps.{Reeled}
 use Rattle.tape_run.specs.Reeling.{counts_differ, IsNoted, step_behind, notes_behind, Turn, Follows}
 use Rattle.tape_run.specs.Reeling.{steps_of, AreTold, AreSteps, failed_in, left_in}
 
@@ -56,17 +52,15 @@ made back spares core old (None ∷ turns) last new bytes (waits, f) told =
 made back spares core old (Some o ∷ turns) last new [] f told = absurd told
 made back spares core old (Some o ∷ turns) last new (b ∷ bs) (next, behind, r, f) (had, told) =
     let doubtful = counts_differ o.answer.answer in
-    let (mid, reeled, noted) = subst (λ h. IfSome h (λ bytes. (mid : Seen)
-    × Reeled bytes o.left (is_device o.answer.fault) old mid
-    × IsNoted back spares doubtful o.noted mid behind)) had r.reeled in
-    step_made back spares doubtful o.noted (is_device o.answer.fault) (failed_in turns) old mid
-    behind new b bs o.left (left_in turns) _ reeled noted
-    (λ count. subst (λ n. Runs (failed_in turns) behind (steps_of back n turns) (map Some bs)
-    (left_in turns) new) count (made back spares next behind turns last new bs f told))
+    let (mid, reeled, noted) = subst (λ h. IfSome h (λ bytes. (mid : Seen) × Reeled bytes o.left
+    (is_device o.answer.fault) old mid × IsNoted back spares doubtful o.noted mid behind)) had
+    r.reeled in
+    step_made _ _ _ _ _ (failed_in turns) _ _ _ new _ bs _ (left_in turns) _ reeled noted (λ count.
+    subst (λ n. Runs (failed_in turns) behind (steps_of back n turns) (map Some bs) (left_in turns)
+    new) count (made back spares next behind turns last new bs f told))
 
 -- These calls are a run.
 pub are_steps : (back spares : Bool) (core : State) (old : Seen) (turns : List Turn) (last : State)
     (new : Seen) → Follows back spares core old turns last new → AreSteps back turns old new
-are_steps back spares core old turns last new f = λ bytes told.
-    headline (failed_in turns) old new (steps_of back (length old.notes) turns) bytes
-    (left_in turns) (made back spares core old turns last new bytes f told)
+are_steps back spares core old turns last new f = λ bytes told. headline _ _ _ _ _ _
+    (made _ _ _ _ _ _ _ _ f told)

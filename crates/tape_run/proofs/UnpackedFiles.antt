@@ -1,17 +1,13 @@
 -- The files on the images of a source, image by image and file by file.
 use Rattle.std.proofs.Common.{◌≡◌, ℕ, zero, suc, ◌+◌, ◌-◌, ◌<◌, List, [], ◌∷◌, ◌++◌, length, take}
 use Rattle.std.proofs.Common.{slice_get, Option, Some, refl, sym, ap, subst, ◌∙◌, arith}
-use Rattle.std.proofs.Common.{append_assoc, append-nil, length-append}
-use Rattle.std.specs.Prelude.{option_map}
+use Rattle.std.proofs.Common.{append_assoc, append-nil, length-append, option_map}
 use Rattle.std.proofs.lemmas.Grind.{flat_map-append}
-use Rattle.tape_run.specs.declared.survey.view.ImageSurvey.{ImageSurvey}
-use Rattle.tape_run.specs.declared.unpack.SetFile.{SetFile}
-use Rattle.tape_run.specs.Lacks.{SetFiles}
-use Rattle.tape_run.specs.Reeling.{Mounting}
+use Rattle.tape_run.specs.declared.{survey.view.ImageSurvey.ImageSurvey, unpack.SetFile.SetFile}
+use Rattle.tape_run.specs.{Lacks.SetFiles, Reeling.Mounting}
 use Rattle.tape_run.specs.SurveyRead.{Found, nothing_found, IsViewed, AreViewed}
 use Rattle.tape_run.specs.Unpacking.{file_at, files_from, set_files}
-use Rattle.tape_run.proofs.Listing.{take_get}
-use Rattle.tape_run.proofs.SurveyTexts.{viewed_more}
+use Rattle.tape_run.proofs.{Listing.take_get, SurveyTexts.viewed_more}
 
 -- the first images were read
 pub record ViewedSoFar {L R : Type 0} (gives : Mounting L R) (remaining : R → Option (List ℕ))
@@ -35,11 +31,10 @@ pub views_more : {L R : Type 0} (gives : Mounting L R) (remaining : R → Option
     → ViewedSoFar gives remaining shelf next (number + 1) d new
 views_more gives remaining shelf left next number mid d image sight old new put s g viewed =
     let at : number ≡ 0 + length old = omega (arith, s.counted) in
-    subst (λ l. ViewedSoFar gives remaining shelf next (number + 1) d l) (sym put)
-    (record {
+    subst (λ l. ViewedSoFar gives remaining shelf next (number + 1) d l) (sym put) (record {
       counted = length-append old (sight ∷ []) ∙ ap (λ n. n + 1) s.counted;
-      viewed = viewed_more gives remaining shelf 0 old nothing_found left mid sight image next
-          d s.viewed (subst (λ n. gives left n image next) at g) viewed;
+      viewed = viewed_more _ _ _ _ _ _ _ _ _ _ next _ s.viewed
+          (subst (λ n. gives left n image next) at g) viewed;
     })
 
 -- ---- files and sets
@@ -62,10 +57,9 @@ file_added d set_id old new goal before greatest within put was =
     let fewer : greatest - (before + 1) ≡ greatest - before - 1 = omega (arith, within) in
     let some : 0 < greatest - before = omega (arith, within) in
     ap (λ ls. ls ++ files_from d set_id (before + 1 + 1) (greatest - (before + 1))) put
-    ∙ append_assoc old here (files_from d set_id (before + 1 + 1) (greatest - (before + 1)))
-    ∙ ap (λ n. old ++ (here ++ files_from d set_id (before + 1 + 1) n)) fewer
-    ∙ ap (λ ls. old ++ ls) (sym (files_behind d set_id (before + 1) (greatest - before) some))
-    ∙ was
+    ∙ append_assoc old here (files_from d set_id (before + 1 + 1) (greatest - (before + 1))) ∙ ap
+    (λ n. old ++ (here ++ files_from d set_id (before + 1 + 1) n)) fewer ∙ ap (λ ls. old ++ ls)
+    (sym (files_behind d set_id (before + 1) _ some)) ∙ was
 
 -- and none is left
 pub files_all : (d : Found) (set_id : List ℕ) (new goal : List SetFile) (file left : ℕ) → left ≡ 0
@@ -81,5 +75,4 @@ set_added d sets old new i x at put was =
     let f = λ (y : SetFiles). files_from d y.0 1 y.1 in
     put ∙ ap (λ ls. ls ++ f x) was
     ∙ ap (λ ls. set_files d (take i sets) ++ ls) (sym (append-nil (f x)))
-    ∙ sym (flat_map-append f (take i sets) (x ∷ []))
-    ∙ ap (set_files d) (sym (take_get sets i x at))
+    ∙ sym (flat_map-append f (take i sets) (x ∷ [])) ∙ ap (set_files d) (sym (take_get sets i x at))

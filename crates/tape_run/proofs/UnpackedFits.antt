@@ -1,16 +1,14 @@
 -- Every file system keeps the names of unpacked files.
-use Rattle.std.proofs.Common.{◌≡◌, ◌≢◌, ℕ, zero, suc, ◌+◌, ◌*◌, ◌-◌, ◌<◌, ◌≤◌, ◌/◌, ◌%◌, ◌^◌}
-use Rattle.std.proofs.Common.{Bool, true, false, List, [], ◌∷◌, ◌++◌, length, take, get_or}
-use Rattle.std.proofs.Common.{refl, sym, ap, subst, ◌∙◌, arith, append_assoc, length-append}
-use Rattle.std.specs.Prelude.{◌==◌, ◌||◌, ◌&&◌, not, decimal, if◌then◌else◌}
-use Rattle.std.specs.List.{AllByRecursion, flat_map}
-use Rattle.std.proofs.lemmas.Bool.Decides.{nat_tests}
-use Rattle.std.proofs.lemmas.Fmt.{decimal_nonempty, length-decimal-le}
+use Rattle.std.proofs.Common.{◌≡◌, ◌≢◌, ℕ, zero, suc, ◌+◌, ◌*◌, ◌-◌, ◌<◌, ◌≤◌, ◌/◌, ◌%◌, ◌^◌, Bool}
+use Rattle.std.proofs.Common.{true, false, List, [], ◌∷◌, ◌++◌, length, take, get_or, refl, sym, ap}
+use Rattle.std.proofs.Common.{subst, ◌∙◌, arith, append_assoc, length-append, ◌==◌, ◌||◌, ◌&&◌, not}
+use Rattle.std.proofs.Common.{decimal, if◌then◌else◌, flat_map}
+use Rattle.std.specs.List.{AllByRecursion}
+use Rattle.std.proofs.lemmas.{Bool.Decides.nat_tests, Fmt.decimal_nonempty, Fmt.length-decimal-le}
 use Rattle.std.proofs.lemmas.Nat.{mod_below, div_below}
-use Rattle.tape_run.specs.Quoting.{hex}
-use Rattle.tape_run.specs.SurveyLine.{trimmed_len}
-use Rattle.tape_run.specs.Unpacking.{is_plain, is_kept, escape, escaped, escaped_all, fit}
-use Rattle.tape_run.specs.Unpacking.{fit_last, fit_text, file_name}
+use Rattle.tape_run.specs.{Quoting.hex, SurveyLine.trimmed_len}
+use Rattle.tape_run.specs.Unpacking.{is_plain, is_kept, escape, escaped, escaped_all, fit, fit_last}
+use Rattle.tape_run.specs.Unpacking.{fit_text, file_name}
 use Rattle.tape_run.specs.UnpackLaws.{NamesStay, NamesFit, AreBytes, MayStand}
 use Rattle.tape_run.proofs.UnpackedNames.{IsDigit, InSet, all_each, all_more, by_kind, digits_are}
 use Rattle.tape_run.proofs.UnpackedNames.{grouped, heads, hex_in_set, numbered, set_bytes, tails}
@@ -106,8 +104,7 @@ byte_at (b ∷ a) (suc n) (small, all) = byte_at a n all
 some_fit : (a : List ℕ) (n : ℕ) → AreBytes a → AllByRecursion MayStand (flat_map fit (take n a))
 some_fit a zero all = tt
 some_fit [] (suc n) all = tt
-some_fit (b ∷ a) (suc n) (small, all) =
-    all_more MayStand (fit b) (flat_map fit (take n a)) (fit_stands b small) (some_fit a n all)
+some_fit (b ∷ a) (suc n) (small, all) = all_more _ _ _ (fit_stands _ small) (some_fit a n all)
 
 -- the text of a file identifier, by whether it has only spaces
 abbrev first_by : Bool → ℕ → List ℕ → List ℕ
@@ -119,8 +116,7 @@ first_stands : (none : Bool) (a : List ℕ) (n : ℕ) → AreBytes a
 first_stands true a n all = last_stands 32 (omega arith) true
 first_stands false a n all =
     let b = get_or a n 32 in
-    all_more MayStand (flat_map fit (take n a)) (fit_last b) (some_fit a n all)
-    (last_stands b (byte_at a n all) ((b == 32) || (b == 46)))
+    all_more _ _ _ (some_fit _ n all) (last_stands _ (byte_at _ n all) ((b == 32) || (b == 46)))
 
 first_ends : (none : Bool) (a : List ℕ) (n : ℕ) → AreBytes a → Ends (first_by none n a)
 first_ends true a n all = last_ends 32 (omega arith) true refl
@@ -131,46 +127,39 @@ first_ends false a n all =
 
 one_last : (xs ys : List ℕ) (a b : ℕ) → xs ++ a ∷ [] ≡ ys ++ b ∷ [] → a ≡ b
 one_last [] [] a b e = heads a b [] [] e
-one_last [] (y ∷ ys) a b e =
-    absurd (omega (arith, ap length e, length-append ys (b ∷ [])))
-one_last (x ∷ xs) [] a b e =
-    absurd (omega (arith, ap length e, length-append xs (a ∷ [])))
+one_last [] (y ∷ ys) a b e = absurd (omega (arith, ap length e, length-append ys (b ∷ [])))
+one_last (x ∷ xs) [] a b e = absurd (omega (arith, ap length e, length-append xs (a ∷ [])))
 one_last (x ∷ xs) (y ∷ ys) a b e = one_last xs ys a b (tails x y _ _ e)
 
 long : (s a : List ℕ) (n : ℕ) → n < 2 ^ 16 → 2 ≤ length (file_name s n a)
 long s a n small =
-    let all : length (file_name s n a)
-    ≡ length (escaped_all s) + suc (length (numbered n (fit_text a))) =
-    ap length (grouped s a n)
-    ∙ length-append (escaped_all s) (46 ∷ numbered n (fit_text a)) in
-    let behind : length (numbered n (fit_text a)) ≡ length (decimal n) + suc (length (fit_text a))
-    = length-append (decimal n) (46 ∷ fit_text a) in
-    omega (arith, decimal_nonempty n (wide n small), all, behind)
+    let all : length (file_name s n a) ≡ length (escaped_all s) + suc
+    (length (numbered n (fit_text a))) =
+    ap length (grouped s a n) ∙ length-append (escaped_all s) (46 ∷ numbered n (fit_text a)) in
+    let behind : length (numbered n (fit_text a)) ≡ length (decimal n) + suc (length (fit_text a)) =
+    length-append (decimal n) (46 ∷ fit_text a) in
+    omega (arith, decimal_nonempty n (wide _ small), all, behind)
 
 pub names_stay : NamesStay
 names_stay s n a ss bs small =
-    let most = long s a n small in
+    let most = long s a _ small in
     let count = trimmed_len a in
-    let ends = ends_more (escaped_all s) (46 ∷ numbered n (fit_text a))
-    (ends_more (46 ∷ []) (numbered n (fit_text a))
-    (ends_more (decimal n) (46 ∷ fit_text a)
-    (ends_more (46 ∷ []) (fit_text a) (first_ends (count == 0) a (count - 1) bs)))) in
+    let ends = ends_more (escaped_all s) _ (ends_more (46 ∷ []) _ (ends_more (decimal n) _
+    (ends_more (46 ∷ []) _ (first_ends (count == 0) _ (count - 1) bs)))) in
     record {
-      bytes = subst (AllByRecursion MayStand) (sym (grouped s a n))
-          (all_more MayStand (escaped_all s) (46 ∷ numbered n (fit_text a))
-          (all_each plain_stands (escaped_all s) (set_bytes s ss)) (
+      bytes = subst (AllByRecursion MayStand) (sym (grouped s a n)) (all_more _ _
+          (46 ∷ numbered n (fit_text a)) (all_each plain_stands _ (set_bytes _ ss)) (
             refl,
-            all_more MayStand (decimal n) (46 ∷ fit_text a)
-                (all_each digit_stands (decimal n) (digits_are n (wide n small)))
-                (refl, first_stands (count == 0) a (count - 1) bs),
+            all_more _ _ (46 ∷ fit_text a) (all_each digit_stands _ (digits_are _ (wide _ small)))
+                (refl, first_stands (count == 0) _ (count - 1) bs),
           ));
       some = λ e. omega (arith, most, ap length e);
       not_itself = λ e. omega (arith, most, ap length e);
-      not_above = λ e. absurd (ends.no_stop
-          (one_last ends.front (46 ∷ []) ends.byte 46 (sym ends.is ∙ sym (grouped s a n) ∙ e)));
+      not_above = λ e. absurd (ends.no_stop (one_last ends.front (46 ∷ []) ends.byte 46
+          (sym ends.is ∙ sym (grouped s a n) ∙ e)));
       last = λ front b e.
-          let same = one_last ends.front front ends.byte b
-          (sym ends.is ∙ sym (grouped s a n) ∙ e) in
+          let same = one_last ends.front front ends.byte b (sym ends.is ∙ sym (grouped s a n) ∙ e)
+          in
           (λ w. ends.no_space (same ∙ w), λ w. ends.no_stop (same ∙ w));
     }
 

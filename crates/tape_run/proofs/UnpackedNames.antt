@@ -1,13 +1,10 @@
 -- Names of files that are unpacked: each belongs to one file.
-use Rattle.std.proofs.Common.{◌≡◌, ℕ, ◌+◌, ◌*◌, ◌<◌, ◌≤◌, ◌/◌, ◌%◌, ◌^◌}
-use Rattle.std.proofs.Common.{Bool, true, false, List, [], ◌∷◌, ◌++◌, length, map}
-use Rattle.std.proofs.Common.{refl, sym, ap, ◌∙◌, arith, append_assoc, codes}
-use Rattle.std.specs.Prelude.{◌==◌, ◌||◌, decimal, if◌then◌else◌}
+use Rattle.std.proofs.Common.{◌≡◌, ℕ, ◌+◌, ◌*◌, ◌<◌, ◌≤◌, ◌/◌, ◌%◌, ◌^◌, Bool, true, false, List}
+use Rattle.std.proofs.Common.{[], ◌∷◌, ◌++◌, length, map, refl, sym, ap, ◌∙◌, arith, append_assoc}
+use Rattle.std.proofs.Common.{codes, ◌==◌, ◌||◌, decimal, if◌then◌else◌}
 use Rattle.std.specs.List.{AllByRecursion}
-use Rattle.std.proofs.lemmas.Bool.Decides.{nat_tests}
-use Rattle.std.proofs.lemmas.Fmt.{decimal_by_steps, decimal_injective}
-use Rattle.std.proofs.lemmas.List.{map-append}
-use Rattle.std.proofs.lemmas.Nat.{div-add-mod', mod_below, div_below}
+use Rattle.std.proofs.lemmas.{Bool.Decides.nat_tests, List.map-append, Fmt.decimal_by_steps}
+use Rattle.std.proofs.lemmas.{Fmt.decimal_injective, Nat.div-add-mod', Nat.mod_below, Nat.div_below}
 use Rattle.tape_run.specs.Quoting.{hex}
 use Rattle.tape_run.specs.Unpacking.{is_plain, escaped, escaped_all, fit_text, file_name}
 use Rattle.tape_run.specs.UnpackLaws.{NamesDiffer, AreBytes, folded}
@@ -47,14 +44,12 @@ split_hex : (a b : ℕ) (xs ys : List ℕ) → a < 256 → b < 256
     → 37 ∷ hex (a / 16) ∷ hex (a % 16) ∷ xs ≡ 37 ∷ hex (b / 16) ∷ hex (b % 16) ∷ ys
     → Split a b xs ys
 split_hex a b xs ys p q e =
-    let behind = tails 37 37 _ _ e in
+    let behind = tails _ _ _ _ e in
     let low = tails _ _ _ _ behind in
     record {
-      same = both a b p q
-          (hex_one (a / 16) (b / 16) (div_below a 16 16 (omega arith) p)
-          (div_below b 16 16 (omega arith) q) (heads _ _ _ _ behind))
-          (hex_one (a % 16) (b % 16) (mod_below a 16 (omega arith)) (mod_below b 16 (omega arith))
-          (heads _ _ _ _ low));
+      same = both _ _ p q (hex_one _ _ (div_below a 16 16 (omega arith) p)
+          (div_below b 16 16 (omega arith) q) (heads _ _ _ _ behind)) (hex_one _ _
+          (mod_below a 16 (omega arith)) (mod_below b 16 (omega arith)) (heads _ _ _ _ low));
       rest = tails _ _ _ _ low;
     }
 
@@ -89,8 +84,7 @@ split_by a b xs ys la lb false false false false pa pb sa sb e = split_hex a b x
 
 split_one : (a b : ℕ) (xs ys : List ℕ) → a < 256 → b < 256
     → escaped a ++ xs ≡ escaped b ++ ys → Split a b xs ys
-split_one a b xs ys la lb e =
-    split_by a b xs ys la lb (is_plain a) (is_plain b) (a == 32) (b == 32) refl refl refl refl e
+split_one a b xs ys la lb e = split_by _ _ _ _ la lb _ _ _ _ refl refl refl refl e
 
 -- two identifiers of equal length are equal if a text begins with both of their texts
 record SplitAll (s t xs ys : List ℕ) : Type 0 where
@@ -185,8 +179,7 @@ kind_in_set b small false false is =
 pub set_bytes : (s : List ℕ) → AreBytes s → AllByRecursion InSet (escaped_all s)
 set_bytes [] ss = tt
 set_bytes (b ∷ s) (small, ss) =
-    all_more InSet (escaped b) (escaped_all s)
-    (kind_in_set b small (is_plain b) (b == 32) refl) (set_bytes s ss)
+    all_more _ _ _ (kind_in_set _ small (is_plain b) (b == 32) refl) (set_bytes s ss)
 
 -- ---- if case is ignored
 
@@ -206,29 +199,25 @@ folded_name : (s a x : List ℕ) (n : ℕ) → AreBytes s → n < 2 ^ 16
     → map folded (file_name s n a ++ x)
     ≡ escaped_all s ++ 46 ∷ numbered n (map folded (fit_text a ++ x))
 folded_name s a x n ss small =
-    let digits = same_folded (decimal n)
-    (all_each folded_digit (decimal n) (digits_are n (wide n small))) in
-    let set = same_folded (escaped_all s)
-    (all_each folded_in_set (escaped_all s) (set_bytes s ss)) in
+    let digits = same_folded _ (all_each folded_digit _ (digits_are _ (wide _ small))) in
+    let set = same_folded _ (all_each folded_in_set _ (set_bytes _ ss)) in
     let rest = fit_text a ++ x in
-    ap (λ l. map folded (l ++ x)) (grouped s a n)
-    ∙ ap (map folded) (append_assoc (escaped_all s) (46 ∷ numbered n (fit_text a)) x)
-    ∙ ap (λ l. map folded (escaped_all s ++ 46 ∷ l))
-    (append_assoc (decimal n) (46 ∷ fit_text a) x)
-    ∙ map-append folded (escaped_all s) (46 ∷ numbered n rest)
-    ∙ ap (λ l. l ++ map folded (46 ∷ numbered n rest)) set
-    ∙ ap (λ l. escaped_all s ++ 46 ∷ l) (map-append folded (decimal n) (46 ∷ rest))
-    ∙ ap (λ l. escaped_all s ++ 46 ∷ (l ++ 46 ∷ map folded rest)) digits
+    ap (λ l. map folded (l ++ x)) (grouped s a n) ∙ ap (map folded)
+    (append_assoc (escaped_all s) (46 ∷ numbered n (fit_text a)) x) ∙ ap
+    (λ l. map folded (escaped_all s ++ 46 ∷ l)) (append_assoc (decimal n) (46 ∷ fit_text a) x)
+    ∙ map-append folded (escaped_all s) (46 ∷ numbered n rest) ∙ ap
+    (λ l. l ++ map folded (46 ∷ numbered n rest)) set ∙ ap (λ l. escaped_all s ++ 46 ∷ l)
+    (map-append folded (decimal n) (46 ∷ rest)) ∙ ap
+    (λ l. escaped_all s ++ 46 ∷ (l ++ 46 ∷ map folded rest)) digits
 
 pub names_differ : NamesDiffer
 names_differ s t m n a b x y ss ts long lm ln e =
     let p = map folded (fit_text a ++ x) in
     let q = map folded (fit_text b ++ y) in
-    let all = split_all s t (46 ∷ numbered m p) (46 ∷ numbered n q) ss ts long
-    (sym (folded_name s a x m ss lm) ∙ e ∙ folded_name t b y n ts ln) in
-    let behind = tails 46 46 (numbered m p) (numbered n q) all.rest in (
+    let all = split_all _ _ (46 ∷ numbered m p) (46 ∷ numbered n q) ss ts long (sym
+    (folded_name _ a x _ ss lm) ∙ e ∙ folded_name _ b y _ ts ln) in
+    let behind = tails _ _ _ _ all.rest in (
       all.same,
-      decimal_injective m n (wide m lm) (wide n ln)
-          (before_stop (decimal m) (decimal n) p q (digits_are m (wide m lm))
-          (digits_are n (wide n ln)) behind),
+      decimal_injective m n (wide _ lm) (wide _ ln) (before_stop _ _ _ _ (digits_are _ (wide _ lm))
+          (digits_are _ (wide _ ln)) behind),
     )

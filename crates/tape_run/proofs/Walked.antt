@@ -4,12 +4,9 @@ use Rattle.tape_blocks.specs.Block.{Portion}
 use Rattle.tape_blocks.specs.declared.parts.Part.{Part}
 use Rattle.tape_core.proofs.Crashes.{only_same}
 use Rattle.tape_core.specs.Walks.{Counts, HasGiven}
-use Rattle.tape_core.specs.declared.sink.PartSink.{Ghosts}
-use Rattle.tape_core.specs.declared.sink.SinkFault.{SinkFault}
-use Rattle.tape_run.specs.Crash.{BringsNoMore}
-use Rattle.tape_run.specs.Steps.{IsRefused}
-use Rattle.tape_run.proofs.Causes.{refused_at}
-use Rattle.tape_run.proofs.Crashes.{adds_then}
+use Rattle.tape_core.specs.declared.sink.{PartSink.Ghosts, SinkFault.SinkFault}
+use Rattle.tape_run.specs.{Crash.BringsNoMore, Steps.IsRefused}
+use Rattle.tape_run.proofs.{Causes.refused_at, Crashes.adds_then}
 
 -- The sink's contents are unchanged, a crash leaves nothing new, and no call was refused.
 pub record Walked {S : Type 0} (g : Ghosts S) (old new : S) : Type 0 where

@@ -1,15 +1,11 @@
 -- The sections that the image of a complete copy adds.
 use Rattle.std.proofs.Common.{◌≡◌, ℕ, List, Some, refl, ap, ◌∙◌}
-use Rattle.tape_image.specs.Tape.{TapeItem}
-use Rattle.tape_image.specs.Begins.{ends}
-use Rattle.tape_image.proofs.Walks.{TakesFault-begins, IfKnown-at}
-use Rattle.tape_image.proofs.Uniqueness.{Begins-one}
+use Rattle.tape_image.specs.{Tape.TapeItem, Begins.ends}
+use Rattle.tape_image.proofs.{Walks.TakesFault-begins, Walks.IfKnown-at, Uniqueness.Begins-one}
 use Rattle.tape_set.specs.Layout.{FileSet, items}
 use Rattle.tape_run.specs.declared.section.ImageStop.{ImageStop}
 use Rattle.tape_run.specs.declared.section.ImageStop.TheVariants.{Marked, Physical, Fault}
-use Rattle.tape_run.specs.Passing.{met_in}
-use Rattle.tape_run.specs.Noted.{noted_all}
-use Rattle.tape_run.specs.Added.{StopsBehind}
+use Rattle.tape_run.specs.{Passing.met_in, Noted.noted_all, Added.StopsBehind}
 use Rattle.tape_run.specs.WholeSet.{IsWholeCopy, IsNoDevice, WholeCopiesAreAdded}
 
 same_items : (set : FileSet) (k : ℕ) (xs ys : List ℕ) (its : List TapeItem) (stop : ImageStop)

@@ -1,26 +1,20 @@
 -- What `check` reports for complete copies, and where sections reported as good were found.
 use Rattle.std.proofs.Common.{◌≡◌, ◌⊎◌, inl, inr, ℕ, Bool, true, false, List, [], ◌∷◌, ◌++◌, Option}
-use Rattle.std.proofs.Common.{Some, None, refl, sym, ap, subst, ◌∙◌, append-nil}
-use Rattle.std.specs.Prelude.{map, if◌then◌else◌}
-use Rattle.std.specs.List.{AllByRecursion, flat_map}
+use Rattle.std.proofs.Common.{Some, None, refl, sym, ap, subst, ◌∙◌, append-nil, map, if◌then◌else◌}
+use Rattle.std.proofs.Common.{flat_map}
+use Rattle.std.specs.List.{AllByRecursion}
 use Rattle.tape_set.specs.Layout.{FileSet, Placed, sections}
-use Rattle.tape_run.specs.declared.section.SectionKey.{SectionKey}
+use Rattle.tape_run.specs.declared.section.{SectionKey.SectionKey, Entry.Entry}
+use Rattle.tape_run.specs.declared.section.{SectionLine.SectionLine, Lack.Lack, ImageLine.ImageLine}
 use Rattle.tape_run.specs.declared.section.SectionState.TheVariants.{Good}
-use Rattle.tape_run.specs.declared.section.Entry.{Entry}
-use Rattle.tape_run.specs.declared.section.SectionLine.{SectionLine}
-use Rattle.tape_run.specs.declared.section.Lack.{Lack}
-use Rattle.tape_run.specs.declared.section.ImageLine.{ImageLine}
-use Rattle.tape_run.specs.Passing.{Told}
-use Rattle.tape_run.specs.Noted.{same_key, StandsIn}
+use Rattle.tape_run.specs.{Passing.Told, Noted.same_key, Noted.StandsIn, WholeSet.key_in}
+use Rattle.tape_run.specs.{WholeSet.behind_copies, CheckLine.image_lines, CheckLine.section_line}
+use Rattle.tape_run.specs.{CheckLine.found_line, Checked.Reel, Checked.AddsImages}
+use Rattle.tape_run.specs.{Checked.summary_of, WholeReels.AreWholeCopies, WholeReels.IsListedGood}
+use Rattle.tape_run.specs.WholeReels.{WholeSetIsTold, IsShownOn, GoodWasSeen}
 use Rattle.tape_run.specs.Lacks.{entry_at, IsGoodAt, line_of, lacks, is_none_lacking, found_all}
-use Rattle.tape_run.specs.WholeSet.{key_in, behind_copies}
 use Rattle.tape_run.proofs.KeepingPlaces.{one_key, none_stands}
-use Rattle.tape_run.proofs.WholeCopies.{whole_copies}
-use Rattle.tape_run.proofs.WholeSets.{whole_set, all_found}
-use Rattle.tape_run.specs.CheckLine.{image_lines, section_line, found_line}
-use Rattle.tape_run.specs.Checked.{Reel, AddsImages, summary_of}
-use Rattle.tape_run.specs.WholeReels.{AreWholeCopies, IsListedGood, WholeSetIsTold}
-use Rattle.tape_run.specs.WholeReels.{IsShownOn, GoodWasSeen}
+use Rattle.tape_run.proofs.{WholeCopies.whole_copies, WholeSets.whole_set, WholeSets.all_found}
 
 -- after complete copies the catalogue contains the sections of these copies
 copies_read : (set : FileSet) (reels : List Reel) (lines : List (Option ImageLine)) (ks : List ℕ)

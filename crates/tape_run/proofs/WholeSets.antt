@@ -2,30 +2,27 @@
 -- files is missing.
 use Rattle.std.proofs.Common.{max, ◌≡◌, ℕ, zero, suc, ◌+◌, ◌≤◌, Bool, true, false, List, [], ◌∷◌}
 use Rattle.std.proofs.Common.{◌++◌, length, Option, Some, None, refl, sym, ap, subst, ◌∙◌, arith}
-use Rattle.std.specs.Prelude.{map, if◌then◌else◌, IsSome, slice_get, option_and_then, ◌-◌}
-use Rattle.std.specs.List.{AllByRecursion}
-use Rattle.std.specs.Str.{bytes_eq}
+use Rattle.std.proofs.Common.{map, if◌then◌else◌, IsSome, slice_get, option_and_then, ◌-◌}
+use Rattle.std.specs.{List.AllByRecursion, Str.bytes_eq}
 use Rattle.tape_set.specs.Layout.{FileSet, Section, Placed, Volume, item_of, nth, sections}
 use Rattle.tape_set.specs.Layout.{section_of, on, entries_on, items, ends_file, file_of}
 use Rattle.tape_set.specs.Lawful.{IsLawful, IsSection, IsFile, Ends}
 use Rattle.tape_set.specs.Laws.{StandsIn}
-use Rattle.tape_set.proofs.Everywhere.{every, every_at, every_stands, nth_found}
-use Rattle.tape_set.proofs.Forms.{all_four_digits}
+use Rattle.tape_set.proofs.Everywhere.{every, every_at, every_stands, nth_found, nth_there}
+use Rattle.tape_set.proofs.Everywhere.{is_there}
+use Rattle.tape_set.proofs.{Forms.all_four_digits, AllVolumes.has_start}
 use Rattle.tape_set.proofs.Numbering.{section_stands, section_found}
 use Rattle.tape_set.proofs.Volumes.{IsOn, sections_on_are, over_volumes}
-use Rattle.tape_run.specs.declared.section.SectionKey.{SectionKey}
+use Rattle.tape_run.specs.declared.section.{SectionKey.SectionKey, Lack.Lack}
 use Rattle.tape_run.specs.Passing.{Told, met_in}
 use Rattle.tape_run.specs.Noted.{same_key, better, noted, noted_all}
 use Rattle.std.proofs.lemmas.Option.{slice_get_within}
-use Rattle.tape_run.specs.declared.section.Lack.{Lack}
 use Rattle.tape_run.specs.Lacks.{IsGoodAt, key_at, SetFiles, with_file, sets_from, lack_of}
 use Rattle.tape_run.specs.Lacks.{one_lack, file_lacks, set_lacks, lacks, is_none_lacking, found_all}
 use Rattle.tape_run.specs.WholeSet.{key_in, behind_copies, WholeSetIsGood, WholeSetLacksNothing}
 use Rattle.tape_run.specs.WholeSet.{WholeSetIsFound}
 use Rattle.tape_run.proofs.NothingLacks.{KindIs, noted_all_kind, GoodAs, FileGood, whole_file}
 use Rattle.tape_run.proofs.StayingGood.{stays_good}
-use Rattle.tape_set.proofs.Everywhere.{nth_there, is_there}
-use Rattle.tape_set.proofs.AllVolumes.{has_start}
 use Rattle.tape_run.proofs.WholeVolumes.{AreGood, some_of, volume_tells, whole_volume}
 
 -- ---- all volumes
@@ -70,8 +67,7 @@ whole_set set ks c lawful all =
 -- the entry that is added for a section of the set has the kind of its own trailer
 told_kinds : (set : FileSet) (k : ℕ) (x : Placed) (xs : List Placed) (ts : List Told)
     → section_of set x.file x.sect ≡ Some x.section → AllByRecursion (IsOn set k) xs
-    → AreGood set xs ts
-    → KindIs (key_in set x) (ends_file x.section) ts
+    → AreGood set xs ts → KindIs (key_in set x) (ends_file x.section) ts
 told_kinds set k x [] [] found h g = tt
 told_kinds set k x [] (t ∷ ts) found h g = absurd g
 told_kinds set k x (y ∷ ys) [] found h g = absurd g
@@ -163,8 +159,7 @@ abbrev InSet : FileSet → Told → Type 0
 InSet set t = (t.0.set_id ≡ set.set_id) × (t.0.file ≤ length set.files)
 
 noted_here_of : (set : FileSet) (x t : Told) (xs rest : List Told) (b : Bool) → InSet set x
-    → OfSet set xs → OfSet set rest
-    → OfSet set (if b then (x.0, better x.1 t.1) ∷ xs else x ∷ rest)
+    → OfSet set xs → OfSet set rest → OfSet set (if b then (x.0, better x.1 t.1) ∷ xs else x ∷ rest)
 noted_here_of set x t xs rest true h hs g = (h, hs)
 noted_here_of set x t xs rest false h hs g = (h, g)
 
@@ -222,15 +217,13 @@ abbrev FewSets : FileSet → List SetFiles → Type 0
 FewSets set sets = AllByRecursion (λ x. (x.0 ≡ set.set_id) × (x.1 ≤ length set.files)) sets
 
 filed_here : (set : FileSet) (x : SetFiles) (xs rest : List SetFiles) (file : ℕ) (b : Bool)
-    → FewSets set (x ∷ xs)
-    → file ≤ length set.files → FewSets set rest
+    → FewSets set (x ∷ xs) → file ≤ length set.files → FewSets set rest
     → FewSets set (if b then (x.0, max x.1 file) ∷ xs else x ∷ rest)
 filed_here set x xs rest file true (h, hs) few g = ((h.0, omega (arith, h.1, few)), hs)
 filed_here set x xs rest file false (h, hs) few g = (h, g)
 
 filed : (set : FileSet) (sets : List SetFiles) (set_id : List ℕ) (file : ℕ) → FewSets set sets
-    → set_id ≡ set.set_id
-    → file ≤ length set.files → FewSets set (with_file sets set_id file)
+    → set_id ≡ set.set_id → file ≤ length set.files → FewSets set (with_file sets set_id file)
 filed set [] set_id file h e few = ((e, few), tt)
 filed set (x ∷ xs) set_id file (h, hs) e few =
     filed_here set x xs (with_file xs set_id file) file (bytes_eq set_id x.0) (h, hs) few

@@ -1,13 +1,12 @@
 -- A complete copy of a volume of a valid set makes each section on it good.
 use Rattle.std.proofs.Common.{◌≡◌, ℕ, suc, Bool, List, [], ◌∷◌, ◌++◌, length, Option, Some, None}
-use Rattle.std.proofs.Common.{Ok, refl, sym, ap, subst, ◌∙◌, append-nil, append_assoc}
-use Rattle.std.specs.Prelude.{⊤, map, if◌then◌else◌, IsSome}
-use Rattle.std.specs.List.{AllByRecursion}
+use Rattle.std.proofs.Common.{Ok, refl, sym, ap, subst, ◌∙◌, append-nil, append_assoc, map}
+use Rattle.std.proofs.Common.{if◌then◌else◌, IsSome}
+use Rattle.std.specs.{Prelude.⊤, List.AllByRecursion}
 use Rattle.tape_image.specs.Tape.{TapeItem, block, mark}
 use Rattle.tape_label.specs.declared.values.Kind.TheVariants as kinds
 use Rattle.tape_label.specs.declared.values.Head1.{Head1}
-use Rattle.tape_label.specs.Kinds.{HasKind}
-use Rattle.tape_label.specs.Reading.{vol1_fields, head1_at}
+use Rattle.tape_label.specs.{Kinds.HasKind, Reading.vol1_fields, Reading.head1_at}
 use Rattle.tape_label.proofs.First.{head1_again, trail1_again, vol1_kind}
 use Rattle.tape_label.proofs.VolumeLabels.{volume_label_again, no_volume_label}
 use Rattle.tape_label.proofs.Apart.{kind_again}
@@ -16,18 +15,15 @@ use Rattle.tape_set.specs.Layout.{FileSet, Section, Placed, Volume, Entry, a_lab
 use Rattle.tape_set.specs.Layout.{nth, sections, on, all_entries, section_entries, data_group}
 use Rattle.tape_set.specs.Layout.{entries_on, items, ends_file}
 use Rattle.tape_set.specs.Lawful.{IsLawful, IsVolume, IsVolumeLabel, label_count}
-use Rattle.tape_set.proofs.Everywhere.{every_at, nth_found}
-use Rattle.tape_set.proofs.Forms.{form_told, trailer_ends}
-use Rattle.tape_set.proofs.Volumes.{IsOn, sections_on_are}
-use Rattle.tape_run.specs.declared.section.SectionKey.{SectionKey}
-use Rattle.tape_run.specs.declared.section.SectionState.TheVariants.{Good}
+use Rattle.tape_set.proofs.{Everywhere.every_at, Everywhere.nth_found, Forms.form_told}
+use Rattle.tape_set.proofs.{Forms.trailer_ends, Volumes.IsOn, Volumes.sections_on_are}
+use Rattle.tape_run.specs.declared.section.{SectionKey.SectionKey, SectionState.TheVariants.Good}
 use Rattle.tape_run.specs.declared.passing.Phase.{Phase}
 use Rattle.tape_run.specs.declared.passing.Phase.TheVariants.{Volume as AtVolume, Labels, Second}
 use Rattle.tape_run.specs.declared.passing.Phase.TheVariants.{Next, Over}
 use Rattle.tape_run.specs.Passing.{Told, met_by, header_with, volume_with, step, in_list, told_from}
 use Rattle.tape_run.specs.Passing.{under_way, met_in}
-use Rattle.tape_run.specs.Noted.{noted_all}
-use Rattle.tape_run.specs.Lacks.{IsGoodAt}
+use Rattle.tape_run.specs.{Noted.noted_all, Lacks.IsGoodAt}
 use Rattle.tape_run.specs.WholeSet.{key_in, WholeVolumeIsGood}
 use Rattle.tape_run.proofs.SectionRuns.{Runs, runs_nil, runs_append, runs_step, section_items}
 use Rattle.tape_run.proofs.SectionRuns.{IsWhole, runs_section, good_told}

@@ -1,42 +1,30 @@
 -- The example set if a reader fails, if a part is refused, and if the session is resumed on another
 -- day.
-use Rattle.std.proofs.Common.{◌≡◌, ◌≤◌, ℕ, zero, suc, ◌+◌, List, [], ◌∷◌, true, false}
-use Rattle.std.proofs.Common.{refl, sym, ap, ◌∙◌, subst, inl, lit≤, codes, arith, take}
-use Rattle.std.proofs.Common.{Option, Some, length, Bool}
-use Rattle.std.specs.Prelude.{replicate, min, ⊤}
-use Rattle.std.proofs.lemmas.List.{take_all}
-use Rattle.std.proofs.lemmas.Option.{slice_get_within}
+use Rattle.std.proofs.Common.{◌≡◌, ◌≤◌, ℕ, zero, suc, ◌+◌, List, [], ◌∷◌, true, false, refl, sym}
+use Rattle.std.proofs.Common.{ap, ◌∙◌, subst, inl, lit≤, codes, arith, take, Option, Some, length}
+use Rattle.std.proofs.Common.{Bool, replicate, min}
+use Rattle.std.specs.Prelude.{⊤}
+use Rattle.std.proofs.lemmas.{List.take_all, Option.slice_get_within}
 use Rattle.tape_set.proofs.Worked as w
-use Rattle.tape_set.proofs.Worked.{made_form}
+use Rattle.tape_set.proofs.{Worked.made_form, WorkedFile.fit_of}
 use Rattle.tape_set.proofs.WorkedSpan as sp
-use Rattle.tape_set.specs.declared.position.Position.{Position}
-use Rattle.tape_set.specs.declared.position.Position.TheVariants.{Finished}
-use Rattle.tape_set.specs.Before.{before}
-use Rattle.tape_set.specs.Layout.{Section, section_of}
-use Rattle.tape_set.specs.Lawful.{TellsForm}
-use Rattle.tape_set.specs.Position.{start, at_part, want_at}
-use Rattle.tape_set.specs.Reach.{far}
+use Rattle.tape_set.specs.declared.position.{Position.Position, Position.TheVariants.Finished}
+use Rattle.tape_set.specs.{Before.before, Layout.Section, Layout.section_of, Lawful.TellsForm}
+use Rattle.tape_set.specs.{Position.start, Position.at_part, Position.want_at, Reach.far}
 use Rattle.tape_core.specs.Stands.{Stands}
 use Rattle.tape_core.specs.declared.sink.SinkFault.{SinkFault}
+use Rattle.tape_run.specs.declared.script.{Step.Step, Step.TheVariants.Reel}
 use Rattle.tape_run.specs.declared.fault.RunFault.TheVariants.{Sink}
-use Rattle.tape_run.specs.declared.script.Step.{Step}
-use Rattle.tape_run.specs.declared.script.Step.TheVariants.{Reel}
 use Rattle.tape_run.specs.Mount.{MountEvent, IsMountOf, reads, cut}
 use Rattle.tape_run.specs.History.{Course, course, course_of, IsHistory}
 use Rattle.tape_run.specs.Given.{AreGivenBy, failed_of, counted_up}
 use Rattle.tape_run.specs.Headline.{begins, IsStart, IsRead, HasRun, HasStopped, StopsStep}
-use Rattle.tape_run.specs.CrashRuns.{IsResumed}
-use Rattle.tape_run.specs.Seen.{Seen, IsSession}
+use Rattle.tape_run.specs.{CrashRuns.IsResumed, Seen.Seen, Seen.IsSession, Back.reels_of}
 use Rattle.tape_run.specs.WorkedHistory.{worked_set, section_1, section_2, first, reel_1, reading}
 use Rattle.tape_run.specs.WorkedDays.{DaysAreWorked, IsWhole, once, twice, two_reels, four_reels}
 use Rattle.tape_run.specs.WorkedDays.{behind_one}
-use Rattle.tape_run.specs.Back.{reels_of}
-use Rattle.tape_run.proofs.Back.{none_of}
-use Rattle.tape_run.proofs.CrashRuns.{goes_on}
-use Rattle.tape_run.proofs.Fronts.{fronts_are_mounts}
-use Rattle.tape_set.proofs.WorkedFile.{fit_of}
-use Rattle.tape_run.proofs.WorkedHistory.{is_lawful}
-use Rattle.tape_run.proofs.WorkedReels.{whole_1, whole_2}
+use Rattle.tape_run.proofs.{Back.none_of, CrashRuns.goes_on, Fronts.fronts_are_mounts}
+use Rattle.tape_run.proofs.{WorkedHistory.is_lawful, WorkedReels.whole_1, WorkedReels.whole_2}
 
 -- ---- wherever volume 1, or volume 2, was cut
 
@@ -151,20 +139,6 @@ one_failed zero e = absurd (omega (arith, e))
 one_failed (suc zero) e = refl
 one_failed (suc (suc n)) e = absurd (let two = counts_up n 2 (lit≤ tt) in omega (arith, two, e))
 
-failed : (s : Seen) (left : List (Option (List ℕ)))
-    → IsRead (codes "ABC001") 1 four_reels twice left s → s.failures ≡ 1 → IsWhole s
-failed s left r one =
-    let count : failed_of r.which ≡ 1 = one_failed (failed_of r.which) (sym one ∙ r.count) in
-    let h = one_cut r.which twice r.given left four_volumes
-    (whole_1, (whole_2, (whole_1, (whole_2, tt)))) count r.are_given in
-    let (there, parts) = r.reads worked_set (cut_one h.0 h.1 four_volumes) is_lawful refl refl
-    h.2 in
-    let end = ends_soon h.0 h.1 in
-    record {
-      all = parts ∙ ap (before worked_set 1) end;
-      no_want = ap (λ (c : Course). want_at 1 c.at) there ∙ ap (want_at 1) end;
-    }
-
 -- ---- a part that was refused
 
 step_is : (step : Step) → Some Reel ≡ Some step → Reel ≡ step
@@ -184,41 +158,6 @@ none_up : (n c : ℕ) → 0 ≡ counted_up n c → n ≡ 0
 none_up zero c e = refl
 none_up (suc n) c e = absurd
     (let h = counts_up n (min (c + 1) 18446744073709551615) (omega arith) in omega (arith, e, h))
-
-refused : (old mid new : Seen) (n : ℕ) (cause : SinkFault) (left over : List (Option (List ℕ)))
-    → IsStart (codes "ABC001") 1 old
-    → HasStopped old (Reel ∷ []) (reel_1 ∷ []) left n (Sink cause) mid
-    → HasRun mid two_reels once over new → new.failures ≡ 0 → IsWhole new
-refused old mid new n cause left over begun halt ran none =
-    let fresh = begun.each worked_set is_lawful refl refl in
-    let put = at_first old mid n cause left halt fresh.session
-    whole_1.0 whole_1.1 whole_1.2 vol_1 whole_1.3 whole_1.4 in
-    let cut_1 = reading 1 (take put.by.n (replicate 11 true)) in
-    let at : mid.place.position ≡ behind_1 put.by.n put.by.part =
-    put.by.position
-    ∙ (ap (λ f. at_part put.by.part (far worked_set f (course_of old).at cut_1)) fresh.its_file
-    ∙ ap (λ (c : Course). at_part put.by.part (far worked_set 1 c.at cut_1)) fresh.course) in
-    let file : mid.place.file ≡ 1 = put.same_file ∙ fresh.its_file in
-    let no_failure : failed_of ran.which ≡ 0 =
-    none_up (failed_of ran.which) mid.failures (sym none ∙ ran.count) in
-    let given : ran.given ≡ once =
-    none_of ran.which once ran.given over no_failure ran.are_given in
-    let both = vol_1 ∷ vol_2 ∷ [] in
-    let r = ran.ran worked_set both is_lawful
-    (subst (λ z. IsHistory worked_set (length mid.notes) two_reels z both) (sym given)
-    (whole_1, (whole_2, tt))) put.session in
-    let end : new.place.position ≡ Finished =
-    sym (ap (λ (c : Course). c.at) r.reached)
-    ∙ (ap (λ f. (course worked_set f (course_of mid) both).at) file
-    ∙ (ap (λ p. far worked_set 1 (far worked_set 1 p (reading 1 (replicate 11 true)))
-    (reading 2 (replicate 10 true))) at
-    ∙ completes put.by.n put.by.part)) in
-    record {
-      all = r.session.at.all
-          ∙ (ap (λ f. before worked_set f new.place.position) (r.same_file ∙ file)
-          ∙ ap (before worked_set 1) end);
-      no_want = ap (want_at 1) end;
-    }
 
 -- ---- another day
 
@@ -267,8 +206,45 @@ resumed began new left from ran none =
 
 pub are_worked : DaysAreWorked
 are_worked = record {
-  failed_reader = failed;
-  refused_part = refused;
+  failed_reader = λ s left r one.
+      let count : failed_of r.which ≡ 1 = one_failed (failed_of r.which) (sym one ∙ r.count) in
+      let h = one_cut r.which twice r.given left four_volumes
+      (whole_1, (whole_2, (whole_1, (whole_2, tt)))) count r.are_given in
+      let (there, parts) = r.reads worked_set (cut_one h.0 h.1 four_volumes) is_lawful refl refl
+      h.2 in
+      let end = ends_soon h.0 h.1 in
+      record {
+        all = parts ∙ ap (before worked_set 1) end;
+        no_want = ap (λ (c : Course). want_at 1 c.at) there ∙ ap (want_at 1) end;
+      };
+  refused_part = λ old mid new n cause left over begun halt ran none.
+      let fresh = begun.each worked_set is_lawful refl refl in
+      let put = at_first _ _ _ _ _ halt fresh.session whole_1.0 whole_1.1 whole_1.2 vol_1 whole_1.3
+      whole_1.4 in
+      let cut_1 = reading 1 (take put.by.n (replicate 11 true)) in
+      let at : mid.place.position ≡ behind_1 put.by.n put.by.part =
+      put.by.position ∙ (ap (λ f. at_part put.by.part (far worked_set f (course_of old).at cut_1))
+      fresh.its_file ∙ ap (λ (c : Course). at_part put.by.part (far worked_set 1 c.at cut_1))
+      fresh.course) in
+      let file : mid.place.file ≡ 1 = put.same_file ∙ fresh.its_file in
+      let no_failure : failed_of ran.which ≡ 0 =
+      none_up (failed_of ran.which) mid.failures (sym none ∙ ran.count) in
+      let given : ran.given ≡ once =
+      none_of _ _ _ _ no_failure ran.are_given in
+      let both = vol_1 ∷ vol_2 ∷ [] in
+      let r = ran.ran worked_set both is_lawful (subst
+      (λ z. IsHistory worked_set (length mid.notes) two_reels z both) (sym given)
+      (whole_1, (whole_2, tt))) put.session in
+      let end : new.place.position ≡ Finished =
+      sym (ap (λ (c : Course). c.at) r.reached) ∙ (ap
+      (λ f. (course worked_set f (course_of mid) both).at) file ∙ (ap (λ p. far worked_set 1
+      (far worked_set 1 p (reading 1 (replicate 11 true))) (reading 2 (replicate 10 true))) at
+      ∙ completes put.by.n put.by.part)) in
+      record {
+        all = r.session.at.all ∙ (ap (λ f. before worked_set f new.place.position)
+            (r.same_file ∙ file) ∙ ap (before worked_set 1) end);
+        no_want = ap (want_at 1) end;
+      };
   stands = stands_there;
   resumed = resumed;
 }

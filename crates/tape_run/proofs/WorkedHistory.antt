@@ -1,18 +1,13 @@
 -- The worked history, by computation: its set is valid, and it satisfies the premises of the
 -- headline.
-use Rattle.std.proofs.Common.{◌≡◌, ℕ, List, Option, [], ◌∷◌, true, false, refl, sym, ap}
-use Rattle.std.proofs.Common.{◌∙◌, subst, codes, lit≤, lit<, None, replicate}
+use Rattle.std.proofs.Common.{◌≡◌, ℕ, List, Option, [], ◌∷◌, true, false, refl, sym, ap, ◌∙◌, subst}
+use Rattle.std.proofs.Common.{codes, lit≤, lit<, None, replicate}
 use Rattle.tape_set.proofs.Worked as w
-use Rattle.tape_set.proofs.Worked.{made_section, made_form}
-use Rattle.tape_set.proofs.WorkedFile.{fit_of}
+use Rattle.tape_set.proofs.{Worked.made_section, Worked.made_form, WorkedFile.fit_of}
 use Rattle.tape_set.proofs.WorkedSpan as sp
-use Rattle.tape_set.specs.Layout.{FileSet}
-use Rattle.tape_set.specs.Lawful.{IsLawful}
-use Rattle.tape_set.specs.Position.{want_at}
-use Rattle.tape_run.specs.History.{Course, IsHistory}
-use Rattle.tape_run.specs.Given.{AreGivenBy, failed_of}
-use Rattle.tape_run.specs.Seen.{Seen}
-use Rattle.tape_run.specs.Headline.{IsRead}
+use Rattle.tape_set.specs.{Layout.FileSet, Lawful.IsLawful, Position.want_at}
+use Rattle.tape_run.specs.{History.Course, History.IsHistory, Given.AreGivenBy, Given.failed_of}
+use Rattle.tape_run.specs.{Seen.Seen, Headline.IsRead}
 use Rattle.tape_run.proofs.Back.{none_failed, none_of}
 use Rattle.tape_run.proofs.WorkedReels.{whole_1, whole_2, cut_1, bad_0, bad_1, short_2, blank}
 use Rattle.tape_run.proofs.WorkedReels.{other}
@@ -96,9 +91,6 @@ is_history = (
   ),
 )
 
-all : AreGivenBy (replicate 10 false) worked_reels (replicate 10 None) worked_reels
-all = (refl, (refl, (refl, (refl, (refl, (refl, (refl, (refl, (refl, (refl, refl))))))))))
-
 -- a session over these readers, none of which failed
 has_read : (s : Seen) (left : List (Option (List ℕ)))
     → IsRead (codes "ABC001") 1 worked_steps worked_reels left s → s.failures ≡ 0
@@ -117,7 +109,7 @@ pub is_worked : HistoryIsWorked
 is_worked = record {
   lawful = is_lawful;
   history = is_history;
-  given = all;
+  given = (refl, (refl, (refl, (refl, (refl, (refl, (refl, (refl, (refl, (refl, refl))))))))));
   positions = refl;
   notes = refl;
   none_before = refl;

@@ -1,21 +1,16 @@
 -- The reels of the worked history, by computation: what their bytes begin with, and that each is a
 -- copy of a volume or foreign.
 use Rattle.std.proofs.Common.{◌≡◌, ◌≤◌, ℕ, Bool, List, [], ◌∷◌, ◌++◌, true, false, refl, sym, ap}
-use Rattle.std.proofs.Common.{codes, lit≤, lit<, Some, ◌+◌, ◌%◌, arith}
-use Rattle.std.specs.Prelude.{replicate, length}
-use Rattle.std.specs.List.{flat_map}
+use Rattle.std.proofs.Common.{codes, lit≤, lit<, Some, ◌+◌, ◌%◌, arith, replicate, length, flat_map}
 use Rattle.tape_image.specs.Tape.{TapeItem, block, bad, mark}
 use Rattle.tape_image.specs.Spelling as spelling
-use Rattle.tape_image.specs.Spelling.{Spelling}
-use Rattle.tape_image.specs.Begins.{Begins, ends, faults}
+use Rattle.tape_image.specs.{Spelling.Spelling, Begins.Begins, Begins.ends, Begins.faults}
 use Rattle.tape_image.specs.Begins as begin
 use Rattle.tape_image.specs.declared.item.Ending.TheVariants.{Marked, Physical}
 use Rattle.tape_image.specs.declared.item.ImageCause.TheVariants.{Truncated}
-use Rattle.tape_label.specs.Kinds.{kind_at}
-use Rattle.tape_label.specs.VolumeLabels.{is_volume_label}
+use Rattle.tape_label.specs.{Kinds.kind_at, VolumeLabels.is_volume_label}
 use Rattle.tape_label.specs.Reading.{head1_at, head_at}
-use Rattle.tape_set.specs.Layout.{items}
-use Rattle.tape_set.specs.Reading.{IsReadingOf, as_read}
+use Rattle.tape_set.specs.{Layout.items, Reading.IsReadingOf, Reading.as_read}
 use Rattle.tape_core.specs.Foreign.{starts_set}
 use Rattle.tape_run.specs.Mount.{IsMount, IsMountOf, reads, foreign_reel}
 use Rattle.tape_run.specs.WorkedHistory.{worked_set, vol1, hdr1, hdr1_of_2, hdr2, eov1, eov2, eof1}
@@ -114,9 +109,8 @@ ended bytes ss n e size within = record {
 }
 
 -- spellings, and nothing more
-all_of : (bytes : List ℕ) (ss : List Spelling) (n : ℕ)
-    → bytes ≡ flat_map (λ s. s.bytes) ss ++ [] → length bytes ≡ n → n ≤ begin.image_limit
-    → Begins 0 bytes (items_of ss) n (ends Physical)
+all_of : (bytes : List ℕ) (ss : List Spelling) (n : ℕ) → bytes ≡ flat_map (λ s. s.bytes) ss ++ []
+    → length bytes ≡ n → n ≤ begin.image_limit → Begins 0 bytes (items_of ss) n (ends Physical)
 all_of bytes ss n e size within = record {
   rest = [];
   walks = record {

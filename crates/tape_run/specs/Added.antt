@@ -2,14 +2,11 @@
 use Rattle.std.specs.Prelude.{◌≡◌, ℕ, List, length, Option, IfSome}
 use Rattle.tape_image.specs.declared.item.Ending.{Ending}
 use Rattle.tape_image.specs.declared.item.Ending.TheVariants as endings
-use Rattle.tape_image.specs.Tape.{TapeItem}
-use Rattle.tape_image.specs.Begins.{Walks}
-use Rattle.tape_image.specs.Reader.{IfKnown}
+use Rattle.tape_image.specs.{Tape.TapeItem, Begins.Walks, Reader.IfKnown}
 use Rattle.tape_image.specs.Step.{TakesEnd, TakesFault}
-use Rattle.tape_run.specs.declared.section.ImageStop.{ImageStop}
-use Rattle.tape_run.specs.declared.section.ImageStop.TheVariants.{Marked, Physical, Fault}
-use Rattle.tape_run.specs.declared.section.ImageLine.{ImageLine}
+use Rattle.tape_run.specs.declared.section.{ImageStop.ImageStop, ImageLine.ImageLine}
 use Rattle.tape_run.specs.declared.passing.Phase.TheVariants.{Volume}
+use Rattle.tape_run.specs.declared.section.ImageStop.TheVariants.{Marked, Physical, Fault}
 use Rattle.tape_run.specs.Passing.{Told, told_from, met_in}
 use Rattle.tape_run.specs.Noted.{noted_all, KeepsPlaces, GoodIsShown}
 

@@ -2,8 +2,7 @@
 use Rattle.std.specs.Prelude.{◌≡◌, ◌<◌, ℕ, ◌+◌, List, [], ◌∷◌, length}
 use Rattle.tape_image.specs.Begins.{Stop, Begins}
 use Rattle.tape_set.specs.Layout.{FileSet, items}
-use Rattle.tape_run.specs.declared.script.Step.{Step}
-use Rattle.tape_run.specs.declared.script.Step.TheVariants.{Reel}
+use Rattle.tape_run.specs.declared.script.{Step.Step, Step.TheVariants.Reel}
 
 -- a reel for each image
 abbrev pub reels_of : List (List ℕ) → List Step

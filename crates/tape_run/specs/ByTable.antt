@@ -1,20 +1,14 @@
 -- Where the reader's table leads for any items, whether or not they are those of a valid set.
 use Rattle.std.specs.Prelude.{◌≡◌, ℕ, ◌<◌, ◌+◌, List, [], ◌∷◌, ◌++◌, length, take, drop, Option}
 use Rattle.std.specs.Prelude.{Some, None}
-use Rattle.tape_blocks.specs.Block.{Portion}
-use Rattle.tape_blocks.specs.Judged.{begun_behind}
+use Rattle.tape_blocks.specs.{Block.Portion, Judged.begun_behind}
 use Rattle.tape_image.specs.Tape.{TapeItem, block}
-use Rattle.tape_set.specs.Lawful.{FileForm}
+use Rattle.tape_set.specs.{Lawful.FileForm, Position.part_of, Position.at_part}
 use Rattle.tape_set.specs.declared.position.Position.{Position}
-use Rattle.tape_set.specs.Position.{part_of, at_part}
-use Rattle.tape_core.specs.declared.event.Answer.{Answer}
-use Rattle.tape_core.specs.declared.event.Answer.TheVariants.{Deliver}
-use Rattle.tape_core.specs.State.{State}
-use Rattle.tape_core.specs.Parts.{parts_in}
-use Rattle.tape_core.specs.Place.{rest_of, place_of}
+use Rattle.tape_core.specs.declared.event.{Answer.Answer, Answer.TheVariants.Deliver}
+use Rattle.tape_core.specs.{State.State, Parts.parts_in, Place.rest_of, Place.place_of}
 use Rattle.tape_core.specs.Table.{step_of, saved}
-use Rattle.tape_run.specs.Puts.{refused_point}
-use Rattle.tape_run.specs.Reels.{behind_items}
+use Rattle.tape_run.specs.{Puts.refused_point, Reels.behind_items}
 
 -- the parts of a block from the expected one on, in the form known of its file
 abbrev pub parts_from : Position → Option FileForm → List ℕ → List Portion

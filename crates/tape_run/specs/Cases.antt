@@ -4,39 +4,31 @@ use Rattle.std.specs.Prelude.{◌≡◌, ◌≤◌, ℕ, ◌+◌, Bool, true, fa
 use Rattle.std.specs.Prelude.{length, take, slice_get, Some, None, IsSome}
 use Rattle.tape_image.specs.declared.item.ImageCause.TheVariants.{Truncated, Device}
 use Rattle.tape_image.specs.declared.item.ImageCause.TheVariants.{OutOfMemory as NoMemory}
-use Rattle.tape_image.specs.Tape.{TapeItem, block, mark}
-use Rattle.tape_image.specs.Begins.{Stop, Begins}
+use Rattle.tape_image.specs.{Tape.TapeItem, Tape.block, Tape.mark, Begins.Stop, Begins.Begins}
 use Rattle.tape_blocks.specs.Block.{Portion}
 use Rattle.tape_set.specs.declared.position.Position.{Position}
 use Rattle.tape_set.specs.Position.{start, awaiting, at_part, next_block}
 use Rattle.tape_set.specs.Layout.{FileSet, Volume, Section, items, entries, file_of}
-use Rattle.tape_set.specs.Lawful.{IsLawful}
-use Rattle.tape_set.specs.Before.{before}
-use Rattle.tape_set.specs.Reach.{passes}
+use Rattle.tape_set.specs.{Lawful.IsLawful, Before.before, Reach.passes}
 use Rattle.tape_set.specs.Reading.{Reading, IsReadingOf, as_read}
 use Rattle.tape_core.specs.declared.sink.SinkFault.{SinkFault}
-use Rattle.tape_core.specs.Crash.{Crashes}
-use Rattle.tape_core.specs.Place.{IsPlaced, place_of}
-use Rattle.tape_core.specs.Point.{Point}
-use Rattle.tape_core.specs.Stands.{Stands, weight_of}
-use Rattle.tape_core.specs.Table.{saved, reader_of}
+use Rattle.tape_core.specs.{Crash.Crashes, Place.IsPlaced, Place.place_of, Point.Point}
+use Rattle.tape_core.specs.{Stands.Stands, Stands.weight_of, Table.saved, Table.reader_of}
 use Rattle.tape_core.specs.Weight.{IsFront}
-use Rattle.tape_run.specs.declared.fault.RunFault.{RunFault}
+use Rattle.tape_run.specs.declared.{fault.RunFault.RunFault, script.Step.Step}
 use Rattle.tape_run.specs.declared.fault.RunFault.TheVariants.{Sink, NoSuchPoint, TooFewReels}
 use Rattle.tape_run.specs.declared.fault.RunFault.TheVariants.{OutOfMemory, OtherFile}
-use Rattle.tape_run.specs.declared.script.Step.{Step}
 use Rattle.tape_run.specs.declared.script.Step.TheVariants.{Reel, Save, Restart}
-use Rattle.tape_run.specs.Back.{reels_of, AreVolumes}
-use Rattle.tape_run.specs.CasesOfSaves.{brings, comes_now}
-use Rattle.tape_run.specs.Crash.{IsOf, LastAlone, StoodAt}
-use Rattle.tape_run.specs.Given.{is_device, IsGiven, AreGivenBy, counted, counted_up}
-use Rattle.tape_run.specs.Given.{failed_of, written}
+use Rattle.tape_run.specs.{Back.reels_of, Back.AreVolumes, CasesOfSaves.brings}
+use Rattle.tape_run.specs.{CasesOfSaves.comes_now, Crash.IsOf, Crash.LastAlone, Crash.StoodAt}
+use Rattle.tape_run.specs.Runs.{Runs, RunsUpTo, Fails}
+use Rattle.tape_run.specs.Given.{is_device, IsGiven, AreGivenBy, counted, counted_up, failed_of}
+use Rattle.tape_run.specs.Given.{written}
 use Rattle.tape_run.specs.Headline.{Ran, HasRun, IsStart, IsRead, begins}
 use Rattle.tape_run.specs.History.{Course, IsHistory, course, course_of}
 use Rattle.tape_run.specs.CrashRuns.{IsPlaceOf, ComesBack, IsResumed, AreHistories}
 use Rattle.tape_run.specs.Mount.{MountEvent, reads, foreign_reel, saves, restarts, IsMount}
 use Rattle.tape_run.specs.Mount.{IsMountOf, after_mount, cut}
-use Rattle.tape_run.specs.Runs.{Runs, RunsUpTo, Fails}
 use Rattle.tape_run.specs.Seen.{Seen, AreNotes, IsSession, IsKept}
 use Rattle.tape_run.specs.Steps.{Reeled, ReelFails, SaveFails, RestartFails, WentBack, Saved}
 use Rattle.tape_run.specs.Steps.{StoppedBy}
@@ -67,8 +59,7 @@ pub record CasesOfMounts : Type 0 where
   -- a prefix of a reading, and a reel that does not change the position
   pub cut_off : cut 2 (reads (reading 1 (true ∷ false ∷ true ∷ [])))
       ≡ reads (reading 1 (true ∷ false ∷ []))
-  pub foreign_moves_nothing : (set : FileSet) (p : Position)
-      → after_mount set 1 p foreign_reel ≡ p
+  pub foreign_moves_nothing : (set : FileSet) (p : Position) → after_mount set 1 p foreign_reel ≡ p
 
 -- ---- histories
 
@@ -239,8 +230,7 @@ pub record CasesOfMade : Type 0 where
   -- There is no such step after the last one.
   pub second_was_not : (old new : Seen) (fault : RunFault) (bytes : List ℕ) (l : Option (List ℕ))
       → RunsUpTo (true ∷ []) old (Reel ∷ Reel ∷ Save ∷ []) (Some bytes ∷ []) (l ∷ []) 1 fault new
-      → (mid : Seen) × Reeled bytes l true old mid
-      × (fault ≡ TooFewReels) × (new ≡ mid)
+      → (mid : Seen) × Reeled bytes l true old mid × (fault ≡ TooFewReels) × (new ≡ mid)
   pub third_was_not : (old new : Seen) (fault : RunFault) (bytes other : List ℕ)
       (l m : Option (List ℕ))
       → RunsUpTo (false ∷ []) old (Save ∷ Reel ∷ Reel ∷ []) (Some bytes ∷ Some other ∷ [])
@@ -266,13 +256,11 @@ pub record CasesOfMade : Type 0 where
   pub no_such_note : (old new : Seen) (n : ℕ) → RestartFails n NoSuchPoint old new
       → (length old.notes ≤ n) × (new ≡ old)
   pub reel_refused : (cause : SinkFault) (bytes : List ℕ) (old new : Seen)
-      → ReelFails bytes (Sink cause) old new
-      → IsFront old.parts new.parts × (new.notes ≡ old.notes)
+      → ReelFails bytes (Sink cause) old new → IsFront old.parts new.parts × (new.notes ≡ old.notes)
       × (new.failures ≡ old.failures) × (new.place.file ≡ old.place.file)
   pub stopped_by : (set : FileSet) (old new : Seen) (xs : List TapeItem) (h : MountEvent)
       (s : StoppedBy set old.place.file old.place.position xs h new.place new.parts)
-      → IsPlaced set new.place new.parts
-      × (slice_get xs s.n ≡ Some (block s.content))
+      → IsPlaced set new.place new.parts × (slice_get xs s.n ≡ Some (block s.content))
       × (after_mount set old.place.file old.place.position (cut (s.n + 1) h)
       ≡ next_block (after_mount set old.place.file old.place.position (cut s.n h)))
       × (new.place.position

@@ -2,41 +2,29 @@
 -- the call `laws::cases`.
 use Rattle.std.specs.Prelude.{◌≡◌, ◌<◌, ◌≤◌, ◌+◌, ℕ, zero, suc, Bool, true, false, List, [], ◌∷◌}
 use Rattle.std.specs.Prelude.{◌++◌, length, map, Option, Some, None, codes}
-use Rattle.std.specs.List.{AllByRecursion, flat_map}
-use Rattle.std.specs.Io.KnownBytes.{Appends}
-use Rattle.tape_image.specs.declared.item.Ending.{Ending}
+use Rattle.std.specs.{List.AllByRecursion, List.flat_map, Io.KnownBytes.Appends}
+use Rattle.tape_image.specs.declared.item.{Ending.Ending, ImageFault.ImageFault}
 use Rattle.tape_image.specs.declared.item.Ending.TheVariants as endings
-use Rattle.tape_image.specs.declared.item.ImageFault.{ImageFault}
-use Rattle.tape_image.specs.Step.{TakesEnd, TakesFault}
+use Rattle.tape_image.specs.{Step.TakesEnd, Step.TakesFault, Tape.TapeItem, Tape.block, Tape.mark}
+use Rattle.tape_image.specs.{Begins.Begins, Begins.ends, Reader.IfKnown}
 use Rattle.tape_image.specs.declared.item.ImageCause.TheVariants.{Truncated, Device}
-use Rattle.tape_image.specs.Tape.{TapeItem, block, mark}
-use Rattle.tape_image.specs.Begins.{Begins, ends}
-use Rattle.tape_image.specs.Reader.{IfKnown}
 use Rattle.tape_label.specs.declared.values.Kind.TheVariants as kinds
-use Rattle.tape_label.specs.Kinds.{HasKind}
+use Rattle.tape_label.specs.{Kinds.HasKind, Head1.IsHead1, Trail1.IsTrail1, Vol1.IsVol1}
 use Rattle.tape_set.specs.Layout.{FileSet, Volume, Section, Placed, items, sections}
 use Rattle.tape_run.specs.declared.fault.EngineFault.TheVariants.{Run, WriteFailed}
 use Rattle.tape_run.specs.declared.fault.RunFault.TheVariants.{NoSuchPoint, OutOfMemory}
-use Rattle.tape_run.specs.declared.section.Entry.{Entry}
-use Rattle.tape_run.specs.declared.section.ImageLine.{ImageLine}
+use Rattle.tape_run.specs.declared.section.{Entry.Entry, ImageLine.ImageLine, Lack.Lack}
+use Rattle.tape_run.specs.declared.section.{SectionKey.SectionKey, SectionState.SectionState}
 use Rattle.tape_run.specs.declared.section.ImageStop.TheVariants.{Marked, Physical, Fault}
-use Rattle.tape_run.specs.declared.section.Lack.{Lack}
-use Rattle.tape_run.specs.declared.section.SectionKey.{SectionKey}
-use Rattle.tape_run.specs.declared.section.SectionState.{SectionState}
 use Rattle.tape_run.specs.declared.section.SectionState.TheVariants.{Good, Bad, Count, Cut}
-use Rattle.tape_run.specs.Added.{Adds, StopsBehind}
-use Rattle.tape_run.specs.Cases.{on_one_volume}
+use Rattle.tape_run.specs.{Added.Adds, Added.StopsBehind, Cases.on_one_volume, Passing.Told}
+use Rattle.tape_run.specs.{Passing.met_in, Reeling.Took, Reeling.AreMounted}
 use Rattle.tape_run.specs.CheckLine.{image_line, image_lines, section_line, found_line}
 use Rattle.tape_run.specs.Checked.{Reel, IsReel, AddsImage, AddsImages, IsReport, ReportsInPart}
 use Rattle.tape_run.specs.Checked.{IsCheckFault, summary, summary_behind, TellsImage, Reports}
 use Rattle.tape_run.specs.Lacks.{IsFirstLack, IsFoundWhole, IsGoodAt, lacks, found_all, key_at}
 use Rattle.tape_run.specs.Lacks.{line_of, good_end, entry_at}
 use Rattle.tape_run.specs.Noted.{noted, noted_all, KeepsPlaces, GoodIsShown}
-use Rattle.tape_run.specs.Passing.{Told, met_in}
-use Rattle.tape_run.specs.Reeling.{Took, AreMounted}
-use Rattle.tape_label.specs.Head1.{IsHead1}
-use Rattle.tape_label.specs.Trail1.{IsTrail1}
-use Rattle.tape_label.specs.Vol1.{IsVol1}
 use Rattle.tape_run.specs.Shown.{Shown, BeginsVolume, HeadsSection, EndsSection}
 use Rattle.tape_run.specs.WholeReels.{AreWholeCopies, IsToldWhole, IsShownOn, IsListedGood}
 use Rattle.tape_run.specs.WholeSet.{HasEach, IsWholeCopy, IsNoDevice, key_in}
@@ -97,8 +85,7 @@ pub record CasesOfCatalogues : Type 0 where
   pub sections_stay : (t : Told) → KeepsPlaces (t ∷ []) [] → ⊥
   pub not_moved : KeepsPlaces (met 1 1 true Good ∷ []) (met 1 2 true Good ∷ met 1 1 true Good ∷ [])
       → ⊥
-  pub first_good : (t : Told) → t.1.state ≡ Good → GoodIsShown [] [] (t ∷ [])
-      → Shown [] t.0 t.1
+  pub first_good : (t : Told) → t.1.state ≡ Good → GoodIsShown [] [] (t ∷ []) → Shown [] t.0 t.1
 
 -- the sections that an image adds, and those that its items show
 pub record CasesOfImages : Type 0 where
@@ -111,8 +98,7 @@ pub record CasesOfImages : Type 0 where
   pub added : (before after : Option (List ℕ)) (old new : List Told) (line : ImageLine)
       (a : Adds before after old line new) → (line.items ≡ length a.items)
       × IfKnown before after (StopsBehind a.items line.stop)
-      × (new ≡ noted_all old (met_in a.items)) × KeepsPlaces old new
-      × GoodIsShown a.items old new
+      × (new ≡ noted_all old (met_in a.items)) × KeepsPlaces old new × GoodIsShown a.items old new
   pub nothing_shows : (key : SectionKey) (entry : Entry) → Shown [] key entry → ⊥
   pub shown : (xs : List TapeItem) (key : SectionKey) (entry : Entry) (s : Shown xs key entry)
       → (entry.blocks ≡ length s.content)

@@ -2,18 +2,14 @@
 -- `laws::cases`.
 use Rattle.std.specs.Prelude.{◌≡◌, ℕ, true, List, [], ◌∷◌, Some, None, codes}
 use Rattle.tape_image.specs.Tape.{bad, mark}
-use Rattle.tape_run.specs.declared.met.Met.{Met}
+use Rattle.tape_run.specs.declared.{met.Met.Met, survey.copies.CopyNote.CopyNote}
 use Rattle.tape_run.specs.declared.passing.Phase.TheVariants as phases
 use Rattle.tape_run.specs.declared.section.SectionState.TheVariants.{Good, Bad}
-use Rattle.tape_run.specs.declared.survey.copies.CopyNote.{CopyNote}
 use Rattle.tape_run.specs.declared.survey.Wording.TheVariants.{Words, Rows}
-use Rattle.tape_run.specs.CasesOfCatalogues.{met}
-use Rattle.tape_run.specs.Lacks.{key_at}
-use Rattle.tape_run.specs.SurveyCompared.{copies_text}
+use Rattle.tape_run.specs.{CasesOfCatalogues.met, Lacks.key_at, SurveyCompared.copies_text}
+use Rattle.tape_run.specs.{SurveyDigest.digest_of, SurveyFiles.file_key}
 use Rattle.tape_run.specs.SurveyCopies.{no_copies, copy_note, with_told, copies_on, dispute_at}
 use Rattle.tape_run.specs.SurveyCopies.{blocks_with, Copied, is_agreed, disputed, disputed_on}
-use Rattle.tape_run.specs.SurveyDigest.{digest_of}
-use Rattle.tape_run.specs.SurveyFiles.{file_key}
 
 -- a first copy on image 0, of three blocks with digest 7
 abbrev pub first : CopyNote

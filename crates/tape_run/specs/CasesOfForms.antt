@@ -1,20 +1,17 @@
 -- Examples for the record formats, dates and columns that a survey gives files.
 use Rattle.std.specs.Prelude.{◌≡◌, ℕ, List, [], ◌∷◌, Some, None, Ok, Err, false, codes}
 use Rattle.tape_image.specs.Tape.{TapeItem, block}
-use Rattle.tape_label.specs.declared.label.LabelFault.{LabelFault}
+use Rattle.tape_label.specs.declared.{label.LabelFault.LabelFault, values.Head2.Head2}
 use Rattle.tape_label.specs.declared.values.Format.TheVariants.{Fixed, Spanned}
-use Rattle.tape_label.specs.declared.values.Head2.{Head2}
 use Rattle.tape_label.specs.declared.values.Kind.TheVariants as kinds
-use Rattle.tape_label.specs.Kinds.{kind_at}
-use Rattle.tape_label.specs.Reading.{head2_at}
+use Rattle.tape_label.specs.{Kinds.kind_at, Reading.head2_at}
 use Rattle.tape_run.specs.declared.met.Met.{Met}
 use Rattle.tape_run.specs.declared.passing.Phase.TheVariants as phases
-use Rattle.tape_run.specs.CasesOfSurveys.{first_week, backups}
-use Rattle.tape_run.specs.Dates.{date_of, date_cell}
+use Rattle.tape_run.specs.{CasesOfSurveys.first_week, CasesOfSurveys.backups, Dates.date_of}
+use Rattle.tape_run.specs.{Dates.date_cell, SurveyGlance.head_in, SurveyRows.form_cells}
+use Rattle.tape_run.specs.SurveyRows.{known_cells}
 use Rattle.tape_run.specs.SurveyFiles.{Filed, file_key, filed_in, form_by, form_in, with_form}
 use Rattle.tape_run.specs.SurveyFiles.{with_head, with_met}
-use Rattle.tape_run.specs.SurveyGlance.{head_in}
-use Rattle.tape_run.specs.SurveyRows.{form_cells, known_cells}
 
 -- two second header labels
 abbrev pub fixed : Head2

@@ -6,42 +6,26 @@ use Rattle.std.specs.List.{AllByRecursion}
 use Rattle.tape_image.specs.Tape.{TapeItem}
 use Rattle.tape_blocks.specs.Block.{Portion}
 use Rattle.tape_set.specs.Layout.{FileSet, nth, file_of, sections, items, on}
-use Rattle.tape_set.specs.Lawful.{IsLawful}
+use Rattle.tape_set.specs.{Lawful.IsLawful, Before.before, Reach.far, Reading.Reading}
 use Rattle.tape_core.specs.declared.sink.SinkFault.{SinkFault}
-use Rattle.tape_core.specs.Point.{Point}
-use Rattle.tape_core.specs.Stands.{Stands}
-use Rattle.tape_run.specs.declared.fault.RunFault.{RunFault}
+use Rattle.tape_core.specs.{Point.Point, Stands.Stands}
+use Rattle.tape_run.specs.declared.script.{Step.Step, Step.TheVariants.Reel}
+use Rattle.tape_run.specs.declared.{fault.RunFault.RunFault, section.ImageLine.ImageLine}
 use Rattle.tape_run.specs.declared.fault.RunFault.TheVariants.{Sink, NoSuchPoint, TooFewReels}
 use Rattle.tape_run.specs.declared.fault.RunFault.TheVariants.{OutOfMemory, OtherFile}
-use Rattle.tape_run.specs.declared.script.Step.{Step}
-use Rattle.tape_run.specs.declared.script.Step.TheVariants.{Reel}
-use Rattle.tape_run.specs.declared.section.ImageLine.{ImageLine}
 use Rattle.tape_run.specs.declared.section.SectionState.TheVariants.{Good, Cut}
-use Rattle.tape_set.specs.Before.{before}
-use Rattle.tape_set.specs.Reach.{far}
-use Rattle.tape_set.specs.Reading.{Reading}
-use Rattle.tape_run.specs.Added.{Adds}
-use Rattle.tape_run.specs.CasesOfCatalogues.{met}
-use Rattle.tape_run.specs.Checked.{IsReport}
+use Rattle.tape_run.specs.{Added.Adds, CasesOfCatalogues.met, Checked.IsReport, Crash.StoodAt}
+use Rattle.tape_run.specs.{Fronts.FrontsAreMounts, Fronts.GivenIsHistory, Given.AreGivenBy}
+use Rattle.tape_run.specs.{History.IsHistory, Lead.AreItems, Lead.ItemsAreThere, Listing.OneListing}
+use Rattle.tape_run.specs.{Listing.IsListing, Headline.HasRun, Noted.noted_all, Noted.StandsIn}
+use Rattle.tape_run.specs.{OneEntry.HasOneEach, OneEntry.OneEntryASection, Passing.Told}
+use Rattle.tape_run.specs.{Passing.met_in, Seen.Seen, Shown.Shown, Shown.GoodAreShown}
 use Rattle.tape_run.specs.Checked as checked
-use Rattle.tape_run.specs.Crash.{StoodAt}
-use Rattle.tape_run.specs.Fronts.{FrontsAreMounts, GivenIsHistory}
-use Rattle.tape_run.specs.Given.{AreGivenBy}
-use Rattle.tape_run.specs.History.{IsHistory}
 use Rattle.tape_run.specs.Lacks.{LackIsFirst, IsFoundWhole, IsFirstLack, lack_of, found_all}
-use Rattle.tape_run.specs.Lead.{AreItems, ItemsAreThere}
 use Rattle.tape_run.specs.CrashRuns.{StoodComesBack, StandsAcrossCrashes, ComesBack, CrashRun}
-use Rattle.tape_run.specs.CrashRuns.{Outlives}
-use Rattle.tape_run.specs.CrashRuns.{AreHistories, IsResumed, ResumedGoesOn}
-use Rattle.tape_run.specs.Listing.{OneListing, IsListing}
-use Rattle.tape_run.specs.Headline.{HasRun}
+use Rattle.tape_run.specs.CrashRuns.{Outlives, AreHistories, IsResumed, ResumedGoesOn}
 use Rattle.tape_run.specs.Mount.{MountEvent, IsMountOf, cut, reads}
-use Rattle.tape_run.specs.Noted.{noted_all, StandsIn}
-use Rattle.tape_run.specs.OneEntry.{HasOneEach, OneEntryASection}
-use Rattle.tape_run.specs.Passing.{Told, met_in}
 use Rattle.tape_run.specs.Runs.{RunsUpTo, OnlyRefusalsStop, IsRefusal}
-use Rattle.tape_run.specs.Seen.{Seen}
-use Rattle.tape_run.specs.Shown.{Shown, GoodAreShown}
 use Rattle.tape_run.specs.WholeReels.{WholeSetIsTold, GoodWasSeen, AreWholeCopies, IsToldWhole}
 use Rattle.tape_run.specs.WholeReels.{IsShownOn}
 use Rattle.tape_run.specs.WholeSet.{HasEach, AreAllGood, behind_copies, WholeVolumeIsGood}
@@ -54,8 +38,7 @@ pub record CasesOfRunLaws : Type 0 where
       → IsMountOf set (front ++ rest) h → (n : ℕ) × IsMountOf set front (cut n h)
   pub what_was_given : GivenIsHistory → (set : FileSet) (steps : List Step)
       (bytes given : List (List ℕ)) (left : List (Option (List ℕ))) (hs : List MountEvent)
-      → IsHistory set 0 steps bytes hs
-      → AreGivenBy (true ∷ false ∷ true ∷ []) bytes left given
+      → IsHistory set 0 steps bytes hs → AreGivenBy (true ∷ false ∷ true ∷ []) bytes left given
       → (others : List MountEvent) × IsHistory set 0 steps given others
   pub a_refusal : OnlyRefusalsStop → (which : List Bool) (old new : Seen) (steps : List Step)
       (bytes : List (List ℕ)) (left : List (Option (List ℕ))) (n : ℕ) (fault : RunFault)

@@ -1,33 +1,25 @@
 -- Examples for the definitions of a reel's answer, and of where the table leads over any tapes.
 -- They are the contract of the call `laws::cases`.
-use Rattle.std.specs.Prelude.{◌≡◌, ◌<◌, ◌≤◌, ◌+◌, ℕ, List, [], ◌∷◌, ◌++◌, length, take, drop}
-use Rattle.std.specs.Prelude.{codes, Option, Some, None, false}
+use Rattle.std.specs.Prelude.{◌≡◌, ◌<◌, ◌≤◌, ◌+◌, ℕ, List, [], ◌∷◌, ◌++◌, length, take, drop, codes}
+use Rattle.std.specs.Prelude.{Option, Some, None, false}
 use Rattle.std.specs.List.{AllByRecursion}
 use Rattle.tape_image.specs.Tape.{TapeItem, block, bad, mark}
 use Rattle.tape_image.specs.Begins.{Stop, Begins, Walks}
-use Rattle.tape_image.specs.Reader.{IfKnown}
-use Rattle.tape_image.specs.Step.{TakesEnd, TakesFault}
+use Rattle.tape_image.specs.{Reader.IfKnown, Step.TakesEnd, Step.TakesFault}
 use Rattle.tape_label.specs.declared.values.Format.TheVariants.{Spanned}
-use Rattle.tape_blocks.specs.Block.{Portion}
-use Rattle.tape_blocks.specs.Judged.{begun_behind}
+use Rattle.tape_blocks.specs.{Block.Portion, Judged.begun_behind}
 use Rattle.tape_set.specs.Lawful.{FileForm}
 use Rattle.tape_set.specs.declared.position.Position.{Position}
 use Rattle.tape_set.specs.declared.position.Position.TheVariants.{Awaits, Finished}
 use Rattle.tape_set.specs.Position.{start, awaiting, part_of, at_part}
 use Rattle.tape_core.specs.declared.event.Answer.TheVariants.{Passed, Deliver, Complete}
-use Rattle.tape_core.specs.declared.event.Phase.TheVariants.{Over}
-use Rattle.tape_core.specs.declared.sink.SinkFault.{SinkFault}
-use Rattle.tape_core.specs.Follows.{IsFinal}
-use Rattle.tape_core.specs.Place.{rest_of}
-use Rattle.tape_core.specs.Point.{Point}
-use Rattle.tape_core.specs.State.{State}
-use Rattle.tape_core.specs.Stands.{weight_of}
+use Rattle.tape_core.specs.declared.{event.Phase.TheVariants.Over, sink.SinkFault.SinkFault}
+use Rattle.tape_core.specs.{Follows.IsFinal, Place.rest_of, Point.Point, State.State}
+use Rattle.tape_core.specs.{Stands.weight_of, Weight.IsFront}
 use Rattle.tape_core.specs.Table.{step_of, mount_of, reader_of, saved}
-use Rattle.tape_core.specs.Weight.{IsFront}
-use Rattle.tape_run.specs.declared.reel_reader.ReelAnswer.{ReelAnswer}
-use Rattle.tape_run.specs.declared.fault.RunFault.{RunFault}
-use Rattle.tape_run.specs.declared.fault.RunFault.TheVariants.{Sink, OutOfMemory}
+use Rattle.tape_run.specs.declared.{reel_reader.ReelAnswer.ReelAnswer, fault.RunFault.RunFault}
 use Rattle.tape_run.specs.declared.script.Step.{Step}
+use Rattle.tape_run.specs.declared.fault.RunFault.TheVariants.{Sink, OutOfMemory}
 use Rattle.tape_run.specs.declared.script.Step.TheVariants.{Reel, Save, Restart}
 use Rattle.tape_run.specs.ByTable.{parts_from, parts_by, parts_at, delivered_parts, IsLed}
 use Rattle.tape_run.specs.ByTable.{StopsInside, IsCutAt}
@@ -37,8 +29,7 @@ use Rattle.tape_run.specs.Lead.{StopsBy}
 use Rattle.tape_run.specs.Reels.{Reads, ReadsReel, ReadsToBlock, EndedByItem, EndedByMedium}
 use Rattle.tape_run.specs.Reels.{EndedByFault, Leaves, StopsAt, GoesOn, answers_to, behind_items}
 use Rattle.tape_run.specs.Reels.{delivered_by}
-use Rattle.tape_run.specs.Seen.{Seen}
-use Rattle.tape_run.specs.Steps.{Reeled, CutShort}
+use Rattle.tape_run.specs.{Seen.Seen, Steps.Reeled, Steps.CutShort}
 use Rattle.tape_run.specs.WorkedHistory.{block_0, block_1, vol1, hdr1, hdr2, first}
 
 -- ---- what a reel answers
@@ -78,8 +69,7 @@ pub record CasesOfAnswers : Type 0 where
       → Leaves (Sink cause) core old left new → IfKnown old left (ReadsToBlock new core)
   -- the core's position is the refused part: the expected one or a later one
   pub stops_at_part : (core after new : State) → StopsAt (saved core 0) (saved after 0) new
-      → (part : ℕ) × (part_of core.position ≤ part)
-      × (new.position ≡ at_part part core.position)
+      → (part : ℕ) × (part_of core.position ≤ part) × (new.position ≡ at_part part core.position)
   pub to_block : (core new : State) (bytes left : List ℕ) (r : ReadsToBlock new core bytes left)
       → AllByRecursion GoesOn (answers_to core r.items)
       × ((step_of (behind_items core r.items) (Some (block r.content))).0 ≡ Deliver)

@@ -1,22 +1,18 @@
 -- Examples for the definitions of runs that stopped, as in Cases.
-use Rattle.std.specs.Prelude.{◌≡◌, ◌≤◌, ℕ, ◌+◌, List, [], ◌∷◌, length, slice_get, Option}
-use Rattle.std.specs.Prelude.{Some}
+use Rattle.std.specs.Prelude.{◌≡◌, ◌≤◌, ℕ, ◌+◌, List, [], ◌∷◌, length, slice_get, Option, Some}
 use Rattle.tape_image.specs.Tape.{TapeItem, block}
 use Rattle.tape_set.specs.Position.{at_part, next_block}
-use Rattle.tape_set.specs.Layout.{FileSet}
-use Rattle.tape_set.specs.Lawful.{IsLawful}
-use Rattle.tape_set.specs.Before.{before}
+use Rattle.tape_set.specs.{Layout.FileSet, Lawful.IsLawful, Before.before}
 use Rattle.tape_core.specs.declared.sink.SinkFault.{SinkFault}
 use Rattle.tape_core.specs.declared.sink.SinkFault.TheVariants as sinks
 use Rattle.tape_run.specs.declared.fault.RunFault.{RunFault}
 use Rattle.tape_run.specs.declared.fault.RunFault.TheVariants.{Sink, NoSuchPoint, TooFewReels}
 use Rattle.tape_run.specs.declared.fault.RunFault.TheVariants.{OutOfMemory, OtherFile}
 use Rattle.tape_run.specs.declared.script.Step.TheVariants.{Reel, Save, Restart}
-use Rattle.tape_run.specs.Given.{AreGivenBy, counted_up, failed_of}
+use Rattle.tape_run.specs.{Given.AreGivenBy, Given.counted_up, Given.failed_of, History.IsHistory}
+use Rattle.tape_run.specs.{History.course, History.course_of, Mount.MountEvent, Mount.after_mount}
+use Rattle.tape_run.specs.{Mount.cut, Seen.Seen, Seen.IsSession}
 use Rattle.tape_run.specs.Headline.{Ran, PutRefused, StopsStep, HasStopped, LosesParts, reels_in}
-use Rattle.tape_run.specs.History.{IsHistory, course, course_of}
-use Rattle.tape_run.specs.Mount.{MountEvent, after_mount, cut}
-use Rattle.tape_run.specs.Seen.{Seen, IsSession}
 
 -- runs that a fault ended
 pub record CasesOfStops : Type 0 where

@@ -3,18 +3,12 @@
 use Rattle.std.specs.Prelude.{◌≡◌, ◌≤◌, ◌⊎◌, ℕ, List, [], ◌∷◌, length, true, false}
 use Rattle.tape_blocks.specs.Block.{Portion}
 use Rattle.tape_set.specs.declared.position.Position.TheVariants.{Finished}
-use Rattle.tape_core.specs.Crash.{Crashes}
+use Rattle.tape_core.specs.{Crash.Crashes, Place.rest_of, Point.Point, Stands.weight_of}
+use Rattle.tape_core.specs.{Table.saved, Weight.IsFront}
 use Rattle.tape_core.specs.declared.sink.PartSink.{Ghosts}
-use Rattle.tape_core.specs.Place.{rest_of}
 use Rattle.tape_run.specs.Crash.{IsNoteOf, BringsLast, KeepsLast, LeavesSaved, is_saved}
-use Rattle.tape_run.specs.Reeling.{StoodSaved}
-use Rattle.tape_run.specs.Seen.{Seen}
+use Rattle.tape_run.specs.{Reeling.StoodSaved, Seen.Seen, SessionState.SessionState}
 use Rattle.tape_run.specs.declared.script.Step.TheVariants.{Reel, Save, Restart}
-use Rattle.tape_core.specs.Point.{Point}
-use Rattle.tape_run.specs.SessionState.{SessionState}
-use Rattle.tape_core.specs.Stands.{weight_of}
-use Rattle.tape_core.specs.Table.{saved}
-use Rattle.tape_core.specs.Weight.{IsFront}
 
 -- a sink that contains any parts, and of which a crash leaves one checkpoint and these parts
 abbrev pub brings : List Portion → Point → Point → List Portion → Type 0
@@ -73,8 +67,7 @@ pub record CasesOfSaved : Type 0 where
   pub brings_nothing : (s : Seen) → BringsLast (λ back there. ⊥) s
   -- the checkpoint that was made meanwhile is left
   pub noted_on_the_way : (old new : SessionState Point) (held now ps : List Portion) (c : Point)
-      → old.notes ≡ [] → new.notes ≡ c ∷ []
-      → KeepsLast (weighing (comes_now ps)) old held new now
+      → old.notes ≡ [] → new.notes ≡ c ∷ [] → KeepsLast (weighing (comes_now ps)) old held new now
       → (new.sink ≡ c) × IsFront ps now
   -- if no checkpoint was made, the only one left before is still left
   pub none_on_the_way : (old new : SessionState Point) (held now ps : List Portion) (c : Point)
@@ -91,24 +84,21 @@ pub record CasesOfSaved : Type 0 where
       → weight_of ps ≡ c.staged → t ≤ old.sink.file
       → KeepsLast (weighing (comes_since ps)) old held new now → new.sink ≡ c
   pub survived : (old new : SessionState Point) (held now : List Portion) (t : ℕ)
-      → t ≤ old.sink.file
-      → KeepsLast (weighing (comes_since [])) old held new now
+      → t ≤ old.sink.file → KeepsLast (weighing (comes_since [])) old held new now
       → old.sink.position ≡ Finished → new.sink.position ≡ Finished
   pub goes_on : (old new : SessionState Point) (held now : List Portion)
       → KeepsLast (weighing (comes_since [])) old held new now
       → (length old.notes ≤ length new.notes) × (old.sink.file ≤ new.sink.file)
   -- a session at this position may be left, and its sink contains these parts
   pub stood : (old new : SessionState Point) (held ps : List Portion) (now : Seen) (c : Point)
-      → old.notes ≡ [] → now.notes ≡ c ∷ []
-      → StoodSaved (weighing (comes_now ps)) old held
+      → old.notes ≡ [] → now.notes ≡ c ∷ [] → StoodSaved (weighing (comes_now ps)) old held
       new now
       → (new.sink ≡ c) × (now.place ≡ rest_of new.core)
       × IsFront ps now.parts × (c.staged ≡ weight_of now.parts)
   -- after a fault only the checkpoint made meanwhile, or the session's position, may be left
   pub left_at_a_fault : (old new : SessionState Point) (held ps : List Portion) (now : Seen)
       (c : Point)
-      → old.notes ≡ [] → now.notes ≡ c ∷ []
-      → LeavesSaved (weighing (comes_now ps)) old held
+      → old.notes ≡ [] → now.notes ≡ c ∷ [] → LeavesSaved (weighing (comes_now ps)) old held
       now new
       → ((new.sink ≡ c) × IsFront ps now.parts)
       ⊎ ((new.sink.staged ≡ weight_of ps) × IsFront now.parts ps
@@ -126,8 +116,7 @@ pub record CasesOfSaved : Type 0 where
       → IsFront ps held → weight_of ps ≡ c.staged → t ≤ old.sink.file
       → LeavesSaved (holding_none (comes_since ps)) old held now new → new.sink ≡ c
   pub survived_a_fault : (old new : SessionState Point) (held : List Portion) (now : Seen) (t : ℕ)
-      → t ≤ old.sink.file
-      → LeavesSaved (holding_none (comes_since [])) old held now new
+      → t ≤ old.sink.file → LeavesSaved (holding_none (comes_since [])) old held now new
       → old.sink.position ≡ Finished → new.sink.position ≡ Finished
   pub no_fewer_at_a_fault : (old new : SessionState Point) (held : List Portion) (now : Seen)
       → LeavesSaved (holding_none (comes_since [])) old held now new

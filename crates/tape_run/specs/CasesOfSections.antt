@@ -2,20 +2,15 @@
 -- of the call `laws::cases`.
 use Rattle.std.specs.Prelude.{◌≡◌, ℕ, true, false, List, [], ◌∷◌, ◌++◌, Option, IfSome}
 use Rattle.std.specs.Io.KnownBytes.{Appends}
-use Rattle.tape_image.specs.Begins.{Walks}
+use Rattle.tape_image.specs.{Begins.Walks, Written.AppendsFront}
 use Rattle.tape_set.specs.Layout.{FileSet, Placed}
+use Rattle.tape_run.specs.declared.section.{SectionKey.SectionKey, SectionLine.SectionLine}
 use Rattle.tape_run.specs.declared.passing.Phase.TheVariants.{Volume}
-use Rattle.tape_run.specs.declared.section.SectionKey.{SectionKey}
-use Rattle.tape_run.specs.declared.section.SectionLine.{SectionLine}
 use Rattle.tape_run.specs.declared.section.SectionState.TheVariants.{Good, Bad, Cut}
-use Rattle.tape_run.specs.Added.{AddsInPart}
-use Rattle.tape_run.specs.CasesOfCatalogues.{met, lack}
-use Rattle.tape_run.specs.Lacks.{IsGoodAt, lacks}
-use Rattle.tape_run.specs.Noted.{noted, noted_all}
-use Rattle.tape_image.specs.Written.{AppendsFront}
-use Rattle.tape_run.specs.Passing.{Told, told_from}
-use Rattle.tape_run.specs.WholeReels.{IsListedGood}
-use Rattle.tape_run.specs.WholeSet.{AreAllGood, key_in}
+use Rattle.tape_run.specs.{Added.AddsInPart, CasesOfCatalogues.met, CasesOfCatalogues.lack}
+use Rattle.tape_run.specs.{Lacks.IsGoodAt, Lacks.lacks, Noted.noted, Noted.noted_all, Passing.Told}
+use Rattle.tape_run.specs.{Passing.told_from, WholeReels.IsListedGood, WholeSet.AreAllGood}
+use Rattle.tape_run.specs.WholeSet.{key_in}
 
 -- single sections
 pub record CasesOfSections : Type 0 where

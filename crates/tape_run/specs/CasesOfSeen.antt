@@ -1,14 +1,10 @@
 -- Examples for the definitions about sessions with known parts, and about readers that know their
 -- bytes. They are the contract of the call `laws::cases`.
-use Rattle.std.specs.Prelude.{◌≡◌, ◌⊎◌, ◌≤◌, ℕ, ◌+◌, List, [], ◌∷◌, length, ⊤, Bool, false}
-use Rattle.std.specs.Prelude.{Some, None}
+use Rattle.std.specs.Prelude.{◌≡◌, ◌⊎◌, ◌≤◌, ℕ, ◌+◌, List, [], ◌∷◌, length, ⊤, Bool, false, Some}
+use Rattle.std.specs.Prelude.{None}
 use Rattle.tape_blocks.specs.Block.{Portion}
-use Rattle.tape_core.specs.Crash.{lost}
-use Rattle.tape_core.specs.Place.{rest_of}
-use Rattle.tape_core.specs.Point.{Point}
-use Rattle.tape_core.specs.Weight.{Rose}
-use Rattle.tape_core.specs.declared.sink.PartSink.{Ghosts}
-use Rattle.tape_core.specs.declared.sink.SinkFault.{SinkFault}
+use Rattle.tape_core.specs.{Crash.lost, Place.rest_of, Point.Point, Weight.Rose}
+use Rattle.tape_core.specs.declared.sink.{PartSink.Ghosts, SinkFault.SinkFault}
 use Rattle.tape_core.specs.declared.sink.SinkFault.TheVariants.{Device, Full, Failed}
 use Rattle.tape_run.specs.declared.fault.RunFault.TheVariants.{Sink, NoSuchPoint, TooFewReels}
 use Rattle.tape_run.specs.declared.fault.RunFault.TheVariants.{OutOfMemory, OtherFile}
@@ -16,14 +12,12 @@ use Rattle.tape_run.specs.declared.fault.EngineFault.TheVariants as engine
 use Rattle.tape_run.specs.Causes.{ExtractFails, ReadingFails, RefusesAny, IsCalm}
 use Rattle.tape_run.specs.CasesOfSaves.{comes_now, weighing, holding_none}
 use Rattle.tape_run.specs.Crash.{BringsNoMore, IsWalked, KeepsLast}
-use Rattle.tape_run.specs.Given.{IfTold}
-use Rattle.tape_run.specs.Reeling.{Carries, IsKeptFor}
+use Rattle.tape_run.specs.{Given.IfTold, Reeling.Carries, Reeling.IsKeptFor, Runs.RefusesStep}
+use Rattle.tape_run.specs.{Runs.StopsFor, SessionState.SessionState}
 use Rattle.tape_run.specs.Seen.{Seen, seen, IsKept, IfSeen, IsSeen, IsSeenUnless}
-use Rattle.tape_run.specs.Runs.{RefusesStep, StopsFor}
 use Rattle.tape_run.specs.Steps.{IsRefused, Refuses, RefusesRestart}
 use Rattle.tape_run.specs.declared.fault.RunFault.{RunFault}
 use Rattle.tape_run.specs.declared.script.Step.TheVariants.{Reel, Save, Restart}
-use Rattle.tape_run.specs.SessionState.{SessionState}
 
 -- a sink that consists of a number: it contains any list of as many parts, and has refused as many
 -- calls, each with Device
@@ -68,8 +62,7 @@ pub record CasesOfSeen : Type 0 where
   -- a session changes from its earlier state to its current one, with its checkpoints and the last
   -- of them
   pub carried : (back : Bool) (old new : SessionState Point) → old.sink.staged ≡ 0
-      → new.sink.staged ≡ 0
-      → IsKeptFor back (seen (weighing (comes_now [])) old [])
+      → new.sink.staged ≡ 0 → IsKeptFor back (seen (weighing (comes_now [])) old [])
       → Carries (weighing (comes_now [])) back old new
       (λ was is. is.place.file ≡ was.place.file + 1) → (new.core.file ≡ old.core.file + 1)
       × ((is : Seen) × IsKeptFor back is × (is.place ≡ rest_of new.core)
@@ -88,8 +81,7 @@ pub record CasesOfSeen : Type 0 where
       → (old ≡ 7) × (cause ≡ Device) × Rose old new
   pub no_memory : (old new : SessionState ℕ) → Refuses counting OutOfMemory old new → new ≡ old
   pub no_other_fault : (old new : SessionState ℕ) → (Refuses counting NoSuchPoint old new → ⊥)
-      × (Refuses counting TooFewReels old new → ⊥)
-      × (Refuses counting OtherFile old new → ⊥)
+      × (Refuses counting TooFewReels old new → ⊥) × (Refuses counting OtherFile old new → ⊥)
   -- a session does not roll back because the sink refused the call, or weighs too little, which is
   -- only possible if its contents are unknown
   pub back_refused : (cause : SinkFault) (n : ℕ) (old new : SessionState ℕ)
@@ -129,16 +121,14 @@ pub record CasesOfSeen : Type 0 where
   pub noted : (back : Bool) (c : Point) (old new : SessionState ℕ) → old.notes ≡ c ∷ []
       → ReadingFails counting back (engine.Run NoSuchPoint) old new → ⊥
   pub goes_on : (old new : SessionState ℕ)
-      → ReadingFails counting false (engine.Run NoSuchPoint) old new
-      → ⊥
+      → ReadingFails counting false (engine.Run NoSuchPoint) old new → ⊥
   pub no_other_end : (back : Bool) (old new : SessionState ℕ)
       → (ReadingFails counting back (engine.Run TooFewReels) old new → ⊥)
       × (ReadingFails counting back (engine.Run OtherFile) old new → ⊥)
   -- no call was refused
   pub none_refused : (old new : SessionState ℕ) → IsCalm counting old new → (new.sink ≡ old.sink)
       × (new.notes ≡ [] → old.notes ≡ []) × ((held : List Portion) → length held ≡ old.sink
-      → IsKept (seen counting old held)
-      → IsSeen counting new (λ is. IsKept is))
+      → IsKept (seen counting old held) → IsSeen counting new (λ is. IsKept is))
   -- only the sink of a session may differ, and it has the same contents
   pub walked : (old new : SessionState Point) (ps : List Portion) → old.sink.staged ≡ 0
       → IsWalked (weighing (comes_now ps)) old new → (new.core ≡ old.core)

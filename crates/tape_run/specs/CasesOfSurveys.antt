@@ -1,48 +1,38 @@
 -- Examples for the definitions of surveys. They are the contract of the call `laws::cases`.
-use Rattle.std.specs.Prelude.{◌≡◌, ◌≢◌, ◌++◌, ◌+◌, ◌&&◌, length, ℕ, Bool, true, false}
-use Rattle.std.specs.Prelude.{List, [], ◌∷◌, replicate, Option, Some, None, Ok, Err, codes, decimal}
-use Rattle.std.specs.List.{AllByRecursion}
-use Rattle.std.specs.Io.KnownBytes.{Appends}
+use Rattle.std.specs.Prelude.{◌≡◌, ◌≢◌, ◌++◌, ◌+◌, ◌&&◌, length, ℕ, Bool, true, false, List, []}
+use Rattle.std.specs.Prelude.{◌∷◌, replicate, Option, Some, None, Ok, Err, codes, decimal}
+use Rattle.std.specs.{List.AllByRecursion, Io.KnownBytes.Appends}
 use Rattle.tape_image.specs.declared.item.ImageFault.{ImageFault}
 use Rattle.tape_image.specs.Tape.{TapeItem, block, bad, mark}
+use Rattle.tape_label.specs.declared.values.{Head1.Head1, Head2.Head2}
 use Rattle.tape_label.specs.declared.label.LabelFault.{LabelFault}
 use Rattle.tape_label.specs.declared.values.Kind.TheVariants as kinds
-use Rattle.tape_label.specs.declared.values.Head1.{Head1}
-use Rattle.tape_label.specs.declared.values.Head2.{Head2}
-use Rattle.tape_label.specs.Kinds.{HasKind}
-use Rattle.tape_label.specs.Vol1.{IsVol1}
-use Rattle.tape_label.specs.Head1.{IsHead1}
-use Rattle.tape_label.specs.Trail1.{IsTrail1}
+use Rattle.tape_label.specs.{Kinds.HasKind, Vol1.IsVol1, Head1.IsHead1, Trail1.IsTrail1}
 use Rattle.tape_label.specs.VolumeLabels.{is_volume_label}
-use Rattle.tape_run.specs.declared.met.Met.{Met}
-use Rattle.tape_run.specs.declared.passing.Phase.{Phase}
+use Rattle.tape_run.specs.declared.section.{ImageStop.ImageStop, SectionKey.SectionKey}
+use Rattle.tape_run.specs.declared.survey.course.{ExpectedItem.ExpectedItem, LabelOrder.LabelOrder}
+use Rattle.tape_run.specs.declared.survey.{dates.Date.Date, files.FileKey.FileKey}
+use Rattle.tape_run.specs.declared.survey.{tally.Tally.Tally, Wording.Wording}
+use Rattle.tape_run.specs.declared.survey.view.ImageSurvey.{ImageSurvey}
+use Rattle.tape_run.specs.declared.{met.Met.Met, passing.Phase.Phase}
 use Rattle.tape_run.specs.declared.passing.Phase.TheVariants as phases
-use Rattle.tape_run.specs.declared.section.ImageStop.{ImageStop}
 use Rattle.tape_run.specs.declared.section.ImageStop.TheVariants.{Marked, Physical, Fault}
 use Rattle.tape_run.specs.declared.section.SectionState.TheVariants.{Good, Bad}
-use Rattle.tape_run.specs.declared.section.SectionKey.{SectionKey}
-use Rattle.tape_run.specs.declared.survey.dates.Date.{Date}
-use Rattle.tape_run.specs.declared.survey.files.FileKey.{FileKey}
 use Rattle.tape_run.specs.declared.survey.glance.First.TheVariants as firsts
-use Rattle.tape_run.specs.declared.survey.course.ExpectedItem.{ExpectedItem}
 use Rattle.tape_run.specs.declared.survey.course.ExpectedItem.TheVariants as wanted
-use Rattle.tape_run.specs.declared.survey.course.LabelOrder.{LabelOrder}
-use Rattle.tape_run.specs.declared.survey.course.LabelOrder.TheVariants.{Follows, Blank, Ended, Leaves}
+use Rattle.tape_run.specs.declared.survey.course.LabelOrder.TheVariants.{Follows, Blank, Ended}
+use Rattle.tape_run.specs.declared.survey.course.LabelOrder.TheVariants.{Leaves}
 use Rattle.tape_run.specs.declared.survey.sets.Standing.TheVariants.{Complete, Damaged, Behind}
 use Rattle.tape_run.specs.declared.survey.sets.Standing.TheVariants.{Missing}
 use Rattle.tape_run.specs.declared.survey.line.ImageState.TheVariants as states
-use Rattle.tape_run.specs.declared.survey.tally.Tally.{Tally}
-use Rattle.tape_run.specs.declared.survey.Wording.{Wording}
 use Rattle.tape_run.specs.declared.survey.Wording.TheVariants.{Words, Rows}
-use Rattle.tape_run.specs.declared.survey.view.ImageSurvey.{ImageSurvey}
-use Rattle.tape_run.specs.CasesOfCatalogues.{met}
-use Rattle.tape_run.specs.CasesOfExtracts.{Known, Readers}
-use Rattle.tape_run.specs.Dates.{date_of, date_text}
-use Rattle.tape_run.specs.Noted.{noted_all}
-use Rattle.tape_image.specs.Written.{AppendsFront}
-use Rattle.tape_run.specs.Passing.{met_in, Told}
-use Rattle.tape_run.specs.Reeling.{Took}
-use Rattle.tape_run.specs.SurveyConflicts.{TellsDispute, all_placed}
+use Rattle.tape_run.specs.{CasesOfCatalogues.met, CasesOfExtracts.Known, CasesOfExtracts.Readers}
+use Rattle.tape_run.specs.{Dates.date_of, Dates.date_text, Noted.noted_all, Passing.met_in}
+use Rattle.tape_run.specs.{Passing.Told, Reeling.Took, SurveyConflicts.TellsDispute}
+use Rattle.tape_run.specs.{SurveyConflicts.all_placed, SurveyLine.trimmed_text}
+use Rattle.tape_run.specs.{SurveyLine.dispute_text, Added.StopsBehind, SurveySets.standing_of}
+use Rattle.tape_run.specs.SurveySets.{is_all}
+use Rattle.tape_image.specs.{Written.AppendsFront, Reader.IfKnown}
 use Rattle.tape_run.specs.SurveyCopies.{Copied, no_copies, copied_in, disputed, disputed_on}
 use Rattle.tape_run.specs.SurveyFiles.{filed_in, Filed, is_other, with_head, note_at, file_key}
 use Rattle.tape_run.specs.SurveyGlance.{glance_of, blank_glance, first_of, is_ebcdic, course_with}
@@ -51,18 +41,13 @@ use Rattle.tape_run.specs.SurveyGlance.{damages_in}
 use Rattle.tape_run.specs.SurveyLaws.{course_of, has_left, end_marks, IsSectionInOrder, IsBegun}
 use Rattle.tape_run.specs.SurveyLaws.{IsVolumeInOrder, IsFirstAstray, LeavesThere, EndedIsVolume}
 use Rattle.tape_run.specs.SurveyGaps.{is_found, gap_first, gap_text, numbers_line}
-use Rattle.tape_run.specs.SurveyWording.{found_text, file_text}
-use Rattle.tape_run.specs.SurveyWording.{image_text, sections_text, end_text}
-use Rattle.tape_run.specs.SurveyLine.{trimmed_text, dispute_text}
+use Rattle.tape_run.specs.SurveyWording.{found_text, file_text, image_text, sections_text, end_text}
 use Rattle.tape_run.specs.SurveyRows.{section_row, sight_cells, eof_cell, standing_cells}
 use Rattle.tape_run.specs.SurveyRows.{conflict_cell, whole_cell}
 use Rattle.tape_run.specs.Lacks.{good_end, entry_at, key_at, line_of}
 use Rattle.tape_run.specs.SurveyLocations.{Located, with_location, located_in, next_image}
-use Rattle.tape_image.specs.Reader.{IfKnown}
-use Rattle.tape_run.specs.Added.{StopsBehind}
 use Rattle.tape_run.specs.SurveyRead.{Found, nothing_found, IsViewed, AreViewed}
 use Rattle.tape_run.specs.SurveyTally.{is_whole_sight, no_images, state_at, state_by, tally_line}
-use Rattle.tape_run.specs.SurveySets.{standing_of, is_all}
 use Rattle.tape_run.specs.Survey.{image_texts, survey_text, Surveys, SurveysFront}
 
 -- an image that was read this far and ended like this, with or without a file in an unsupported
@@ -326,8 +311,7 @@ pub record CasesOfSurveys : Type 0 where
       (all : Bool) (s : Surveys y Took (λ r. r) names shelf left old new all)
       → (length s.sights ≡ length names)
       × AreViewed Took (λ r. r) shelf 0 s.sights nothing_found left s.found
-      × Appends old new (survey_text y names s.sights s.found)
-      × (all ≡ is_all s.found)
+      × Appends old new (survey_text y names s.sights s.found) × (all ≡ is_all s.found)
   -- after a fault a prefix of the survey of all images was written, if anything was
   pub surveyed_in_part : (y : Wording) (names : List (List ℕ)) (shelf left : Readers)
       (old new : Known) (s : SurveysFront y Took (λ r. r) names shelf left old new)

@@ -3,25 +3,19 @@ use Rattle.std.specs.Prelude.{◌≡◌, ◌≢◌, ℕ, ◌<◌, ◌^◌, List,
 use Rattle.std.specs.Prelude.{is_some, ◌||◌, ◌==◌, nat_lt, Some, None, codes, map, replicate, chars}
 use Rattle.std.specs.Prelude.{IsUtf8}
 use Rattle.std.specs.List.{AllByRecursion, flat_map}
-use Rattle.tape_label.specs.declared.values.Head1.{Head1}
+use Rattle.tape_label.specs.declared.values.{Head1.Head1, Vol1.Vol1}
 use Rattle.tape_set.specs.declared.position.Want.{Want}
-use Rattle.tape_label.specs.declared.values.Vol1.{Vol1}
 use Rattle.tape_run.specs.declared.survey.glance.First.TheVariants.{Volume}
-use Rattle.tape_run.specs.declared.survey.view.ImageSurvey.{ImageSurvey}
-use Rattle.tape_run.specs.declared.survey.files.FileNote.{FileNote}
-use Rattle.tape_run.specs.declared.unpack.SetFile.{SetFile}
-use Rattle.tape_run.specs.declared.unpack.FoundFiles.{FoundFiles}
+use Rattle.tape_run.specs.declared.survey.{view.ImageSurvey.ImageSurvey, files.FileNote.FileNote}
+use Rattle.tape_run.specs.declared.unpack.{SetFile.SetFile, FoundFiles.FoundFiles}
 use Rattle.tape_run.specs.declared.unpack.line.Notice.TheVariants as notices
 use Rattle.tape_run.specs.declared.unpack.line.UnpackOutcome.TheVariants as outcomes
-use Rattle.tape_run.specs.CasesOfExtracts.{Readers}
+use Rattle.tape_run.specs.{CasesOfExtracts.Readers, Lacks.key_at, Reeling.Took}
+use Rattle.tape_run.specs.{SurveyCopies.dispute_at, SurveyLocations.Located}
 use Rattle.tape_run.specs.Quoting.{is_hidden, name_text, quoted}
 use Rattle.tape_run.specs.QuotingLaws.{NamesShow, NamesTellApart, NamesKeep}
-use Rattle.tape_run.specs.Lacks.{key_at}
 use Rattle.tape_run.specs.ReadingOrder.{followed_by, section_images, images_of, is_of_set}
-use Rattle.tape_run.specs.Reeling.{Took}
-use Rattle.tape_run.specs.SurveyCopies.{dispute_at}
 use Rattle.tape_run.specs.SurveyFiles.{note_at, file_key}
-use Rattle.tape_run.specs.SurveyLocations.{Located}
 use Rattle.tape_run.specs.SurveyRead.{Found, nothing_found, AreViewed}
 use Rattle.tape_run.specs.Unpacking.{file_at, set_files, files_of, file_name, FilesOn, set_of}
 use Rattle.tape_run.specs.Unpacking.{is_passed, is_read, volume_of}
@@ -92,8 +86,7 @@ pub record CasesOfUnpacking : Type 0 where
   pub shows : NamesShow → (name : List ℕ) → IsUtf8 name
       → AllByRecursion (λ c. is_hidden c ≡ false) (chars (name_text name))
   pub keeps : NamesKeep → (name : List ℕ) → IsUtf8 name
-      → AllByRecursion (λ c. (is_hidden c ≡ false) × (c ≢ 92)) (chars name)
-      → name_text name ≡ name
+      → AllByRecursion (λ c. (is_hidden c ≡ false) × (c ≢ 92)) (chars name) → name_text name ≡ name
   -- lines
   pub line : file_line (codes "ABC001") 1 outcomes.Complete (codes " 25")
       (codes "out/ABC001.1.PAYROLL")

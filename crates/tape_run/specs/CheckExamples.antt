@@ -2,10 +2,8 @@
 use Rattle.std.specs.Prelude.{◌≡◌, true, false, [], ◌∷◌, ◌++◌, codes, Option, Some, None}
 use Rattle.tape_image.specs.declared.item.ImageCause.TheVariants.{Truncated}
 use Rattle.tape_run.specs.declared.section.ImageStop.TheVariants.{Marked, Physical, Fault}
-use Rattle.tape_run.specs.declared.section.ImageLine.{ImageLine}
+use Rattle.tape_run.specs.declared.section.{ImageLine.ImageLine, SectionLine.SectionLine, Lack.Lack}
 use Rattle.tape_run.specs.declared.section.SectionState.TheVariants.{Good, Bad, Count, Cut}
-use Rattle.tape_run.specs.declared.section.SectionLine.{SectionLine}
-use Rattle.tape_run.specs.declared.section.Lack.{Lack}
 use Rattle.tape_run.specs.CheckLine.{image_line, image_lines, stop_text, section_line, lack_line}
 use Rattle.tape_run.specs.CheckLine.{state_text}
 use Rattle.tape_run.specs.Checked.{summary_of}

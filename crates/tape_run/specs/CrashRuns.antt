@@ -2,21 +2,14 @@
 use Rattle.std.specs.Prelude.{Bool, ◌≡◌, ◌⊎◌, ℕ, List, [], ◌∷◌, ◌++◌, length, map, Some, slice_get}
 use Rattle.std.specs.Prelude.{Option}
 use Rattle.tape_blocks.specs.Block.{Portion}
-use Rattle.tape_set.specs.Layout.{FileSet}
-use Rattle.tape_set.specs.Lawful.{IsLawful}
-use Rattle.tape_set.specs.Before.{before}
+use Rattle.tape_set.specs.{Layout.FileSet, Lawful.IsLawful, Before.before}
 use Rattle.tape_set.specs.declared.position.Position.{Position}
 use Rattle.tape_core.specs.Crash.{Returns, OnlyThis}
-use Rattle.tape_core.specs.Point.{Point}
-use Rattle.tape_core.specs.Place.{place_of}
-use Rattle.tape_core.specs.Stands.{Stands}
-use Rattle.tape_run.specs.Mount.{MountEvent}
+use Rattle.tape_core.specs.{Point.Point, Place.place_of, Stands.Stands}
+use Rattle.tape_run.specs.{Mount.MountEvent, Given.AreGivenBy, Headline.HasRun, Crash.StoodAt}
 use Rattle.tape_run.specs.declared.script.Step.{Step}
 use Rattle.tape_run.specs.Seen.{Seen, IsSession}
 use Rattle.tape_run.specs.History.{Course, course, course_of, IsHistory}
-use Rattle.tape_run.specs.Given.{AreGivenBy}
-use Rattle.tape_run.specs.Headline.{HasRun}
-use Rattle.tape_run.specs.Crash.{StoodAt}
 
 -- the position of the history, or one of its checkpoints
 abbrev pub IsPlaceOf : Course → Position → Type 0
@@ -67,8 +60,7 @@ abbrev pub Outlives : Point → List Portion → List CrashRun → Point → Lis
 Outlives c ps [] back there = (back ≡ c) × (there ≡ ps)
 Outlives c ps (life ∷ lives) back there =
     IsResumed c ps life.began
-    × ((mid : Point) × (front : List Portion)
-    × (((mid ≡ c) × (front ≡ ps))
+    × ((mid : Point) × (front : List Portion) × (((mid ≡ c) × (front ≡ ps))
     ⊎ ComesBack life.began life.steps life.done life.bytes life.left life.given mid front)
     × Outlives mid front lives back there)
 

@@ -21,8 +21,7 @@ february year = if is_leap year then 29 else 28
 
 -- the number of days of each month
 abbrev pub months : ℕ → List ℕ
-months year =
-    31 ∷ february year ∷ 31 ∷ 30 ∷ 31 ∷ 30 ∷ 31 ∷ 31 ∷ 30 ∷ 31 ∷ 30 ∷ 31 ∷ []
+months year = 31 ∷ february year ∷ 31 ∷ 30 ∷ 31 ∷ 30 ∷ 31 ∷ 31 ∷ 30 ∷ 31 ∷ 30 ∷ 31 ∷ []
 
 -- a day, counted from the first one of the last months of a year, which have these numbers of days
 abbrev pub in_months : List ℕ → ℕ → ℕ → Option Date

@@ -4,8 +4,7 @@ use Rattle.tape_image.specs.declared.item.ImageCause.TheVariants.{Truncated}
 use Rattle.tape_blocks.specs.declared.parts.Span.TheVariants.{Whole, First, Middle, Last}
 use Rattle.tape_blocks.specs.Block.{Portion}
 use Rattle.tape_set.specs.declared.position.Want.{Want}
-use Rattle.tape_core.specs.declared.event.Answer.TheVariants.{Useless}
-use Rattle.tape_core.specs.declared.event.Reason.TheVariants.{ReelEnded}
+use Rattle.tape_core.specs.declared.event.{Answer.TheVariants.Useless, Reason.TheVariants.ReelEnded}
 use Rattle.tape_run.specs.declared.reel_reader.ReelAnswer.{ReelAnswer}
 use Rattle.tape_blocks.specs.declared.parts.Form.TheVariants.{Lines, Raw}
 use Rattle.tape_run.specs.RecordText.{output_of}

@@ -1,37 +1,22 @@
 -- What `unpack` leaves for a complete file, if an image is read once for all of its files.
-use Rattle.std.specs.Prelude.{◌≡◌, ◌≢◌, ◌⊎◌, ℕ, ◌<◌, Bool, true, false, List, [], ◌∷◌, ◌++◌}
-use Rattle.std.specs.Prelude.{Option, Some, None, IsSome, is_some, ⊤}
+use Rattle.std.specs.Prelude.{◌≡◌, ◌≢◌, ◌⊎◌, ℕ, ◌<◌, Bool, true, false, List, [], ◌∷◌, ◌++◌, Option}
+use Rattle.std.specs.Prelude.{Some, None, IsSome, is_some, ⊤}
 use Rattle.std.specs.Map.{lookup}
 use Rattle.tape_blocks.specs.Block.{Portion}
 use Rattle.tape_blocks.specs.declared.parts.Form.{Form}
 use Rattle.tape_image.specs.Begins.{Stop, Begins, Walks}
-use Rattle.tape_image.specs.Reader.{IfKnown}
-use Rattle.tape_image.specs.Tape.{TapeItem}
-use Rattle.tape_set.specs.Layout.{FileSet}
-use Rattle.tape_set.specs.Lawful.{IsLawful}
+use Rattle.tape_image.specs.{Reader.IfKnown, Tape.TapeItem}
+use Rattle.tape_set.specs.{Layout.FileSet, Lawful.IsLawful}
 use Rattle.tape_set.specs.declared.position.Position.{Position}
 use Rattle.tape_set.specs.declared.position.Position.TheVariants.{Awaits, Finished}
-use Rattle.tape_core.specs.Known.{is_finished}
-use Rattle.tape_core.specs.Place.{IsPlaced}
-use Rattle.tape_core.specs.State.{State}
-use Rattle.tape_core.specs.Table.{mount_of}
-use Rattle.tape_core.specs.declared.event.Phase.TheVariants.{Broken}
-use Rattle.tape_core.specs.declared.sink.PartSink.{Ghosts}
-use Rattle.tape_run.specs.ByTable.{IsLed}
-use Rattle.tape_run.specs.Crash.{IsWalked}
-use Rattle.tape_run.specs.ExtractingNow.{IsPut}
-use Rattle.tape_run.specs.Given.{IsGiven}
-use Rattle.tape_run.specs.GoesBehind.{PassedOver}
-use Rattle.tape_run.specs.Lead.{Lead, over_reel}
-use Rattle.tape_run.specs.Lacks.{key_at}
-use Rattle.tape_run.specs.Mount.{MountEvent, IsMount, after_mount}
-use Rattle.tape_run.specs.Noted.{same_key}
-use Rattle.tape_run.specs.Reeling.{Mounting}
-use Rattle.tape_run.specs.Seen.{Seen, IfSeen, IsSeen}
-use Rattle.tape_run.specs.SessionState.{SessionState}
-use Rattle.tape_run.specs.SurveyLocations.{Located}
-use Rattle.tape_run.specs.declared.extract.located.Mounted.{Mounted}
-use Rattle.tape_run.specs.declared.survey.files.FileKey.{FileKey}
+use Rattle.tape_core.specs.{Known.is_finished, Place.IsPlaced, State.State, Table.mount_of}
+use Rattle.tape_core.specs.declared.{event.Phase.TheVariants.Broken, sink.PartSink.Ghosts}
+use Rattle.tape_run.specs.{ByTable.IsLed, Crash.IsWalked, ExtractingNow.IsPut, Given.IsGiven}
+use Rattle.tape_run.specs.{GoesBehind.PassedOver, Lead.Lead, Lead.over_reel, Lacks.key_at}
+use Rattle.tape_run.specs.{Mount.MountEvent, Mount.IsMount, Mount.after_mount, Noted.same_key}
+use Rattle.tape_run.specs.{Reeling.Mounting, Seen.Seen, Seen.IfSeen, Seen.IsSeen}
+use Rattle.tape_run.specs.{SessionState.SessionState, SurveyLocations.Located}
+use Rattle.tape_run.specs.declared.{extract.located.Mounted.Mounted, survey.files.FileKey.FileKey}
 
 -- ---- an image that stays open
 
@@ -93,8 +78,7 @@ abbrev pub AreTapesOf : List Stretch → List (List ℕ) → List (List TapeItem
 AreTapesOf [] [] [] = ⊤
 AreTapesOf (s ∷ ss) (g ∷ given) (xs ∷ tapes) = IsSome s.whole
     × ((more : List TapeItem) × (end : ℕ) × (stop : Stop) × Begins 0 g more end stop
-    × (xs ≡ s.front ++ more))
-    × AreTapesOf ss given tapes
+    × (xs ≡ s.front ++ more)) × AreTapesOf ss given tapes
 AreTapesOf ss given tapes = ⊥
 
 -- The tapes are these mounts: copies of the set's volumes, or reels of other sets.
@@ -172,8 +156,7 @@ pub record ReadsPart {S R : Type 0} (g : Ghosts S) (remaining : R → Option (Li
 -- A stretch was read from the open image, or from the image with this number, which the source
 -- yielded. Or that image cannot be opened, and nothing changed.
 abbrev pub ReadsLocated : {S L R : Type 0} → Ghosts S → Mounting L R → (R → Option (List ℕ)) → ℕ
-    → SessionState S → SessionState S → L → L → Bool → Option (List ℕ) → Option (Mounted R)
-    → Type 0
+    → SessionState S → SessionState S → L → L → Bool → Option (List ℕ) → Option (Mounted R) → Type 0
 ReadsLocated g gives remaining image old new shelf left opened whole after =
     ((opened ≡ true) × (left ≡ shelf) × ReadsPart g remaining whole old new after)
     ⊎ (((device : _) × gives shelf image (Some device) left
@@ -189,8 +172,7 @@ NextBeginsOn locations core image = (sect block part : ℕ) → core.position �
 -- something was read, or the image of the missing section could not be opened.
 abbrev pub EndsReading : {L R : Type 0} → Mounting L R → List Located → List Stretch → State → L → L
     → Bool → Type 0
-EndsReading gives locations stretches core mid left true =
-    (core.position ≡ Finished) × (left ≡ mid)
+EndsReading gives locations stretches core mid left true = (core.position ≡ Finished) × (left ≡ mid)
 EndsReading gives locations stretches core mid left false = (core.position ≢ Finished)
     × (((left ≡ mid) × (NextBeginsOn locations core None ⊎ (stretches ≢ [])))
     ⊎ ((image : ℕ) × NextBeginsOn locations core (Some image) × gives mid image None left))

@@ -1,8 +1,7 @@
 -- The bytes that readers returned, and the count of readers that failed.
-use Rattle.std.specs.Prelude.{◌≡◌, ℕ, zero, suc, ◌+◌, Bool, true, false, List, [], ◌∷◌, ◌++◌}
-use Rattle.std.specs.Prelude.{map, min, Option, Some, None}
-use Rattle.tape_image.specs.declared.item.ImageFault.{ImageFault}
-use Rattle.tape_image.specs.declared.item.ImageCause.{ImageCause}
+use Rattle.std.specs.Prelude.{◌≡◌, ℕ, zero, suc, ◌+◌, Bool, true, false, List, [], ◌∷◌, ◌++◌, map}
+use Rattle.std.specs.Prelude.{min, Option, Some, None}
+use Rattle.tape_image.specs.declared.item.{ImageFault.ImageFault, ImageCause.ImageCause}
 use Rattle.tape_image.specs.declared.item.ImageCause.TheVariants.{Truncated, LengthsDiffer}
 use Rattle.tape_image.specs.declared.item.ImageCause.TheVariants.{Reserved, TooLong, Device}
 use Rattle.tape_image.specs.declared.item.ImageCause.TheVariants.{OutOfMemory}

@@ -1,33 +1,23 @@
 -- A reading of a later file continues after that of an earlier one, in the same image.
-use Rattle.std.specs.Prelude.{◌≡◌, ◌≢◌, ◌⊎◌, ℕ, Bool, false, List, [], ◌∷◌, ◌++◌}
-use Rattle.std.specs.Prelude.{Option, Some, None}
+use Rattle.std.specs.Prelude.{◌≡◌, ◌≢◌, ◌⊎◌, ℕ, Bool, false, List, [], ◌∷◌, ◌++◌, Option, Some}
+use Rattle.std.specs.Prelude.{None}
 use Rattle.std.specs.List.{AllByRecursion}
 use Rattle.tape_blocks.specs.Block.{Portion}
-use Rattle.tape_image.specs.Begins.{Stop, Begins, Walks}
-use Rattle.tape_image.specs.Tape.{TapeItem}
+use Rattle.tape_image.specs.{Begins.Stop, Begins.Begins, Begins.Walks, Tape.TapeItem}
 use Rattle.tape_set.specs.declared.position.Position.{Position}
 use Rattle.tape_set.specs.declared.position.Position.TheVariants.{Awaits, Finished}
-use Rattle.tape_core.specs.declared.event.Answer.{Answer}
+use Rattle.tape_core.specs.declared.event.{Answer.Answer, Phase.TheVariants.Broken}
 use Rattle.tape_core.specs.declared.event.Answer.TheVariants.{Passed, SectionDone, Complete}
-use Rattle.tape_core.specs.declared.event.Phase.TheVariants.{Broken}
-use Rattle.tape_core.specs.Behind.{AreInOrder, behind_of}
-use Rattle.tape_core.specs.State.{State}
-use Rattle.tape_core.specs.Table.{step_of, mount_of}
-use Rattle.tape_core.specs.Known.{is_finished}
-use Rattle.tape_core.specs.Place.{IsPlaced, rest_of}
+use Rattle.tape_core.specs.{Behind.AreInOrder, Behind.behind_of, State.State, Table.step_of}
+use Rattle.tape_core.specs.{Table.mount_of, Known.is_finished, Place.IsPlaced, Place.rest_of}
 use Rattle.tape_core.specs.Weight.{IsFront}
-use Rattle.tape_set.specs.Layout.{FileSet}
-use Rattle.tape_set.specs.Lawful.{IsLawful}
-use Rattle.tape_run.specs.Mount.{MountEvent, IsMount}
-use Rattle.tape_run.specs.Steps.{ReadBy}
-use Rattle.tape_run.specs.declared.reel_reader.ReelAnswer.{ReelAnswer}
+use Rattle.tape_set.specs.{Layout.FileSet, Lawful.IsLawful}
+use Rattle.tape_run.specs.{Mount.MountEvent, Mount.IsMount, Steps.ReadBy, ByTable.delivered_parts}
+use Rattle.tape_run.specs.{ByTable.IsLed, ByTable.IsCutAt, Given.IsGiven, Given.counted, Seen.Seen}
+use Rattle.tape_run.specs.declared.{reel_reader.ReelAnswer.ReelAnswer, fault.RunFault.RunFault}
 use Rattle.tape_run.specs.Reels.{behind_items, answers_to, GoesOn, ReadsReel}
-use Rattle.tape_run.specs.ByTable.{delivered_parts, IsLed, IsCutAt}
-use Rattle.tape_run.specs.declared.fault.RunFault.{RunFault}
 use Rattle.tape_run.specs.declared.fault.RunFault.TheVariants.{Sink, NoSuchPoint, TooFewReels}
 use Rattle.tape_run.specs.declared.fault.RunFault.TheVariants.{OutOfMemory, OtherFile}
-use Rattle.tape_run.specs.Given.{IsGiven, counted}
-use Rattle.tape_run.specs.Seen.{Seen}
 
 -- the answer completes a section
 abbrev pub EndsSection : Answer → Type 0

@@ -5,25 +5,19 @@
 -- reel (`IsHistory`); the checkpoints that the script returns to exist (`IsHistory`); the sink
 -- contains the parts of the session before (`IsSession`, `IsNew`); no call was refused (`HasRun`,
 -- `IsRead`), or the first one that was ended the run (`HasStopped`).
-use Rattle.std.specs.Prelude.{◌≡◌, ℕ, suc, ◌≤◌, List, [], ◌∷◌, length, take, drop, IsSome}
-use Rattle.std.specs.Prelude.{Bool, Option, Some, slice_get}
-use Rattle.tape_image.specs.Tape.{TapeItem}
-use Rattle.tape_image.specs.Begins.{Stop, Begins}
+use Rattle.std.specs.Prelude.{◌≡◌, ℕ, suc, ◌≤◌, List, [], ◌∷◌, length, take, drop, IsSome, Bool}
+use Rattle.std.specs.Prelude.{Option, Some, slice_get}
+use Rattle.tape_image.specs.{Tape.TapeItem, Begins.Stop, Begins.Begins}
 use Rattle.tape_core.specs.declared.sink.SinkFault.TheVariants.{Device}
-use Rattle.tape_set.specs.Position.{start}
+use Rattle.tape_set.specs.{Position.start, Lawful.IsLawful, Before.before}
 use Rattle.tape_set.specs.Layout.{FileSet, file_of}
-use Rattle.tape_set.specs.Lawful.{IsLawful}
-use Rattle.tape_set.specs.Before.{before}
-use Rattle.tape_run.specs.declared.script.Step.{Step}
+use Rattle.tape_run.specs.declared.{script.Step.Step, fault.RunFault.RunFault}
 use Rattle.tape_run.specs.declared.script.Step.TheVariants.{Reel, Save, Restart}
-use Rattle.tape_run.specs.declared.fault.RunFault.{RunFault}
 use Rattle.tape_run.specs.declared.fault.RunFault.TheVariants.{Sink, NoSuchPoint, TooFewReels}
 use Rattle.tape_run.specs.declared.fault.RunFault.TheVariants.{OutOfMemory}
-use Rattle.tape_run.specs.Mount.{MountEvent, IsMount}
+use Rattle.tape_run.specs.{Mount.MountEvent, Mount.IsMount, Given.AreGivenBy, Given.failed_of}
+use Rattle.tape_run.specs.{Given.counted_up, Seen.Seen, Seen.IsSession, Steps.StoppedBy}
 use Rattle.tape_run.specs.History.{Course, course, course_of, IsHistory}
-use Rattle.tape_run.specs.Given.{AreGivenBy, failed_of, counted_up}
-use Rattle.tape_run.specs.Seen.{Seen, IsSession}
-use Rattle.tape_run.specs.Steps.{StoppedBy}
 use Rattle.tape_run.specs.Lead.{Lead, lead, at_start, AreItems, StandsThere, LeadsBy, StopsBy}
 use Rattle.tape_core.specs.Table.{reader_of}
 
@@ -45,8 +39,7 @@ pub record HasRun (old : Seen) (steps : List Step) (bytes : List (List ℕ))
   pub are_given : AreGivenBy which bytes left given
   pub count : new.failures ≡ counted_up (failed_of which) old.failures
   pub ran : (set : FileSet) (hs : List MountEvent) → IsLawful set
-      → IsHistory set (length old.notes) steps given hs
-      → IsSession set old → Ran set old hs new
+      → IsHistory set (length old.notes) steps given hs → IsSession set old → Ran set old hs new
   pub led : LeadsBy old steps given new
 
 -- ---- a session that begins a file
@@ -82,8 +75,7 @@ pub record IsRead (set_id : List ℕ) (file : ℕ) (steps : List Step) (bytes : 
   pub are_given : AreGivenBy which bytes left given
   pub count : s.failures ≡ counted_up (failed_of which) 0
   pub reads : (set : FileSet) (hs : List MountEvent) → IsLawful set → set_id ≡ set.set_id
-      → IsSome (file_of set file)
-      → IsHistory set 0 steps given hs
+      → IsSome (file_of set file) → IsHistory set 0 steps given hs
       → (course_of s ≡ course set file begins hs)
       × (s.parts ≡ before set file (course set file begins hs).at)
   pub led : (reels : List (List TapeItem)) → AreItems given reels
@@ -143,8 +135,7 @@ pub record HasStopped (old : Seen) (steps : List Step) (bytes : List (List ℕ))
   pub are_given : AreGivenBy which bytes left given
   pub count : new.failures ≡ counted_up (failed_of which) old.failures
   pub stops : (set : FileSet) (hs : List MountEvent) → IsLawful set
-      → IsHistory set (length old.notes) (take n steps) given hs
-      → IsSession set old
+      → IsHistory set (length old.notes) (take n steps) given hs → IsSession set old
       → StopsStep set old hs step (drop (reels_in (take n steps)) bytes) fault new
   pub led : (t : Lead) (reels : List (List TapeItem)) → AreItems given reels → StandsThere t old
       → StopsBy (lead t (take n steps) reels) step (drop (reels_in (take n steps)) bytes) fault new

@@ -1,16 +1,10 @@
 -- The missing sections of a catalogue.
 use Rattle.std.specs.Prelude.{◌≡◌, ◌<◌, ◌≤◌, ℕ, zero, suc, ◌+◌, max, Bool, true, false, MatchOption}
 use Rattle.std.specs.Prelude.{if◌then◌else◌, List, [], ◌∷◌, ◌++◌, Option, Some, None}
-use Rattle.std.specs.List.{flat_map}
-use Rattle.std.specs.Str.{bytes_eq}
-use Rattle.std.specs.Map.{lookup}
-use Rattle.tape_run.specs.declared.section.SectionKey.{SectionKey}
-use Rattle.tape_run.specs.declared.section.SectionState.TheVariants.{Good}
-use Rattle.tape_run.specs.declared.section.Entry.{Entry}
-use Rattle.tape_run.specs.declared.section.SectionLine.{SectionLine}
-use Rattle.tape_run.specs.declared.section.Lack.{Lack}
-use Rattle.tape_run.specs.Passing.{Told}
-use Rattle.tape_run.specs.Noted.{same_key, is_good}
+use Rattle.std.specs.{List.flat_map, Str.bytes_eq, Map.lookup}
+use Rattle.tape_run.specs.declared.section.{SectionKey.SectionKey, SectionState.TheVariants.Good}
+use Rattle.tape_run.specs.declared.section.{Entry.Entry, SectionLine.SectionLine, Lack.Lack}
+use Rattle.tape_run.specs.{Passing.Told, Noted.same_key, Noted.is_good}
 
 -- the entry of a section
 abbrev pub entry_at : List Told → SectionKey → Option Entry
@@ -99,8 +93,7 @@ sets_from sets (t ∷ ts) = sets_from (with_file sets t.0.set_id t.0.file) ts
 -- the missing section of a file, as a list
 abbrev pub one_lack : List ℕ → ℕ → Option ℕ → List Lack
 one_lack set_id file None = []
-one_lack set_id file (Some sect) =
-    record { set_id = set_id; file = file; sect = sect } ∷ []
+one_lack set_id file (Some sect) = record { set_id = set_id; file = file; sect = sect } ∷ []
 
 -- the missing sections of n files of a set, beginning with the given file
 abbrev pub file_lacks : List Told → List ℕ → ℕ → ℕ → List Lack

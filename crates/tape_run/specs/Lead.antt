@@ -2,22 +2,14 @@
 use Rattle.std.specs.Prelude.{◌≡◌, ℕ, ◌+◌, List, [], ◌∷◌, ◌++◌, take, Option, Some, None, slice_get}
 use Rattle.std.specs.Prelude.{⊤}
 use Rattle.tape_blocks.specs.Block.{Portion}
-use Rattle.tape_image.specs.Tape.{TapeItem}
-use Rattle.tape_image.specs.Begins.{Stop, Begins}
+use Rattle.tape_image.specs.{Tape.TapeItem, Begins.Stop, Begins.Begins}
 use Rattle.tape_core.specs.declared.event.Phase.TheVariants.{Over}
-use Rattle.tape_core.specs.Point.{Point}
-use Rattle.tape_core.specs.State.{State}
-use Rattle.tape_core.specs.Place.{rest_of}
-use Rattle.tape_core.specs.Table.{saved, mount_of, reader_of}
-use Rattle.tape_core.specs.Stands.{weight_of}
-use Rattle.tape_core.specs.Weight.{IsFront}
+use Rattle.tape_core.specs.{Point.Point, State.State, Place.rest_of, Table.saved, Table.mount_of}
+use Rattle.tape_core.specs.{Table.reader_of, Stands.weight_of, Weight.IsFront}
+use Rattle.tape_run.specs.declared.fault.{RunFault.RunFault, RunFault.TheVariants.Sink}
 use Rattle.tape_run.specs.declared.script.Step.{Step}
 use Rattle.tape_run.specs.declared.script.Step.TheVariants.{Reel, Save, Restart}
-use Rattle.tape_run.specs.Reels.{behind_items}
-use Rattle.tape_run.specs.ByTable.{delivered_parts, IsCutAt}
-use Rattle.tape_run.specs.declared.fault.RunFault.{RunFault}
-use Rattle.tape_run.specs.declared.fault.RunFault.TheVariants.{Sink}
-use Rattle.tape_run.specs.Seen.{Seen}
+use Rattle.tape_run.specs.{Reels.behind_items, ByTable.delivered_parts, ByTable.IsCutAt, Seen.Seen}
 
 -- a checkpoint: the state of the reader, and the parts that had been delivered
 pub record Noted : Type 0 where

@@ -1,19 +1,12 @@
 -- What `list` prints for one item.
-use Rattle.std.specs.Prelude.{ℕ, ◌++◌, nat_lt, if◌then◌else◌, List, ◌∷◌, length}
-use Rattle.std.specs.Prelude.{codes, Bool, Result, Ok, Err}
+use Rattle.std.specs.Prelude.{ℕ, ◌++◌, nat_lt, if◌then◌else◌, List, ◌∷◌, length, codes, Bool}
+use Rattle.std.specs.Prelude.{Result, Ok, Err}
 use Rattle.tape_image.specs.Tape.{TapeItem, block, bad, mark}
-use Rattle.tape_label.specs.declared.label.LabelFault.{LabelFault}
-use Rattle.tape_label.specs.declared.values.Vol1.{Vol1}
-use Rattle.tape_label.specs.declared.values.Head1.{Head1}
-use Rattle.tape_label.specs.declared.values.Head2.{Head2}
-use Rattle.tape_label.specs.declared.values.Trail1.{Trail1}
-use Rattle.tape_label.specs.Digits.{digits}
-use Rattle.tape_label.specs.Formats.{letter}
+use Rattle.tape_label.specs.declared.label.{LabelFault.LabelFault, Label.Label}
+use Rattle.tape_label.specs.declared.values.{Vol1.Vol1, Head1.Head1, Head2.Head2, Trail1.Trail1}
 use Rattle.tape_label.specs.declared.values.Kind.{Kind}
-use Rattle.tape_label.specs.declared.label.Label.{Label}
+use Rattle.tape_label.specs.{Digits.digits, Formats.letter, Kinds.identifier, Labels.label_at}
 use Rattle.tape_label.specs.declared.label.Label.TheVariants as labels
-use Rattle.tape_label.specs.Kinds.{identifier}
-use Rattle.tape_label.specs.Labels.{label_at}
 use Rattle.tape_run.specs.Identifier.{identifier_text}
 
 -- The number of an item in at least six digits. An image has room for less than 2 ^ 30 items.

@@ -1,14 +1,10 @@
 -- Steps of a run that succeeded.
 use Rattle.std.specs.Prelude.{◌≡◌, ℕ, ◌+◌, Bool, true, List, ◌∷◌, ◌++◌, Option, take, drop, length}
 use Rattle.tape_blocks.specs.Block.{Portion}
-use Rattle.tape_core.specs.Crash.{Crashes}
-use Rattle.tape_core.specs.Point.{Point}
-use Rattle.tape_run.specs.declared.fault.RunFault.{RunFault}
-use Rattle.tape_run.specs.declared.script.Step.{Step}
+use Rattle.tape_core.specs.{Crash.Crashes, Point.Point}
+use Rattle.tape_run.specs.declared.{fault.RunFault.RunFault, script.Step.Step}
 use Rattle.tape_run.specs.Crash.{StoodAt, LastAlone, is_saved}
-use Rattle.tape_run.specs.Given.{written}
-use Rattle.tape_run.specs.Runs.{Runs, RunsUpTo}
-use Rattle.tape_run.specs.Seen.{Seen}
+use Rattle.tape_run.specs.{Given.written, Runs.Runs, Runs.RunsUpTo, Seen.Seen}
 
 -- The first `made` steps succeeded, with the first of the readers: `which` says which of these
 -- failed, and `unread` which bytes they have left. All steps lead from the start to where the

@@ -1,12 +1,9 @@
 -- Laws of readings, and of the tape that they make together.
-use Rattle.std.specs.Prelude.{◌≡◌, ◌⊎◌, ◌<◌, ◌↔◌, ℕ, List, [], ◌∷◌, ◌++◌, length, max}
-use Rattle.std.specs.Prelude.{slice_get, Some, None, ⊤}
-use Rattle.tape_image.specs.Tape.{TapeItem, bad}
-use Rattle.tape_image.specs.Begins.{Walks}
+use Rattle.std.specs.Prelude.{◌≡◌, ◌⊎◌, ◌<◌, ◌↔◌, ℕ, List, [], ◌∷◌, ◌++◌, length, max, slice_get}
+use Rattle.std.specs.Prelude.{Some, None, ⊤}
+use Rattle.tape_image.specs.{Tape.TapeItem, Tape.bad, Begins.Walks, Step.TakesEnd, Step.TakesFault}
 use Rattle.tape_image.specs.Reader.{Reader, Status, going, ended, failed}
-use Rattle.tape_image.specs.Step.{TakesEnd, TakesFault}
-use Rattle.tape_run.specs.MergeSteps.{HasRead}
-use Rattle.tape_run.specs.Merging.{IsReadFrom, IsMerged, Differ}
+use Rattle.tape_run.specs.{MergeSteps.HasRead, Merging.IsReadFrom, Merging.IsMerged, Merging.Differ}
 
 -- "Is a reading of" is an order of tapes: longer tapes, and tapes with fewer bad items, are
 -- greater.
@@ -62,8 +59,7 @@ IsOneOf r (s ∷ ss) = (r ≡ s) ⊎ IsOneOf r ss
 abbrev pub OrderDoesNotMatter : Type 0
 OrderDoesNotMatter = (rs ss : List (List TapeItem)) (m : List TapeItem)
     → ((r : List TapeItem) → IsOneOf r rs → IsOneOf r ss)
-    → ((r : List TapeItem) → IsOneOf r ss → IsOneOf r rs)
-    → IsMerged rs m → IsMerged ss m
+    → ((r : List TapeItem) → IsOneOf r ss → IsOneOf r rs) → IsMerged rs m → IsMerged ss m
 
 -- The meaning of a reader's status for the items that bytes at offset p begin with, up to offset q;
 -- the bytes after them are left.

@@ -4,21 +4,16 @@ use Rattle.std.specs.Prelude.{ℕ, ◌+◌, List, [], ◌∷◌, ◌++◌, codes
 use Rattle.std.specs.Prelude.{None, slice_get, unwrap_or}
 use Rattle.tape_image.specs.declared.item.Ending.{Ending}
 use Rattle.tape_image.specs.Reader.{ending_of}
+use Rattle.tape_run.specs.declared.merge.reading.{Reading.Reading, Verdict.Verdict}
+use Rattle.tape_run.specs.declared.merge.line.{ReadingLine.ReadingLine, MergedEnd.MergedEnd}
+use Rattle.tape_run.specs.declared.merge.line.{ItemKind.ItemKind, HasLine.HasLine}
+use Rattle.tape_run.specs.declared.merge.Merged.{Merged}
 use Rattle.tape_run.specs.declared.section.ImageStop.{ImageStop}
 use Rattle.tape_run.specs.declared.section.ImageStop.TheVariants as ends
-use Rattle.tape_run.specs.declared.merge.Merged.{Merged}
-use Rattle.tape_run.specs.declared.merge.reading.Reading.{Reading}
-use Rattle.tape_run.specs.declared.merge.reading.Verdict.{Verdict}
 use Rattle.tape_run.specs.declared.merge.reading.Verdict.TheVariants as verdicts
-use Rattle.tape_run.specs.declared.merge.line.ReadingLine.{ReadingLine}
-use Rattle.tape_run.specs.declared.merge.line.MergedEnd.{MergedEnd}
 use Rattle.tape_run.specs.declared.merge.line.MergedEnd.TheVariants.{Marked, Physical, Cut}
-use Rattle.tape_run.specs.declared.merge.line.ItemKind.{ItemKind}
 use Rattle.tape_run.specs.declared.merge.line.ItemKind.TheVariants as kinds
-use Rattle.tape_run.specs.declared.merge.line.HasLine.{HasLine}
-use Rattle.tape_run.specs.Added.{stop_at}
-use Rattle.tape_run.specs.CheckLine.{stop_text}
-use Rattle.tape_run.specs.Quoting.{name_text}
+use Rattle.tape_run.specs.{Added.stop_at, CheckLine.stop_text, Quoting.name_text}
 
 -- a line that ends with a name
 abbrev pub with_name : List ℕ → List ℕ → List ℕ

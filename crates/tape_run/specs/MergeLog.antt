@@ -1,17 +1,15 @@
 -- The log of a merge: a row for each item that fewer than two readings have, or that is bad in one.
 -- A tab separates the columns, and none contains one.
-use Rattle.std.specs.Prelude.{ℕ, ◌+◌, Bool, true, false, ◌||◌, nat_lt, if◌then◌else◌, List, []}
-use Rattle.std.specs.Prelude.{◌∷◌, ◌++◌, codes, decimal, length, Option, Some, None}
+use Rattle.std.specs.Prelude.{ℕ, ◌+◌, Bool, true, false, ◌||◌, nat_lt, if◌then◌else◌, List, [], ◌∷◌}
+use Rattle.std.specs.Prelude.{◌++◌, codes, decimal, length, Option, Some, None}
 use Rattle.std.specs.List.{flat_map}
 use Rattle.tape_image.specs.Tape.{TapeItem, block, bad, mark}
+use Rattle.tape_run.specs.declared.merge.reading.{Reading.Reading, Verdict.Verdict}
 use Rattle.tape_run.specs.declared.merge.line.ItemKind.{ItemKind}
 use Rattle.tape_run.specs.declared.merge.line.ItemKind.TheVariants as kinds
-use Rattle.tape_run.specs.declared.merge.reading.Reading.{Reading}
-use Rattle.tape_run.specs.declared.merge.reading.Verdict.{Verdict}
 use Rattle.tape_run.specs.declared.merge.reading.Verdict.TheVariants as verdicts
 use Rattle.tape_run.specs.MergeSteps.{column, goods_in, is_bad_one}
-use Rattle.tape_run.specs.MergeLines.{kind_text}
-use Rattle.tape_run.specs.Quoting.{name_text}
+use Rattle.tape_run.specs.{MergeLines.kind_text, Quoting.name_text}
 
 -- ---- one item of several readings
 

@@ -1,15 +1,12 @@
 -- One item of the merged tape, as readings are asked for it one after another, and what readings
 -- have taken.
-use Rattle.std.specs.Prelude.{◌≡◌, ◌≢◌, ◌⊎◌, ℕ, ◌+◌, ◌≤◌, Bool, true, false, List, [], ◌∷◌}
-use Rattle.std.specs.Prelude.{◌++◌, length, map, slice_get, Option, Some, None, ⊤}
-use Rattle.tape_image.specs.declared.item.Ending.{Ending}
+use Rattle.std.specs.Prelude.{◌≡◌, ◌≢◌, ◌⊎◌, ℕ, ◌+◌, ◌≤◌, Bool, true, false, List, [], ◌∷◌, ◌++◌}
+use Rattle.std.specs.Prelude.{length, map, slice_get, Option, Some, None, ⊤}
+use Rattle.tape_image.specs.declared.item.{Ending.Ending, ImageFault.ImageFault}
 use Rattle.tape_image.specs.Tape.{TapeItem, block, bad, mark}
-use Rattle.tape_image.specs.declared.item.ImageFault.{ImageFault}
 use Rattle.tape_image.specs.Reader.{Reader, Status, going, ended, failed}
-use Rattle.tape_image.specs.Step.{GivesItem, MeetsEnd, MeetsFault}
-use Rattle.tape_image.specs.Calls.{Gave}
-use Rattle.tape_run.specs.declared.merge.reading.Reading.{Reading}
-use Rattle.tape_run.specs.declared.merge.reading.Verdict.{Verdict}
+use Rattle.tape_image.specs.{Step.GivesItem, Step.MeetsEnd, Step.MeetsFault, Calls.Gave}
+use Rattle.tape_run.specs.declared.merge.reading.{Reading.Reading, Verdict.Verdict}
 use Rattle.tape_run.specs.declared.merge.reading.Verdict.TheVariants as verdicts
 
 -- ---- one item of the merged tape
@@ -97,8 +94,7 @@ abbrev pub Compares : Verdict → TapeItem → Option TapeItem → Option TapeIt
     → Option TapeItem → Type 0
 Compares verdicts.First x best now other beside =
     (x ≢ bad) × Takes best x true now × (beside ≡ other)
-Compares verdicts.Bad x best now other beside =
-    (x ≡ bad) × Takes best x true now × (beside ≡ other)
+Compares verdicts.Bad x best now other beside = (x ≡ bad) × Takes best x true now × (beside ≡ other)
 Compares verdicts.Second x best now other beside =
     Takes best x false now × Takes other x true beside
 Compares verdicts.Third x best now other beside =
@@ -173,9 +169,8 @@ pub data Asked {R : Type 0} (old new : Reading R) (best now other beside : Optio
   gives : (x : TapeItem) → old.image.status ≡ going → GivesItem old.image x new.image
       → Compares new.verdict x best now other beside → CountsItem old new x
       → Asked old new best now other beside
-  stops : Stopped old.image new.image → StopsAs new.verdict new.image.status
-      → CountsNothing old new → now ≡ best → beside ≡ other
-      → Asked old new best now other beside
+  stops : Stopped old.image new.image → StopsAs new.verdict new.image.status → CountsNothing old new
+      → now ≡ best → beside ≡ other → Asked old new best now other beside
 
 -- the readings were asked one after another
 abbrev pub AskedAll : {R : Type 0} → List (Reading R) → List (Reading R) → Option TapeItem
@@ -219,8 +214,7 @@ pub record HasTaken {R : Type 0} (first now : Reading R) (taken : List TapeItem)
 abbrev pub HaveTaken : {R : Type 0} → List (Reading R) → List (Reading R) → List (List TapeItem)
     → Type 0
 HaveTaken [] [] [] = ⊤
-HaveTaken (f ∷ firsts) (n ∷ nows) (r ∷ readings) =
-    HasTaken f n r × HaveTaken firsts nows readings
+HaveTaken (f ∷ firsts) (n ∷ nows) (r ∷ readings) = HasTaken f n r × HaveTaken firsts nows readings
 HaveTaken _ _ _ = ⊥
 
 -- every reading has stopped, and its verdict says how

@@ -2,14 +2,10 @@
 use Rattle.std.specs.Prelude.{◌≡◌, ℕ, List, [], ◌∷◌, IsSome, ⊤}
 use Rattle.std.specs.List.{AllByRecursion}
 use Rattle.tape_image.specs.Tape.{TapeItem}
-use Rattle.tape_run.specs.Merging.{IsMerged}
+use Rattle.tape_run.specs.{Merging.IsMerged, Mount.IsCopy}
 use Rattle.tape_set.specs.declared.position.Position.{Position}
-use Rattle.tape_set.specs.Position.{IsUpTo}
-use Rattle.tape_set.specs.Layout.{FileSet, nth}
-use Rattle.tape_set.specs.Reading.{Reading}
-use Rattle.tape_set.specs.Reach.{far, far_over, IsWithin}
-use Rattle.tape_set.specs.Lawful.{IsLawful}
-use Rattle.tape_run.specs.Mount.{IsCopy}
+use Rattle.tape_set.specs.{Position.IsUpTo, Layout.FileSet, Layout.nth, Reading.Reading, Reach.far}
+use Rattle.tape_set.specs.{Reach.far_over, Reach.IsWithin, Lawful.IsLawful}
 
 -- these are the items of copies of volume k, with these readings
 abbrev pub AreCopies : FileSet → ℕ → List (List TapeItem) → List Reading → Type 0
@@ -28,8 +24,7 @@ AreWithin (r ∷ rs) s = IsWithin r.good s.good × AreWithin rs s
 abbrev pub MergedIsCopy : Type 0
 MergedIsCopy = (set : FileSet) (k : ℕ) (images : List (List TapeItem)) (rs : List Reading)
     (merged : List TapeItem) → IsSome (nth set.volumes k) → AreCopies set k images rs
-    → IsMerged images merged
-    → (r : Reading) × (r.volume ≡ k) × IsCopy set merged r × AreWithin rs r
+    → IsMerged images merged → (r : Reading) × (r.volume ≡ k) × IsCopy set merged r × AreWithin rs r
 
 -- A better reading takes each position of each file at least as far.
 abbrev pub BetterIsAsFar : Type 0

@@ -1,11 +1,9 @@
 -- The reels that may be mounted, and the position after a mount.
 use Rattle.std.specs.Prelude.{◌≡◌, ◌≢◌, ℕ, true, false, List, [], ◌++◌, length, take}
-use Rattle.tape_image.specs.Tape.{TapeItem}
-use Rattle.tape_image.specs.Begins.{Stop, Begins}
+use Rattle.tape_image.specs.{Tape.TapeItem, Begins.Stop, Begins.Begins}
 use Rattle.tape_set.specs.declared.position.Position.{Position}
-use Rattle.tape_set.specs.Layout.{FileSet, items, entries}
-use Rattle.tape_set.specs.Reading.{Reading, IsReadingOf, as_read}
-use Rattle.tape_set.specs.Reach.{passes, far}
+use Rattle.tape_set.specs.{Layout.FileSet, Layout.items, Layout.entries, Reading.Reading}
+use Rattle.tape_set.specs.{Reading.IsReadingOf, Reading.as_read, Reach.passes, Reach.far}
 use Rattle.tape_core.specs.Foreign.{starts_set}
 
 -- an event in a session

@@ -4,12 +4,10 @@ use Rattle.std.specs.Prelude.{◌≡◌, ◌⊎◌, ◌==◌, ◌&&◌, not, Boo
 use Rattle.std.specs.Prelude.{Some, None, List, [], ◌∷◌, ◌++◌, map}
 use Rattle.std.specs.Str.{bytes_eq}
 use Rattle.tape_image.specs.Tape.{TapeItem}
-use Rattle.tape_run.specs.declared.section.SectionKey.{SectionKey}
-use Rattle.tape_run.specs.declared.section.SectionState.{SectionState}
-use Rattle.tape_run.specs.declared.section.SectionState.TheVariants.{Good, Bad, Count, Cut}
+use Rattle.tape_run.specs.declared.section.{SectionKey.SectionKey, SectionState.SectionState}
 use Rattle.tape_run.specs.declared.section.Entry.{Entry}
-use Rattle.tape_run.specs.Passing.{Told}
-use Rattle.tape_run.specs.Shown.{Shown}
+use Rattle.tape_run.specs.declared.section.SectionState.TheVariants.{Good, Bad, Count, Cut}
+use Rattle.tape_run.specs.{Passing.Told, Shown.Shown}
 
 -- one section
 abbrev pub same_key : SectionKey → SectionKey → Bool
@@ -47,8 +45,7 @@ StandsIn ts t = (front rest : List Told) × (ts ≡ front ++ t ∷ rest)
 
 -- The earlier sections keep their places, and new ones follow them.
 abbrev pub KeepsPlaces : List Told → List Told → Type 0
-KeepsPlaces old new =
-    (more : List SectionKey) × (map (λ t. t.0) new ≡ map (λ t. t.0) old ++ more)
+KeepsPlaces old new = (more : List SectionKey) × (map (λ t. t.0) new ≡ map (λ t. t.0) old ++ more)
 
 -- Every good section was good before, or these items show it.
 abbrev pub GoodIsShown : List TapeItem → List Told → List Told → Type 0

@@ -1,10 +1,8 @@
 -- A catalogue has one entry per section.
 use Rattle.std.specs.Prelude.{◌≢◌, ⊤, ℕ, Bool, List, [], ◌∷◌, Option}
 use Rattle.std.specs.List.{AllByRecursion}
-use Rattle.tape_run.specs.declared.section.ImageLine.{ImageLine}
-use Rattle.tape_run.specs.declared.section.SectionKey.{SectionKey}
-use Rattle.tape_run.specs.Added.{Adds, AddsInPart}
-use Rattle.tape_run.specs.Checked.{Reel, IsReport}
+use Rattle.tape_run.specs.declared.section.{ImageLine.ImageLine, SectionKey.SectionKey}
+use Rattle.tape_run.specs.{Added.Adds, Added.AddsInPart, Checked.Reel, Checked.IsReport}
 use Rattle.tape_run.specs.Passing.{Told}
 
 -- none of these entries belongs to the section

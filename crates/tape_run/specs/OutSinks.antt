@@ -1,12 +1,8 @@
 -- A sink that writes the records of a file as its parts come.
 use Rattle.std.specs.Prelude.{◌≡◌, ℕ, ◌+◌, ◌<◌, ⊤, Bool, true, false, List, [], ◌++◌, length}
-use Rattle.std.specs.Prelude.{Option}
-use Rattle.std.specs.Prelude.{Some, None, IsSome, is_some}
-use Rattle.tape_blocks.specs.Block.{Portion}
-use Rattle.tape_blocks.specs.Spans.{join}
-use Rattle.tape_blocks.specs.Packing.{longest_block}
-use Rattle.tape_core.specs.Known.{most_staged}
-use Rattle.tape_core.specs.Stands.{weight_of}
+use Rattle.std.specs.Prelude.{Option, Some, None, IsSome, is_some}
+use Rattle.tape_blocks.specs.{Block.Portion, Spans.join, Packing.longest_block}
+use Rattle.tape_core.specs.{Known.most_staged, Stands.weight_of}
 use Rattle.tape_core.specs.declared.sink.SinkFault.{SinkFault}
 use Rattle.tape_core.specs.declared.sink.SinkFault.TheVariants.{OutOfMemory, Device, Full, Failed}
 use Rattle.tape_blocks.specs.declared.parts.Form.{Form}

@@ -3,22 +3,16 @@
 use Rattle.std.specs.Prelude.{ℕ, ◌+◌, ◌==◌, ◌&&◌, ◌||◌, not, Bool, true, false, if◌then◌else◌, List}
 use Rattle.std.specs.Prelude.{[], ◌∷◌, ◌++◌, Option, Some, None, Result, Ok, Err}
 use Rattle.tape_image.specs.Tape.{TapeItem, block, bad, mark}
+use Rattle.tape_label.specs.declared.values.{Kind.Kind, Vol1.Vol1, Head1.Head1, Trail1.Trail1}
 use Rattle.tape_label.specs.declared.label.LabelFault.{LabelFault}
-use Rattle.tape_label.specs.declared.values.Kind.{Kind}
 use Rattle.tape_label.specs.declared.values.Kind.TheVariants as kinds
-use Rattle.tape_label.specs.declared.values.Vol1.{Vol1}
-use Rattle.tape_label.specs.declared.values.Head1.{Head1}
-use Rattle.tape_label.specs.declared.values.Trail1.{Trail1}
-use Rattle.tape_label.specs.Kinds.{kind_at}
+use Rattle.tape_label.specs.{Kinds.kind_at, VolumeLabels.is_volume_label}
 use Rattle.tape_label.specs.Reading.{vol1_at, head1_at, trail1_at}
-use Rattle.tape_label.specs.VolumeLabels.{is_volume_label}
 use Rattle.tape_set.specs.Lawful.{label_count}
-use Rattle.tape_run.specs.declared.section.SectionKey.{SectionKey}
-use Rattle.tape_run.specs.declared.section.SectionState.{SectionState}
-use Rattle.tape_run.specs.declared.section.SectionState.TheVariants.{Good, Bad, Count, Cut}
+use Rattle.tape_run.specs.declared.section.{SectionKey.SectionKey, SectionState.SectionState}
 use Rattle.tape_run.specs.declared.section.Entry.{Entry}
-use Rattle.tape_run.specs.declared.met.Met.{Met}
-use Rattle.tape_run.specs.declared.passing.Phase.{Phase}
+use Rattle.tape_run.specs.declared.{met.Met.Met, passing.Phase.Phase}
+use Rattle.tape_run.specs.declared.section.SectionState.TheVariants.{Good, Bad, Count, Cut}
 use Rattle.tape_run.specs.declared.passing.Phase.TheVariants.{Volume, Labels, Second, Headers, Data}
 use Rattle.tape_run.specs.declared.passing.Phase.TheVariants.{Trailer, Trailers, Next, Over}
 
@@ -32,8 +26,7 @@ with_block met is_bad = record met { blocks = met.blocks + 1; bad = met.bad || i
 
 -- no trailer label with the section's numbers was read
 abbrev pub cut : Met → Told
-cut met =
-    (met.key, record { volume = met.volume; blocks = met.blocks; eof = false; state = Cut })
+cut met = (met.key, record { volume = met.volume; blocks = met.blocks; eof = false; state = Cut })
 
 -- the state of the section, if its trailer label has this count
 abbrev pub state_by : Met → ℕ → SectionState
@@ -44,8 +37,7 @@ state_by met count =
 
 -- it is the trailer label of this section
 abbrev pub closes : Met → Trail1 → Bool
-closes met trail =
-    (trail.head.sect == met.key.sect) && (trail.head.sequence == met.key.file)
+closes met trail = (trail.head.sect == met.key.sect) && (trail.head.sequence == met.key.file)
 
 -- the description that its trailer label completes
 abbrev pub told : Met → Trail1 → Told

@@ -1,16 +1,10 @@
 -- Parts of a block that were put.
 use Rattle.std.specs.Prelude.{◌≡◌, ℕ, ◌<◌, ◌≤◌, ◌==◌, Bool, if◌then◌else◌, List, ◌++◌, length, take}
 use Rattle.std.specs.Prelude.{drop, Option, Some, None, ⊤}
-use Rattle.tape_blocks.specs.Block.{Portion, Holds}
-use Rattle.tape_blocks.specs.Judged.{begun_behind}
-use Rattle.tape_blocks.specs.Spans.{InOrder}
+use Rattle.tape_blocks.specs.{Block.Portion, Block.Holds, Judged.begun_behind, Spans.InOrder}
 use Rattle.tape_image.specs.Tape.{TapeItem, IsTapeItem, block}
-use Rattle.tape_set.specs.Lawful.{FileForm}
-use Rattle.tape_set.specs.Position.{part_of}
-use Rattle.tape_core.specs.Point.{Point}
-use Rattle.tape_core.specs.State.{State}
-use Rattle.tape_core.specs.Table.{saved}
-use Rattle.tape_core.specs.Stands.{inside_block}
+use Rattle.tape_set.specs.{Lawful.FileForm, Position.part_of}
+use Rattle.tape_core.specs.{Point.Point, State.State, Table.saved, Stands.inside_block}
 use Rattle.tape_core.specs.Place.{place_of}
 use Rattle.tape_run.specs.declared.reel_reader.Refused.{Refused}
 

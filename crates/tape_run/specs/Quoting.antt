@@ -1,6 +1,6 @@
 -- Names as they are printed for people: no character of a name controls the terminal.
-use Rattle.std.specs.Prelude.{ℕ, Bool, ◌==◌, ◌||◌, ◌&&◌, nat_le, nat_lt, ◌+◌, ◌/◌, ◌%◌, List, [], ◌∷◌}
-use Rattle.std.specs.Prelude.{if◌then◌else◌, chars, encode_utf8_all}
+use Rattle.std.specs.Prelude.{ℕ, Bool, ◌==◌, ◌||◌, ◌&&◌, nat_le, nat_lt, ◌+◌, ◌/◌, ◌%◌, List, []}
+use Rattle.std.specs.Prelude.{◌∷◌, if◌then◌else◌, chars, encode_utf8_all}
 use Rattle.std.specs.List.{flat_map}
 
 -- a hexadecimal digit

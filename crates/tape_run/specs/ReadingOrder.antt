@@ -1,13 +1,9 @@
 -- The order in which the images of a file are read.
 use Rattle.std.specs.Prelude.{◌==◌, ◌&&◌, ◌||◌, not, nat_le, ℕ, zero, suc, ◌+◌, Bool, false}
 use Rattle.std.specs.Prelude.{if◌then◌else◌, List, [], ◌∷◌, ◌++◌, length, Option, Some, None}
-use Rattle.std.specs.Map.{lookup}
-use Rattle.std.specs.Str.{bytes_eq}
+use Rattle.std.specs.{Map.lookup, Str.bytes_eq}
 use Rattle.tape_run.specs.declared.survey.view.ImageSurvey.{ImageSurvey}
-use Rattle.tape_run.specs.Lacks.{key_at}
-use Rattle.tape_run.specs.Noted.{same_key}
-use Rattle.tape_run.specs.SurveyLocations.{Located}
-use Rattle.tape_run.specs.Unpacking.{set_of}
+use Rattle.tape_run.specs.{Lacks.key_at, Noted.same_key, SurveyLocations.Located, Unpacking.set_of}
 
 -- whether a number is in the list
 abbrev pub is_in : ℕ → List ℕ → Bool

@@ -6,15 +6,14 @@ use Rattle.tape_image.specs.Fault as image_faults
 use Rattle.tape_label.specs.Faults as label_faults
 use Rattle.tape_blocks.specs.Numbers.{cause_number}
 use Rattle.tape_set.specs.declared.position.Want.{Want}
-use Rattle.tape_core.specs.declared.event.Answer.{Answer}
+use Rattle.tape_core.specs.declared.event.{Answer.Answer, Reason.Reason}
 use Rattle.tape_core.specs.declared.event.Answer.TheVariants.{Passed, Deliver, SectionDone}
 use Rattle.tape_core.specs.declared.event.Answer.TheVariants.{Complete, Useless}
-use Rattle.tape_core.specs.declared.event.Reason.{Reason}
 use Rattle.tape_core.specs.declared.event.Reason.TheVariants.{NotLabelled, OtherSet, NotOnReel}
-use Rattle.tape_core.specs.declared.event.Reason.TheVariants.{LaterSection, EarlierSection}
-use Rattle.tape_core.specs.declared.event.Reason.TheVariants.{BadItem, ReelEnded, BadBlock}
-use Rattle.tape_core.specs.declared.event.Reason.TheVariants.{BlockCount, SpanLeft, SectionDiffers}
-use Rattle.tape_core.specs.declared.event.Reason.TheVariants.{BadLabel, Broken}
+use Rattle.tape_core.specs.declared.event.Reason.TheVariants.{LaterSection, EarlierSection, BadItem}
+use Rattle.tape_core.specs.declared.event.Reason.TheVariants.{ReelEnded, BadBlock, BlockCount}
+use Rattle.tape_core.specs.declared.event.Reason.TheVariants.{SpanLeft, SectionDiffers, BadLabel}
+use Rattle.tape_core.specs.declared.event.Reason.TheVariants.{Broken}
 use Rattle.tape_run.specs.declared.reel_reader.ReelAnswer.{ReelAnswer}
 
 -- a word, followed by two numbers

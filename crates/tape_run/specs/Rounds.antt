@@ -6,12 +6,10 @@ use Rattle.tape_set.specs.declared.position.Want.{Want}
 use Rattle.tape_set.specs.Position.{want_at}
 use Rattle.tape_core.specs.State.{State}
 use Rattle.tape_core.specs.declared.sink.PartSink.{Ghosts}
-use Rattle.tape_run.specs.ReelLine.{reel_lines}
-use Rattle.tape_run.specs.Reeling.{Turn, answer_of, AreTurns, Follows, Mounting, Carries, TakesAll}
-use Rattle.tape_run.specs.Stopping.{StopsReading}
-use Rattle.tape_run.specs.declared.fault.EngineFault.{EngineFault}
-use Rattle.tape_run.specs.Seen.{Seen}
+use Rattle.tape_run.specs.{ReelLine.reel_lines, Stopping.StopsReading, Seen.Seen}
 use Rattle.tape_run.specs.SessionState.{SessionState}
+use Rattle.tape_run.specs.Reeling.{Turn, answer_of, AreTurns, Follows, Mounting, Carries, TakesAll}
+use Rattle.tape_run.specs.declared.fault.EngineFault.{EngineFault}
 
 -- A pass over the images: the outcome of each, and the reader's state after the last one.
 pub record Round : Type 0 where

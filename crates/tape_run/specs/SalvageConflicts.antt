@@ -1,11 +1,9 @@
 -- Complete copies of one section with different blocks.
-use Rattle.std.specs.Prelude.{◌≡◌, ℕ, zero, suc, ◌+◌, ◌==◌, ◌&&◌, ◌||◌, not, Bool}
-use Rattle.std.specs.Prelude.{false, if◌then◌else◌, List, [], ◌∷◌, ◌++◌, Option, Some, None}
+use Rattle.std.specs.Prelude.{◌≡◌, ℕ, zero, suc, ◌+◌, ◌==◌, ◌&&◌, ◌||◌, not, Bool, false}
+use Rattle.std.specs.Prelude.{if◌then◌else◌, List, [], ◌∷◌, ◌++◌, Option, Some, None}
 use Rattle.tape_run.specs.declared.salvage.copies.SectionCopy.{SectionCopy}
-use Rattle.tape_run.specs.SalvageCopies.{is_complete}
-use Rattle.tape_run.specs.SalvageChoice.{firsts, IsBest}
-use Rattle.tape_run.specs.SalvageLine.{conflict_line}
-use Rattle.tape_run.specs.SalvageTaking.{image_number}
+use Rattle.tape_run.specs.{SalvageCopies.is_complete, SalvageChoice.firsts, SalvageChoice.IsBest}
+use Rattle.tape_run.specs.{SalvageLine.conflict_line, SalvageTaking.image_number}
 
 -- they have equally many blocks, and their digests are the same
 abbrev pub have_same_blocks : SectionCopy → SectionCopy → Bool

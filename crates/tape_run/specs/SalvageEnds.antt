@@ -1,10 +1,8 @@
 -- The report at the end of the blocks of a section.
 use Rattle.std.specs.Prelude.{ℕ, ◌-◌, ◌&&◌, ◌||◌, min, nat_lt, Bool, true, if◌then◌else◌, List, []}
 use Rattle.std.specs.Prelude.{◌++◌, Option, Some, None, is_some}
-use Rattle.tape_run.specs.declared.salvage.copies.SectionCopy.{SectionCopy}
-use Rattle.tape_run.specs.declared.salvage.walk.Closing.{Closing}
-use Rattle.tape_run.specs.SalvageCopies.{believed, wrong_count}
-use Rattle.tape_run.specs.SalvageRecords.{torn}
+use Rattle.tape_run.specs.declared.salvage.{copies.SectionCopy.SectionCopy, walk.Closing.Closing}
+use Rattle.tape_run.specs.{SalvageCopies.believed, SalvageCopies.wrong_count, SalvageRecords.torn}
 use Rattle.tape_run.specs.SalvageLine.{open_gap_line, unsure_line, count_line, no_section_line}
 use Rattle.tape_run.specs.SalvageLine.{no_form_line}
 use Rattle.tape_run.specs.SalvageBlocks.{Salvaged, gap_text, torn_text}
@@ -39,8 +37,7 @@ without_gap g = record { piece = g.piece; gap = None; missing = g.missing }
 
 -- the trailer label counts another number of blocks
 abbrev pub with_count : Option ℕ → Salvaged → Salvaged
-with_count label g =
-    record { piece = g.piece; gap = g.gap; missing = g.missing || is_some label }
+with_count label g = record { piece = g.piece; gap = g.gap; missing = g.missing || is_some label }
 
 abbrev pub count_text : ℕ → Option ℕ → ℕ → List ℕ
 count_text sect None blocks = []

@@ -4,25 +4,19 @@ use Rattle.std.specs.Prelude.{◌≡◌, ℕ, Bool, true, false, List, [], ◌�
 use Rattle.std.specs.Prelude.{None}
 use Rattle.std.specs.List.{AllByRecursion}
 use Rattle.tape_image.specs.Tape.{TapeItem}
-use Rattle.tape_blocks.specs.Block.{Portion}
-use Rattle.tape_blocks.specs.Spans.{InOrder}
-use Rattle.tape_set.specs.Layout.{Volume}
-use Rattle.tape_set.specs.Lawful.{IsVolume, FileForm}
-use Rattle.tape_run.specs.Noted.{same_key}
+use Rattle.tape_blocks.specs.{Block.Portion, Spans.InOrder}
+use Rattle.tape_set.specs.{Layout.Volume, Lawful.IsVolume, Lawful.FileForm}
+use Rattle.tape_run.specs.{Noted.same_key, SalvageBlocks.Salvaged, SalvageBlocks.none_salvaged}
+use Rattle.tape_run.specs.{SalvageRecords.nothing, SalvageImage.EndsData, SalvageGaps.data_in}
+use Rattle.tape_run.specs.declared.salvage.walk.{OpenSection.OpenSection, Closing.Closing}
+use Rattle.tape_run.specs.declared.salvage.walk.Expected.TheVariants.{Outside}
 use Rattle.tape_run.specs.declared.salvage.Content.TheVariants.{Records}
 use Rattle.tape_run.specs.declared.salvage.copies.SectionCopy.{SectionCopy}
-use Rattle.tape_run.specs.declared.salvage.walk.OpenSection.{OpenSection}
-use Rattle.tape_run.specs.declared.salvage.walk.Closing.{Closing}
-use Rattle.tape_run.specs.declared.salvage.walk.Expected.TheVariants.{Outside}
-use Rattle.tape_run.specs.SalvageBlocks.{Salvaged, none_salvaged}
-use Rattle.tape_run.specs.SalvageRecords.{nothing}
-use Rattle.tape_run.specs.SalvageImage.{EndsData}
 use Rattle.tape_run.specs.SalvageTaking.{Taken, form_for, after_all}
 use Rattle.tape_run.specs.SalvageWhole.{Blocks, IsBlock, all_parts, parts_with, whole_parts}
 use Rattle.tape_run.specs.SalvageWhole.{piece_after}
 use Rattle.tape_run.specs.SalvageSections.{SectionRead, IsRead, IsOther, Labels, AreLabels, key_of}
 use Rattle.tape_run.specs.SalvageSections.{read_volume, read_blocks}
-use Rattle.tape_run.specs.SalvageGaps.{data_in}
 
 -- a copy of a section that closes, found by its HDR1
 abbrev pub closed_copy : ℕ → OpenSection → Closing → SectionCopy
@@ -90,8 +84,7 @@ file_after known ts = after_all Records known ts none_salvaged
 abbrev pub RecoversBlocks : Type 0
 RecoversBlocks = (set_id : List ℕ) (volumes : ℕ) (known : Option FileForm) (form : FileForm)
     (eof : Bool) (ts : List Taken) (t : Taken) (rs : List SectionRead) (r : SectionRead)
-    → AreTakenFrom set_id volumes known form ts rs
-    → IsTakenFrom set_id volumes known form eof t r
+    → AreTakenFrom set_id volumes known form ts rs → IsTakenFrom set_id volumes known form eof t r
     → let g = file_after known (ts ++ t ∷ []) in
     let bs = blocks_of (rs ++ r ∷ []) in
     (g.piece.done ≡ (piece_after form nothing bs).done)
@@ -102,8 +95,7 @@ RecoversBlocks = (set_id : List ℕ) (volumes : ℕ) (known : Option FileForm) (
 abbrev pub RecoversFile : Type 0
 RecoversFile = (set_id : List ℕ) (volumes : ℕ) (known : Option FileForm) (form : FileForm)
     (eof : Bool) (ts : List Taken) (t : Taken) (rs : List SectionRead) (r : SectionRead)
-    → AreTakenFrom set_id volumes known form ts rs
-    → IsTakenFrom set_id volumes known form eof t r
+    → AreTakenFrom set_id volumes known form ts rs → IsTakenFrom set_id volumes known form eof t r
     → let g = file_after known (ts ++ t ∷ []) in
     let bs = blocks_of (rs ++ r ∷ []) in
     AllByRecursion (IsBlock form) bs → InOrder false (all_parts bs) false
@@ -118,7 +110,6 @@ RecoversUpToGap = (set_id : List ℕ) (volumes : ℕ) (known : Option FileForm) 
     (bs more : Blocks) → AreTakenFrom set_id volumes known form ts rs
     → IsTakenFrom set_id volumes known form eof t r → blocks_of (rs ++ r ∷ []) ≡ bs ++ more
     → AllByRecursion (IsBlock form) bs → AllByRecursion (λ b. b.0 ≡ true) bs
-    → InOrder false (all_parts bs) end
-    → let p = piece_after form nothing bs in
+    → InOrder false (all_parts bs) end → let p = piece_after form nothing bs in
     (p.done ++ p.front ≡ all_parts bs) × ((rest : List Portion)
     × ((file_after known (ts ++ t ∷ [])).piece.done ≡ p.done ++ rest))

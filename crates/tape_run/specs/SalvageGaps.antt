@@ -5,15 +5,13 @@ use Rattle.std.specs.List.{AllByRecursion}
 use Rattle.tape_image.specs.Tape.{TapeItem, block, bad, mark}
 use Rattle.tape_blocks.specs.declared.check.BlockFault.{BlockFault}
 use Rattle.tape_set.specs.Lawful.{FileForm}
+use Rattle.tape_run.specs.declared.salvage.{copies.SectionCopy.SectionCopy, walk.Expected.Expected}
 use Rattle.tape_run.specs.declared.section.SectionKey.{SectionKey}
-use Rattle.tape_run.specs.declared.salvage.copies.SectionCopy.{SectionCopy}
-use Rattle.tape_run.specs.declared.salvage.walk.Expected.{Expected}
-use Rattle.tape_run.specs.SalvageWalk.{step, expected_after}
-use Rattle.tape_run.specs.SalvageCopies.{believed, start_of}
+use Rattle.tape_run.specs.{SalvageWalk.step, SalvageWalk.expected_after, SalvageCopies.believed}
+use Rattle.tape_run.specs.{SalvageCopies.start_of, SalvageBlocks.Salvaged}
+use Rattle.tape_run.specs.{SalvageBlocks.salvaged_at, SalvageEnds.without_gap, SalvageEnds.end_text}
 use Rattle.tape_run.specs.SalvageLine.{gap_line, torn_line, refused_line, section_line}
-use Rattle.tape_run.specs.SalvageBlocks.{Salvaged, salvaged_at}
 use Rattle.tape_run.specs.SalvageImage.{number_in, read_in, closings, EndsData}
-use Rattle.tape_run.specs.SalvageEnds.{without_gap, end_text}
 use Rattle.tape_run.specs.SalvageTaking.{image_number, after_copy, copy_text}
 
 -- ---- the blocks of a section
@@ -28,8 +26,7 @@ datum (Some n) mark = []
 -- the data items of the section among these items, at most `most` of them
 abbrev pub data_in : SectionKey → ℕ → Expected → List TapeItem → List TapeItem
 data_in key most s [] = []
-data_in key most s (x ∷ xs) =
-    datum (number_in key most s) x ++ data_in key most (step s x).0 xs
+data_in key most s (x ∷ xs) = datum (number_in key most s) x ++ data_in key most (step s x).0 xs
 
 -- the records after these data items, of which the first one has number n
 abbrev pub salvaged_data : Option FileForm → ℕ → Salvaged → List TapeItem → Salvaged

@@ -26,8 +26,7 @@ no_section_line sect records =
 
 -- no label records how the records of the section are stored in its blocks
 abbrev pub no_form_line : ℕ → ℕ → List ℕ
-no_form_line sect records =
-    codes "NO FORM" ++ number_text sect ++ number_text records ++ codes "\n"
+no_form_line sect records = codes "NO FORM" ++ number_text sect ++ number_text records ++ codes "\n"
 
 -- the block contains no records in the file's form
 abbrev pub refused_line : ℕ → ℕ → BlockFault → ℕ → List ℕ

@@ -4,12 +4,10 @@ use Rattle.std.specs.Prelude.{◌≡◌, ℕ, true, List, ◌∷◌, ◌++◌, l
 use Rattle.std.specs.List.{AllByRecursion}
 use Rattle.tape_image.specs.Tape.{TapeItem}
 use Rattle.tape_set.specs.Layout.{FileSet, Volume, items, entries, nth, on, sections}
-use Rattle.tape_set.specs.Lawful.{IsLawful, IsVolume, FileForm}
-use Rattle.tape_set.specs.Reading.{Reading, IsReadingOf, as_read}
-use Rattle.tape_set.specs.Reach.{passes}
+use Rattle.tape_set.specs.{Lawful.IsLawful, Lawful.IsVolume, Lawful.FileForm, Reading.Reading}
+use Rattle.tape_set.specs.{Reading.IsReadingOf, Reading.as_read, Reach.passes}
 use Rattle.tape_run.specs.declared.salvage.walk.Expected.TheVariants.{Outside}
-use Rattle.tape_run.specs.SalvageBlocks.{Salvaged}
-use Rattle.tape_run.specs.SalvageImage.{salvaged_from}
+use Rattle.tape_run.specs.{SalvageBlocks.Salvaged, SalvageImage.salvaged_from}
 use Rattle.tape_run.specs.SalvageWhole.{piece_after}
 use Rattle.tape_run.specs.SalvageSections.{SectionRead, IsRead, Labels, AreLabels, read_volume}
 use Rattle.tape_run.specs.SalvageSections.{key_of, IsReadTo}

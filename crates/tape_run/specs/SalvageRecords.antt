@@ -1,14 +1,10 @@
 -- The complete records in blocks, some of which are missing.
 use Rattle.std.specs.Prelude.{◌≡◌, ℕ, ◌+◌, ◌&&◌, min, Bool, true, false, if◌then◌else◌, List, []}
 use Rattle.std.specs.Prelude.{◌∷◌, ◌++◌, Option, Some, None, Result, Ok, Err}
-use Rattle.std.specs.List.{flat_map}
-use Rattle.std.specs.Io.KnownBytes.{Appends}
+use Rattle.std.specs.{List.flat_map, Io.KnownBytes.Appends}
+use Rattle.tape_blocks.specs.declared.parts.{Form.Form, Span.TheVariants.Whole}
 use Rattle.tape_blocks.specs.declared.check.BlockFault.{BlockFault}
-use Rattle.tape_blocks.specs.declared.parts.Form.{Form}
-use Rattle.tape_blocks.specs.declared.parts.Span.TheVariants.{Whole}
-use Rattle.tape_blocks.specs.Block.{Portion}
-use Rattle.tape_blocks.specs.Judged.{judged}
-use Rattle.tape_blocks.specs.Spans.{continues, leaves}
+use Rattle.tape_blocks.specs.{Block.Portion, Judged.judged, Spans.continues, Spans.leaves}
 use Rattle.tape_set.specs.Lawful.{FileForm}
 use Rattle.tape_core.specs.Parts.{goes_on_at, parts_in}
 use Rattle.tape_run.specs.RecordText.{part_text}
@@ -67,8 +63,7 @@ begun_at form p block = if p.torn then goes_on_at form.format form.offset block 
 
 -- the result of checking the block there
 abbrev pub judged_at : FileForm → Piece → List ℕ → Result Bool BlockFault
-judged_at form p block =
-    judged form.format form.rec_len form.offset (begun_at form p block) block
+judged_at form p block = judged form.format form.rec_len form.offset (begun_at form p block) block
 
 -- the records after a block with this result
 abbrev pub mended_by : FileForm → Piece → List ℕ → Result Bool BlockFault → Piece

@@ -8,23 +8,19 @@ use Rattle.tape_blocks.specs.Block.{Portion}
 use Rattle.tape_set.specs.Layout.{FileSet, Section, Placed, items, entries, numbered, file_of}
 use Rattle.tape_set.specs.Layout.{section_of}
 use Rattle.tape_set.specs.Lawful.{IsLawful, FileForm, HasForm}
-use Rattle.tape_set.specs.Before.{section_parts}
+use Rattle.tape_set.specs.{Before.section_parts, Reach.passes, Laws.StandsIn}
 use Rattle.tape_set.specs.Reading.{Reading, IsReadingOf, as_read}
-use Rattle.tape_set.specs.Reach.{passes}
-use Rattle.tape_set.specs.Laws.{StandsIn}
 use Rattle.tape_run.specs.declared.salvage.Content.TheVariants.{Records}
 use Rattle.tape_run.specs.declared.salvage.copies.SectionCopy.{SectionCopy}
-use Rattle.tape_run.specs.SalvageWalk.{sections_in}
+use Rattle.tape_run.specs.{SalvageWalk.sections_in, SalvageRecords.nothing, SalvageImage.EndsData}
+use Rattle.tape_run.specs.SalvageReadings.{IsReadVolume}
 use Rattle.tape_run.specs.SalvageCopies.{of_file, start_of, rank}
-use Rattle.tape_run.specs.SalvageRecords.{nothing}
 use Rattle.tape_run.specs.SalvageBlocks.{Salvaged, none_salvaged}
 use Rattle.tape_run.specs.SalvageChoice.{firsts, IsBest, form_of_file}
-use Rattle.tape_run.specs.SalvageImage.{EndsData}
 use Rattle.tape_run.specs.SalvageTaking.{Taken, AreAllSections, after_file}
 use Rattle.tape_run.specs.SalvageWhole.{Blocks, parts_with, whole_parts, piece_after, all_parts}
 use Rattle.tape_run.specs.SalvageWhole.{not_read}
 use Rattle.tape_run.specs.SalvageSections.{SectionRead, filled_of}
-use Rattle.tape_run.specs.SalvageReadings.{IsReadVolume}
 
 -- ---- images
 
@@ -122,8 +118,7 @@ abbrev pub AreHad : FileSet → List (Option Reading) → List SectionCopy → L
 AreHad set rs copies [] [] = Unit {0}
 AreHad set rs copies [] (b ∷ bs) = ⊥
 AreHad set rs copies (p ∷ ps) [] = ⊥
-AreHad set rs copies (p ∷ ps) (b ∷ bs) =
-    IsHad set rs copies p b × AreHad set rs copies ps bs
+AreHad set rs copies (p ∷ ps) (b ∷ bs) = IsHad set rs copies p b × AreHad set rs copies ps bs
 
 -- the blocks of sections, one after another
 abbrev pub joined : List Blocks → Blocks
@@ -143,8 +138,7 @@ pub record IsRecovered (set : FileSet) (file : ℕ) (f : List Section) (rs : Lis
   pub whole : AllByRecursion (λ b. b.0 ≡ false → b.1.parts ≢ []) (joined sections)
       → g.piece.done ≡ whole_parts (parts_with (joined sections))
   pub up_to_gap : (bs more : Blocks) → joined sections ≡ bs ++ more
-      → AllByRecursion (λ b. b.0 ≡ true) bs
-      → let p = piece_after form nothing bs in
+      → AllByRecursion (λ b. b.0 ≡ true) bs → let p = piece_after form nothing bs in
       (p.done ++ p.front ≡ all_parts bs)
       × ((rest : List Portion) × (g.piece.done ≡ p.done ++ rest))
   pub complete : g.missing ≡ false

@@ -8,26 +8,18 @@
 use Rattle.std.specs.Prelude.{ℕ, ◌+◌, ◌-◌, min, ◌==◌, ◌&&◌, nat_lt, Bool, if◌then◌else◌, List, []}
 use Rattle.std.specs.Prelude.{◌∷◌, ◌++◌, Option, Some, None, option_map, Result, Ok, Err}
 use Rattle.tape_image.specs.Tape.{TapeItem, block, bad, mark}
+use Rattle.tape_label.specs.declared.values.{Kind.Kind, Head1.Head1, Head2.Head2, Trail1.Trail1}
 use Rattle.tape_label.specs.declared.label.LabelFault.{LabelFault}
-use Rattle.tape_label.specs.declared.values.Kind.{Kind}
 use Rattle.tape_label.specs.declared.values.Kind.TheVariants as kinds
-use Rattle.tape_label.specs.declared.values.Head1.{Head1}
-use Rattle.tape_label.specs.declared.values.Head2.{Head2}
-use Rattle.tape_label.specs.declared.values.Trail1.{Trail1}
-use Rattle.tape_label.specs.Kinds.{kind_at}
-use Rattle.tape_label.specs.Reading.{head1_at, head2_at, trail1_at}
+use Rattle.tape_label.specs.{Kinds.kind_at, Reading.head1_at, Reading.head2_at, Reading.trail1_at}
 use Rattle.tape_set.specs.Lawful.{FileForm, binding_len, label_count}
-use Rattle.tape_core.specs.Known.{known_of}
-use Rattle.tape_core.specs.Range.{form_in_range}
+use Rattle.tape_core.specs.{Known.known_of, Range.form_in_range}
 use Rattle.tape_run.specs.SurveyDigest.{digest_with}
-use Rattle.tape_run.specs.declared.salvage.walk.OpenSection.{OpenSection}
-use Rattle.tape_run.specs.declared.salvage.walk.Closing.{Closing}
-use Rattle.tape_run.specs.declared.salvage.walk.UnnamedItems.{UnnamedItems}
-use Rattle.tape_run.specs.declared.salvage.walk.Expected.{Expected}
+use Rattle.tape_run.specs.declared.salvage.walk.{OpenSection.OpenSection, Closing.Closing}
+use Rattle.tape_run.specs.declared.salvage.walk.{UnnamedItems.UnnamedItems, Expected.Expected}
 use Rattle.tape_run.specs.declared.salvage.walk.Expected.TheVariants.{Outside, Second, Headers}
-use Rattle.tape_run.specs.declared.salvage.walk.Expected.TheVariants.{Data, Trailer, Trailers}
-use Rattle.tape_run.specs.declared.salvage.walk.Expected.TheVariants.{Next, Over}
-use Rattle.tape_run.specs.declared.salvage.walk.Expected.TheVariants.{Unnamed, UnnamedTrailer}
+use Rattle.tape_run.specs.declared.salvage.walk.Expected.TheVariants.{Data, Trailer, Trailers, Next}
+use Rattle.tape_run.specs.declared.salvage.walk.Expected.TheVariants.{Over, Unnamed, UnnamedTrailer}
 use Rattle.tape_run.specs.declared.salvage.walk.Expected.TheVariants.{Skipping}
 
 -- a section that ended, and how, if a trailer label with its numbers was read
@@ -172,13 +164,11 @@ outside_by marks k h =
 
 -- after one more tape mark outside of sections
 abbrev pub outside_mark : ℕ → Expected
-outside_mark marks =
-    if marks == 0 then Outside 1 else (if marks == 1 then Outside 2 else Over)
+outside_mark marks = if marks == 0 then Outside 1 else (if marks == 1 then Outside 2 else Over)
 
 -- after an unreadable item outside of sections
 abbrev pub outside_bad : ℕ → Expected
-outside_bad marks =
-    if nat_lt marks 2 then unnamed_after marks one_unreadable else Outside marks
+outside_bad marks = if nat_lt marks 2 then unnamed_after marks one_unreadable else Outside marks
 
 -- the data of a section, after one item less
 abbrev pub skipping : ℕ → OpenSection → Expected

@@ -1,11 +1,9 @@
 -- The records recovered of a file with missing blocks: exactly those that lie entirely in blocks
 -- that were read.
-use Rattle.std.specs.Prelude.{◌≡◌, ◌≢◌, ℕ, ◌+◌, ◌&&◌, Bool, true, false, List, []}
-use Rattle.std.specs.Prelude.{◌∷◌, ◌++◌, Some, if◌then◌else◌}
+use Rattle.std.specs.Prelude.{◌≡◌, ◌≢◌, ℕ, ◌+◌, ◌&&◌, Bool, true, false, List, [], ◌∷◌, ◌++◌, Some}
+use Rattle.std.specs.Prelude.{if◌then◌else◌}
 use Rattle.std.specs.List.{AllByRecursion}
-use Rattle.tape_blocks.specs.Block.{Portion, Holds}
-use Rattle.tape_blocks.specs.Spans.{leaves, InOrder}
-use Rattle.tape_blocks.specs.Tight.{Filled}
+use Rattle.tape_blocks.specs.{Block.Portion, Block.Holds, Spans.leaves, Spans.InOrder, Tight.Filled}
 use Rattle.tape_set.specs.Lawful.{FileForm}
 use Rattle.tape_blocks.specs.declared.parts.Form.{Form}
 use Rattle.tape_run.specs.RecordText.{output_of}
@@ -78,8 +76,7 @@ FirstStays = (form : FileForm) (p : Piece) (bs : Blocks)
 abbrev pub NeverLess : Type 0
 NeverLess = (form : FileForm) (bs more : Blocks) (end : Bool)
     → AllByRecursion (IsBlock form) bs → AllByRecursion (λ b. b.0 ≡ true) bs
-    → InOrder false (all_parts bs) end
-    → let p = piece_after form nothing bs in
+    → InOrder false (all_parts bs) end → let p = piece_after form nothing bs in
     (p.done ++ p.front ≡ all_parts bs)
     × ((rest : List Portion) × ((piece_after form nothing (bs ++ more)).done ≡ p.done ++ rest))
 

@@ -1,7 +1,6 @@
 -- A session, as contracts see it.
 use Rattle.std.specs.Prelude.{ℕ, List}
-use Rattle.tape_core.specs.Point.{Point}
-use Rattle.tape_core.specs.State.{State}
+use Rattle.tape_core.specs.{Point.Point, State.State}
 
 -- its core, its sink, its checkpoints, and how many readers failed
 pub record SessionState (S : Type 0) : Type 0 where

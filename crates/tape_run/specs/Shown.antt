@@ -3,18 +3,12 @@ use Rattle.std.specs.Prelude.{◌≡◌, ℕ, List, ◌∷◌, ◌++◌, length,
 use Rattle.std.specs.List.{AllByRecursion}
 use Rattle.tape_image.specs.Tape.{TapeItem, block, mark}
 use Rattle.tape_label.specs.declared.values.Kind.TheVariants as kinds
-use Rattle.tape_label.specs.declared.values.Vol1.{Vol1}
-use Rattle.tape_label.specs.declared.values.Head1.{Head1}
-use Rattle.tape_label.specs.declared.values.Trail1.{Trail1}
-use Rattle.tape_label.specs.Kinds.{HasKind}
-use Rattle.tape_label.specs.Vol1.{IsVol1}
-use Rattle.tape_label.specs.Head1.{IsHead1}
-use Rattle.tape_label.specs.Trail1.{IsTrail1}
-use Rattle.tape_run.specs.declared.section.SectionKey.{SectionKey}
-use Rattle.tape_run.specs.declared.section.Entry.{Entry}
+use Rattle.tape_label.specs.declared.values.{Vol1.Vol1, Head1.Head1, Trail1.Trail1}
+use Rattle.tape_label.specs.{Kinds.HasKind, Vol1.IsVol1, Head1.IsHead1, Trail1.IsTrail1}
+use Rattle.tape_run.specs.declared.section.{SectionKey.SectionKey, Entry.Entry}
+use Rattle.tape_run.specs.declared.section.SectionState.TheVariants.{Good}
 use Rattle.tape_run.specs.Passing.{met_in}
 use Rattle.tape_set.specs.Lawful.{label_count}
-use Rattle.tape_run.specs.declared.section.SectionState.TheVariants.{Good}
 
 -- the first item is the volume label of the volume with this identifier
 pub record BeginsVolume (items : List TapeItem) (volume : List ℕ) : Type 0 where

@@ -1,30 +1,21 @@
 -- The effect of one step of a run, or the state that it leaves if it fails.
 use Rattle.std.specs.Prelude.{◌≡◌, ℕ, ◌+◌, ◌≤◌, Bool, List, ◌∷◌, [], ◌++◌, length, take, Some}
 use Rattle.std.specs.Prelude.{slice_get, Option, ◌⊎◌}
-use Rattle.tape_image.specs.Tape.{TapeItem, block}
-use Rattle.tape_image.specs.Begins.{Stop, Begins}
-use Rattle.tape_set.specs.Layout.{FileSet}
-use Rattle.tape_set.specs.Lawful.{IsLawful}
+use Rattle.tape_image.specs.{Tape.TapeItem, Tape.block, Begins.Stop, Begins.Begins}
+use Rattle.tape_set.specs.{Layout.FileSet, Lawful.IsLawful, Position.at_part, Position.next_block}
 use Rattle.tape_blocks.specs.Block.{Portion}
 use Rattle.tape_set.specs.declared.position.Position.{Position}
-use Rattle.tape_set.specs.Position.{at_part, next_block}
-use Rattle.tape_core.specs.Point.{Point}
-use Rattle.tape_core.specs.State.{State}
-use Rattle.tape_core.specs.Place.{IsPlaced, place_of, rest_of}
-use Rattle.tape_core.specs.Table.{saved, mount_of}
-use Rattle.tape_core.specs.Stands.{weight_of}
+use Rattle.tape_core.specs.{Point.Point, State.State, Table.saved, Table.mount_of, Stands.weight_of}
 use Rattle.tape_core.specs.Weight.{IsFront, Rose}
-use Rattle.tape_core.specs.declared.sink.PartSink.{Ghosts}
-use Rattle.tape_core.specs.declared.sink.SinkFault.{SinkFault}
+use Rattle.tape_core.specs.Place.{IsPlaced, place_of, rest_of}
+use Rattle.tape_core.specs.declared.sink.{PartSink.Ghosts, SinkFault.SinkFault}
 use Rattle.tape_core.specs.declared.sink.SinkFault.TheVariants.{Failed}
 use Rattle.tape_run.specs.declared.fault.RunFault.{RunFault}
 use Rattle.tape_run.specs.declared.fault.RunFault.TheVariants.{Sink, NoSuchPoint, TooFewReels}
 use Rattle.tape_run.specs.declared.fault.RunFault.TheVariants.{OutOfMemory, OtherFile}
 use Rattle.tape_run.specs.Mount.{MountEvent, IsMount, IsMountOf, cut, after_mount}
-use Rattle.tape_run.specs.Given.{IsGiven, counted}
-use Rattle.tape_run.specs.ByTable.{IsLed, IsCutAt}
-use Rattle.tape_run.specs.Seen.{Seen, IsKept, IfSeen}
-use Rattle.tape_run.specs.SessionState.{SessionState}
+use Rattle.tape_run.specs.{Given.IsGiven, Given.counted, ByTable.IsLed, ByTable.IsCutAt, Seen.Seen}
+use Rattle.tape_run.specs.{Seen.IsKept, Seen.IfSeen, SessionState.SessionState}
 
 -- ---- steps that succeeded
 

@@ -2,16 +2,12 @@
 use Rattle.std.specs.Prelude.{ℕ, zero, suc, ◌+◌, ◌-◌, nat_lt, Bool, true, false, not, length}
 use Rattle.std.specs.Prelude.{if◌then◌else◌, List, [], ◌∷◌, ◌++◌, codes, Option, Some, None}
 use Rattle.std.specs.Str.{bytes_eq}
-use Rattle.tape_run.specs.declared.section.Entry.{Entry}
-use Rattle.tape_run.specs.declared.survey.volumes.VolumeItem.{VolumeItem}
+use Rattle.tape_run.specs.declared.{section.Entry.Entry, survey.volumes.VolumeItem.VolumeItem}
 use Rattle.tape_run.specs.declared.survey.volumes.VolumeItem.TheVariants.{Named, MissingFirst}
 use Rattle.tape_run.specs.declared.survey.volumes.VolumeItem.TheVariants.{MissingAfter}
 use Rattle.tape_run.specs.Lacks.{SetFiles, entry_at, key_at}
-use Rattle.tape_run.specs.Passing.{Told}
-use Rattle.tape_run.specs.SurveyGaps.{is_found}
-use Rattle.tape_run.specs.SurveyLine.{trimmed_text}
-use Rattle.tape_run.specs.SurveyProblems.{first_after, ends}
-use Rattle.tape_run.specs.SurveyRead.{Found}
+use Rattle.tape_run.specs.{Passing.Told, SurveyGaps.is_found, SurveyLine.trimmed_text}
+use Rattle.tape_run.specs.{SurveyProblems.first_after, SurveyProblems.ends, SurveyRead.Found}
 
 -- ---- the chain of a set: the volume of each section, in order, and `None` where sections are
 -- missing
@@ -34,8 +30,7 @@ is_last None = false
 -- the number of the first section that may be missing after section `sect`, unless that section
 -- ends the file
 abbrev pub next_first : ℕ → ℕ → Option Entry → Option ℕ
-next_first first sect entry =
-    if is_last entry then None else Some (first_after first sect entry)
+next_first first sect entry = if is_last entry then None else Some (first_after first sect entry)
 
 -- The volumes of n sections of a file, from section `sect` on, up to a section that ends the file;
 -- sections from number `first` up to `sect` were not found. After the last section that was found a
@@ -87,8 +82,7 @@ items_to last missing v = if is_same last v then [] else missing_if missing last
 abbrev pub volumes_from : Option (List ℕ) → Bool → List (Option (List ℕ)) → List VolumeItem
 volumes_from last missing [] = missing_if missing last
 volumes_from last missing (None ∷ xs) = volumes_from last true xs
-volumes_from last missing (Some v ∷ xs) =
-    items_to last missing v ++ volumes_from (Some v) false xs
+volumes_from last missing (Some v ∷ xs) = items_to last missing v ++ volumes_from (Some v) false xs
 
 -- the volumes of a set
 abbrev pub volumes_of : Found → SetFiles → List VolumeItem

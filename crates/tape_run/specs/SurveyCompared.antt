@@ -1,15 +1,12 @@
 -- The report of a survey on sections with more than one good copy. The lines are for people, and
 -- may change.
-use Rattle.std.specs.Prelude.{ℕ, ◌==◌, ◌&&◌, not, Bool, if◌then◌else◌, List, [], ◌++◌, codes, decimal}
-use Rattle.std.specs.Prelude.{Option, Some, None, is_some, get_or}
+use Rattle.std.specs.Prelude.{ℕ, ◌==◌, ◌&&◌, not, Bool, if◌then◌else◌, List, [], ◌++◌, codes}
+use Rattle.std.specs.Prelude.{decimal, Option, Some, None, is_some, get_or}
 use Rattle.std.specs.List.{flat_map}
+use Rattle.tape_run.specs.declared.survey.{copies.CopyNote.CopyNote, Wording.Wording}
 use Rattle.tape_run.specs.declared.section.SectionKey.{SectionKey}
-use Rattle.tape_run.specs.declared.survey.copies.CopyNote.{CopyNote}
-use Rattle.tape_run.specs.declared.survey.Wording.{Wording}
 use Rattle.tape_run.specs.declared.survey.Wording.TheVariants.{Words, Rows}
-use Rattle.tape_run.specs.SurveyCopies.{Noted}
-use Rattle.tape_run.specs.Quoting.{name_text}
-use Rattle.tape_run.specs.SurveyLine.{trimmed_text}
+use Rattle.tape_run.specs.{SurveyCopies.Noted, Quoting.name_text, SurveyLine.trimmed_text}
 use Rattle.tape_run.specs.SurveyRows.{key_cells}
 
 -- the name of image number `image`, if it exists

@@ -1,20 +1,15 @@
 -- The good copies of sections, compared by their data blocks.
 use Rattle.std.specs.Prelude.{ℕ, ◌+◌, ◌==◌, ◌&&◌, min, Bool, true, false, if◌then◌else◌, List, []}
 use Rattle.std.specs.Prelude.{◌∷◌, ◌++◌, Option, Some, None, is_some}
-use Rattle.std.specs.List.{flat_map}
-use Rattle.std.specs.Map.{lookup}
+use Rattle.std.specs.{List.flat_map, Map.lookup}
 use Rattle.indexmap.specs.IndexMap.{insert_entry}
 use Rattle.tape_image.specs.Tape.{TapeItem, block, bad, mark}
-use Rattle.tape_run.specs.declared.passing.Phase.{Phase}
+use Rattle.tape_run.specs.declared.survey.{copies.CopyNote.CopyNote, files.FileKey.FileKey}
+use Rattle.tape_run.specs.declared.{passing.Phase.Phase, section.SectionKey.SectionKey}
 use Rattle.tape_run.specs.declared.passing.Phase.TheVariants.{Volume, Headers, Data}
-use Rattle.tape_run.specs.declared.section.SectionKey.{SectionKey}
-use Rattle.tape_run.specs.declared.survey.copies.CopyNote.{CopyNote}
-use Rattle.tape_run.specs.declared.survey.files.FileKey.{FileKey}
-use Rattle.tape_run.specs.Noted.{same_key, is_good}
-use Rattle.tape_run.specs.Passing.{Told, step}
-use Rattle.tape_run.specs.SurveyDigest.{digest_of, digest_with}
-use Rattle.tape_run.specs.SurveyFiles.{same_file, file_key}
-use Rattle.tape_run.specs.SurveyGlance.{or_else}
+use Rattle.tape_run.specs.{Noted.same_key, Noted.is_good, Passing.Told, Passing.step}
+use Rattle.tape_run.specs.{SurveyDigest.digest_of, SurveyDigest.digest_with, SurveyFiles.same_file}
+use Rattle.tape_run.specs.{SurveyFiles.file_key, SurveyGlance.or_else}
 
 -- ---- the good copies on an image
 

@@ -1,15 +1,13 @@
 -- The digest of the data blocks of a section, by which its copies are compared.
 use Rattle.std.specs.Prelude.{◌≡◌, ◌≢◌, ℕ, ◌+◌, ◌*◌, ◌/◌, ◌%◌, ◌^◌, ◌<◌, List, [], ◌∷◌, ◌++◌}
 use Rattle.std.specs.Prelude.{length, map, drop}
-use Rattle.std.specs.Int.{w64, from_le_bytes, rotate_left}
-use Rattle.std.specs.Simd.{first_chunks}
+use Rattle.std.specs.{Int.w64, Int.from_le_bytes, Int.rotate_left, Simd.first_chunks}
 use Rattle.tape_run.specs.declared.survey.digest.Chains.{Chains}
 
 -- The digest after one more word: the halves of the digest change places, the word is added, and
 -- the sum is multiplied by an odd number, in 64 bits.
 unfoldable pub digest_by : ℕ → ℕ → ℕ
-digest_by d word =
-    ((rotate_left w64 d 32 + word) % 2 ^ 64 * 11400714819323198485) % 2 ^ 64
+digest_by d word = ((rotate_left w64 d 32 + word) % 2 ^ 64 * 11400714819323198485) % 2 ^ 64
 
 -- the same after these words
 abbrev pub digest_over : ℕ → List ℕ → ℕ

@@ -3,10 +3,8 @@ use Rattle.std.specs.Prelude.{ℕ, zero, suc, ◌+◌, ◌-◌, Bool, if◌then�
 use Rattle.std.specs.Prelude.{is_some, codes, decimal}
 use Rattle.tape_run.specs.declared.survey.Wording.{Wording}
 use Rattle.tape_run.specs.declared.survey.Wording.TheVariants.{Words, Rows}
-use Rattle.tape_run.specs.Identifier.{identifier_text}
+use Rattle.tape_run.specs.{Identifier.identifier_text, SurveyLine.trimmed_text, SurveyRead.Found}
 use Rattle.tape_run.specs.SurveyFiles.{note_at, file_key}
-use Rattle.tape_run.specs.SurveyLine.{trimmed_text}
-use Rattle.tape_run.specs.SurveyRead.{Found}
 
 -- a header label of the file was found
 abbrev pub is_found : Found → List ℕ → ℕ → Bool
@@ -15,8 +13,7 @@ is_found d set_id file = is_some (note_at d.files (file_key set_id file))
 -- the first number after the last file up to this number that was found, or 1
 abbrev pub gap_first : Found → List ℕ → ℕ → ℕ
 gap_first d set_id zero = 1
-gap_first d set_id (suc n) =
-    if is_found d set_id (suc n) then suc (suc n) else gap_first d set_id n
+gap_first d set_id (suc n) = if is_found d set_id (suc n) then suc (suc n) else gap_first d set_id n
 
 -- the file numbers from `first` to `file - 1`
 abbrev pub numbers_text : ℕ → ℕ → List ℕ

@@ -1,31 +1,22 @@
 -- A summary of an image, from its items.
-use Rattle.std.specs.Prelude.{ℕ, ◌+◌, ◌==◌, ◌&&◌, not, Bool, true, false, if◌then◌else◌}
-use Rattle.std.specs.Prelude.{List, [], ◌∷◌, length, Option, Some, None, Result, Ok, Err}
-use Rattle.std.specs.List.{flat_map}
-use Rattle.std.specs.Str.{bytes_eq}
+use Rattle.std.specs.Prelude.{ℕ, ◌+◌, ◌==◌, ◌&&◌, not, Bool, true, false, if◌then◌else◌, List, []}
+use Rattle.std.specs.Prelude.{◌∷◌, length, Option, Some, None, Result, Ok, Err}
+use Rattle.std.specs.{List.flat_map, Str.bytes_eq}
 use Rattle.tape_image.specs.Tape.{TapeItem, block, bad, mark}
+use Rattle.tape_label.specs.declared.values.{Kind.Kind, Vol1.Vol1, Head1.Head1, Head2.Head2}
 use Rattle.tape_label.specs.declared.label.LabelFault.{LabelFault}
-use Rattle.tape_label.specs.declared.values.Kind.{Kind}
 use Rattle.tape_label.specs.declared.values.Kind.TheVariants as kinds
-use Rattle.tape_label.specs.declared.values.Vol1.{Vol1}
-use Rattle.tape_label.specs.declared.values.Head1.{Head1}
-use Rattle.tape_label.specs.declared.values.Head2.{Head2}
-use Rattle.tape_label.specs.Kinds.{kind_at}
-use Rattle.tape_label.specs.Positions.{positions}
+use Rattle.tape_label.specs.{Kinds.kind_at, Positions.positions}
 use Rattle.tape_label.specs.Reading.{vol1_at, head1_at, head2_at}
-use Rattle.tape_run.specs.declared.passing.Phase.{Phase}
+use Rattle.tape_run.specs.declared.survey.glance.{First.First, ImageSummary.ImageSummary}
+use Rattle.tape_run.specs.declared.survey.course.{ExpectedItem.ExpectedItem, LabelOrder.LabelOrder}
+use Rattle.tape_run.specs.declared.{passing.Phase.Phase, section.SectionLine.SectionLine}
 use Rattle.tape_run.specs.declared.passing.Phase.TheVariants as phases
-use Rattle.tape_run.specs.declared.survey.glance.First.{First}
 use Rattle.tape_run.specs.declared.survey.glance.First.TheVariants as firsts
-use Rattle.tape_run.specs.declared.survey.course.ExpectedItem.{ExpectedItem}
 use Rattle.tape_run.specs.declared.survey.course.ExpectedItem.TheVariants as wanted
-use Rattle.tape_run.specs.declared.survey.course.LabelOrder.{LabelOrder}
-use Rattle.tape_run.specs.declared.survey.course.LabelOrder.TheVariants.{Follows, Blank, Ended, Leaves}
-use Rattle.tape_run.specs.declared.survey.glance.ImageSummary.{ImageSummary}
-use Rattle.tape_run.specs.declared.section.SectionLine.{SectionLine}
-use Rattle.tape_run.specs.Lacks.{line_of}
-use Rattle.tape_run.specs.Noted.{is_good}
-use Rattle.tape_run.specs.Passing.{Told, step}
+use Rattle.tape_run.specs.declared.survey.course.LabelOrder.TheVariants.{Follows, Blank, Ended}
+use Rattle.tape_run.specs.declared.survey.course.LabelOrder.TheVariants.{Leaves}
+use Rattle.tape_run.specs.{Lacks.line_of, Noted.is_good, Passing.Told, Passing.step}
 
 -- 80 bytes that begin VOL1 in EBCDIC
 unfoldable pub is_ebcdic : List ℕ → Bool

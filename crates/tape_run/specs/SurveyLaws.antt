@@ -1,29 +1,19 @@
 -- What a survey says about the items of an image, and about the volumes of a set.
 use Rattle.std.specs.Prelude.{◌≡◌, ◌≢◌, ℕ, ◌+◌, Bool, true, false, List, [], ◌∷◌, ◌++◌, length, map}
 use Rattle.std.specs.Prelude.{◌≤◌, ◌<◌, Option, Some, None, replicate}
-use Rattle.std.specs.Str.{bytes_eq}
-use Rattle.std.specs.List.{AllByRecursion, flat_map}
+use Rattle.std.specs.{Str.bytes_eq, List.AllByRecursion, List.flat_map}
 use Rattle.tape_image.specs.Tape.{TapeItem, block, mark}
 use Rattle.tape_label.specs.declared.values.Kind.TheVariants as kinds
-use Rattle.tape_label.specs.declared.values.Vol1.{Vol1}
-use Rattle.tape_label.specs.declared.values.Head1.{Head1}
-use Rattle.tape_label.specs.declared.values.Trail1.{Trail1}
-use Rattle.tape_label.specs.Kinds.{HasKind}
-use Rattle.tape_label.specs.Vol1.{IsVol1}
-use Rattle.tape_label.specs.Head1.{IsHead1}
-use Rattle.tape_label.specs.Trail1.{IsTrail1}
+use Rattle.tape_label.specs.declared.values.{Vol1.Vol1, Head1.Head1, Trail1.Trail1}
+use Rattle.tape_label.specs.{Kinds.HasKind, Vol1.IsVol1, Head1.IsHead1, Trail1.IsTrail1}
 use Rattle.tape_label.specs.VolumeLabels.{is_volume_label}
+use Rattle.tape_run.specs.declared.survey.course.{ExpectedItem.ExpectedItem, LabelOrder.LabelOrder}
 use Rattle.tape_run.specs.declared.section.Entry.{Entry}
-use Rattle.tape_run.specs.declared.survey.course.ExpectedItem.{ExpectedItem}
-use Rattle.tape_run.specs.declared.survey.course.LabelOrder.{LabelOrder}
 use Rattle.tape_run.specs.declared.survey.course.LabelOrder.TheVariants.{Ended, Leaves}
 use Rattle.tape_run.specs.declared.survey.volumes.VolumeItem.TheVariants.{Named, MissingAfter}
-use Rattle.tape_run.specs.Lacks.{SetFiles, entry_at, key_at}
-use Rattle.tape_run.specs.SurveyChain.{is_last, volumes_from, volumes_of}
-use Rattle.tape_run.specs.SurveyConflicts.{IsIn}
-use Rattle.tape_run.specs.SurveyGaps.{is_found}
-use Rattle.tape_run.specs.SurveyGlance.{glance_of}
-use Rattle.tape_run.specs.SurveyRead.{Found}
+use Rattle.tape_run.specs.{Lacks.SetFiles, Lacks.entry_at, Lacks.key_at, SurveyChain.is_last}
+use Rattle.tape_run.specs.{SurveyChain.volumes_from, SurveyChain.volumes_of, SurveyConflicts.IsIn}
+use Rattle.tape_run.specs.{SurveyGaps.is_found, SurveyGlance.glance_of, SurveyRead.Found}
 
 -- ---- the order of a volume
 
@@ -109,8 +99,7 @@ pub record VolumesAreListed : Type 0 where
   pub named : (d : Found) (x : SetFiles) (file sect : ℕ) (e : Entry) → 1 ≤ file → file ≤ x.1
       → is_found d x.0 file ≡ true → 1 ≤ sect → sect ≤ 9999
       → ((i : ℕ) → 1 ≤ i → i < sect → is_last (entry_at d.sections (key_at x.0 file i)) ≡ false)
-      → entry_at d.sections (key_at x.0 file sect) ≡ Some e
-      → IsIn (volumes_of d x) (Named e.volume)
+      → entry_at d.sections (key_at x.0 file sect) ≡ Some e → IsIn (volumes_of d x) (Named e.volume)
   -- sections that are missing between two volumes are one missing volume, however many they are
   pub one : (front rest : List (Option (List ℕ))) (u v : List ℕ) (n : ℕ) → bytes_eq u v ≡ false
       → volumes_from None false (front ++ Some u ∷ None ∷ (replicate n None ++ Some v ∷ rest))

@@ -1,29 +1,24 @@
 -- The description of an image in a survey. The text is for people, and may change.
-use Rattle.std.specs.Prelude.{Bool, true, false, not, length, take, ◌-◌, ℕ, ◌==◌}
-use Rattle.std.specs.Prelude.{nat_lt, map, if◌then◌else◌, List, [], ◌++◌, codes, decimal}
-use Rattle.std.specs.Prelude.{Option, Some, None, replicate}
+use Rattle.std.specs.Prelude.{Bool, true, false, not, length, take, ◌-◌, ℕ, ◌==◌, nat_lt, map}
+use Rattle.std.specs.Prelude.{if◌then◌else◌, List, [], ◌++◌, codes, decimal, Option, Some, None}
+use Rattle.std.specs.Prelude.{replicate}
 use Rattle.tape_image.specs.declared.item.ImageFault.{ImageFault}
 use Rattle.std.specs.List.{flat_map, suffix_len}
 use Rattle.tape_image.specs.Fault.{number_of}
 use Rattle.tape_label.specs.declared.values.Head1.{Head1}
-use Rattle.tape_run.specs.declared.section.ImageStop.{ImageStop}
-use Rattle.tape_run.specs.declared.section.SectionKey.{SectionKey}
-use Rattle.tape_run.specs.declared.section.SectionLine.{SectionLine}
-use Rattle.tape_run.specs.declared.section.SectionState.{SectionState}
+use Rattle.tape_run.specs.declared.section.{ImageStop.ImageStop, SectionKey.SectionKey}
+use Rattle.tape_run.specs.declared.section.{SectionLine.SectionLine, SectionState.SectionState}
+use Rattle.tape_run.specs.declared.survey.glance.{First.First, ImageSummary.ImageSummary}
+use Rattle.tape_run.specs.declared.survey.course.{ExpectedItem.ExpectedItem, LabelOrder.LabelOrder}
+use Rattle.tape_run.specs.declared.survey.{line.ImageState.ImageState, view.ImageSurvey.ImageSurvey}
 use Rattle.tape_run.specs.declared.section.SectionState.TheVariants.{Good, Bad, Count, Cut}
 use Rattle.tape_run.specs.declared.section.ImageStop.TheVariants.{Marked, Physical, Fault}
-use Rattle.tape_run.specs.declared.survey.glance.First.{First}
 use Rattle.tape_run.specs.declared.survey.glance.First.TheVariants as firsts
-use Rattle.tape_run.specs.declared.survey.course.ExpectedItem.{ExpectedItem}
 use Rattle.tape_run.specs.declared.survey.course.ExpectedItem.TheVariants as wanted
-use Rattle.tape_run.specs.declared.survey.course.LabelOrder.{LabelOrder}
-use Rattle.tape_run.specs.declared.survey.course.LabelOrder.TheVariants.{Follows, Blank, Ended, Leaves}
-use Rattle.tape_run.specs.declared.survey.glance.ImageSummary.{ImageSummary}
-use Rattle.tape_run.specs.declared.survey.line.ImageState.{ImageState}
+use Rattle.tape_run.specs.declared.survey.course.LabelOrder.TheVariants.{Follows, Blank, Ended}
+use Rattle.tape_run.specs.declared.survey.course.LabelOrder.TheVariants.{Leaves}
 use Rattle.tape_run.specs.declared.survey.line.ImageState.TheVariants as states
-use Rattle.tape_run.specs.declared.survey.view.ImageSurvey.{ImageSurvey}
-use Rattle.tape_run.specs.Identifier.{printed}
-use Rattle.tape_run.specs.Quoting.{name_text}
+use Rattle.tape_run.specs.{Identifier.printed, Quoting.name_text}
 use Rattle.tape_run.specs.SurveyTally.{is_no_image, state_of}
 
 -- a space
@@ -164,8 +159,7 @@ fault_at between number place guess = between ++ (codes "image fault " ++ (decim
 
 -- a fault, with its offset
 abbrev pub fault_text : List ℕ → ImageFault → List ℕ
-fault_text between fault =
-    fault_at between (number_of fault.cause) fault.place (guess_text fault)
+fault_text between fault = fault_at between (number_of fault.cause) fault.place (guess_text fault)
 
 -- the fault with which it ends
 abbrev pub stop_text : List ℕ → ImageStop → List ℕ
@@ -197,8 +191,7 @@ state_word states.NotTape = codes "not a tape   "
 
 -- its state and what it is, each fact after the first on a line of its own
 abbrev pub opened_text : ImageSurvey → Option SectionKey → List ℕ
-opened_text s key =
-    state_word (state_of s key) ++ (seen_text (codes "\n    ") s key ++ codes "\n")
+opened_text s key = state_word (state_of s key) ++ (seen_text (codes "\n    ") s key ++ codes "\n")
 
 -- the description of an image, or the text that it was not opened
 abbrev pub sight_text : Option ImageSurvey → Option SectionKey → List ℕ

@@ -1,19 +1,14 @@
 -- What was read of images for a survey.
-use Rattle.std.specs.Prelude.{◌≡◌, ℕ, ◌+◌, ◌&&◌, Bool, true, false, List, [], ◌∷◌}
-use Rattle.std.specs.Prelude.{Option, Some, None}
-use Rattle.tape_image.specs.Tape.{TapeItem}
-use Rattle.tape_image.specs.Reader.{IfKnown}
+use Rattle.std.specs.Prelude.{◌≡◌, ℕ, ◌+◌, ◌&&◌, Bool, true, false, List, [], ◌∷◌, Option, Some}
+use Rattle.std.specs.Prelude.{None}
+use Rattle.tape_image.specs.{Tape.TapeItem, Reader.IfKnown}
 use Rattle.tape_run.specs.declared.survey.view.ImageSurvey.{ImageSurvey}
-use Rattle.tape_run.specs.Added.{StopsBehind}
-use Rattle.tape_run.specs.Checked.{Reel}
-use Rattle.tape_run.specs.Noted.{noted_all}
-use Rattle.tape_run.specs.Passing.{Told, met_in}
-use Rattle.tape_run.specs.Reeling.{Mounting}
-use Rattle.tape_run.specs.SurveyCopies.{Copied, no_copies, copied_in}
-use Rattle.tape_run.specs.SurveyFiles.{Filed, filed_in}
-use Rattle.tape_run.specs.SurveyGlance.{glance_of, damages_in}
-use Rattle.tape_run.specs.SurveyLocations.{Located, located_in, next_image}
+use Rattle.tape_run.specs.{Added.StopsBehind, Checked.Reel, Noted.noted_all, Passing.Told}
+use Rattle.tape_run.specs.{Passing.met_in, Reeling.Mounting, SurveyFiles.Filed}
+use Rattle.tape_run.specs.{SurveyFiles.filed_in, SurveyGlance.glance_of, SurveyGlance.damages_in}
 use Rattle.tape_run.specs.SurveyTally.{is_whole_sight}
+use Rattle.tape_run.specs.SurveyCopies.{Copied, no_copies, copied_in}
+use Rattle.tape_run.specs.SurveyLocations.{Located, located_in, next_image}
 
 -- the results of reading images: the sections and files found, whether every image was read
 -- completely, the image of each section, its good copies, and the number of images

@@ -1,29 +1,21 @@
 -- The rows of a survey, for scripts. A tab separates the columns, and none contains one: each byte
 -- of a name or an identifier that is not printable is replaced by a question mark.
-use Rattle.std.specs.Prelude.{ℕ, Bool, if◌then◌else◌, List, [], ◌∷◌, ◌++◌, codes, decimal}
-use Rattle.std.specs.Prelude.{Option, Some, None, is_some, ◌||◌}
+use Rattle.std.specs.Prelude.{ℕ, Bool, if◌then◌else◌, List, [], ◌∷◌, ◌++◌, codes, decimal, Option}
+use Rattle.std.specs.Prelude.{Some, None, is_some, ◌||◌}
 use Rattle.tape_label.specs.Formats.{letter}
-use Rattle.tape_label.specs.declared.values.Head1.{Head1}
-use Rattle.tape_label.specs.declared.values.Head2.{Head2}
+use Rattle.tape_label.specs.declared.values.{Head1.Head1, Head2.Head2}
+use Rattle.tape_run.specs.declared.survey.glance.{First.First, ImageSummary.ImageSummary}
+use Rattle.tape_run.specs.declared.survey.{files.FileNote.FileNote, sets.Standing.Standing}
+use Rattle.tape_run.specs.declared.survey.{view.ImageSurvey.ImageSurvey, Wording.TheVariants.Rows}
 use Rattle.tape_run.specs.declared.section.SectionKey.{SectionKey}
-use Rattle.tape_run.specs.declared.survey.files.FileNote.{FileNote}
-use Rattle.tape_run.specs.declared.survey.glance.First.{First}
 use Rattle.tape_run.specs.declared.survey.glance.First.TheVariants as firsts
-use Rattle.tape_run.specs.declared.survey.glance.ImageSummary.{ImageSummary}
-use Rattle.tape_run.specs.declared.survey.sets.Standing.{Standing}
 use Rattle.tape_run.specs.declared.survey.sets.Standing.TheVariants.{Complete, Damaged, Behind}
 use Rattle.tape_run.specs.declared.survey.sets.Standing.TheVariants.{Missing}
-use Rattle.tape_run.specs.declared.survey.view.ImageSurvey.{ImageSurvey}
-use Rattle.tape_run.specs.CheckLine.{state_text, stop_text}
-use Rattle.tape_run.specs.Dates.{date_of, date_cell}
-use Rattle.tape_run.specs.Passing.{Told}
-use Rattle.tape_run.specs.SurveyCopies.{dispute_at}
-use Rattle.tape_run.specs.SurveyFiles.{note_at, file_key}
-use Rattle.tape_run.specs.Quoting.{name_text}
-use Rattle.tape_run.specs.SurveyLine.{trimmed_text, seen_text}
-use Rattle.tape_run.specs.SurveyRead.{Found}
+use Rattle.tape_run.specs.{CheckLine.state_text, CheckLine.stop_text, Dates.date_of}
+use Rattle.tape_run.specs.{Dates.date_cell, Passing.Told, SurveyCopies.dispute_at}
+use Rattle.tape_run.specs.{SurveyFiles.note_at, SurveyFiles.file_key, Quoting.name_text}
+use Rattle.tape_run.specs.{SurveyLine.trimmed_text, SurveyLine.seen_text, SurveyRead.Found}
 use Rattle.tape_run.specs.SurveyTally.{is_sound}
-use Rattle.tape_run.specs.declared.survey.Wording.TheVariants.{Rows}
 use Rattle.tape_run.specs.SurveySets.{standing_of, is_mixed, is_whole_file, rest_lines}
 
 -- the state of an image: whether it is in conflict, or else was read completely without damage
@@ -43,14 +35,12 @@ owner_cell _ = []
 
 -- the set and the system, if a section was found
 abbrev pub head_cells : Option Head1 → List ℕ
-head_cells (Some head) =
-    trimmed_text head.set_id ++ codes "\t" ++ trimmed_text head.implementation
+head_cells (Some head) = trimmed_text head.set_id ++ codes "\t" ++ trimmed_text head.implementation
 head_cells None = codes "\t"
 
 -- the numbers of items, sections and bad blocks
 abbrev pub count_cells : ImageSummary → List ℕ
-count_cells g =
-    decimal g.items ++ codes "\t" ++ decimal g.files ++ codes "\t" ++ decimal g.bad
+count_cells g = decimal g.items ++ codes "\t" ++ decimal g.files ++ codes "\t" ++ decimal g.bad
 
 -- the description of an image, which has a good copy of a section whose good copies differ or not
 abbrev pub seen_cells : ImageSurvey → Bool → List ℕ

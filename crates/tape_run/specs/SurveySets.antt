@@ -1,27 +1,20 @@
 -- What a survey says of sets and their files. The text is for people, and may change.
 use Rattle.std.specs.Prelude.{ℕ, zero, suc, ◌+◌, ◌-◌, ◌&&◌, ◌||◌, not, nat_lt, Bool, true, false}
-use Rattle.std.specs.Prelude.{if◌then◌else◌, List, [], ◌∷◌, ◌++◌, codes, decimal}
-use Rattle.std.specs.Prelude.{Option, Some, None, is_some}
+use Rattle.std.specs.Prelude.{if◌then◌else◌, List, [], ◌∷◌, ◌++◌, codes, decimal, Option, Some}
+use Rattle.std.specs.Prelude.{None, is_some}
 use Rattle.std.specs.List.{flat_map}
-use Rattle.tape_run.specs.declared.section.Entry.{Entry}
-use Rattle.tape_run.specs.declared.survey.files.FileNote.{FileNote}
-use Rattle.tape_run.specs.declared.survey.sets.Standing.{Standing}
+use Rattle.tape_run.specs.declared.{section.Entry.Entry, survey.files.FileNote.FileNote}
+use Rattle.tape_run.specs.declared.{survey.sets.Standing.Standing, survey.Wording.Wording}
 use Rattle.tape_run.specs.declared.survey.sets.Standing.TheVariants.{Complete, Damaged, Behind}
 use Rattle.tape_run.specs.declared.survey.sets.Standing.TheVariants.{Missing}
-use Rattle.tape_run.specs.declared.survey.Wording.{Wording}
 use Rattle.tape_run.specs.declared.survey.Wording.TheVariants.{Words, Rows}
-use Rattle.tape_run.specs.Dates.{date_of, date_text}
-use Rattle.tape_run.specs.Identifier.{identifier_text}
-use Rattle.tape_run.specs.Lacks.{entry_at, key_at, lack_of, found_all}
-use Rattle.tape_run.specs.Noted.{is_good}
-use Rattle.tape_run.specs.Passing.{Told}
-use Rattle.tape_run.specs.SurveyCopies.{dispute_at, is_agreed}
-use Rattle.tape_run.specs.SurveyLine.{trimmed_text, damage_text}
-use Rattle.tape_run.specs.SurveyFiles.{note_at, file_key, any_differs}
-use Rattle.tape_run.specs.SurveyGlance.{one_if}
-use Rattle.tape_run.specs.SurveyProblems.{problem_lines}
-use Rattle.tape_run.specs.SurveyRead.{Found}
+use Rattle.tape_run.specs.{Dates.date_of, Dates.date_text, Identifier.identifier_text}
+use Rattle.tape_run.specs.{Noted.is_good, Passing.Told, SurveyCopies.dispute_at}
+use Rattle.tape_run.specs.{SurveyCopies.is_agreed, SurveyLine.trimmed_text, SurveyLine.damage_text}
+use Rattle.tape_run.specs.{SurveyGlance.one_if, SurveyProblems.problem_lines, SurveyRead.Found}
 use Rattle.tape_run.specs.SurveyTally.{is_none}
+use Rattle.tape_run.specs.Lacks.{entry_at, key_at, lack_of, found_all}
+use Rattle.tape_run.specs.SurveyFiles.{note_at, file_key, any_differs}
 
 -- a missing section, with what is known of the one before it
 abbrev pub behind_by : ℕ → Option Entry → Standing
@@ -104,8 +97,7 @@ is_sure d set_id file =
 -- the number of complete files among n files of a set, from this one on
 abbrev pub sure_files : Found → List ℕ → ℕ → ℕ → ℕ
 sure_files d set_id file zero = 0
-sure_files d set_id file (suc n) =
-    one_if (is_sure d set_id file) + sure_files d set_id (file + 1) n
+sure_files d set_id file (suc n) = one_if (is_sure d set_id file) + sure_files d set_id (file + 1) n
 
 -- the line about a set, with the number of its complete files
 abbrev pub set_line : List ℕ → ℕ → ℕ → List ℕ

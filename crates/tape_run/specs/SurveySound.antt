@@ -3,12 +3,10 @@ use Rattle.std.specs.Prelude.{◌≡◌, ◌≢◌, ℕ, true, false, List, [], 
 use Rattle.std.specs.List.{AllByRecursion}
 use Rattle.tape_run.specs.declared.section.SectionState.TheVariants.{Good}
 use Rattle.tape_run.specs.declared.survey.view.ImageSurvey.{ImageSurvey}
-use Rattle.tape_run.specs.Lacks.{lacks}
-use Rattle.tape_run.specs.Reeling.{Mounting}
-use Rattle.tape_run.specs.SurveyConflicts.{Placed, all_placed, IsIn}
-use Rattle.tape_run.specs.SurveyDigest.{digest_of}
-use Rattle.tape_run.specs.SurveyRead.{Found, nothing_found, AreViewed}
+use Rattle.tape_run.specs.{Lacks.lacks, Reeling.Mounting, SurveyDigest.digest_of}
 use Rattle.tape_run.specs.SurveyTally.{is_whole_sight}
+use Rattle.tape_run.specs.SurveyConflicts.{Placed, all_placed, IsIn}
+use Rattle.tape_run.specs.SurveyRead.{Found, nothing_found, AreViewed}
 
 -- an image was opened, and is a volume from its label to its last mark in formats that are read
 abbrev pub IsWhole : Option ImageSurvey → Type 0

@@ -5,17 +5,14 @@ use Rattle.std.specs.Prelude.{if◌then◌else◌, List, [], ◌∷◌, ◌++◌
 use Rattle.std.specs.Prelude.{None}
 use Rattle.tape_image.specs.declared.item.ImageFault.{ImageFault}
 use Rattle.tape_image.specs.Fault.{number_of}
-use Rattle.tape_run.specs.declared.section.ImageStop.{ImageStop}
-use Rattle.tape_run.specs.declared.section.ImageStop.TheVariants.{Marked, Physical, Fault}
-use Rattle.tape_run.specs.declared.section.SectionKey.{SectionKey}
+use Rattle.tape_run.specs.declared.section.{ImageStop.ImageStop, SectionKey.SectionKey}
 use Rattle.tape_run.specs.declared.survey.course.LabelOrder.{LabelOrder}
 use Rattle.tape_run.specs.declared.survey.course.LabelOrder.TheVariants.{Ended}
-use Rattle.tape_run.specs.declared.survey.glance.First.{First}
+use Rattle.tape_run.specs.declared.survey.{glance.First.First, line.ImageState.ImageState}
+use Rattle.tape_run.specs.declared.survey.{tally.Tally.Tally, view.ImageSurvey.ImageSurvey}
+use Rattle.tape_run.specs.declared.section.ImageStop.TheVariants.{Marked, Physical, Fault}
 use Rattle.tape_run.specs.declared.survey.glance.First.TheVariants as firsts
-use Rattle.tape_run.specs.declared.survey.line.ImageState.{ImageState}
 use Rattle.tape_run.specs.declared.survey.line.ImageState.TheVariants as states
-use Rattle.tape_run.specs.declared.survey.tally.Tally.{Tally}
-use Rattle.tape_run.specs.declared.survey.view.ImageSurvey.{ImageSurvey}
 use Rattle.tape_run.specs.SurveyCopies.{Held, disputed_on}
 
 -- the image does not end with a fault

@@ -1,21 +1,16 @@
 -- The text of a survey, in words or in rows.
 use Rattle.std.specs.Prelude.{ℕ, zero, suc, ◌+◌, ◌-◌, Bool, if◌then◌else◌, List, [], ◌++◌, Option}
 use Rattle.std.specs.List.{flat_map}
-use Rattle.tape_run.specs.declared.section.SectionKey.{SectionKey}
-use Rattle.tape_run.specs.declared.survey.Wording.{Wording}
+use Rattle.tape_run.specs.declared.{section.SectionKey.SectionKey, survey.Wording.Wording}
+use Rattle.tape_run.specs.declared.{survey.tally.Tally.Tally, survey.view.ImageSurvey.ImageSurvey}
 use Rattle.tape_run.specs.declared.survey.Wording.TheVariants.{Words, Rows}
-use Rattle.tape_run.specs.declared.survey.tally.Tally.{Tally}
-use Rattle.tape_run.specs.declared.survey.view.ImageSurvey.{ImageSurvey}
-use Rattle.tape_run.specs.Lacks.{SetFiles, sets_from}
-use Rattle.tape_run.specs.Passing.{Told}
-use Rattle.tape_run.specs.SurveyChain.{volumes_of, volumes_line}
-use Rattle.tape_run.specs.SurveyCompared.{copies_text}
+use Rattle.tape_run.specs.{Lacks.SetFiles, Lacks.sets_from, Passing.Told, SurveyChain.volumes_of}
+use Rattle.tape_run.specs.{SurveyChain.volumes_line, SurveyCompared.copies_text}
+use Rattle.tape_run.specs.{SurveyLine.image_line, SurveyRead.Found, SurveyTally.tally_line}
 use Rattle.tape_run.specs.SurveyGaps.{is_found, gap_first, gap_text}
-use Rattle.tape_run.specs.SurveyLine.{image_line}
-use Rattle.tape_run.specs.SurveyRead.{Found}
 use Rattle.tape_run.specs.SurveyRows.{image_row, section_row, file_row}
-use Rattle.tape_run.specs.SurveyTally.{tally_line}
-use Rattle.tape_run.specs.SurveySets.{file_lines, set_line, sure_files, strays_text, is_all, last_text}
+use Rattle.tape_run.specs.SurveySets.{file_lines, set_line, sure_files, strays_text, is_all}
+use Rattle.tape_run.specs.SurveySets.{last_text}
 
 -- the text about an image with a section whose good copies differ, if any
 abbrev pub image_text : Wording → List ℕ → Option ImageSurvey → Option SectionKey → List ℕ
@@ -38,13 +33,11 @@ file_text y d set_id file =
 -- the texts for n files of a set, from this one on
 abbrev pub file_texts : Wording → Found → List ℕ → ℕ → ℕ → List ℕ
 file_texts y d set_id file zero = []
-file_texts y d set_id file (suc n) =
-    file_text y d set_id file ++ file_texts y d set_id (file + 1) n
+file_texts y d set_id file (suc n) = file_text y d set_id file ++ file_texts y d set_id (file + 1) n
 
 -- the heading of a set: the number of its complete files, and its volumes
 abbrev pub set_front : Wording → Found → SetFiles → List ℕ
-set_front Words d x =
-    set_line x.0 (sure_files d x.0 1 x.1) x.1 ++ volumes_line (volumes_of d x)
+set_front Words d x = set_line x.0 (sure_files d x.0 1 x.1) x.1 ++ volumes_line (volumes_of d x)
 set_front Rows d x = []
 
 -- a set, and its files up to the greatest number of one

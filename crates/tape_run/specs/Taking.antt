@@ -1,22 +1,16 @@
 -- The effect of a reel reader on one item, and on the items of a reel.
-use Rattle.std.specs.Prelude.{◌≡◌, ℕ, ◌+◌, ◌<◌, Bool, List, length, Option, slice_get}
-use Rattle.std.specs.Prelude.{Some, None, Result, Ok, Err}
+use Rattle.std.specs.Prelude.{◌≡◌, ℕ, ◌+◌, ◌<◌, Bool, List, length, Option, slice_get, Some, None}
+use Rattle.std.specs.Prelude.{Result, Ok, Err}
 use Rattle.tape_blocks.specs.Block.{Portion}
 use Rattle.tape_image.specs.declared.item.ImageFault.{ImageFault}
-use Rattle.tape_image.specs.Tape.{TapeItem}
-use Rattle.tape_image.specs.Begins.{Stop, Begins}
-use Rattle.tape_set.specs.Layout.{FileSet}
-use Rattle.tape_set.specs.Lawful.{IsLawful}
+use Rattle.tape_image.specs.{Tape.TapeItem, Begins.Stop, Begins.Begins}
+use Rattle.tape_set.specs.{Layout.FileSet, Lawful.IsLawful}
 use Rattle.tape_set.specs.declared.position.Position.{Position}
 use Rattle.tape_core.specs.declared.event.Answer.{Answer}
-use Rattle.tape_core.specs.State.{State}
-use Rattle.tape_core.specs.Place.{IsPlaced, rest_of}
-use Rattle.tape_core.specs.Follows.{IsFinal}
+use Rattle.tape_core.specs.{State.State, Place.IsPlaced, Place.rest_of, Follows.IsFinal}
 use Rattle.tape_run.specs.Mount.{MountEvent, IsMount, after_mount}
-use Rattle.tape_run.specs.Given.{IsGiven}
-use Rattle.tape_run.specs.ByTable.{IsLed, IsCutAt}
-use Rattle.tape_run.specs.Steps.{ReadBy, StoppedBy}
-use Rattle.tape_run.specs.Under.{is_under}
+use Rattle.tape_run.specs.{Given.IsGiven, ByTable.IsLed, ByTable.IsCutAt, Steps.ReadBy}
+use Rattle.tape_run.specs.{Steps.StoppedBy, Under.is_under}
 
 -- the result for an image, from what its reader returned: an item, or none at the end of the medium
 -- or a fault

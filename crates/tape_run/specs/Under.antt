@@ -3,9 +3,7 @@ use Rattle.std.specs.Prelude.{◌≡◌, ℕ, List, take, drop}
 use Rattle.tape_image.specs.Tape.{TapeItem}
 use Rattle.tape_set.specs.declared.position.Position.{Position}
 use Rattle.tape_set.specs.Layout.{FileSet}
-use Rattle.tape_core.specs.State.{State}
-use Rattle.tape_core.specs.Follows.{IsReading}
-use Rattle.tape_core.specs.Foreign.{IsForeignAt}
+use Rattle.tape_core.specs.{State.State, Follows.IsReading, Foreign.IsForeignAt}
 use Rattle.tape_run.specs.Mount.{MountEvent, reads, foreign_reel, saves, restarts}
 
 -- The mount of these items, which began at p, is under way, and i of them were processed: the

@@ -1,10 +1,8 @@
 -- The found files that `unpack` is to recover.
 use Rattle.std.specs.Prelude.{◌≡◌, ◌≢◌, ◌⊎◌, ℕ, List, [], ◌∷◌, ◌++◌, length, decimal, Option}
 use Rattle.std.specs.Prelude.{IfSome}
-use Rattle.std.specs.Borrow.{Bor}
-use Rattle.std.specs.List.{Any}
-use Rattle.tape_run.specs.declared.unpack.SetFile.{SetFile}
-use Rattle.tape_run.specs.declared.unpack.choice.FileChoice.{FileChoice}
+use Rattle.std.specs.{Borrow.Bor, List.Any}
+use Rattle.tape_run.specs.declared.unpack.{SetFile.SetFile, choice.FileChoice.FileChoice}
 use Rattle.tape_run.specs.SurveyLine.{trimmed_text}
 
 -- the piece of a word that a character of a pattern represents: any piece for `*` (42), otherwise

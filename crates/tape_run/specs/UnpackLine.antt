@@ -1,14 +1,12 @@
 -- The lines that `unpack` prints.
 use Rattle.std.specs.Prelude.{ℕ, List, [], ◌∷◌, ◌++◌, codes, decimal}
-use Rattle.tape_run.specs.declared.unpack.line.UnpackOutcome.{UnpackOutcome}
+use Rattle.tape_run.specs.declared.unpack.line.{UnpackOutcome.UnpackOutcome, Notice.Notice}
 use Rattle.tape_run.specs.declared.unpack.line.UnpackOutcome.TheVariants.{Complete, Awaits, Ready}
 use Rattle.tape_run.specs.declared.unpack.line.UnpackOutcome.TheVariants.{Lacks, Exists, Conflict}
 use Rattle.tape_run.specs.declared.unpack.line.UnpackOutcome.TheVariants.{NotFound, Failed}
 use Rattle.tape_run.specs.declared.unpack.line.UnpackOutcome.TheVariants.{Salvaged}
-use Rattle.tape_run.specs.declared.unpack.line.Notice.{Notice}
 use Rattle.tape_run.specs.declared.unpack.line.Notice.TheVariants.{NoSet, NoFile, Unread}
-use Rattle.tape_run.specs.Identifier.{identifier_text}
-use Rattle.tape_run.specs.Quoting.{name_text}
+use Rattle.tape_run.specs.{Identifier.identifier_text, Quoting.name_text}
 
 -- the outcome of a file, as `unpack` prints it
 abbrev pub unpack_outcome_text : UnpackOutcome → List ℕ

@@ -1,11 +1,10 @@
 -- How many files `unpack` has reported, by their outcomes.
 use Rattle.std.specs.Prelude.{ℕ, ◌+◌, min, List, ◌++◌, codes, decimal}
-use Rattle.tape_run.specs.declared.unpack.line.UnpackOutcome.{UnpackOutcome}
+use Rattle.tape_run.specs.declared.unpack.{line.UnpackOutcome.UnpackOutcome, tally.Tally.Tally}
 use Rattle.tape_run.specs.declared.unpack.line.UnpackOutcome.TheVariants.{Complete, Awaits, Ready}
 use Rattle.tape_run.specs.declared.unpack.line.UnpackOutcome.TheVariants.{Lacks, Exists, Conflict}
 use Rattle.tape_run.specs.declared.unpack.line.UnpackOutcome.TheVariants.{NotFound, Failed}
 use Rattle.tape_run.specs.declared.unpack.line.UnpackOutcome.TheVariants.{Salvaged}
-use Rattle.tape_run.specs.declared.unpack.tally.Tally.{Tally}
 
 -- nothing was reported
 abbrev pub nothing_counted : Tally

@@ -5,20 +5,13 @@ use Rattle.std.specs.Prelude.{take, Option, Some, None, option_map, is_some, cod
 use Rattle.std.specs.List.{flat_map}
 use Rattle.tape_label.specs.declared.values.Head1.{Head1}
 use Rattle.tape_set.specs.declared.position.Want.{Want}
-use Rattle.tape_run.specs.declared.survey.view.ImageSurvey.{ImageSurvey}
-use Rattle.tape_run.specs.declared.survey.files.FileNote.{FileNote}
-use Rattle.tape_run.specs.declared.survey.glance.First.{First}
-use Rattle.tape_run.specs.declared.survey.glance.First.TheVariants.{Volume}
-use Rattle.tape_run.specs.declared.unpack.SetFile.{SetFile}
-use Rattle.tape_run.specs.declared.unpack.FoundFiles.{FoundFiles}
-use Rattle.tape_run.specs.Lacks.{SetFiles, sets_from, lack_of}
-use Rattle.tape_run.specs.Quoting.{hex}
-use Rattle.tape_run.specs.Reeling.{Mounting}
-use Rattle.tape_run.specs.SurveyCopies.{dispute_at}
-use Rattle.tape_run.specs.SurveyFiles.{note_at, file_key}
-use Rattle.tape_run.specs.SurveyLine.{trimmed_len}
+use Rattle.tape_run.specs.declared.survey.glance.{First.First, First.TheVariants.Volume}
+use Rattle.tape_run.specs.declared.survey.{view.ImageSurvey.ImageSurvey, files.FileNote.FileNote}
+use Rattle.tape_run.specs.declared.unpack.{SetFile.SetFile, FoundFiles.FoundFiles}
+use Rattle.tape_run.specs.{Lacks.SetFiles, Lacks.sets_from, Lacks.lack_of, Quoting.hex}
+use Rattle.tape_run.specs.{Reeling.Mounting, SurveyCopies.dispute_at, SurveyLine.trimmed_len}
+use Rattle.tape_run.specs.{SurveyTally.is_whole_sight, SurveyFiles.note_at, SurveyFiles.file_key}
 use Rattle.tape_run.specs.SurveyRead.{Found, nothing_found, AreViewed}
-use Rattle.tape_run.specs.SurveyTally.{is_whole_sight}
 
 -- the file that is described by these facts about its labels; without a label there is none. It is
 -- in conflict if its labels differ, or good copies of a section.

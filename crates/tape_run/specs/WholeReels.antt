@@ -1,19 +1,12 @@
 -- Laws of what `check` reports, for reels and sections.
 use Rattle.std.specs.Prelude.{◌≡◌, ⊤, ℕ, Bool, true, List, [], ◌∷◌, ◌++◌, Option, Some, IsSome}
 use Rattle.std.specs.List.{AllByRecursion, flat_map}
-use Rattle.tape_image.specs.Tape.{TapeItem}
-use Rattle.tape_image.specs.Reader.{IfKnown}
-use Rattle.tape_set.specs.Layout.{FileSet, file_of, sections}
-use Rattle.tape_set.specs.Lawful.{IsLawful}
-use Rattle.tape_run.specs.declared.section.SectionKey.{SectionKey}
+use Rattle.tape_image.specs.{Tape.TapeItem, Reader.IfKnown}
+use Rattle.tape_set.specs.{Layout.FileSet, Layout.file_of, Layout.sections, Lawful.IsLawful}
+use Rattle.tape_run.specs.declared.section.{SectionKey.SectionKey, SectionLine.SectionLine}
+use Rattle.tape_run.specs.declared.section.{ImageStop.ImageStop, ImageLine.ImageLine}
 use Rattle.tape_run.specs.declared.section.SectionState.TheVariants.{Good}
-use Rattle.tape_run.specs.declared.section.SectionLine.{SectionLine}
-use Rattle.tape_run.specs.declared.section.ImageStop.{ImageStop}
-use Rattle.tape_run.specs.declared.section.ImageLine.{ImageLine}
-use Rattle.tape_run.specs.Passing.{Told}
-use Rattle.tape_run.specs.Noted.{StandsIn}
-use Rattle.tape_run.specs.Shown.{Shown}
-use Rattle.tape_run.specs.Added.{StopsBehind}
+use Rattle.tape_run.specs.{Passing.Told, Noted.StandsIn, Shown.Shown, Added.StopsBehind}
 use Rattle.tape_run.specs.WholeSet.{key_in, HasEach, IsWholeCopy, IsNoDevice}
 use Rattle.tape_run.specs.CheckLine.{image_lines, section_line, found_line}
 use Rattle.tape_run.specs.Checked.{Reel, IsReport}

@@ -2,18 +2,13 @@
 use Rattle.std.specs.Prelude.{◌≡◌, true, ℕ, List, [], ◌∷◌, Option, None, Some, IsSome, ◌≢◌, ⊤}
 use Rattle.std.specs.List.{AllByRecursion}
 use Rattle.tape_set.specs.Layout.{FileSet, Placed, nth, file_of, sections, on, items}
-use Rattle.tape_set.specs.Lawful.{IsLawful}
-use Rattle.tape_set.specs.Laws.{StandsIn}
-use Rattle.tape_run.specs.declared.section.SectionKey.{SectionKey}
-use Rattle.tape_image.specs.declared.item.Ending.{Ending}
-use Rattle.tape_image.specs.declared.item.ImageCause.TheVariants.{Device}
-use Rattle.tape_image.specs.Begins.{ends, Begins}
-use Rattle.tape_run.specs.declared.section.ImageStop.{ImageStop}
-use Rattle.tape_run.specs.declared.section.ImageStop.TheVariants.{Marked, Physical, Fault}
+use Rattle.tape_set.specs.{Lawful.IsLawful, Laws.StandsIn}
+use Rattle.tape_run.specs.declared.section.{SectionKey.SectionKey, ImageStop.ImageStop}
 use Rattle.tape_run.specs.declared.section.ImageLine.{ImageLine}
-use Rattle.tape_run.specs.Added.{Adds}
-use Rattle.tape_run.specs.Passing.{Told, met_in}
-use Rattle.tape_run.specs.Noted.{noted_all}
+use Rattle.tape_image.specs.declared.item.{Ending.Ending, ImageCause.TheVariants.Device}
+use Rattle.tape_image.specs.Begins.{ends, Begins}
+use Rattle.tape_run.specs.declared.section.ImageStop.TheVariants.{Marked, Physical, Fault}
+use Rattle.tape_run.specs.{Added.Adds, Passing.Told, Passing.met_in, Noted.noted_all}
 use Rattle.tape_run.specs.Lacks.{IsGoodAt, lack_of, found_all}
 
 -- which section of the set this is
@@ -58,8 +53,7 @@ WholeSetIsFound = (set : FileSet) (ks : List ℕ)
 
 -- The bytes are a complete copy of volume k: they begin with its items, and then the medium ends.
 abbrev pub IsWholeCopy : FileSet → ℕ → List ℕ → Type 0
-IsWholeCopy set k xs =
-    (end : ℕ) × (ending : Ending) × Begins 0 xs (items set k) end (ends ending)
+IsWholeCopy set k xs = (end : ℕ) × (ending : Ending) × Begins 0 xs (items set k) end (ends ending)
 
 -- the reader did not fail
 abbrev pub IsNoDevice : ImageStop → Type 0

@@ -3,22 +3,16 @@
 use Rattle.std.specs.Prelude.{◌≡◌, ℕ, Bool, true, false, List, [], ◌∷◌, ◌++◌, None, codes}
 use Rattle.std.specs.Prelude.{replicate, Option}
 use Rattle.tape_blocks.specs.declared.parts.Span.TheVariants.{First, Middle, Last}
-use Rattle.tape_blocks.specs.Block.{Portion}
-use Rattle.tape_blocks.specs.Spans.{join}
-use Rattle.tape_set.specs.declared.position.Position.{Position}
-use Rattle.tape_set.specs.declared.position.Position.TheVariants.{Finished}
+use Rattle.tape_blocks.specs.{Block.Portion, Spans.join}
+use Rattle.tape_set.specs.declared.position.{Position.Position, Position.TheVariants.Finished}
 use Rattle.tape_set.specs.Position.{start, awaiting, want_at}
 use Rattle.tape_set.specs.Layout.{FileSet, Section, Volume}
-use Rattle.tape_set.specs.Lawful.{IsLawful}
-use Rattle.tape_set.specs.Before.{before}
-use Rattle.tape_set.specs.Reading.{Reading}
+use Rattle.tape_set.specs.{Lawful.IsLawful, Before.before, Reading.Reading}
 use Rattle.tape_run.specs.declared.script.Step.{Step}
 use Rattle.tape_run.specs.declared.script.Step.TheVariants.{Reel, Save, Restart}
 use Rattle.tape_run.specs.Mount.{MountEvent, reads, foreign_reel, saves, restarts}
 use Rattle.tape_run.specs.History.{Course, course, IsHistory}
-use Rattle.tape_run.specs.Given.{AreGivenBy}
-use Rattle.tape_run.specs.Headline.{begins, IsRead}
-use Rattle.tape_run.specs.Seen.{Seen}
+use Rattle.tape_run.specs.{Given.AreGivenBy, Headline.begins, Headline.IsRead, Seen.Seen}
 
 -- ---- the set: a record of 30 letters A in segments of 13, 13 and 4
 

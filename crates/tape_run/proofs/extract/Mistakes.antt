@@ -1,18 +1,13 @@
 -- Wrong answers that the contracts of `extract` and of its last line exclude.
 use Rattle.std.proofs.Common.{◌≡◌, ◌<◌, List, [], ◌∷◌, length, sym, ap, ◌∙◌, subst, arith, codes}
-use Rattle.std.proofs.Common.{inl, inr}
-use Rattle.std.specs.Prelude.{Some, Ok, Err, slice_index}
-use Rattle.std.specs.Fmt.{digits}
-use Rattle.std.specs.Io.KnownBytes.{Appends}
-use Rattle.tape_blocks.specs.declared.parts.Span.TheVariants.{First}
+use Rattle.std.proofs.Common.{inl, inr, Some, Ok, Err, slice_index}
+use Rattle.std.specs.{Fmt.digits, Io.KnownBytes.Appends}
+use Rattle.tape_blocks.specs.declared.parts.{Span.TheVariants.First, Form.TheVariants.Lines}
 use Rattle.tape_blocks.specs.Block.{Portion}
 use Rattle.tape_core.specs.declared.sink.SinkFault.TheVariants.{Full}
-use Rattle.tape_blocks.specs.declared.parts.Form.TheVariants.{Lines}
-use Rattle.tape_run.specs.RecordText.{output_of}
-use Rattle.tape_run.specs.Reeling.{goes_back}
+use Rattle.tape_run.specs.{RecordText.output_of, Reeling.goes_back}
 use Rattle.tape_run.proofs.Causes.{not_rose}
-use Rattle.tape_run.specs.declared.fault.EngineFault.TheVariants.{Run}
-use Rattle.tape_run.specs.declared.fault.RunFault.TheVariants.{Sink}
+use Rattle.tape_run.specs.declared.fault.{EngineFault.TheVariants.Run, RunFault.TheVariants.Sink}
 use Rattle.tape_run.specs.Causes.{ExtractFails, RefusesAny}
 use Rattle.tape_run.proofs.extract.extract_to.Reads as extract_to
 use Rattle.tape_run.proofs.extract.line.last_line.Reads as last_line

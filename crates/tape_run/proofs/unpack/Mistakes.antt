@@ -1,6 +1,6 @@
 -- Wrong answers that the contracts of unpacking exclude.
-use Rattle.std.proofs.Common.{◌≡◌, ◌∙◌, [], ◌++◌, length, sym, ap, arith, codes}
-use Rattle.std.specs.Prelude.{Ok, Some, slice_index}
+use Rattle.std.proofs.Common.{◌≡◌, ◌∙◌, [], ◌++◌, length, sym, ap, arith, codes, Ok, Some}
+use Rattle.std.proofs.Common.{slice_index}
 use Rattle.std.specs.Fmt.{digits}
 use Rattle.tape_run.specs.declared.survey.files.FileNote.{FileNote}
 use Rattle.tape_run.specs.SurveyFiles.{note_at, file_key}
@@ -12,9 +12,8 @@ use Rattle.tape_run.proofs.unpack.line.notice_line.Reads as notice_line
 use Rattle.tape_run.specs.declared.unpack.line.Notice.TheVariants as notices
 
 -- slash_kept: the name of a file leads into another folder
-slash_kept : (κs : _) (a : _) (z : _) (s : _) → file_name.Learnt κs a z s
-    → a.0.now ≡ codes "ABC001" → a.1.0 ≡ 1 → a.1.1.0.now ≡ codes "A/B              "
-    → z.items ≡ codes "ABC001.1.A/B" → ⊥
+slash_kept : (κs : _) (a : _) (z : _) (s : _) → file_name.Learnt κs a z s → a.0.now ≡ codes "ABC001"
+    → a.1.0 ≡ 1 → a.1.1.0.now ≡ codes "A/B              " → z.items ≡ codes "ABC001.1.A/B" → ⊥
 unfolding digits
 slash_kept κs a z s h set file name w =
     absurd (let e : 47 ≡ 37 = ap (λ v. slice_index v 10) (sym w ∙ h

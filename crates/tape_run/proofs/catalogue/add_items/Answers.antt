@@ -1,8 +1,7 @@
 use Rattle.std.proofs.Common.{Ok, ap, ◌∙◌, arith, refl}
 use Rattle.tape_image.specs.Reader.{tape_item, ending_of}
 use Rattle.tape_image.proofs.Callers.{gave, met_end, met_fault, same_some}
-use Rattle.tape_run.specs.Added.{stop_at}
-use Rattle.tape_run.specs.Passing.{blocks_of}
+use Rattle.tape_run.specs.{Added.stop_at, Passing.blocks_of}
 use Rattle.tape_run.proofs.NotedSoFar.{one_more, at_end, at_fault, one_block}
 use Rattle.tape_image.proofs.Steps.{least_four}
 use Rattle.tape_run.proofs.catalogue.add_items.Goals as goal
@@ -29,19 +28,16 @@ items-preserved g c =
 pub returns-in-Ok-None-clause-ok : goal.returns-in-Ok-None-clause-ok
 returns-in-Ok-None-clause-ok g c =
     let next = c.next.follows.lender-at-none in
-    let met = met_end c.items.image _ next c.next.follows.holds-at-none c.items.invariant.on
+    let met = met_end _ _ next c.next.follows.holds-at-none c.items.invariant.on
     (c.in-Ok-None.is ∙ ap Ok c.in-Ok-None.field-0-is) in
-    let ending = same_some c.in-Some.ending met.ending c.ending.result c.in-Some.is
-    (c.ending.ensures ∙ ap ending_of met.ended) in
-    at_end _ c.items.image.left next.left c.items.image.place next.place c.items.items met.ending _
-    c.items.phase _ _ _ c.items.invariant.so_far met.takes
+    let ending = same_some _ met.ending _ c.in-Some.is (c.ending.ensures ∙ ap ending_of met.ended)
+    in
+    at_end _ _ next.left _ next.place _ met.ending _ _ _ _ _ c.items.invariant.so_far met.takes
     c.in_ok-close-in-Ok-None.ensures.ok refl (c.stop_at-stop.ensures ∙ ap stop_at ending)
 
 pub returns-in-Err-clause-ok : goal.returns-in-Err-clause-ok
 returns-in-Err-clause-ok g c =
     let next = c.next.follows.lender-at-none in
-    let met = met_fault c.items.image _ next c.in-Err.fault c.next.follows.holds-at-none
-    c.items.invariant.on c.in-Err.is in
-    at_fault _ c.items.image.left next.left c.items.image.place c.items.items c.in-Err.fault _
-    c.items.phase _ _ _ c.items.invariant.so_far met.takes
+    let met = met_fault _ _ next _ c.next.follows.holds-at-none c.items.invariant.on c.in-Err.is in
+    at_fault _ _ next.left _ _ _ _ _ _ _ _ c.items.invariant.so_far met.takes
     c.in_ok-close-in-Err.ensures.ok refl refl

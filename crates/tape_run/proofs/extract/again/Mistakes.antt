@@ -1,6 +1,5 @@
 -- Wrong answers that the contract about the last pass excludes.
-use Rattle.std.proofs.Common.{◌≡◌, true, false, refl, inl, inr}
-use Rattle.std.specs.Prelude.{Some}
+use Rattle.std.proofs.Common.{◌≡◌, true, false, refl, inl, inr, Some}
 use Rattle.tape_run.proofs.extract.again.is_enough.Reads as is_enough
 
 -- rounds_end_too_early: less is missing than before the pass, but no other pass follows

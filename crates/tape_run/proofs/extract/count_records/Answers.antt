@@ -1,7 +1,6 @@
 use Rattle.std.proofs.Common.{Ok, ap, subst, ◌∙◌}
 use Rattle.tape_core.specs.Walks.{GivesPart}
-use Rattle.tape_run.proofs.Streams.{count_starts, count_ended}
-use Rattle.tape_run.proofs.Walked.{walk_refused}
+use Rattle.tape_run.proofs.{Streams.count_starts, Streams.count_ended, Walked.walk_refused}
 use Rattle.tape_run.proofs.extract.count_records.Goals as goal
 
 pub parts-init : goal.parts-init
@@ -11,19 +10,17 @@ parts-init g c = (
     kept = c.rewind.ensures.keeps;
     crash = λ parts was. c.rewind.ensures.crash;
   },
-  λ parts was. count_starts _ parts c.weight-weight.result (c.rewind.ensures.all parts was)
+  λ parts was. count_starts _ parts _ (c.rewind.ensures.all parts was)
       (c.weight-weight.ensures.of parts was) c.weight-weight.ensures.limit,
 )
 
 pub returns-in-Ok-None-clause-count : goal.returns-in-Ok-None-clause-count
 returns-in-Ok-None-clause-count g c = λ parts was.
     let next = c.next_part.follows.lender-at-none in
-    count_ended (g.S.PartWalk.ahead c.parts.sink) (g.S.PartWalk.ahead next) c.parts.count parts
-    (c.parts.invariant.1 parts was)
-    (λ xs is. subst (λ r. GivesPart r xs (g.S.PartWalk.ahead next)) (c.in-Ok-None.is
-    ∙ ap Ok c.in-Ok-None.field-0-is) (c.next_part.follows.holds-at-none.gives xs is))
+    count_ended _ (g.S.PartWalk.ahead next) _ parts (c.parts.invariant.1 parts was) (λ xs is. subst
+    (λ r. GivesPart r xs (g.S.PartWalk.ahead next)) (c.in-Ok-None.is ∙ ap Ok
+    c.in-Ok-None.field-0-is) (c.next_part.follows.holds-at-none.gives xs is))
 
 pub returns-in-Err-clause-cause : goal.returns-in-Err-clause-cause
 returns-in-Err-clause-cause g c =
-    walk_refused _ _ _ _ c.in-Err.fault c.in-Err.is c.parts.invariant.0
-    c.next_part.follows.holds-at-none
+    walk_refused _ _ _ _ _ c.in-Err.is c.parts.invariant.0 c.next_part.follows.holds-at-none

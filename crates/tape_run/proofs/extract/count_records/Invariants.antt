@@ -1,7 +1,6 @@
 use Rattle.std.proofs.Common.{List}
 use Rattle.tape_blocks.specs.Block.{Portion}
-use Rattle.tape_run.proofs.Streams.{Counted}
-use Rattle.tape_run.proofs.Walked.{Walked}
+use Rattle.tape_run.proofs.{Streams.Counted, Walked.Walked}
 use Rattle.tape_run.proofs.extract.count_records.Given as goal
 
 abbrev pub invariant-parts : goal.invariant-parts

@@ -10,4 +10,4 @@ returns-in_err-flush-clause-err g c =
     let text : c.as_bytes.result.now ≡ last_line c.args.want c.args.records = search rules in
     let line = subst (Appends (g.P.Write.contents c.args.report.now)
     (g.P.Write.contents c.write_text.new.writer)) text c.in_ok-write_text.ensures.ok in
-    on_err c.from_residual-in_err-flush.result _ (whole_front _ _ _ _ line c.flush.ensures.kept)
+    on_err _ _ (whole_front _ _ _ _ line c.flush.ensures.kept)

@@ -8,7 +8,7 @@ use Rattle.tape_run.proofs.extract.write_part.Goals as goal
 
 pub returns-in_err-write_text-clause-err : goal.returns-in_err-write_text-clause-err
 returns-in_err-write_text-clause-err g c =
-    on_err c.from_residual.result _ (front_more _ _ _ _ c.in_err-write_text.ensures.err)
+    on_err _ _ (front_more _ _ _ _ c.in_err-write_text.ensures.err)
 
 pub returns-clause-err : goal.returns-clause-err
 returns-clause-err g c =

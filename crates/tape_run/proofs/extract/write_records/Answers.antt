@@ -9,8 +9,8 @@ use Rattle.tape_run.proofs.extract.write_records.Goals as goal
 
 pub parts-init : goal.parts-init
 parts-init g c = (
-  λ parts is e. stream_starts c.args.form _ c.args.records _ parts e is,
-  walked_same g.S.PartSink c.args.sink.now,
+  λ parts is e. stream_starts _ _ _ _ parts e is,
+  walked_same _ _,
 )
 
 pub returns-in_err-write_part-in-Ok-Some-clause-err :
@@ -61,11 +61,9 @@ parts-preserved g c =
     )
 
 pub returns-clause-ok : goal.returns-clause-ok
-returns-clause-ok g c = λ parts was e.
-    stream_ended c.args.form _ c.parts.left _ _ parts (c.parts.invariant.0 parts was e)
-    (omega (arith, c.parts-test.false))
+returns-clause-ok g c = λ parts was e. stream_ended _ _ _ _ _ parts
+    (c.parts.invariant.0 parts was e) (omega (arith, c.parts-test.false))
 
 pub returns-in-Err-clause-cause : goal.returns-in-Err-clause-cause
-returns-in-Err-clause-cause g c = rw c.walk_fault-in-Err.ensures (inl
-    (walk_refused _ _ _ _ c.in-Err.fault c.in-Err.is c.parts.invariant.1
-    c.next_part.follows.holds-at-none))
+returns-in-Err-clause-cause g c = rw c.walk_fault-in-Err.ensures (inl (walk_refused _ _ _ _ _
+    c.in-Err.is c.parts.invariant.1 c.next_part.follows.holds-at-none))

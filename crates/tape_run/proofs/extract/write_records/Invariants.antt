@@ -1,8 +1,6 @@
 use Rattle.std.proofs.Common.{◌≡◌, List, length}
-use Rattle.tape_blocks.specs.Block.{Portion}
-use Rattle.tape_blocks.specs.Spans.{join}
-use Rattle.tape_run.proofs.Streams.{Streams}
-use Rattle.tape_run.proofs.Walked.{Walked}
+use Rattle.tape_blocks.specs.{Block.Portion, Spans.join}
+use Rattle.tape_run.proofs.{Streams.Streams, Walked.Walked}
 use Rattle.tape_run.proofs.extract.write_records.Given as goal
 
 abbrev pub invariant-parts : goal.invariant-parts

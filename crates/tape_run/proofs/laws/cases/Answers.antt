@@ -7,13 +7,11 @@ use Rattle.tape_run.proofs.ExamplesOfCatalogues.{cases_of_copies, cases_of_repor
 use Rattle.tape_run.proofs.ExamplesOfSections.{cases_of_sections}
 use Rattle.tape_run.proofs.ExamplesOfUnpacking.{cases_of_unpacking}
 use Rattle.tape_run.proofs.ExamplesOfSalvage.{cases_of_salvage}
-use Rattle.tape_run.proofs.ExamplesOfSurveys.{cases_of_glances, cases_of_wholes, cases_of_surveys}
-use Rattle.tape_run.proofs.ExamplesOfCompared.{cases_of_compared}
-use Rattle.tape_run.proofs.ExamplesOfForms.{cases_of_forms}
-use Rattle.tape_run.proofs.ExamplesOfExtracts.{cases_of_turns, cases_of_outputs, cases_of_causes}
-use Rattle.tape_run.proofs.ExamplesOfSaves.{cases_of_saved}
-use Rattle.tape_run.proofs.ExamplesOfSeen.{cases_of_seen}
+use Rattle.tape_run.proofs.{ExamplesOfCompared.cases_of_compared, ExamplesOfForms.cases_of_forms}
+use Rattle.tape_run.proofs.{ExamplesOfSaves.cases_of_saved, ExamplesOfSeen.cases_of_seen}
 use Rattle.tape_run.proofs.ExamplesOfRounds.{cases_of_rounds}
+use Rattle.tape_run.proofs.ExamplesOfSurveys.{cases_of_glances, cases_of_wholes, cases_of_surveys}
+use Rattle.tape_run.proofs.ExamplesOfExtracts.{cases_of_turns, cases_of_outputs, cases_of_causes}
 use Rattle.tape_run.proofs.ExamplesOfLaws.{cases_of_run_laws, cases_of_catalogue_laws}
 use Rattle.tape_run.proofs.laws.cases.Goals as goal
 

@@ -1,8 +1,6 @@
 use Rattle.std.proofs.Common.{◌≡◌, List, refl, ap, ◌∙◌, arith}
-use Rattle.tape_image.specs.Begins.{Stop}
-use Rattle.tape_image.specs.Tape.{TapeItem}
-use Rattle.tape_image.proofs.Existence.{Begins-some}
-use Rattle.tape_image.proofs.Uniqueness.{Begins-one}
+use Rattle.tape_image.specs.{Begins.Stop, Tape.TapeItem}
+use Rattle.tape_image.proofs.{Existence.Begins-some, Uniqueness.Begins-one}
 use Rattle.tape_run.specs.Listing.{listing_of}
 use Rattle.tape_run.proofs.laws.each_image_has_one_listing.Goals as goal
 

@@ -34,11 +34,9 @@ loop-number-preserved g c =
     }
 
 pub returns-clause-asked : goal.returns-clause-asked
-returns-clause-asked g c = (loop_ends c.args.readings.now c.loop-number.readings
-    c.loop-number.number None c.loop-number.best None c.loop-number.other c.loop-number.witnesses
-    c.loop-number.invariant.asked (omega arith)).0
+returns-clause-asked g c = (loop_ends _ _ _ None _ None _ _ c.loop-number.invariant.asked
+    (omega arith)).0
 
 pub returns-clause-witnesses : goal.returns-clause-witnesses
-returns-clause-witnesses g c = (loop_ends c.args.readings.now c.loop-number.readings
-    c.loop-number.number None c.loop-number.best None c.loop-number.other c.loop-number.witnesses
-    c.loop-number.invariant.asked (omega arith)).1
+returns-clause-witnesses g c = (loop_ends _ _ _ None _ None _ _ c.loop-number.invariant.asked
+    (omega arith)).1

@@ -1,6 +1,5 @@
 use Rattle.std.proofs.Common.{◌≡◌, ◌-◌, ◌*◌, ◌≤◌}
-use Rattle.tape_image.specs.Begins.{image_limit}
-use Rattle.tape_image.specs.Writer.{writing}
+use Rattle.tape_image.specs.{Begins.image_limit, Writer.writing}
 use Rattle.tape_run.specs.Passing.{blocks_of}
 use Rattle.tape_run.proofs.MergeLoops.{SoFar}
 use Rattle.tape_run.proofs.merge.merge_items.Given as goal

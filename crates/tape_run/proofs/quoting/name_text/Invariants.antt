@@ -1,5 +1,4 @@
-use Rattle.std.proofs.Common.{◌≡◌, encode_utf8_all}
-use Rattle.std.specs.List.{flat_map}
+use Rattle.std.proofs.Common.{◌≡◌, encode_utf8_all, flat_map}
 use Rattle.tape_run.specs.Quoting.{quoted}
 use Rattle.tape_run.proofs.quoting.name_text.Given as goal
 

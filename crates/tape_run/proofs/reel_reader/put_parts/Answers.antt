@@ -1,15 +1,11 @@
-use Rattle.std.proofs.Common.{◌≡◌, ◌<◌, ◌++◌, ◌∷◌, [], List, map, take, drop}
-use Rattle.std.proofs.Common.{sym, ap, subst, ◌∙◌, arith, append-nil}
+use Rattle.std.proofs.Common.{◌≡◌, ◌<◌, ◌++◌, ◌∷◌, [], List, map, take, drop, sym, ap, subst, ◌∙◌}
+use Rattle.std.proofs.Common.{arith, append-nil}
 use Rattle.std.proofs.lemmas.List.{map-append}
 use Rattle.tape_blocks.specs.Block.{Portion, Holds}
-use Rattle.tape_blocks.specs.Parts.{view}
-use Rattle.tape_blocks.specs.PartsLeft.{parts_left}
-use Rattle.tape_blocks.specs.Judged.{begun_behind}
+use Rattle.tape_blocks.specs.{Parts.view, PartsLeft.parts_left, Judged.begun_behind}
 use Rattle.tape_blocks.proofs.SizeLaws.{few_parts, short_part}
 use Rattle.tape_run.proofs.Blocks.{number_of, front_is, none_put, one_passed, one_put, stands_here}
-use Rattle.tape_run.proofs.Causes.{refused_at}
-use Rattle.tape_run.proofs.Crashes.{adds_then}
-use Rattle.tape_run.proofs.reel_reader.put_parts.Given.{Over}
+use Rattle.tape_run.proofs.{Causes.refused_at, Crashes.adds_then, reel_reader.put_parts.Given.Over}
 use Rattle.tape_run.proofs.reel_reader.put_parts.Goals.{In-Some, then-first-seen+in-Ok}
 use Rattle.tape_run.proofs.reel_reader.put_parts.Goals.{else-first-seen}
 use Rattle.tape_run.proofs.reel_reader.put_parts.Goals as goal
@@ -44,9 +40,7 @@ put-requires g c =
     omega (
       arith,
       c.requires.short,
-      short_part c.args.shape.now.format c.args.shape.now.rec_len c.args.shape.now.offset
-          c.args.block.now parts _ (parts_left c.next.new.self) (view c.in-Some.part)
-          (here g (goal.at.put-requires g c).In-Some parts h) h,
+      short_part _ _ _ _ parts _ _ _ (here g (goal.at.put-requires g c).In-Some parts h) h,
     )
 
 pub overflow_add-seen : goal.overflow_add-seen
@@ -60,17 +54,16 @@ pub returns-in-Err-clause-err : goal.returns-in-Err-clause-err
 returns-in-Err-clause-err g c = λ held parts h was.
     let inv = c.loop-part.invariant in
     let ys = map view c.loop-part.yielded in
-    let left = parts_left c.next.new.self in
     let at = here g (goal.at.returns-in-Err-clause-err g c).In-Some parts h in
     let front : take c.loop-part.seen parts ≡ ys =
-    ap (λ n. take n parts) inv.count ∙ front_is parts ys (view c.in-Some.part ∷ left) at in
+    ap (λ n. take n parts) inv.count ∙ front_is parts _ _ at in
     record {
       from = c.if-first-seen.true;
-      within = omega (arith, number_of parts ys left (view c.in-Some.part) at, inv.count);
+      within = omega (arith, number_of parts _ _ _ at, inv.count);
       held_now = subst (λ l. g.S.PartSink.holds c.put.new.self (held ++ drop c.args.first l))
           (sym front) (c.in-Err.ensures.err _ (inv.held_now held was));
-      begun_now = inv.behind
-          ∙ ap (λ l. begun_behind c.args.begun (drop c.args.first l)) (sym front);
+      begun_now = inv.behind ∙ ap (λ l. begun_behind c.args.begun (drop c.args.first l))
+          (sym front);
     }
 
 pub returns-in-Err-clause-crash : goal.returns-in-Err-clause-crash
@@ -79,34 +72,28 @@ returns-in-Err-clause-crash g c = λ held was.
     (c.put.ensures.crash _ (c.loop-part.invariant.held_now held was))
 
 pub loop-part-init : goal.loop-part-init
-loop-part-init g c = none_put g.S.PartSink
-    c.args.sink.now c.args.first c.args.begun
+loop-part-init g c = none_put _ _ _ _
 
 pub loop-part-preserved : goal.loop-part-preserved
 loop-part-preserved g c =
     let l = c.loop-part in
-    let ys = map view l.yielded in
-    let x = view c.in-Some.part in
     rw (map-append view l.yielded (c.in-Some.part ∷ [])) (elim c.if-first-seen.branch [
-      | then-first-seen+in-Ok w ↦ rw (w.sink-is, w.going-is, w.leaves-going.ensures) (one_put
-          g.S.PartSink c.args.sink.now
-          c.args.first c.args.begun l.sink w.put.new.self l.seen l.going ys x w.if-first-seen.true
-          w.in-Ok.ensures.ok w.in-Ok.ensures.calm w.put.ensures.crash l.invariant)
-      | else-first-seen w ↦ rw (w.sink-is, w.going-is) (one_passed
-          g.S.PartSink c.args.sink.now
-          c.args.first c.args.begun l.sink l.seen l.going ys x w.if-first-seen.false l.invariant)
+      | then-first-seen+in-Ok w ↦ rw (w.sink-is, w.going-is, w.leaves-going.ensures) (one_put _ _ _
+          _ l.sink w.put.new.self l.seen l.going _ _ w.if-first-seen.true w.in-Ok.ensures.ok
+          w.in-Ok.ensures.calm w.put.ensures.crash l.invariant)
+      | else-first-seen w ↦ rw (w.sink-is, w.going-is) (one_passed _ _ _ _ l.sink l.seen l.going _ _
+          w.if-first-seen.false l.invariant)
     ])
 
 pub returns-clause-ok : goal.returns-clause-ok
 returns-clause-ok g c = λ held parts h was.
-    let all = stands_here c.new-part-items.result c.into_iter-part-iterator.result
-    c.loop-part.part-iterator c.loop-part.yielded parts []
-    (c.new-part-items.ensures parts h) c.into_iter-part-iterator.ensures.into_iter_gives
-    c.loop-part.yielded_by c.in-None.ensures.steps.0 in
+    let all = stands_here _ _ _ _ parts [] (c.new-part-items.ensures parts h)
+    c.into_iter-part-iterator.ensures.into_iter_gives c.loop-part.yielded_by
+    c.in-None.ensures.steps.0 in
     subst (λ l. g.S.PartSink.holds c.loop-part.sink (held ++ drop c.args.first l))
     (sym (all ∙ append-nil (map view c.loop-part.yielded)))
     (c.loop-part.invariant.held_now held was)
 
 pub returns-in-Err-clause-cause : goal.returns-in-Err-clause-cause
-returns-in-Err-clause-cause g c = refused_at g.S.PartSink.refusals g.S.PartSink.refuses_change _ _ _
-    c.in-Err.cause c.loop-part.invariant.calm c.in-Err.ensures.why c.in-Err.ensures.cause
+returns-in-Err-clause-cause g c = refused_at _ _ _ _ _ _ c.loop-part.invariant.calm
+    c.in-Err.ensures.why c.in-Err.ensures.cause

@@ -1,5 +1,4 @@
-use Rattle.tape_run.proofs.SalvageMost.{none_has_more}
-use Rattle.tape_run.proofs.SalvageSets.{recovers_set}
+use Rattle.tape_run.proofs.{SalvageMost.none_has_more, SalvageSets.recovers_set}
 use Rattle.tape_run.proofs.salvage_laws.files_of_sets_are_recovered.Goals as goal
 
 pub returns-clause-recovers : goal.returns-clause-recovers

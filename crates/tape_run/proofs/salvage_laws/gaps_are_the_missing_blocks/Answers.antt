@@ -1,5 +1,4 @@
-use Rattle.tape_run.proofs.SalvageData.{gaps_are_runs}
-use Rattle.tape_run.proofs.SalvageSetGaps.{reports_blocks}
+use Rattle.tape_run.proofs.{SalvageData.gaps_are_runs, SalvageSetGaps.reports_blocks}
 use Rattle.tape_run.proofs.salvage_laws.gaps_are_the_missing_blocks.Goals as goal
 
 pub returns-clause-runs : goal.returns-clause-runs

@@ -3,11 +3,9 @@ use Rattle.std.proofs.Common.{arith, append-nil, inl, inr}
 use Rattle.std.proofs.lemmas.List.{drop_more, drop_all, drop-set-lt, take_more_set, take-set}
 use Rattle.std.proofs.lemmas.List.{map-append}
 use Rattle.tape_image.proofs.Pieces.{on_err}
-use Rattle.tape_run.specs.Given.{is_device}
-use Rattle.tape_run.specs.Made.{WritesFrom}
+use Rattle.tape_run.specs.{Given.is_device, Made.WritesFrom}
 use Rattle.tape_core.proofs.Crashes.{only_same}
-use Rattle.tape_run.proofs.Crashes.{only_nothing}
-use Rattle.tape_run.proofs.Lasting.{alone_saved}
+use Rattle.tape_run.proofs.{Crashes.only_nothing, Lasting.alone_saved}
 use Rattle.tape_run.proofs.Causes.{calm_reel, calm_saved, calm_back}
 use Rattle.tape_run.proofs.Made.{reel_made, save_made, restart_made, reel_failed, writes_none}
 use Rattle.tape_run.proofs.Ended.{told_err, kept_save_fails, kept_restart_fails}
@@ -58,8 +56,8 @@ returns-in_err-answer-in-Reel-clause-err g c =
     (now, (λ ne. has), (keeps kept, rw (here, c.in-Reel.is) told)))
 
 pub returns-in_err-answer-in-Reel-clause-unread : goal.returns-in_err-answer-in-Reel-clause-unread
-returns-in_err-answer-in-Reel-clause-unread g c = on_err c.from_residual.result _
-    (ap (map g.R.Read.remaining) (take-set c.args.reels.now c.args.used c.reel.new.device))
+returns-in_err-answer-in-Reel-clause-unread g c = on_err _ _
+    (ap (map g.R.Read.remaining) (take-set _ _ _))
 
 pub returns-then-used-reels-clause-err : goal.returns-then-used-reels-clause-err
 returns-then-used-reels-clause-err g c = λ held was kept.
@@ -111,7 +109,7 @@ returns-in_ok-restart-in-Restart-clause-ok g c = (
   sym (append-nil _),
   λ held was kept.
       let (now, has, (still, went)) = c.in_ok-restart-in-Restart.ensures.ok held was kept in
-      (now, has, (still, rw c.in-Restart.is (restart_made _ _ c.in-Restart.n went _ _ _))),
+      (now, has, (still, rw c.in-Restart.is (restart_made _ _ _ went _ _ _))),
 )
 
 pub returns-in_err-restart-in-Restart-clause-err : goal.returns-in_err-restart-in-Restart-clause-err
@@ -120,7 +118,7 @@ returns-in_err-restart-in-Restart-clause-err g c =
     let (ok, fails) = c.in_err-restart-in-Restart.ensures.err held was kept in (
       held,
       (λ keeps. ok (λ device. keeps (((c.in-Restart.n, ap Some c.in-Restart.is), device)))),
-      (kept_restart_fails c.in-Restart.n _ _ _ fails kept, rw c.in-Restart.is fails),
+      (kept_restart_fails _ _ _ _ fails kept, rw c.in-Restart.is fails),
     ))
 
 -- ---- of any sink
@@ -128,18 +126,17 @@ returns-in_err-restart-in-Restart-clause-err g c =
 pub returns-in_ok-answer-in-Reel-clause-calm : goal.returns-in_ok-answer-in-Reel-clause-calm
 returns-in_ok-answer-in-Reel-clause-calm g c =
     let done = c.in_ok-answer-in-Reel.ensures in
-    calm_reel g.S.PartSink c.args.session.now c.reel.new.self _ done.calm done.notes done.ok
+    calm_reel _ _ _ _ done.calm done.notes done.ok
 
 pub returns-in_ok-save-in-Save-clause-calm : goal.returns-in_ok-save-in-Save-clause-calm
 returns-in_ok-save-in-Save-clause-calm g c =
     let done = c.in_ok-save-in-Save.ensures in
-    calm_saved g.S.PartSink c.args.session.now c.save.new.self _ done.calm done.notes done.ok
+    calm_saved _ _ _ _ done.calm done.notes done.ok
 
 pub returns-in_ok-restart-in-Restart-clause-calm : goal.returns-in_ok-restart-in-Restart-clause-calm
 returns-in_ok-restart-in-Restart-clause-calm g c =
     let done = c.in_ok-restart-in-Restart.ensures in
-    calm_back g.S.PartSink c.args.session.now c.restart.new.self c.in-Restart.n done.calm done.notes
-    done.ok
+    calm_back _ _ _ _ done.calm done.notes done.ok
 
 pub returns-in_err-answer-in-Reel-clause-cause : goal.returns-in_err-answer-in-Reel-clause-cause
 returns-in_err-answer-in-Reel-clause-cause g c =

@@ -1,18 +1,12 @@
 use Rattle.std.proofs.Common.{◌≡◌, ◌+◌, [], ◌++◌, length, map, drop, refl, sym, ap, subst, ◌∙◌}
-use Rattle.std.proofs.Common.{length-append}
-use Rattle.std.proofs.Common.{arith}
+use Rattle.std.proofs.Common.{length-append, arith}
 use Rattle.std.proofs.lemmas.List.{drop_more, take_all}
-use Rattle.tape_run.specs.Given.{written}
-use Rattle.tape_run.specs.Seen.{seen}
-use Rattle.tape_run.specs.Headline.{IsRead, reels_in}
-use Rattle.tape_run.proofs.Headline.{ran_so}
-use Rattle.tape_run.proofs.Begin.{kept_new, is_read}
-use Rattle.tape_run.proofs.Back.{came_back, whole_records}
-use Rattle.tape_run.proofs.Causes.{calm_same, calm_then}
-use Rattle.tape_run.proofs.Made.{stops_here, lost_here, wrote, next_is}
+use Rattle.tape_run.specs.{Given.written, Seen.seen, Headline.IsRead, Headline.reels_in}
+use Rattle.tape_run.proofs.{Headline.ran_so, Begin.kept_new, Begin.is_read, Back.came_back}
+use Rattle.tape_run.proofs.{Back.whole_records, Causes.calm_same, Causes.calm_then, Made.stops_here}
+use Rattle.tape_run.proofs.{Made.lost_here, Made.wrote, Made.next_is, Ended.stopped_so}
 use Rattle.tape_run.proofs.RunSoFar.{none_made, one_more, adds_more, came_to_end, all_unread}
 use Rattle.tape_run.proofs.RunSoFar.{now_unread, adds_so_far, taken_then, stays_behind}
-use Rattle.tape_run.proofs.Ended.{stopped_so}
 use Rattle.tape_run.proofs.script.run.Goals as goal
 
 pub loop-step-init : goal.loop-step-init
@@ -21,7 +15,7 @@ loop-step-init g c = (
   refl,
   refl,
   λ held was kept. none_made was kept,
-  calm_same g.S.PartSink c.args.session.now,
+  calm_same _ _,
   refl,
   refl,
 )
@@ -51,9 +45,8 @@ loop-step-preserved g c =
 pub returns-clause-unread : goal.returns-clause-unread
 returns-clause-unread g c =
     let (which, count, row, come, calm, taken, behind) = c.loop-step.invariant in
-    subst (λ n. drop n c.loop-step.reels ≡ drop n c.args.reels.now)
-    (taken ∙ ap reels_in (take_all c.loop-step.step c.args.steps.now
-    (omega (arith, c.loop-step-test.false)))) behind
+    subst (λ n. drop n c.loop-step.reels ≡ drop n c.args.reels.now) (taken ∙ ap reels_in (take_all _
+    c.args.steps.now (omega (arith, c.loop-step-test.false)))) behind
 
 pub returns-in-Err-clause-untaken : goal.returns-in-Err-clause-untaken
 returns-in-Err-clause-untaken g c =
@@ -68,16 +61,16 @@ pub returns-clause-runs : goal.returns-clause-runs
 returns-clause-runs g c = λ held was kept.
     let (which, count, row, come, calm, taken, behind) = c.loop-step.invariant in
     let end = come held was kept in
-    let (runs, last) = came_to_end c.args.steps.now c.loop-step.step g.R.Read.remaining
-    c.loop-step.used c.loop-step.reels end (omega (arith, c.loop-step-test.false)) in
+    let (runs, last) = came_to_end c.args.steps.now _ _ _ _ end
+    (omega (arith, c.loop-step-test.false)) in
     (end.now, end.has, ((which, row, runs), last))
 
 pub returns-clause-headline : goal.returns-clause-headline
 returns-clause-headline g c = λ held was kept.
     let (which, count, row, come, calm, taken, behind) = c.loop-step.invariant in
     let end = come held was kept in
-    let (runs, last) = came_to_end c.args.steps.now c.loop-step.step g.R.Read.remaining
-    c.loop-step.used c.loop-step.reels end (omega (arith, c.loop-step-test.false)) in (
+    let (runs, last) = came_to_end c.args.steps.now _ _ _ _ end
+    (omega (arith, c.loop-step-test.false)) in (
       end.now,
       end.has,
       (
@@ -90,14 +83,13 @@ returns-clause-headline g c = λ held was kept.
 
 pub returns-clause-start : goal.returns-clause-start
 returns-clause-start g c = λ set_id file was st.
-    let old = seen g.S.PartSink c.args.session.now [] in
     let (now, has, (k, run)) =
-    returns-clause-headline g c [] was (kept_new set_id file old st) in (
+    returns-clause-headline g c [] was (kept_new set_id file _ st) in (
       now,
       has,
       λ bytes e.
           let (ran, row) = run bytes e in
-          let (read, same) = is_read set_id file _ bytes _ old _ st ran in
+          let (read, same) = is_read set_id file _ bytes _ _ _ st ran in
           (read, row ∙ ap (λ w. written w c.args.failed.now) (sym same)),
     )
 
@@ -107,35 +99,33 @@ returns-clause-back g c = λ set file f bytes was st l has_file volumes readers 
     let end = seen g.S.PartSink c.loop-step.session now in
     let left = map g.R.Read.remaining c.loop-step.reels in
     let r = subst (λ z. IsRead set.set_id file z bytes left end) reels (reads bytes readers).0 in
-    let (done, parts) = came_back set file f bytes left end l has_file volumes none r in (
+    let (done, parts) = came_back set file f bytes _ _ l has_file volumes none r in (
       subst (g.S.PartSink.holds c.loop-step.session.sink) parts has,
       done,
       whole_records set file f l has_file,
     )
 
 pub returns-clause-crash : goal.returns-clause-crash
-returns-clause-crash g c = λ held was kept. adds_so_far g.R.Read.remaining c.loop-step.used
-    c.loop-step.reels (c.loop-step.invariant.3 held was kept)
+returns-clause-crash g c = λ held was kept. adds_so_far _ _ _
+    (c.loop-step.invariant.3 held was kept)
 
 pub returns-in-Err-clause-faults : goal.returns-in-Err-clause-faults
 returns-in-Err-clause-faults g c = λ held was kept.
-    let here = drop_more c.args.steps.now c.loop-step.step _ c.loop-step-test.true in
+    let here = drop_more c.args.steps.now _ _ c.loop-step-test.true in
     let (which, count, row, come, calm, taken, behind) = c.loop-step.invariant in
     let mid = come held was kept in
     let rem = g.R.Read.remaining in
     let used = c.loop-step.used in
     let others = map rem (drop used c.make.new.reels) in
-    let left = ap (λ l. l ++ others) (sym c.in-Err.ensures.unread)
-    ∙ all_unread rem used c.make.new.reels in
+    let left = ap (λ l. l ++ others) (sym c.in-Err.ensures.unread) ∙ all_unread _ _ _ in
     let (now, has, (still, fails)) = c.in-Err.ensures.err mid.now mid.has mid.kept in (
       now,
-      (λ keeps. has (λ lost. keeps
-          (lost_here c.args.steps.now c.loop-step.step _ _ _ here lost))),
+      (λ keeps. has (λ lost. keeps (lost_here c.args.steps.now _ _ _ _ here lost))),
       (
         still,
         which,
         c.in-Err.ensures.unwritten ∙ row,
-        stops_here _ which _ _ _ _ _ _ _ _ _ _ others _ _ left here mid.made fails,
+        stops_here _ which _ _ _ _ _ _ _ _ _ _ _ _ _ left here mid.made fails,
       ),
     )
 
@@ -157,9 +147,8 @@ returns-in-Err-clause-crash g c = λ held was kept.
     let mid = c.loop-step.invariant.3 held was kept in
     let rem = g.R.Read.remaining in
     let others = map rem (drop c.loop-step.used c.make.new.reels) in
-    adds_more mid (c.make.ensures.crash mid.now mid.has mid.kept) others _
-    (ap (λ l. l ++ others) (sym c.in-Err.ensures.unread)
-    ∙ all_unread rem c.loop-step.used c.make.new.reels)
+    adds_more mid (c.make.ensures.crash mid.now mid.has mid.kept) _ _ (ap (λ l. l ++ others)
+    (sym c.in-Err.ensures.unread) ∙ all_unread _ _ _)
 
 pub returns-clause-calm : goal.returns-clause-calm
 returns-clause-calm g c =
@@ -171,8 +160,7 @@ returns-in-Err-clause-cause g c =
     let steps = c.args.steps.now in
     record {
       step = _;
-      at = next_is steps c.loop-step.step _ _ (drop_more steps c.loop-step.step _
-          c.loop-step-test.true);
+      at = next_is steps _ _ _ (drop_more steps _ _ c.loop-step-test.true);
       mid = c.loop-step.session;
       calm = calm;
       refuses = c.in-Err.ensures.cause;

@@ -1,9 +1,6 @@
 use Rattle.std.proofs.Common.{◌≡◌, Bool, List, length, map, take, drop}
 use Rattle.tape_blocks.specs.Block.{Portion}
-use Rattle.tape_run.specs.Causes.{IsCalm}
-use Rattle.tape_run.specs.Given.{written}
-use Rattle.tape_run.specs.Headline.{reels_in}
-use Rattle.tape_run.specs.Seen.{seen, IsKept}
+use Rattle.tape_run.specs.{Causes.IsCalm, Given.written, Headline.reels_in, Seen.seen, Seen.IsKept}
 use Rattle.tape_run.proofs.RunSoFar.{HasCome}
 use Rattle.tape_run.proofs.script.run.Given as goal
 
@@ -11,8 +8,7 @@ abbrev pub invariant-loop-step : goal.invariant-loop-step
 invariant-loop-step g l = (which : List Bool) × (length which ≡ l.used)
     × (l.failed ≡ written which l.fn.failed)
     × ((held : List Portion) → g.S.PartSink.holds l.fn.session.sink held
-    → IsKept (seen g.S.PartSink l.fn.session held)
-    → HasCome g.S.PartSink which l.fn.session held
+    → IsKept (seen g.S.PartSink l.fn.session held) → HasCome g.S.PartSink which l.fn.session held
     l.steps (map g.R.Read.remaining l.fn.reels) l.step l.session
     (map g.R.Read.remaining (take l.used l.reels))
     (map g.R.Read.remaining (drop l.used l.reels))) × IsCalm g.S.PartSink l.fn.session l.session

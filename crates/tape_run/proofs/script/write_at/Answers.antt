@@ -3,5 +3,4 @@ use Rattle.tape_run.proofs.Made.{set_writes}
 use Rattle.tape_run.proofs.script.write_at.Goals as goal
 
 pub returns-then-number-row : goal.returns-then-number-row
-returns-then-number-row c =
-    (set_writes c.args.row.now c.args.number c.args.flag c.if-number-row.true, refl)
+returns-then-number-row c = (set_writes _ _ _ c.if-number-row.true, refl)

@@ -10,29 +10,25 @@ pub loop-number-preserved : goal.loop-number-preserved
 loop-number-preserved c =
     let names = c.args.names.now in
     let n = c.loop-number.number in
-    let each : length (map (λ x. x.now) names) ≡ length names = length-map names (λ x. x.now) in
+    let each : length (map (λ x. x.now) names) ≡ length names = length-map _ (λ x. x.now) in
     let within : n < length names = omega (arith, c.loop-number-test.true) in
     let there : n < length c.args.sights.now = omega (arith, within, c.requires) in
     record {
-      text = image_added c.args.wording c.args.copies.now (map (λ x. x.now) names)
-          c.args.sights.now _ _
-          _ _ c.index-sights-number.result _ n _ (omega (arith, each, within)) there
-          (name_at (λ x. x.now) names n _ within) c.index-sights-number.is
-          c.disputed_on-dispute.ensures c.in_ok-add_image.ensures c.loop-number.invariant.text;
-      tally = image_counted c.args.copies.now c.args.sights.now c.loop-number.tally _ _
-          c.index-sights-number-in-loop-number.result _ n _ there
-          c.index-sights-number-in-loop-number.is c.disputed_on-dispute.ensures
-          (c.with_state-tally.ensures
-          ∙ ap (λ (o : Option ImageState). with_state c.loop-number.tally o) c.state_at.ensures)
+      text = image_added _ _ (map (λ x. x.now) names) _ _ _ _ _ _ _ _ _
+          (omega (arith, each, within)) there (name_at (λ x. x.now) _ _ _ within)
+          c.index-sights-number.is c.disputed_on-dispute.ensures c.in_ok-add_image.ensures
+          c.loop-number.invariant.text;
+      tally = image_counted _ _ _ _ _ _ _ _ _ there c.index-sights-number-in-loop-number.is
+          c.disputed_on-dispute.ensures (c.with_state-tally.ensures ∙ ap
+          (λ (o : Option ImageState). with_state c.loop-number.tally o) c.state_at.ensures)
           c.loop-number.invariant.tally;
     }
 
 pub returns-clause-text : goal.returns-clause-text
 returns-clause-text c =
     let names = c.args.names.now in
-    let each : length (map (λ x. x.now) names) ≡ length names = length-map names (λ x. x.now) in
-    images_all c.args.wording c.args.copies.now (map (λ x. x.now) names) c.args.sights.now _ _
-    c.loop-number.number (omega (arith, each, c.loop-number-test.false))
+    let each : length (map (λ x. x.now) names) ≡ length names = length-map _ (λ x. x.now) in
+    images_all _ _ (map (λ x. x.now) names) _ _ _ _ (omega (arith, each, c.loop-number-test.false))
     c.loop-number.invariant.text
 
 pub returns-clause-tally : goal.returns-clause-tally

@@ -1,6 +1,5 @@
 use Rattle.std.proofs.Common.{◌≡◌, ◌++◌, drop, map}
-use Rattle.tape_run.specs.Survey.{image_texts}
-use Rattle.tape_run.specs.SurveyTally.{no_images, tally_from}
+use Rattle.tape_run.specs.{Survey.image_texts, SurveyTally.no_images, SurveyTally.tally_from}
 use Rattle.tape_run.proofs.survey.add_images.Given as goal
 
 abbrev pub invariant-loop-number : goal.invariant-loop-number

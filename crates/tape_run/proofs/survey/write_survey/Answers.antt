@@ -5,7 +5,6 @@ use Rattle.tape_run.proofs.survey.write_survey.Goals as goal
 
 pub returns-in_err-pass_on-clause-front : goal.returns-in_err-pass_on-clause-front
 returns-in_err-pass_on-clause-front g c =
-    on_err c.from_residual.result _
-    (subst (AppendsFront (g.P.Write.contents c.args.report.now)
+    on_err _ _ (subst (AppendsFront (g.P.Write.contents c.args.report.now)
     (g.P.Write.contents c.pass_on.new.report))
     (c.as_slice.ensures.value ∙ c.in-Ok-survey_text.ensures) c.in_err-pass_on.ensures.err)

@@ -1,6 +1,5 @@
 use Rattle.std.proofs.Common.{arith, rules}
-use Rattle.std.proofs.lemmas.List.{take_all}
-use Rattle.std.proofs.lemmas.List.Sums.{suffix_len-take_yes}
+use Rattle.std.proofs.lemmas.{List.take_all, List.Sums.suffix_len-take_yes}
 use Rattle.tape_run.proofs.text.trimmed_len.Goals as goal
 
 pub spaces-init : goal.spaces-init

@@ -1,5 +1,4 @@
-use Rattle.std.proofs.Common.{ap, ◌≡◌, ◌∙◌, ◌++◌}
-use Rattle.std.specs.Prelude.{IfSome}
+use Rattle.std.proofs.Common.{ap, ◌≡◌, ◌∙◌, ◌++◌, IfSome}
 use Rattle.std.specs.Io.KnownBytes.{Appends}
 use Rattle.tape_image.specs.Written.{AppendsFront}
 use Rattle.std.proofs.lemmas.Fmt.{contents_after_writes}
@@ -15,15 +14,7 @@ made g c = shown_as (g.D.Display.output c.args.line.now) _ (λ bs. c.as_bytes.re
     c.in-Ok.ensures.writes
 
 pub returns-in-Ok-clause-ok : goal.returns-in-Ok-clause-ok
-returns-in-Ok-clause-ok g c =
-    on_ok_shown c.write_text.result (g.D.Display.output c.args.line.now)
-    (Appends (g.W.Write.contents c.args.writer.now)
-    (g.W.Write.contents c.write_text.new.writer)) c.as_bytes.result.now (made g c)
-    c.write_text.ensures.ok
+returns-in-Ok-clause-ok g c = on_ok_shown _ _ _ _ (made g c) c.write_text.ensures.ok
 
 pub returns-in-Ok-clause-err : goal.returns-in-Ok-clause-err
-returns-in-Ok-clause-err g c =
-    on_err_shown c.write_text.result (g.D.Display.output c.args.line.now)
-    (AppendsFront (g.W.Write.contents c.args.writer.now)
-    (g.W.Write.contents c.write_text.new.writer)) c.as_bytes.result.now (made g c)
-    c.write_text.ensures.err
+returns-in-Ok-clause-err g c = on_err_shown _ _ _ _ (made g c) c.write_text.ensures.err

@@ -1,9 +1,7 @@
 use Rattle.std.proofs.Common.{◌≡◌, [], refl, sym, ap, ◌∙◌}
-use Rattle.tape_core.specs.Memory.{portions}
-use Rattle.tape_core.specs.Place.{rest_of}
+use Rattle.tape_core.specs.{Memory.portions, Place.rest_of}
 use Rattle.tape_core.specs.declared.memory.MemorySink.{MemorySink}
-use Rattle.tape_run.proofs.Ended.{if_err}
-use Rattle.tape_run.proofs.CrashRuns.{on_ok}
+use Rattle.tape_run.proofs.{Ended.if_err, CrashRuns.on_ok}
 use Rattle.tape_run.proofs.whole.read_file.Goals as goal
 
 pub returns-clause-read : goal.returns-clause-read

@@ -1,8 +1,6 @@
 use Rattle.std.proofs.Common.{map, [], sym, ap, ◌∙◌, subst, arith}
-use Rattle.tape_run.specs.CrashRuns.{LivesOn}
-use Rattle.tape_run.specs.Seen.{seen}
-use Rattle.tape_run.proofs.CrashRuns.{lives_on, on_ok}
-use Rattle.tape_run.proofs.Ended.{if_err}
+use Rattle.tape_run.specs.{CrashRuns.LivesOn, Seen.seen}
+use Rattle.tape_run.proofs.{CrashRuns.lives_on, CrashRuns.on_ok, Ended.if_err}
 use Rattle.tape_run.proofs.whole.resume_and_run.Goals as goal
 
 pub returns-clause-crash : goal.returns-clause-crash
@@ -12,18 +10,16 @@ returns-clause-crash g c = λ held was bytes e.
     let steps = c.args.steps.now in
     let first = c.resume-session.result in
     let last = crashes c.run-result.new.session.sink in
-    let start = seen g.S.PartSink first held in
     let left = map g.R.Read.remaining c.run-result.new.reels in
     let resumed = c.resume-session.ensures.resumed held in
-    let adds = c.run-result.ensures.crash held
-    (subst (λ s. g.S.PartSink.holds s held) (sym c.resume-session.ensures.sink) was)
-    (c.resume-session.ensures.kept held) in
-    subst (λ s. LivesOn point held steps bytes left (crashes s).returns last.returns
-    × LivesOn point held steps bytes left ((crashes s).returned (crashes s).moment)
+    let adds = c.run-result.ensures.crash held (subst (λ s. g.S.PartSink.holds s held)
+    (sym c.resume-session.ensures.sink) was) (c.resume-session.ensures.kept held) in
+    subst (λ s. LivesOn point held steps bytes left (crashes s).returns last.returns × LivesOn point
+    held steps bytes left ((crashes s).returned (crashes s).moment)
     (last.returned (crashes s).moment)) c.resume-session.ensures.sink (
-      lives_on point held start steps _ left bytes _ _ resumed e adds.now,
-      lives_on point held start steps _ left bytes _ _ resumed e
-          (λ back there h. adds.since (crashes first.sink).moment back there (omega arith) h),
+      lives_on _ held _ steps _ _ bytes _ _ resumed e adds.now,
+      lives_on _ held _ steps _ _ bytes _ _ resumed e (λ back there h. adds.since
+          (crashes first.sink).moment back there (omega arith) h),
     )
 
 pub returns-clause-survives : goal.returns-clause-survives

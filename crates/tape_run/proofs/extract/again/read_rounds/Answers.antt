@@ -1,6 +1,5 @@
 use Rattle.std.proofs.Common.{◌+◌, ◌-◌, ◌<◌, [], refl, inr, arith}
-use Rattle.tape_run.proofs.Causes.{calm_same, calm_then, then_fails}
-use Rattle.tape_run.proofs.Ended.{told_err}
+use Rattle.tape_run.proofs.{Causes.calm_same, Causes.calm_then, Causes.then_fails, Ended.told_err}
 use Rattle.tape_run.proofs.Rounds.{none_gone, gone_on, takes_rounds, stops_round, enough_by}
 use Rattle.tape_run.proofs.Rounds.{not_none, not_same, some_images}
 use Rattle.tape_run.proofs.extract.again.read_rounds.Goals as goal
@@ -10,95 +9,64 @@ rounds-init g c = (
   [],
   refl,
   omega (arith, c.count-count.type_inv),
-  none_gone g.S.PartSink c.count-count.result g.L.ImageSource.gives
-      g.R.Read.remaining c.args.back c.args.session.now c.args.images.now
-      (g.P.Write.contents c.args.report.now),
-  calm_same g.S.PartSink c.args.session.now,
+  none_gone _ _ _ _ _ _ _ _,
+  calm_same _ _,
 )
 
 pub rounds-preserved : goal.rounds-preserved
 rounds-preserved g c =
     let (rounds, e, room, h, calm) = c.rounds.invariant in
     let (some, other) = c.if-is_enough.ensures.no in
-    let (more, count, gone) = gone_on g.S.PartSink
-    c.count-count.result c.rounds.lines g.L.ImageSource.gives g.R.Read.remaining c.args.back
-    c.args.session.now c.rounds.session c.read_round.new.session c.args.images.now c.rounds.images
-    c.read_round.new.images (g.P.Write.contents c.args.report.now)
-    (g.P.Write.contents c.rounds.report) (g.P.Write.contents c.read_round.new.report) rounds h e
+    let (more, count, gone) = gone_on _ _ _ _ _ _ _ _ _ _ _ _ _ _ _ rounds h e
     c.in_ok-read_round.ensures.ok (not_none _ _ c.want.ensures some)
     (not_same _ _ _ _ c.want-before.ensures c.want.ensures other) in (
       more,
       count,
       omega (arith, room, c.if-lines-count.false),
       gone,
-      calm_then g.S.PartSink
-          c.args.session.now c.rounds.session c.read_round.new.session calm
-          c.in_ok-read_round.ensures.calm,
+      calm_then _ _ _ _ calm c.in_ok-read_round.ensures.calm,
     )
 
 pub rounds-smaller : goal.rounds-smaller
 rounds-smaller g c =
     let (rounds, e, room, h, calm) = c.rounds.invariant in
-    let other = not_same _ _ _ _ c.want-before.ensures c.want.ensures
-    c.if-is_enough.ensures.no.1 in
-    let some = some_images g.S.PartSink c.count-count.result
-    c.rounds.lines g.L.ImageSource.gives g.R.Read.remaining c.args.back c.rounds.session
-    c.read_round.new.session c.rounds.images c.read_round.new.images
-    (g.P.Write.contents c.rounds.report) (g.P.Write.contents c.read_round.new.report)
-    c.in_ok-read_round.ensures.ok other in
-    let less : 18446744073709551615 - (c.rounds.lines + c.count-count.result)
-    < 18446744073709551615 - c.rounds.lines = omega (arith, room, some) in
+    let other = not_same _ _ _ _ c.want-before.ensures c.want.ensures c.if-is_enough.ensures.no.1 in
+    let some = some_images _ _ _ _ _ _ _ _ _ _ _ _ c.in_ok-read_round.ensures.ok other in
+    let less : 18446744073709551615 - (c.rounds.lines + c.count-count.result) < 18446744073709551615
+    - c.rounds.lines = omega (arith, room, some) in
     less
 
 pub returns-in_err-read_round-clause-err : goal.returns-in_err-read_round-clause-err
 returns-in_err-read_round-clause-err g c =
     let (rounds, e, room, h, calm) = c.rounds.invariant in
-    told_err _ _ _ c.from_residual.ensures.1 (stops_round g.S.PartSink
-    (g.L.ImageSource.size c.args.images.now)
-    c.count-count.result c.rounds.lines g.L.ImageSource.gives g.R.Read.remaining c.args.back
-    c.args.session.now c.rounds.session c.read_round.new.session c.args.images.now c.rounds.images
-    c.read_round.new.images (g.P.Write.contents c.args.report.now)
-    (g.P.Write.contents c.rounds.report) (g.P.Write.contents c.read_round.new.report) rounds
-    c.in_err-read_round.field-0.0 c.count-count.ensures e h c.in_err-read_round.ensures.err)
+    told_err _ _ _ c.from_residual.ensures.1 (stops_round _ _ _ _ _ _ _ _ _ _ _ _ _ _ _ _ rounds _
+    c.count-count.ensures e h c.in_err-read_round.ensures.err)
 
 pub returns-then-is_enough-clause-ok : goal.returns-then-is_enough-clause-ok
 returns-then-is_enough-clause-ok g c =
     let (rounds, e, room, h, calm) = c.rounds.invariant in
-    takes_rounds g.S.PartSink (g.L.ImageSource.size c.args.images.now)
-    c.count-count.result c.rounds.lines g.L.ImageSource.gives g.R.Read.remaining c.args.back
-    c.args.session.now c.rounds.session c.read_round.new.session c.args.images.now c.rounds.images
-    c.read_round.new.images (g.P.Write.contents c.args.report.now)
-    (g.P.Write.contents c.rounds.report) (g.P.Write.contents c.read_round.new.report) rounds
-    c.count-count.ensures e h c.in_ok-read_round.ensures.ok
-    (enough_by _ _ _ _ _ _ c.want-before.ensures c.want.ensures c.if-is_enough.ensures.yes)
+    takes_rounds _ _ _ _ _ _ _ _ _ _ _ _ _ _ _ _ rounds c.count-count.ensures e h
+    c.in_ok-read_round.ensures.ok (enough_by _ _ _ _ _ _ c.want-before.ensures c.want.ensures
+    c.if-is_enough.ensures.yes)
 
 pub returns-then-lines-count-clause-ok : goal.returns-then-lines-count-clause-ok
 returns-then-lines-count-clause-ok g c =
     let (rounds, e, room, h, calm) = c.rounds.invariant in
-    takes_rounds g.S.PartSink (g.L.ImageSource.size c.args.images.now)
-    c.count-count.result c.rounds.lines g.L.ImageSource.gives g.R.Read.remaining c.args.back
-    c.args.session.now c.rounds.session c.read_round.new.session c.args.images.now c.rounds.images
-    c.read_round.new.images (g.P.Write.contents c.args.report.now)
-    (g.P.Write.contents c.rounds.report) (g.P.Write.contents c.read_round.new.report) rounds
-    c.count-count.ensures e h c.in_ok-read_round.ensures.ok
-    (inr (inr (omega (arith, room, c.if-lines-count.true))))
+    takes_rounds _ _ _ _ _ _ _ _ _ _ _ _ _ _ _ _ rounds c.count-count.ensures e h
+    c.in_ok-read_round.ensures.ok (inr (inr (omega (arith, room, c.if-lines-count.true))))
 
 pub returns-in_err-read_round-clause-cause : goal.returns-in_err-read_round-clause-cause
 returns-in_err-read_round-clause-cause g c =
     let (rounds, e, room, h, calm) = c.rounds.invariant in
-    told_err _ _ _ c.from_residual.ensures.1 (then_fails g.S.PartSink
-    g.S.PartSink.refuses_change c.args.back
-    c.in_err-read_round.field-0.0 c.args.session.now c.rounds.session c.read_round.new.session calm
+    told_err _ _ _ c.from_residual.ensures.1 (then_fails _ _ _ _ _ _ _ calm
     c.in_err-read_round.ensures.cause)
 
 pub returns-then-is_enough-clause-calm : goal.returns-then-is_enough-clause-calm
 returns-then-is_enough-clause-calm g c =
     let (rounds, e, room, h, calm) = c.rounds.invariant in
-    calm_then g.S.PartSink c.args.session.now c.rounds.session c.read_round.new.session calm
-    c.in_ok-read_round.ensures.calm
+    calm_then _ _ _ _ calm c.in_ok-read_round.ensures.calm
 
 pub returns-then-lines-count-clause-calm : goal.returns-then-lines-count-clause-calm
 returns-then-lines-count-clause-calm g c =
     let (rounds, e, room, h, calm) = c.rounds.invariant in
-    calm_then g.S.PartSink c.args.session.now c.rounds.session c.read_round.new.session calm
-    c.in_ok-read_round.ensures.calm
+    calm_then _ _ _ _ calm c.in_ok-read_round.ensures.calm

@@ -1,7 +1,6 @@
 use Rattle.std.proofs.Common.{◌≡◌, List, ◌++◌, length}
 use Rattle.tape_blocks.specs.Block.{Portion}
-use Rattle.tape_run.proofs.RecordFronts.{Passes}
-use Rattle.tape_run.proofs.Walked.{Walked}
+use Rattle.tape_run.proofs.{RecordFronts.Passes, Walked.Walked}
 use Rattle.tape_run.proofs.extract.front.pass_parts.Given as goal
 
 abbrev pub invariant-parts : goal.invariant-parts

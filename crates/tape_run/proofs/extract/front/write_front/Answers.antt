@@ -13,9 +13,8 @@ parts-init g c = (
     kept = c.rewind.ensures.keeps;
     crash = λ parts was. c.rewind.ensures.crash;
   },
-  λ parts was. front_starts c.args.form _ _ parts c.weight-weight.result
-      (c.rewind.ensures.all parts was) (c.weight-weight.ensures.of parts was)
-      c.weight-weight.ensures.limit,
+  λ parts was. front_starts _ _ _ parts _ (c.rewind.ensures.all parts was)
+      (c.weight-weight.ensures.of parts was) c.weight-weight.ensures.limit,
 )
 
 pub returns-in_err-write_part-in-Ok-Some-clause-err :
@@ -48,11 +47,9 @@ parts-preserved g c =
     )
 
 pub returns-in-Err-clause-err : goal.returns-in-Err-clause-err
-returns-in-Err-clause-err g c = λ parts was.
-    front_refused c.args.form (g.S.PartWalk.ahead c.parts.sink) c.parts.records _ _ parts
+returns-in-Err-clause-err g c = λ parts was. front_refused _ _ _ _ _ parts
     (c.parts.invariant.1 parts was)
 
 pub returns-in-Err-clause-cause : goal.returns-in-Err-clause-cause
-returns-in-Err-clause-cause g c = rw c.walk_fault.ensures (inl
-    (walk_refused _ _ _ _ c.in-Err.fault c.in-Err.is c.parts.invariant.0
-    c.next_part.follows.holds-at-none))
+returns-in-Err-clause-cause g c = rw c.walk_fault.ensures (inl (walk_refused _ _ _ _ _ c.in-Err.is
+    c.parts.invariant.0 c.next_part.follows.holds-at-none))

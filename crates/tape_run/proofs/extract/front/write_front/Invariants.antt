@@ -1,7 +1,6 @@
 use Rattle.std.proofs.Common.{List}
 use Rattle.tape_blocks.specs.Block.{Portion}
-use Rattle.tape_run.proofs.RecordFronts.{Fronts}
-use Rattle.tape_run.proofs.Walked.{Walked}
+use Rattle.tape_run.proofs.{RecordFronts.Fronts, Walked.Walked}
 use Rattle.tape_run.proofs.extract.front.write_front.Given as goal
 
 abbrev pub invariant-parts : goal.invariant-parts

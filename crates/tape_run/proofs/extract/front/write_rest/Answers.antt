@@ -1,11 +1,8 @@
 use Rattle.std.proofs.Common.{◌≡◌, ◌∙◌, length, arith, List, ℕ, ◌++◌, ◌-◌}
-use Rattle.tape_blocks.specs.Block.{Portion}
-use Rattle.tape_blocks.specs.Spans.{join}
+use Rattle.tape_blocks.specs.{Block.Portion, Spans.join}
 use Rattle.tape_run.specs.RecordFront.{EachEnds}
-use Rattle.tape_run.proofs.Causes.{fails_behind}
-use Rattle.tape_run.proofs.Ended.{told_err}
+use Rattle.tape_run.proofs.{Causes.fails_behind, Ended.told_err, RecordFronts.front_records}
 use Rattle.tape_image.proofs.Pieces.{on_err}
-use Rattle.tape_run.proofs.RecordFronts.{front_records}
 use Rattle.tape_run.proofs.extract.front.write_rest.Goals as goal
 
 -- the number of records left after those that were skipped
@@ -35,18 +32,15 @@ returns-clause-ok g c = λ first rest was long each. (
 
 pub returns-in_err-write_records-clause-cause : goal.returns-in_err-write_records-clause-cause
 returns-in_err-write_records-clause-cause g c =
-    told_err c.from_residual.result c.in_err-write_records.field-0.0 _ c.from_residual.ensures.1
-    (fails_behind (λ s rest. (first : List Portion) × g.S.PartSink.holds s (first ++ rest)
-    × (length first ≡ c.args.passed) × EachEnds first) (λ s parts. g.S.PartWalk.ahead s parts
-    × (c.saturating_sub.result ≡ length (join parts).records))
-    g.S.PartSink.refusals g.S.PartWalk.refuses c.in_err-write_records.field-0.0 c.args.sink.now
-    c.pass_parts.new.sink _ (c.in-Ok-pass_parts.ensures.calm ∙ c.in-Ok.ensures.calm)
-    (λ rest (first, was, long, each). (
+    told_err _ _ _ c.from_residual.ensures.1 (fails_behind (λ s rest. (first : List Portion)
+    × g.S.PartSink.holds s (first ++ rest) × (length first ≡ c.args.passed) × EachEnds first) (λ s
+    parts. g.S.PartWalk.ahead s parts × (c.saturating_sub.result ≡ length (join parts).records)) _
+    g.S.PartWalk.refuses _ _ _ _ (c.in-Ok-pass_parts.ensures.calm ∙ c.in-Ok.ensures.calm) (λ rest
+    (first, was, long, each). (
       rest,
       (
         c.in-Ok-pass_parts.ensures.ok first rest (c.count_records.ensures.kept _ was) long,
         left_is c.in-Ok.records c.args.passed _ first rest (c.in-Ok.ensures.count _ was) long each
             c.saturating_sub.ensures,
       ),
-    ))
-    c.in_err-write_records.ensures.cause)
+    )) c.in_err-write_records.ensures.cause)

@@ -1,6 +1,5 @@
 use Rattle.std.proofs.Common.{subst, IfErr, OnOk}
-use Rattle.tape_run.specs.Reeling.{TakesAll}
-use Rattle.tape_run.specs.Stopping.{StopsReading}
+use Rattle.tape_run.specs.{Reeling.TakesAll, Stopping.StopsReading}
 use Rattle.tape_run.proofs.extract.images.read_images.Goals as goal
 
 pub returns-clause-ok : goal.returns-clause-ok

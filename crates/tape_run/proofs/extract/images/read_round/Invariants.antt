@@ -1,7 +1,6 @@
 use Rattle.std.proofs.Common.{◌≡◌, ◌+◌, List, map, length}
 use Rattle.std.specs.Io.KnownBytes.{Appends}
-use Rattle.tape_run.specs.Causes.{IsCalm}
-use Rattle.tape_run.specs.ReelLine.{reel_lines}
+use Rattle.tape_run.specs.{Causes.IsCalm, ReelLine.reel_lines}
 use Rattle.tape_run.specs.Reeling.{Turn, answer_of, AreTurns, Follows, Carries}
 use Rattle.tape_run.proofs.extract.images.read_round.Given as goal
 

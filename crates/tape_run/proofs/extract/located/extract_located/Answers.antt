@@ -1,7 +1,5 @@
 use Rattle.std.proofs.Common.{rules, ◌≡◌, true, false, ◌∙◌, inl}
-use Rattle.tape_run.proofs.Causes.{ended_for}
-use Rattle.tape_run.proofs.Ended.{told_err}
-use Rattle.tape_run.proofs.Located.{ended_as}
+use Rattle.tape_run.proofs.{Causes.ended_for, Ended.told_err, Located.ended_as}
 use Rattle.tape_run.proofs.StoppedThere.{reads_walked, session_walked}
 use Rattle.tape_run.proofs.extract.located.extract_located.Goals as goal
 
@@ -11,7 +9,7 @@ returns-then-not-complete-clause-ok g c whole held =
     record {
       last = c.read_sections.new.session;
       reads = ended_as ended (c.in_ok-complete.ensures.ok whole held);
-      same = session_walked _ c.read_sections.new.session;
+      same = session_walked _ _;
       complete = λ n none. absurd (cc);
     }
 
@@ -33,9 +31,8 @@ returns-in_err-complete-clause-cause g c =
     told_err _ _ _ c.from_residual.ensures.1 (inl c.in_err-complete.ensures.cause)
 
 pub returns-in-Err-clause-cause : goal.returns-in-Err-clause-cause
-returns-in-Err-clause-cause g c = ended_for _ _ _ c.args.session.now
-    c.read_sections.new.session c.place_output.new.self c.args.form c.in-Err.fault
-    (c.place_output.ensures.calm ∙ c.in_ok-complete.ensures.calm.calm) c.in-Err.ensures.cause
+returns-in-Err-clause-cause g c = ended_for _ _ _ _ _ _ _ _ (c.place_output.ensures.calm
+    ∙ c.in_ok-complete.ensures.calm.calm) c.in-Err.ensures.cause
 
 pub returns-in-Err-clause-reads : goal.returns-in-Err-clause-reads
 returns-in-Err-clause-reads g c = reads_walked _ c.args.session.now c.read_sections.new.session

@@ -1,46 +1,30 @@
 use Rattle.std.proofs.Common.{false, ◌∙◌}
 use Rattle.tape_run.specs.Given.{is_device}
 use Rattle.tape_run.proofs.Causes.{calm_reel, step_fails}
-use Rattle.tape_run.proofs.Ended.{told_err}
-use Rattle.tape_run.proofs.StoppedThere.{reads_reel}
-use Rattle.tape_run.proofs.LocatedParts.{part_on}
+use Rattle.tape_run.proofs.{Ended.told_err, StoppedThere.reads_reel, LocatedParts.part_on}
 use Rattle.tape_run.proofs.LocatedReaders.{held_on, not_finished}
 use Rattle.tape_run.proofs.extract.located.read_on.Goals as goal
 
 pub returns-then-ends_section-clause-ok : goal.returns-then-ends_section-clause-ok
 returns-then-ends_section-clause-ok g c whole before =
-    let had = g.R.Read.remaining c.args.held.device in
-    let left = g.R.Read.remaining c.reel_behind.new.device in
     let answer = c.in_ok-answer.answer in
     let core = c.args.session.now.core in
     let waits = not_finished core.position c.requires.waits in
-    part_on g.S.PartSink g.R.Read.remaining whole had left (is_device answer.fault)
-    c.args.held.file c.args.session.now c.reel_behind.new.self _ waits c.requires.same_set
-    c.requires.later before
-    (λ held was.
+    part_on _ _ whole _ _ (is_device answer.fault) _ _ _ _ waits c.requires.same_set
+    c.requires.later before (λ held was.
     let (now, has, (front, keeps, reeled)) = c.in_ok-answer.ensures.ok held was in
-    (now, has, reeled))
-    (held_on whole had left core c.reel_behind.new.self.core answer c.args.held.file
-    c.file_key-file.result waits
-    c.requires.same_set c.requires.later
+    (now, has, reeled)) (held_on whole _ _ _ _ _ _ _ waits c.requires.same_set c.requires.later
     (c.file_key-file.ensures.set_id ∙ c.reel_behind.ensures.file.0)
     (c.file_key-file.ensures.file ∙ c.reel_behind.ensures.file.1) c.if-ends_section.ensures.yes
-    before
-    c.in_ok-answer.ensures.answer)
+    before c.in_ok-answer.ensures.answer)
 
 pub returns-clause-ok : goal.returns-clause-ok
 returns-clause-ok g c whole before =
-    let had = g.R.Read.remaining c.args.held.device in
-    let left = g.R.Read.remaining c.reel_behind.new.device in
     let core = c.args.session.now.core in
-    part_on g.S.PartSink g.R.Read.remaining whole had left
-    (is_device c.in_ok-answer.answer.fault) c.args.held.file c.args.session.now
-    c.reel_behind.new.self _ (not_finished core.position c.requires.waits) c.requires.same_set
-    c.requires.later before
-    (λ held was.
+    part_on _ _ whole _ _ _ _ _ _ _ (not_finished core.position c.requires.waits)
+    c.requires.same_set c.requires.later before (λ held was.
     let (now, has, (front, keeps, reeled)) = c.in_ok-answer.ensures.ok held was in
-    (now, has, reeled))
-    tt
+    (now, has, reeled)) tt
 
 pub returns-in_err-answer-clause-cause : goal.returns-in_err-answer-clause-cause
 returns-in_err-answer-clause-cause g c =
@@ -50,12 +34,12 @@ returns-in_err-answer-clause-cause g c =
 pub returns-then-ends_section-clause-calm : goal.returns-then-ends_section-clause-calm
 returns-then-ends_section-clause-calm g c =
     let done = c.in_ok-answer.ensures in
-    calm_reel g.S.PartSink c.args.session.now c.reel_behind.new.self _ done.calm done.notes done.ok
+    calm_reel _ _ _ _ done.calm done.notes done.ok
 
 pub returns-clause-calm : goal.returns-clause-calm
 returns-clause-calm g c =
     let done = c.in_ok-answer.ensures in
-    calm_reel g.S.PartSink c.args.session.now c.reel_behind.new.self _ done.calm done.notes done.ok
+    calm_reel _ _ _ _ done.calm done.notes done.ok
 
 pub returns-then-ends_section-clause-reads : goal.returns-then-ends_section-clause-reads
 returns-then-ends_section-clause-reads g c =

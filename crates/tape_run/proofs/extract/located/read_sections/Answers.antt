@@ -1,26 +1,22 @@
-use Rattle.std.proofs.Common.{◌≡◌, ℕ, inl, inr, refl, sym, subst, ap, ◌∙◌, arith, rules}
-use Rattle.std.specs.Prelude.{not, is_some, true, false, List, Option, Some, None}
+use Rattle.std.proofs.Common.{◌≡◌, ℕ, inl, inr, refl, sym, subst, ap, ◌∙◌, arith, rules, not}
+use Rattle.std.proofs.Common.{is_some, true, false, List, Option, Some, None}
 use Rattle.std.specs.Map.{lookup}
 use Rattle.tape_set.specs.Position.{want_at}
 use Rattle.tape_set.specs.declared.position.Want.{Want}
 use Rattle.tape_core.specs.State.{State}
-use Rattle.tape_run.specs.Lacks.{key_at}
-use Rattle.tape_run.specs.Noted.{same_key}
+use Rattle.tape_run.specs.{Lacks.key_at, Noted.same_key, SurveyLocations.Located}
 use Rattle.tape_run.specs.ExtractingLocated.{IsHeld, BeginsOn, NextBeginsOn, held_behind}
-use Rattle.tape_run.specs.SurveyLocations.{Located}
 use Rattle.tape_run.specs.declared.survey.files.FileKey.{FileKey}
 use Rattle.tape_run.proofs.Causes.{calm_same, calm_then, then_fails}
-use Rattle.tape_run.proofs.Ended.{told_err}
-use Rattle.tape_run.proofs.StoppedThere.{reads_nothing, reads_then}
+use Rattle.tape_run.proofs.{Ended.told_err, StoppedThere.reads_nothing, StoppedThere.reads_then}
 use Rattle.tape_run.proofs.Located.{nothing_read, section_read, read_some, section_failed}
-use Rattle.tape_run.proofs.Located.{nothing_open, read_open, located_open}
-use Rattle.tape_run.proofs.Located.{sections_read, not_none, is_none_then, wanted_sect}
+use Rattle.tape_run.proofs.Located.{nothing_open, read_open, located_open, sections_read, not_none}
+use Rattle.tape_run.proofs.Located.{is_none_then, wanted_sect}
 use Rattle.tape_run.proofs.extract.located.read_sections.Goals as goal
 
 -- the image found for the expected section is that of the missing section, if any
-next_on : (entries : List Located) (core : State) (key : FileKey) (want : Want)
-    (image : Option ℕ) → key.set_id ≡ core.set_id → key.file ≡ core.file
-    → Some want ≡ want_at core.file core.position
+next_on : (entries : List Located) (core : State) (key : FileKey) (want : Want) (image : Option ℕ)
+    → key.set_id ≡ core.set_id → key.file ≡ core.file → Some want ≡ want_at core.file core.position
     → lookup (same_key (key_at key.set_id key.file want.sect)) entries ≡ image
     → NextBeginsOn entries core image
 next_on entries core key want image set file wants found = λ sect block part at.
@@ -129,47 +125,34 @@ returns-then-is_none-clause-ok g c whole held =
 pub returns-then-from-next-clause-ok : goal.returns-then-from-next-clause-ok
 returns-then-from-next-clause-ok g c whole held =
     let (s, is_open, some) = c.sections.invariant.reads whole held in
-    sections_read g.S.PartSink g.L.ImageSource.gives g.R.Read.remaining
-    c.args.locations.now.entries false c.args.session.now
-    c.sections.session c.args.images.now c.sections.images c.sections.images
-    (is_some c.args.mounted.now) whole c.sections.mounted c.sections.mounted s s.held
+    sections_read _ _ _ _ false _ _ _ _ _ _ whole _ _ s s.held
     (search rules, inl (refl, inr (some (omega arith))))
 
 pub returns-in_default-get-clause-ok : goal.returns-in_default-get-clause-ok
 returns-in_default-get-clause-ok g c whole held =
     let s = (c.sections.invariant.reads whole held).0 in
-    sections_read g.S.PartSink g.L.ImageSource.gives g.R.Read.remaining
-    c.args.locations.now.entries false c.args.session.now
-    c.sections.session c.args.images.now c.sections.images c.sections.images
-    (is_some c.args.mounted.now) whole c.sections.mounted c.sections.mounted s s.held (
+    sections_read _ _ _ _ false _ _ _ _ _ _ whole _ _ s s.held (
       search rules,
       inl (
         refl,
-        inl (next_on c.args.locations.now.entries c.sections.session.core
-            c.file_key-set_id.result c.in-Some.want None c.file_key-set_id.ensures.set_id
-            c.file_key-set_id.ensures.file (sym c.in-Some.is ∙ c.want.ensures) (search rules)),
+        inl (next_on c.args.locations.now.entries c.sections.session.core c.file_key-set_id.result
+            c.in-Some.want None c.file_key-set_id.ensures.set_id c.file_key-set_id.ensures.file
+            (sym c.in-Some.is ∙ c.want.ensures) (search rules)),
       ),
     )
 
 pub returns-clause-ok : goal.returns-clause-ok
 returns-clause-ok g c whole held =
     let s = (c.sections.invariant.reads whole held).0 in
-    sections_read g.S.PartSink g.L.ImageSource.gives g.R.Read.remaining
-    c.args.locations.now.entries true c.args.session.now
-    c.sections.session c.args.images.now c.sections.images c.sections.images
-    (is_some c.args.mounted.now) whole c.sections.mounted c.sections.mounted s s.held
-    (search rules, refl)
+    sections_read _ _ _ _ true _ _ _ _ _ _ whole _ _ s s.held (search rules, refl)
 
 pub returns-in_err-mounted-clause-cause : goal.returns-in_err-mounted-clause-cause
 returns-in_err-mounted-clause-cause g c =
-    told_err _ _ _ c.from_residual.ensures.1 (then_fails g.S.PartSink
-    g.S.PartSink.refuses_change false c.in_err-mounted.field-0.0 c.args.session.now
-    c.sections.session c.read_section.new.session c.sections.invariant.calm
+    told_err _ _ _ c.from_residual.ensures.1 (then_fails _ _ false _ _ _ _ c.sections.invariant.calm
     c.in_err-mounted.ensures.cause)
 
 pub returns-then-is_none-clause-calm : goal.returns-then-is_none-clause-calm
-returns-then-is_none-clause-calm g c = calm_then g.S.PartSink c.args.session.now
-    c.sections.session c.read_section.new.session c.sections.invariant.calm
+returns-then-is_none-clause-calm g c = calm_then _ _ _ _ c.sections.invariant.calm
     c.in_ok-mounted.ensures.calm
 
 pub returns-then-is_none-clause-reads : goal.returns-then-is_none-clause-reads

@@ -1,7 +1,5 @@
-use Rattle.std.proofs.Common.{◌≡◌, ℕ, ◌-◌, ◌<◌, ◌≢◌, List, [], Option}
-use Rattle.std.specs.Prelude.{is_some}
-use Rattle.tape_run.specs.Causes.{IsCalm}
-use Rattle.tape_run.specs.Stopping.{ReadsOnly}
+use Rattle.std.proofs.Common.{◌≡◌, ℕ, ◌-◌, ◌<◌, ◌≢◌, List, [], Option, is_some}
+use Rattle.tape_run.specs.{Causes.IsCalm, Stopping.ReadsOnly}
 use Rattle.tape_run.specs.ExtractingLocated.{IsHeld, BeginsOn}
 use Rattle.tape_run.proofs.Located.{ReadSoFar, open_behind}
 use Rattle.tape_run.proofs.extract.located.read_sections.Given as goal

@@ -9,11 +9,9 @@ pub loop-reading-init : goal.loop-reading-init
 loop-reading-init g c = reports_none _ _ _
 
 pub loop-reading-preserved : goal.loop-reading-preserved
-loop-reading-preserved g c = reports_more (λ _ r. verdict_cell r.verdict)
-    c.loop-reading.reading-index c.args.readings.now c.reading-item.result
-    (g.G.Write.contents c.args.log.now) (g.G.Write.contents c.loop-reading.log)
-    (g.G.Write.contents c.write_text.new.writer) c.cell.result.now (search rules) c.reading-item.is
-    c.cell.ensures c.loop-reading.invariant c.in_ok-write_text.ensures.ok
+loop-reading-preserved g c = reports_more (λ _ r. verdict_cell r.verdict) _ _ _ _ _ _ _
+    (search rules) c.reading-item.is c.cell.ensures c.loop-reading.invariant
+    c.in_ok-write_text.ensures.ok
 
 pub returns : goal.returns
 returns g c = subst (λ t. Appends (g.G.Write.contents c.args.log.now)

@@ -1,6 +1,4 @@
-use Rattle.std.proofs.Common.{◌≡◌, ◌++◌, drop}
-use Rattle.std.specs.Prelude.{codes}
-use Rattle.std.specs.List.{flat_map}
+use Rattle.std.proofs.Common.{◌≡◌, ◌++◌, drop, codes, flat_map}
 use Rattle.tape_run.specs.Quoting.{name_text}
 use Rattle.tape_run.proofs.merge.log.log_head.Given as goal
 

@@ -3,6 +3,5 @@ use Rattle.tape_run.proofs.merge.now.mount_all.Goals as goal
 
 pub loop-number-preserved : goal.loop-number-preserved
 loop-number-preserved g c =
-    mounts_more g.L.ImageSource.gives _ c.loop-number.images _ c.loop-number.number
-    c.loop-number.devices.items _ _ c.in-Some.device c.loop-number.invariant
-    c.in_ok-device.ensures.ok c.in-Some.is c.in-Ok.ensures.items
+    mounts_more _ _ _ _ _ _ _ _ _ c.loop-number.invariant c.in_ok-device.ensures.ok c.in-Some.is
+    c.in-Ok.ensures.items

@@ -21,12 +21,10 @@ loop-number-preserved g c =
     c.name_at.ensures c.in_ok-line.ensures) c.loop-number.invariant c.in_ok-pass_on.ensures.ok
 
 pub returns-clause-ok : goal.returns-clause-ok
-returns-clause-ok g c = reports_all _ c.loop-number.number _ _ _ (omega arith)
-    c.loop-number.invariant
+returns-clause-ok g c = reports_all _ _ _ _ _ (omega arith) c.loop-number.invariant
 
 pub returns-in_err-line-clause-front : goal.returns-in_err-line-clause-front
-returns-in_err-line-clause-front g c = on_err c.from_residual.result _
-    (reports_so_far _ c.loop-number.number _ _ _ c.loop-number.invariant)
+returns-in_err-line-clause-front g c = on_err _ _ (reports_so_far _ _ _ _ _ c.loop-number.invariant)
 
 pub returns-in_err-pass_on-clause-front : goal.returns-in_err-pass_on-clause-front
 returns-in_err-pass_on-clause-front g c =

@@ -2,10 +2,7 @@ use Rattle.tape_run.proofs.MergeBytes.{ok_images, err_images}
 use Rattle.tape_run.proofs.merge.open.merge_to.Goals as goal
 
 pub returns-clause-ok : goal.returns-clause-ok
-returns-clause-ok g c = ok_images c.merge_items.result c.args.readings.now
-    c.merge_items.new.readings
-    c.args.out.now c.merge_items.new.out _ _ c.merge_items.ensures.ok
+returns-clause-ok g c = ok_images _ _ _ _ _ _ _ c.merge_items.ensures.ok
 
 pub returns-clause-fault : goal.returns-clause-fault
-returns-clause-fault g c = err_images c.merge_items.result c.args.readings.now
-    c.merge_items.new.readings c.args.out.now c.merge_items.new.out c.merge_items.ensures.fault
+returns-clause-fault g c = err_images _ _ _ _ _ c.merge_items.ensures.fault

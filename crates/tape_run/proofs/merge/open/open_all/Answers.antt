@@ -6,18 +6,14 @@ pub loop-device-preserved : goal.loop-device-preserved
 loop-device-preserved g c =
     let is = c.new-in-loop-device.ensures.image in
     record {
-      fronts = open_more (λ y. g.R.Read.remaining y.now) c.loop-device.yielded
-          c.loop-device.readings.items c.in-Some.device c.new-in-loop-device.result
-          c.push.new.self.items c.loop-device.invariant.fronts c.in_ok-push.ensures.items
-          (ap (λ r. r.left) is ∙ c.over.ensures.unread)
+      fronts = open_more (λ y. g.R.Read.remaining y.now) _ _ _ _ _ c.loop-device.invariant.fronts
+          c.in_ok-push.ensures.items (ap (λ r. r.left) is ∙ c.over.ensures.unread)
           (ap (λ r. r.status) is ∙ c.over.ensures.starts.1)
           (ap (λ r. r.place) is ∙ c.over.ensures.starts.0) c.new-in-loop-device.ensures.none;
-      split = split_more (λ y. y.now) c.loop-device.yielded c.in-Some.device
-          c.loop-device.device-iterator.s.now c.next.new.self.s.now c.args.devices.now
-          c.loop-device.invariant.split c.in-Some.ensures.steps;
+      split = split_more (λ y. y.now) _ _ _ _ _ c.loop-device.invariant.split
+          c.in-Some.ensures.steps;
     }
 
 pub returns : goal.returns
-returns g c = all_open g.R.Read.remaining (λ y. y.now) c.loop-device.yielded
-    c.loop-device.device-iterator.s.now c.args.devices.now _ c.loop-device.invariant.fronts
+returns g c = all_open _ (λ y. y.now) _ _ _ _ c.loop-device.invariant.fronts
     c.loop-device.invariant.split c.in-None.ensures.steps.0

@@ -3,18 +3,13 @@ use Rattle.tape_run.proofs.MergeNext.{asked_item, asked_stop}
 use Rattle.tape_run.proofs.merge.reading.ask.Goals as goal
 
 pub returns-then-is_stop-clause-asked : goal.returns-then-is_stop-clause-asked
-returns-then-is_stop-clause-asked g c = asked_stop c.args.reading.now _ c.in_ok-verdict.verdict
-    c.in_ok-verdict.length c.args.best.now c.ask_image.new.best c.args.other.now
-    c.ask_image.new.other c.in_ok-verdict.ensures.answered refl
-    (sym c.is_stop.ensures ∙ c.if-is_stop.true)
+returns-then-is_stop-clause-asked g c = asked_stop _ _ _ _ _ _ _ _ c.in_ok-verdict.ensures.answered
+    refl (sym c.is_stop.ensures ∙ c.if-is_stop.true)
     (record { items = refl; bad = refl; from = refl; len = refl })
 
 pub returns-clause-asked : goal.returns-clause-asked
-returns-clause-asked g c = asked_item c.args.reading.now _ c.in_ok-verdict.verdict
-    c.in_ok-verdict.length c.bad_items.result c.args.best.now c.ask_image.new.best
-    c.args.other.now c.ask_image.new.other c.in_ok-verdict.ensures.answered refl
-    (sym c.is_stop.ensures ∙ c.if-is_stop.false) c.bad_items.ensures
-    (record {
+returns-clause-asked g c = asked_item _ _ _ _ _ _ _ _ _ c.in_ok-verdict.ensures.answered refl
+    (sym c.is_stop.ensures ∙ c.if-is_stop.false) c.bad_items.ensures (record {
       items = λ le. omega (arith, le, c.saturating_add-reading-2.ensures);
       bad = λ le. omega (arith, le, c.saturating_add-reading.ensures);
       from = c.place-from.ensures;

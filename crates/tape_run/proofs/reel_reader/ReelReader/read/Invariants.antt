@@ -1,11 +1,8 @@
 use Rattle.std.proofs.Common.{◌≡◌, ◌-◌, ◌*◌, ◌≤◌, List}
 use Rattle.tape_blocks.specs.Block.{Portion}
-use Rattle.tape_image.specs.Begins.{image_limit}
-use Rattle.tape_image.specs.Reader.{going, IfKnown}
-use Rattle.tape_core.specs.Crash.{AddsNothing}
-use Rattle.tape_core.specs.Weight.{IsFront}
-use Rattle.tape_run.proofs.Images.{SoFar}
-use Rattle.tape_run.proofs.Reels.{ReadsSoFar}
+use Rattle.tape_image.specs.{Begins.image_limit, Reader.going, Reader.IfKnown}
+use Rattle.tape_core.specs.{Crash.AddsNothing, Weight.IsFront}
+use Rattle.tape_run.proofs.{Images.SoFar, Reels.ReadsSoFar}
 use Rattle.tape_run.proofs.reel_reader.ReelReader.read.Given as goal
 
 abbrev pub invariant-items : goal.invariant-items

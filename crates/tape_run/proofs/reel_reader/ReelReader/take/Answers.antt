@@ -2,19 +2,13 @@ use Rattle.std.proofs.Common.{◌≡◌, ◌≤◌, ◌++◌, Some, take, drop, 
 use Rattle.tape_blocks.specs.Judged.{begun_behind}
 use Rattle.tape_image.specs.Tape.{block}
 use Rattle.tape_set.specs.Position.{part_of}
-use Rattle.tape_core.specs.Arrive.{arrival}
-use Rattle.tape_core.specs.Place.{place_of, rest_of}
-use Rattle.tape_core.specs.Point.{Point}
-use Rattle.tape_core.specs.State.{State}
+use Rattle.tape_core.specs.{Arrive.arrival, Place.place_of, Place.rest_of, Point.Point, State.State}
 use Rattle.tape_core.specs.Table.{Outcome, saved}
-use Rattle.tape_run.specs.Puts.{refused_point}
-use Rattle.tape_run.specs.Taking.{TakesItem}
+use Rattle.tape_run.specs.{Puts.refused_point, Taking.TakesItem}
 use Rattle.tape_run.proofs.ByTable.{puts_delivered, puts_none, puts_front}
-use Rattle.tape_run.proofs.Completes.{Tells, step_tells}
+use Rattle.tape_run.proofs.{Completes.Tells, Completes.step_tells, Mounts.checked_of}
+use Rattle.tape_run.proofs.{Notes.front_more, Notes.front_self, Places.no_block}
 use Rattle.tape_core.proofs.Crashes.{only_same}
-use Rattle.tape_run.proofs.Mounts.{checked_of}
-use Rattle.tape_run.proofs.Notes.{front_more, front_self}
-use Rattle.tape_run.proofs.Places.{no_block}
 use Rattle.tape_image.proofs.Pieces.{on_err}
 use Rattle.tape_run.proofs.Taken.{checked_parts, takes_other, takes_block, refuses_block}
 use Rattle.tape_run.proofs.reel_reader.ReelReader.take.Goals as goal
@@ -74,10 +68,10 @@ returns-in_ok-put_block-clause-ok g c = λ held was.
     let core = c.args.self.now.core in
     let mid = c.step-answer.new.self in
     let step = c.step-answer.ensures in
-    let checked = checked_of (arrival c.args.event) core mid (step.checked c.in-Deliver.is) in
+    let checked = checked_of _ _ _ (step.checked c.in-Deliver.is) in
     let bytes = c.in-Block.block.now in
     let is : arrival c.args.event ≡ Some (block bytes) = ap arrival c.in-Block.is in
-    let holds = checked_parts (arrival c.args.event) (rest_of mid) checked bytes is in
+    let holds = checked_parts _ (rest_of mid) checked _ is in
     let first = part_of c.save-before.result.position in
     let part : first ≡ part_of core.position =
     ap (λ (z : Point). part_of z.position) c.save-before.ensures.value in
@@ -85,22 +79,18 @@ returns-in_ok-put_block-clause-ok g c = λ held was.
       now,
       c.in_ok-put_block.ensures.ok held checked.parts checked.known checked.is_known holds was,
       front_more held _,
-      ap (λ l. held ++ l) (puts_delivered core mid c.step-answer.result (arrival c.args.event) bytes
-          checked.known checked.parts first step.table c.in-Deliver.is is checked.is_known holds
-          part),
+      ap (λ l. held ++ l) (puts_delivered _ _ _ _ _ checked.known checked.parts _ step.table
+          c.in-Deliver.is is checked.is_known holds part),
       subst (λ (z : State). TakesItem (arrival c.args.event) c.step-answer.result core z held now)
-          (sym c.in_ok-put_block.ensures.kept)
-          (takes_block core mid c.step-answer.result (arrival c.args.event) step.table
-          c.in-Deliver.is bytes is checked.known checked.is_known checked.parts holds first part
-          held),
+          (sym c.in_ok-put_block.ensures.kept) (takes_block _ _ _ _ step.table c.in-Deliver.is _ is
+          checked.known checked.is_known checked.parts holds _ part held),
     )
 
 -- the event that delivers parts is a block
 pub returns-in_default-event : goal.returns-in_default-event
 returns-in_default-event g c =
-    let checked = checked_of (arrival c.args.event) c.args.self.now.core c.step-answer.new.self
-    (c.step-answer.ensures.checked c.in-Deliver.is) in
-    absurd (no_block c.args.event checked.bytes c.in_default-event.not-Block checked.is_block)
+    let checked = checked_of _ _ _ (c.step-answer.ensures.checked c.in-Deliver.is) in
+    absurd (no_block _ checked.bytes c.in_default-event.not-Block checked.is_block)
 
 pub returns-in_default : goal.returns-in_default
 returns-in_default g c = record {

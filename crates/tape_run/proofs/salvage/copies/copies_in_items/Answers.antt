@@ -1,8 +1,7 @@
 use Rattle.std.proofs.Common.{◌++◌, Ok, Err, Result, OnOk, ap, ◌∙◌, arith, refl}
 use Rattle.tape_image.specs.Reader.{tape_item}
 use Rattle.tape_image.proofs.Callers.{gave, met_end, met_fault}
-use Rattle.tape_run.specs.SalvageWalk.{in_list}
-use Rattle.tape_run.specs.SalvageCopies.{of_file}
+use Rattle.tape_run.specs.{SalvageWalk.in_list, SalvageCopies.of_file}
 use Rattle.tape_run.proofs.SalvageSeen.{starts, one_more, at_end, at_fault}
 use Rattle.tape_run.proofs.salvage.copies.copies_in_items.Goals as goal
 
@@ -16,53 +15,40 @@ items-init g c = record {
   on = c.requires.going;
   limit = omega (arith, c.requires.first);
   same_device = refl;
-  so_far = starts c.args.set_id.now c.args.file c.args.number c.args.image.now.left
-      c.args.image.now.left c.args.image.now.place c.args.copies.now.items c.requires.first refl;
+  so_far = starts _ _ _ _ _ _ _ c.requires.first refl;
 }
 
 pub items-preserved : goal.items-preserved
 items-preserved g c =
     let next = c.next.follows.lender-at-none in
-    let item = tape_item c.in-Ok-Some.item in
-    let step = gave c.items.image _ next c.in-Ok-Some.item c.next.follows.holds-at-none
-    c.items.invariant.on (c.in-Ok-Some.is ∙ ap Ok c.in-Ok-Some.field-0-is) in
+    let step = gave _ _ next _ c.next.follows.holds-at-none c.items.invariant.on
+    (c.in-Ok-Some.is ∙ ap Ok c.in-Ok-Some.field-0-is) in
     record {
       on = step.goes_on;
       limit = step.within;
       same_device = c.next.follows.holds-at-none.same_device ∙ c.items.invariant.same_device;
-      so_far = one_more c.args.set_id.now c.args.file c.args.number c.args.image.now.left
-          c.items.image.left next.left c.items.image.place next.place c.items.expected
-          c.step-next.result.0 c.items.read c.saturating_add-read.result item
-          c.args.copies.now.items c.items.copies.items c.add_copy.new.copies.items
-          c.items.invariant.so_far step.takes
-          (ap (λ r. r.0) c.step-next.ensures) c.saturating_add-read.ensures
-          (c.in_ok-add_copy-in-Ok-Some.ensures.ok
-          ∙ ap (λ r. c.items.copies.items ++ of_file c.args.set_id.now c.args.file c.args.number
-          (in_list c.items.read r.1)) c.step-next.ensures);
+      so_far = one_more _ _ _ _ _ next.left _ next.place _ _ _ _ _ _ _ _ c.items.invariant.so_far
+          step.takes (ap (λ r. r.0) c.step-next.ensures) c.saturating_add-read.ensures
+          (c.in_ok-add_copy-in-Ok-Some.ensures.ok ∙ ap (λ r. c.items.copies.items ++ of_file
+          c.args.set_id.now c.args.file c.args.number (in_list c.items.read r.1))
+          c.step-next.ensures);
     }
 
 pub returns-in-Ok-None-clause-ok : goal.returns-in-Ok-None-clause-ok
 returns-in-Ok-None-clause-ok g c =
     let next = c.next.follows.lender-at-none in
-    let met = met_end c.items.image _ next c.next.follows.holds-at-none c.items.invariant.on
+    let met = met_end _ _ next c.next.follows.holds-at-none c.items.invariant.on
     (c.in-Ok-None.is ∙ ap Ok c.in-Ok-None.field-0-is) in
-    on_ok c.add_copy-in-Ok-None.result (λ noted. at_end c.args.set_id.now c.args.file c.args.number
-    c.args.image.now.left c.items.image.left next.left c.items.image.place next.place met.ending
-    c.items.expected c.items.read c.args.copies.now.items c.items.copies.items
-    c.add_copy-in-Ok-None.new.copies.items
-    c.items.invariant.so_far met.takes (noted ∙ ap (λ o. c.items.copies.items
-    ++ of_file c.args.set_id.now c.args.file c.args.number (in_list c.items.read o))
-    c.open_section.ensures)) c.add_copy-in-Ok-None.ensures.ok
+    on_ok c.add_copy-in-Ok-None.result (λ noted. at_end _ _ _ _ _ next.left _ next.place met.ending
+    _ _ _ _ _ c.items.invariant.so_far met.takes (noted ∙ ap (λ o. c.items.copies.items ++ of_file
+    c.args.set_id.now c.args.file c.args.number (in_list c.items.read o)) c.open_section.ensures))
+    c.add_copy-in-Ok-None.ensures.ok
 
 pub returns-in-Err-clause-ok : goal.returns-in-Err-clause-ok
 returns-in-Err-clause-ok g c =
     let next = c.next.follows.lender-at-none in
-    let met = met_fault c.items.image _ next c.in-Err.field-0 c.next.follows.holds-at-none
-    c.items.invariant.on c.in-Err.is in
-    on_ok c.add_copy-in-Err.result (λ noted. at_fault c.args.set_id.now c.args.file c.args.number
-    c.args.image.now.left c.items.image.left next.left c.items.image.place c.in-Err.field-0
-    c.items.expected c.items.read c.args.copies.now.items c.items.copies.items
-    c.add_copy-in-Err.new.copies.items c.items.invariant.so_far met.takes
-    (noted ∙ ap (λ o. c.items.copies.items
-    ++ of_file c.args.set_id.now c.args.file c.args.number (in_list c.items.read o))
+    let met = met_fault _ _ next _ c.next.follows.holds-at-none c.items.invariant.on c.in-Err.is in
+    on_ok c.add_copy-in-Err.result (λ noted. at_fault _ _ _ _ _ next.left _ _ _ _ _ _ _
+    c.items.invariant.so_far met.takes (noted ∙ ap (λ o. c.items.copies.items ++ of_file
+    c.args.set_id.now c.args.file c.args.number (in_list c.items.read o))
     c.open_section-in-Err.ensures)) c.add_copy-in-Err.ensures.ok

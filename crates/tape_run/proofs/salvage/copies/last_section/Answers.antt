@@ -3,5 +3,5 @@ use Rattle.tape_run.proofs.SalvageChoice.{last_up_to}
 use Rattle.tape_run.proofs.salvage.copies.last_section.Goals as goal
 
 pub loop-copy-preserved : goal.loop-copy-preserved
-loop-copy-preserved c = last_up_to c.args.copies.now c.loop-copy.copy-index c.copy-item.result
-    c.loop-copy.last _ (search rules) c.copy-item.is c.loop-copy.invariant (search rules)
+loop-copy-preserved c = last_up_to _ _ _ _ _ (search rules) c.copy-item.is c.loop-copy.invariant
+    (search rules)

@@ -5,9 +5,7 @@ use Rattle.tape_run.proofs.survey.compared.add_conflict.Goals as goal
 
 pub returns : goal.returns
 returns c =
-    let names = map (λ n. n.now) c.args.names.now in
-    five _ _ _ _ _ _ (codes "CONFLICT, ") (name_at names c.args.first) (codes " and ")
-    (name_at names c.args.other) (codes " differ ('tape compare' shows where)\n")
-    c.in_ok-extend_from_slice.ensures.items c.in_ok-add_name.ensures
-    c.in_ok-extend_from_slice-2.ensures.items c.in_ok-add_name-2.ensures
+    five _ _ _ _ _ _ (codes "CONFLICT, ") _ (codes " and ") _
+    (codes " differ ('tape compare' shows where)\n") c.in_ok-extend_from_slice.ensures.items
+    c.in_ok-add_name.ensures c.in_ok-extend_from_slice-2.ensures.items c.in_ok-add_name-2.ensures
     c.in_ok-extend_from_slice-3.ensures.items

@@ -5,9 +5,7 @@ use Rattle.tape_run.proofs.SurveyDigest.{with_words}
 use Rattle.tape_run.proofs.survey.digest.chains_of.Goals as goal
 
 pub returns : goal.returns
-returns c = with_words no_chains c.args.block.now _ _
-    (c.chains_of_words-front.ensures
-    ∙ ap (λ w. side_over no_chains (map (from_le_bytes w64) w))
-    c.as_chunks.ensures.front)
+returns c = with_words no_chains _ _ _ (c.chains_of_words-front.ensures ∙ ap
+    (λ w. side_over no_chains (map (from_le_bytes w64) w)) c.as_chunks.ensures.front)
     (c.chains_of_bytes.ensures ∙ ap (side_over (in_turn c.chains_of_words-front.result))
     c.as_chunks.ensures.back)

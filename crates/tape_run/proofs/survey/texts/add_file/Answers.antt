@@ -1,7 +1,6 @@
-use Rattle.std.proofs.Common.{◌≡◌, ◌++◌, ◌-◌, [], ◌∙◌, sym, ap, subst, append-nil}
-use Rattle.std.specs.Prelude.{if◌then◌else◌, OnOk}
-use Rattle.tape_run.specs.SurveyGaps.{gap_first, gap_text}
-use Rattle.tape_run.specs.SurveyWording.{found_text}
+use Rattle.std.proofs.Common.{◌≡◌, ◌++◌, ◌-◌, [], ◌∙◌, sym, ap, subst, append-nil, if◌then◌else◌}
+use Rattle.std.proofs.Common.{OnOk}
+use Rattle.tape_run.specs.{SurveyGaps.gap_first, SurveyGaps.gap_text, SurveyWording.found_text}
 use Rattle.tape_run.proofs.survey.texts.add_file.Goals as goal
 
 pub returns : goal.returns

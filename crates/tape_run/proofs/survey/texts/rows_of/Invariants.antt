@@ -1,5 +1,4 @@
-use Rattle.std.proofs.Common.{◌≡◌, take}
-use Rattle.std.specs.List.{flat_map}
+use Rattle.std.proofs.Common.{◌≡◌, take, flat_map}
 use Rattle.tape_run.specs.SurveyRows.{section_row}
 use Rattle.tape_run.proofs.survey.texts.rows_of.Given as goal
 

@@ -1,6 +1,5 @@
 use Rattle.std.proofs.Common.{◌≡◌, ◌-◌, ◌*◌, ◌≤◌}
-use Rattle.tape_image.specs.Begins.{image_limit}
-use Rattle.tape_image.specs.Reader.{going}
+use Rattle.tape_image.specs.{Begins.image_limit, Reader.going}
 use Rattle.tape_run.specs.Passing.{blocks_of}
 use Rattle.tape_run.proofs.SurveyLooks.{LookedSoFar}
 use Rattle.tape_run.proofs.survey.view.view_items.Given as goal

@@ -6,7 +6,7 @@ use Rattle.tape_run.proofs.unpack.choice.fits.Goals.{else-is_empty-via-then-is_e
 use Rattle.tape_run.proofs.unpack.choice.fits.Goals.{else-is_empty-via-else-is_empty}
 
 pub characters-init : goal.characters-init
-characters-init c = tried_none c.args.pattern.now c.args.word.now
+characters-init c = tried_none _ _
 
 pub characters-smaller-in-Some : goal.characters-smaller-in-Some
 characters-smaller-in-Some c =

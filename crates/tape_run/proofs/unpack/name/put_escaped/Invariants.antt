@@ -1,5 +1,4 @@
-use Rattle.std.proofs.Common.{◌≡◌, ◌+◌, ◌*◌, ◌≤◌, ◌++◌, take}
-use Rattle.std.specs.List.{flat_map}
+use Rattle.std.proofs.Common.{◌≡◌, ◌+◌, ◌*◌, ◌≤◌, ◌++◌, take, flat_map}
 use Rattle.arrayvec.specs.ArrayVec.{array_vec_len}
 use Rattle.tape_run.specs.Unpacking.{escaped}
 use Rattle.tape_run.proofs.unpack.name.put_escaped.Given as goal

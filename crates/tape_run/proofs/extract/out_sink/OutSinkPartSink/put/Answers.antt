@@ -8,8 +8,6 @@ pub returns-in-Ok-clause-ok : goal.returns-in-Ok-clause-ok
 returns-in-Ok-clause-ok g c =
     let old = c.args.self.now in
     let is : old.out ≡ Some c.in-Some.out = search rules in
-    λ parts h. put_done g.W.Write.contents old.form c.in-Some.out c.write_part.new.out old.weight
-    (old.weight + (5 + length c.args.part.bytes.now)) old.records c.with_end-self.result old.begun
-    c.leaves-self.result parts (view c.args.part) c.in-Ok.ensures.ok refl c.with_end-self.ensures
-    c.leaves-self.ensures (subst (λ out. HasTaken g.W.Write.contents old.form out old.weight
-    old.records old.begun parts) is h)
+    λ parts h. put_done _ old.form _ _ old.weight _ old.records _ old.begun _ parts _
+    c.in-Ok.ensures.ok refl c.with_end-self.ensures c.leaves-self.ensures (subst (λ out. HasTaken
+    g.W.Write.contents old.form out old.weight old.records old.begun parts) is h)

@@ -1,17 +1,13 @@
-use Rattle.std.proofs.Common.{◌≡◌, ℕ, ◌∷◌, [], List, map, Ok, sym, ap, subst, ◌∙◌}
-use Rattle.std.proofs.Common.{append-nil}
+use Rattle.std.proofs.Common.{◌≡◌, ℕ, ◌∷◌, [], List, map, Ok, sym, ap, subst, ◌∙◌, append-nil}
 use Rattle.std.proofs.lemmas.List.{map-append}
 use Rattle.tape_label.specs.declared.values.Format.{Format}
 use Rattle.tape_set.specs.Lawful.{FileForm}
-use Rattle.tape_blocks.specs.Block.{Portion, Holds}
-use Rattle.tape_blocks.specs.Judged.{judged}
-use Rattle.tape_blocks.specs.Parts.{view}
+use Rattle.tape_blocks.specs.{Block.Portion, Block.Holds, Judged.judged, Parts.view}
 use Rattle.tape_blocks.proofs.JudgedLaws.{judged_found}
 use Rattle.tape_core.specs.Parts.{parts_in}
 use Rattle.tape_core.proofs.BlockLaws.{parts_in_it}
-use Rattle.tape_run.proofs.Blocks.{stands_here}
+use Rattle.tape_run.proofs.{Blocks.stands_here, SalvagePieces.with_one_more}
 use Rattle.tape_run.specs.SalvageRecords.{HasPiece, with_parts}
-use Rattle.tape_run.proofs.SalvagePieces.{with_one_more}
 use Rattle.tape_run.proofs.salvage.mender.Mender.put_parts.Goals as goal
 
 pub new-part-items-requires : goal.new-part-items-requires
@@ -21,7 +17,7 @@ new-part-items-requires g c =
     let r = c.requires.checked in
     let j : judged s.format s.rec_len s.offset r.0 c.args.block.now ≡ Ok r.1 =
     rw (e.format, e.rec_len, e.offset) r.2 in
-    let h = judged_found s.format s.rec_len s.offset r.0 r.1 c.args.block.now s.some_record j in
+    let h = judged_found s.format s.rec_len s.offset r.0 r.1 _ s.some_record j in
     (r.0, r.1, h.0, h.1, h.2)
 
 pub loop-part-preserved : goal.loop-part-preserved
@@ -29,9 +25,9 @@ loop-part-preserved g c = λ start p h.
     let l = c.loop-part in
     let more = c.in_ok-put.ensures.ok start (with_parts p (map view l.yielded))
     (l.invariant start p h) in
-    subst (HasPiece g.W.Write.contents start c.put.new.self)
-    (sym (ap (with_parts p) (map-append view l.yielded (c.in-Some.part ∷ []))
-    ∙ with_one_more p (map view l.yielded) (view c.in-Some.part))) more
+    subst (HasPiece g.W.Write.contents start c.put.new.self) (sym (ap (with_parts p)
+    (map-append view l.yielded (c.in-Some.part ∷ [])) ∙ with_one_more p (map view l.yielded) _))
+    more
 
 -- the parts of the block, by its shape
 held_in_form : (form : FileForm) (format : Format) (rec_len offset : ℕ) (block : List ℕ)

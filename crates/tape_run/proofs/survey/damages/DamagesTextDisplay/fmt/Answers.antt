@@ -12,11 +12,9 @@ loop-line-preserved g c = λ plain.
     let place = c.loop-line.line-index in
     let line = c.line-item.result in
     let one_more : damages_text between (take place lines) ++ damaged_text between line
-    ≡ damages_text between (take (place + 1) lines)
-    = ap (λ t. damages_text between (take place lines) ++ t)
-    (sym (append-nil (damaged_text between line)))
-    ∙ sym (flat_map-append (damaged_text between) (take place lines) (line ∷ []))
-    ∙ ap (damages_text between)
-    (sym (taken_more lines place line line c.loop-line-test.true c.line-item.is)) in
-    put_two g.W.Write.write_str_gives c.args.f.now c.loop-line.f c.write.new.self _ _ _ before
-    (c.in_ok-write.ensures.writes before.plain refl) one_more
+    ≡ damages_text between (take (place + 1) lines) = ap
+    (λ t. damages_text between (take place lines) ++ t)
+    (sym (append-nil (damaged_text between line))) ∙ sym (flat_map-append (damaged_text between)
+    (take place lines) (line ∷ [])) ∙ ap (damages_text between)
+    (sym (taken_more _ _ _ _ c.loop-line-test.true c.line-item.is)) in
+    put_two _ _ _ _ _ _ _ before (c.in_ok-write.ensures.writes before.plain refl) one_more

@@ -6,8 +6,7 @@ use Rattle.tape_run.proofs.unpack.order.Order.add.Goals as goal
 -- src/unpack/order.rt:88:9
 pub invariant_of-self-2 : goal.invariant_of-self-2
 invariant_of-self-2 c = record {
-  same = λ n less.
-      marked c.args.self.now.taken.items c.args.self.now.numbers.items c.args.number
-      c.args.self.now.same (omega (arith, c.if-number-len.false, c.len.ensures)) n less
-      ∙ ap (is_in n) (sym c.in_ok-push.ensures.items);
+  same = λ n less. marked _ _ _ c.args.self.now.same
+      (omega (arith, c.if-number-len.false, c.len.ensures)) n less ∙ ap (is_in n)
+      (sym c.in_ok-push.ensures.items);
 }
