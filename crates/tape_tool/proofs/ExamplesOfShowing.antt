@@ -1,16 +1,13 @@
 -- The cases of `stage`.
 use Rattle.std.proofs.Common.{◌≡◌, ◌≢◌, ◌⊎◌, Bool, true, false, List, ℕ, Option, None, refl, inl}
 use Rattle.std.proofs.Common.{inr, sym, subst}
-use Rattle.std.specs.Fmt.{digits}
-use Rattle.std.specs.Io.KnownBytes.{Keeps}
+use Rattle.std.specs.{Fmt.digits, Io.KnownBytes.Keeps}
 use Rattle.tape_blocks.specs.declared.parts.Form.{Form}
 use Rattle.tape_run.specs.declared.fault.RunFault.{RunFault}
 use Rattle.tape_stage.specs.Faults.{OnBadFrame, SaysNone}
-use Rattle.tape_stage.specs.Found.{IsFaultOf}
+use Rattle.tape_stage.specs.{Found.IsFaultOf, Salvaged.Remains, Staged.HoldsNone}
 use Rattle.tape_blocks.specs.Block.{Portion}
 use Rattle.tape_core.specs.Point.{Point}
-use Rattle.tape_stage.specs.Salvaged.{Remains}
-use Rattle.tape_stage.specs.Staged.{HoldsNone}
 use Rattle.tape_stage.specs.declared.stage.StageFault.{StageFault}
 use Rattle.tape_stage.specs.declared.stage.StageFault.TheVariants.{BadFrame, Device, Failed, Full}
 use Rattle.tape_stage.specs.declared.stage.StageFault.TheVariants.{OutOfMemory, NoPoint}
@@ -127,9 +124,7 @@ remaining read g point broken parts NoPoint remains none told =
     told.0 g point broken parts remains
 remaining read g point broken parts (BadFrame place) remains none told = cc (told.1)
 remaining read g point broken parts Device remains none told = none
-remaining read g point broken parts OutOfMemory remains none told = none
-remaining read g point broken parts Failed remains none told = none
-remaining read g point broken parts Full remains none told = none
+remaining read g point _ parts _ remains none told = none
 
 fails_before : (read : List ℕ) (damaged : Bool) (out written said says : Option (List ℕ))
     → StopsShowing read damaged None out written said says (Stage Device)

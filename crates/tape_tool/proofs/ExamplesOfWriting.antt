@@ -2,8 +2,7 @@
 use Rattle.std.proofs.Common.{◌≡◌, ℕ, suc, Bool, true, false, refl, ap, inl, inr, arith}
 use Rattle.tape_label.specs.declared.values.Format.{Format}
 use Rattle.tape_label.specs.declared.values.Format.TheVariants.{Fixed, Counted, Spanned}
-use Rattle.tape_tool.specs.CasesOfWriting.{CasesOfWriting}
-use Rattle.tape_tool.specs.Writing.{IsNoShape}
+use Rattle.tape_tool.specs.{CasesOfWriting.CasesOfWriting, Writing.IsNoShape}
 
 abbrev place : Format → ℕ
 place Fixed = 0

@@ -2,12 +2,9 @@
 use Rattle.std.proofs.Common.{◌≡◌, ℕ, List, false, sym, subst, ◌∙◌}
 use Rattle.tape_blocks.specs.Block.{Portion}
 use Rattle.tape_core.specs.Point.{Point}
-use Rattle.tape_run.specs.CrashRuns.{IsResumed}
-use Rattle.tape_run.specs.Seen.{seen}
-use Rattle.tape_run.specs.SessionState.{SessionState}
+use Rattle.tape_run.specs.{CrashRuns.IsResumed, Seen.seen, SessionState.SessionState}
 use Rattle.tape_stage.specs.Stages.{Holds, Returns, Survives, Returned, Survived}
-use Rattle.tape_stage.specs.declared.disk.Disk.{Ghosts}
-use Rattle.tape_stage.specs.declared.stage.Stage.{Stage}
+use Rattle.tape_stage.specs.declared.{disk.Disk.Ghosts, stage.Stage.Stage}
 use Rattle.tape_stage.proofs.Backs.{returned_now, survived_now}
 use Rattle.tape_tool.specs.Staging.{StandsAt, as_sink}
 

@@ -1,11 +1,9 @@
 -- Sizes with a letter at their end.
-use Rattle.std.proofs.Common.{◌≡◌, ◌≢◌, ◌⊎◌, inl, inr, ◌<◌, ◌≤◌, ◌*◌, ◌^◌, ◌++◌, ◌∷◌, ℕ, List, [], codes, drop, cond}
-use Rattle.std.proofs.Common.{refl, sym, ap, subst, ◌∙◌, arith, append-nil, Bool, true, false}
-use Rattle.std.proofs.Common.{le-mul_of_pos_right, lt_of_le_of_lt, Option, Some, None}
-use Rattle.std.specs.Prelude.{IfNone}
-use Rattle.std.specs.Option.{SomeIff}
+use Rattle.std.proofs.Common.{◌≡◌, ◌⊎◌, inl, inr, ◌<◌, ◌≤◌, ◌*◌, ◌^◌, ◌++◌, ◌∷◌, ℕ, List, [], drop}
+use Rattle.std.proofs.Common.{cond, refl, sym, ap, subst, ◌∙◌, arith, append-nil, Bool, true, false}
+use Rattle.std.proofs.Common.{le-mul_of_pos_right, lt_of_le_of_lt, Option, Some, None, IfNone, ◌==◌}
+use Rattle.std.proofs.Common.{SomeIff}
 use Rattle.std.proofs.lemmas.List.{same_from_push}
-use Rattle.std.specs.Prelude.{◌==◌}
 use Rattle.std.specs.Str.Parse.{IsNumeral, AllDigits, digits_value, without_leading_plus}
 use Rattle.std.specs.Char.{digit_value}
 use Rattle.tape_tool.specs.Words.{IsUnit, IsSize, EndsInLetter}
@@ -23,13 +21,13 @@ letter_of c factor (inr (inr h)) = inr (inr h.0)
 -- a letter represents one number
 one_factor : (c d f g : ℕ) → IsLetter c f → IsLetter d g → c ≡ d → g ≡ f
 one_factor c d f g (inl h) (inl k) e = k.1 ∙ sym h.1
-one_factor c d f g (inl h) (inr (inl k)) e = absurd (let x : 75 ≡ 77 = sym h.0 ∙ e ∙ k.0 in omega (arith, x))
-one_factor c d f g (inl h) (inr (inr k)) e = absurd (let x : 75 ≡ 71 = sym h.0 ∙ e ∙ k.0 in omega (arith, x))
-one_factor c d f g (inr (inl h)) (inl k) e = absurd (let x : 77 ≡ 75 = sym h.0 ∙ e ∙ k.0 in omega (arith, x))
+one_factor c d f g (inl h) (inr (inl k)) e = absurd (omega (arith, h.0, e, k.0))
+one_factor c d f g (inl h) (inr (inr k)) e = absurd (omega (arith, h.0, e, k.0))
+one_factor c d f g (inr (inl h)) (inl k) e = absurd (omega (arith, h.0, e, k.0))
 one_factor c d f g (inr (inl h)) (inr (inl k)) e = k.1 ∙ sym h.1
-one_factor c d f g (inr (inl h)) (inr (inr k)) e = absurd (let x : 77 ≡ 71 = sym h.0 ∙ e ∙ k.0 in omega (arith, x))
-one_factor c d f g (inr (inr h)) (inl k) e = absurd (let x : 71 ≡ 75 = sym h.0 ∙ e ∙ k.0 in omega (arith, x))
-one_factor c d f g (inr (inr h)) (inr (inl k)) e = absurd (let x : 71 ≡ 77 = sym h.0 ∙ e ∙ k.0 in omega (arith, x))
+one_factor c d f g (inr (inl h)) (inr (inr k)) e = absurd (omega (arith, h.0, e, k.0))
+one_factor c d f g (inr (inr h)) (inl k) e = absurd (omega (arith, h.0, e, k.0))
+one_factor c d f g (inr (inr h)) (inr (inl k)) e = absurd (omega (arith, h.0, e, k.0))
 one_factor c d f g (inr (inr h)) (inr (inr k)) e = k.1 ∙ sym h.1
 
 -- what a unit is: nothing, or a letter
@@ -58,20 +56,6 @@ pub letter_found : (bs front : List ℕ) (c f : ℕ) → bs ≡ front ++ c ∷ [
 letter_found bs front c f is letter digits unit factor text of_unit =
     found_by bs front digits unit c f factor is letter text (unit_is unit factor of_unit)
 
--- no letter is at the end
-pub no_letter_found : (bs : List ℕ) → ((front : List ℕ) → bs ≢ front ++ 75 ∷ [])
-    → ((front : List ℕ) → bs ≢ front ++ 77 ∷ []) → ((front : List ℕ) → bs ≢ front ++ 71 ∷ [])
-    → (digits unit : List ℕ) (factor : ℕ) → bs ≡ digits ++ unit → IsUnit unit factor
-    → ((digits ≡ bs) × (factor ≡ 1)) ⊎ EndsInLetter digits
-no_letter_found bs k m g digits unit factor text (inl h) =
-    inl (sym (text ∙ ap (λ u. digits ++ u) h.0 ∙ append-nil digits), h.1)
-no_letter_found bs k m g digits unit factor text (inr (inl h)) =
-    absurd (k digits (text ∙ ap (λ u. digits ++ u) h.0))
-no_letter_found bs k m g digits unit factor text (inr (inr (inl h))) =
-    absurd (m digits (text ∙ ap (λ u. digits ++ u) h.0))
-no_letter_found bs k m g digits unit factor text (inr (inr (inr h))) =
-    absurd (g digits (text ∙ ap (λ u. digits ++ u) h.0))
-
 -- ---- letters are no digits
 
 last_digit : (xs : List ℕ) (c : ℕ) → AllDigits 10 (xs ++ c ∷ []) → digit_value c < 10
@@ -83,26 +67,24 @@ last_stripped : (x : ℕ) (xs : List ℕ) (c : ℕ) (b : Bool)
 last_stripped x xs c true all = last_digit xs c all
 last_stripped x xs c false all = last_digit (x ∷ xs) c all
 
+-- if one letter is the last character, the others are not all digits
+no_such : (d : ℕ) (front : List ℕ) (c : ℕ) → c ≡ d → 10 ≤ digit_value d → (d == 43) ≡ false
+    → AllDigits 10 (without_leading_plus (front ++ c ∷ [])) → ⊥
+no_such d [] c is high none all =
+    let a : AllDigits 10 (drop (cond (d == 43) 1 0) (d ∷ [])) =
+    subst (λ z. AllDigits 10 (without_leading_plus (z ∷ []))) is all in
+    let b = subst (λ z. AllDigits 10 (drop (cond z 1 0) (d ∷ []))) none a in
+    absurd (omega (arith, b.0, high))
+no_such d (x ∷ xs) c is high none all =
+    let l : digit_value d < 10 =
+    subst (λ z. digit_value z < 10) is (last_stripped x xs c (x == 43) all) in
+    absurd (omega (arith, l, high))
+
 no_letter : (front : List ℕ) (c : ℕ) → (c ≡ 75) ⊎ (c ≡ 77) ⊎ (c ≡ 71)
     → AllDigits 10 (without_leading_plus (front ++ c ∷ [])) → ⊥
-no_letter [] c (inl h) all =
-    let a : AllDigits 10 (without_leading_plus (75 ∷ [])) = subst (λ c. AllDigits 10 (without_leading_plus (c ∷ []))) h all in
-    absurd (let l : digit_value 75 < 10 = a.0 in omega (arith, l))
-no_letter [] c (inr (inl h)) all =
-    let a : AllDigits 10 (without_leading_plus (77 ∷ [])) = subst (λ c. AllDigits 10 (without_leading_plus (c ∷ []))) h all in
-    absurd (let l : digit_value 77 < 10 = a.0 in omega (arith, l))
-no_letter [] c (inr (inr h)) all =
-    let a : AllDigits 10 (without_leading_plus (71 ∷ [])) = subst (λ c. AllDigits 10 (without_leading_plus (c ∷ []))) h all in
-    absurd (let l : digit_value 71 < 10 = a.0 in omega (arith, l))
-no_letter (x ∷ xs) c (inl h) all =
-    let l : digit_value 75 < 10 = subst (λ c. digit_value c < 10) h (last_stripped x xs c (x == 43) all) in
-    absurd (omega (arith, l))
-no_letter (x ∷ xs) c (inr (inl h)) all =
-    let l : digit_value 77 < 10 = subst (λ c. digit_value c < 10) h (last_stripped x xs c (x == 43) all) in
-    absurd (omega (arith, l))
-no_letter (x ∷ xs) c (inr (inr h)) all =
-    let l : digit_value 71 < 10 = subst (λ c. digit_value c < 10) h (last_stripped x xs c (x == 43) all) in
-    absurd (omega (arith, l))
+no_letter front c (inl h) all = no_such 75 front c h (omega arith) refl all
+no_letter front c (inr (inl h)) all = no_such 77 front c h (omega arith) refl all
+no_letter front c (inr (inr h)) all = no_such 71 front c h (omega arith) refl all
 
 -- A size has these digits and this factor.
 size_parts : (text digits : List ℕ) (factor n : ℕ)

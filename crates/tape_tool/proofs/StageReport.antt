@@ -1,11 +1,9 @@
 -- The text that is written and printed for a stage, put together.
-use Rattle.std.proofs.Common.{◌≡◌, ℕ, List, [], Bool, false, length, refl, sym, subst}
-use Rattle.std.proofs.Common.{append-nil}
-use Rattle.std.specs.Prelude.{Option, None}
+use Rattle.std.proofs.Common.{◌≡◌, ℕ, List, [], Bool, false, length, refl, sym, subst, append-nil}
+use Rattle.std.proofs.Common.{Option, None}
 use Rattle.std.specs.Io.KnownBytes.{Appends}
 use Rattle.std.proofs.KnownBytes.{Appends-nil}
-use Rattle.tape_blocks.specs.Block.{Portion}
-use Rattle.tape_blocks.specs.Spans.{join}
+use Rattle.tape_blocks.specs.{Block.Portion, Spans.join}
 use Rattle.tape_blocks.specs.declared.parts.Form.{Form}
 use Rattle.tape_core.specs.Point.{Point}
 use Rattle.tape_image.specs.Written.{AppendsFront}

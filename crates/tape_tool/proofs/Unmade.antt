@@ -1,22 +1,15 @@
 -- Disks with the beginning of a new stage.
-use Rattle.std.proofs.Common.{◌≡◌, ◌⊎◌, inl, inr, ⊎_elim, ℕ, ◌<◌, ◌≤◌, true, false, List, []}
-use Rattle.std.proofs.Common.{◌+◌, ◌-◌, length, get_or, refl, sym, ap, ◌∙◌, subst, arith}
+use Rattle.std.proofs.Common.{◌≡◌, ◌⊎◌, inl, inr, ⊎_elim, ℕ, ◌<◌, ◌≤◌, true, false, List, [], ◌+◌}
+use Rattle.std.proofs.Common.{◌-◌, length, get_or, refl, sym, ap, ◌∙◌, subst, arith, slice_range}
 use Rattle.std.proofs.lemmas.Bool.{cases_lt}
 use Rattle.std.proofs.lemmas.List.{get_or_at, get_or_past, nil_from_length, take_all}
-use Rattle.std.specs.Prelude.{slice_range}
-use Rattle.tape_stage.specs.Body.{body_text, FitBody}
-use Rattle.tape_stage.specs.OnlyReading.{OnlyReads}
+use Rattle.tape_stage.specs.{Body.body_text, Body.FitBody, OnlyReading.OnlyReads, Stages.OpensOver}
 use Rattle.tape_stage.specs.Staged.{HoldsNone, KeepsStaged, StandsLike, blank, body_at, gate_at}
 use Rattle.tape_stage.specs.Staged.{new_slots}
-use Rattle.tape_stage.specs.Stages.{OpensOver}
-use Rattle.tape_stage.specs.declared.disk.Disk.{Ghosts}
-use Rattle.tape_stage.proofs.Bodies.{length-body}
-use Rattle.tape_stage.proofs.Finds.{none_remains}
+use Rattle.tape_stage.specs.declared.{disk.Disk.Ghosts, stage.StageFault.TheVariants.Device}
+use Rattle.tape_stage.proofs.{Bodies.length-body, Finds.none_remains, Refusals.untouched_then}
+use Rattle.tape_stage.proofs.{Passing.follow, Passing.weaken, Tears.closed_none}
 use Rattle.tape_stage.proofs.Openings.{look_keeps, look_passes, look_untouched}
-use Rattle.tape_stage.proofs.Refusals.{untouched_then}
-use Rattle.tape_stage.proofs.Passing.{follow, weaken}
-use Rattle.tape_stage.proofs.Tears.{closed_none}
-use Rattle.tape_stage.specs.declared.stage.StageFault.TheVariants.{Device}
 use Rattle.tape_tool.specs.Staging.{IsUnmade, RefusesSession, Says, first_point}
 use Rattle.tape_tool.specs.declared.staging.StagingFault.{StagingFault}
 use Rattle.tape_tool.specs.declared.staging.StagingFault.TheVariants.{Stage}

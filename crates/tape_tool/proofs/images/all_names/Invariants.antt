@@ -1,5 +1,4 @@
-use Rattle.std.proofs.Common.{◌≡◌, ◌++◌}
-use Rattle.std.specs.List.{filter}
+use Rattle.std.proofs.Common.{◌≡◌, ◌++◌, filter}
 use Rattle.tape_tool.specs.Names.{is_name}
 use Rattle.tape_tool.proofs.images.all_names.Given as goal
 

@@ -1,8 +1,7 @@
 use Rattle.tape_tool.proofs.Examples.{cases_of_ends, cases_of_faults, cases_of_lines}
 use Rattle.tape_tool.proofs.Examples.{cases_of_names, cases_of_staging}
-use Rattle.tape_tool.proofs.ExamplesOfShowing.{cases_of_showing}
-use Rattle.tape_tool.proofs.ExamplesOfWriting.{cases_of_writing}
-use Rattle.tape_tool.proofs.ExamplesOfWords.{cases_of_words}
+use Rattle.tape_tool.proofs.{ExamplesOfShowing.cases_of_showing, ExamplesOfWriting.cases_of_writing}
+use Rattle.tape_tool.proofs.{ExamplesOfWords.cases_of_words}
 use Rattle.tape_tool.proofs.laws.cases.Goals as goal
 
 pub returns-clause-ends : goal.returns-clause-ends

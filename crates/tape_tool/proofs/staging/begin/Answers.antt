@@ -1,7 +1,5 @@
 use Rattle.std.proofs.Common.{[], refl, ap, ◌∙◌}
-use Rattle.tape_core.specs.Place.{rest_of}
-use Rattle.tape_core.specs.State.{State}
-use Rattle.tape_core.specs.Table.{saved}
+use Rattle.tape_core.specs.{Place.rest_of, State.State, Table.saved}
 use Rattle.tape_tool.specs.Staging.{first_point}
 use Rattle.tape_tool.proofs.Sessions.{stands_at}
 use Rattle.tape_tool.proofs.staging.begin.Goals as goal

@@ -1,11 +1,8 @@
-use Rattle.std.proofs.Common.{◌≡◌, ◌⊎◌, ℕ, ◌<◌, ◌≤◌, List, true, sym, ap, ◌∙◌, subst, arith}
-use Rattle.std.proofs.Common.{get_or, length, length-take, length-drop}
+use Rattle.std.proofs.Common.{◌≡◌, ◌⊎◌, ℕ, ◌<◌, ◌≤◌, List, true, ap, ◌∙◌, subst, arith, get_or}
+use Rattle.std.proofs.Common.{length, length-take, length-drop}
 use Rattle.std.proofs.lemmas.Bool.{OnTrue_at, OnTrue_from}
-use Rattle.tape_core.specs.Point.{Point}
-use Rattle.tape_core.specs.State.{State}
-use Rattle.tape_core.specs.Table.{saved}
-use Rattle.tape_stage.specs.Body.{FitBody}
-use Rattle.tape_stage.specs.Staged.{new_slots}
+use Rattle.tape_core.specs.{State.State, Table.saved}
+use Rattle.tape_stage.specs.{Body.FitBody, Staged.new_slots}
 use Rattle.tape_tool.specs.Staging.{IsUnmade, first_point}
 use Rattle.tape_tool.proofs.Unmade.{unmade_read, whole_read}
 use Rattle.tape_tool.proofs.staging.is_unmade.Goals as goal

@@ -1,8 +1,7 @@
 use Rattle.std.proofs.Common.{ℕ, List, subst, ⊎_elim}
 use Rattle.std.proofs.lemmas.Bool.Decides.{eqb_tells}
 use Rattle.tape_stage.specs.Staged.{Staged}
-use Rattle.tape_stage.proofs.Remaining.{none_staged}
-use Rattle.tape_stage.proofs.Results.{if_err, if_ok}
+use Rattle.tape_stage.proofs.{Remaining.none_staged, Results.if_err, Results.if_ok}
 use Rattle.tape_tool.specs.Staging.{GoesOn}
 use Rattle.tape_tool.proofs.Unmade.{not_empty, read_opens, read_then}
 use Rattle.tape_tool.proofs.staging.open_or_make.Goals as goal

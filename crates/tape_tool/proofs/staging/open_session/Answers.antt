@@ -1,5 +1,4 @@
-use Rattle.tape_stage.proofs.Passing.{stands}
-use Rattle.tape_stage.proofs.Results.{if_err, if_ok}
+use Rattle.tape_stage.proofs.{Passing.stands, Results.if_err, Results.if_ok}
 use Rattle.tape_stage.specs.OnlyReading.{OnlyReads}
 use Rattle.tape_tool.proofs.Unmade.{read_failed, read_opens, read_then}
 use Rattle.tape_tool.proofs.staging.open_session.Goals as goal

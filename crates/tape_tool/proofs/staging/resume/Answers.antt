@@ -1,13 +1,11 @@
 use Rattle.std.proofs.Common.{◌≡◌, ℕ, [], true, false, refl, sym, ap, subst, ◌∙◌}
-use Rattle.tape_core.specs.State.{State}
+use Rattle.tape_core.specs.{State.State, Weight.Rose}
 use Rattle.tape_stage.specs.Stages.{OpensOver}
-use Rattle.tape_core.specs.Weight.{Rose}
 use Rattle.tape_tool.specs.Staging.{FailsBy, IsOfFile}
 use Rattle.tape_tool.specs.declared.staging.StagingFault.TheVariants.{Stage}
-use Rattle.tape_stage.specs.declared.stage.StageFault.{StageFault}
+use Rattle.tape_stage.specs.declared.{stage.StageFault.StageFault, stage.Stage.Stage as StageOf}
 use Rattle.tape_stage.specs.declared.stage.StageFault.TheVariants.{NoPoint, BadFrame, Device}
 use Rattle.tape_stage.specs.declared.stage.StageFault.TheVariants.{OutOfMemory, Failed, Full}
-use Rattle.tape_stage.specs.declared.stage.Stage.{Stage as StageOf}
 use Rattle.tape_stage.proofs.Refusals.{opened_keeps}
 use Rattle.tape_tool.proofs.Sessions.{stands_at}
 use Rattle.tape_tool.proofs.staging.resume.Goals as goal

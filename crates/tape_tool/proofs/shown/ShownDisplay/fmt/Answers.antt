@@ -1,10 +1,8 @@
 use Rattle.std.proofs.Common.{◌≡◌, ◌++◌, ◌∙◌, ◌∷◌, [], ap, sym, refl, map-id, append-nil}
-use Rattle.std.proofs.Common.{encode_utf8_all}
-use Rattle.std.proofs.Common.{flat_map}
+use Rattle.std.proofs.Common.{encode_utf8_all, flat_map}
 use Rattle.std.proofs.lemmas.Grind.{flat_map-append, put_two}
-use Rattle.std.proofs.lemmas.Iterator.{YieldsList-from_chars}
-use Rattle.std.proofs.lemmas.Iterator.Consumers.{YieldsList-end}
-use Rattle.std.proofs.lemmas.Str.{encodes-append}
+use Rattle.std.proofs.{lemmas.Iterator.YieldsList-from_chars}
+use Rattle.std.proofs.{lemmas.Iterator.Consumers.YieldsList-end, lemmas.Str.encodes-append}
 use Rattle.tape_run.specs.Quoting.{quoted}
 use Rattle.tape_tool.proofs.shown.ShownDisplay.fmt.Goals as goal
 

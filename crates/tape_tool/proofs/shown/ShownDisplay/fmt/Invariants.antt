@@ -1,6 +1,5 @@
-use Rattle.std.proofs.Common.{encode_utf8_all}
+use Rattle.std.proofs.Common.{encode_utf8_all, flat_map}
 use Rattle.std.specs.Fmt.{HasWritten, IsPlainFormatter}
-use Rattle.std.specs.List.{flat_map}
 use Rattle.tape_run.specs.Quoting.{quoted}
 use Rattle.tape_tool.proofs.shown.ShownDisplay.fmt.Given as goal
 

@@ -1,5 +1,4 @@
-use Rattle.std.proofs.Common.{◌≡◌, ℕ, false, refl, subst, inl}
-use Rattle.std.specs.Prelude.{Option, Some}
+use Rattle.std.proofs.Common.{◌≡◌, ℕ, false, refl, subst, inl, Option, Some}
 use Rattle.std.proofs.KnownBytes.{Keeps-refl}
 use Rattle.tape_stage.specs.Salvaged.{Remains}
 use Rattle.tape_stage.specs.declared.stage.StageFault.TheVariants.{BadFrame, Failed, Full}
