@@ -169,6 +169,7 @@ mod MergeTaken
 mod MergeVerdicts
 mod MergeFirsts
 mod MergeAsking
+mod MergeDiffers
 mod MergeNext
 mod MergeRounds
 mod MergeRefusals

@@ -24,7 +24,8 @@ use Rattle.tape_run.specs.MergeCalls.{Counts, firsts_in, miscounted_of, Puts}
 use Rattle.tape_run.specs.MergeCalls.{Merges, DiffersAt, FitsFault, RefusesCandidate}
 use Rattle.tape_run.proofs.NotedSoFar.{one_block}
 use Rattle.tape_run.proofs.MergeRefusals.{best_fits, refuses_puts}
-use Rattle.tape_run.proofs.MergeAsking.{HaveCandidate, all_best, all_differ}
+use Rattle.tape_run.proofs.MergeAsking.{HaveCandidate, all_best}
+use Rattle.tape_run.proofs.MergeDiffers.{all_differ}
 use Rattle.tape_run.proofs.MergeFirsts.{first_is, second_is}
 use Rattle.tape_run.proofs.MergeCounts.{put_one_more, put_moves, was_put, was_none, CountsOne}
 use Rattle.tape_run.proofs.MergeCounts.{counts_more, phase_more, alone_kept}
