@@ -1,6 +1,7 @@
 -- Wrong answers to a fault of a sink or a writer that the contracts exclude.
 use Rattle.std.proofs.Common.{◌≡◌, ◌<◌, ◌+◌, true, false, List, inl, inr, sym, ◌∙◌}
 use Rattle.std.specs.Prelude.{Err, None, is_some, map}
+use Rattle.std.specs.Io.KnownBytes.{Appends}
 use Rattle.tape_blocks.specs.Block.{Portion}
 use Rattle.tape_core.specs.declared.sink.SinkFault.TheVariants as sink
 use Rattle.tape_run.specs.declared.fault.EngineFault.TheVariants.{Run, WriteFailed}
@@ -95,6 +96,18 @@ streaming_is_full_at_once W R L O P LW LR LL LO LP w f wd h e rd m n o p i j κs
       | inl (inr other) ↦ absurd (cc other.0)
       | inr ends ↦ absurd (cc ends.0)
     ]
+
+-- unsaved_reel_is_reported: a step failed, and the report is not exactly the lines of the images
+-- before it
+unsaved_reel_is_reported : (W : _) (R : _) (L : _) (O : _) (P : _) (LW : _) (LR : _) (LL : _)
+    (LO : _) (LP : _) (w : _) (f : _) (h : _) (e : _) (m : _) (n : _) (o : _) (k : _) (p : _)
+    (q : _) (i : _) (j : _) (κs : _) (a : _) (fault : _) (s : _)
+    → (l : streaming.Learnt-named W R L O P LW LR LL LO LP w f h e m n o k p q i j κs a
+    (Err (Run fault)) s)
+    → (Appends (p.contents a.1.1.1.1.0.now) (p.contents s.1.1.1.1.0.now)
+    (reel_lines 1 (map answer_of l.err.turns)) → ⊥) → ⊥
+unsaved_reel_is_reported W R L O P LW LR LL LO LP w f h e m n o k p q i j κs a fault s l more =
+    more (l.err.told (λ same. cc same))
 
 -- complete_reported_before_the_name: the last line reports a complete file, but none has the name
 complete_reported_before_the_name : (W : _) (R : _) (L : _) (O : _) (P : _) (LW : _) (LR : _)
