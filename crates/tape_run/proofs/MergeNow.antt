@@ -147,7 +147,8 @@ pub left_now : {L R O : Type 0} (result : Result MergeEnd MergeStop) (place : O 
     → IfErr result (LeavesPlace place old new
     (same ⊎ IfMounted size gives remaining shelf left says)
     ((end : MergeEnd) × IfMounted size gives remaining shelf left (holds end)))
-left_now (Ok end) place old new same size gives remaining shelf left devices firsts says holds mounts
+left_now (Ok end) place old new same size gives remaining shelf left devices firsts says holds
+    mounts
     front h = tt
 left_now (Err stop) place old new same size gives remaining shelf left devices firsts says holds
     mounts front h =

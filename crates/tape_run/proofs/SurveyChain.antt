@@ -14,7 +14,8 @@ chain_behind : (c : List Told) (set_id : List ℕ) (file first sect left : ℕ) 
     → sections_chain c set_id file first sect left
     ≡ link_of first sect (entry_at c (key_at set_id file sect))
     ++ (if is_last (entry_at c (key_at set_id file sect)) then []
-    else sections_chain c set_id file (first_after first sect (entry_at c (key_at set_id file sect)))
+    else sections_chain c set_id file
+    (first_after first sect (entry_at c (key_at set_id file sect)))
     (sect + 1) (left - 1))
 chain_behind c set_id file first sect zero some = absurd (omega arith)
 chain_behind c set_id file first sect (suc n) some =
@@ -32,7 +33,8 @@ is_over true m e = refl
 is_over false m e = absurd (cc e)
 
 -- a section was added, and it does not end the file
-pub section_linked : (c : List Told) (set_id : List ℕ) (file : ℕ) (old new goal : List (Option (List ℕ)))
+pub section_linked : (c : List Told) (set_id : List ℕ) (file : ℕ)
+    (old new goal : List (Option (List ℕ)))
     (first next before most : ℕ) → before < most
     → Some next ≡ next_first first (before + 1) (entry_at c (key_at set_id file (before + 1)))
     → new ≡ old ++ link_of first (before + 1) (entry_at c (key_at set_id file (before + 1)))
@@ -54,7 +56,8 @@ section_linked c set_id file old new goal first next before most within is put w
     ∙ ap (λ ls. old ++ ls) (sym (chain_behind c set_id file first (before + 1) _ some)) ∙ was
 
 -- a section was added, and it ends the file
-pub section_last : (c : List Told) (set_id : List ℕ) (file : ℕ) (old new goal : List (Option (List ℕ)))
+pub section_last : (c : List Told) (set_id : List ℕ) (file : ℕ)
+    (old new goal : List (Option (List ℕ)))
     (first before most : ℕ) → before < most
     → None ≡ next_first first (before + 1) (entry_at c (key_at set_id file (before + 1)))
     → new ≡ old ++ link_of first (before + 1) (entry_at c (key_at set_id file (before + 1)))

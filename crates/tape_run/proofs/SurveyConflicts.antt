@@ -35,7 +35,8 @@ all_at : {X : Type 0} (P : X → Type 0) (front rest : List X) (x : X)
 all_at P [] rest x (h, hs) = h
 all_at P (y ∷ front) rest x (h, hs) = all_at P front rest x hs
 
-pub of_all : {X : Type 0} (P : X → Type 0) (xs : List X) (x : X) → AllByRecursion P xs → IsIn xs x → P x
+pub of_all : {X : Type 0} (P : X → Type 0) (xs : List X) (x : X) → AllByRecursion P xs → IsIn xs x
+    → P x
 of_all P xs x h i = all_at P i.front i.rest x (subst (AllByRecursion P) i.stands h)
 
 -- ---- a record about copies describes copies that were found
@@ -101,7 +102,8 @@ note_first xs x = record {
 }
 
 -- which of the copies is the other one
-which : (xs : List Placed) (x : Placed) (key : SectionKey) (blocks digest : ℕ) (o : Option ℕ) (j : ℕ)
+which : (xs : List Placed) (x : Placed) (key : SectionKey) (blocks digest : ℕ) (o : Option ℕ)
+    (j : ℕ)
     → x.1.0.0 ≡ key → agrees blocks digest x ≡ false
     → ((i : ℕ) → o ≡ Some i → Other xs key blocks digest i) → or_else o (Some x.0) ≡ Some j
     → Other (xs ++ x ∷ []) key blocks digest j
@@ -152,7 +154,8 @@ noted es x = insert_entry same_key es x.1.0.0
 noted_here : (xs : List Placed) (x : Placed) (e : Noted) (es : List Noted) (b : Bool)
     → same_key x.1.0.0 e.0 ≡ b → AllNoted xs (e ∷ es) → AllNoted (xs ++ x ∷ []) (noted es x)
     → AllNoted (xs ++ x ∷ []) (if b
-    then (e.0, copy_note (cond b (Some e.1) (noted_at es x.1.0.0)) x.0 (count x) (digest_of x.1.1)) ∷ es
+    then (e.0, copy_note (cond b (Some e.1) (noted_at es x.1.0.0)) x.0 (count x) (digest_of x.1.1))
+    ∷ es
     else e ∷ insert_entry same_key es x.1.0.0
     (copy_note (cond b (Some e.1) (noted_at es x.1.0.0)) x.0 (count x) (digest_of x.1.1)))
 noted_here xs x e es true is (h, hs) rest = (
@@ -190,7 +193,8 @@ of_image xs (Some before) (Some sight) c d v h =
 of_image xs None (Some sight) c d v h = absurd v
 of_image xs (Some before) None c d v h = absurd v
 
-of_images : {L R : Type 0} (gives : Mounting L R) (remaining : R → Option (List ℕ)) (xs : List Placed)
+of_images : {L R : Type 0} (gives : Mounting L R) (remaining : R → Option (List ℕ))
+    (xs : List Placed)
     (shelf : L) (number : ℕ) (sights : List (Option ImageSurvey)) (c : Found) (last : L) (d : Found)
     → (v : AreViewed gives remaining shelf number sights c last d) → AllNoted xs c.copies.notes
     → AllNoted (xs ++ all_placed gives remaining shelf number sights c last d v) d.copies.notes
@@ -227,7 +231,8 @@ counted_in (Some before) (Some sight) c d v = counted_on _ c.images _ (copies_ar
 counted_in None (Some sight) c d v = tt
 counted_in (Some before) None c d v = tt
 
-pub all_counted : {L R : Type 0} (gives : Mounting L R) (remaining : R → Option (List ℕ)) (shelf : L)
+pub all_counted : {L R : Type 0} (gives : Mounting L R) (remaining : R → Option (List ℕ))
+    (shelf : L)
     (number : ℕ) (sights : List (Option ImageSurvey)) (c : Found) (last : L) (d : Found)
     → (v : AreViewed gives remaining shelf number sights c last d)
     → AllCounted (all_placed gives remaining shelf number sights c last d v)
@@ -271,7 +276,8 @@ pub conflicts_are_real : {L R : Type 0} (gives : Mounting L R) (remaining : R �
     (shelf last : L) (sights : List (Option ImageSurvey)) (d : Found)
     (v : AreViewed gives remaining shelf 0 sights nothing_found last d) (key : SectionKey)
     (n : CopyNote) (other : ℕ) → IsIn {X = Noted} d.copies.notes (key, n) → n.other ≡ Some other
-    → CopiesDiffer (all_placed gives remaining shelf 0 sights nothing_found last d v) key n.image other
+    → CopiesDiffer (all_placed gives remaining shelf 0 sights nothing_found last d v) key n.image
+    other
 conflicts_are_real gives remaining shelf last sights d v key n other is e =
     let all = all_placed gives remaining shelf 0 sights nothing_found last d v in
     let h = of_all (λ (x : Noted). NoteOf all x.0 x.1) d.copies.notes (key, n)

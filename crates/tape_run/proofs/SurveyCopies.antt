@@ -72,7 +72,8 @@ digest_is blocks _ _ = refl
 
 -- The good copies among the items were added, and the digest is that of the blocks of the current
 -- section.
-pub record CopiedSoFar (items : List TapeItem) (image : ℕ) (old : Copied) (digest : ℕ) (new : Copied)
+pub record CopiedSoFar (items : List TapeItem) (image : ℕ) (old : Copied) (digest : ℕ)
+    (new : Copied)
     : Type 0 where
   pub digested : digest ≡ digest_of (blocks_after [] Volume items)
   pub copied : new ≡ copied_in image old items

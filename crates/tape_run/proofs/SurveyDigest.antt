@@ -79,7 +79,8 @@ same_turned d e dn en same = halves _ _ dn en (sym (turned _ dn) ∙ same ∙ tu
 
 -- ---- chains
 
-pub side_over-append : (ds ws vs : List ℕ) → side_over ds (ws ++ vs) ≡ side_over (side_over ds ws) vs
+pub side_over-append : (ds ws vs : List ℕ) → side_over ds (ws ++ vs)
+    ≡ side_over (side_over ds ws) vs
 side_over-append ds [] vs = refl
 side_over-append ds (w ∷ ws) vs = side_over-append (side_by ds w) ws vs
 

@@ -25,7 +25,8 @@ held_copies image c (y ∷ ys) =
     ∙ append_assoc c.held ((image, y.0.0) ∷ []) (map as_held (map (λ z. (image, z)) ys))
 
 held_image : (reel : Reel) (sight : Option ImageSurvey) (c d : Found)
-    → (v : IsViewed reel sight c d) → d.copies.held ≡ c.copies.held ++ map as_held (placed_in reel sight c d v)
+    → (v : IsViewed reel sight c d) → d.copies.held
+    ≡ c.copies.held ++ map as_held (placed_in reel sight c d v)
 held_image None None c d v = ap (λ (f : Found). f.copies.held) v ∙ sym (append-nil c.copies.held)
 held_image (Some before) (Some sight) c d v =
     ap (λ (k : Copied). k.held) v.1.copied

@@ -33,11 +33,12 @@ before xs more x h = record {
 
 linked : (first sect : ℕ) (o : Option Entry) (e : Entry) → o ≡ Some e
     → IsIn (link_of first sect o) (Some e.volume)
-linked first sect o e is = subst (λ p. IsIn (link_of first sect p) (Some e.volume)) (sym is) (record {
-  front = gap_if (nat_lt first sect);
-  rest = [];
-  stands = refl;
-})
+linked first sect o e is = subst (λ p. IsIn (link_of first sect p) (Some e.volume)) (sym is)
+    (record {
+      front = gap_if (nat_lt first sect);
+      rest = [];
+      stands = refl;
+    })
 
 same_or_later : (a b : ℕ) → a ≤ b → (b ≡ a) ⊎ (a + 1 ≤ b)
 same_or_later zero zero h = inl refl
@@ -60,12 +61,14 @@ in_or_after link rest over from sect v (inr later) here on there =
     after link (if over then [] else rest) (Some v)
     (subst (λ (b : Bool). IsIn (if b then [] else rest) (Some v)) (sym (on later)) (there later))
 
-in_sections : (c : List Told) (set_id : List ℕ) (file first from n sect : ℕ) (e : Entry) → from ≤ sect
+in_sections : (c : List Told) (set_id : List ℕ) (file first from n sect : ℕ) (e : Entry)
+    → from ≤ sect
     → sect < from + n
     → ((i : ℕ) → from ≤ i → i < sect → is_last (entry_at c (key_at set_id file i)) ≡ false)
     → entry_at c (key_at set_id file sect) ≡ Some e
     → IsIn (sections_chain c set_id file first from n) (Some e.volume)
-in_sections c set_id file first from zero sect e least most on is = absurd (omega (arith, least, most))
+in_sections c set_id file first from zero sect e least most on is = absurd
+    (omega (arith, least, most))
 in_sections c set_id file first from (suc n) sect e least most on is =
     let entry = entry_at c (key_at set_id file from) in
     in_or_after (link_of first from entry)
@@ -84,7 +87,8 @@ unfolding found_chain
 in_file c set_id file sect e least most on is =
     in_sections c set_id file 1 1 9999 sect e least (omega (arith, most)) on is
 
-in_files : (d : Found) (set_id : List ℕ) (from n file : ℕ) (v : List ℕ) → from ≤ file → file < from + n
+in_files : (d : Found) (set_id : List ℕ) (from n file : ℕ) (v : List ℕ) → from ≤ file
+    → file < from + n
     → IsIn (file_chain d set_id file) (Some v) → IsIn (files_chain d set_id from n) (Some v)
 in_files d set_id from zero file v least most h = absurd (omega (arith, least, most))
 in_files d set_id from (suc n) file v least most h =
@@ -138,7 +142,8 @@ in_volumes last missing (Some w ∷ front) rest v = later (in_volumes (Some w) f
     later (inr h) = inr (after (items_to last missing w) onward (Named v) h)
 
 -- a volume that differs from the volume before the first link
-first_in : (ys : List VolumeItem) (v : List ℕ) → (None ≡ Some v) ⊎ IsIn ys (Named v) → IsIn ys (Named v)
+first_in : (ys : List VolumeItem) (v : List ℕ) → (None ≡ Some v) ⊎ IsIn ys (Named v)
+    → IsIn ys (Named v)
 first_in ys v (inl same) = absurd (cc same)
 first_in ys v (inr h) = h
 

@@ -58,7 +58,8 @@ locate_all-append image sections located p (y ∷ ys) x =
 -- and the section that it completes was added to the damaged ones, if it is damaged
 damages_in-append : (items : List TapeItem) (x : TapeItem)
     → damages_in (told_from Volume (items ++ x ∷ []))
-    ≡ damages_in (told_from Volume items) ++ damages_in (in_list (step (phase_after Volume items) x).1)
+    ≡ damages_in (told_from Volume items) ++ damages_in
+    (in_list (step (phase_after Volume items) x).1)
 damages_in-append items x =
     let last = in_list (step (phase_after Volume items) x).1 in
     ap damages_in (told_from-append Volume items (x ∷ [])
@@ -67,8 +68,10 @@ damages_in-append items x =
 
 -- Of the bytes `all` the items up to an offset were examined, and the results were recorded.
 pub record LookedSoFar (all left : Option (List ℕ)) (place image : ℕ) (sections : List Told)
-    (files : List Filed) (located : List Located) (known : Copied) (phase : Phase) (g : ImageSummary)
-    (digest : ℕ) (told : List Told) (filed : List Filed) (locations : List Located) (copies : Copied)
+    (files : List Filed) (located : List Located) (known : Copied) (phase : Phase)
+    (g : ImageSummary)
+    (digest : ℕ) (told : List Told) (filed : List Filed) (locations : List Located)
+    (copies : Copied)
     (damaged : List SectionLine) : Type 0 where
   pub count : ℕ
   pub so_far : SoFar all left place count sections phase told
@@ -82,18 +85,20 @@ pub record LookedSoFar (all left : Option (List ℕ)) (place image : ℕ) (secti
 pub looks_start : (all left : Option (List ℕ)) (place image : ℕ) (sections : List Told)
     (files : List Filed) (located : List Located) (known : Copied) (g : ImageSummary)
     (listed : List SectionLine) → place ≡ 0 → left ≡ all → g ≡ blank_glance → listed ≡ []
-    → LookedSoFar all left place image sections files located known Volume g 0 sections files located
+    → LookedSoFar all left place image sections files located known Volume g 0 sections files
+    located
     known listed
-looks_start all left place image sections files located known g listed first same none empty = record {
-  count = 0;
-  so_far = starts all left place sections first same;
-  counted = ap (λ (h : ImageSummary). h.items) none;
-  glance = none;
-  named = refl;
-  places = refl;
-  copied = copied_none image known;
-  damages = empty;
-}
+looks_start all left place image sections files located known g listed first same none empty =
+    record {
+      count = 0;
+      so_far = starts all left place sections first same;
+      counted = ap (λ (h : ImageSummary). h.items) none;
+      glance = none;
+      named = refl;
+      places = refl;
+      copied = copied_none image known;
+      damages = empty;
+    }
 
 -- one more item was read for the labels of files
 pub labels_noted : (old mid new : List Filed) (p : Phase) (x : TapeItem) (head : Option Head1)
@@ -119,7 +124,8 @@ pub looks_more : (all left next : Option (List ℕ)) (p q image : ℕ) (item : T
     → LookedSoFar all next q image sections files located known after h then told filed locations
     copies damaged
 looks_more all left next p q image item sections files located known phase after g h digest then mid
-    told named filed there locations found copies here listed damaged s takes goes notes names places
+    told named filed there locations found copies here listed damaged s takes goes notes names
+    places
     is adds lists digests looks =
     let items = s.so_far.items in
     let stands : phase ≡ phase_after Volume items = s.so_far.stands in
@@ -142,7 +148,8 @@ looks_more all left next p q image item sections files located known phase after
           ∙ ap (λ (r : List Located). with_location (noted_all sections (told_from Volume items)) r
           image (head_in behind item)) s.places
           ∙ sym (locate_all-append image sections located Volume items item);
-      copied = copied_more items image known digest found phase item here then copies s.copied stands
+      copied = copied_more items image known digest found phase item here then copies s.copied
+          stands
           is adds digests;
       damages = lists ∙ ap (λ (o : Option Told). listed ++ damages_in (in_list o)) is
           ∙ ap (λ (r : Phase). listed ++ damages_in (in_list (step r item).1)) stands
@@ -153,7 +160,8 @@ looks_more all left next p q image item sections files located known phase after
 -- all damaged sections of the image are listed
 all_damages : (items : List TapeItem) (phase : Phase) (listed damaged : List SectionLine)
     → phase ≡ phase_after Volume items → listed ≡ damages_in (told_from Volume items)
-    → damaged ≡ listed ++ damages_in (in_list (under_way phase)) → damaged ≡ damages_in (met_in items)
+    → damaged ≡ listed ++ damages_in (in_list (under_way phase)) → damaged
+    ≡ damages_in (met_in items)
 all_damages items phase listed damaged stands so_far lists =
     let last = in_list (under_way (phase_after Volume items)) in
     lists ∙ ap (λ (r : Phase). listed ++ damages_in (in_list (under_way r))) stands

@@ -25,7 +25,8 @@ counts g p (x ∷ xs) =
     omega (arith, rest)
 
 -- once items have left the order, that is final
-stays : (g : ImageSummary) (p : Phase) (xs : List TapeItem) (n : ℕ) (w : ExpectedItem) → g.course ≡ Leaves n w
+stays : (g : ImageSummary) (p : Phase) (xs : List TapeItem) (n : ℕ) (w : ExpectedItem) → g.course
+    ≡ Leaves n w
     → (look_all g p xs).course ≡ Leaves n w
 stays g p [] n w e = e
 stays g p (x ∷ xs) n w e =
@@ -56,7 +57,8 @@ number_behind number p bad next n w e = number_left number p next n w e
 number_behind number p (block b) next n w e = number_left number p next n w e
 
 its_number : (c : LabelOrder) (number : ℕ) (p : Phase) (x : TapeItem) (next : Phase) (n : ℕ)
-    (w : ExpectedItem) → has_left c ≡ false → course_with c number p x next ≡ Leaves n w → n ≡ number
+    (w : ExpectedItem) → has_left c ≡ false → course_with c number p x next ≡ Leaves n w → n
+    ≡ number
 its_number Follows number p x next n w still e = number_behind number p x next n w e
 its_number Blank number p mark next n w still e = absurd (cc e)
 its_number Blank number p bad next n w still e = cc e
@@ -102,7 +104,8 @@ leaves_at before xs x n w true is still e more =
     ∙ ap (λ (g : ImageSummary). g.course) (sym (from_there before xs x)) ∙ e in
     let here : course_with (course_of before) ((glance_of before).items + 1) p x (step p x).0
     ≡ Leaves m v =
-    ap (λ (g : ImageSummary). g.course) (sym (look_all-append blank_glance Volume before x)) ∙ there in
+    ap (λ (g : ImageSummary). g.course) (sym (look_all-append blank_glance Volume before x))
+    ∙ there in
     let number = its_number (course_of before) ((glance_of before).items + 1) p x (step p x).0 m v
     still here in
     let one : m ≡ n = ap (λ (c : LabelOrder). number_of c 0) same in

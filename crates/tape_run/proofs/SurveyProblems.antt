@@ -6,7 +6,8 @@ use Rattle.tape_run.specs.{Lacks.entry_at, Lacks.key_at, Passing.Told}
 use Rattle.tape_run.specs.SurveyProblems.{known_text, first_after, sections_from}
 
 -- the lines from one section on
-sections_behind : (y : Wording) (c : List Told) (set_id : List ℕ) (file first sect left : ℕ) → 0 < left
+sections_behind : (y : Wording) (c : List Told) (set_id : List ℕ) (file first sect left : ℕ)
+    → 0 < left
     → sections_from y c set_id file first sect left
     ≡ known_text y c set_id file first sect (entry_at c (key_at set_id file sect))
     ++ sections_from y c set_id file
@@ -19,7 +20,8 @@ sections_behind y c set_id file first sect (suc n) some =
     ++ sections_from y c set_id file (first_after first sect entry) (sect + 1) m) one
 
 -- the lines of one more section were added
-pub section_added : (y : Wording) (c : List Told) (set_id : List ℕ) (file : ℕ) (old new goal : List ℕ)
+pub section_added : (y : Wording) (c : List Told) (set_id : List ℕ) (file : ℕ)
+    (old new goal : List ℕ)
     (first next before most : ℕ) → before < most
     → next ≡ first_after first (before + 1) (entry_at c (key_at set_id file (before + 1)))
     → new ≡ old ++ known_text y c set_id file first (before + 1)

@@ -77,7 +77,8 @@ BothAs items after blocks = StoodAs after.0 items blocks × ShownIf items after.
 
 trailed_as : (items : List TapeItem) (blocks : List (List ℕ)) (met : Met) (b : List ℕ)
     (trail : Trail1) (c : Bool) → closes met trail ≡ c → trail1_at b ≡ Ok trail
-    → StoodAs (Trailer met) items blocks → BothAs (items ++ block b ∷ []) (told_if met trail c) blocks
+    → StoodAs (Trailer met) items blocks
+    → BothAs (items ++ block b ∷ []) (told_if met trail c) blocks
 unfolding shown_as
 trailed_as items blocks met b trail true c e (h, same) = (
   (begins_more items met.volume (block b ∷ []) h.volume, tt),
@@ -101,8 +102,10 @@ stands_as : (p : Phase) (items : List TapeItem) (x : TapeItem) (blocks : List (L
     → StoodAs p items blocks → StoodAs (step p x).0 (items ++ x ∷ []) (blocks_with blocks p x)
     × ShownIf (items ++ x ∷ []) (step p x).1 blocks
 unfolding filled_first filled_more filled_closed
-stands_as Volume items (block b) blocks (h, same) =
-    (volume_as (items ++ block b ∷ []) blocks (vol1_at b) (stands_on Volume items (block b) h).0, tt)
+stands_as Volume items (block b) blocks (h, same) = (
+  volume_as (items ++ block b ∷ []) blocks (vol1_at b) (stands_on Volume items (block b) h).0,
+  tt,
+)
 stands_as (Labels v) items (block b) blocks (h, same) = (
   labels_as (items ++ block b ∷ []) blocks v (head1_at b) (is_volume_label b)
       (stands_on (Labels v) items (block b) h).0,

@@ -49,7 +49,8 @@ whole_all : {L R : Type 0} (gives : Mounting L R) (remaining : R → Option (Lis
     → AllByRecursion IsWhole sights × (c.whole ≡ true)
 whole_all gives remaining shelf number [] c last d v e =
     (tt, sym (ap (λ (f : Found). f.whole) v.1) ∙ e)
-whole_all gives remaining shelf number (sight ∷ sights) c last d (image, next, mid, gave, is, are) e =
+whole_all gives remaining shelf number (sight ∷ sights) c last d (image, next, mid, gave, is, are) e
+    =
     let (rest, on) = whole_all gives remaining next (number + 1) sights mid last d are e in
     let (here, first) = whole_one (option_map remaining image) sight c mid is on in
     ((here, rest), first)
@@ -306,7 +307,8 @@ all_is_sound gives remaining shelf last sights d v e =
     let found = and_left (found_all d.sections) (all_good d.sections
     && (not (any_differs d.files) && is_agreed d.copies.conflicts)) one in
     let agreed = and_right (not (any_differs d.files)) (is_agreed d.copies.conflicts) three in
-    let all = images_noted gives remaining [] shelf 0 sights nothing_found last d v (λ _. tt) agreed in
+    let all = images_noted gives remaining [] shelf 0 sights nothing_found last d v (λ _. tt) agreed
+    in
     record {
       images = (whole_all gives remaining shelf 0 sights nothing_found last d v
           (and_left d.whole (found_all d.sections && (all_good d.sections

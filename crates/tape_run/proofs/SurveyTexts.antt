@@ -164,7 +164,8 @@ all_counted held sights t goal i none was =
 
 -- one more image was opened and read
 pub viewed_more : {L R : Type 0} (gives : Mounting L R) (remaining : R → Option (List ℕ))
-    (shelf : L) (number : ℕ) (sights : List (Option ImageSurvey)) (c : Found) (left : L) (mid : Found)
+    (shelf : L) (number : ℕ) (sights : List (Option ImageSurvey)) (c : Found) (left : L)
+    (mid : Found)
     (sight : Option ImageSurvey) (image : Option R) (last : L) (d : Found)
     → AreViewed gives remaining shelf number sights c left mid
     → gives left (number + length sights) image last

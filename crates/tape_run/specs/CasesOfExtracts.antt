@@ -167,7 +167,8 @@ ExtractsListedNow session shelf left form stands said says want =
 abbrev pub StopsListedNow : Listed → Readers → Readers → Form → Known → Known → Known → Known
     → Type 0
 StopsListedNow session shelf left form out put said says =
-    StopsNow as_sink length Took (λ r. r) session session shelf left form ⊤ (λ o. o) out put said says
+    StopsNow as_sink length Took (λ r. r) session session shelf left form ⊤ (λ o. o) out put said
+    says
     WriteFailed
 
 -- of what was written

@@ -18,7 +18,8 @@ pub record ShownAs (items : List TapeItem) (t : Told) (blocks : List (List ℕ))
 
 -- Each good copy that is compared is one that the items show, with all its data blocks.
 abbrev pub CopiesAreShown : Type 0
-CopiesAreShown = (items : List TapeItem) → AllByRecursion (λ x. ShownAs items x.0 x.1) (copies_on items)
+CopiesAreShown = (items : List TapeItem)
+    → AllByRecursion (λ x. ShownAs items x.0 x.1) (copies_on items)
 
 -- ---- the good copies on all images
 
@@ -41,7 +42,8 @@ abbrev pub all_placed : {L R : Type 0} (gives : Mounting L R) (remaining : R →
     (shelf : L) (number : ℕ) (sights : List (Option ImageSurvey)) (c : Found) (last : L) (d : Found)
     → AreViewed gives remaining shelf number sights c last d → List Placed
 all_placed gives remaining shelf number [] c last d v = []
-all_placed gives remaining shelf number (sight ∷ sights) c last d (image, next, mid, gave, is, are) =
+all_placed gives remaining shelf number (sight ∷ sights) c last d (image, next, mid, gave, is, are)
+    =
     placed_in (option_map remaining image) sight c mid is
     ++ all_placed gives remaining next (number + 1) sights mid last d are
 

@@ -1,5 +1,5 @@
--- The sections of a file that are damaged or missing: a line for each, for people, which may change;
--- or, in the last column of its row, its number and its state.
+-- The sections of a file that are damaged or missing: a line for each, for people, which may
+-- change; or, in the last column of its row, its number and its state.
 use Rattle.std.specs.Prelude.{ℕ, zero, suc, ◌+◌, ◌-◌, nat_lt, Bool, true, false, ◌||◌}
 use Rattle.std.specs.Prelude.{if◌then◌else◌, List, [], ◌++◌, codes, decimal, Option, Some, None}
 use Rattle.tape_run.specs.declared.section.{Entry.Entry, SectionState.SectionState}

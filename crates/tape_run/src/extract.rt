@@ -61,8 +61,8 @@ use tape_set::Want;
 /// was no memory to open an image, or with the fault of the walk over the sink's parts,
 /// `Sink(Failed)` if the walk returns fewer records than before; `WriteFailed` if `out` or the
 /// report failed. The lines reported so far are a prefix of such a report; an image that could not
-/// be read or saved is not reported. `out` was not touched, or the file is complete, and a prefix of
-/// its records was written.
+/// be read or saved is not reported. `out` was not touched, or the file is complete, and a prefix
+/// of its records was written.
 pub fn extract_to<S: PartWalk, R: Read + Drop, L: ImageSource<R>, W: Write, P: Write>(
     session: &mut Session<S>,
     images: &mut L,

@@ -1,5 +1,5 @@
--- Results that the contracts of checkpoints, disks and stages exclude: each is the result of a wrong
--- body.
+-- Results that the contracts of checkpoints, disks and stages exclude: each is the result of a
+-- wrong body.
 use Rattle.std.proofs.Common.{◌≡◌, ℕ, Option, ◌+◌, List, [], ◌∷◌, ◌++◌, length, take, drop}
 use Rattle.std.proofs.Common.{get_or, true, false, refl, inl, inr, sym, ap, subst, ◌∙◌, arith}
 use Rattle.std.specs.Prelude.{replicate, Some, Ok, Err, option_map, unwrap_or}
@@ -140,8 +140,8 @@ disk_cut_without_memory D L g d κs a refused s l w before later =
     sym later ∙ ap g.moment (l.unwritten (subst IsNotDevice (sym w) tt)) ∙ before in
     absurd (omega (arith, n))
 
--- acknowledged_though_not_saved: a checkpoint of weight 85 could not be saved, but is acknowledged in
--- place of the earlier one of weight 0
+-- acknowledged_though_not_saved: a checkpoint of weight 85 could not be saved, but is acknowledged
+-- in place of the earlier one of weight 0
 acknowledged_though_not_saved : (D : _) (L : _) (g : _) (d : _) (κs : _) (a : _) (s : _)
     → save.Learnt-named D L g d κs a (Err Device) s
     → a.1.0.now.staged ≡ 85 → a.0.now.acknowledged.staged ≡ 0

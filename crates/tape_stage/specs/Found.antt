@@ -16,8 +16,8 @@ pub record IsFound (found : Found) (bytes : List ℕ) : Type 0 where
   pub other : Loses found.in_second found.generation (slot_at (not found.in_second) bytes)
   pub gate : found.other_open ≡ (gate_at (not found.in_second) bytes == 79)
 
--- The frames that the current slot counts are intact up to the offset `place`, which is before their
--- end; at that offset there is no frame that ends within the staged weight and the file.
+-- The frames that the current slot counts are intact up to the offset `place`, before their end; at
+-- that offset there is no frame that ends within the staged weight and the file.
 pub record IsBadPlace (bytes : List ℕ) (place : ℕ) : Type 0 where
   pub generation : ℕ
   pub point : Point

@@ -10,7 +10,8 @@ use Rattle.tape_tool.specs.Staging.{StandsAt, as_sink}
 
 module _ {D : Type 0} {disk : Ghosts D} where
   -- a session over a stage has the stage's position
-  pub stands_at : (point told : Point) (parts : List Portion) (session : SessionState (Stage D disk))
+  pub stands_at : (point told : Point) (parts : List Portion)
+      (session : SessionState (Stage D disk))
       (stage : Stage D disk) → session.sink ≡ stage
       → IsResumed point parts (seen as_sink session parts) → told ≡ point
       → Holds stage parts

@@ -95,7 +95,8 @@ pub record CasesOfEnds : Type 0 where
       → end ≡ Faulted fault
   pub lost : (text : Bor (List ℕ)) → IsRefusalEnd (unfits.Words text) WrongWords
       × IsRefusalEnd (unfits.Words text) (Faulted (Run runs.OutOfMemory))
-      × (IsRefusalEnd (unfits.Words text) Done → ⊥) × (IsRefusalEnd (unfits.Words text) Incomplete → ⊥)
+      × (IsRefusalEnd (unfits.Words text) Done → ⊥)
+      × (IsRefusalEnd (unfits.Words text) Incomplete → ⊥)
   pub no_text : (null : Bool) (number : ℕ) → IsRefusalEnd (unfits.NoText null number) WrongWords
       × (IsRefusalEnd (unfits.NoText null number) Done → ⊥)
 
@@ -180,7 +181,8 @@ pub record CasesOfStaging {D : Type 0} (disk : Ghosts D) : Type 0 where
       (bytes : List ℕ) → StandsAt point parts session → disk.may_leave session.sink.disk bytes
       → (back : Point) × (there : List Portion) × Returns session.sink back there
   -- and that is always this checkpoint with these parts
-  pub only : (point back : Point) (parts there : List Portion) (session : SessionState (Stage D disk))
+  pub only : (point back : Point) (parts there : List Portion)
+      (session : SessionState (Stage D disk))
       → StandsAt point parts session → Returns session.sink back there
       → (back ≡ point) × (there ≡ parts)
   -- the same for every state that a crash leaves from this moment on
@@ -189,7 +191,8 @@ pub record CasesOfStaging {D : Type 0} (disk : Ghosts D) : Type 0 where
       → disk.left_since session.sink.disk (disk.moment session.sink.disk) bytes
       → (back : Point) × (there : List Portion)
       × Returned session.sink (disk.moment session.sink.disk) back there
-  pub since : (point back : Point) (parts there : List Portion) (session : SessionState (Stage D disk))
+  pub since : (point back : Point) (parts there : List Portion)
+      (session : SessionState (Stage D disk))
       → StandsAt point parts session
       → Returned session.sink (disk.moment session.sink.disk) back there
       → (back ≡ point) × (there ≡ parts)

@@ -92,8 +92,9 @@ impl<W: Write + Drop> OutSink<W> {
             (EndingFails (is_some self.old.out) self.old.begun self.old.form form) }
         ensures calm { self.new.refused ≡ self.old.refused }
         ensures kept { (parts : List Portion) → HasTaken W.contents self.old.form self.old.out
-            self.old.weight self.old.records self.old.begun parts → HasTaken W.contents self.new.form
-            self.new.out self.new.weight self.new.records self.new.begun parts }
+            self.old.weight self.old.records self.old.begun parts
+            → HasTaken W.contents self.new.form self.new.out self.new.weight self.new.records
+            self.new.begun parts }
         ensures stays { IfErr result (λ fault. fault ≢ EngineFault.WriteFailed
             → self.new ≡ self.old) }
     {

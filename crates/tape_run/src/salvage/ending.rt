@@ -140,7 +140,8 @@ impl<W: Write> Recovery<W> {
             (P.contents report.new) (with_end eof)
             (λ g. torn_text (eof && g.piece.begun) sect number g.piece.records)) }
         ensures front { OnErr result (ReportsFront W.contents self.old (P.contents report.old)
-            (P.contents report.new) (λ g. torn_text (eof && g.piece.begun) sect number g.piece.records)) }
+            (P.contents report.new)
+            (λ g. torn_text (eof && g.piece.begun) sect number g.piece.records)) }
     {
         if eof && self.mender.is_begun() {
             return self.tear(sect, number, report);

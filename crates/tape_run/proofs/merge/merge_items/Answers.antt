@@ -78,7 +78,8 @@ returns-in_err-put-clause-fault g c = refused_now c.from_residual-in_err-put.res
 
 pub returns-in_err-log_item-clause-fault : goal.returns-in_err-log_item-clause-fault
 returns-in_err-log_item-clause-fault g c = row_refused _ _ _ _ c.items.merged c.items.phase
-    c.in_ok-witnesses.witnesses c.args.out.now c.items.out c.put.new.out _ _ c.ask_all.new.best c.ask_all.new.other
+    c.in_ok-witnesses.witnesses c.args.out.now c.items.out c.put.new.out _ _ c.ask_all.new.best
+    c.ask_all.new.other
     c.in_ok-put.field-0 c.in_ok-witnesses.ensures.witnesses c.in_err-log_item.ensures.due
     (search rules) c.items.invariant.so_far c.in_ok-witnesses.ensures.asked
     (sym c.is_some.ensures ∙ c.if-is_some.false) c.in_ok-put.ensures.ok c.if-not-branch.false

@@ -9,7 +9,8 @@ loop-number-init g c =
 
 pub loop-number-preserved : goal.loop-number-preserved
 loop-number-preserved g c =
-    one_found g.L.ImageSource.gives g.R.Read.remaining _ _ _ c.loop-number.images _ c.loop-number.number
+    one_found g.L.ImageSource.gives g.R.Read.remaining _ _ _ c.loop-number.images _
+    c.loop-number.number
     c.in-Ok.image _ _ _ _ _ c.loop-number.invariant c.in-Ok.ensures.ok c.in_ok-find_on.ensures.ok
 
 pub returns-in_default-clause-front : goal.returns-in_default-clause-front

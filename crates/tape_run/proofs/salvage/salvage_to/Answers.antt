@@ -13,7 +13,8 @@ returns-in_err-conflict-clause-err g c =
     on_err c.from_residual-in_err-conflict.result _ (inl (
       refl,
       stops_comparing
-          g.L.ImageSource.size g.L.ImageSource.gives g.R.Read.remaining c.args.task.now _ _ _ _ _ _ _
+          g.L.ImageSource.size g.L.ImageSource.gives g.R.Read.remaining c.args.task.now _ _ _ _ _ _
+          _
           c.in_ok-copies.ensures.ok _ refl c.as_slice.ensures.value c.in_err-conflict.ensures.front,
     ))
 
@@ -22,7 +23,8 @@ returns-in_err-recover_sections-clause-err g c =
     on_err c.from_residual-in_err-recover_sections.result _ (inl (
       refl,
       stops_recovering
-          g.L.ImageSource.size g.L.ImageSource.gives g.R.Read.remaining c.args.task.now _ _ _ _ _ _ _
+          g.L.ImageSource.size g.L.ImageSource.gives g.R.Read.remaining c.args.task.now _ _ _ _ _ _
+          _
           c.in_ok-copies.ensures.ok g.W.Write.contents _ c.new-recovery.result _ _ _ _
           c.in_ok-conflict.ensures.ok c.as_slice.ensures.value c.as_slice-2.ensures.value
           c.new-recovery.ensures c.in_err-recover_sections.ensures.front,
@@ -33,7 +35,8 @@ returns-in_err-flush-clause-err g c =
     on_err c.from_residual-in_err-flush.result _ (inl (
       refl,
       stops_placing
-          g.L.ImageSource.size g.L.ImageSource.gives g.R.Read.remaining c.args.task.now _ _ _ _ _ _ _
+          g.L.ImageSource.size g.L.ImageSource.gives g.R.Read.remaining c.args.task.now _ _ _ _ _ _
+          _
           c.in_ok-copies.ensures.ok g.W.Write.contents _ c.new-recovery.result _ _ _ _ _
           c.in_ok-conflict.ensures.ok c.as_slice.ensures.value c.as_slice-2.ensures.value
           c.new-recovery.ensures c.in_ok-recover_sections.ensures.ok,
@@ -44,7 +47,8 @@ returns-in_err-place-clause-err g c =
     on_err c.from_residual-in_err-place.result _ (inl (
       c.in_err-place.ensures.err,
       stops_placing
-          g.L.ImageSource.size g.L.ImageSource.gives g.R.Read.remaining c.args.task.now _ _ _ _ _ _ _
+          g.L.ImageSource.size g.L.ImageSource.gives g.R.Read.remaining c.args.task.now _ _ _ _ _ _
+          _
           c.in_ok-copies.ensures.ok g.W.Write.contents _ c.new-recovery.result _ _ _ _ _
           c.in_ok-conflict.ensures.ok c.as_slice.ensures.value c.as_slice-2.ensures.value
           c.new-recovery.ensures c.in_ok-recover_sections.ensures.ok,

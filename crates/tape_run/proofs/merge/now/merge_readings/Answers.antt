@@ -154,7 +154,8 @@ returns-in_err-report_items-in-Err-Differ-clause-left g c =
     search rules in
     err_stays c.from_residual-in_err-report_items-in-Err-Differ.result g.O.Place.stands _ _ _
     (says_items c.args.readings.now c.merge_to.new.readings _ _ c.in-Err-Differ.item
-    c.in-Err-Differ.field-0 _ _ c.in-Err-Differ.ensures.fault c.in-Err-Differ.field-0-is old second _
+    c.in-Err-Differ.field-0 _ _ c.in-Err-Differ.ensures.fault c.in-Err-Differ.field-0-is old second
+    _
     (Appends-trans old first second (lines_from (reading_line names) 0 c.merge_to.new.readings)
     (differ_line c.in-Err-Differ.item) c.in_ok-report_readings-in-Err-Differ.ensures.ok
     (subst (λ t. Appends first second t) text c.in_ok-pass_on-in-Err-Differ.ensures.ok))

@@ -11,7 +11,8 @@ loop-copy-init g c = none_compared _ _ _
 
 pub loop-copy-preserved : goal.loop-copy-preserved
 loop-copy-preserved g c = compared_more _ c.copy-item.result c.args.copies.now
-    c.loop-copy.copy-index _ _ _ _ _ _ (search rules) c.copy-item.is c.loop-copy.invariant c.in_ok-any.ensures.any
+    c.loop-copy.copy-index _ _ _ _ _ _ (search rules) c.copy-item.is c.loop-copy.invariant
+    c.in_ok-any.ensures.any
     c.in_ok-any.ensures.text
 
 pub returns-in_err-any-clause-front : goal.returns-in_err-any-clause-front

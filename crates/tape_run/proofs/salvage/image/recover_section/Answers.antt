@@ -87,7 +87,8 @@ returns-in-Err-clause-ok g c =
     at_fault g.W.Write.contents c.args.image.now.left c.items.image.left next.left
     c.items.image.place c.in-Err.field-0 c.args.start c.args.key.now c.args.most c.args.form.now
     c.items.expected c.args.recovery.now c.items.recovery (g.P.Write.contents c.args.report.now)
-    (g.P.Write.contents c.items.report) c.items.invariant.so_far met.takes c.items.invariant.limit c.read_in-in-Err.result
+    (g.P.Write.contents c.items.report) c.items.invariant.so_far met.takes c.items.invariant.limit
+    c.read_in-in-Err.result
     c.read_in-in-Err.ensures c.items.invariant.unended
 
 pub returns-in_err-take_item-in-Ok-Some-clause-front :

@@ -82,7 +82,8 @@ returns-in_err-miss_form-clause-front g c =
     ≡ false =
     sym (c.has_form.ensures ∙ ap (has_form c.args.content) c.form_for-form.ensures)
     ∙ c.if-not-has_form.true in
-    on_err c.from_residual-in_err-miss_form.result _ (without_form g.W.Write.contents g.L.ImageSource.gives
+    on_err c.from_residual-in_err-miss_form.result _
+    (without_form g.W.Write.contents g.L.ImageSource.gives
     g.R.Read.remaining c.args.copies.now c.args.content c.args.known.now c.args.sect k _ _ _ _ _
     (subst (IsBest (firsts c.args.sect None c.args.copies.now)) c.in-Some.is
     c.best_copy.ensures) off refl c.in_err-miss_form.ensures.front)
@@ -100,7 +101,8 @@ returns-in_err-miss_section-2-clause-front g c =
     ≡ true =
     sym (c.has_form.ensures ∙ ap (has_form c.args.content) c.form_for-form.ensures)
     ∙ c.if-not-has_form.false in
-    on_err c.from_residual-in_err-miss_section-2.result _ (without_image g.W.Write.contents g.L.ImageSource.gives
+    on_err c.from_residual-in_err-miss_section-2.result _
+    (without_image g.W.Write.contents g.L.ImageSource.gives
     g.R.Read.remaining c.args.copies.now c.args.content c.args.known.now c.args.sect k _ _ _ _ _
     (subst (IsBest (firsts c.args.sect None c.args.copies.now)) c.in-Some.is
     c.best_copy.ensures) on
@@ -115,7 +117,8 @@ returns-in_default-new-clause-front g c =
     sym (c.has_form.ensures ∙ ap (has_form c.args.content) c.form_for-form.ensures)
     ∙ c.if-not-has_form.false in
     none_read g.W.Write.contents g.L.ImageSource.gives
-    g.R.Read.remaining c.args.copies.now c.args.content c.args.known.now c.args.sect k c.in-Some-image.device _ _ _ _
+    g.R.Read.remaining c.args.copies.now c.args.content c.args.known.now c.args.sect k
+    c.in-Some-image.device _ _ _ _
     (subst (IsBest (firsts c.args.sect None c.args.copies.now)) c.in-Some.is
     c.best_copy.ensures) on
     (subst (λ i. g.L.ImageSource.gives c.args.images.now k.image i c.mount.new.self)
@@ -130,7 +133,8 @@ returns-clause-front g c =
     ∙ c.if-not-has_form.false in
     if_err c.recover_copy.result _ _ c.recover_copy.ensures.front
     (λ part. copy_begun g.W.Write.contents g.L.ImageSource.gives
-    g.R.Read.remaining c.args.copies.now c.args.content c.args.known.now c.args.sect k c.in-Some-image.device _ _ _ _ _
+    g.R.Read.remaining c.args.copies.now c.args.content c.args.known.now c.args.sect k
+    c.in-Some-image.device _ _ _ _ _
     (subst (IsBest (firsts c.args.sect None c.args.copies.now)) c.in-Some.is
     c.best_copy.ensures) on
     (subst (λ i. g.L.ImageSource.gives c.args.images.now k.image i c.mount.new.self)

@@ -5,7 +5,8 @@ use Rattle.tape_run.proofs.survey.problems.add_sections.Given as goal
 abbrev pub invariant-loop-before : goal.invariant-loop-before
 invariant-loop-before l = record {
   few : l.first ≤ l.before + 1;
-  text : l.texts.items ++ sections_from l.wording l.sections.entries l.set_id l.file l.first (l.before + 1)
+  text : l.texts.items ++ sections_from l.wording l.sections.entries l.set_id l.file l.first
+      (l.before + 1)
       (l.most - l.before)
       ≡ l.fn.texts.items ++ sections_from l.wording l.sections.entries l.set_id l.file 1 1 l.most;
 }

@@ -10,6 +10,7 @@ loop-before-preserved c =
       few = omega (arith, was.few, c.one_if-sure.ensures.most);
       count = sure_more c.args.findings.now c.args.set_id _ _ _ c.loop-before.before
           c.args.greatest c.loop-before-test.true
-          (ap (λ n. c.loop-before.sure + n) (c.one_if-sure.ensures.exact ∙ ap one_if c.is_sure.ensures))
+          (ap (λ n. c.loop-before.sure + n)
+          (c.one_if-sure.ensures.exact ∙ ap one_if c.is_sure.ensures))
           was.count;
     }

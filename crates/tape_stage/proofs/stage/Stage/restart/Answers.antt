@@ -32,7 +32,8 @@ returns-in-Ok-clause-any_moment g c honest acked parts front is of =
     (c.in-Ok.ensures.ok honest acked parts front is of)))
 
 -- a cut that failed after the checkpoint was acknowledged
-cut_refused : {A D : Type 0} {disk : Ghosts D} (r : Result A StageFault) (old mid new : Stage D disk)
+cut_refused : {A D : Type 0} {disk : Ghosts D} (r : Result A StageFault)
+    (old mid new : Stage D disk)
     → old.failed ≡ false → mid.weight ≡ old.weight → IfErr r (λ fault. fault ≡ Device)
     → IfErr r (HasRefused mid new) → IfErr r (HasRefused old new)
 cut_refused (Ok done) old mid new alive same is refused = tt

@@ -12,12 +12,14 @@ returns-in_err-generation-clause-says c =
 
 pub returns-in-Ok-clause-says : goal.returns-in-Ok-clause-says
 returns-in-Ok-clause-says c =
-    open_reads _ _ c.if-gate-ne-OPEN.false ∙ body_some c.args.body.now c.in_ok-generation.generation _
+    open_reads _ _ c.if-gate-ne-OPEN.false
+    ∙ body_some c.args.body.now c.in_ok-generation.generation _
     (sym c.in_ok-generation.ensures.exact) (ap result_ok (sym c.in-Ok.ensures.exact))
 
 pub returns-in-Err-clause-says : goal.returns-in-Err-clause-says
 returns-in-Err-clause-says c =
-    open_reads _ _ c.if-gate-ne-OPEN.false ∙ body_some c.args.body.now c.in_ok-generation.generation _
+    open_reads _ _ c.if-gate-ne-OPEN.false
+    ∙ body_some c.args.body.now c.in_ok-generation.generation _
     (sym c.in_ok-generation.ensures.exact) (ap result_ok (sym c.in-Err.ensures.exact))
 
 pub returns-in-Ok-clause-staged : goal.returns-in-Ok-clause-staged

@@ -28,7 +28,8 @@ filling : (g : Over) (c : After-write_kept g) → g.D.Disk.is_honest c.args.disk
     → (n : ℕ) (point : Point) (parts : List Portion)
     → Ready c.args.in_second n point parts c.args.is_open (g.D.Disk.seen c.args.disk.now)
     (g.D.Disk.may_leave c.args.disk.now)
-    → Passes g.D.Disk c.args.disk.now c.write_kept.new.disk (StagedIn c.args.in_second n point parts)
+    → Passes g.D.Disk c.args.disk.now c.write_kept.new.disk
+    (StagedIn c.args.in_second n point parts)
 filling g c honest n point parts ready =
     let first = c.in_ok-close_gate.ensures in
     follow g.D.Disk _ _ _ _ (c.close_gate.ensures.any_moment honest n point parts ready)

@@ -14,6 +14,7 @@ returns-in_err-write_text-clause-front g c =
     on_err c.from_residual-in_err-write_text.result _ (λ start z h.
     let a = c.in_ok-tear.ensures.ok start z h in
     let line : c.deref.result.now ≡ no_form_line c.args.sect z.piece.records = c.deref.ensures.0
-    ∙ c.no_form_line.ensures ∙ ap (no_form_line c.args.sect) (c.records.ensures ∙ a.0.piece.counts) in
+    ∙ c.no_form_line.ensures
+    ∙ ap (no_form_line c.args.sect) (c.records.ensures ∙ a.0.piece.counts) in
     in_two _ _ _ _ _ a.1 (subst (AppendsFront (g.P.Write.contents c.tear.new.report)
     (g.P.Write.contents c.write_text.new.writer)) line c.in_err-write_text.ensures.err))

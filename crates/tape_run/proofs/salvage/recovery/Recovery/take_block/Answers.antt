@@ -17,7 +17,8 @@ returns-in_err-write_gap-clause-front g c =
     let recs : records ≡ z.piece.records = c.records-records.ensures ∙ h.piece.counts in
     let gap : gap_text sect c.args.self.now.gap n records ≡ gap_text sect z.gap n z.piece.records =
     ap (λ x. gap_text sect x n records) h.same_gap ∙ ap (gap_text sect z.gap n) recs in
-    in_one _ _ _ _ (subst (AppendsFront (g.P.Write.contents c.args.report.now) (g.P.Write.contents c.write_gap.new.report))
+    in_one _ _ _ _ (subst (AppendsFront (g.P.Write.contents c.args.report.now)
+    (g.P.Write.contents c.write_gap.new.report))
     gap c.in_err-write_gap.ensures.front))
 
 pub returns-in_err-write_torn-clause-front : goal.returns-in_err-write_torn-clause-front
@@ -33,8 +34,10 @@ returns-in_err-write_torn-clause-front g c =
     ≡ torn_text (is_cut c.args.form.now z.piece c.args.block.now) sect n z.piece.records =
     ap (λ b. torn_text b sect n records) (c.is_cut.ensures z.piece h.piece.tears)
     ∙ ap (torn_text (is_cut c.args.form.now z.piece c.args.block.now) sect n) recs in
-    in_two _ _ _ _ _ (subst (Appends (g.P.Write.contents c.args.report.now) (g.P.Write.contents c.write_gap.new.report)) gap
-    c.in_ok-write_gap.ensures.ok) (in_one _ _ _ _ (subst (AppendsFront (g.P.Write.contents c.write_gap.new.report)
+    in_two _ _ _ _ _ (subst
+    (Appends (g.P.Write.contents c.args.report.now) (g.P.Write.contents c.write_gap.new.report)) gap
+    c.in_ok-write_gap.ensures.ok)
+    (in_one _ _ _ _ (subst (AppendsFront (g.P.Write.contents c.write_gap.new.report)
     (g.P.Write.contents c.write_torn.new.report)) cut c.in_err-write_torn.ensures.front)))
 
 pub returns-in_err-fault-clause-front : goal.returns-in_err-fault-clause-front
@@ -50,8 +53,10 @@ returns-in_err-fault-clause-front g c =
     ≡ torn_text (is_cut c.args.form.now z.piece c.args.block.now) sect n z.piece.records =
     ap (λ b. torn_text b sect n records) (c.is_cut.ensures z.piece h.piece.tears)
     ∙ ap (torn_text (is_cut c.args.form.now z.piece c.args.block.now) sect n) recs in
-    in_two _ _ _ _ _ (subst (Appends (g.P.Write.contents c.args.report.now) (g.P.Write.contents c.write_gap.new.report)) gap
-    c.in_ok-write_gap.ensures.ok) (in_one _ _ _ _ (whole_text _ _ _ (subst (Appends (g.P.Write.contents c.write_gap.new.report)
+    in_two _ _ _ _ _ (subst
+    (Appends (g.P.Write.contents c.args.report.now) (g.P.Write.contents c.write_gap.new.report)) gap
+    c.in_ok-write_gap.ensures.ok)
+    (in_one _ _ _ _ (whole_text _ _ _ (subst (Appends (g.P.Write.contents c.write_gap.new.report)
     (g.P.Write.contents c.write_torn.new.report)) cut c.in_ok-write_torn.ensures.ok))))
 
 pub returns-in_err-write_refused-clause-front : goal.returns-in_err-write_refused-clause-front
@@ -74,10 +79,13 @@ returns-in_err-write_refused-clause-front g c =
     ap (λ f. refused_text sect n f c.is_begun-begun.result records) taken.1
     ∙ ap (λ b. refused_text sect n why b records) (c.is_begun-begun.ensures ∙ h.piece.begins)
     ∙ ap (refused_text sect n why z.piece.begun) recs in
-    in_two _ _ _ _ _ (subst (Appends (g.P.Write.contents c.args.report.now) (g.P.Write.contents c.write_gap.new.report)) gap
-    c.in_ok-write_gap.ensures.ok) (in_two _ _ _ _ _ (subst (Appends (g.P.Write.contents c.write_gap.new.report)
+    in_two _ _ _ _ _ (subst
+    (Appends (g.P.Write.contents c.args.report.now) (g.P.Write.contents c.write_gap.new.report)) gap
+    c.in_ok-write_gap.ensures.ok)
+    (in_two _ _ _ _ _ (subst (Appends (g.P.Write.contents c.write_gap.new.report)
     (g.P.Write.contents c.write_torn.new.report)) cut c.in_ok-write_torn.ensures.ok)
-    (subst (AppendsFront (g.P.Write.contents c.write_torn.new.report) (g.P.Write.contents c.write_refused.new.report)) refused
+    (subst (AppendsFront (g.P.Write.contents c.write_torn.new.report)
+    (g.P.Write.contents c.write_refused.new.report)) refused
     c.in_err-write_refused.ensures.front)))
 
 pub returns-clause-ok : goal.returns-clause-ok
@@ -101,9 +109,11 @@ returns-clause-ok g c =
     ∙ ap (λ b. refused_text sect n why b records) (c.is_begun-begun.ensures ∙ h.piece.begins)
     ∙ ap (refused_text sect n why z.piece.begun) recs in (
       record { piece = taken.0; same_gap = refl; same_missing = search rules },
-      three_texts _ _ _ _ _ _ _ (subst (Appends (g.P.Write.contents c.args.report.now) (g.P.Write.contents c.write_gap.new.report)) gap
+      three_texts _ _ _ _ _ _ _ (subst (Appends (g.P.Write.contents c.args.report.now)
+          (g.P.Write.contents c.write_gap.new.report)) gap
           c.in_ok-write_gap.ensures.ok) (subst (Appends (g.P.Write.contents c.write_gap.new.report)
           (g.P.Write.contents c.write_torn.new.report)) cut c.in_ok-write_torn.ensures.ok)
-          (subst (Appends (g.P.Write.contents c.write_torn.new.report) (g.P.Write.contents c.write_refused.new.report)) refused
+          (subst (Appends (g.P.Write.contents c.write_torn.new.report)
+          (g.P.Write.contents c.write_refused.new.report)) refused
           c.in_ok-write_refused.ensures.ok),
     )

@@ -31,5 +31,6 @@ returns-then-content-clause-worst c =
 pub returns-else-content-clause-worst : goal.returns-else-content-clause-worst
 returns-else-content-clause-worst c =
     let d = c.args.self.content in
-    c.from_bytes-else-content.ensures.bytes ∙ sym (chosen d.changed false d.worst.items d.bytes.items
+    c.from_bytes-else-content.ensures.bytes
+    ∙ sym (chosen d.changed false d.worst.items d.bytes.items
     c.if-content.false) ∙ sym d.right.worst_is
