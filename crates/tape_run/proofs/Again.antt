@@ -1,7 +1,6 @@
 -- The result of reading images in passes, or of a fault that ended the passes.
-use Rattle.std.proofs.Common.{◌≡◌, Bool, ℕ, List, ◌++◌, map, Option, length}
-use Rattle.std.proofs.Common.{[], None, refl, sym, ap, subst, ◌∙◌, inl, arith, append-nil, true}
-use Rattle.std.specs.Io.KnownBytes.{Appends}
+use Rattle.std.proofs.Common.{◌≡◌, Bool, ℕ, List, ◌++◌, Option, length}
+use Rattle.std.proofs.Common.{None, refl, sym, ap, subst, ◌∙◌, inl, true}
 use Rattle.std.proofs.KnownBytes.{Appends-trans}
 use Rattle.tape_blocks.specs.declared.parts.Form.{Form}
 use Rattle.tape_set.specs.declared.position.Want.{Want}
@@ -11,8 +10,8 @@ use Rattle.tape_run.specs.Crash.{IsWalked}
 use Rattle.tape_core.specs.State.{State}
 use Rattle.tape_run.specs.Seen.{Seen, seen}
 use Rattle.tape_run.specs.SessionState.{SessionState}
-use Rattle.tape_run.specs.ReelLine.{reel_lines, last_line}
-use Rattle.tape_run.specs.Reeling.{Turn, answer_of, Follows, goes_back, Mounting}
+use Rattle.tape_run.specs.ReelLine.{last_line}
+use Rattle.tape_run.specs.Reeling.{Turn, Follows, goes_back, Mounting}
 use Rattle.tape_run.specs.Rounds.{Round, turns_of, core_behind, wanted, IsEnough}
 use Rattle.tape_run.specs.Rounds.{FollowsRounds, TakesRounds, StopsInRound}
 use Rattle.tape_run.specs.Extracting.{EndsFile, StopsAtEnd}

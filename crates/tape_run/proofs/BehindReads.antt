@@ -7,8 +7,7 @@ use Rattle.tape_image.specs.Tape.{TapeItem, block}
 use Rattle.tape_set.specs.declared.position.Position.{Position}
 use Rattle.tape_set.specs.{Layout.FileSet, Lawful.IsLawful, Position.part_of, Before.before}
 use Rattle.tape_core.specs.declared.event.{Answer.Answer, Phase.Phase, Phase.TheVariants.Broken}
-use Rattle.tape_core.specs.declared.event.Answer.TheVariants.{Passed, Deliver, SectionDone}
-use Rattle.tape_core.specs.declared.event.Answer.TheVariants.{Complete, Useless}
+use Rattle.tape_core.specs.declared.event.Answer.TheVariants.{Passed, Deliver}
 use Rattle.tape_core.specs.{State.State, Place.IsPlaced, Place.rest_of, Place.resting}
 use Rattle.tape_core.specs.Table.{step_of, mount_of, mounted}
 use Rattle.tape_set.specs.declared.position.Position.TheVariants.{Awaits, Finished}

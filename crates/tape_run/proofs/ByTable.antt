@@ -8,8 +8,7 @@ use Rattle.tape_image.specs.Tape.{TapeItem, block}
 use Rattle.tape_set.specs.{Lawful.FileForm, Position.part_of, Position.at_part}
 use Rattle.tape_set.specs.declared.position.Position.{Position}
 use Rattle.tape_core.specs.declared.event.{Answer.Answer, Phase.Phase, Phase.TheVariants.Broken}
-use Rattle.tape_core.specs.declared.event.Answer.TheVariants.{Passed, Deliver, SectionDone}
-use Rattle.tape_core.specs.declared.event.Answer.TheVariants.{Complete, Useless}
+use Rattle.tape_core.specs.declared.event.Answer.TheVariants.{Passed, Deliver}
 use Rattle.tape_core.specs.{State.State, Parts.parts_in, Follows.IsFinal}
 use Rattle.tape_core.specs.Place.{rest_of, place_of, resting}
 use Rattle.tape_core.specs.Table.{step_of, saved, mount_of, mounted}

@@ -17,7 +17,7 @@ use Rattle.tape_run.specs.declared.fault.RunFault.TheVariants.{OutOfMemory, Othe
 use Rattle.tape_run.specs.Headline.{Ran, HasStopped, StopsStep, PutRefused, reels_in}
 use Rattle.tape_run.specs.Steps.{StoppedBy, CutShort, Unmoved, ReelFails, SaveFails, RestartFails}
 use Rattle.tape_blocks.specs.Block.{Portion}
-use Rattle.tape_run.specs.Lead.{Lead, lead, AreNoted, StandsThere, StopsBy}
+use Rattle.tape_run.specs.Lead.{Lead, AreNoted, StandsThere, StopsBy}
 use Rattle.tape_run.proofs.{Notes.notes_grow, Headline.headline, Lead.noted_grow}
 
 -- ---- results

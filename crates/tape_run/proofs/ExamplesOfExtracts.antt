@@ -1,13 +1,13 @@
 -- The test cases for recovered files.
 use Rattle.std.proofs.Common.{◌≡◌, ◌⊎◌, inl, inr, ℕ, List, [], ◌∷◌, Some, None, refl, sym, ap}
 use Rattle.std.proofs.Common.{subst, ◌∙◌, false, true, length, arith, Bool, Option, get_or, map}
-use Rattle.std.proofs.Common.{set, ◌++◌, slice_get, ◌-◌}
-use Rattle.tape_run.specs.Reeling.{Opened, IsNoted, Follows, goes_back, IsKeptFor, counts_differ}
+use Rattle.std.proofs.Common.{set, slice_get, ◌-◌}
+use Rattle.tape_run.specs.Reeling.{IsNoted, goes_back, IsKeptFor, counts_differ}
 use Rattle.tape_run.specs.Reeling.{Turn, IsTurn, Took, AreTurns, AreFirstTurns, answer_of}
 use Rattle.tape_run.specs.{Stopping.NotNoted, Stopping.StopsAt, Seen.Seen, Seen.seen}
 use Rattle.tape_run.specs.{Steps.WentBack, ReelLine.reel_lines, RecordText.output_of}
 use Rattle.tape_run.specs.{Causes.CannotEnd, Extracting.IsWritten, Extracting.TellsEnd}
-use Rattle.tape_core.specs.{State.State, Stands.weight_of, Table.saved, Point.Point, Weight.Rose}
+use Rattle.tape_core.specs.{Stands.weight_of, Table.saved, Point.Point, Weight.Rose}
 use Rattle.tape_run.proofs.Noting.{noted_here}
 use Rattle.tape_blocks.specs.Spans.{join}
 use Rattle.tape_image.specs.Written.{AppendsFront}
@@ -18,7 +18,7 @@ use Rattle.tape_run.specs.CasesOfExtracts.{Readers, ExtractsListed, StopsListed,
 use Rattle.tape_run.specs.CasesOfExtracts.{CasesOfCauses, FailsEmpty, FailsUnknown}
 use Rattle.tape_core.specs.declared.sink.SinkFault.{SinkFault}
 use Rattle.tape_core.specs.declared.sink.SinkFault.TheVariants.{Device, Failed}
-use Rattle.tape_run.specs.declared.fault.EngineFault.TheVariants.{Run, WriteFailed}
+use Rattle.tape_run.specs.declared.fault.EngineFault.TheVariants.{Run}
 use Rattle.tape_run.specs.declared.fault.RunFault.TheVariants.{Sink, OutOfMemory}
 use Rattle.tape_set.specs.Position.{want_at}
 

@@ -9,7 +9,6 @@ use Rattle.tape_set.specs.declared.position.Position.TheVariants.{Awaits, Finish
 use Rattle.tape_core.specs.declared.event.{Answer.Answer, Phase.Phase}
 use Rattle.tape_core.specs.declared.event.Answer.TheVariants.{Passed, Deliver, SectionDone}
 use Rattle.tape_core.specs.declared.event.Answer.TheVariants.{Complete, Useless}
-use Rattle.tape_core.specs.declared.event.Phase.TheVariants as phases
 use Rattle.tape_core.specs.declared.event.Phase.TheVariants.{Over, Broken, Volume, Trailers}
 use Rattle.tape_core.specs.Behind.{passed_over, expected_over, PassesTo, AreInOrder, behind_of}
 use Rattle.tape_core.specs.Behind.{mounted_behind}

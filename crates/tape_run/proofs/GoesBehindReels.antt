@@ -7,7 +7,7 @@ use Rattle.tape_set.specs.declared.position.Position.{Position}
 use Rattle.tape_set.specs.declared.position.Position.TheVariants.{Awaits, Finished}
 use Rattle.tape_core.specs.declared.event.{Answer.TheVariants.Passed, Phase.Phase}
 use Rattle.tape_core.specs.declared.event.Phase.TheVariants.{Broken}
-use Rattle.tape_core.specs.{Behind.behind_of, Known.is_finished, State.State}
+use Rattle.tape_core.specs.{Known.is_finished, State.State}
 use Rattle.tape_core.specs.Table.{Outcome, passed, step_of, mount_of, unless_complete, at_reel_end}
 use Rattle.tape_run.specs.Reels.{behind_items, answers_to, GoesOn, ReadsReel}
 use Rattle.tape_run.specs.GoesBehind.{EndsSection, LeavesBehind, LeavesBehindAgain}

@@ -5,9 +5,8 @@ use Rattle.std.proofs.Common.{subst, ◌∙◌, inl, inr, arith, append_assoc, a
 use Rattle.tape_blocks.specs.Block.{Portion}
 use Rattle.tape_image.specs.declared.item.{Ending.Ending, ImageFault.ImageFault}
 use Rattle.tape_image.specs.declared.item.ImageCause.{ImageCause}
-use Rattle.tape_image.specs.declared.item.ImageCause.TheVariants.{Truncated, LengthsDiffer}
-use Rattle.tape_image.specs.declared.item.ImageCause.TheVariants.{Reserved, TooLong, Device}
-use Rattle.tape_image.specs.declared.item.ImageCause.TheVariants.{OutOfMemory}
+use Rattle.tape_image.specs.declared.item.ImageCause.TheVariants.{Truncated}
+use Rattle.tape_image.specs.declared.item.ImageCause.TheVariants.{Device}
 use Rattle.tape_image.specs.{Tape.TapeItem, Reader.Reader, Reader.IfKnown}
 use Rattle.tape_image.specs.Begins.{image_limit, Stop, ends, faults, Begins, Walks}
 use Rattle.tape_image.specs.Step as image

@@ -3,7 +3,7 @@ use Rattle.std.proofs.Common.{◌≡◌, ℕ, ◌+◌, ◌*◌, ◌≤◌, List,
 use Rattle.std.specs.Prelude.{IfOk, IfErr}
 use Rattle.std.proofs.Common.{Option, Some, Result, Ok, Err, sym, ap, subst}
 use Rattle.std.proofs.Common.{arith}
-use Rattle.tape_image.specs.Tape.{TapeItem, bad}
+use Rattle.tape_image.specs.Tape.{TapeItem}
 use Rattle.tape_image.specs.Begins.{image_limit, Stop, Begins, Walks}
 use Rattle.tape_image.specs.Reader.{Reader}
 use Rattle.tape_image.specs.Calls.{Gave}

@@ -2,7 +2,7 @@
 use Rattle.std.proofs.Common.{◌≡◌, ◌⊎◌, inl, inr, ℕ, List, [], ◌∷◌, Some, sym, ap, subst, ◌∙◌}
 use Rattle.tape_image.specs.declared.item.ImageFault.{ImageFault}
 use Rattle.tape_image.specs.{Tape.TapeItem, Reader.Reader, Reader.Status, Reader.going, Calls.Gave}
-use Rattle.tape_image.specs.Step.{MeetsEnd, MeetsFault, TakesEnd, TakesFault}
+use Rattle.tape_image.specs.Step.{MeetsEnd, MeetsFault, TakesFault}
 use Rattle.tape_image.proofs.Callers.{Gave-walks, give_up_to_end, give_up_to_fault}
 use Rattle.tape_image.proofs.Walks.{IfKnown-at}
 use Rattle.tape_run.specs.MergeLaws.{TakesAs, ReadersGiveImages}

@@ -1,5 +1,5 @@
 -- Wrong answers to a fault of a sink or a writer that the contracts exclude.
-use Rattle.std.proofs.Common.{◌≡◌, ◌<◌, ◌+◌, true, false, List, inl, inr, sym, ◌∙◌}
+use Rattle.std.proofs.Common.{◌≡◌, ◌<◌, true, false, List, inl, inr, sym, ◌∙◌}
 use Rattle.std.specs.Prelude.{Err, None, is_some, map}
 use Rattle.std.specs.Io.KnownBytes.{Appends}
 use Rattle.tape_blocks.specs.Block.{Portion}

@@ -1,7 +1,7 @@
 -- Wrong answers that the contracts of the engines exclude.
 use Rattle.std.proofs.Common.{◌≡◌, ℕ, List, [], ◌∷◌, ◌++◌, length, true, false, refl, ap, ◌∙◌}
 use Rattle.std.proofs.Common.{subst, arith, codes, Bool, Option, Some, None, Ok, option_map, ◌<◌}
-use Rattle.std.proofs.Common.{nat_lt, if◌then◌else◌}
+use Rattle.std.proofs.Common.{if◌then◌else◌}
 use Rattle.std.proofs.lemmas.Bool.{lt-ltb}
 use Rattle.std.specs.{Fmt.digits, Io.KnownBytes.Appends}
 use Rattle.tape_run.specs.declared.section.ImageLine.{ImageLine}
@@ -9,7 +9,7 @@ use Rattle.tape_run.specs.{Lacks.found_all, Passing.Told, CheckLine.image_lines,
 use Rattle.tape_run.specs.{Reeling.AreMounted, SalvageCopies.believed, SalvageBlocks.Salvaged}
 use Rattle.tape_run.specs.Checked.{Reel, IsReel, AddsImages, Reports, IsReport, summary}
 use Rattle.tape_run.specs.declared.salvage.copies.SectionCopy.{SectionCopy}
-use Rattle.tape_run.specs.SalvageEnds.{ended, without_rest, without_gap, read_again}
+use Rattle.tape_run.specs.SalvageEnds.{read_again}
 use Rattle.tape_run.proofs.check.check_to.Reads as check_to
 use Rattle.tape_run.proofs.extract.extract_to.Reads as extract_to
 

@@ -14,7 +14,6 @@ use Rattle.tape_run.specs.History.{Course, IsHistory, course, after}
 use Rattle.tape_run.specs.Mount.{MountEvent, reads, foreign_reel, saves, restarts, IsMountOf}
 use Rattle.tape_run.proofs.Back.{none_failed, none_of}
 use Rattle.tape_run.proofs.{CrashRuns.goes_on, MistakesOfRuns.HoldsOne}
-use Rattle.tape_run.proofs.script.run.Reads as run
 use Rattle.tape_run.proofs.whole.resume_and_run.Reads as resume_and_run
 use Rattle.tape_run.proofs.whole.read_file.Reads as read_file
 

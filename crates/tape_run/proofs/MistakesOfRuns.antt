@@ -3,7 +3,6 @@ use Rattle.std.proofs.Common.{◌≡◌, List, [], ◌∷◌, map, ap, ◌∙◌
 use Rattle.std.proofs.Common.{option_map}
 use Rattle.tape_blocks.specs.declared.parts.Span.TheVariants as spans
 use Rattle.tape_blocks.specs.Block.{Portion}
-use Rattle.tape_set.specs.Position.{start}
 use Rattle.tape_run.specs.{Headline.IsRead, Headline.IsStart, Seen.Seen, Seen.seen}
 use Rattle.tape_run.specs.WorkedHistory.{worked_steps, worked_reels, first, middle, last}
 use Rattle.tape_run.proofs.WorkedHistory.{is_worked}

@@ -1,5 +1,5 @@
 -- Wrong answers that the contracts of `Session::reel` and `Session::save` exclude.
-use Rattle.std.proofs.Common.{◌≡◌, ℕ, List, ◌∷◌, ◌++◌, false, sym, ap, ◌∙◌, ◌+◌, subst, arith}
+use Rattle.std.proofs.Common.{◌≡◌, ℕ, List, ◌∷◌, ◌++◌, false, sym, ap, ◌∙◌, subst, arith}
 use Rattle.std.proofs.Common.{Option, Some, None, Ok, IfSome}
 use Rattle.tape_blocks.specs.Block.{Portion}
 use Rattle.tape_image.specs.declared.item.ImageFault.{ImageFault}

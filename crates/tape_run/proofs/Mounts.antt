@@ -9,8 +9,7 @@ use Rattle.tape_set.specs.declared.position.Position.{Position}
 use Rattle.tape_set.specs.{Layout.FileSet, Layout.items, Lawful.IsLawful, Reading.Reading}
 use Rattle.tape_set.specs.{Reading.as_read, Reach.far}
 use Rattle.tape_core.specs.declared.event.Answer.{Answer}
-use Rattle.tape_core.specs.declared.event.Answer.TheVariants.{Passed, Deliver, SectionDone}
-use Rattle.tape_core.specs.declared.event.Answer.TheVariants.{Complete, Useless}
+use Rattle.tape_core.specs.declared.event.Answer.TheVariants.{Passed, Deliver}
 use Rattle.tape_core.specs.{State.State, Place.rest_of, Place.IsPlaced, Table.Outcome}
 use Rattle.tape_core.specs.{Table.step_of, Table.mount_of, Foreign.IsForeignAt, Foreign.Unmoved}
 use Rattle.tape_core.specs.Follows.{reading, IsAt, IsFinal, IsReading, Kept, Idle, Gives, Delivers}

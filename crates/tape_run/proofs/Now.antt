@@ -1,6 +1,6 @@
 -- The result of a run that writes the records while it reads the images.
-use Rattle.std.proofs.Common.{◌≡◌, ◌≢◌, ℕ, ◌⊎◌, List, [], Option, Some, None, refl, sym, ap}
-use Rattle.std.proofs.Common.{subst, ◌∙◌, inl, inr, false}
+use Rattle.std.proofs.Common.{◌≡◌, ◌≢◌, ℕ, List, [], Option, None, refl, ap}
+use Rattle.std.proofs.Common.{◌∙◌, inl, inr, false}
 use Rattle.std.specs.Io.KnownBytes.{Appends}
 use Rattle.std.proofs.KnownBytes.{Appends-trans}
 use Rattle.tape_blocks.specs.Block.{Portion}
@@ -12,9 +12,9 @@ use Rattle.tape_run.specs.Extracting.{TellsEnd}
 use Rattle.tape_run.specs.SessionState.{SessionState}
 use Rattle.tape_blocks.specs.declared.parts.Form.{Form}
 use Rattle.tape_image.specs.Written.{AppendsFront}
-use Rattle.tape_run.specs.ReelLine.{reel_lines, last_line}
+use Rattle.tape_run.specs.ReelLine.{last_line}
 use Rattle.tape_run.specs.Crash.{IsWalked}
-use Rattle.tape_run.specs.Reeling.{answer_of, TakesAll, Mounting}
+use Rattle.tape_run.specs.Reeling.{TakesAll, Mounting}
 use Rattle.tape_run.specs.Stopping.{StopsReading}
 use Rattle.tape_run.specs.declared.fault.EngineFault.{EngineFault}
 use Rattle.tape_run.specs.declared.fault.EngineFault.TheVariants.{WriteFailed}

@@ -13,8 +13,7 @@ use Rattle.tape_set.specs.declared.position.Position.TheVariants.{Awaits, Finish
 use Rattle.tape_set.specs.Position.{at_part, part_of}
 use Rattle.tape_set.specs.{Layout.FileSet, Lawful.FileForm, Before.before}
 use Rattle.tape_core.specs.declared.event.{Answer.Answer, Event.Event, Phase.TheVariants.Over}
-use Rattle.tape_core.specs.declared.event.Answer.TheVariants.{Passed, Deliver, SectionDone}
-use Rattle.tape_core.specs.declared.event.Answer.TheVariants.{Complete, Useless}
+use Rattle.tape_core.specs.declared.event.Answer.TheVariants.{Passed, Deliver}
 use Rattle.tape_core.specs.{Arrive.arrival, Point.Point, State.State, Table.saved, Table.Shows}
 use Rattle.tape_core.specs.{Stands.weight_of, Stands.inside_block, Place.place_of, Place.IsPlaced}
 use Rattle.tape_core.specs.declared.event.Event.TheVariants.{Block, Bad, Mark, ReelEnd}

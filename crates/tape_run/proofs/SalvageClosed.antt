@@ -17,7 +17,7 @@ use Rattle.tape_run.specs.declared.salvage.walk.Expected.TheVariants.{Over, Skip
 use Rattle.tape_run.specs.declared.salvage.walk.Expected.TheVariants.{UnnamedTrailer}
 use Rattle.tape_run.specs.SalvageWalk.{step, begun_by, closed_by, unnamed_by, goes_on_by}
 use Rattle.tape_run.specs.SalvageWalk.{unnamed_after, one_read, section_by, second_by, closes}
-use Rattle.tape_run.specs.SalvageWalk.{named_by, FoundAt, sections_in, unclosed_by, and_read}
+use Rattle.tape_run.specs.SalvageWalk.{named_by, FoundAt, unclosed_by, and_read}
 use Rattle.tape_run.specs.SalvageWalk.{and_unreadable, one_unreadable}
 use Rattle.tape_run.specs.SalvageClosed.{IsClosedIn, IsThere, ClosedAreThere}
 use Rattle.tape_run.proofs.SalvageLater.{PAt, all_found, either}

@@ -6,10 +6,9 @@ use Rattle.tape_image.specs.Tape.{TapeItem, mark}
 use Rattle.tape_set.specs.{Layout.Volume, Lawful.IsVolume, Lawful.FileForm}
 use Rattle.tape_run.specs.declared.{section.SectionKey.SectionKey, salvage.walk.Expected.Expected}
 use Rattle.tape_run.specs.{Noted.same_key, SalvageBlocks.Salvaged}
-use Rattle.tape_run.specs.declared.salvage.walk.Expected.TheVariants.{Outside, Second, Headers}
-use Rattle.tape_run.specs.declared.salvage.walk.Expected.TheVariants.{Data, Trailer, Trailers, Next}
-use Rattle.tape_run.specs.declared.salvage.walk.Expected.TheVariants.{Over, Skipping, Unnamed}
-use Rattle.tape_run.specs.declared.salvage.walk.Expected.TheVariants.{UnnamedTrailer}
+use Rattle.tape_run.specs.declared.salvage.walk.Expected.TheVariants.{Outside, Second}
+use Rattle.tape_run.specs.declared.salvage.walk.Expected.TheVariants.{Data, Next}
+use Rattle.tape_run.specs.declared.salvage.walk.Expected.TheVariants.{Over}
 use Rattle.tape_run.specs.SalvageWalk.{step, expected_after}
 use Rattle.tape_run.specs.SalvageImage.{is_in, is_mark, read_in, closings, salvaged_from, EndsData}
 use Rattle.tape_run.specs.SalvageSections.{Labels, SectionRead, IsRead, IsOther, key_of, MayBegin}

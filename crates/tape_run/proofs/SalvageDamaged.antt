@@ -4,7 +4,7 @@ use Rattle.std.proofs.Common.{Some, None, Ok, refl, sym, ap, subst, ◌∙◌, a
 use Rattle.std.specs.List.{AllByRecursion}
 use Rattle.tape_image.specs.Tape.{TapeItem, block, mark}
 use Rattle.tape_label.specs.declared.values.{Head1.Head1, Trail1.Trail1}
-use Rattle.tape_label.specs.{Kinds.trailer, Reading.head1_at, Reading.trail1_at}
+use Rattle.tape_label.specs.{Reading.head1_at, Reading.trail1_at}
 use Rattle.tape_label.proofs.First.{head1_again, trail1_again}
 use Rattle.tape_set.specs.Lawful.{label_count}
 use Rattle.tape_run.specs.declared.salvage.walk.{OpenSection.OpenSection, Closing.Closing}

@@ -10,9 +10,9 @@ use Rattle.tape_label.specs.Kinds.{HasKind, trailer}
 use Rattle.tape_label.proofs.{First.head1_found, First.trail1_found, Apart.HasKind-unique}
 use Rattle.tape_blocks.specs.Tight.{Filled}
 use Rattle.tape_set.specs.Layout.{FileSet, Volume, Placed, Entry, a_label, a_mark, item_of, items}
-use Rattle.tape_set.specs.Layout.{entries, entries_on, nth, on, sections, section_entries}
+use Rattle.tape_set.specs.Layout.{entries, entries_on, on, sections, section_entries}
 use Rattle.tape_set.specs.Layout.{all_entries, data_group, volume_group}
-use Rattle.tape_set.specs.{Lawful.IsLawful, Lawful.IsVolume, Lawful.IsSection, Reading.as_read}
+use Rattle.tape_set.specs.{Lawful.IsLawful, Lawful.IsSection, Reading.as_read}
 use Rattle.tape_set.proofs.Everywhere.{every_at, every-filter, every, nth_found}
 use Rattle.tape_set.proofs.Forms.{form_told}
 use Rattle.tape_set.proofs.Volumes.{IsOn, Rising, sections_on_are, sections_on_rise}

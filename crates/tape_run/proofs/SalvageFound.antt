@@ -11,9 +11,8 @@ use Rattle.tape_set.specs.{Layout.Volume, Lawful.FileForm, Lawful.IsVolume, Lawf
 use Rattle.tape_run.specs.declared.salvage.walk.{OpenSection.OpenSection, Closing.Closing}
 use Rattle.tape_run.specs.declared.salvage.walk.Expected.{Expected}
 use Rattle.tape_run.specs.declared.salvage.walk.Expected.TheVariants.{Outside, Second, Headers}
-use Rattle.tape_run.specs.declared.salvage.walk.Expected.TheVariants.{Data, Trailer, Trailers, Next}
-use Rattle.tape_run.specs.declared.salvage.walk.Expected.TheVariants.{Over, Skipping, Unnamed}
-use Rattle.tape_run.specs.declared.salvage.walk.Expected.TheVariants.{UnnamedTrailer}
+use Rattle.tape_run.specs.declared.salvage.walk.Expected.TheVariants.{Trailer, Trailers, Next}
+use Rattle.tape_run.specs.declared.salvage.walk.Expected.TheVariants.{Over}
 use Rattle.tape_run.specs.SalvageWalk.{step, expected_after, found_from, in_list, FoundSection}
 use Rattle.tape_run.specs.SalvageWalk.{FoundAt, read_after, one_further, form_by, open_section}
 use Rattle.tape_run.specs.SalvageWalk.{sections_in}

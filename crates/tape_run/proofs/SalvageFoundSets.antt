@@ -6,8 +6,8 @@ use Rattle.std.specs.{Str.bytes_eq, List.AllByRecursion}
 use Rattle.std.proofs.lemmas.{Bool.and_parts, Slice.Eq.bytes_eq-Decides}
 use Rattle.tape_image.specs.{Tape.TapeItem, Tape.block, Begins.Stop, Begins.Begins, Step.IsCause}
 use Rattle.tape_image.specs.declared.item.ImageCause.{ImageCause}
-use Rattle.tape_image.specs.declared.item.ImageCause.TheVariants.{Truncated, LengthsDiffer}
-use Rattle.tape_image.specs.declared.item.ImageCause.TheVariants.{Reserved, TooLong, Device}
+use Rattle.tape_image.specs.declared.item.ImageCause.TheVariants.{Truncated}
+use Rattle.tape_image.specs.declared.item.ImageCause.TheVariants.{Device}
 use Rattle.tape_image.specs.declared.item.ImageCause.TheVariants.{OutOfMemory}
 use Rattle.tape_image.proofs.{Callers.front_of_image, Uniqueness.Begins-one, Walks.IfKnown-at}
 use Rattle.tape_set.specs.Layout.{FileSet, Placed, on, sections}

@@ -13,9 +13,7 @@ use Rattle.tape_run.specs.declared.salvage.walk.{OpenSection.OpenSection, Closin
 use Rattle.tape_run.specs.declared.salvage.walk.Expected.{Expected}
 use Rattle.tape_run.specs.declared.section.SectionKey.{SectionKey}
 use Rattle.tape_run.specs.declared.salvage.walk.Expected.TheVariants.{Outside, Second, Headers}
-use Rattle.tape_run.specs.declared.salvage.walk.Expected.TheVariants.{Data, Trailer, Trailers, Next}
-use Rattle.tape_run.specs.declared.salvage.walk.Expected.TheVariants.{Over, Skipping, Unnamed}
-use Rattle.tape_run.specs.declared.salvage.walk.Expected.TheVariants.{UnnamedTrailer}
+use Rattle.tape_run.specs.declared.salvage.walk.Expected.TheVariants.{Trailer, Trailers, Next}
 use Rattle.tape_run.specs.SalvageWalk.{step, section_by, begun_by, with_item, with_data}
 use Rattle.tape_run.specs.SalvageWalk.{with_unreadable, doubted, closes, closed_by, second_by}
 use Rattle.tape_run.specs.SalvageWalk.{unclosed_by, with_trailer, unnamed_after, one_read, form_by}

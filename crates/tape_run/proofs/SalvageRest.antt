@@ -5,10 +5,8 @@ use Rattle.std.proofs.Common.{if◌then◌else◌}
 use Rattle.tape_image.specs.Tape.{TapeItem, block, bad, mark}
 use Rattle.tape_set.specs.Lawful.{FileForm}
 use Rattle.tape_run.specs.declared.{section.SectionKey.SectionKey, salvage.walk.Expected.Expected}
-use Rattle.tape_run.specs.declared.salvage.walk.Expected.TheVariants.{Outside, Second, Headers}
-use Rattle.tape_run.specs.declared.salvage.walk.Expected.TheVariants.{Data, Trailer, Trailers, Next}
-use Rattle.tape_run.specs.declared.salvage.walk.Expected.TheVariants.{Over, Skipping, Unnamed}
-use Rattle.tape_run.specs.declared.salvage.walk.Expected.TheVariants.{UnnamedTrailer}
+use Rattle.tape_run.specs.declared.salvage.walk.Expected.TheVariants.{Outside}
+use Rattle.tape_run.specs.declared.salvage.walk.Expected.TheVariants.{Data}
 use Rattle.tape_run.specs.SalvageWalk.{step, expected_after}
 use Rattle.tape_run.specs.SalvageBlocks.{Salvaged, salvaged_at, text_at}
 use Rattle.tape_run.specs.SalvageImage.{is_in, is_mark, number_in, salvaged_from, text_from}

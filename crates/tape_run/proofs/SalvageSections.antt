@@ -8,10 +8,8 @@ use Rattle.tape_run.specs.declared.salvage.walk.{OpenSection.OpenSection, Expect
 use Rattle.tape_run.specs.declared.section.SectionKey.{SectionKey}
 use Rattle.tape_run.specs.{Noted.same_key, SalvageImage.salvaged_from, SalvageImage.number_in}
 use Rattle.tape_run.specs.SalvageWhole.{Blocks, piece_after}
-use Rattle.tape_run.specs.declared.salvage.walk.Expected.TheVariants.{Outside, Second, Headers}
-use Rattle.tape_run.specs.declared.salvage.walk.Expected.TheVariants.{Data, Trailer, Trailers, Next}
-use Rattle.tape_run.specs.declared.salvage.walk.Expected.TheVariants.{Over, Skipping, Unnamed}
-use Rattle.tape_run.specs.declared.salvage.walk.Expected.TheVariants.{UnnamedTrailer}
+use Rattle.tape_run.specs.declared.salvage.walk.Expected.TheVariants.{Outside, Second}
+use Rattle.tape_run.specs.declared.salvage.walk.Expected.TheVariants.{Data, Next}
 use Rattle.tape_run.specs.SalvageWalk.{step, with_item, with_data, with_unreadable}
 use Rattle.tape_run.specs.SalvageBlocks.{Salvaged, salvaged_at, with_block, without_block}
 use Rattle.tape_run.specs.SalvageSections.{SectionRead, IsRead, key_of, read_blocks, read_section}

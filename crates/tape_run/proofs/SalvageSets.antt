@@ -8,7 +8,7 @@ use Rattle.tape_set.specs.Layout.{FileSet, Section, Placed, nth, numbered, file_
 use Rattle.tape_set.specs.Layout.{ends_file}
 use Rattle.tape_set.specs.Lawful.{IsLawful, FileForm, HasForm, Ends}
 use Rattle.tape_set.specs.{Laws.StandsIn, Reading.Reading}
-use Rattle.tape_set.proofs.{Everywhere.nth_found, Numbering.placed, AllVolumes.file_is_lawful}
+use Rattle.tape_set.proofs.{Everywhere.nth_found, AllVolumes.file_is_lawful}
 use Rattle.tape_run.specs.declared.salvage.Content.TheVariants.{Records}
 use Rattle.tape_run.specs.declared.salvage.copies.SectionCopy.{SectionCopy}
 use Rattle.tape_run.specs.declared.salvage.ending.SectionEnd.{SectionEnd}

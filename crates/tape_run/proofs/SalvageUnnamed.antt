@@ -18,7 +18,7 @@ use Rattle.tape_run.specs.declared.salvage.walk.Expected.TheVariants.{Over, Skip
 use Rattle.tape_run.specs.declared.salvage.walk.Expected.TheVariants.{UnnamedTrailer}
 use Rattle.tape_run.specs.SalvageWalk.{step, begun_by, closed_by, unnamed_by, goes_on_by, one_read}
 use Rattle.tape_run.specs.SalvageWalk.{one_unreadable, second_by, closes, named_by, unclosed_by}
-use Rattle.tape_run.specs.SalvageWalk.{FoundAt, sections_in, and_read}
+use Rattle.tape_run.specs.SalvageWalk.{FoundAt, and_read}
 use Rattle.tape_run.specs.SalvageSections.{IsNoHead}
 use Rattle.tape_run.specs.SalvageUnnamed.{IsUnnamedIn, IsThereUnnamed, UnnamedAreThere}
 use Rattle.tape_run.proofs.SalvageLater.{PAt, all_found, either}

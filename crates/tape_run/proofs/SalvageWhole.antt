@@ -8,7 +8,7 @@ use Rattle.tape_blocks.proofs.JudgedLaws.{judged_only}
 use Rattle.tape_set.specs.Lawful.{FileForm}
 use Rattle.tape_core.specs.Parts.{goes_on_at}
 use Rattle.tape_core.proofs.BlockLaws.{parts_in_it, first_begun}
-use Rattle.tape_run.specs.SalvageRecords.{Piece, nothing, with_part, with_parts, torn, mended}
+use Rattle.tape_run.specs.SalvageRecords.{Piece, with_part, with_parts, torn, mended}
 use Rattle.tape_run.specs.SalvageRecords.{mended_by, begun_at, judged_at}
 use Rattle.tape_run.specs.SalvageWhole.{Blocks, parts_of_block, parts_with, all_parts, whole_from}
 use Rattle.tape_run.specs.SalvageWhole.{piece_after, IsBlock, RecoversWhole, AllWhole}

@@ -10,7 +10,7 @@ use Rattle.tape_set.specs.declared.position.Position.{Position}
 use Rattle.tape_set.specs.declared.position.Position.TheVariants.{Awaits, Finished}
 use Rattle.tape_core.specs.{Point.Point, State.State, Place.IsPlaced, Place.place_of, Place.rest_of}
 use Rattle.tape_core.specs.{Table.saved, Table.mount_of, Stands.weight_of, Weight.IsFront}
-use Rattle.tape_run.specs.Mount.{MountEvent, reads, foreign_reel, saves, restarts, IsMount}
+use Rattle.tape_run.specs.Mount.{MountEvent, reads, IsMount}
 use Rattle.tape_run.specs.Mount.{after_mount}
 use Rattle.tape_run.specs.{ByTable.IsLed, ByTable.IsCutAt, Under.is_under, Taking.ReadsImage}
 use Rattle.tape_run.specs.{Taking.RefusesImage, Taking.CutsTable, Given.counted, Given.IsGiven}

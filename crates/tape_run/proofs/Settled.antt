@@ -14,7 +14,7 @@ use Rattle.tape_run.specs.Reeling.{HasNotedHere, IsKeptFor, IsNoted}
 use Rattle.tape_run.specs.Seen.{seen, IsKept, IfSeen, IsSeen}
 use Rattle.tape_run.specs.SessionState.{SessionState}
 use Rattle.tape_run.specs.Steps.{Saved, WentBack}
-use Rattle.tape_run.proofs.Causes.{calm_back, calm_same, calm_saved}
+use Rattle.tape_run.proofs.Causes.{calm_same}
 use Rattle.tape_run.proofs.Lasting.{last_kept, last_same, last_went}
 use Rattle.tape_run.proofs.Left.{last_of, restart_left, same_left, stays_left}
 

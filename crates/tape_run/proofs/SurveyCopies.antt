@@ -1,10 +1,9 @@
 -- The good copies of sections, as they are read.
-use Rattle.std.proofs.Common.{◌≡◌, ℕ, ◌+◌, Bool, true, false, List, [], ◌∷◌, ◌++◌, Option, Some}
+use Rattle.std.proofs.Common.{◌≡◌, ℕ, Bool, true, false, List, [], ◌∷◌, ◌++◌, Option, Some}
 use Rattle.std.proofs.Common.{None, refl, sym, ap, ◌∙◌, append_assoc, append-nil, if◌then◌else◌}
-use Rattle.tape_image.specs.Tape.{TapeItem, block, bad, mark}
+use Rattle.tape_image.specs.Tape.{TapeItem, block}
 use Rattle.tape_run.specs.declared.passing.Phase.{Phase}
-use Rattle.tape_run.specs.declared.passing.Phase.TheVariants.{Volume, Labels, Second, Headers, Data}
-use Rattle.tape_run.specs.declared.passing.Phase.TheVariants.{Trailer, Trailers, Next, Over}
+use Rattle.tape_run.specs.declared.passing.Phase.TheVariants.{Volume, Data}
 use Rattle.tape_run.specs.{Noted.is_good, SurveyDigest.digest_of, SurveyDigest.digest_with}
 use Rattle.tape_run.specs.Passing.{Told, step, phase_after}
 use Rattle.tape_run.specs.SurveyCopies.{Copy, blocks_with, good_told, copies_from, copies_on}

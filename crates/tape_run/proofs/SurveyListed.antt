@@ -1,5 +1,5 @@
 -- The volumes of a set are those of its sections, and one for each gap between two of them.
-use Rattle.std.proofs.Common.{◌≡◌, ℕ, zero, suc, ◌+◌, ◌-◌, ◌<◌, ◌≤◌, Bool, true, false, List, []}
+use Rattle.std.proofs.Common.{◌≡◌, ℕ, zero, suc, ◌+◌, ◌<◌, ◌≤◌, Bool, true, false, List, []}
 use Rattle.std.proofs.Common.{◌∷◌, ◌++◌, Option, Some, None, refl, ap, sym, ◌∙◌, arith}
 use Rattle.std.proofs.Common.{append_assoc, subst, ◌⊎◌, inl, inr, if◌then◌else◌, replicate, nat_lt}
 use Rattle.std.specs.Str.{bytes_eq}

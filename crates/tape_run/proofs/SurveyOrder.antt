@@ -5,8 +5,8 @@ use Rattle.tape_image.specs.Tape.{TapeItem, block, bad, mark}
 use Rattle.tape_run.specs.declared.survey.course.{ExpectedItem.ExpectedItem, LabelOrder.LabelOrder}
 use Rattle.tape_run.specs.declared.survey.glance.ImageSummary.{ImageSummary}
 use Rattle.tape_run.specs.declared.passing.Phase.{Phase}
-use Rattle.tape_run.specs.declared.passing.Phase.TheVariants.{Volume, Labels, Second, Headers, Data}
-use Rattle.tape_run.specs.declared.passing.Phase.TheVariants.{Trailer, Trailers, Next, Over}
+use Rattle.tape_run.specs.declared.passing.Phase.TheVariants.{Volume, Labels, Second}
+use Rattle.tape_run.specs.declared.passing.Phase.TheVariants.{Next, Over}
 use Rattle.tape_run.specs.declared.survey.course.LabelOrder.TheVariants.{Follows, Blank, Ended}
 use Rattle.tape_run.specs.declared.survey.course.LabelOrder.TheVariants.{Leaves}
 use Rattle.tape_run.specs.Passing.{step, phase_after}

@@ -17,7 +17,7 @@ use Rattle.tape_run.specs.SurveyConflicts.{Placed, placed_on, placed_in, all_pla
 use Rattle.tape_run.specs.SurveyCopies.{Copy, copies_on, Noted, Disputed, Copied, with_same}
 use Rattle.tape_run.specs.SurveyCopies.{with_other, copy_note, noted_at, with_conflict, with_good}
 use Rattle.tape_run.specs.SurveyCopies.{with_copies, is_agreed}
-use Rattle.tape_run.specs.SurveyFiles.{Filed, any_differs, same_file, file_key}
+use Rattle.tape_run.specs.SurveyFiles.{Filed, any_differs}
 use Rattle.tape_run.specs.SurveyRead.{Found, nothing_found, IsViewed, AreViewed}
 use Rattle.tape_run.specs.SurveySound.{IsWhole, Agree, IsSound}
 use Rattle.tape_run.proofs.{KeepingPlaces.one_key, StayingGood.key_again, SurveyConflicts.of_all}

@@ -17,7 +17,7 @@ use Rattle.tape_run.specs.declared.survey.course.LabelOrder.TheVariants.{Follows
 use Rattle.tape_run.specs.Passing.{step, volume_with, header_with, told_with, closes}
 use Rattle.tape_run.specs.SurveyGlance.{blank_glance, look_to, look_all, left_by, course_with}
 use Rattle.tape_run.proofs.{ShownSections.told_if, SectionsMet.map_push}
-use Rattle.tape_run.specs.SurveyLaws.{IsSectionInOrder, IsVolumeInOrder, EndedIsVolume}
+use Rattle.tape_run.specs.SurveyLaws.{IsVolumeInOrder, EndedIsVolume}
 use Rattle.tape_run.proofs.SurveyStands.{Heads, Fills, Closes, Follow, Marked, At, all_more}
 use Rattle.tape_run.proofs.SurveyStands.{joined_push, one_mark, first_label, head_read, label_read}
 use Rattle.tape_run.proofs.SurveyStands.{second_read}

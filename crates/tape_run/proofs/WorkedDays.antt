@@ -1,7 +1,7 @@
 -- The example set if a reader fails, if a part is refused, and if the session is resumed on another
 -- day.
 use Rattle.std.proofs.Common.{◌≡◌, ◌≤◌, ℕ, zero, suc, ◌+◌, List, [], ◌∷◌, true, false, refl, sym}
-use Rattle.std.proofs.Common.{ap, ◌∙◌, subst, inl, lit≤, codes, arith, take, Option, Some, length}
+use Rattle.std.proofs.Common.{ap, ◌∙◌, subst, inl, lit≤, arith, take, Option, Some, length}
 use Rattle.std.proofs.Common.{Bool, replicate, min}
 use Rattle.std.specs.Prelude.{⊤}
 use Rattle.std.proofs.lemmas.{List.take_all, Option.slice_get_within}
@@ -18,10 +18,10 @@ use Rattle.tape_run.specs.declared.fault.RunFault.TheVariants.{Sink}
 use Rattle.tape_run.specs.Mount.{MountEvent, IsMountOf, reads, cut}
 use Rattle.tape_run.specs.History.{Course, course, course_of, IsHistory}
 use Rattle.tape_run.specs.Given.{AreGivenBy, failed_of, counted_up}
-use Rattle.tape_run.specs.Headline.{begins, IsStart, IsRead, HasRun, HasStopped, StopsStep}
+use Rattle.tape_run.specs.Headline.{begins, HasRun, HasStopped, StopsStep}
 use Rattle.tape_run.specs.{CrashRuns.IsResumed, Seen.Seen, Seen.IsSession, Back.reels_of}
 use Rattle.tape_run.specs.WorkedHistory.{worked_set, section_1, section_2, first, reel_1, reading}
-use Rattle.tape_run.specs.WorkedDays.{DaysAreWorked, IsWhole, once, twice, two_reels, four_reels}
+use Rattle.tape_run.specs.WorkedDays.{DaysAreWorked, IsWhole, once, twice, two_reels}
 use Rattle.tape_run.specs.WorkedDays.{behind_one}
 use Rattle.tape_run.proofs.{Back.none_of, CrashRuns.goes_on, Fronts.fronts_are_mounts}
 use Rattle.tape_run.proofs.{WorkedHistory.is_lawful, WorkedReels.whole_1, WorkedReels.whole_2}

@@ -1,12 +1,12 @@
 -- The worked history, by computation: its set is valid, and it satisfies the premises of the
 -- headline.
 use Rattle.std.proofs.Common.{◌≡◌, ℕ, List, Option, [], ◌∷◌, true, false, refl, sym, ap, ◌∙◌, subst}
-use Rattle.std.proofs.Common.{codes, lit≤, lit<, None, replicate}
+use Rattle.std.proofs.Common.{codes, lit≤, lit<, None}
 use Rattle.tape_set.proofs.Worked as w
 use Rattle.tape_set.proofs.{Worked.made_section, Worked.made_form, WorkedFile.fit_of}
 use Rattle.tape_set.proofs.WorkedSpan as sp
 use Rattle.tape_set.specs.{Layout.FileSet, Lawful.IsLawful, Position.want_at}
-use Rattle.tape_run.specs.{History.Course, History.IsHistory, Given.AreGivenBy, Given.failed_of}
+use Rattle.tape_run.specs.{History.Course, History.IsHistory, Given.failed_of}
 use Rattle.tape_run.specs.{Seen.Seen, Headline.IsRead}
 use Rattle.tape_run.proofs.Back.{none_failed, none_of}
 use Rattle.tape_run.proofs.WorkedReels.{whole_1, whole_2, cut_1, bad_0, bad_1, short_2, blank}

@@ -1,5 +1,5 @@
 -- Examples for the definitions of recovered files. They are the contract of the call `laws::cases`.
-use Rattle.std.specs.Prelude.{◌≡◌, ◌≢◌, ◌+◌, ◌<◌, ◌≤◌, ◌⊎◌, ℕ, List, [], ◌∷◌, ◌++◌, length, map}
+use Rattle.std.specs.Prelude.{◌≡◌, ◌≢◌, ◌<◌, ◌≤◌, ◌⊎◌, ℕ, List, [], ◌∷◌, ◌++◌, length, map}
 use Rattle.std.specs.Prelude.{Option, Some, None, Bool, true, false, ⊤, is_some}
 use Rattle.std.specs.Io.KnownBytes.{Appends}
 use Rattle.tape_blocks.specs.declared.parts.Form.{Form}

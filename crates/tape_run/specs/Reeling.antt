@@ -1,30 +1,23 @@
 -- The work of `extract` on images, one after another.
 use Rattle.std.specs.Prelude.{◌≡◌, ◌≢◌, ◌⊎◌, ℕ, zero, suc, ◌+◌, ◌<◌, ◌≤◌, List, [], ◌∷◌, ◌++◌}
 use Rattle.std.specs.Prelude.{length, map, Option, get_or, set}
-use Rattle.std.specs.Prelude.{Some, None, IfSome, IsSome, ⊤, Bool, true, false}
+use Rattle.std.specs.Prelude.{Some, None, IfSome, ⊤, Bool, true, false}
 use Rattle.std.specs.Io.KnownBytes.{Appends}
 use Rattle.tape_blocks.specs.Block.{Portion}
 use Rattle.tape_image.specs.Reader.{IfKnown}
-use Rattle.tape_image.specs.Tape.{TapeItem}
-use Rattle.tape_image.specs.Begins.{Stop, Begins}
-use Rattle.tape_set.specs.declared.position.Position.{Position}
 use Rattle.tape_set.specs.declared.position.Position.TheVariants.{Finished}
-use Rattle.tape_set.specs.Layout.{FileSet}
-use Rattle.tape_set.specs.Lawful.{IsLawful}
 use Rattle.tape_core.specs.State.{State}
 use Rattle.tape_core.specs.declared.event.Answer.{Answer}
 use Rattle.tape_core.specs.declared.event.Answer.TheVariants.{Useless}
 use Rattle.tape_core.specs.declared.event.Reason.TheVariants.{BlockCount, Broken}
-use Rattle.tape_core.specs.Place.{IsPlaced, rest_of}
+use Rattle.tape_core.specs.Place.{rest_of}
 use Rattle.tape_core.specs.Point.{Point}
 use Rattle.tape_core.specs.declared.sink.PartSink.{Ghosts}
 use Rattle.tape_run.specs.declared.reel_reader.ReelAnswer.{ReelAnswer}
 use Rattle.tape_core.specs.Stands.{weight_of}
 use Rattle.tape_core.specs.Table.{saved}
 use Rattle.tape_run.specs.Crash.{KeepsLast, IsLast}
-use Rattle.tape_run.specs.Given.{is_device, IsGiven}
-use Rattle.tape_run.specs.Mount.{MountEvent, IsMountOf, after_mount}
-use Rattle.tape_run.specs.Lead.{Lead, over_reel}
+use Rattle.tape_run.specs.Given.{is_device}
 use Rattle.tape_run.specs.Reels.{Reads}
 use Rattle.tape_run.specs.Seen.{Seen, seen, IsKept, IfSeen, IsSeen}
 use Rattle.tape_run.specs.Steps.{Reeled, Saved, WentBack}

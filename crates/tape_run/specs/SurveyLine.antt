@@ -1,5 +1,5 @@
 -- The description of an image in a survey. The text is for people, and may change.
-use Rattle.std.specs.Prelude.{Bool, true, false, not, length, take, ◌-◌, ℕ, ◌==◌, nat_lt, map}
+use Rattle.std.specs.Prelude.{Bool, true, false, length, take, ◌-◌, ℕ, ◌==◌, nat_lt, map}
 use Rattle.std.specs.Prelude.{if◌then◌else◌, List, [], ◌++◌, codes, decimal, Option, Some, None}
 use Rattle.std.specs.Prelude.{replicate}
 use Rattle.tape_image.specs.declared.item.ImageFault.{ImageFault}

@@ -1,6 +1,4 @@
 use Rattle.std.proofs.Common.{ap, ◌≡◌, ◌∙◌, ◌++◌, IfSome}
-use Rattle.std.specs.Io.KnownBytes.{Appends}
-use Rattle.tape_image.specs.Written.{AppendsFront}
 use Rattle.std.proofs.lemmas.Fmt.{contents_after_writes}
 use Rattle.tape_run.proofs.Shown.{on_ok_shown, on_err_shown, shown_as}
 use Rattle.tape_run.proofs.text.write_line.Goals as goal

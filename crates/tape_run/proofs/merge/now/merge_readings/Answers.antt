@@ -8,7 +8,7 @@ use Rattle.tape_run.specs.MergeLines.{lines_from, reading_line, has_line, merged
 use Rattle.tape_run.specs.MergeNow.{Misses}
 use Rattle.tape_run.proofs.Ended.{told_err}
 use Rattle.tape_run.proofs.Reporting.{front_then}
-use Rattle.tape_run.proofs.MergeNow.{made, made_some, differed, fits_other, err_write}
+use Rattle.tape_run.proofs.MergeNow.{made, made_some, differed, err_write}
 use Rattle.tape_run.proofs.MergeNow.{all_logged, stays, err_stays, says_front, says_first}
 use Rattle.tape_run.proofs.MergeNow.{says_lines, says_differ, says_items}
 use Rattle.tape_run.proofs.MergeTooLong.{item_cause, end_cause}

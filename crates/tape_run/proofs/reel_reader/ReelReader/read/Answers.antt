@@ -1,5 +1,4 @@
 use Rattle.std.proofs.Common.{◌∙◌, sym, ap, subst, refl, arith}
-use Rattle.tape_image.specs.Reader.{seen}
 use Rattle.tape_image.proofs.{Callers.from_going, Steps.least_four, Pieces.on_err}
 use Rattle.tape_core.specs.{Arrive.arrival, Table.step_of}
 use Rattle.tape_core.proofs.Crashes.{only_same}

@@ -1,5 +1,4 @@
 use Rattle.std.proofs.Common.{◌++◌, Ok, Err, Result, OnOk, ap, ◌∙◌, arith, refl}
-use Rattle.tape_image.specs.Reader.{tape_item}
 use Rattle.tape_image.proofs.Callers.{gave, met_end, met_fault}
 use Rattle.tape_run.specs.{SalvageWalk.in_list, SalvageCopies.of_file}
 use Rattle.tape_run.proofs.SalvageSeen.{starts, one_more, at_end, at_fault}

@@ -1,4 +1,4 @@
-use Rattle.std.proofs.Common.{Ok, ap, sym, ◌∙◌, arith, refl}
+use Rattle.std.proofs.Common.{Ok, ap, ◌∙◌, arith, refl}
 use Rattle.tape_image.specs.Reader.{tape_item}
 use Rattle.tape_image.proofs.Callers.{gave, met_end, met_fault}
 use Rattle.tape_run.proofs.SalvagedSoFar.{starts, one_more, ends_data, at_end, at_fault, numbered}

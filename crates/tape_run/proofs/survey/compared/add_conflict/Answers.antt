@@ -1,5 +1,4 @@
-use Rattle.std.proofs.Common.{map, codes}
-use Rattle.tape_run.specs.SurveyCompared.{name_at}
+use Rattle.std.proofs.Common.{codes}
 use Rattle.tape_run.proofs.SurveyJoins.{five}
 use Rattle.tape_run.proofs.survey.compared.add_conflict.Goals as goal
 

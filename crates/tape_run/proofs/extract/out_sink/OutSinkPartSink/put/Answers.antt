@@ -1,5 +1,4 @@
-use Rattle.std.proofs.Common.{rules, ◌≡◌, Some, refl, ◌+◌, length, subst}
-use Rattle.tape_blocks.specs.Parts.{view}
+use Rattle.std.proofs.Common.{rules, ◌≡◌, Some, refl, subst}
 use Rattle.tape_run.specs.OutSinks.{HasTaken}
 use Rattle.tape_run.proofs.OutSinks.{put_done}
 use Rattle.tape_run.proofs.extract.out_sink.OutSinkPartSink.put.Goals as goal
