@@ -57,5 +57,5 @@ read_only_stage_takes_parts : (D : _) (L : _) (g : _) (d : _) (κs : _) (a : _) 
     (s : _) → open_read_only.Learnt-named D L g d κs a (Ok opened) s
     → opened.stage.failed ≡ false → ⊥
 read_only_stage_takes_parts D L g d κs a opened s l open_still =
-    let e : false ≡ true = sym open_still ∙ l.sealed in
+    let e : false ≡ true = sym open_still ∙ l.sealed.0 in
     absurd (cc)

@@ -187,6 +187,8 @@ impl<D: Disk> Stage<D> {
         ensures weight { OnOk result (self.new.weight ≡ staged) }
         ensures acknowledged { self.new.acknowledged ≡ self.old.acknowledged }
         ensures pending { self.new.pending ≡ self.old.pending }
+        ensures usable { OnOk result ((self.new.failed ≡ false)
+            × (self.new.readable ≡ self.old.readable)) }
         ensures ends { EndsCall self.old result self.new }
     {
         // No sync: bytes after that weight do not count, whether or not a crash leaves them.
@@ -222,6 +224,8 @@ impl<D: Disk> Stage<D> {
         ensures pending { IsErrOf result StageFault.Device
             → (self.new.pending ≡ self.old.pending)
             ⊎ (self.new.pending ≡ Some point.now) ⊎ (self.new.acknowledged ≡ point.now) }
+        ensures usable { OnOk result ((self.new.failed ≡ false)
+            × (self.new.readable ≡ self.old.readable)) }
         ensures ends { EndsCall self.old result self.new }
     {
         if self.failed {

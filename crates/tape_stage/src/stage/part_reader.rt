@@ -37,7 +37,9 @@ impl<D: Disk> Stage<D> {
         ensures unchanged { let now = result.stage.now in let old = self.old in
             (now.disk ≡ old.disk) × (now.weight ≡ old.weight) × (now.failed ≡ old.failed)
             × (now.refused ≡ old.refused) × (now.acknowledged ≡ old.acknowledged)
-            × (now.pending ≡ old.pending) × (now.generation ≡ old.generation) }
+            × (now.pending ≡ old.pending) × (now.generation ≡ old.generation)
+            × (now.readable ≡ old.readable) × (now.in_second ≡ old.in_second)
+            × (now.other_open ≡ old.other_open) }
         ensures keeps { (parts : List Portion) → Holds self.old parts
             → Holds result.stage.now parts }
         ensures all { (parts : List Portion) → Holds self.old parts

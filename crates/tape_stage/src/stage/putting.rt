@@ -98,6 +98,8 @@ impl<D: Disk> Stage<D> {
             (5 + length part.entry.bytes.now)) }
         ensures acknowledged { self.new.acknowledged ≡ self.old.acknowledged }
         ensures pending { self.new.pending ≡ self.old.pending }
+        ensures usable { OnOk result ((self.new.failed ≡ false)
+            × (self.new.readable ≡ self.old.readable)) }
         ensures ends { EndsCall self.old result self.new }
         ensures full { IsErrOf result StageFault.Full → (self.new ≡ self.old)
             × (most_staged < self.old.weight + (5 + length part.entry.bytes.now)) }
@@ -173,6 +175,9 @@ impl<D: Disk> PartSink for Stage<D> {
         ensures rewinds { OnOk result (self.new.walked ≡ 0) }
         ensures acknowledged { (self.new.acknowledged ≡ self.old.acknowledged)
             × (self.new.pending ≡ self.old.pending) }
+        ensures usable { OnOk result ((self.new.failed ≡ false)
+            × (self.new.readable ≡ self.old.readable)) }
+        ensures device { result ≡ Err SinkFault.Device → self.new.failed ≡ true }
     {
         match self.put_part(part) {
             Ok(()) => {
@@ -202,6 +207,9 @@ impl<D: Disk> PartSink for Stage<D> {
         ensures acknowledged { OnOk result (self.new.acknowledged ≡ point.now) }
         ensures stays { OnErr result (self.new.acknowledged ≡ self.old.acknowledged) }
         ensures pending { result ≡ Err SinkFault.Device → self.new.pending ≡ Some point.now }
+        ensures usable { OnOk result ((self.new.failed ≡ false)
+            × (self.new.readable ≡ self.old.readable)) }
+        ensures device { result ≡ Err SinkFault.Device → self.new.failed ≡ true }
     {
         match self.save(point) {
             Ok(()) => Ok(()),
@@ -233,6 +241,9 @@ impl<D: Disk> PartSink for Stage<D> {
             ⊎ (self.new.acknowledged ≡ point.now) }
         ensures pending { result ≡ Err SinkFault.Device → (self.new.pending ≡ self.old.pending)
             ⊎ (self.new.pending ≡ Some point.now) ⊎ (self.new.acknowledged ≡ point.now) }
+        ensures usable { OnOk result ((self.new.failed ≡ false)
+            × (self.new.readable ≡ self.old.readable)) }
+        ensures device { result ≡ Err SinkFault.Device → self.new.failed ≡ true }
     {
         match self.cut_back(point) {
             Ok(()) => {

@@ -51,7 +51,8 @@ impl<D: Disk> Stage<D> {
         ensures remains { D.is_honest disk → IfOk result (λ opened. (g : ℕ)
             × (parts : List Portion) × Remains (D.seen disk) g opened.point opened.broken parts
             × Holds opened.stage parts × (opened.records ≡ length (join parts).records)) }
-        ensures sealed { IfOk result (λ opened. opened.stage.failed ≡ true) }
+        ensures sealed { IfOk result (λ opened. (opened.stage.failed ≡ true)
+            × (opened.stage.readable ≡ true)) }
         ensures point { IfOk result (λ opened. opened.stage.acknowledged ≡ opened.point) }
         ensures calm { IfOk result (λ opened. opened.stage.refused ≡ 0) }
         // Nothing is written to the disk, honest or not, and its length does not change.

@@ -63,7 +63,8 @@ impl<D: Disk> Stage<D> {
         ensures calm { OnOk result (D.faults self.new.disk ≡ D.faults self.old.disk) }
         ensures frames { D.is_honest self.old.disk
             → KeepsFrames (D.seen self.old.disk) (D.seen self.new.disk) }
-        ensures alive { OnOk result (self.new.failed ≡ false) }
+        ensures usable { OnOk result ((self.new.failed ≡ false)
+            × (self.new.readable ≡ self.old.readable)) }
         ensures slot { OnOk result (self.new.in_second ≡ not self.old.in_second) }
         ensures generation { OnOk result (self.new.generation ≡ self.old.generation + 1) }
         ensures ends { EndsCall self.old result self.new }
@@ -125,6 +126,8 @@ impl<D: Disk> Stage<D> {
         ensures acknowledged { OnOk result (self.new.acknowledged ≡ point.now) }
         ensures stays { OnErr result ((self.new.acknowledged ≡ self.old.acknowledged)
             ⊎ (self.new.acknowledged ≡ point.now)) }
+        ensures usable { OnOk result ((self.new.failed ≡ false)
+            × (self.new.readable ≡ self.old.readable)) }
         ensures ends { EndsCall self.old result self.new }
     {
         let staged = point.staged;
