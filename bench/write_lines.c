@@ -30,13 +30,13 @@ struct file_set {
     struct packer packer;
 };
 
-static void stop(const char *why)
+static inline void stop(const char *why)
 {
     fprintf(stderr, "%s\n", why);
     exit(1);
 }
 
-static void begin_set(struct file_set *set, const char *folder, const char *prefix, uint64_t capacity)
+static inline void begin_set(struct file_set *set, const char *folder, const char *prefix, uint64_t capacity)
 {
     memset(set, 0, sizeof *set);
     set->folder = folder;
@@ -47,7 +47,7 @@ static void begin_set(struct file_set *set, const char *folder, const char *pref
 
 /* ---- items ---- */
 
-static void write_all(struct file_set *set, const unsigned char *bytes, size_t count)
+static inline void write_all(struct file_set *set, const unsigned char *bytes, size_t count)
 {
     while (count > 0) {
         ssize_t written = write(set->out, bytes, count);
@@ -58,13 +58,13 @@ static void write_all(struct file_set *set, const unsigned char *bytes, size_t c
     }
 }
 
-static void flush(struct file_set *set)
+static inline void flush(struct file_set *set)
 {
     write_all(set, set->buffer, set->held);
     set->held = 0;
 }
 
-static void put_bytes(struct file_set *set, const void *bytes, size_t count)
+static inline void put_bytes(struct file_set *set, const void *bytes, size_t count)
 {
     if (count > BUFFER - set->held)
         flush(set);
@@ -77,18 +77,18 @@ static void put_bytes(struct file_set *set, const void *bytes, size_t count)
     set->used += count;
 }
 
-static void put_word(struct file_set *set, uint32_t word)
+static inline void put_word(struct file_set *set, uint32_t word)
 {
     unsigned char bytes[4] = { word & 0xFF, word >> 8 & 0xFF, word >> 16 & 0xFF, word >> 24 };
     put_bytes(set, bytes, 4);
 }
 
-static void put_mark(struct file_set *set)
+static inline void put_mark(struct file_set *set)
 {
     put_word(set, 0);
 }
 
-static void put_block(struct file_set *set, const void *bytes, uint32_t length)
+static inline void put_block(struct file_set *set, const void *bytes, uint32_t length)
 {
     put_word(set, length);
     put_bytes(set, bytes, length);
@@ -98,7 +98,7 @@ static void put_block(struct file_set *set, const void *bytes, uint32_t length)
 
 /* ---- label groups ---- */
 
-static void put_labels(struct file_set *set, const char *first, const char *second)
+static inline void put_labels(struct file_set *set, const char *first, const char *second)
 {
     const struct shape *shape = &set->packer.shape;
     char text[LABEL + 1];
@@ -109,13 +109,13 @@ static void put_labels(struct file_set *set, const char *first, const char *seco
     put_mark(set);
 }
 
-static void begin_section(struct file_set *set)
+static inline void begin_section(struct file_set *set)
 {
     set->file.blocks = 0;
     put_labels(set, "HDR1", "HDR2");
 }
 
-static void end_section(struct file_set *set, const char *first, const char *second)
+static inline void end_section(struct file_set *set, const char *first, const char *second)
 {
     put_mark(set);
     put_labels(set, first, second);
@@ -123,12 +123,12 @@ static void end_section(struct file_set *set, const char *first, const char *sec
 
 /* ---- volumes ---- */
 
-static void volume_name(const struct file_set *set, char *name)
+static inline void volume_name(const struct file_set *set, char *name)
 {
     snprintf(name, 7, "%.3s%03u", set->prefix, set->volume % 1000);
 }
 
-static void begin_volume(struct file_set *set)
+static inline void begin_volume(struct file_set *set)
 {
     char path[4096], name[7], text[LABEL + 1];
     if (set->volume == MOST_VOLUMES)
@@ -145,7 +145,7 @@ static void begin_volume(struct file_set *set)
 }
 
 /* the second mark and the end-of-medium marker */
-static void end_volume(struct file_set *set)
+static inline void end_volume(struct file_set *set)
 {
     char name[7];
     put_mark(set);
@@ -157,7 +157,7 @@ static void end_volume(struct file_set *set)
     printf("VOLUME %s %llu\n", name, (unsigned long long)set->used);
 }
 
-static void change_volume(struct file_set *set)
+static inline void change_volume(struct file_set *set)
 {
     end_section(set, "EOV1", "EOV2");
     end_volume(set);
@@ -166,14 +166,14 @@ static void change_volume(struct file_set *set)
     begin_section(set);
 }
 
-static int fits(const struct file_set *set, uint64_t more)
+static inline int fits(const struct file_set *set, uint64_t more)
 {
     return set->used + more <= set->capacity;
 }
 
 /* ---- files and records ---- */
 
-static void begin_file(struct file_set *set, const char *identifier, struct shape shape)
+static inline void begin_file(struct file_set *set, const char *identifier, struct shape shape)
 {
     if (set->volume == 0)
         begin_volume(set);
@@ -184,7 +184,7 @@ static void begin_file(struct file_set *set, const char *identifier, struct shap
     begin_section(set);
 }
 
-static void write_packed(struct file_set *set)
+static inline void write_packed(struct file_set *set)
 {
     size_t length = take_block(&set->packer);
     if (length == 0)
@@ -195,7 +195,7 @@ static void write_packed(struct file_set *set)
     set->file.blocks++;
 }
 
-static void write_record(struct file_set *set, const unsigned char *record, size_t count)
+static inline void write_record(struct file_set *set, const unsigned char *record, size_t count)
 {
     const struct shape *shape = &set->packer.shape;
     if (shape->format == 'F' ? count != shape->record_length : shape->format == 'D' && count + 4 > shape->record_length)
@@ -210,7 +210,7 @@ static void write_record(struct file_set *set, const unsigned char *record, size
     }
 }
 
-static void end_file(struct file_set *set)
+static inline void end_file(struct file_set *set)
 {
     write_packed(set);
     if (!fits(set, FILE_END + HEADERS + VOLUME_END))
@@ -218,7 +218,7 @@ static void end_file(struct file_set *set)
     end_section(set, "EOF1", "EOF2");
 }
 
-static void end_set(struct file_set *set)
+static inline void end_set(struct file_set *set)
 {
     end_volume(set);
     printf("FILES %u VOLUMES %u\n", set->files, set->volume);
