@@ -40,10 +40,7 @@ trailer_found block label e =
 found_as : (block : List ℕ) (kind : Option Kind) (label : Label) → kind_at block ≡ kind
     → read_as block kind ≡ Ok label → IsLabel block label
 found_as block None label k e = absurd cc
-found_as block (Some kinds.Vol1) label k e =
-    let r = bind_ok (vol1_at block) (λ fields. Ok (labels.Vol1 fields)) label e in
-    subst (λ (l : Label). IsLabel block l) (ok_is (labels.Vol1 r.0) label r.2)
-    (vol1_found block r.0 r.1)
+found_as block (Some kinds.Vol1) label k e = grind (arith, bind_ok, vol1_at, ok_is, vol1_found)
 found_as block (Some kinds.Hdr1) label k e =
     let r = bind_ok (head1_at block) (λ fields. Ok (labels.Head1 fields)) label e in
     subst (λ (l : Label). IsLabel block l) (ok_is (labels.Head1 r.0) label r.2)

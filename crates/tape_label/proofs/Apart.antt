@@ -1,4 +1,5 @@
 -- No block is two kinds of label, and a reading function refuses all other kinds.
+use Rattle.std.proofs.Common.{arith}
 use Rattle.std.proofs.Common.{◌≡◌, ℕ, List, [], ◌∷◌, length, Bool, true, false, cond, eqb, Option}
 use Rattle.std.proofs.Common.{None, Some, Err, refl, sym, subst, ◌∙◌}
 use Rattle.std.specs.List.{find}
@@ -26,10 +27,7 @@ find_passes p [] y e = absurd cc
 find_passes p (x ∷ xs) y e = find_step p x (find p xs) y (p x) refl (find_passes p xs y) e
 
 named_is : (text : List ℕ) (kind : Kind) → kind_named text ≡ Some kind → text ≡ identifier kind
-named_is text kind e =
-    (bytes_eq-Decides text (identifier kind)).0
-    (find_passes (λ kind. bytes_eq text (identifier kind)) (kinds.Vol1 ∷ kinds.Hdr1 ∷ kinds.Hdr2
-    ∷ kinds.Eof1 ∷ kinds.Eof2 ∷ kinds.Eov1 ∷ kinds.Eov2 ∷ []) kind e)
+named_is text kind e = grind (arith, bytes_eq-Decides, find_passes, bytes_eq)
 
 kind_step : (block : List ℕ) (kind : Kind) (b : Bool) → eqb (length block) 80 ≡ b
     → cond b (kind_named (positions block 1 4)) None ≡ Some kind → HasKind block kind

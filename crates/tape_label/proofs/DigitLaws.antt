@@ -101,10 +101,7 @@ one_more_digit n d i small digit =
     omega (arith, more)
 
 pub fits_nineteen : (n i : ℕ) → n < 10 ^ i → i < 19 → n < 10 ^ 18
-fits_nineteen n i small lt =
-    let at_most : 10 ^ i ≤ 10 ^ 18 =
-    pow-le-pow_right (omega arith) {i = i} {j = 18} (omega arith) in
-    omega arith
+fits_nineteen n i small lt = grind (arith, pow-le-pow_right)
 
 pub ruleset counted_digits = (one_more_digit, fits_nineteen)
 
@@ -113,6 +110,4 @@ pub read_all : (number i : ℕ) (text : List ℕ) → length text ≤ i
     → number_after number (drop i text) ≡ number_of text
     → all_ascii_digits (drop i text) ≡ all_ascii_digits text
     → (all_ascii_digits text ≡ true) × (number ≡ number_of text)
-read_all number i text le value tests =
-    let rest : drop i text ≡ [] = drop_all i text le in
-    (sym (rw rest at tests), rw rest at value)
+read_all number i text le value tests = grind (arith, drop_all)

@@ -112,10 +112,7 @@ head1_found label h e =
 
 pub head1_again : (label : List ℕ) (h : Head1) → IsHead1 label h → head1_at label ≡ Ok h
 unfolding head1_at
-head1_again label h is = rw (
-  size_again label is.kind.size,
-  named_again label kinds.Hdr1 is.kind.named,
-) (head_again label h is.kind.size is.head)
+head1_again label h is = grind (arith, size_again, named_again, head_again)
 
 -- ---- first trailer labels
 
@@ -129,11 +126,7 @@ end_cases false false eof e = absurd cc
 end_found : (label : List ℕ) (eof : Bool) → end_at label ≡ Ok eof
     → positions label 1 4 ≡ identifier (trailer eof)
 unfolding end_at
-end_found label eof e =
-    elim (end_cases (begins_as label kinds.Eof1) (begins_as label kinds.Eov1) eof e) [
-      | inl p ↦ rw (← p.1) (begins_found label kinds.Eof1 p.0)
-      | inr p ↦ rw (← p.1) (begins_found label kinds.Eov1 p.0)
-    ]
+end_found label eof e = grind (arith, end_cases, begins_found)
 
 end_again : (label : List ℕ) (eof : Bool) → positions label 1 4 ≡ identifier (trailer eof)
     → end_at label ≡ Ok eof

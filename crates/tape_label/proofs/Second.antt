@@ -62,10 +62,7 @@ format_is c false false false f p q r e = absurd cc
 format_found : (label : List ℕ) (f : Format) → 4 < length label → format_at label ≡ Ok f
     → positions label 5 5 ≡ letter f ∷ []
 unfolding format_at
-format_found label f lt e =
-    let c = get_or label 4 0 in
-    rw (← format_is c (eqb c 70) (eqb c 68) (eqb c 83) f refl refl refl e)
-    (character_found label 4 lt)
+format_found label f lt e = grind (arith, format_is, eqb, character_found)
 
 format_again : (label : List ℕ) (f : Format) → 4 < length label
     → positions label 5 5 ≡ letter f ∷ [] → format_at label ≡ Ok f
@@ -92,10 +89,7 @@ no_space n = search rules
 
 offset_again : (label : List ℕ) (n : ℕ) → HasOffset label n → offset_at label ≡ Ok n
 unfolding offset_at
-offset_again label n (inl h) =
-    let digits_there : bytes_eq (positions label 51 52) (codes "  ") ≡ false =
-    rw (h.spelled, no_space ((n / 10) % 10)) refl in
-    rw digits_there (number_again label 51 52 0 n h)
+offset_again label n (inl h) = grind (arith, bytes_eq, no_space, number_again)
 offset_again label n (inr h) = rw (h.0, h.1) refl
 
 pub head2_found : (label : List ℕ) (h : Head2) → head2_at label ≡ Ok h

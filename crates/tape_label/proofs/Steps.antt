@@ -58,26 +58,21 @@ passes_number false low d e x y h = absurd cc
 pub number_found : (label : List ℕ) (first last least n : ℕ) → last ≤ length label
     → number_at label first last least ≡ Ok n → HasNumber label first last least n
 number_found label first last least n fits e =
-    let ds = positions label first last in
-    let p = passes_number (all_ascii_digits ds) (ltb (number_of ds) least) (faults.NotDigits first)
-    (faults.FieldRange first) (number_of ds) n e in
-    let len = length-positions label first last fits in
-    rw (← p.2) record {
-      spelled = sym (subst (λ (k : ℕ). digits k (number_of ds) ≡ ds) len (digits-number_of ds p.0));
-      at_least = ltb-false _ _ p.1;
-      fits = subst (λ (k : ℕ). number_of ds < 10 ^ k) len (number_of-lt ds p.0);
-    }
+    grind (
+      arith,
+      passes_number,
+      all_ascii_digits,
+      ltb,
+      length-positions,
+      digits-number_of,
+      ltb-false,
+      number_of-lt,
+    )
 
 pub number_again : (label : List ℕ) (first last least n : ℕ) → HasNumber label first last least n
     → number_at label first last least ≡ Ok n
 number_again label first last least n h =
-    let width = last - (first - 1) in
-    let tests : all_ascii_digits (positions label first last) ≡ true =
-    rw h.spelled (all_ascii_digits-digits width n) in
-    let value : number_of (positions label first last) ≡ n =
-    rw h.spelled (number_of-digits width n h.fits) in
-    let low : ltb n least ≡ false = le-ltb _ _ h.at_least in
-    rw (tests, value, low) refl
+    grind (arith, all_ascii_digits, all_ascii_digits-digits, number_of-digits, ltb, le-ltb)
 
 pub character_found : (label : List ℕ) (i : ℕ) → i < length label
     → take 1 (drop i label) ≡ get_or label i 0 ∷ []

@@ -31,22 +31,7 @@ vol1_text_is v widths =
 -- the text of a first label has its fields
 head_text_has : (kind : Kind) (h : Head1) (blocks : ℕ) (label : List ℕ) → HeadFits h
     → StandAt 0 (head_pieces kind h blocks) label → HasHead label h
-head_text_has kind h blocks label fits s = record {
-  file_id = s.1.0;
-  set_id = s.1.1.0;
-  sect = record { spelled = s.1.1.1.0; at_least = fits.sect.0; fits = omega (arith, fits.sect.1) };
-  sequence = record {
-    spelled = s.1.1.1.1.0;
-    at_least = fits.sequence.0;
-    fits = omega (arith, fits.sequence.1);
-  };
-  generation = s.1.1.1.1.1.0;
-  gen_version = s.1.1.1.1.1.1.0;
-  created = s.1.1.1.1.1.1.1.0;
-  expires = s.1.1.1.1.1.1.1.1.0;
-  access = s.1.1.1.1.1.1.1.1.1.0;
-  implementation = s.1.1.1.1.1.1.1.1.1.1.1.0;
-}
+head_text_has kind h blocks label fits s = grind arith
 
 pub head1_text_is : (h : Head1) → HeadFits h → HaveWidths (head1_pieces h)
     → IsHead1 (text_of (head1_pieces h)) h
@@ -75,26 +60,4 @@ trail1_text_is t fits widths =
 
 pub head2_text_is : (kind : Kind) (h : Head2) → IsSecond kind → Head2Fits h
     → HaveWidths (head2_pieces kind h) → IsHead2 (text_of (head2_pieces kind h)) kind h
-head2_text_is kind h second fits widths =
-    let s : StandAt 0 (head2_pieces kind h) (text_of (head2_pieces kind h)) =
-    pieces_stand (head2_pieces kind h) widths in
-    record {
-      second = second;
-      kind = record { size = s.1.1.1.1.1.1.1; named = s.0 };
-      format = s.1.0;
-      block_len = record {
-        spelled = s.1.1.0;
-        at_least = omega arith;
-        fits = omega (arith, fits.block_len);
-      };
-      rec_len = record {
-        spelled = s.1.1.1.0;
-        at_least = fits.rec_len.0;
-        fits = omega (arith, fits.rec_len.1);
-      };
-      offset = inl record {
-        spelled = s.1.1.1.1.1.0;
-        at_least = omega arith;
-        fits = omega (arith, fits.offset);
-      };
-    }
+head2_text_is kind h second fits widths = grind (arith, pieces_stand)

@@ -1,4 +1,5 @@
 -- Fields as wide as their positions give pieces that are as wide as theirs.
+use Rattle.std.proofs.Common.{arith}
 use Rattle.std.proofs.Common.{◌≡◌, ℕ, length, drop, refl}
 use Rattle.tape_label.specs.declared.values.Kind.{Kind}
 use Rattle.tape_label.specs.declared.values.Kind.TheVariants as kinds
@@ -27,10 +28,7 @@ vol1_wide v w =
 -- the pieces after the section and sequence number
 head_rest : (h : Head1) (blocks : ℕ) → IsWide h
     → HaveWidths (drop 5 (head_pieces kinds.Hdr1 h blocks))
-head_rest h blocks w = (
-  w.generation,
-  (w.gen_version, (w.created, (w.expires, (refl, (refl, (w.implementation, (refl, tt))))))),
-)
+head_rest h blocks w = grind arith
 
 pub head_wide : (kind : Kind) (h : Head1) (blocks : ℕ) → IsWide h
     → HaveWidths (head_pieces kind h blocks)
