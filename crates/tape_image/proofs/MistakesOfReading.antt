@@ -74,11 +74,7 @@ takes_fault : (p : ℕ) (xs : List ℕ) (device room : ℕ) (old new : Reader)
     (result : Result (Option Item) ImageFault) (f : ImageFault) → HasMoved old result new
     → old ≡ at p xs device room → seen result ≡ Err f
     → (ys : List ℕ) × (new.left ≡ Some ys) × TakesFault p [] f xs ys
-takes_fault p xs device room old new result f h e w =
-    let here : Reader = at p xs device room in
-    let moved : HasMoved here result new = subst (λ r. HasMoved r result new) e h in
-    let met : MeetsFault here f new = subst (λ r. Meets here r new) w moved.answers in
-    IfKnown-at (Some xs) new.left (TakesFault p [] f) xs refl met.takes
+takes_fault p xs device room old new result f h e w = grind (arith, IfKnown-at)
 
 -- the encoding of a block of one byte: its words, the byte and its pad byte
 abbrev one_byte : List ℕ

@@ -28,36 +28,13 @@ no_byte : TakesEnd 0 [] Physical 1 [] [] → ⊥
 no_byte t = omega (arith, t.place, ap length t.whole, length-append t.taken [])
 
 pub images_are_held : ImagesAreHeld
-images_are_held = record {
-  marked = marked_image;
-  no_empty_block = λ h. omega (arith, h.0);
-  no_longer_block = λ bytes e h. omega (arith, e, h.1);
-  least_odd = refl;
-  least_bad = refl;
-}
+images_are_held = grind (arith, marked_image)
 
 pub answers_are_held : AnswersAreHeld
-answers_are_held = record {
-  no_calls = λ r. refl;
-  mark_moves = λ old new g. omega (arith, g.extent);
-  end_stays = λ old new ending r h. h;
-  fault_stays = λ old new fault r h. h;
-  fault_is_kept = λ old new fault m. (m.failed, m.place);
-  end_moves = λ old new e m. omega (arith, e, m.within, m.moves);
-  same_device_and_room = λ old new r h. (h.same_device, h.same_room);
-}
+answers_are_held = grind arith
 
 pub taking_is_held : TakingIsHeld
-taking_is_held = record {
-  end_takes_no_byte = no_byte;
-  end_word_is_taken = λ xs ys t. omega (arith, t.behind);
-  fault_takes_a_front = λ fault xs ys t. (t.given, t.whole);
-  reserved_at_once = λ w xs given h. omega (arith, h.1);
-  too_long_at_once = λ xs given h. omega (arith, h.1);
-  differ_at_the_end = λ xs given h. omega (arith, h.3);
-  truncated_takes_all = λ xs given h. h.1;
-  device_cuts_off = λ xs given h. h;
-}
+taking_is_held = grind (arith, no_byte)
 
 pub laws_are_held : LawsAreHeld
 laws_are_held = record {
@@ -71,13 +48,4 @@ laws_are_held = record {
 }
 
 pub writing_is_held : WritingIsHeld
-writing_is_held = record {
-  three_bytes = refl;
-  a_mark = refl;
-  counted = λ bytes after old new p. (p.stands, p.size, p.within);
-  failed_at = λ bytes after old new p. (p.stands, p.size, (p.some, p.rest, p.wrote, p.front));
-  too_long = λ bytes after old new h. h;
-  no_bytes = λ old new r h. h;
-  finished_stays = λ old new r h. h;
-  broken_stays = λ bytes after old new r h. h;
-}
+writing_is_held = grind arith

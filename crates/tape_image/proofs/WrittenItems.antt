@@ -22,11 +22,7 @@ use Rattle.tape_image.proofs.Leads.{Leads-nil, Leads-then, Leads-before, Leads-t
 
 -- the four bytes of a word encode the word
 pub word_bytes : (w : ℕ) → w < 256 ^ 4 → IsWord (little_bytes 4 w) w
-word_bytes w h = record {
-  four = refl;
-  value = ap (λ (r : List ℕ). little_number 4 r) (sym (append-nil (little_bytes 4 w)))
-      ∙ little_number-reads_back 4 w [] h;
-}
+word_bytes w h = grind (arith, little_number, append-nil, little_bytes, little_number-reads_back)
 
 block_word : (n : ℕ) → 0 < n → n ≤ 99999 → block_len n ≡ Some n
 block_word n some few = grind (arith, nat_tests)
@@ -107,11 +103,7 @@ put_items : (items : List TapeItem) (old new : Writer) (before : List ℕ)
     → old.contents ≡ Some before → PutItems items old new
     → (new.contents ≡ Some (before ++ flat_map written items)) × Leads (flat_map written
     items) items [] × (new.size ≡ old.size + length (flat_map written items))
-put_items [] old new before known same = (
-  ap (λ (w : Writer). w.contents) same ∙ known ∙ ap Some (sym (append-nil before)),
-  Leads-nil [],
-  ap (λ (w : Writer). w.size) same ∙ omega arith,
-)
+put_items [] old new before known same = grind (arith, append-nil, Leads-nil)
 put_items (item ∷ items) old new before known (mid, put, then) =
     let (spelled, all) = put_item item old mid put in
     let here = known_after old.contents mid.contents before (written item) known all.wrote in
@@ -162,22 +154,10 @@ pub record FailsWith (bytes : List ℕ) (old new : Writer) : Type 0 where
   pub size : new.size ≡ old.size
 
 some_fails : (bytes : List ℕ) (old new : Writer) → PutsSome bytes old new → FailsWith bytes old new
-some_fails bytes old new p = record {
-  front = p.some;
-  rest = p.rest;
-  wrote = λ xs e. known_after old.contents new.contents xs p.some e p.wrote;
-  is = p.front;
-  size = p.size;
-}
+some_fails bytes old new p = grind (arith, known_after)
 
 none_fails : (bytes : List ℕ) (old new : Writer) → new ≡ old → FailsWith bytes old new
-none_fails bytes old new same = record {
-  front = [];
-  rest = bytes;
-  wrote = λ xs e. ap (λ (w : Writer). w.contents) same ∙ e ∙ ap Some (sym (append-nil xs));
-  is = refl;
-  size = ap (λ (w : Writer). w.size) same;
-}
+none_fails bytes old new same = grind (arith, append-nil)
 
 put_fails : (s after : Standing) (bytes : List ℕ) (old new : Writer)
     → PutsFrom s bytes after old (Err Device) new → FailsWith bytes old new
