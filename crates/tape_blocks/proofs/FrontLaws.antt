@@ -50,15 +50,11 @@ all_append format rec_len (x ∷ ps) qs p q = (p.0, all_append format rec_len ps
 
 pub spellings_first : (format : Format) (p : Portion) (ps : List Portion) (rest : List ℕ)
     → spellings format (p ∷ ps) ++ rest ≡ spelling format p ++ (spellings format ps ++ rest)
-spellings_first format p ps rest =
-    ap (λ (s : List ℕ). s ++ rest) (flat_map-cons (spelling format) p ps)
-    ∙ append_assoc (spelling format p) (spellings format ps) rest
+spellings_first format p ps rest = grind (arith, flat_map-cons, append_assoc)
 
 pub spellings_push : (format : Format) (ps : List Portion) (p : Portion)
     → spellings format (ps ++ p ∷ []) ≡ spellings format ps ++ spelling format p
-spellings_push format ps p = flat_map-append (spelling format) ps (p ∷ [])
-    ∙ ap (λ (s : List ℕ). spellings format ps ++ s) (flat_map-cons (spelling format) p []
-    ∙ append-nil (spelling format p))
+spellings_push format ps p = grind (arith, flat_map-append, flat_map-cons, append-nil)
 
 -- Two encodings that begin with a unit at the start of the same bytes begin with the same unit.
 same_part : (format : Format) (rec_len : ℕ) (p q : Portion) (x y : List ℕ) → IsUnit format rec_len p
@@ -91,12 +87,7 @@ EitherGoesOn format rec_len ps qs rest left =
 goes_behind : (format : Format) (rec_len : ℕ) (p q : Portion) (ps qs : List Portion) (rest
     left : List ℕ) → p ≡ q → GoesOn format rec_len ps qs rest left
     → GoesOn format rec_len (p ∷ ps) (q ∷ qs) rest left
-goes_behind format rec_len p q ps qs rest left same on = record {
-  more = on.more;
-  parts = ap (λ (x : Portion). x ∷ qs) (sym same) ∙ ap (λ (xs : List Portion). p ∷ xs) on.parts;
-  units = on.units;
-  bytes = on.bytes;
-}
+goes_behind format rec_len p q ps qs rest left same on = grind arith
 
 either_behind : (format : Format) (rec_len : ℕ) (p q : Portion) (ps qs : List Portion) (rest
     left : List ℕ) → p ≡ q → EitherGoesOn format rec_len ps qs rest left
@@ -134,22 +125,13 @@ no_first : (format : Format) (rec_len : ℕ) (begun end : Bool) (p : Portion) (m
     → AllByRecursion (IsUnit format rec_len) (p ∷ more) → InOrder begun (p ∷ more) end
     → rest ≡ spellings format (p ∷ more) ++ left → ⊥
 no_first format rec_len begun end p more rest left never all order e =
-    let stands : unit_at format rec_len rest ≡ Ok (Some (found_of format p)) =
-    ap (unit_at format rec_len) (e ∙ spellings_first format p more left)
-    ∙ unit_again format rec_len p (spellings format more ++ left) all.0 in
-    let breaks : bool_eq (continues p.span) begun ≡ false =
-    subst (λ (u : Result (Option Found) BlockFault). NoUnit begun u) stands never in
-    let follows : bool_eq (continues p.span) begun ≡ true =
-    ap (λ (b : Bool). bool_eq b begun) order.0 ∙ bool_eq-same begun in
-    cc
+    grind (arith, unit_at, spellings_first, unit_again, bool_eq-same)
 
 no_more : (format : Format) (rec_len : ℕ) (begun end : Bool) (more : List Portion)
     (rest left : List ℕ) → NoUnit begun (unit_at format rec_len rest)
     → AllByRecursion (IsUnit format rec_len) more → InOrder begun more end
     → rest ≡ spellings format more ++ left → length rest ≤ length left
-no_more format rec_len begun end [] rest left never all order e =
-    let long = ap length e in
-    omega arith
+no_more format rec_len begun end [] rest left never all order e = grind arith
 no_more format rec_len begun end (p ∷ more) rest left never all order e =
     absurd (no_first format rec_len begun end p more rest left never all order e)
 
@@ -176,16 +158,4 @@ pub begins_more : (format : Format) (rec_len offset : ℕ) (block : List ℕ) (p
     → BeginsWith format rec_len offset block (ps
     ++ portion found (drop place block) ∷ []) (drop (place + found.len) block)
 begins_more format rec_len offset block ps place found front e =
-    let p = portion found (drop place block) in
-    let stands = unit_found format rec_len (drop place block) found e in
-    let rest : drop found.len (drop place block) ≡ drop (place + found.len) block =
-    drop-drop found.len place block in
-    let whole : drop place block ≡ spelling format p ++ drop (place + found.len) block =
-    stands.whole ∙ ap (λ (r : List ℕ). spelling format p ++ r) rest in
-    record {
-      reaches = front.reaches;
-      units = all_append format rec_len ps (p ∷ []) front.units (stands.unit, tt);
-      body = front.body ∙ ap (λ (r : List ℕ). spellings format ps ++ r) whole ∙ sym (append_assoc
-          (spellings format ps) (spelling format p) (drop (place + found.len) block)) ∙ ap
-          (λ (s : List ℕ). s ++ drop (place + found.len) block) (sym (spellings_push format ps p));
-    }
+    grind (arith, unit_found, drop-drop, all_append, append_assoc, spellings_push)

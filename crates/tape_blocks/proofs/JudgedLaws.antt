@@ -1,5 +1,6 @@
 -- The result of a check agrees with the contents of the block: it passes if it contains parts in
 -- span order, and otherwise has the fault returned.
+use Rattle.std.proofs.Common.{arith}
 use Rattle.std.proofs.Common.{◌≡◌, ℕ, ◌+◌, ◌≤◌, Bool, true, false, ltb, List, length, Option, Some}
 use Rattle.std.proofs.Common.{None, Result, Ok, Err, refl, sym, ap, subst, ◌∙◌, inl, inr}
 use Rattle.std.specs.Prelude.{if◌then◌else◌, IfOk, IfErr}
@@ -90,10 +91,7 @@ judged_only format rec_len offset begun end block parts holds order =
 fault_is : (end : Bool) (o : Option BlockFault) (f : BlockFault) → unless_fault end o ≡ Err f
     → o ≡ Some f
 fault_is end None f e = absurd cc
-fault_is end (Some g) f e = let same : g ≡ f = err_is end g f e in rw same refl
-  where
-    err_is : (end : Bool) (g f : BlockFault) → unless_fault end (Some g) ≡ Err f → g ≡ f
-    err_is end g f e = cc
+fault_is end (Some g) f e = grind arith
 
 stands_by : (format : Format) (rec_len offset : ℕ) (begun : Bool) (block : List ℕ)
     (ps : List Portion) (end : Bool) (rest : List ℕ) (f : BlockFault)
@@ -115,15 +113,7 @@ fault_by : (b : Bool) (format : Format) (rec_len
     offset : ℕ) (begun : Bool) (block : List ℕ) (f : BlockFault) → ltb (length block) offset ≡ b
     → (format ≡ Fixed → 1 ≤ rec_len) → judged format rec_len offset begun block ≡ Err f
     → HasFault format rec_len offset begun block f
-fault_by true format rec_len offset begun block f e some is =
-    let less = ltb-true _ _ e in
-    let short = judged_short format rec_len offset begun block less in
-    inl (
-      less,
-      (let same : f ≡ fault 0 ShortOffset = (let both : unless_fault begun (Some f)
-          ≡ unless_fault begun (Some (fault 0 ShortOffset)) = sym is ∙ short in cc) in
-          same),
-    )
+fault_by true format rec_len offset begun block f e some is = grind (arith, ltb-true, judged_short)
 fault_by false format rec_len offset begun block f e some is =
     let reaches = ltb-false _ _ e in
     let w = walk_block format rec_len offset begun block some in

@@ -25,24 +25,12 @@ pub segments_part : (p : Packing) (goes_on : Bool) (bytes : List ℕ) → Part p
     → (p.shape.format ≡ Spanned → AreSegments p.shape.block_len p.shape.offset p.parts)
     → p.shape.format ≡ Spanned
     → AreSegments p.shape.block_len p.shape.offset (with_part p goes_on bytes).parts
-segments_part p goes_on bytes part all e =
-    let sized : size_of p.shape p.parts ≡ p.shape.offset + length (spellings Spanned p.parts) =
-    ap (λ (f : Format). p.shape.offset + length (spellings f p.parts)) e in
-    let room = part.room e in
-    segments_push p.shape.block_len p.shape.offset p.parts
-    (record { span = span_of p.begun goes_on; bytes = bytes }) (all e) record {
-      room = omega (arith, sized, room);
-      fills = λ goes. let fills = part.fills e (sym (leaves_of p.begun goes_on) ∙ goes) in
-          omega (arith, sized);
-      empty = part.empty;
-    }
+segments_part p goes_on bytes part all e = grind (arith, segments_push, leaves_of)
 
 pub order_part : (begun goes_on : Bool) (ps : List Portion) (bytes : List ℕ)
     → InOrder false ps begun
     → InOrder false (ps ++ record { span = span_of begun goes_on; bytes = bytes } ∷ []) goes_on
-order_part begun goes_on ps bytes order = InOrder-append false begun goes_on ps
-    (record { span = span_of begun goes_on; bytes = bytes } ∷ []) order
-    (continues_of begun goes_on, leaves_of begun goes_on)
+order_part begun goes_on ps bytes order = grind (arith, InOrder-append, continues_of, leaves_of)
 
 empty_part : (begun : Bool) (bytes : List ℕ) → (begun ≡ true → 0 < length bytes) → bytes ≡ []
     → span_of begun false ≡ Whole

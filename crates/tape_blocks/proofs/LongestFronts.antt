@@ -29,10 +29,7 @@ in_order-front : (begun end : Bool) (ps qs : List Portion) → InOrder begun ps 
     → in_order begun (ps ++ qs) ≡ ps ++ in_order end qs
 in_order-front begun end [] qs order = ap (λ (b : Bool). in_order b qs) order
 in_order-front begun end (p ∷ ps) qs order =
-    let follows : bool_eq (continues p.span) begun ≡ true =
-    ap (λ (b : Bool). bool_eq b begun) order.0 ∙ bool_eq-same begun in
-    rw follows
-    (ap (λ (xs : List Portion). p ∷ xs) (in_order-front (leaves p.span) end ps qs order.1))
+    grind (arith, bool_eq-same, in_order-front (leaves p.span) end ps qs order.1)
 
 begun_behind-front : (begun end : Bool) (ps : List Portion) → InOrder begun ps end
     → begun_behind begun ps ≡ end
@@ -136,15 +133,7 @@ pub record Walked (format : Format) (rec_len : ℕ) (begun : Bool) (bytes : List
 
 stays : (format : Format) (rec_len : ℕ) (begun : Bool) (bytes : List ℕ)
     → NoUnit begun (unit_at format rec_len bytes) → Walked format rec_len begun bytes
-stays format rec_len begun bytes none = record {
-  parts = [];
-  end = begun;
-  rest = bytes;
-  units = tt;
-  body = refl;
-  order = refl;
-  none = none;
-}
+stays format rec_len begun bytes none = grind arith
 
 goes : (format : Format) (rec_len : ℕ) (begun : Bool) (bytes : List ℕ) (found : Found)
     → unit_at format rec_len bytes ≡ Ok (Some found) → bool_eq (continues found.span) begun ≡ true
@@ -202,11 +191,4 @@ walk_block format rec_len offset begun block some = walk (suc (length (drop offs
 pub ends_of : (format : Format) (rec_len offset : ℕ) (begun : Bool) (block : List ℕ)
     → offset ≤ length block → (w : Walked format rec_len begun (drop offset block))
     → Ends format rec_len offset begun block w.parts w.end w.rest
-ends_of format rec_len offset begun block reaches w =
-    record {
-      front = record {
-        begins = record { reaches = reaches; units = w.units; body = w.body };
-        order = w.order;
-      };
-      none = w.none;
-    }
+ends_of format rec_len offset begun block reaches w = grind arith

@@ -24,16 +24,7 @@ use Rattle.tape_blocks.proofs.UnitLaws.{length-spelling}
 
 pub keeps_len : (shape : Shape) (items : List ℕ) (len : ℕ) (parts : List Portion)
     → Keeps shape items len parts → len ≡ size_of shape parts
-keeps_len shape items len parts k =
-    let size = ap length k.body in
-    omega (
-      arith,
-      size,
-      length-drop shape.offset (take len items),
-      length-take len items,
-      k.begins,
-      k.inside,
-    )
+keeps_len shape items len parts k = grind (arith, length-drop, length-take)
 
 pub keeps_text : (shape : Shape) (items : List ℕ) (len : ℕ) (parts : List Portion)
     → Keeps shape items len parts
@@ -46,52 +37,30 @@ keeps_text shape items len parts k =
 
 pub size_push : (shape : Shape) (ps : List Portion) (p : Portion)
     → size_of shape (ps ++ p ∷ []) ≡ size_of shape ps + (head_len shape.format + length p.bytes)
-size_push shape ps p =
-    let long = ap length (spellings_push shape.format ps p) in
-    omega (
-      arith,
-      long,
-      length-append (spellings shape.format ps) (spelling shape.format p),
-      length-spelling shape.format p,
-    )
+size_push shape ps p = grind (arith, spellings_push, length-append, length-spelling)
 
 -- bytes after the current block do not matter
 pub keeps_front : (shape : Shape) (items : List ℕ) (m len : ℕ) (parts : List Portion) → len ≤ m
     → m ≤ length items
     → Keeps shape (take m items) len parts → Keeps shape items len parts
-keeps_front shape items m len parts le inside k =
-    let same : take len (take m items) ≡ take len items = take-take len m items le in
-    record {
-      front = sym (take-take shape.offset m items (omega (arith, k.begins, le))) ∙ k.front;
-      begins = k.begins;
-      inside = omega (arith, le, inside);
-      within = k.within;
-      units = k.units;
-      body = sym (ap (drop shape.offset) same) ∙ k.body;
-    }
+keeps_front shape items m len parts le inside k = grind (arith, take-take)
 
 pub keeps_more : (shape : Shape) (items more : List ℕ) (len last : ℕ) (parts : List Portion)
     (p : Portion) → Keeps shape items len parts → IsUnit shape.format shape.rec_len p
     → more ≡ take len items ++ spelling shape.format p → last ≡ length more → last ≤ shape.block_len
     → Keeps shape more last (parts ++ p ∷ [])
 keeps_more shape items more len last parts p k unit e is within =
-    let size : length (take len items) ≡ len = omega (arith, length-take len items, k.inside) in
-    let room : shape.offset ≤ length (take len items) = omega (arith, size, k.begins) in
-    let whole : take last more ≡ take len items ++ spelling shape.format p =
-    take_all last more (omega (arith, is)) ∙ e in
-    let long : length more ≡ len + length (spelling shape.format p) =
-    ap length e ∙ omega (arith, length-append (take len items) (spelling shape.format p), size) in
-    record {
-      front = ap (take shape.offset) e ∙ take-append-le shape.offset (take len items)
-          (spelling shape.format p) room ∙ take-take shape.offset len items k.begins ∙ k.front;
-      begins = omega (arith, is, long, k.begins);
-      inside = omega (arith, is);
-      within = within;
-      units = all_append shape.format shape.rec_len parts (p ∷ []) k.units (unit, tt);
-      body = ap (drop shape.offset) whole ∙ drop-append-le shape.offset (take len items)
-          (spelling shape.format p) room ∙ ap (λ (s : List ℕ). s ++ spelling shape.format p) k.body
-          ∙ sym (spellings_push shape.format parts p);
-    }
+    grind (
+      arith,
+      length-take,
+      take_all,
+      length-append,
+      take-append-le,
+      take-take,
+      all_append,
+      drop-append-le,
+      spellings_push,
+    )
 
 no_padding : (format : Format) (rec_len : ℕ) → (format ≡ Fixed → 1 ≤ rec_len)
     → IsPadding format rec_len []
@@ -115,15 +84,7 @@ keeps_itself shape items len parts k = subst (λ (ps : List Portion). Keeps shap
 pub keeps_none : (shape : Shape) (items : List ℕ)
     → take shape.offset items ≡ replicate shape.offset 32 → shape.offset ≤ length items
     → shape.offset ≤ shape.block_len → Keeps shape items shape.offset []
-keeps_none shape items front inside within = record {
-  front = front;
-  begins = omega arith;
-  inside = inside;
-  within = within;
-  units = tt;
-  body = drop_all shape.offset (take shape.offset items)
-      (omega (arith, length-take shape.offset items));
-}
+keeps_none shape items front inside within = grind (arith, drop_all, length-take)
 
 -- ---- parts and their size
 
@@ -132,29 +93,14 @@ pub some_size : (shape : Shape) (parts : List Portion)
     → shape.offset < size_of shape parts
 some_size shape [] all some = absurd (some refl)
 some_size shape (p ∷ ps) all some =
-    let long = ap length (flat_map-cons (spelling shape.format) p ps) in
-    omega (
-      arith,
-      long,
-      length-append (spelling shape.format p) (spellings shape.format ps),
-      length-spelling shape.format p,
-      unit_size shape.format shape.rec_len p shape.some_record all.0,
-    )
+    grind (arith, flat_map-cons, length-append, length-spelling, unit_size)
 
 pub none_size : (shape : Shape) (parts : List Portion)
     → AllByRecursion (IsUnit shape.format shape.rec_len) parts → size_of shape parts ≡ shape.offset
     → parts ≡ []
 none_size shape [] all e = refl
 none_size shape (p ∷ ps) all e =
-    let long = ap length (flat_map-cons (spelling shape.format) p ps) in
-    absurd (omega (
-      arith,
-      e,
-      long,
-      length-append (spelling shape.format p) (spellings shape.format ps),
-      length-spelling shape.format p,
-      unit_size shape.format shape.rec_len p shape.some_record all.0,
-    ))
+    grind (arith, flat_map-cons, length-append, length-spelling, unit_size)
 
 -- ---- shapes
 
@@ -188,17 +134,12 @@ all_circumflexes (suc n) = omega (arith, all_circumflexes n)
 
 circumflexes : (n : ℕ) → first_other (replicate n 94) ≡ None
 circumflexes n =
-    let none : ltb (position_or_len (λ c. not (c == 94)) (replicate n 94))
-    (length (replicate {A = ℕ} n 94)) ≡ false =
-    le-ltb _ _ (omega (arith, all_circumflexes n, length-replicate {A = ℕ} n 94)) in
-    rw none refl
+    grind (arith, ltb, position_or_len, not, le-ltb, all_circumflexes, length-replicate)
 
 is_padding : (format : Format) (pad_full : Bool) (rec_len block_len n : ℕ)
     → (format ≡ Fixed → 1 ≤ rec_len)
     → IsPadding format rec_len (replicate (padded_by format pad_full block_len n - n) 94)
-is_padding Fixed pad_full rec_len block_len n some =
-    let z : n - n ≡ zero = omega arith in
-    (circumflexes (n - n), rw z (omega (arith, some refl)))
+is_padding Fixed pad_full rec_len block_len n some = grind (arith, circumflexes)
 is_padding Counted pad_full rec_len block_len n some =
     circumflexes (padded_by Counted pad_full block_len n - n)
 is_padding Spanned pad_full rec_len block_len n some = circumflexes (max n 18 - n)
@@ -234,23 +175,9 @@ pub written_is : (shape : Shape) (items text : List ℕ) (len last : ℕ) (parts
     → Keeps shape items len parts
     → last ≡ padded_len shape len → text ≡ take len items ++ replicate (last - len) 94
     → text ≡ written shape parts
-written_is shape items text len last parts k is e =
-    let sized = keeps_len shape items len parts k in
-    let count : last - len ≡ padded_len shape (size_of shape parts) - size_of shape parts =
-    ap (λ (n : ℕ). n - len) is ∙ ap (λ (n : ℕ). padded_len shape n - n) sized in
-    e ∙ ap (λ (s : List ℕ). s ++ replicate (last - len) 94) (keeps_text shape items len parts k)
-    ∙ ap (λ (n : ℕ). (replicate shape.offset 32 ++ spellings shape.format parts) ++ replicate n 94)
-    count
+written_is shape items text len last parts k is e = grind (arith, keeps_len, keeps_text)
 
 pub padded_size : (shape : Shape) (parts : List Portion)
     → size_of shape parts ≤ padded_len shape (size_of shape parts)
     → length (written shape parts) ≡ padded_len shape (size_of shape parts)
-padded_size shape parts le =
-    let n = padded_len shape (size_of shape parts) - size_of shape parts in
-    omega (
-      arith,
-      length-append (replicate shape.offset 32 ++ spellings shape.format parts) (replicate n 94),
-      length-append (replicate shape.offset 32) (spellings shape.format parts),
-      length-replicate {A = ℕ} n 94,
-      length-replicate {A = ℕ} shape.offset 32,
-    )
+padded_size shape parts le = grind (arith, length-append, length-replicate)

@@ -27,13 +27,7 @@ pub first_keeps : (shape : Shape) (items : List ℕ) (n len : ℕ) → IsWritabl
     → items ≡ replicate n 32
     → n ≡ shape.block_len → len ≡ shape.offset → Keeps shape items len []
 first_keeps shape items n len w spaces size is =
-    let fits = offset_fits shape w in
-    let front : take shape.offset items ≡ replicate shape.offset 32 =
-    ap (take shape.offset) spaces
-    ∙ take-replicate {X = ℕ} shape.offset n 32 (omega (arith, size, fits)) in
-    let long : length items ≡ n = ap length spaces ∙ length-replicate {A = ℕ} n 32 in
-    subst (λ (k : ℕ). Keeps shape items k []) (sym is)
-    (keeps_none shape items front (omega (arith, long, size, fits)) fits)
+    grind (arith, offset_fits, take-replicate, length-replicate, keeps_none)
 
 pub put_keeps : (shape : Shape) (items more : List ℕ) (len last : ℕ) (parts : List Portion)
     (p : Portion)
@@ -106,9 +100,7 @@ pub padded_in : (block : Vec ℕ Global) (lent more : List ℕ) (len last : ℕ)
     → length more ≡ length lent
     → take last more ≡ take len lent ++ replicate (last - len) 94
     → take last (with_items block more).items ≡ take len block.items ++ replicate (last - len) 94
-padded_in block lent more len last same size e =
-    ap (take last) (written_in block lent more same size) ∙ e
-    ∙ ap (λ (s : List ℕ). take len s ++ replicate (last - len) 94) same
+padded_in block lent more len last same size e = grind (arith, written_in)
 
 -- the spaces before a block that was taken
 pub given_keeps : (shape : Shape) (block : Vec ℕ Global) (lent more : List ℕ)

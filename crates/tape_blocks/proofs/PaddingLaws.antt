@@ -25,11 +25,7 @@ never_none false true false false e f x h = cc
 never_none a b c d e f x h = cc
 
 counted_never : (span : Span) (h : ℕ) (bytes : List ℕ) → counted span h bytes ≡ none → ⊥
-counted_never span h bytes e =
-    let ds = take 4 (drop (h - 4) bytes) in
-    never_none (ltb (length bytes) h) (all_ascii_digits ds) (ltb (number_of ds) h)
-    (ltb (length bytes) (number_of ds)) (fault 0 BadCount) (fault 0 PastEnd)
-    (record { span = span; head = h; len = number_of ds }) e
+counted_never span h bytes e = grind (arith, never_none, ltb, all_ascii_digits)
 
 spanned_never : (o : Option Span) (bytes : List ℕ) → spanned o bytes ≡ none → ⊥
 spanned_never None bytes e = cc
@@ -50,10 +46,7 @@ padding_none false o r h e = absurd (h e)
 pub padding_found : (format : Format) (rec_len : ℕ) (bytes : List ℕ)
     → unit_at format rec_len bytes ≡ Ok None → IsPadding format rec_len bytes
 unfolding unit_at
-padding_found Fixed rec_len bytes e =
-    let p = fixed_none (ltb (length bytes) rec_len) (first_other bytes)
-    (record { span = Whole; head = 0; len = rec_len }) e in
-    (p.1, ltb-true _ _ p.0)
+padding_found Fixed rec_len bytes e = grind (arith, fixed_none, ltb, ltb-true)
 padding_found Counted rec_len [] e = refl
 padding_found Counted rec_len (c ∷ cs) e = padding_none (eqb c 94)
     (first_other (c ∷ cs)) (counted Whole 4 (c ∷ cs)) (counted_never Whole 4 (c ∷ cs)) e
@@ -63,10 +56,7 @@ padding_found Spanned rec_len (c ∷ cs) e = padding_none (eqb c 94)
 
 first_is : (c : ℕ) (cs : List ℕ) (b : Bool) → eqb c 94 ≡ b → first_other (c ∷ cs) ≡ None → b ≡ true
 first_is c cs true p e = refl
-first_is c cs false p e =
-    let lt : ltb 0 (suc (length cs)) ≡ true = lt-ltb _ _ (omega arith) in
-    let here : first_other (c ∷ cs) ≡ Some 0 = rw (p, lt) refl in
-    absurd cc
+first_is c cs false p e = grind (arith, ltb, lt-ltb)
 
 pub padding_again : (format : Format) (rec_len : ℕ) (bytes : List ℕ)
     → IsPadding format rec_len bytes → unit_at format rec_len bytes ≡ Ok None

@@ -62,9 +62,7 @@ step_is n format rec_len bytes u e = rw e refl
 none_left : (u : Result (Option Found) BlockFault) (n : ℕ) (format : Format) (rec_len : ℕ)
     → (format ≡ Fixed → 1 ≤ rec_len) → unit_at format rec_len [] ≡ u
     → parts_by (suc n) format rec_len [] ≡ []
-none_left (Ok (Some found)) n format rec_len some e =
-    let size = found_size format rec_len [] found some e in
-    absurd (omega (arith, size.0, size.1))
+none_left (Ok (Some found)) n format rec_len some e = grind (arith, found_size)
 none_left (Ok None) n format rec_len some e = step_is n format rec_len [] (Ok None) e
 none_left (Err f) n format rec_len some e = step_is n format rec_len [] (Err f) e
 
@@ -141,9 +139,7 @@ stops_by (Err f) (suc n) format rec_len bytes e never = step_is n format rec_len
 pub unit_none : (format : Format) (rec_len : ℕ) → (format ≡ Fixed → 1 ≤ rec_len)
     → unit_at format rec_len [] ≡ Ok None
 unfolding unit_at
-unit_none Fixed rec_len some =
-    let more : nat_lt 0 rec_len ≡ true = grind (arith, nat_tests, some refl) in
-    rw more refl
+unit_none Fixed rec_len some = grind (arith, nat_lt, nat_tests)
 unit_none Counted rec_len some = refl
 unit_none Spanned rec_len some = refl
 

@@ -49,41 +49,12 @@ run_taken : (taken : List Filled) (p : Packing) (records : List (List ℕ)) (fro
     (n : ℕ) (text : List ℕ) → Full taken p records front n → Given p text
     → Run (taken ++ filled_of p text ∷ []) (emptied p) records front n
 run_taken taken p records front n text full given =
-    let b = filled_of p text in
-    record {
-      closed = closed_more p.shape taken b n full.closed full.full;
-      each = each_more p.shape taken b full.each record {
-        some = given.some;
-        text = given.text_is;
-        holds = given.holds;
-        within = given.within;
-        segments = full.segments;
-      };
-      segments = λ e. tt;
-      joins = ap join (take_parts taken b) ∙ full.joins;
-      order = subst (λ (ps : List Portion). InOrder false ps p.begun)
-          (sym (take_parts taken b)) full.order;
-      opened = refl;
-      more = full.more;
-      ended = full.ended;
-    }
+    grind (arith, closed_more, each_more, take_parts)
 
 closes_full : (taken : List Filled) (p q : Packing) (records : List (List ℕ)) (front : Option (List
     ℕ)) (rest : List ℕ) (n : ℕ) → q.parts ≢ [] → Run taken p records front (length rest)
     → Closes p rest n q → Full taken q records front (length rest)
-closes_full taken p q records front rest n some run closes =
-    let some_p : p.parts ≢ [] = λ e. some (ap (λ (v : Packing). v.parts) closes.same ∙ e) in
-    subst (λ (v : Packing). Full taken v records front (length rest)) (sym closes.same) record {
-      closed = subst (λ (k : ℕ). AreClosed p.shape taken k)
-          (first_some p.parts (length rest) 0 some_p) run.closed;
-      full = closes.full;
-      each = run.each;
-      segments = run.segments;
-      joins = run.joins;
-      order = run.order;
-      more = run.more;
-      ended = run.ended;
-    }
+closes_full taken p q records front rest n some run closes = grind (arith, first_some)
 
 full_by : (format : Format) (size block_len n : ℕ) → format ≡ Spanned → size ≡ block_len
     → block_len < size + least_room format n
@@ -163,45 +134,18 @@ zero_drop n rest e = ap (λ (k : ℕ). drop k rest) e
 pub offers_shape : (p q : Packing) (rest : List ℕ) (o : Offer) → Offers p rest o q
     → q.shape ≡ p.shape
 offers_shape p q rest Taken offers = ap (λ (v : Packing). v.shape) offers.part
-offers_shape p q rest (BlockReady n) offers =
-    elim (offers.1) [
-      | inl same ↦ ap (λ (v : Packing). v.shape) same.same
-      | inr o ↦ elim o [
-        | inl closes ↦ ap (λ (v : Packing). v.shape) closes.same
-        | inr fills ↦ ap (λ (v : Packing). v.shape) fills.part
-      ]
-    ]
+offers_shape p q rest (BlockReady n) offers = grind arith
 
 -- A block that becomes ready has no room for the remaining bytes.
 pub ready_full : (old new : Packing) (rest : List ℕ) (n : ℕ) → old.closed ≡ false
     → Offers old rest (BlockReady n) new → IsFull new.shape new.parts (length (drop n rest))
-ready_full old new rest n opened offers =
-    elim (offers.1) [
-      | inl same ↦ absurd (let closed = same.closed in cc)
-      | inr o ↦ elim o [
-        | inl closes ↦ subst (λ (v : Packing). IsFull v.shape v.parts (length (drop n rest)))
-            (sym closes.same) (subst (λ (k : ℕ). IsFull old.shape old.parts k)
-            (sym (ap length (zero_drop n rest closes.none))) closes.full)
-        | inr fills ↦ full_by new.shape.format (size_of new.shape new.parts) new.shape.block_len
-            (length (drop n rest))
-            (ap (λ (v : Packing). v.shape.format) fills.part ∙ fills.spanned) fills.filled
-      ]
-    ]
+ready_full old new rest n opened offers = grind (arith, zero_drop, full_by)
 
 -- An offer in a run is for a record with one of the lengths of the shape.
 pub going_length : (taken : List Filled) (p : Packing) (records : List (List ℕ)) (r rest : List ℕ)
     → Going taken p records r rest → IsJudged p rest
     → HasRecordLength p.shape.format p.shape.rec_len (length r)
-going_length taken p records r rest going judged = by p.begun refl
-  where
-    by : (b : Bool) → p.begun ≡ b → HasRecordLength p.shape.format p.shape.rec_len (length r)
-    by true e = going.length_is e
-    by false e =
-        let whole : rest ≡ r =
-        ap (λ (f : Option (List ℕ)). content_after f rest) (sym (going.run.ended e))
-        ∙ going.content in
-        subst (λ (s : List ℕ). HasRecordLength p.shape.format p.shape.rec_len (length s)) whole
-        (judged going.run.opened e)
+going_length taken p records r rest going judged = grind arith
 
 -- The record ends.
 pub going_ends : (taken : List Filled) (p q : Packing) (records : List (List ℕ)) (r rest : List ℕ)
@@ -248,47 +192,14 @@ going_block taken p q records r rest text n going judged offers given =
 
 pub run_begins : (p : Packing) (n : ℕ) → p.parts ≡ [] → p.begun ≡ false → p.closed ≡ false
     → Run [] p [] None n
-run_begins p n none begun opened = record {
-  closed = tt;
-  each = tt;
-  segments = λ e. subst (λ (ps : List Portion). AreSegments p.shape.block_len p.shape.offset ps)
-      (sym none) tt;
-  joins = ap join none;
-  order = rw (none, begun) refl;
-  opened = opened;
-  more = λ e. absurd cc;
-  ended = λ e. refl;
-}
+run_begins p n none begun opened = grind arith
 
 pub run_last : (taken : List Filled) (p : Packing) (records : List (List ℕ)) (text : List ℕ) (n : ℕ)
     → Run taken p records None n → Given p text → p.begun ≡ false
     → IsTight p.shape records (taken ++ filled_of p text ∷ [])
 run_last taken p records text n run given ended =
-    let b = filled_of p text in
-    record {
-      closed = chain_more p.shape taken b (subst (λ (k : ℕ). AreClosed p.shape taken k)
-          (first_some p.parts n 0 given.some) run.closed);
-      each = each_more p.shape taken b run.each record {
-        some = given.some;
-        text = given.text_is;
-        holds = given.holds;
-        within = given.within;
-        segments = run.segments;
-      };
-      joins = ap join (parts_more taken b) ∙ run.joins;
-      order = subst (λ (e : Bool). InOrder false (parts_of_all (taken ++ b ∷ [])) e) ended (subst
-          (λ (ps : List Portion). InOrder false ps p.begun) (sym (parts_more taken b)) run.order);
-    }
+    grind (arith, chain_more, first_some, each_more, parts_more)
 
 pub run_none : (taken : List Filled) (p : Packing) (records : List (List ℕ)) (n : ℕ)
     → Run taken p records None n → p.parts ≡ [] → p.begun ≡ false → IsTight p.shape records taken
-run_none taken p records n run none ended =
-    let all : parts_of_all taken ++ p.parts ≡ parts_of_all taken =
-    ap (λ (ps : List Portion). parts_of_all taken ++ ps) none ∙ append-nil (parts_of_all taken) in
-    record {
-      closed = chain_of p.shape taken _ run.closed;
-      each = run.each;
-      joins = ap join (sym all) ∙ run.joins;
-      order = subst (λ (e : Bool). InOrder false (parts_of_all taken) e) ended
-          (subst (λ (ps : List Portion). InOrder false ps p.begun) all run.order);
-    }
+run_none taken p records n run none ended = grind (arith, append-nil, chain_of)

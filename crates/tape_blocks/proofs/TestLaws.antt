@@ -33,11 +33,7 @@ moved at None = None
 moved at (Some f) = Some (fault (at + f.place) f.cause)
 
 pub leb-not : (a b : ℕ) → leb a b ≡ not (ltb b a)
-leb-not a b = by (ltb b a) refl
-  where
-    by : (t : Bool) → ltb b a ≡ t → leb a b ≡ not t
-    by true e = lt-leb a b (ltb-true b a e)
-    by false e = le-leb a b (ltb-false b a e)
+leb-not a b = grind (arith, ltb, leb, not, lt-leb, ltb-true, le-leb, ltb-false)
 
 fixed_cases : (short : Bool) (o : Option ℕ) (begun : Bool) (at n : ℕ) →
     first_fault (test (not short || is_none o) at NotMultiple
@@ -120,7 +116,4 @@ tests_are Counted rec_len begun at (c ∷ cs) =
     ∙ moved_if (eqb c 94) at begun (padding_by (first_other (c ∷ cs))) (counted Whole 4 (c ∷ cs))
 tests_are Spanned rec_len begun at [] = refl
 tests_are Spanned rec_len begun at (c ∷ cs) =
-    first_if (eqb c 94) _ _ _ _ (padding_are (first_other (c ∷ cs)) (c ∷ cs) begun at refl)
-    (spanned_are (span_by c) at begun (c ∷ cs))
-    ∙ moved_if (eqb c 94) at begun
-    (padding_by (first_other (c ∷ cs))) (spanned (span_by c) (c ∷ cs))
+    grind (arith, first_if, eqb, padding_are, spanned_are, moved_if)

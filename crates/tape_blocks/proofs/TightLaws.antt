@@ -52,18 +52,14 @@ each_more shape (x ∷ bs) b all is = (all.0, each_more shape bs b all.1 is)
 
 pub parts_more : (taken : List Filled) (b : Filled)
     → parts_of_all (taken ++ b ∷ []) ≡ parts_of_all taken ++ b.parts
-parts_more taken b = flat_map-append (λ (x : Filled). x.parts) taken (b ∷ [])
-    ∙ ap (λ (ps : List Portion). parts_of_all taken ++ ps)
-    (flat_map-cons (λ (x : Filled). x.parts) b [] ∙ append-nil b.parts)
+parts_more taken b = grind (arith, flat_map-append, flat_map-cons, append-nil)
 
 -- ---- segments
 
 pub segments_push : (block_len at : ℕ) (ps : List Portion) (p : Portion)
     → AreSegments block_len at ps → IsSegment block_len (at + length (spellings Spanned ps)) p
     → AreSegments block_len at (ps ++ p ∷ [])
-segments_push block_len at [] p all is =
-    let z : at + 0 ≡ at = omega arith in
-    (subst (λ (n : ℕ). IsSegment block_len n p) z is, tt)
+segments_push block_len at [] p all is = grind arith
 segments_push block_len at (q ∷ ps) p all is =
     let long : length (spellings Spanned (q ∷ ps))
     ≡ 5 + length q.bytes + length (spellings Spanned ps) =

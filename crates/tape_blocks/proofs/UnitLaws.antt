@@ -54,26 +54,12 @@ tests_passed a b c d e f x y h = absurd cc
 
 counted_cases : (span : Span) (h : ℕ) (bytes : List ℕ) (found : Found)
     → counted span h bytes ≡ some found → CountedCases span h bytes found
-counted_cases span h bytes found e =
-    let ds = take 4 (drop (h - 4) bytes) in
-    let p = tests_passed (ltb (length bytes) h) (all_ascii_digits ds) (ltb (number_of ds) h)
-    (ltb (length bytes) (number_of ds)) (fault 0 BadCount) (fault 0 PastEnd)
-    (record { span = span; head = h; len = number_of ds }) found e in
-    record {
-      room = ltb-false _ _ p.0;
-      digits_there = p.1;
-      at_least = ltb-false _ _ p.2;
-      at_most = ltb-false _ _ p.3;
-      found_is = p.4;
-    }
+counted_cases span h bytes found e = grind (arith, tests_passed, ltb, all_ascii_digits, ltb-false)
 
 -- four digits, the bytes that they count after them, and the rest
 four_digits : (bytes : List ℕ) (len : ℕ) → 4 ≤ length bytes → all_ascii_digits (take 4 bytes) ≡ true
     → digits 4 (number_of (take 4 bytes)) ≡ take 4 bytes
-four_digits bytes len room there =
-    let width : length (take 4 bytes) ≡ 4 = omega (arith, length-take 4 bytes) in
-    subst (λ (k : ℕ). digits k (number_of (take 4 bytes)) ≡ take 4 bytes) width
-    (digits-number_of (take 4 bytes) there)
+four_digits bytes len room there = grind (arith, length-take, digits-number_of)
 
 split_at : (bytes : List ℕ) (h len : ℕ) → h ≤ len
     → bytes ≡ take h bytes ++ (take (len - h) (drop h bytes) ++ drop len bytes)
@@ -87,9 +73,7 @@ split_at bytes h len le =
 
 four_fit : (bytes : List ℕ) → 4 ≤ length bytes → all_ascii_digits (take 4 bytes) ≡ true
     → number_of (take 4 bytes) < 10000
-four_fit bytes room there =
-    let width : length (take 4 bytes) ≡ 4 = omega (arith, length-take 4 bytes) in
-    subst (λ (k : ℕ). number_of (take 4 bytes) < 10 ^ k) width (number_of-lt (take 4 bytes) there)
+four_fit bytes room there = grind (arith, length-take, number_of-lt)
 
 counted_found : (bytes : List ℕ) (found : Found) → counted Whole 4 bytes ≡ some found
     → (rec_len : ℕ) → UnitStands Counted rec_len bytes found
@@ -145,18 +129,10 @@ span_is : (c : ℕ) (one two three four : Bool) (s : Span) → eqb c 48 ≡ one 
     → eqb c 50 ≡ three → eqb c 51 ≡ four
     → cond one (Some Whole) (cond two (Some First)
     (cond three (Some Middle) (cond four (Some Last) None))) ≡ Some s → indicator s ≡ c
-span_is c true two three four s p q r t e =
-    let is : Whole ≡ s = cc in
-    rw (← is) (sym (eqb-true _ _ p))
-span_is c false true three four s p q r t e =
-    let is : First ≡ s = cc in
-    rw (← is) (sym (eqb-true _ _ q))
-span_is c false false true four s p q r t e =
-    let is : Middle ≡ s = cc in
-    rw (← is) (sym (eqb-true _ _ r))
-span_is c false false false true s p q r t e =
-    let is : Last ≡ s = cc in
-    rw (← is) (sym (eqb-true _ _ t))
+span_is c true two three four s p q r t e = grind (arith, eqb-true)
+span_is c false true three four s p q r t e = grind (arith, eqb-true)
+span_is c false false true four s p q r t e = grind (arith, eqb-true)
+span_is c false false false true s p q r t e = grind (arith, eqb-true)
 span_is c false false false false s p q r t e = absurd cc
 
 spanned_by : (o : Option Span) (b : ℕ) (bytes : List ℕ) (found : Found)
@@ -179,12 +155,7 @@ not_padding false o r y e = e
 
 fixed_found : (rec_len : ℕ) (bytes : List ℕ) → rec_len ≤ length bytes
     → UnitStands Fixed rec_len bytes (record { span = Whole; head = 0; len = rec_len })
-fixed_found rec_len bytes le =
-    let all : rec_len - 0 ≡ rec_len = omega arith in
-    record {
-      whole = rw all (sym (take-append-drop rec_len bytes));
-      unit = (refl, rw all (omega (arith, length-take rec_len bytes)));
-    }
+fixed_found rec_len bytes le = grind (arith, take-append-drop, length-take)
 
 pub unit_found : (format : Format) (rec_len : ℕ) (bytes : List ℕ) (found : Found)
     → unit_at format rec_len bytes ≡ Ok (Some found) → UnitStands format rec_len bytes found
@@ -198,10 +169,7 @@ unit_found Counted rec_len [] found e = absurd cc
 unit_found Counted rec_len (c ∷ cs) found e = counted_found (c ∷ cs) found
     (not_padding (eqb c 94) (first_other (c ∷ cs)) (counted Whole 4 (c ∷ cs)) found e) rec_len
 unit_found Spanned rec_len [] found e = absurd cc
-unit_found Spanned rec_len (c ∷ cs) found e =
-    spanned_by (span_by c) c cs found
-    (λ s is. span_is c (eqb c 48) (eqb c 49) (eqb c 50) (eqb c 51) s refl refl refl refl is)
-    (not_padding (eqb c 94) (first_other (c ∷ cs)) (spanned (span_by c) (c ∷ cs)) found e) rec_len
+unit_found Spanned rec_len (c ∷ cs) found e = search (arith, spanned_by, span_is, eqb, not_padding)
 
 -- ---- a unit that is encoded
 
@@ -238,11 +206,7 @@ pub unit_again : (format : Format) (rec_len : ℕ) (p : Portion) (rest : List �
     → IsUnit format rec_len p
     → unit_at format rec_len (spelling format p ++ rest) ≡ Ok (Some (found_of format p))
 unfolding unit_at
-unit_again Fixed rec_len p rest is =
-    let long : ltb (length (p.bytes ++ rest)) rec_len ≡ false =
-    le-ltb _ _ (omega (arith, length-append p.bytes rest, is.1)) in
-    let sum : 0 + length p.bytes ≡ rec_len = omega (arith, is.1) in
-    rw (long, is.0, sum) refl
+unit_again Fixed rec_len p rest is = grind (arith, ltb, le-ltb, length-append)
 unit_again Counted rec_len p rest is =
     let k = 4 + length p.bytes in
     let first : eqb (48 + k / 10 / 10 / 10 % 10) 94 ≡ false =
@@ -266,15 +230,9 @@ unit_again Spanned rec_len p rest is =
 
 pub portion_of : (format : Format) (p : Portion) (rest : List ℕ)
     → portion (found_of format p) (spelling format p ++ rest) ≡ p
-portion_of Fixed p rest =
-    let n : 0 + length p.bytes - 0 ≡ length p.bytes = omega arith in
-    rw (n, take_at p.bytes rest (length p.bytes) refl) refl
-portion_of Counted p rest =
-    let n : 4 + length p.bytes - 4 ≡ length p.bytes = omega arith in
-    rw (n, take_at p.bytes rest (length p.bytes) refl) refl
-portion_of Spanned p rest =
-    let n : 5 + length p.bytes - 5 ≡ length p.bytes = omega arith in
-    rw (n, take_at p.bytes rest (length p.bytes) refl) refl
+portion_of Fixed p rest = grind (arith, take_at)
+portion_of Counted p rest = grind (arith, take_at)
+portion_of Spanned p rest = grind (arith, take_at)
 
 pub length-spelling : (format : Format) (p : Portion)
     → length (spelling format p) ≡ head_len format + length p.bytes

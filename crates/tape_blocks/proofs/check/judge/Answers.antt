@@ -16,10 +16,7 @@ abbrev ok_of : Option Found → Result (Option Found) BlockFault
 ok_of o = Ok o
 
 pub returns-then-block-offset : goal.returns-then-block-offset
-returns-then-block-offset c =
-    let shape = c.args.shape.now in
-    c.refuse.ensures ∙ sym (judged_short shape.format shape.rec_len shape.offset c.args.begun
-    c.args.block.now (omega (arith, c.if-block-offset.true, c.from-offset.ensures)))
+returns-then-block-offset c = grind (arith, judged_short)
 
 pub returns-then-place-block : goal.returns-then-place-block
 returns-then-place-block c =

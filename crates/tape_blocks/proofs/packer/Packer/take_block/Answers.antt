@@ -10,24 +10,7 @@ use Rattle.tape_blocks.proofs.PackerSteps.{packed_is, not_closed}
 use Rattle.tape_blocks.proofs.packer.Packer.take_block.Goals as goal
 
 pub returns-then-self-offset : goal.returns-then-self-offset
-returns-then-self-offset c =
-    let a = c.self.inside in
-    let here : a.len ≡ a.shape.offset = c.if-self-offset.true ∙ c.from-offset.ensures in
-    let none : parts_in a.shape a.block.items a.len ≡ [] =
-    keeps_nothing a.shape a.block.items a.len _ c.self.invariant.keeps here in
-    let opened : a.closed ≡ false =
-    not_closed a.closed (λ e. let lt = c.self.invariant.closed e in omega arith) in
-    let same : the_packing a.shape (parts_in a.shape a.block.items a.len) a.begun a.closed
-    ≡ the_packing a.shape [] a.begun false =
-    ap (λ (ps : List Portion). the_packing a.shape ps a.begun a.closed) none
-    ∙ ap (λ (b : Bool). the_packing a.shape [] a.begun b) opened in (
-      (refl, λ _. tt, same ∙ ap emptied c.self.view_is),
-      record {
-        found = tt;
-        none = subst (λ (v : Packing). v.parts ≡ []) c.self.view_is none;
-        after = tt;
-      },
-    )
+returns-then-self-offset c = grind (arith, keeps_nothing, not_closed)
 
 pub invariant_of-self-2 : goal.invariant_of-self-2
 invariant_of-self-2 c =
