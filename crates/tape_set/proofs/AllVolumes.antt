@@ -23,10 +23,7 @@ use Rattle.tape_set.proofs.Whole.{whole_gives}
 -- ---- the next section is on the next volume
 
 on_next : (x y : Placed) → x.file ≡ y.file → GoesOn x y → y.section.volume ≡ x.section.volume + 1
-on_next x y e h =
-    let t : (x.file == y.file) ≡ true = eq-eqb x.file y.file e in
-    subst (λ b. MatchBool b (y.section.volume ≡ x.section.volume + 1)
-    ((y.section.volume ≡ x.section.volume) ⊎ (y.section.volume ≡ x.section.volume + 1))) t h
+on_next x y e h = grind (arith, eq-eqb)
 
 chain_rest : (x : Placed) (xs : List Placed) → Chain GoesOn (x ∷ xs) → Chain GoesOn xs
 chain_rest x [] c = tt
@@ -42,11 +39,7 @@ next_volume : (file j : ℕ) (ss : List Section) (rest : List Placed) (i : ℕ) 
     → slice_get ss (i + 1) ≡ Some t → t.volume ≡ s.volume + 1
 next_volume file j [] rest i s t c e f = absurd (cc)
 next_volume file j (x ∷ []) rest zero s t c e f = absurd (cc)
-next_volume file j (x ∷ y ∷ ss) rest zero s t c e f =
-    let a : x ≡ s = cc in
-    let b : y ≡ t = cc in
-    let n = on_next (placed file j x) (placed file (j + 1) y) refl c.0 in
-    subst (λ z. t.volume ≡ z.volume + 1) a (subst (λ z. z.volume ≡ x.volume + 1) b n)
+next_volume file j (x ∷ y ∷ ss) rest zero s t c e f = grind (arith, on_next)
 next_volume file j (x ∷ ss) rest (suc i) s t c e f =
     let q : suc i + 1 ≡ suc (i + 1) = omega arith in
     next_volume file (j + 1) ss rest i s t
@@ -58,11 +51,7 @@ pub next_in : (m n : ℕ) (fs : List (List Section)) (f : List Section) (i : ℕ
     → Chain GoesOn (all_numbered m fs) → slice_get fs n ≡ Some f → slice_get f i ≡ Some s
     → slice_get f (i + 1) ≡ Some t → t.volume ≡ s.volume + 1
 next_in m n [] f i s t c g e h = absurd (cc)
-next_in m zero (x ∷ fs) f i s t c g e h =
-    let a : x ≡ f = cc in
-    next_volume m 1 x (all_numbered (m + 1) fs) i s t c
-    (subst (λ z. slice_get z i ≡ Some s) (sym a) e)
-    (subst (λ z. slice_get z (i + 1) ≡ Some t) (sym a) h)
+next_in m zero (x ∷ fs) f i s t c g e h = grind (arith, next_volume, slice_get)
 next_in m (suc n) (x ∷ fs) f i s t c g e h =
     next_in (m + 1) n fs f i s t (chain_behind (numbered m 1 x) (all_numbered (m + 1) fs) c) g e h
 
@@ -124,12 +113,7 @@ ToCome set file k p = (p ≡ Finished) ⊎ ((sect : ℕ) × (s : Section)
 pub onward : (set : FileSet) (file sect : ℕ) (s : Section) → IsLawful set
     → section_of set file sect ≡ Some s → ToCome set file s.volume (behind sect s)
 onward set zero sect s l e = absurd (cc)
-onward set (suc n) zero s l e = no_zero (slice_get set.files n) e
-  where
-    no_zero : (o : Option (List Section)) → option_and_then (λ f. nth f 0) o ≡ Some s
-        → ToCome set (suc n) s.volume (behind 0 s)
-    no_zero None e = absurd (cc)
-    no_zero (Some f) e = absurd (cc)
+onward set (suc n) zero s l e = grind (arith, slice_get, option_and_then)
 onward set (suc n) (suc i) s l e = go (slice_get set.files n) refl e
   where
     by_end : (f : List Section) → slice_get set.files n ≡ Some f → slice_get f i ≡ Some s
@@ -191,10 +175,7 @@ all_over set file (suc n) k p l e t =
 -- before all volumes the whole file is still to be read
 pub to_come_at_start : (set : FileSet) (file : ℕ) → IsLawful set → IsSome (file_of set file)
     → ToCome set file 0 start
-to_come_at_start set file l has =
-    let at = has_start set l file has in
-    let fits = lawful_section set file 1 at.0 l at.1 in
-    inr (1, at.0, at.1, omega (arith, fits.0), refl)
+to_come_at_start set file l has = grind (arith, has_start, lawful_section)
 
 pub there_and_back : (set : FileSet) → IsLawful set → WholeGivesFile set
 there_and_back set l file has =

@@ -68,9 +68,7 @@ block_sized : (blocks : List Filled) (after : List Entry) (n : ℕ) (b : Filled)
     → AllByRecursion IsTapeItem (map item_of (data_group blocks ++ after))
     → slice_get blocks n ≡ Some b → length b.bytes ≤ 99999
 block_sized [] after n b h e = absurd (cc)
-block_sized (x ∷ xs) after zero b h e =
-    let same : x ≡ b = cc in
-    subst (λ v. length v.bytes ≤ 99999) same h.0.1
+block_sized (x ∷ xs) after zero b h e = grind arith
 block_sized (x ∷ xs) after (suc n) b h e = block_sized xs after n b h.1 e
 
 -- ---- the numbers of a position

@@ -1,5 +1,7 @@
 -- Sets that are valid and have no unused space, but which no writer should write. A writer's own
 -- contract has to exclude them.
+use Rattle.tape_set.specs.Lawful.{TellsForm}
+use Rattle.tape_set.proofs.Worked.{makes, alike_file}
 use Rattle.std.proofs.Common.{ℕ, List, [], ◌∷◌, ◌++◌, true, refl, codes, lit≤, lit<}
 use Rattle.std.specs.Prelude.{replicate}
 use Rattle.tape_image.specs.Tape.{IsTapeItem, block}
@@ -54,22 +56,7 @@ trail = record {
 }
 
 eof1_is : IsTrail1 eof1 trail
-eof1_is = record {
-  kind = record { size = refl; named = refl };
-  head = record {
-    file_id = refl;
-    set_id = refl;
-    sect = record { spelled = refl; at_least = lit≤ tt; fits = lit< tt };
-    sequence = record { spelled = refl; at_least = lit≤ tt; fits = lit< tt };
-    generation = refl;
-    gen_version = refl;
-    created = refl;
-    expires = refl;
-    access = refl;
-    implementation = refl;
-  };
-  blocks = record { spelled = refl; at_least = lit≤ tt; fits = lit< tt };
-}
+eof1_is = search (lit≤, tt)
 
 abbrev odd_section : Section
 odd_section = record (made shape 1 1 1 true []) { trailer = eof1 }
@@ -87,75 +74,26 @@ eof2_sized : IsTapeItem (block (second kinds.Eof2 shape))
 eof2_sized = second_sized kinds.Eof2 shape tt shape_fits
 
 odd_lawful : IsLawful odd
-odd_lawful = record {
-  volumes = (record { vol1 = record { size = refl; named = refl }; labels = tt }, tt);
-  each = (
-    record {
-      header = (
-        head 1 1,
-        record { label = hdr1_is 1 1 head_fits; set_id = refl; file = refl; sect = refl },
-      );
-      trailer = (trail, record { label = eof1_is; file = refl; sect = refl; count = refl });
-      volume = (lit≤ tt, lit≤ tt);
-      few = lit≤ tt;
-      sized = (
-        eighty (hdr1 1 1) (hdr1_is 1 1 head_fits).kind.size,
-        (hdr2_sized, (tt, (tt, (eighty eof1 refl, (eof2_sized, (tt, tt)))))),
-      );
-    },
-    tt,
-  );
-  files = (
-    record {
-      ends = refl;
-      alike = (
-        form shape,
-        (
-          record {
-            labels = record {
-              head = head 1 1;
-              second = second_of shape;
-              hdr1 = hdr1_is 1 1 head_fits;
-              hdr2 = second_is kinds.Hdr2 shape tt shape_fits;
-              told = refl;
-            };
-            held = tt;
-          },
-          tt,
-        ),
-      );
-      order = refl;
-    },
-    tt,
-  );
-  first = refl;
-  goes_on = tt;
-}
+odd_lawful = search (
+  makes,
+  alike_file shape,
+  told,
+  hdr1_is 1 1 head_fits,
+  eof1_is,
+  eighty (hdr1 1 1) (hdr1_is 1 1 head_fits).kind.size,
+  hdr2_sized,
+  eighty eof1 refl,
+  eof2_sized,
+) depth 9
+  where
+    told : TellsForm (form shape) odd_section
+    told = record {
+      head = head 1 1;
+      second = second_of shape;
+      hdr1 = hdr1_is 1 1 head_fits;
+      hdr2 = second_is kinds.Hdr2 shape tt shape_fits;
+      told = refl;
+    }
 
 odd_tight : IsTight odd 100000 (shape ∷ [])
-odd_tight = record {
-  plain = (refl, tt);
-  last = refl;
-  files = (
-    record {
-      writable = writable;
-      room = lit≤ tt;
-      labels = (
-        record {
-          hdr2 = second_is kinds.Hdr2 shape tt shape_fits;
-          headers = refl;
-          second = second kinds.Eof2 shape;
-          trailers = refl;
-          trailer2 = second_is kinds.Eof2 shape tt shape_fits;
-        },
-        tt,
-      );
-      records = [];
-      lengths = tt;
-      packed = nothing_packed shape;
-    },
-    tt,
-  );
-  ends = (record { volume_end = lit≤ tt; file_end = λ e. refl }, tt);
-  changes = tt;
-}
+odd_tight = search (makes, writable, second_is, shape_fits, nothing_packed) depth 9

@@ -24,12 +24,7 @@ abbrev Three : ℕ → ℕ → Type 0
 Three m n = (m < n) ⊎ ((m ≡ n) ⊎ (n < m))
 
 three : (m n : ℕ) → Three m n
-three m n = go (ltb m n) (ltb n m) refl refl
-  where
-    go : (t u : Bool) → ltb m n ≡ t → ltb n m ≡ u → Three m n
-    go true u e f = inl (grind (arith, nat_tests))
-    go false true e f = inr (inr (grind (arith, nat_tests)))
-    go false false e f = inr (inl (grind (arith, nat_tests)))
+three m n = grind (arith, ltb, nat_tests)
 
 abbrev Either : Position → Position → Type 0
 Either p q = IsBefore p q ⊎ ((p ≡ q) ⊎ IsBefore q p)
@@ -38,23 +33,7 @@ either : (p q : Position) → Either p q
 either Finished Finished = inr (inl refl)
 either Finished (Awaits t c k) = inr (inr tt)
 either (Awaits s b j) Finished = inl tt
-either (Awaits s b j) (Awaits t c k) = by_section (three s t)
-  where
-    by_part : s ≡ t → b ≡ c → Three j k → Either (Awaits s b j) (Awaits t c k)
-    by_part e f (inl h) = inl (inr (e, inr (f, h)))
-    by_part e f (inr (inl g)) =
-        inr (inl (ap (λ x. Awaits x b j) e ∙ (ap (λ x. Awaits t x j) f ∙ ap (λ x. Awaits t c x) g)))
-    by_part e f (inr (inr h)) = inr (inr (inr (sym e, inr (sym f, h))))
-
-    by_block : s ≡ t → Three b c → Either (Awaits s b j) (Awaits t c k)
-    by_block e (inl h) = inl (inr (e, inl h))
-    by_block e (inr (inl f)) = by_part e f (three j k)
-    by_block e (inr (inr h)) = inr (inr (inr (sym e, inl h)))
-
-    by_section : Three s t → Either (Awaits s b j) (Awaits t c k)
-    by_section (inl h) = inl (inl h)
-    by_section (inr (inl e)) = by_block e (three b c)
-    by_section (inr (inr h)) = inr (inr (inl h))
+either (Awaits s b j) (Awaits t c k) = grind (arith, three)
 
 -- ---- a longer prefix of parts
 
@@ -79,10 +58,7 @@ next_part : (s b k : ℕ) (q : Position) → IsBefore (Awaits s b k) q → IsUpT
 next_part s b k Finished h = up_to_end (Awaits s b (k + 1))
 next_part s b k (Awaits t c l) (inl h) = inl (inl h)
 next_part s b k (Awaits t c l) (inr (e, inl h)) = inl (inr (e, inl h))
-next_part s b k (Awaits t c l) (inr (e, inr (f, h))) =
-    let up : IsUpTo (Awaits s b (k + 1)) (Awaits s b l) = up_to_part s b (k + 1) l (omega arith) in
-    subst (λ v. IsUpTo (Awaits s b (k + 1)) v)
-    (ap (λ x. Awaits x b l) e ∙ ap (λ x. Awaits t x l) f) up
+next_part s b k (Awaits t c l) (inr (e, inr (f, h))) = grind (arith, up_to_part)
 
 some_there : {A : Type 0} (o : Option A) → IsSome o → (x : A) × (o ≡ Some x)
 some_there None h = absurd (cc)

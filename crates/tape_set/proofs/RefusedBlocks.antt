@@ -1,5 +1,8 @@
 -- Small sets that are not valid only because of the size of one block, wherever it is; and valid
 -- sets with blocks of the greatest size, and with a buffer offset.
+use Rattle.tape_label.specs.Trail1.{IsTrail1}
+use Rattle.tape_set.specs.Lawful.{TellsForm}
+use Rattle.tape_set.proofs.Worked.{makes, alike_file}
 use Rattle.std.proofs.Common.{◌≡◌, ◌<◌, ◌≤◌, ℕ, List, [], ◌∷◌, length, true, false, refl, arith}
 use Rattle.std.proofs.Common.{lit≤, lit<}
 use Rattle.std.specs.Prelude.{map, replicate}
@@ -51,22 +54,7 @@ record AllButSized (s : Section) : Type 0 where
 -- if the sizes are valid too, the set is valid
 lawful_if_sized : (s : Section) → AllButSized s
     → AllByRecursion IsTapeItem (map item_of (section_entries s)) → IsLawful (set_of s)
-lawful_if_sized s but sized = record {
-  volumes = but.volumes;
-  each = (
-    record {
-      header = but.header;
-      trailer = but.trailer;
-      volume = but.volume;
-      few = but.few;
-      sized = sized;
-    },
-    tt,
-  );
-  files = but.files;
-  first = but.first;
-  goes_on = but.goes_on;
-}
+lawful_if_sized s but sized = search
 
 head_fits : HeadFits (head 1 1)
 head_fits = record { sect = (lit≤ tt, lit≤ tt); sequence = (lit≤ tt, lit≤ tt) }
@@ -77,46 +65,20 @@ but_sized : (headers : List (List ℕ)) (blocks : List Filled) (trailers : List 
     → InOrder false (section_parts (section headers blocks trailers ∷ [])) false
     → AllButSized (section headers blocks trailers)
 but_sized headers blocks trailers few held order =
-    let count = label_count (length blocks) in
-    let fits : TrailFits (trail true 1 1 count) =
-    record { head = head_fits; blocks = label_count_most (length blocks) } in
-    record {
-      volumes = (plain_volume_is, tt);
-      header = (
-        head 1 1,
-        record { label = hdr1_is 1 1 head_fits; set_id = refl; file = refl; sect = refl },
-      );
-      trailer = (
-        trail true 1 1 count,
-        record { label = trailer_is true 1 1 count fits; file = refl; sect = refl; count = refl },
-      );
-      volume = (lit≤ tt, lit≤ tt);
-      few = few;
-      files = (
-        record {
-          ends = refl;
-          alike = (
-            form shape,
-            (
-              record {
-                labels = record {
-                  head = head 1 1;
-                  second = second_of shape;
-                  hdr1 = hdr1_is 1 1 head_fits;
-                  hdr2 = second_is kinds.Hdr2 shape tt shape_fits;
-                  told = refl;
-                };
-                held = held;
-              },
-              tt,
-            ),
-          );
-          order = order;
-        },
-        tt,
-      );
-      first = refl;
-      goes_on = tt;
+    search (makes, alike_file shape, told, hdr1_is 1 1 head_fits, label) depth 9
+  where
+    label : IsTrail1 (trailer true 1 1 (label_count (length blocks)))
+        (trail true 1 1 (label_count (length blocks)))
+    label = trailer_is true 1 1 (label_count (length blocks))
+        (record { head = head_fits; blocks = label_count_most (length blocks) })
+
+    told : TellsForm (form shape) (section headers blocks trailers)
+    told = record {
+      head = head 1 1;
+      second = second_of shape;
+      hdr1 = hdr1_is 1 1 head_fits;
+      hdr2 = second_is kinds.Hdr2 shape tt shape_fits;
+      told = refl;
     }
 
 -- ---- empty blocks
@@ -124,10 +86,7 @@ but_sized headers blocks trailers few held order =
 -- a further header block is empty
 empty_header : AllButSized (section ([] ∷ []) [] [])
     × (IsLawful (set_of (section ([] ∷ []) [] [])) → ⊥)
-empty_header = (
-  but_sized ([] ∷ []) [] [] (lit≤ tt) tt refl,
-  λ l. absurd (omega (arith, l.each.0.sized.1.1.0.0)),
-)
+empty_header = search (makes, but_sized) depth 9
 
 -- a data block is empty, and has no parts
 abbrev no_bytes : Filled
@@ -155,13 +114,8 @@ of_size n a b =
     (omega (arith, a, length-replicate {A = ℕ} n 0), omega (arith, b, length-replicate {A = ℕ} n 0))
 
 long_lawful : (n : ℕ) → 1 ≤ n → n ≤ 99999 → IsLawful (set_of (ended_by n))
-long_lawful n a b = lawful_if_sized (ended_by n) (but_size n) (
-  eighty (hdr1 1 1) (hdr1_is 1 1 head_fits).kind.size,
-  (
-    second_sized kinds.Hdr2 shape tt shape_fits,
-    (tt, (tt, (eighty (trailer true 1 1 0) refl, (of_size n a b, (tt, tt))))),
-  ),
-)
+long_lawful n a b = search (makes, lawful_if_sized, but_size, second_sized, shape_fits, of_size)
+    depth 9
 
 too_long : (n : ℕ) → 99999 < n → AllButSized (ended_by n) × (IsLawful (set_of (ended_by n)) → ⊥)
 too_long n h = (
@@ -201,35 +155,9 @@ behind_two_holds =
 abbrev offset_set : FileSet
 offset_set = set_of (made offset_shape 1 1 1 true (behind_two ∷ []))
 
-one_fits : Fit 1 1 1
-one_fits = fit_of 1 1 1 (lit≤ tt) (lit≤ tt) (lit≤ tt) (lit≤ tt) (lit≤ tt)
-
 offset_lawful : IsLawful offset_set
-offset_lawful = record {
-  volumes = (plain_volume_is, tt);
-  each = (
-    made_section offset_shape 1 1 1 1 true (behind_two ∷ []) offset_fits one_fits (lit≤ tt)
-        (lit≤ tt) ((lit< tt, lit≤ tt), tt),
-    tt,
-  );
-  files = (
-    record {
-      ends = refl;
-      alike = (
-        form offset_shape,
-        (
-          made_form offset_shape 1 1 1 true (behind_two ∷ []) offset_fits one_fits
-              (behind_two_holds, tt),
-          tt,
-        ),
-      );
-      order = (refl, refl);
-    },
-    tt,
-  );
-  first = refl;
-  goes_on = tt;
-}
+offset_lawful =
+    search (makes, alike_file offset_shape, offset_fits, behind_two_holds) depth 9
 
 offset_before : before offset_set 1 Finished ≡ whole (record_of 1) ∷ []
 offset_before = refl

@@ -1,4 +1,7 @@
 -- For each clause of a valid file, a file that violates only this clause.
+use Rattle.tape_set.proofs.Worked.{makes, alike_file}
+use Rattle.tape_set.specs.Lawful.{IsFile}
+use Rattle.std.specs.List.{AllByRecursion}
 use Rattle.std.proofs.Common.{◌≡◌, [], ◌∷◌, length, true, false, refl, sym, ap, ◌∙◌, subst, arith}
 use Rattle.std.proofs.Common.{lit≤, lit<}
 use Rattle.std.specs.Prelude.{replicate}
@@ -25,19 +28,10 @@ abbrev unended : FileSet
 unended = set_of (made shape 1 1 1 false [])
 
 no_end : OnlyFiles unended × HasForm (form shape) (made shape 1 1 1 false [])
-no_end = (
-  record {
-    volumes = (plain_volume_is, tt);
-    each = (
-      empty_section 1 1 1 1 false (lit≤ tt) (lit≤ tt) (lit≤ tt) (lit≤ tt) (lit≤ tt) (lit≤ tt),
-      tt,
-    );
-    first = refl;
-    goes_on = tt;
-    refused = λ h. let e : false ≡ true = h.0.ends in absurd (cc);
-  },
-  empty_form 1 1 1 false (lit≤ tt) (lit≤ tt) (lit≤ tt) (lit≤ tt),
-)
+no_end = search (makes, no, shape_fits) depth 9
+  where
+    no : AllByRecursion IsFile unended.files → ⊥
+    no h = let e : false ≡ true = h.0.ends in absurd (cc)
 
 -- the second section of the file has another offset
 abbrev other_shape : Shape
@@ -62,20 +56,10 @@ two_forms = record {
 
 not_alike : OnlyFiles two_forms
     × Ends (made shape 1 1 1 false [] ∷ made other_shape 2 1 2 true [] ∷ [])
-not_alike = (
-  record {
-    volumes = (plain_volume_is, (plain_volume_is, tt));
-    each = (
-      empty_section 2 1 1 1 false (lit≤ tt) (lit≤ tt) (lit≤ tt) (lit≤ tt) (lit≤ tt) (lit≤ tt),
-      (
-        made_section other_shape 2 2 1 2 true [] other_fits
-            (fit_of 1 2 0 (lit≤ tt) (lit≤ tt) (lit≤ tt) (lit≤ tt) (lit≤ tt)) (lit≤ tt) (lit≤ tt) tt,
-        tt,
-      ),
-    );
-    first = refl;
-    goes_on = (refl, tt);
-    refused = λ h.
+not_alike = search (makes, no, shape_fits, other_fits) depth 9
+  where
+    no : AllByRecursion IsFile two_forms.files → ⊥
+    no h =
         let told : FileForm = h.0.alike.0 in
         let a : told ≡ form shape =
         one_form (made shape 1 1 1 false []) told (form shape) h.0.alike.1.0.labels
@@ -84,10 +68,7 @@ not_alike = (
         (form other_shape) h.0.alike.1.1.0.labels (made_form other_shape 2 1 2 true [] other_fits
         (fit_of 1 2 0 (lit≤ tt) (lit≤ tt) (lit≤ tt) (lit≤ tt) (lit≤ tt)) tt).labels in
         let e : 0 ≡ 2 = ap (λ v. v.offset) (sym a ∙ b) in
-        absurd (omega arith);
-  },
-  (refl, refl),
-)
+        absurd (omega (arith, e))
 
 -- a block does not contain its parts
 abbrev letters : Filled
@@ -99,29 +80,7 @@ unheld = set_of (made shape 1 1 1 true (letters ∷ []))
 not_held : OnlyFiles unheld × TellsForm (form shape) (made shape 1 1 1 true (letters ∷ []))
     × Ends (made shape 1 1 1 true (letters ∷ []) ∷ [])
     × InOrder false (section_parts (made shape 1 1 1 true (letters ∷ []) ∷ [])) false
-not_held = (
-  record {
-    volumes = (plain_volume_is, tt);
-    each = (
-      made_section shape 1 1 1 1 true (letters ∷ []) shape_fits (fit_of 1 1 1 (lit≤ tt) (lit≤ tt)
-          (lit≤ tt) (lit≤ tt) (lit≤ tt)) (lit≤ tt) (lit≤ tt) ((lit< tt, lit≤ tt), tt),
-      tt,
-    );
-    first = refl;
-    goes_on = tt;
-    refused = λ h.
-        let told : FileForm = h.0.alike.0 in
-        let a : told ≡ form shape = one_form (made shape 1 1 1 true (letters ∷ [])) told
-        (form shape) h.0.alike.1.0.labels labels in
-        let held : Holds Fixed 80 0 (replicate 80 65) [] = (subst
-        (λ f. Holds f.format f.rec_len f.offset (replicate 80 65) []) a h.0.alike.1.0.held.0) in
-        let e : 80 ≡ length held.0 = ap length held.1.body in
-        absurd (omega (arith, held.2.1));
-  },
-  labels,
-  refl,
-  refl,
-)
+not_held = search (makes, no, labels, shape_fits) depth 9
   where
     labels : TellsForm (form shape) (made shape 1 1 1 true (letters ∷ []))
     labels = record {
@@ -135,6 +94,16 @@ not_held = (
         told : TellsForm (form shape) base
         told = (empty_form 1 1 1 true (lit≤ tt) (lit≤ tt) (lit≤ tt) (lit≤ tt)).labels
 
+    no : AllByRecursion IsFile unheld.files → ⊥
+    no h =
+        let told : FileForm = h.0.alike.0 in
+        let a : told ≡ form shape = one_form (made shape 1 1 1 true (letters ∷ [])) told
+        (form shape) h.0.alike.1.0.labels labels in
+        let held : Holds Fixed 80 0 (replicate 80 65) [] = (subst
+        (λ f. Holds f.format f.rec_len f.offset (replicate 80 65) []) a h.0.alike.1.0.held.0) in
+        let e : 80 ≡ length held.0 = ap length held.1.body in
+        absurd (omega (arith, held.2.1))
+
 -- a record is unfinished at the end of the file
 abbrev unfinished : FileSet
 unfinished = set_of (made span.shape 1 1 1 true (span.first_block ∷ []))
@@ -142,18 +111,10 @@ unfinished = set_of (made span.shape 1 1 1 true (span.first_block ∷ []))
 begun_at_end : OnlyFiles unfinished
     × HasForm (form span.shape) (made span.shape 1 1 1 true (span.first_block ∷ []))
 begun_at_end = (
-  record {
-    volumes = (plain_volume_is, tt);
-    each = (
-      made_section span.shape 1 1 1 1 true (span.first_block ∷ []) span.shape_fits
-          (fit_of 1 1 1 (lit≤ tt) (lit≤ tt) (lit≤ tt) (lit≤ tt) (lit≤ tt)) (lit≤ tt) (lit≤ tt)
-          ((lit< tt, lit≤ tt), tt),
-      tt,
-    );
-    first = refl;
-    goes_on = tt;
-    refused = λ h. let e : true ≡ false = h.0.order.1 in absurd (cc);
-  },
-  made_form span.shape 1 1 1 true (span.first_block ∷ []) span.shape_fits (fit_of 1 1 1 (lit≤ tt)
-      (lit≤ tt) (lit≤ tt) (lit≤ tt) (lit≤ tt)) (span.first_written.holds, tt),
+  search (makes, no, span.shape_fits) depth 9,
+  made_form span.shape 1 1 1 true (span.first_block ∷ []) span.shape_fits (search makes)
+      (span.first_written.holds, tt),
 )
+  where
+    no : AllByRecursion IsFile unfinished.files → ⊥
+    no h = let e : true ≡ false = h.0.order.1 in absurd (cc)

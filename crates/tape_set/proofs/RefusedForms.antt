@@ -1,5 +1,7 @@
 -- Small sets with invalid volume labels or second labels, and files whose sections state different
 -- forms.
+use Rattle.tape_set.proofs.Worked.{makes, alike_file}
+use Rattle.std.proofs.Common.{lit<}
 use Rattle.std.proofs.Common.{◌≡◌, ℕ, List, [], ◌∷◌, ◌++◌, true, false, refl, sym, ap, ◌∙◌, inl}
 use Rattle.std.proofs.Common.{inr, arith, codes, lit≤}
 use Rattle.std.specs.Prelude.{replicate, slice_index}
@@ -71,11 +73,7 @@ volume_labels : IsVolume (record {
   vol1 = vol1;
   labels = (codes "VOL2" ++ replicate 76 32) ∷ (codes "UVL9" ++ replicate 76 32) ∷ [];
 })
-volume_labels = record {
-  vol1 = record { size = refl; named = refl };
-  labels =
-      (record { size = refl; named = inl refl }, (record { size = refl; named = inr refl }, tt));
-}
+volume_labels = search (makes) depth 9
 
 -- ---- second labels
 
@@ -88,17 +86,10 @@ with_second label = record (made shape 1 1 1 true []) { hdr2 = label }
 
 second_trailer_first : (told : FileForm)
     → TellsForm told (with_second (second kinds.Eof2 shape)) → ⊥
-second_trailer_first told h =
-    let named : positions (second kinds.Eof2 shape) 1 4 ≡ identifier kinds.Hdr2 =
-    h.hdr2.kind.named in
-    let e : 69 ≡ 72 = ap (λ v. slice_index v 0) named in
-    absurd (omega (arith, e))
+second_trailer_first told h = search (makes) depth 9
 
 no_second : (told : FileForm) → TellsForm told (with_second (replicate 80 32)) → ⊥
-no_second told h =
-    let named : positions (replicate 80 32) 1 4 ≡ identifier kinds.Hdr2 = h.hdr2.kind.named in
-    let e : 32 ≡ 72 = ap (λ v. slice_index v 0) named in
-    absurd (omega (arith, e))
+no_second told h = search (makes) depth 9
 
 -- ---- sections that state different forms
 
@@ -106,11 +97,6 @@ no_second told h =
 apart : (h g : Section) (a b : FileForm) → TellsForm a h → TellsForm b g → (a ≡ b → ⊥)
     → (told : FileForm) → TellsForm told h → TellsForm told g → ⊥
 apart h g a b x y differ told u v = differ (sym (one_form h told a u x) ∙ one_form g told b v y)
-
-told_of : (other : Shape) → Head2Fits (second_of other)
-    → TellsForm (form other) (made other 2 1 2 true [])
-told_of other fits = (made_form other 2 1 2 true [] fits
-    (fit_of 1 2 0 (lit≤ tt) (lit≤ tt) (lit≤ tt) (lit≤ tt) (lit≤ tt)) tt).labels
 
 -- another record length, in format F
 abbrev longer : Shape
@@ -125,14 +111,7 @@ longer = record {
 
 other_record_length : (told : FileForm) → TellsForm told (made shape 1 1 1 true [])
     → TellsForm told (made longer 2 1 2 true []) → ⊥
-other_record_length =
-    apart (made shape 1 1 1 true []) (made longer 2 1 2 true []) (form shape) (form longer) plain
-    (told_of longer (record {
-      block_len = lit≤ tt;
-      rec_len = (lit≤ tt, lit≤ tt);
-      offset = lit≤ tt;
-    }))
-    (λ e. let d : 80 ≡ 100 = ap (λ v. v.rec_len) e in absurd (omega arith))
+other_record_length = search (makes, apart, plain) depth 9
 
 -- another record format
 abbrev counted : Shape
@@ -147,36 +126,21 @@ counted = record {
 
 other_format : (told : FileForm) → TellsForm told (made shape 1 1 1 true [])
     → TellsForm told (made counted 2 1 2 true []) → ⊥
-other_format =
-    apart (made shape 1 1 1 true []) (made counted 2 1 2 true []) (form shape) (form counted) plain
-    (told_of counted
-    (record { block_len = lit≤ tt; rec_len = (lit≤ tt, lit≤ tt); offset = lit≤ tt }))
-    (λ e. let d : Fixed ≡ Counted = ap (λ v. v.format) e in absurd (cc))
+other_format = search (makes, apart, plain) depth 9
 
 -- a first header with another file identifier
 abbrev other_head : Head1
 other_head = record (head 1 2) { file_id = codes "WAGES            " }
 
 other_head_is : IsHead1 (text_of (head1_pieces other_head)) other_head
-other_head_is =
-    head1_text_is other_head (record { sect = (lit≤ tt, lit≤ tt); sequence = (lit≤ tt, lit≤ tt) })
-    (head_wide kinds.Hdr1 other_head 0 (wide 1 2 other_head.file_id other_head.set_id refl refl))
+other_head_is = search (lit≤, tt, head1_text_is, head_wide, wide)
 
 abbrev other_file_section : Section
 other_file_section = record (made shape 2 1 2 true []) { hdr1 = text_of (head1_pieces other_head) }
 
 other_file_id : (told : FileForm) → TellsForm told (made shape 1 1 1 true [])
     → TellsForm told other_file_section → ⊥
-other_file_id = apart (made shape 1 1 1 true []) other_file_section (form shape)
-    (form_of other_head (second_of shape)) plain
-    (record {
-      head = other_head;
-      second = second_of shape;
-      hdr1 = other_head_is;
-      hdr2 = second_is kinds.Hdr2 shape tt shape_fits;
-      told = refl;
-    })
-    (λ e. let d : 80 ≡ 87 = ap (λ v. slice_index v.file_id 0) e in absurd (omega arith))
+other_file_id = search (makes, apart, plain, other_head_is, second_is, shape_fits) depth 9
 
 -- another block length, which is not part of the form
 abbrev shorter : Shape

@@ -1,5 +1,7 @@
 -- Sets that are not tight because of a later section or file, or because of the number of their
 -- shapes.
+use Rattle.tape_set.proofs.Worked.{makes, alike_file}
+use Rattle.std.proofs.Common.{lit<}
 use Rattle.std.proofs.Common.{◌≡◌, ◌≤◌, ℕ, List, [], ◌∷◌, ◌++◌, true, false, refl, ap, arith, codes}
 use Rattle.std.proofs.Common.{lit≤}
 use Rattle.std.specs.Prelude.{replicate, length}
@@ -19,22 +21,10 @@ use Rattle.tape_set.proofs.RefusedTightFiles.{set_of}
 -- ---- one shape for each file
 
 no_shape : OnlyFiles no_records 100000 []
-no_shape = record {
-  plain = (refl, tt);
-  last = refl;
-  ends = (record { volume_end = lit≤ tt; file_end = λ e. refl }, tt);
-  changes = tt;
-  refused = λ h. absurd h;
-}
+no_shape = search (lit≤, tt)
 
 shape_too_many : OnlyFiles no_records 100000 (shape ∷ shape ∷ [])
-shape_too_many = record {
-  plain = (refl, tt);
-  last = refl;
-  ends = (record { volume_end = lit≤ tt; file_end = λ e. refl }, tt);
-  changes = tt;
-  refused = λ h. absurd h.1;
-}
+shape_too_many = search (makes) depth 9
 
 -- ---- further trailer labels
 
@@ -47,31 +37,14 @@ more_trailers = record (made shape 1 1 1 true []) {
 
 third_trailer : OnlyFiles (set_of more_trailers) 100000 (shape ∷ []) × IsWritable shape
     × (least_capacity shape ≤ 100000) × packing.IsTight shape [] (blocks_of_all more_trailers)
-third_trailer = (
-  record {
-    plain = (refl, tt);
-    last = refl;
-    ends = (record { volume_end = lit≤ tt; file_end = λ e. refl }, tt);
-    changes = tt;
-    refused = λ h. let e : 2 ≡ 1 = ap length h.0.labels.0.trailers in absurd (omega arith);
-  },
-  writable,
-  lit≤ tt,
-  nothing_packed shape,
-)
+third_trailer = search (makes, writable, nothing_packed) depth 9
 
 -- ---- space on the volume of the second file
 
 small_file : (capacity volume file : ℕ) → 1042 ≤ capacity
     → IsTightFile capacity span.shape (made span.shape volume file 1 true [] ∷ [])
-small_file capacity volume file room = record {
-  writable = span.writable;
-  room = room;
-  labels = (made_plain span.shape volume file 1 true [] span.shape_fits, tt);
-  records = [];
-  lengths = tt;
-  packed = nothing_packed span.shape;
-}
+small_file capacity volume file room =
+    search (makes, writable, span.writable, span.shape_fits, nothing_packed) depth 9
 
 -- two files without blocks are on a volume of 1,187 bytes: after the end of the second, the headers
 -- of a further file and the end of a volume would need 1,188
@@ -83,13 +56,7 @@ two_small = record {
 }
 
 no_room_for_second_end : OnlyEnds two_small 1187 (span.shape ∷ span.shape ∷ [])
-no_room_for_second_end = record {
-  plain = (refl, tt);
-  last = refl;
-  files = (small_file 1187 1 1 (lit≤ tt), (small_file 1187 1 2 (lit≤ tt), tt));
-  changes = (refl, tt);
-  refused = λ h. let e : false ≡ true = h.1.0.file_end refl in absurd (cc);
-}
+no_room_for_second_end = search (makes) depth 9
 
 -- the third file begins on a new volume, but the second one does not
 abbrev late_change : FileSet
@@ -101,19 +68,4 @@ late_change = record {
 }
 
 changed_behind_second : OnlyChanges late_change 100000 (shape ∷ shape ∷ shape ∷ [])
-changed_behind_second = record {
-  plain = (refl, (refl, tt));
-  last = refl;
-  files = (
-    empty_file 100000 1 1 (lit≤ tt),
-    (empty_file 100000 1 2 (lit≤ tt), (empty_file 100000 2 3 (lit≤ tt), tt)),
-  );
-  ends = (
-    record { volume_end = lit≤ tt; file_end = λ e. refl },
-    (
-      record { volume_end = lit≤ tt; file_end = λ e. refl },
-      (record { volume_end = lit≤ tt; file_end = λ e. refl }, tt),
-    ),
-  );
-  refused = λ h. let e : 2 ≡ 1 = h.1.0 in absurd (omega arith);
-}
+changed_behind_second = search (makes, empty_file) depth 9

@@ -1,5 +1,9 @@
 -- Small sets that are not valid because of the end of a file, the start of its parts, or the order
 -- of its sections.
+use Rattle.tape_set.proofs.WorkedFile.{shape_fits}
+use Rattle.tape_set.specs.Lawful.{IsFile}
+use Rattle.std.specs.List.{AllByRecursion}
+use Rattle.tape_set.proofs.Worked.{makes, alike_file}
 use Rattle.std.proofs.Common.{◌≡◌, [], ◌∷◌, true, false, refl, inl, inr, arith, lit≤, lit<}
 use Rattle.tape_set.specs.Layout.{FileSet}
 use Rattle.tape_set.specs.Lawful.{HasForm}
@@ -15,13 +19,7 @@ use Rattle.tape_set.proofs.RefusedSets.{empty_file}
 
 -- a file has no section
 no_sections : OnlyFiles (record { set_id = set_id; volumes = plain_volume ∷ []; files = [] ∷ [] })
-no_sections = record {
-  volumes = (plain_volume_is, tt);
-  each = tt;
-  first = tt;
-  goes_on = tt;
-  refused = λ h. absurd h.0.ends;
-}
+no_sections = search (makes) depth 9
 
 -- both sections end with EOF1
 abbrev ended_twice : FileSet
@@ -32,16 +30,10 @@ ended_twice = record {
 }
 
 ends_in_first : OnlyFiles ended_twice
-ends_in_first = record {
-  volumes = (plain_volume_is, (plain_volume_is, tt));
-  each = (
-    empty_section 2 1 1 1 true (lit≤ tt) (lit≤ tt) (lit≤ tt) (lit≤ tt) (lit≤ tt) (lit≤ tt),
-    (empty_section 2 2 1 2 true (lit≤ tt) (lit≤ tt) (lit≤ tt) (lit≤ tt) (lit≤ tt) (lit≤ tt), tt),
-  );
-  first = refl;
-  goes_on = (refl, tt);
-  refused = λ h. let e : true ≡ false = h.0.ends.0 in absurd (cc);
-}
+ends_in_first = search (makes, no, shape_fits) depth 9
+  where
+    no : AllByRecursion IsFile ended_twice.files → ⊥
+    no h = let e : true ≡ false = h.0.ends.0 in absurd (cc)
 
 -- both sections end with EOV1
 abbrev never_ended : FileSet
@@ -52,16 +44,10 @@ never_ended = record {
 }
 
 ends_in_none : OnlyFiles never_ended
-ends_in_none = record {
-  volumes = (plain_volume_is, (plain_volume_is, tt));
-  each = (
-    empty_section 2 1 1 1 false (lit≤ tt) (lit≤ tt) (lit≤ tt) (lit≤ tt) (lit≤ tt) (lit≤ tt),
-    (empty_section 2 2 1 2 false (lit≤ tt) (lit≤ tt) (lit≤ tt) (lit≤ tt) (lit≤ tt) (lit≤ tt), tt),
-  );
-  first = refl;
-  goes_on = (refl, tt);
-  refused = λ h. let e : false ≡ true = h.0.ends.1 in absurd (cc);
-}
+ends_in_none = search (makes, no, shape_fits) depth 9
+  where
+    no : AllByRecursion IsFile never_ended.files → ⊥
+    no h = let e : false ≡ true = h.0.ends.1 in absurd (cc)
 
 -- ---- the start of its parts
 
@@ -72,21 +58,13 @@ headless = set_of (made span.shape 1 1 1 true (span.last_block ∷ []))
 begun_before : OnlyFiles headless
     × HasForm (form span.shape) (made span.shape 1 1 1 true (span.last_block ∷ []))
 begun_before = (
-  record {
-    volumes = (plain_volume_is, tt);
-    each = (
-      made_section span.shape 1 1 1 1 true (span.last_block ∷ []) span.shape_fits
-          (fit_of 1 1 1 (lit≤ tt) (lit≤ tt) (lit≤ tt) (lit≤ tt) (lit≤ tt)) (lit≤ tt) (lit≤ tt)
-          ((lit< tt, lit≤ tt), tt),
-      tt,
-    );
-    first = refl;
-    goes_on = tt;
-    refused = λ h. let e : true ≡ false = h.0.order.0 in absurd (cc);
-  },
-  made_form span.shape 1 1 1 true (span.last_block ∷ []) span.shape_fits (fit_of 1 1 1 (lit≤ tt)
-      (lit≤ tt) (lit≤ tt) (lit≤ tt) (lit≤ tt)) (span.last_written.holds, tt),
+  search (makes, no, span.shape_fits) depth 9,
+  made_form span.shape 1 1 1 true (span.last_block ∷ []) span.shape_fits (search makes)
+      (span.last_written.holds, tt),
 )
+  where
+    no : AllByRecursion IsFile headless.files → ⊥
+    no h = let e : true ≡ false = h.0.order.0 in absurd (cc)
 
 -- ---- the order of sections
 
@@ -99,29 +77,7 @@ volume_skipped = record {
 }
 
 section_skips : OnlyGoesOn volume_skipped
-section_skips = record {
-  volumes = (plain_volume_is, (plain_volume_is, (plain_volume_is, tt)));
-  each = (
-    empty_section 3 1 1 1 false (lit≤ tt) (lit≤ tt) (lit≤ tt) (lit≤ tt) (lit≤ tt) (lit≤ tt),
-    (empty_section 3 3 1 2 true (lit≤ tt) (lit≤ tt) (lit≤ tt) (lit≤ tt) (lit≤ tt) (lit≤ tt), tt),
-  );
-  files = (
-    record {
-      ends = (refl, refl);
-      alike = (
-        form shape,
-        (
-          empty_form 1 1 1 false (lit≤ tt) (lit≤ tt) (lit≤ tt) (lit≤ tt),
-          (empty_form 3 1 2 true (lit≤ tt) (lit≤ tt) (lit≤ tt) (lit≤ tt), tt),
-        ),
-      );
-      order = refl;
-    },
-    tt,
-  );
-  first = refl;
-  refused = λ h. let d : 3 ≡ 2 = h.0 in absurd (omega arith);
-}
+section_skips = search (makes, alike_file shape, empty_section, empty_form) depth 9
 
 -- a file is on two volumes, and the next file begins on the first of them
 abbrev volume_again : FileSet
@@ -133,33 +89,4 @@ volume_again = record {
 }
 
 file_goes_back : OnlyGoesOn volume_again
-file_goes_back = record {
-  volumes = (plain_volume_is, (plain_volume_is, tt));
-  each = (
-    empty_section 2 1 1 1 false (lit≤ tt) (lit≤ tt) (lit≤ tt) (lit≤ tt) (lit≤ tt) (lit≤ tt),
-    (
-      empty_section 2 2 1 2 true (lit≤ tt) (lit≤ tt) (lit≤ tt) (lit≤ tt) (lit≤ tt) (lit≤ tt),
-      (empty_section 2 1 2 1 true (lit≤ tt) (lit≤ tt) (lit≤ tt) (lit≤ tt) (lit≤ tt) (lit≤ tt), tt),
-    ),
-  );
-  files = (
-    record {
-      ends = (refl, refl);
-      alike = (
-        form shape,
-        (
-          empty_form 1 1 1 false (lit≤ tt) (lit≤ tt) (lit≤ tt) (lit≤ tt),
-          (empty_form 2 1 2 true (lit≤ tt) (lit≤ tt) (lit≤ tt) (lit≤ tt), tt),
-        ),
-      );
-      order = refl;
-    },
-    (empty_file 1 2 refl (lit≤ tt) (lit≤ tt), tt),
-  );
-  first = refl;
-  refused = λ h. elim h.1.0 [
-    | inl e ↦ absurd (let d : 1 ≡ 2 = e in omega arith)
-    | inr e ↦ absurd
-        (let d : 1 ≡ 3 = e in omega arith)
-  ];
-}
+file_goes_back = search (makes, alike_file shape, empty_section, empty_form, empty_file) depth 9

@@ -1,5 +1,6 @@
 -- Second labels that do not state the shape, a second file that is not tight, and a change of
 -- volumes before the end of a file that has no room.
+use Rattle.tape_set.proofs.Worked.{makes, alike_file}
 use Rattle.std.proofs.Common.{◌≡◌, ◌≤◌, ℕ, List, [], ◌∷◌, ◌++◌, get_or, true, false, refl, sym, ap}
 use Rattle.std.proofs.Common.{subst, arith, lit≤, lit<}
 use Rattle.std.specs.Prelude.{map, replicate, slice_index, Ok}
@@ -24,13 +25,7 @@ use Rattle.tape_set.proofs.RefusedTight.{OnlyFiles, OnlyChanges}
 -- a label states one block length
 one_length : (label : List ℕ) (kind : Kind) (h g : Head2) → IsHead2 label kind h
     → IsHead2 label kind g → h.block_len ≡ g.block_len
-one_length label kind h g a b = ap (λ v. v.block_len) same
-  where
-    same : h ≡ g
-    same =
-        let x : head2_at label ≡ Ok h = head2_again label kind h a in
-        let y : head2_at label ≡ Ok g = head2_again label kind g b in
-        cc
+one_length label kind h g a b = search (makes, head2_at, head2_again) depth 9
 
 shorter_fits : Head2Fits (second_of shorter)
 shorter_fits = record { block_len = lit≤ tt; rec_len = (lit≤ tt, lit≤ tt); offset = lit≤ tt }
@@ -40,37 +35,21 @@ abbrev other_header : Section
 other_header = record (made shape 1 1 1 true []) { hdr2 = second kinds.Hdr2 shorter }
 
 other_in_header : HasPlainLabels shape other_header → ⊥
-other_in_header p =
-    let e : 400 ≡ 800 = one_length (second kinds.Hdr2 shorter) kinds.Hdr2 (second_of shorter)
-    (second_of shape) (second_is kinds.Hdr2 shorter tt shorter_fits) p.hdr2 in
-    absurd (omega (arith, e))
+other_in_header p = search (makes, one_length, second_is, shorter_fits) depth 9
 
 -- the block length 400 in EOF2 only
 abbrev other_trailer : Section
 other_trailer = record (made shape 1 1 1 true []) { trailers = second kinds.Eof2 shorter ∷ [] }
 
 other_in_trailer : HasPlainLabels shape other_trailer → ⊥
-other_in_trailer p =
-    let same : second kinds.Eof2 shorter ∷ [] ≡ p.second ∷ [] = p.trailers in
-    let it : second kinds.Eof2 shorter ≡ p.second = ap (λ v. get_or v 0 []) same in
-    let tells : IsHead2 (second kinds.Eof2 shorter) kinds.Eof2 (second_of shape) =
-    subst (λ v. IsHead2 v kinds.Eof2 (second_of shape)) (sym it) p.trailer2 in
-    let e : 400 ≡ 800 = one_length (second kinds.Eof2 shorter) kinds.Eof2 (second_of shorter)
-    (second_of shape) (second_is kinds.Eof2 shorter tt shorter_fits) tells in
-    absurd (omega (arith, e))
+other_in_trailer p = search (makes, one_length, second_is, shorter_fits) depth 9
 
 -- EOF2 after EOV1
 abbrev ended_behind : Section
 ended_behind = record (made shape 1 1 1 false []) { trailers = second kinds.Eof2 shape ∷ [] }
 
 ended_behind_volume_end : HasPlainLabels shape ended_behind → ⊥
-ended_behind_volume_end p =
-    let same : second kinds.Eof2 shape ∷ [] ≡ p.second ∷ [] = p.trailers in
-    let it : second kinds.Eof2 shape ≡ p.second = ap (λ v. get_or v 0 []) same in
-    let named : IsHead2 (second kinds.Eof2 shape) kinds.Eov2 (second_of shape) =
-    subst (λ v. IsHead2 v kinds.Eov2 (second_of shape)) (sym it) p.trailer2 in
-    let e : 70 ≡ 86 = ap (λ v. slice_index v 2) named.kind.named in
-    absurd (omega (arith, e))
+ended_behind_volume_end p = search (makes) depth 9
 
 -- ---- the second of two files
 
@@ -83,19 +62,7 @@ two_empty = record {
 
 -- the second file was to have blocks of 400 bytes
 second_file_not_tight : OnlyFiles two_empty 100000 (shape ∷ shorter ∷ [])
-second_file_not_tight = record {
-  plain = (refl, tt);
-  last = refl;
-  ends = (
-    record { volume_end = lit≤ tt; file_end = λ e. refl },
-    (record { volume_end = lit≤ tt; file_end = λ e. refl }, tt),
-  );
-  changes = (refl, tt);
-  refused = λ h.
-      let e : 800 ≡ 400 = one_length (second kinds.Hdr2 shape) kinds.Hdr2 (second_of shape)
-      (second_of shorter) (second_is kinds.Hdr2 shape tt shape_fits) h.1.0.labels.0.hdr2 in
-      absurd (omega arith);
-}
+second_file_not_tight = search (makes, one_length, second_is, shape_fits) depth 9
 
 -- ---- the end of a file does not fit, although a block would
 
@@ -134,29 +101,11 @@ ten_packed capacity room = record {
 }
 
 ended_on_second_tight : IsTight ended_on_second 1083 (span.shape ∷ [])
-ended_on_second_tight = record {
-  plain = (refl, (refl, tt));
-  last = refl;
-  files = (ten_packed 1083 (lit≤ tt), tt);
-  ends = (
-    record { volume_end = lit≤ tt; file_end = λ e. absurd (cc) },
-    (record { volume_end = lit≤ tt; file_end = λ e. refl }, tt),
-  );
-  changes = (refl, tt);
-}
+ended_on_second_tight = search (lit≤, tt, ten_packed)
 
 -- with one more byte the end of the file fits, so the file must end there
 end_would_fit : OnlyChanges ended_on_second 1084 (span.shape ∷ [])
-end_would_fit = record {
-  plain = (refl, (refl, tt));
-  last = refl;
-  files = (ten_packed 1084 (lit≤ tt), tt);
-  ends = (
-    record { volume_end = lit≤ tt; file_end = λ e. absurd (cc) },
-    (record { volume_end = lit≤ tt; file_end = λ e. refl }, tt),
-  );
-  refused = λ h. let e : true ≡ false = h.0 in absurd (cc);
-}
+end_would_fit = search (makes, ten_packed) depth 9
 
 ended_on_second_sizes : map items_size (all_items ended_on_second) ≡ 716 ∷ 456 ∷ []
 ended_on_second_sizes = refl

@@ -1,5 +1,6 @@
 -- For each further clause of a valid set, and of its volumes and files, a small set that violates
 -- only this clause.
+use Rattle.tape_set.proofs.Worked.{makes, alike_file}
 use Rattle.std.proofs.Common.{◌≡◌, ◌≤◌, ℕ, [], ◌∷◌, length, Bool, true, false, refl, ap, inl, inr}
 use Rattle.std.proofs.Common.{arith, codes, lit≤}
 use Rattle.std.specs.Prelude.{replicate, slice_index}
@@ -52,20 +53,9 @@ pub record OnlyGoesOn (set : FileSet) : Type 0 where
   pub refused : Chain GoesOn (sections set) → ⊥
 
 -- a set that violates one of the clauses is not valid
-volumes_refuse : (set : FileSet) → OnlyVolumes set → IsLawful set → ⊥
-volumes_refuse set only l = only.refused l.volumes
-
-each_refuses : (set : FileSet) → OnlyEach set → IsLawful set → ⊥
-each_refuses set only l = only.refused l.each
-
-files_refuse : (set : FileSet) → OnlyFiles set → IsLawful set → ⊥
-files_refuse set only l = only.refused l.files
-
-first_refuses : (set : FileSet) → OnlyFirst set → IsLawful set → ⊥
-first_refuses set only l = only.refused l.first
-
-going_on_refuses : (set : FileSet) → OnlyGoesOn set → IsLawful set → ⊥
-going_on_refuses set only l = only.refused l.goes_on
+lawful_violates_none : (set : FileSet) → IsLawful set → (OnlyVolumes set → ⊥) × (OnlyEach set → ⊥)
+    × (OnlyFiles set → ⊥) × (OnlyFirst set → ⊥) × (OnlyGoesOn set → ⊥)
+lawful_violates_none set l = grind arith
 
 pub fit_of : (file sect n : ℕ) → 1 ≤ file → file ≤ 9999 → 1 ≤ sect → sect ≤ 9999 → n ≤ most_blocks
     → Fit file sect n
@@ -86,11 +76,7 @@ empty_form volume file sect eof c d e f =
 
 pub empty_file : (volume file : ℕ) → ends_file (made shape volume file 1 true []) ≡ true → 1 ≤ file
     → file ≤ 9999 → IsFile (made shape volume file 1 true [] ∷ [])
-empty_file volume file ends c d = record {
-  ends = ends;
-  alike = (form shape, (empty_form volume file 1 true c d (lit≤ tt) (lit≤ tt), tt));
-  order = refl;
-}
+empty_file volume file ends c d = search (makes, alike_file shape, empty_form) depth 9
 
 -- ---- volumes
 
@@ -98,14 +84,7 @@ abbrev pub on_volume : Volume → FileSet
 on_volume v = record { set_id = set_id; volumes = v ∷ []; files = (base ∷ []) ∷ [] }
 
 pub only_volume : (v : Volume) → (IsVolume v → ⊥) → OnlyVolumes (on_volume v)
-only_volume v wrong = record {
-  each =
-      (empty_section 1 1 1 1 true (lit≤ tt) (lit≤ tt) (lit≤ tt) (lit≤ tt) (lit≤ tt) (lit≤ tt), tt);
-  files = (empty_file 1 1 refl (lit≤ tt) (lit≤ tt), tt);
-  first = refl;
-  goes_on = tt;
-  refused = λ h. wrong h.0;
-}
+only_volume v wrong = search (makes, empty_section, empty_file) depth 9
 
 -- VOL1 begins otherwise
 no_vol1 : OnlyVolumes (on_volume (record { vol1 = replicate 80 32; labels = [] }))
@@ -132,13 +111,7 @@ abbrev no_volume : FileSet
 no_volume = record { set_id = set_id; volumes = []; files = (base ∷ []) ∷ [] }
 
 no_such_volume : OnlyEach no_volume
-no_such_volume = record {
-  volumes = tt;
-  files = (empty_file 1 1 refl (lit≤ tt) (lit≤ tt), tt);
-  first = refl;
-  goes_on = tt;
-  refused = λ h. absurd (omega (arith, h.0.volume.1));
-}
+no_such_volume = search (makes, empty_file) depth 9
 
 -- a further trailer block is empty
 abbrev with_empty_block : Section
@@ -189,14 +162,7 @@ begun_on_second = record {
 }
 
 not_on_first : OnlyFirst begun_on_second
-not_on_first = record {
-  volumes = (plain_volume_is, (plain_volume_is, tt));
-  each =
-      (empty_section 2 2 1 1 true (lit≤ tt) (lit≤ tt) (lit≤ tt) (lit≤ tt) (lit≤ tt) (lit≤ tt), tt);
-  files = (empty_file 2 1 refl (lit≤ tt) (lit≤ tt), tt);
-  goes_on = tt;
-  refused = λ h. let e : 2 ≡ 1 = h in absurd (omega arith);
-}
+not_on_first = search (makes, empty_section, empty_file) depth 9
 
 -- the second file begins on volume 3, although the first ends on volume 1
 abbrev volume_left_out : FileSet
@@ -207,20 +173,7 @@ volume_left_out = record {
 }
 
 not_on_next : OnlyGoesOn volume_left_out
-not_on_next = record {
-  volumes = (plain_volume_is, (plain_volume_is, (plain_volume_is, tt)));
-  each = (
-    empty_section 3 1 1 1 true (lit≤ tt) (lit≤ tt) (lit≤ tt) (lit≤ tt) (lit≤ tt) (lit≤ tt),
-    (empty_section 3 3 2 1 true (lit≤ tt) (lit≤ tt) (lit≤ tt) (lit≤ tt) (lit≤ tt) (lit≤ tt), tt),
-  );
-  files = (empty_file 1 1 refl (lit≤ tt) (lit≤ tt), (empty_file 3 2 refl (lit≤ tt) (lit≤ tt), tt));
-  first = refl;
-  refused = λ h. elim h.0 [
-    | inl e ↦ absurd (let d : 3 ≡ 1 = e in omega arith)
-    | inr e ↦ absurd
-        (let d : 3 ≡ 2 = e in omega arith)
-  ];
-}
+not_on_next = search (makes, empty_section, empty_file) depth 9
 
 -- both sections of a file are on the same volume
 abbrev volume_twice : FileSet
@@ -231,26 +184,4 @@ volume_twice = record {
 }
 
 both_on_one : OnlyGoesOn volume_twice
-both_on_one = record {
-  volumes = (plain_volume_is, tt);
-  each = (
-    empty_section 1 1 1 1 false (lit≤ tt) (lit≤ tt) (lit≤ tt) (lit≤ tt) (lit≤ tt) (lit≤ tt),
-    (empty_section 1 1 1 2 true (lit≤ tt) (lit≤ tt) (lit≤ tt) (lit≤ tt) (lit≤ tt) (lit≤ tt), tt),
-  );
-  files = (
-    record {
-      ends = (refl, refl);
-      alike = (
-        form shape,
-        (
-          empty_form 1 1 1 false (lit≤ tt) (lit≤ tt) (lit≤ tt) (lit≤ tt),
-          (empty_form 1 1 2 true (lit≤ tt) (lit≤ tt) (lit≤ tt) (lit≤ tt), tt),
-        ),
-      );
-      order = refl;
-    },
-    tt,
-  );
-  first = refl;
-  refused = λ h. let d : 1 ≡ 2 = h.0 in absurd (omega arith);
-}
+both_on_one = search (makes, alike_file shape, empty_section, empty_form) depth 9

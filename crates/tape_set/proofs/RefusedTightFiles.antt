@@ -1,4 +1,5 @@
 -- For each clause of a tight file, a file that violates only this clause.
+use Rattle.tape_set.proofs.Worked.{makes, alike_file}
 use Rattle.std.proofs.Common.{◌≡◌, ◌≤◌, List, [], ◌∷◌, ◌++◌, get_or, true, false, refl, sym, ap}
 use Rattle.std.proofs.Common.{subst, arith, codes, lit≤}
 use Rattle.std.specs.Prelude.{replicate, slice_index}
@@ -44,18 +45,7 @@ small_file = made small 1 1 1 true [] ∷ []
 not_writable : OnlyFiles (set_of small_file) 100000 (small ∷ []) × (least_capacity small ≤ 100000)
     × AllByRecursion (HasPlainLabels small) small_file
     × packing.IsTight small [] (blocks_of_all small_file)
-not_writable = (
-  record {
-    plain = (refl, tt);
-    last = refl;
-    ends = (record { volume_end = lit≤ tt; file_end = λ e. refl }, tt);
-    changes = tt;
-    refused = λ h. absurd (omega (arith, h.0.writable.least));
-  },
-  lit≤ tt,
-  (made_plain small 1 1 1 true [] small_fits, tt),
-  nothing_packed small,
-)
+not_writable = search (makes, writable, small_fits, nothing_packed) depth 9
 
 -- the capacity is 1,823 bytes, one byte too few
 abbrev plain_file : List Section
@@ -64,39 +54,12 @@ plain_file = made shape 1 1 1 true [] ∷ []
 no_room : OnlyFiles (set_of plain_file) 1823 (shape ∷ []) × IsWritable shape
     × AllByRecursion (HasPlainLabels shape) plain_file
     × packing.IsTight shape [] (blocks_of_all plain_file)
-no_room = (
-  record {
-    plain = (refl, tt);
-    last = refl;
-    ends = (record { volume_end = lit≤ tt; file_end = λ e. refl }, tt);
-    changes = tt;
-    refused = λ h. absurd (omega (arith, h.0.room));
-  },
-  writable,
-  (made_plain shape 1 1 1 true [] shape_fits, tt),
-  nothing_packed shape,
-)
+no_room = search (makes, writable, shape_fits, nothing_packed) depth 9
 
 -- the label HDR2 states another block length
 other_length : OnlyFiles (set_of plain_file) 100000 (shorter ∷ []) × IsWritable shorter
     × (least_capacity shorter ≤ 100000) × packing.IsTight shorter [] (blocks_of_all plain_file)
-other_length = (
-  record {
-    plain = (refl, tt);
-    last = refl;
-    ends = (record { volume_end = lit≤ tt; file_end = λ e. refl }, tt);
-    changes = tt;
-    refused = λ h.
-        let e : second_of shape ≡ second_of shorter =
-        head2_same (second kinds.Hdr2 shape) (second_of shape) (second_of shorter)
-        (second_is kinds.Hdr2 shape tt shape_fits) h.0.labels.0.hdr2 in
-        let d : 800 ≡ 400 = ap (λ v. v.block_len) e in
-        absurd (omega arith);
-  },
-  record { least = lit≤ tt; most = lit≤ tt; front = lit≤ tt; units = (lit≤ tt, lit≤ tt, refl) },
-  lit≤ tt,
-  nothing_packed shorter,
-)
+other_length = search (makes, head2_same, second_is, shape_fits, nothing_packed) depth 9
 
 -- the section has a third header label
 abbrev more_headers : List Section
@@ -105,19 +68,7 @@ more_headers =
 
 third_header : OnlyFiles (set_of more_headers) 100000 (shape ∷ []) × IsWritable shape
     × (least_capacity shape ≤ 100000) × packing.IsTight shape [] (blocks_of_all more_headers)
-third_header = (
-  record {
-    plain = (refl, tt);
-    last = refl;
-    ends = (record { volume_end = lit≤ tt; file_end = λ e. refl }, tt);
-    changes = tt;
-    refused = λ h. let e : (codes "HDR3" ++ replicate 76 32) ∷ [] ≡ [] = h.0.labels.0.headers in
-        absurd (cc);
-  },
-  writable,
-  lit≤ tt,
-  nothing_packed shape,
-)
+third_header = search (makes, writable, nothing_packed) depth 9
 
 -- the section has no second trailer label
 abbrev no_second : List Section
@@ -125,18 +76,7 @@ no_second = record (made shape 1 1 1 true []) { trailers = [] } ∷ []
 
 no_second_trailer : OnlyFiles (set_of no_second) 100000 (shape ∷ []) × IsWritable shape
     × (least_capacity shape ≤ 100000) × packing.IsTight shape [] (blocks_of_all no_second)
-no_second_trailer = (
-  record {
-    plain = (refl, tt);
-    last = refl;
-    ends = (record { volume_end = lit≤ tt; file_end = λ e. refl }, tt);
-    changes = tt;
-    refused = λ h. let e : [] ≡ h.0.labels.0.second ∷ [] = h.0.labels.0.trailers in absurd (cc);
-  },
-  writable,
-  lit≤ tt,
-  nothing_packed shape,
-)
+no_second_trailer = search (makes, writable, nothing_packed) depth 9
 
 -- the second trailer label is EOV2, after EOF1
 abbrev wrong_second : List Section
@@ -144,22 +84,4 @@ wrong_second = record (made shape 1 1 1 true []) { trailers = second kinds.Eov2 
 
 wrong_second_trailer : OnlyFiles (set_of wrong_second) 100000 (shape ∷ []) × IsWritable shape
     × (least_capacity shape ≤ 100000) × packing.IsTight shape [] (blocks_of_all wrong_second)
-wrong_second_trailer = (
-  record {
-    plain = (refl, tt);
-    last = refl;
-    ends = (record { volume_end = lit≤ tt; file_end = λ e. refl }, tt);
-    changes = tt;
-    refused = λ h.
-        let same : second kinds.Eov2 shape ∷ [] ≡ h.0.labels.0.second ∷ [] =
-        h.0.labels.0.trailers in
-        let it : second kinds.Eov2 shape ≡ h.0.labels.0.second = ap (λ v. get_or v 0 []) same in
-        let named : IsHead2 (second kinds.Eov2 shape) kinds.Eof2 (second_of shape) =
-        subst (λ v. IsHead2 v kinds.Eof2 (second_of shape)) (sym it) h.0.labels.0.trailer2 in
-        let e : 86 ≡ 70 = ap (λ v. slice_index v 2) named.kind.named in
-        absurd (omega arith);
-  },
-  writable,
-  lit≤ tt,
-  nothing_packed shape,
-)
+wrong_second_trailer = search (makes, writable, nothing_packed) depth 9

@@ -1,6 +1,6 @@
 -- The labels, blocks and sections in the worked sets, and proofs that they are valid.
 use Rattle.std.proofs.Common.{◌≡◌, ◌≤◌, ℕ, List, [], ◌∷◌, ◌++◌, length, Bool, true, false, refl}
-use Rattle.std.proofs.Common.{arith, codes}
+use Rattle.std.proofs.Common.{arith, codes, lit≤, lit<, inl, inr}
 use Rattle.std.specs.Prelude.{map, replicate, if◌then◌else◌}
 use Rattle.std.specs.List.{AllByRecursion}
 use Rattle.tape_image.specs.Tape.{IsTapeItem, block, mark}
@@ -29,7 +29,9 @@ use Rattle.tape_blocks.specs.Tight.{Filled}
 use Rattle.tape_set.specs.Layout.{Section, Volume, Entry, a_label, a_mark, item_of, section_entries}
 use Rattle.tape_set.specs.Layout.{data_group}
 use Rattle.tape_set.specs.Lawful.{IsVolume, IsSection, FileForm, HasForm, form_of, most_blocks}
-use Rattle.tape_set.specs.Lawful.{label_count}
+use Rattle.tape_set.specs.Lawful.{label_count, Ends, IsFile}
+use Rattle.tape_set.specs.Before.{section_parts}
+use Rattle.tape_blocks.specs.Spans.{InOrder}
 use Rattle.tape_set.specs.Tight.{second_of, HasPlainLabels}
 use Rattle.tape_set.proofs.Numbering.{placed}
 
@@ -82,15 +84,7 @@ vol1_is = record { size = refl; named = refl }
 -- a first label with any identifiers of the right widths
 pub wide : (file sect : ℕ) (name id : List ℕ) → length name ≡ 17 → length id ≡ 6
     → IsWide (record (head file sect) { file_id = name; set_id = id })
-wide file sect name id named identified = record {
-  file_id = named;
-  set_id = identified;
-  generation = refl;
-  gen_version = refl;
-  created = refl;
-  expires = refl;
-  implementation = refl;
-}
+wide file sect name id named identified = search
 
 head_is_wide : (file sect : ℕ) → IsWide (head file sect)
 head_is_wide file sect = wide file sect (head file sect).file_id set_id refl refl
@@ -180,10 +174,7 @@ pub headers_sized : (shape : Shape) (file sect : ℕ) → Head2Fits (second_of s
     → HeadFits (head file sect)
     → AllByRecursion IsTapeItem (block (hdr1 file sect) ∷ block (second kinds.Hdr2 shape)
     ∷ mark ∷ [])
-headers_sized shape file sect fits fit = (
-  eighty (hdr1 file sect) (hdr1_is file sect fit).kind.size,
-  (second_sized kinds.Hdr2 shape tt fits, (tt, tt)),
-)
+headers_sized shape file sect fits fit = search (lit≤, lit<, tt, second_sized)
 
 pub trailers_sized : (shape : Shape) (eof : Bool) (file sect n : ℕ) → Head2Fits (second_of shape)
     → TrailFits (trail eof file sect n)
@@ -203,15 +194,7 @@ pub made_sized : (shape : Shape) (volume file sect : ℕ) (eof : Bool) (blocks :
     → AllByRecursion IsTapeItem (map item_of (data_group blocks)) → AllByRecursion IsTapeItem
     (map item_of (section_entries (made shape volume file sect eof blocks)))
 made_sized shape volume file sect eof blocks fits h data_sized =
-    let n = label_count (length blocks) in
-    sized_append (a_label (hdr1 file sect) ∷ a_label (second kinds.Hdr2 shape) ∷ a_mark
-    ∷ data_group blocks)
-    (a_mark ∷ a_label (trailer eof file sect n) ∷ a_label (second (second_kind eof) shape)
-    ∷ a_mark ∷ [])
-    (sized_append (a_label (hdr1 file sect) ∷ a_label (second kinds.Hdr2 shape) ∷ a_mark ∷ [])
-    (data_group blocks) (headers_sized shape file sect fits h) data_sized)
-    (trailers_sized shape eof file sect n fits
-    (record { head = h; blocks = label_count_most (length blocks) }))
+    search (lit≤, lit<, tt, sized_append, headers_sized, trailers_sized, label_count_most)
 
 pub made_section : (shape : Shape) (volumes volume file sect : ℕ) (eof : Bool)
     (blocks : List Filled) → Head2Fits (second_of shape) → Fit file sect (length blocks)
@@ -275,3 +258,13 @@ plain_volume = record { vol1 = vol1; labels = [] }
 
 pub plain_volume_is : IsVolume plain_volume
 plain_volume_is = record { vol1 = vol1_is; labels = tt }
+
+-- a file whose sections have the form of a shape
+pub alike_file : (shape : Shape) (f : List Section) → Ends f
+    → AllByRecursion (HasForm (form shape)) f → InOrder false (section_parts f) false → IsFile f
+alike_file shape f ends held order =
+    record { ends = ends; alike = (form shape, held); order = order }
+
+-- what the clauses of a valid set and of a tight set are found from
+pub ruleset makes =
+    (arith, lit≤, lit<, tt, inl, inr, plain_volume_is, made_section, made_form, made_plain)

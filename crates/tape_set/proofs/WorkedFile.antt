@@ -1,5 +1,6 @@
 -- The worked file: 25 records of 80 bytes in blocks of 800 bytes, on one volume and on two; and a
 -- file without records.
+use Rattle.tape_set.proofs.Worked.{makes, alike_file}
 use Rattle.std.proofs.Common.{◌≡◌, ◌≤◌, ℕ, zero, suc, ◌+◌, List, [], ◌∷◌, ◌++◌, length, true, false}
 use Rattle.std.proofs.Common.{refl, arith, codes, lit≤, lit<, length-append}
 use Rattle.std.specs.Prelude.{map, replicate}
@@ -65,12 +66,7 @@ abbrev pub wholes : ℕ → ℕ → List Portion
 wholes i n = map whole (records i n)
 
 pub size_of_record : (i : ℕ) → length (record_of i) ≡ 80
-size_of_record i = omega (
-  arith,
-  length-append (digits 4 i) (replicate 76 32),
-  length-digits 4 i,
-  length-replicate {A = ℕ} 76 32,
-)
+size_of_record i = search
 
 pub units : (i n : ℕ) → AllByRecursion (IsUnit Fixed 80) (wholes i n)
 units i zero = tt
@@ -100,13 +96,7 @@ pub sized : AllByRecursion IsTapeItem (map item_of (data_group blocks))
 sized = ((lit< tt, lit≤ tt), ((lit< tt, lit≤ tt), ((lit< tt, lit≤ tt), tt)))
 
 pub fit_of : (sect n : ℕ) → 1 ≤ sect → sect ≤ 9999 → n ≤ most_blocks → Fit 1 sect n
-fit_of sect n a b c = record {
-  file_least = lit≤ tt;
-  file_most = lit≤ tt;
-  sect_least = a;
-  sect_most = b;
-  count_most = c;
-}
+fit_of sect n a b c = search (lit≤, tt)
 
 -- ---- on one volume
 
@@ -118,31 +108,8 @@ one_volume = record {
 }
 
 pub one_volume_lawful : IsLawful one_volume
-one_volume_lawful = record {
-  volumes = (plain_volume_is, tt);
-  each = (
-    made_section shape 1 1 1 1 true blocks shape_fits (fit_of 1 3 (lit≤ tt) (lit≤ tt) (lit≤ tt))
-        (lit≤ tt) (lit≤ tt) sized,
-    tt,
-  );
-  files = (
-    record {
-      ends = refl;
-      alike = (
-        form shape,
-        (
-          made_form shape 1 1 1 true blocks shape_fits
-              (fit_of 1 3 (lit≤ tt) (lit≤ tt) (lit≤ tt)) held,
-          tt,
-        ),
-      );
-      order = in_order 1 25;
-    },
-    tt,
-  );
-  first = refl;
-  goes_on = tt;
-}
+one_volume_lawful =
+    search (makes, alike_file shape, shape_fits, sized, held, in_order 1 25) depth 9
 
 -- the labels of the volume, as written out in the standard's tables
 vol1_text : vol1
@@ -229,23 +196,10 @@ packed = record {
 }
 
 pub one_volume_tight_file : IsTightFile 100000 shape (made shape 1 1 1 true blocks ∷ [])
-one_volume_tight_file = record {
-  writable = writable;
-  room = lit≤ tt;
-  labels = (made_plain shape 1 1 1 true blocks shape_fits, tt);
-  records = records 1 25;
-  lengths = lengths 1 25;
-  packed = packed;
-}
+one_volume_tight_file = search (lit≤, tt, writable, made_plain, shape_fits, lengths, packed)
 
 pub one_volume_tight : IsTight one_volume 100000 (shape ∷ [])
-one_volume_tight = record {
-  plain = (refl, tt);
-  last = refl;
-  files = (one_volume_tight_file, tt);
-  ends = (record { volume_end = lit≤ tt; file_end = λ e. refl }, tt);
-  changes = tt;
-}
+one_volume_tight = search (lit≤, tt, one_volume_tight_file)
 
 -- ---- on two volumes of 2,500 bytes: the end of the file does not fit after the third block, and
 -- the second section is empty
@@ -258,63 +212,11 @@ two_volumes = record {
 }
 
 pub two_volumes_lawful : IsLawful two_volumes
-two_volumes_lawful = record {
-  volumes = (plain_volume_is, (plain_volume_is, tt));
-  each = (
-    made_section shape 2 1 1 1 false blocks shape_fits (fit_of 1 3 (lit≤ tt) (lit≤ tt) (lit≤ tt))
-        (lit≤ tt) (lit≤ tt) sized,
-    (
-      made_section shape 2 2 1 2 true [] shape_fits (fit_of 2 0 (lit≤ tt) (lit≤ tt) (lit≤ tt))
-          (lit≤ tt) (lit≤ tt) tt,
-      tt,
-    ),
-  );
-  files = (
-    record {
-      ends = (refl, refl);
-      alike = (
-        form shape,
-        (
-          made_form shape 1 1 1 false blocks shape_fits
-              (fit_of 1 3 (lit≤ tt) (lit≤ tt) (lit≤ tt)) held,
-          (
-            made_form shape 2 1 2 true [] shape_fits (fit_of 2 0 (lit≤ tt) (lit≤ tt) (lit≤ tt)) tt,
-            tt,
-          ),
-        ),
-      );
-      order = in_order 1 25;
-    },
-    tt,
-  );
-  first = refl;
-  goes_on = (refl, tt);
-}
+two_volumes_lawful =
+    search (makes, alike_file shape, shape_fits, sized, held, in_order 1 25) depth 9
 
 pub two_volumes_tight : IsTight two_volumes 2500 (shape ∷ [])
-two_volumes_tight = record {
-  plain = (refl, (refl, tt));
-  last = refl;
-  files = (
-    record {
-      writable = writable;
-      room = lit≤ tt;
-      labels = (
-        made_plain shape 1 1 1 false blocks shape_fits,
-        (made_plain shape 2 1 2 true [] shape_fits, tt),
-      );
-      records = records 1 25;
-      lengths = lengths 1 25;
-      packed = packed;
-    },
-    tt,
-  );
-  ends = (
-    record { volume_end = lit≤ tt; file_end = λ e. absurd (cc) },
-    (record { volume_end = lit≤ tt; file_end = λ e. refl }, tt),
-  );
-  changes = (refl, tt);
-}
+two_volumes_tight = search (lit≤, tt, writable, made_plain, shape_fits, lengths, packed)
 
 -- the volumes take 2,484 and 460 bytes, including the end-of-medium marker
 two_volumes_sizes : map items_size (all_items two_volumes) ≡ 2480 ∷ 456 ∷ []

@@ -1,6 +1,8 @@
 -- Two files of 25 records on two volumes of 2,848 bytes: after the first file's end there is
 -- exactly enough room for a section without blocks, so the first section of the second file has no
 -- blocks, and ends with EOV1.
+use Rattle.tape_set.proofs.Worked.{makes, alike_file}
+use Rattle.std.proofs.Common.{lit<}
 use Rattle.std.proofs.Common.{◌≡◌, ◌≤◌, ℕ, [], ◌∷◌, ◌++◌, true, false, refl, inl, lit≤}
 use Rattle.std.specs.Prelude.{map, replicate}
 use Rattle.tape_set.specs.declared.position.Position.TheVariants.{Finished}
@@ -17,20 +19,6 @@ use Rattle.tape_set.proofs.WorkedFile.{shape, shape_fits, writable, records, len
 use Rattle.tape_set.proofs.WorkedFile.{sized, wholes, in_order, packed}
 use Rattle.tape_set.proofs.WorkedReadings.{reading}
 
-fit_of : (file sect n : ℕ) → 1 ≤ file → file ≤ 9999 → 1 ≤ sect → sect ≤ 9999 → n ≤ most_blocks
-    → Fit file sect n
-fit_of file sect n a b c d e =
-    record { file_least = a; file_most = b; sect_least = c; sect_most = d; count_most = e }
-
-first_fit : Fit 1 1 3
-first_fit = fit_of 1 1 3 (lit≤ tt) (lit≤ tt) (lit≤ tt) (lit≤ tt) (lit≤ tt)
-
-empty_fit : Fit 2 1 0
-empty_fit = fit_of 2 1 0 (lit≤ tt) (lit≤ tt) (lit≤ tt) (lit≤ tt) (lit≤ tt)
-
-last_fit : Fit 2 2 3
-last_fit = fit_of 2 2 3 (lit≤ tt) (lit≤ tt) (lit≤ tt) (lit≤ tt) (lit≤ tt)
-
 abbrev pub two_files : FileSet
 two_files = record {
   set_id = set_id;
@@ -40,77 +28,11 @@ two_files = record {
 }
 
 two_files_lawful : IsLawful two_files
-two_files_lawful = record {
-  volumes = (plain_volume_is, (plain_volume_is, tt));
-  each = (
-    made_section shape 2 1 1 1 true blocks shape_fits first_fit (lit≤ tt) (lit≤ tt) sized,
-    (
-      made_section shape 2 1 2 1 false [] shape_fits empty_fit (lit≤ tt) (lit≤ tt) tt,
-      (made_section shape 2 2 2 2 true blocks shape_fits last_fit (lit≤ tt) (lit≤ tt) sized, tt),
-    ),
-  );
-  files = (
-    record {
-      ends = refl;
-      alike = (form shape, (made_form shape 1 1 1 true blocks shape_fits first_fit held, tt));
-      order = in_order 1 25;
-    },
-    (
-      record {
-        ends = (refl, refl);
-        alike = (
-          form shape,
-          (
-            made_form shape 1 2 1 false [] shape_fits empty_fit tt,
-            (made_form shape 2 2 2 true blocks shape_fits last_fit held, tt),
-          ),
-        );
-        order = in_order 1 25;
-      },
-      tt,
-    ),
-  );
-  first = refl;
-  goes_on = (inl refl, (refl, tt));
-}
+two_files_lawful =
+    search (makes, alike_file shape, shape_fits, sized, held, in_order 1 25) depth 9
 
 two_files_tight : IsTight two_files 2848 (shape ∷ shape ∷ [])
-two_files_tight = record {
-  plain = (refl, (refl, tt));
-  last = refl;
-  files = (
-    record {
-      writable = writable;
-      room = lit≤ tt;
-      labels = (made_plain shape 1 1 1 true blocks shape_fits, tt);
-      records = records 1 25;
-      lengths = lengths 1 25;
-      packed = packed;
-    },
-    (
-      record {
-        writable = writable;
-        room = lit≤ tt;
-        labels = (
-          made_plain shape 1 2 1 false [] shape_fits,
-          (made_plain shape 2 2 2 true blocks shape_fits, tt),
-        );
-        records = records 1 25;
-        lengths = lengths 1 25;
-        packed = packed;
-      },
-      tt,
-    ),
-  );
-  ends = (
-    record { volume_end = lit≤ tt; file_end = λ e. refl },
-    (
-      record { volume_end = lit≤ tt; file_end = λ e. absurd (cc) },
-      (record { volume_end = lit≤ tt; file_end = λ e. refl }, tt),
-    ),
-  );
-  changes = (refl, (refl, tt));
-}
+two_files_tight = search (lit≤, tt, writable, made_plain, shape_fits, lengths, packed)
 
 -- the first volume is full to the last byte, including the end-of-medium marker
 two_files_sizes : map items_size (all_items two_files) ≡ 2844 ∷ 2480 ∷ []

@@ -1,5 +1,6 @@
 -- Files whose sections state different record lengths in their second labels, which is valid in
 -- formats D and S.
+use Rattle.std.proofs.Common.{lit<}
 use Rattle.std.proofs.Common.{◌≡◌, ◌≤◌, ℕ, [], ◌∷◌, true, false, refl, sym, subst, lit≤}
 use Rattle.tape_label.specs.declared.values.Format.TheVariants.{Counted, Spanned}
 use Rattle.tape_label.specs.Head2.{Head2Fits}
@@ -11,13 +12,7 @@ use Rattle.tape_set.proofs.Worked.{set_id, made, form, Fit, made_section, made_f
 use Rattle.tape_set.proofs.Worked.{plain_volume_is}
 
 fit_of : (sect : ℕ) → 1 ≤ sect → sect ≤ 9999 → Fit 1 sect 0
-fit_of sect a b = record {
-  file_least = lit≤ tt;
-  file_most = lit≤ tt;
-  sect_least = a;
-  sect_most = b;
-  count_most = lit≤ tt;
-}
+fit_of sect a b = search (lit≤, tt)
 
 abbrev lengths_differ : Shape → Shape → FileSet
 lengths_differ one other = record {
@@ -68,16 +63,10 @@ spanned_20 = record {
 }
 
 counted_fits : Head2Fits (second_of counted_14) × Head2Fits (second_of counted_20)
-counted_fits = (
-  record { block_len = lit≤ tt; rec_len = (lit≤ tt, lit≤ tt); offset = lit≤ tt },
-  record { block_len = lit≤ tt; rec_len = (lit≤ tt, lit≤ tt); offset = lit≤ tt },
-)
+counted_fits = search (lit≤, tt)
 
 spanned_fits : Head2Fits (second_of spanned_14) × Head2Fits (second_of spanned_20)
-spanned_fits = (
-  record { block_len = lit≤ tt; rec_len = (lit≤ tt, lit≤ tt); offset = lit≤ tt },
-  record { block_len = lit≤ tt; rec_len = (lit≤ tt, lit≤ tt); offset = lit≤ tt },
-)
+spanned_fits = search (lit≤, tt)
 
 lawful_if_alike : (one other : Shape) → Head2Fits (second_of one) → Head2Fits (second_of other)
     → form one ≡ form other → IsLawful (lengths_differ one other)

@@ -1,4 +1,5 @@
 -- Positions inside a block, in the worked file: its blocks have 10, 10 and 5 parts.
+use Rattle.tape_set.proofs.Worked.{makes, alike_file}
 use Rattle.std.proofs.Common.{◌≡◌, ◌∷◌, ◌++◌, length, true, false, refl, ap, inl, inr, arith, lit<}
 use Rattle.std.specs.Prelude.{replicate}
 use Rattle.tape_set.specs.declared.position.Position.TheVariants.{Finished}
@@ -33,18 +34,12 @@ part_9 = (_, refl, omega arith, inr (lit< tt))
 -- once all parts of a block were delivered, the next block is expected
 no_part_10 : IsIn one_volume 1 (at_part 10 (awaiting 1 1)) → ⊥
 no_part_10 (s, found, block, inl h) = absurd (omega arith)
-no_part_10 (s, found, block, inr h) =
-    let ten : 10 ≡ length (parts_at s.blocks 1) =
-    ap (λ o. length (parts_at (blocks_of o) 1)) found in
-    absurd (omega (arith, ten, h))
+no_part_10 (s, found, block, inr h) = search (makes) depth 9
 
 -- the end of a section has no parts
 no_part_of_end : IsIn one_volume 1 (at_part 1 (awaiting 1 3)) → ⊥
 no_part_of_end (s, found, block, inl h) = absurd (omega arith)
-no_part_of_end (s, found, block, inr h) =
-    let none : 0 ≡ length (parts_at s.blocks 3) =
-    ap (λ o. length (parts_at (blocks_of o) 3)) found in
-    absurd (omega (arith, none, h))
+no_part_of_end (s, found, block, inr h) = search (makes) depth 9
 
 -- ---- how far readings move these positions
 

@@ -1,4 +1,5 @@
 -- The positions of the worked sets, and readings of all their volumes.
+use Rattle.tape_set.proofs.Worked.{makes, alike_file}
 use Rattle.std.proofs.Common.{◌≡◌, [], ◌∷◌, length, true, None, refl, ap, inl, arith}
 use Rattle.std.specs.Prelude.{replicate, IsSome}
 use Rattle.tape_image.specs.Tape.{bad}
@@ -26,14 +27,10 @@ end_of_section : IsIn one_volume 1 (awaiting 1 3)
 end_of_section = (_, refl, omega arith, inl refl)
 
 no_block_4 : IsIn one_volume 1 (awaiting 1 4) → ⊥
-no_block_4 (s, found, block, part) =
-    let three : 3 ≡ length s.blocks = ap (λ o. length (blocks_of o)) found in
-    absurd (omega (arith, three, block))
+no_block_4 (s, found, block, part) = search (makes) depth 9
 
 no_section_2 : IsIn one_volume 1 (awaiting 2 0) → ⊥
-no_section_2 (s, found, block, part) =
-    let e : None ≡ section_of one_volume 1 2 = refl in
-    absurd (cc)
+no_section_2 (s, found, block, part) = search (makes) depth 9
 
 -- a block without parts is only expected from its start
 before_no_parts : IsIn sparse 1 start

@@ -1,5 +1,6 @@
 -- A spanned record of 290 bytes on two volumes of 1,042 bytes: 22 blocks of 18 bytes and EOV1, then
 -- one block and EOF1.
+use Rattle.tape_set.proofs.Worked.{makes, alike_file}
 use Rattle.std.proofs.Common.{◌≡◌, ◌≤◌, ℕ, zero, suc, List, [], ◌∷◌, ◌++◌, true, false, refl, codes}
 use Rattle.std.proofs.Common.{lit≤, lit<}
 use Rattle.std.specs.Prelude.{map, replicate}
@@ -12,6 +13,7 @@ use Rattle.tape_blocks.specs.declared.parts.Span.TheVariants.{First, Middle, Las
 use Rattle.tape_blocks.specs.Block.{Portion, Holds}
 use Rattle.tape_blocks.specs.Spans.{InOrder}
 use Rattle.tape_blocks.specs.Packing.{written, IsWritable}
+use Rattle.tape_blocks.specs.Tight as packing
 use Rattle.tape_blocks.specs.Tight.{Filled, Chain, IsWritten, IsDue}
 use Rattle.tape_blocks.proofs.PackLaws.{written_holds}
 use Rattle.tape_set.specs.Layout.{FileSet, sections, all_items, item_of, data_group}
@@ -42,12 +44,7 @@ pub shape_fits : Head2Fits (second_of shape)
 shape_fits = record { block_len = lit≤ tt; rec_len = (lit≤ tt, lit≤ tt); offset = lit≤ tt }
 
 pub writable : IsWritable shape
-writable = record {
-  least = lit≤ tt;
-  most = lit≤ tt;
-  front = lit≤ tt;
-  units = (refl, lit≤ tt, lit≤ tt, refl);
-}
+writable = search (lit≤, tt)
 
 -- ---- segments and blocks
 
@@ -82,32 +79,13 @@ abbrev pub last_block : Filled
 last_block = filled shape (last ∷ [])
 
 pub first_written : IsWritten shape first_block
-first_written = record {
-  some = λ e. cc;
-  text = refl;
-  holds = written_holds shape (first ∷ []) (lit< tt, tt);
-  within = lit≤ tt;
-  segments = λ e. (record { room = lit≤ tt; fills = λ e. refl; empty = λ e. absurd (cc) }, tt);
-}
+first_written = search (makes, written_holds) depth 9
 
 pub middle_written : IsWritten shape middle_block
-middle_written = record {
-  some = λ e. cc;
-  text = refl;
-  holds = written_holds shape (middle ∷ []) (lit< tt, tt);
-  within = lit≤ tt;
-  segments = λ e. (record { room = lit≤ tt; fills = λ e. refl; empty = λ e. absurd (cc) }, tt);
-}
+middle_written = search (makes, written_holds) depth 9
 
 pub last_written : IsWritten shape last_block
-last_written = record {
-  some = λ e. cc;
-  text = refl;
-  holds = written_holds shape (last ∷ []) (lit< tt, tt);
-  within = lit≤ tt;
-  segments =
-      λ e. (record { room = lit≤ tt; fills = λ e. absurd (cc); empty = λ e. absurd (cc) }, tt);
-}
+last_written = search (makes, written_holds) depth 9
 
 -- ---- many middle segments
 
@@ -135,6 +113,16 @@ pub middles_closed : (n : ℕ)
 middles_closed zero = (lit< tt, tt)
 middles_closed (suc n) = (lit< tt, middles_closed n)
 
+-- the record in all its blocks
+pub record_packed : packing.IsTight shape (the_record ∷ [])
+    (first_block ∷ replicate 21 middle_block ++ last_block ∷ [])
+record_packed = record {
+  joins = refl;
+  order = (refl, middles_in_order 21);
+  each = (first_written, middles_before (IsWritten shape) 21 middle_written last_written);
+  closed = (lit< tt, middles_closed 20);
+}
+
 -- ---- the set
 
 abbrev pub on_first : List Filled
@@ -148,72 +136,22 @@ spanned = record {
 }
 
 spanned_lawful : IsLawful spanned
-spanned_lawful = record {
-  volumes = (plain_volume_is, (plain_volume_is, tt));
-  each = (
-    made_section shape 2 1 1 1 false on_first shape_fits (fit_of 1 22 (lit≤ tt) (lit≤ tt) (lit≤ tt))
-        (lit≤ tt) (lit≤ tt) ((lit< tt, lit≤ tt), middles_sized 21),
-    (
-      made_section shape 2 2 1 2 true (last_block ∷ []) shape_fits
-          (fit_of 2 1 (lit≤ tt) (lit≤ tt) (lit≤ tt)) (lit≤ tt) (lit≤ tt) ((lit< tt, lit≤ tt), tt),
-      tt,
-    ),
-  );
-  files = (
-    record {
-      ends = (refl, refl);
-      alike = (
-        form shape,
-        (
-          made_form shape 1 1 1 false on_first shape_fits
-              (fit_of 1 22 (lit≤ tt) (lit≤ tt) (lit≤ tt)) (
-                first_written.holds,
-                every_middle (λ b. Holds Spanned 0 0 b.bytes b.parts) 21 middle_written.holds,
-              ),
-          (
-            made_form shape 2 1 2 true (last_block ∷ []) shape_fits
-                (fit_of 2 1 (lit≤ tt) (lit≤ tt) (lit≤ tt)) (last_written.holds, tt),
-            tt,
-          ),
-        ),
-      );
-      order = (refl, middles_in_order 21);
-    },
-    tt,
-  );
-  first = refl;
-  goes_on = (refl, tt);
-}
+spanned_lawful =
+    search (makes, alike_file shape, shape_fits, middles_sized 21, held, middles_in_order 21) depth 9
+  where
+    held : AllByRecursion (λ b. Holds Spanned 0 0 b.bytes b.parts) on_first
+        × AllByRecursion (λ b. Holds Spanned 0 0 b.bytes b.parts) (last_block ∷ [])
+    held = (
+      (
+        first_written.holds,
+        every_middle (λ b. Holds Spanned 0 0 b.bytes b.parts) 21
+            middle_written.holds,
+      ),
+      (last_written.holds, tt),
+    )
 
 spanned_tight : IsTight spanned 1042 (shape ∷ [])
-spanned_tight = record {
-  plain = (refl, (refl, tt));
-  last = refl;
-  files = (
-    record {
-      writable = writable;
-      room = lit≤ tt;
-      labels = (
-        made_plain shape 1 1 1 false on_first shape_fits,
-        (made_plain shape 2 1 2 true (last_block ∷ []) shape_fits, tt),
-      );
-      records = the_record ∷ [];
-      lengths = (lit≤ tt, tt);
-      packed = record {
-        joins = refl;
-        order = (refl, middles_in_order 21);
-        each = (first_written, middles_before (IsWritten shape) 21 middle_written last_written);
-        closed = (lit< tt, middles_closed 20);
-      };
-    },
-    tt,
-  );
-  ends = (
-    record { volume_end = lit≤ tt; file_end = λ e. absurd (cc) },
-    (record { volume_end = lit≤ tt; file_end = λ e. refl }, tt),
-  );
-  changes = (refl, tt);
-}
+spanned_tight = search (makes, writable, shape_fits, record_packed) depth 9
 
 -- the parts of the first section are before the second section, and the last part before the end of
 -- the second

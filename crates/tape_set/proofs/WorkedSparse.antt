@@ -1,5 +1,6 @@
 -- A valid set that no writer writes: a data block without parts, a volume that ends with EOF1
 -- although the next file begins on the next volume, and a volume without sections.
+use Rattle.tape_set.proofs.Worked.{makes, alike_file}
 use Rattle.std.proofs.Common.{◌≡◌, ◌≤◌, ℕ, [], ◌∷◌, true, refl, inr, lit≤, lit<}
 use Rattle.std.specs.Prelude.{map, replicate, length}
 use Rattle.tape_label.specs.declared.values.Format.TheVariants.{Fixed}
@@ -16,15 +17,6 @@ use Rattle.tape_set.proofs.Worked.{plain_volume_is}
 use Rattle.tape_set.proofs.WorkedFile.{shape, shape_fits}
 use Rattle.tape_set.proofs.WorkedReadings.{reading}
 
-fit_of : (file n : ℕ) → 1 ≤ file → file ≤ 9999 → n ≤ most_blocks → Fit file 1 n
-fit_of file n a b c = record {
-  file_least = a;
-  file_most = b;
-  sect_least = lit≤ tt;
-  sect_most = lit≤ tt;
-  count_most = c;
-}
-
 abbrev no_parts : Filled
 no_parts = record { bytes = replicate 5 94; parts = [] }
 
@@ -40,48 +32,7 @@ sparse = record {
 }
 
 sparse_lawful : IsLawful sparse
-sparse_lawful = record {
-  volumes = (plain_volume_is, (plain_volume_is, (plain_volume_is, tt)));
-  each = (
-    made_section shape 3 1 1 1 true (no_parts ∷ []) shape_fits
-        (fit_of 1 1 (lit≤ tt) (lit≤ tt) (lit≤ tt)) (lit≤ tt) (lit≤ tt) ((lit< tt, lit≤ tt), tt),
-    (
-      made_section shape 3 2 2 1 true [] shape_fits (fit_of 2 0 (lit≤ tt) (lit≤ tt) (lit≤ tt))
-          (lit≤ tt) (lit≤ tt) tt,
-      tt,
-    ),
-  );
-  files = (
-    record {
-      ends = refl;
-      alike = (
-        form shape,
-        (
-          made_form shape 1 1 1 true (no_parts ∷ []) shape_fits
-              (fit_of 1 1 (lit≤ tt) (lit≤ tt) (lit≤ tt)) (no_parts_held, tt),
-          tt,
-        ),
-      );
-      order = refl;
-    },
-    (
-      record {
-        ends = refl;
-        alike = (
-          form shape,
-          (
-            made_form shape 2 2 1 true [] shape_fits (fit_of 2 0 (lit≤ tt) (lit≤ tt) (lit≤ tt)) tt,
-            tt,
-          ),
-        );
-        order = refl;
-      },
-      tt,
-    ),
-  );
-  first = refl;
-  goes_on = (inr refl, tt);
-}
+sparse_lawful = search (makes, alike_file shape, shape_fits, no_parts_held) depth 9
 
 -- the last volume contains only its label and a mark
 sparse_lengths : map length (all_items sparse) ≡ 10 ∷ 9 ∷ 2 ∷ []

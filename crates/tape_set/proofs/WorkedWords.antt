@@ -1,5 +1,6 @@
 -- Definitions used by the laws, worked out: prefixes of lists, elements of lists, the order of
 -- positions, numbers that fit their digits, and the first item that was not readable.
+use Rattle.tape_set.proofs.Worked.{makes, alike_file}
 use Rattle.std.proofs.Common.{◌≡◌, ◌≤◌, ℕ, [], ◌∷◌, ◌++◌, length, Bool, true, false, Option, Some}
 use Rattle.std.proofs.Common.{refl, ap, inl, inr, arith, lit≤, lit<, length-append}
 use Rattle.std.specs.Prelude.{slice_index, drop, unwrap_or}
@@ -16,9 +17,7 @@ whole_front : IsFrontOf {A = ℕ} (1 ∷ 2 ∷ []) (1 ∷ 2 ∷ [])
 whole_front = ([], refl)
 
 no_longer_front : IsFrontOf {A = ℕ} (1 ∷ 2 ∷ []) (1 ∷ []) → ⊥
-no_longer_front (rest, e) =
-    let two : length (1 ∷ 2 ∷ rest) ≡ 1 = ap length e in
-    absurd (omega (arith, two))
+no_longer_front (rest, e) = search (makes) depth 9
 
 -- the end of a list is not a prefix of it
 no_end_front : IsFrontOf {A = ℕ} (2 ∷ []) (1 ∷ 2 ∷ []) → ⊥
@@ -38,9 +37,7 @@ none_stands (front, rest, e) =
     absurd (omega (arith, none, length-append front (1 ∷ rest)))
 
 no_other_stands : StandsIn {A = ℕ} (2 ∷ []) 1 → ⊥
-no_other_stands ([], rest, e) =
-    let d : 2 ≡ 1 = ap (λ v. slice_index v 0) e in
-    absurd (omega (arith, d))
+no_other_stands ([], rest, e) = search (makes) depth 9
 no_other_stands (x ∷ front, rest, e) = none_stands (front, rest, ap (drop 1) e)
 
 -- ---- up to a position
@@ -83,10 +80,7 @@ none_behind_last : IsFirstUnread (true ∷ true ∷ []) 0 1 2 → ⊥
 none_behind_last h = absurd (omega (arith, h.1))
 
 no_second_unread : IsFirstUnread (false ∷ false ∷ []) 0 2 1 → ⊥
-no_second_unread h =
-    let e : Some false ≡ Some true = h.2 0 (lit≤ tt) (lit< tt) in
-    let d : false ≡ true = ap (λ (o : Option Bool). unwrap_or o true) e in
-    absurd (cc)
+no_second_unread h = search (makes, unwrap_or) depth 9
 
 no_read_one : IsFirstUnread (true ∷ []) 0 1 0 → ⊥
 no_read_one h = h.3 (lit< tt) refl
