@@ -1,5 +1,5 @@
 -- Proofs of the test cases of packing and of the laws.
-use Rattle.std.proofs.Common.{◌≡◌, ℕ, List, true, refl, ap, arith, inl, inr}
+use Rattle.std.proofs.Common.{◌≡◌, ℕ, List, true, arith}
 use Rattle.tape_blocks.specs.declared.offer.Offer.{Offer}
 use Rattle.tape_blocks.specs.declared.offer.Offer.TheVariants.{Taken, BlockReady}
 use Rattle.tape_blocks.specs.Packing.{Packing, Offers}

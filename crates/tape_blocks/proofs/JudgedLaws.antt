@@ -7,7 +7,7 @@ use Rattle.std.specs.Prelude.{if◌then◌else◌, IfOk, IfErr}
 use Rattle.std.proofs.lemmas.Bool.{ltb-true, ltb-false}
 use Rattle.tape_label.specs.declared.values.Format.{Format}
 use Rattle.tape_label.specs.declared.values.Format.TheVariants.{Fixed}
-use Rattle.tape_blocks.specs.declared.check.BlockCause.TheVariants.{ShortOffset, SpanBroken}
+use Rattle.tape_blocks.specs.declared.check.BlockCause.TheVariants.{SpanBroken}
 use Rattle.tape_blocks.specs.declared.check.BlockFault.{BlockFault}
 use Rattle.tape_blocks.specs.declared.check.Found.{Found}
 use Rattle.tape_blocks.specs.Block.{Portion, spellings, Holds}

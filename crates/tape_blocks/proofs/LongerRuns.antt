@@ -4,7 +4,7 @@ use Rattle.std.proofs.Common.{Option, None, refl, sym, ap, subst, ◌∙◌, app
 use Rattle.tape_label.specs.declared.values.Format.{Format}
 use Rattle.tape_label.specs.declared.values.Format.TheVariants.{Spanned}
 use Rattle.tape_blocks.specs.declared.parts.Span.TheVariants.{Whole}
-use Rattle.tape_blocks.specs.Block.{Portion, spellings}
+use Rattle.tape_blocks.specs.Block.{Portion}
 use Rattle.tape_blocks.specs.Spans.{InOrder, span_of, content_after, join}
 use Rattle.tape_blocks.specs.Packing.{Packing, size_of, least_room, with_part, Ends}
 use Rattle.tape_blocks.specs.Run.{AreClosed, Run}

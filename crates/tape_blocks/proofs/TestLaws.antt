@@ -14,7 +14,7 @@ use Rattle.tape_blocks.specs.declared.check.BlockFault.{BlockFault}
 use Rattle.tape_blocks.specs.declared.parts.Span.{Span}
 use Rattle.tape_blocks.specs.declared.parts.Span.TheVariants.{Whole}
 use Rattle.tape_blocks.specs.declared.check.Found.{Found}
-use Rattle.tape_blocks.specs.Block.{first_other, span_by}
+use Rattle.tape_blocks.specs.Block.{first_other}
 use Rattle.tape_blocks.specs.Faults.{Test, test, bool_eq, may_stand, first_fault, padding_tests}
 use Rattle.tape_blocks.specs.Faults.{count_tests, tests, fault}
 use Rattle.tape_blocks.specs.Spans.{continues}

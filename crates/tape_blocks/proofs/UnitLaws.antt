@@ -1,5 +1,5 @@
 -- The unit found at the start of bytes is the unit encoded there.
-use Rattle.std.proofs.Common.{◌≡◌, ℕ, ◌+◌, ◌-◌, ◌/◌, ◌%◌, ◌^◌, ◌<◌, ◌≤◌, Bool, true, false, not}
+use Rattle.std.proofs.Common.{◌≡◌, ℕ, ◌+◌, ◌-◌, ◌/◌, ◌%◌, ◌<◌, ◌≤◌, Bool, true, false, not}
 use Rattle.std.proofs.Common.{cond, ltb, eqb, List, [], ◌∷◌, ◌++◌, length, take, drop, Option, Some}
 use Rattle.std.proofs.Common.{None, Result, Ok, Err, refl, sym, ap, subst, ◌∙◌, append_assoc, arith}
 use Rattle.std.proofs.Common.{rules, length-append}
@@ -12,7 +12,6 @@ use Rattle.tape_label.proofs.DigitLaws.{digits-number_of, number_of-digits, numb
 use Rattle.tape_label.proofs.DigitLaws.{all_ascii_digits-digits}
 use Rattle.tape_label.specs.declared.values.Format.{Format}
 use Rattle.tape_label.specs.declared.values.Format.TheVariants.{Fixed, Counted, Spanned}
-use Rattle.tape_blocks.specs.declared.check.BlockCause.TheVariants.{BadCount, PastEnd}
 use Rattle.tape_blocks.specs.declared.check.BlockFault.{BlockFault}
 use Rattle.tape_blocks.specs.declared.parts.Span.{Span}
 use Rattle.tape_blocks.specs.declared.parts.Span.TheVariants.{Whole, First, Middle, Last}
@@ -21,7 +20,6 @@ use Rattle.tape_blocks.specs.Block.{Portion, indicator, head_len, spelling, IsUn
 use Rattle.tape_blocks.specs.Block.{span_by}
 use Rattle.tape_blocks.specs.Parts.{portion}
 use Rattle.tape_blocks.specs.Units.{padding_by, short_by, counted, spanned, unit_at}
-use Rattle.tape_blocks.specs.Faults.{fault}
 
 abbrev pub some : Found → Result (Option Found) BlockFault
 some found = Ok (Some found)

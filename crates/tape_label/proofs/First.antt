@@ -12,7 +12,7 @@ use Rattle.tape_label.specs.Positions.{positions}
 use Rattle.tape_label.specs.Vol1.{IsVol1}
 use Rattle.tape_label.specs.Head1.{HasHead, IsHead1}
 use Rattle.tape_label.specs.Trail1.{IsTrail1}
-use Rattle.tape_label.specs.Reading.{◌>>=◌, eighty, begins_as, of_kind, number_at, vol1_fields}
+use Rattle.tape_label.specs.Reading.{◌>>=◌, eighty, of_kind, number_at, vol1_fields}
 use Rattle.tape_label.specs.Reading.{vol1_at, head_fields, head_at, head1_at, end_at, trail1_at}
 use Rattle.tape_label.proofs.Steps.{bind_ok, done, ok_is, number_found, number_again}
 use Rattle.tape_label.proofs.Steps.{character_found, character_is, size_found, size_again}

@@ -1,6 +1,6 @@
 -- Second header and trailer labels: a label that is read has the fields returned, and every second
 -- label is read.
-use Rattle.std.proofs.Common.{◌≡◌, ℕ, ◌+◌, ◌/◌, ◌%◌, ◌<◌, List, [], ◌∷◌, length, get_or, Bool, true}
+use Rattle.std.proofs.Common.{◌≡◌, ℕ, ◌+◌, ◌<◌, List, [], ◌∷◌, length, Bool, true}
 use Rattle.std.proofs.Common.{false, cond, eqb, Ok, Err, refl, sym, subst, arith, rules, inl, inr}
 use Rattle.std.proofs.Common.{◌⊎◌}
 use Rattle.std.specs.Str.{bytes_eq}

@@ -1,8 +1,8 @@
 -- The meaning of each reading step that does not fail, and conversely the step's result from the
 -- label.
-use Rattle.std.proofs.Common.{◌≡◌, ℕ, ◌-◌, ◌^◌, ◌<◌, ◌≤◌, Bool, true, false, cond, ltb, eqb, List}
-use Rattle.std.proofs.Common.{[], ◌∷◌, length, get_or, take, drop, Result, Ok, Err, refl, sym}
-use Rattle.std.proofs.Common.{subst, arith}
+use Rattle.std.proofs.Common.{◌≡◌, ℕ, ◌-◌, ◌<◌, ◌≤◌, Bool, true, false, cond, ltb, eqb, List}
+use Rattle.std.proofs.Common.{[], ◌∷◌, length, get_or, take, drop, Result, Ok, Err, refl}
+use Rattle.std.proofs.Common.{arith}
 use Rattle.std.specs.Str.{all_ascii_digits}
 use Rattle.std.specs.Prelude.{IfOk}
 use Rattle.std.proofs.lemmas.Bool.{ltb-false, le-ltb, eqb-true}
@@ -11,7 +11,6 @@ use Rattle.std.proofs.lemmas.Slice.Eq.{bytes_eq-Decides}
 use Rattle.tape_label.specs.declared.label.LabelFault.{LabelFault}
 use Rattle.tape_label.specs.declared.label.LabelFault.TheVariants as faults
 use Rattle.tape_label.specs.declared.values.Kind.{Kind}
-use Rattle.tape_label.specs.Digits.{digits, number_of}
 use Rattle.tape_label.specs.Kinds.{identifier}
 use Rattle.tape_label.specs.Positions.{positions, HasNumber}
 use Rattle.tape_label.specs.Reading.{◌>>=◌, eighty, begins_as, of_kind, number_at}

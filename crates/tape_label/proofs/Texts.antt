@@ -1,5 +1,5 @@
 -- The text written for a label is a label with its fields.
-use Rattle.std.proofs.Common.{ℕ, List, arith, inl}
+use Rattle.std.proofs.Common.{ℕ, List, arith}
 use Rattle.tape_label.specs.declared.values.Kind.{Kind}
 use Rattle.tape_label.specs.declared.values.Kind.TheVariants as kinds
 use Rattle.tape_label.specs.declared.values.Vol1.{Vol1}

@@ -1,9 +1,8 @@
-use Rattle.std.proofs.Common.{◌≡◌, ◌≢◌, ◌-◌, ◌++◌, take, replicate, List, [], Bool, false, subst}
+use Rattle.std.proofs.Common.{◌≡◌, ◌≢◌, ◌-◌, ◌++◌, take, replicate, [], false, subst}
 use Rattle.std.proofs.Common.{sym, ap, refl, ◌∙◌, arith}
 use Rattle.std.specs.Vec.{with_items}
-use Rattle.tape_blocks.specs.Block.{Portion}
-use Rattle.tape_blocks.specs.Packed.{parts_in, Keeps}
-use Rattle.tape_blocks.specs.Packing.{Packing, Given, emptied, the_packing}
+use Rattle.tape_blocks.specs.Packed.{Keeps}
+use Rattle.tape_blocks.specs.Packing.{Packing, Given, emptied}
 use Rattle.tape_blocks.proofs.PackerSteps.{given_is, given_keeps, padded_in, keeps_nothing}
 use Rattle.tape_blocks.proofs.PackLaws.{keeps_itself}
 use Rattle.tape_blocks.proofs.PackerSteps.{packed_is, not_closed}
