@@ -2,7 +2,7 @@
 use Rattle.std.proofs.Common.{◌≡◌, ◌≢◌, ◌⊎◌, inl, inr, ℕ, zero, suc, ◌+◌, ◌<◌, ◌≤◌, Bool, true}
 use Rattle.std.proofs.Common.{false, List, [], ◌∷◌, ◌++◌, length, Option, Some, None, refl, sym, ap}
 use Rattle.std.proofs.Common.{subst, ◌∙◌, arith, eq-eqb}
-use Rattle.std.specs.Prelude.{IsSome, MatchBool, option_and_then, slice_get, ◌==◌}
+use Rattle.std.specs.Prelude.{IsSome, option_and_then, slice_get, ◌==◌}
 use Rattle.std.proofs.lemmas.Bool.Decides.{nat_tests}
 use Rattle.tape_blocks.specs.Tight.{Chain}
 use Rattle.tape_set.specs.declared.position.Position.{Position}

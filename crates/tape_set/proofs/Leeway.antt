@@ -2,7 +2,7 @@
 -- contract has to exclude them.
 use Rattle.tape_set.specs.Lawful.{TellsForm}
 use Rattle.tape_set.proofs.Worked.{makes, alike_file}
-use Rattle.std.proofs.Common.{ℕ, List, [], ◌∷◌, ◌++◌, true, refl, codes, lit≤, lit<}
+use Rattle.std.proofs.Common.{ℕ, List, [], ◌∷◌, ◌++◌, true, refl, codes, lit≤}
 use Rattle.std.specs.Prelude.{replicate}
 use Rattle.tape_image.specs.Tape.{IsTapeItem, block}
 use Rattle.tape_label.specs.declared.values.Kind.TheVariants as kinds

@@ -15,7 +15,6 @@ use Rattle.tape_label.specs.declared.values.Head1.{Head1}
 use Rattle.tape_label.specs.declared.values.Trail1.{Trail1}
 use Rattle.tape_label.specs.Head1.{HeadFits}
 use Rattle.tape_label.specs.Head2.{Head2Fits}
-use Rattle.tape_label.specs.Trail1.{TrailFits}
 use Rattle.tape_blocks.specs.declared.parts.Shape.{Shape}
 use Rattle.tape_blocks.specs.Block.{Holds}
 use Rattle.tape_blocks.specs.Spans.{InOrder}
@@ -27,12 +26,10 @@ use Rattle.tape_set.specs.Lawful.{IsLawful, IsVolume, IsHeader, IsTrailer, IsFil
 use Rattle.tape_set.specs.Lawful.{GoesOn, most_blocks, label_count}
 use Rattle.tape_set.specs.Tight.{second_of}
 use Rattle.tape_set.proofs.Numbering.{placed}
-use Rattle.tape_set.proofs.Worked.{set_id, head, trail, hdr1, trailer, made, form, Fit, hdr1_is}
-use Rattle.tape_set.proofs.Worked.{trailer_is, second_is, second_sized, eighty, label_count_most}
-use Rattle.tape_set.proofs.Worked.{made_section, made_form, plain_volume_is}
+use Rattle.tape_set.proofs.Worked.{set_id, head, trail, trailer, made, form, hdr1_is}
+use Rattle.tape_set.proofs.Worked.{trailer_is, second_is, second_sized, label_count_most}
 use Rattle.tape_set.proofs.WorkedFile.{shape, shape_fits, record_of, whole}
 use Rattle.tape_set.proofs.RefusedLawful.{set_of}
-use Rattle.tape_set.proofs.RefusedSets.{fit_of}
 
 -- ---- all clauses except the one about the sizes of blocks
 

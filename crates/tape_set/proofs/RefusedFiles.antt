@@ -1,9 +1,9 @@
 -- For each clause of a valid file, a file that violates only this clause.
-use Rattle.tape_set.proofs.Worked.{makes, alike_file}
+use Rattle.tape_set.proofs.Worked.{makes}
 use Rattle.tape_set.specs.Lawful.{IsFile}
 use Rattle.std.specs.List.{AllByRecursion}
-use Rattle.std.proofs.Common.{◌≡◌, [], ◌∷◌, length, true, false, refl, sym, ap, ◌∙◌, subst, arith}
-use Rattle.std.proofs.Common.{lit≤, lit<}
+use Rattle.std.proofs.Common.{◌≡◌, [], ◌∷◌, length, true, false, sym, ap, ◌∙◌, subst, arith}
+use Rattle.std.proofs.Common.{lit≤}
 use Rattle.std.specs.Prelude.{replicate}
 use Rattle.tape_label.specs.declared.values.Format.TheVariants.{Fixed}
 use Rattle.tape_label.specs.Head2.{Head2Fits}
@@ -16,12 +16,11 @@ use Rattle.tape_set.specs.Before.{section_parts}
 use Rattle.tape_set.specs.Lawful.{HasForm, TellsForm, FileForm, Ends}
 use Rattle.tape_set.specs.Tight.{second_of}
 use Rattle.tape_set.proofs.Forms.{one_form}
-use Rattle.tape_set.proofs.Worked.{set_id, made, form, made_section, made_form, plain_volume}
-use Rattle.tape_set.proofs.Worked.{plain_volume_is}
+use Rattle.tape_set.proofs.Worked.{set_id, made, form, made_form, plain_volume}
 use Rattle.tape_set.proofs.WorkedFile.{shape, shape_fits}
 use Rattle.tape_set.proofs.WorkedSpan as span
 use Rattle.tape_set.proofs.RefusedLawful.{base, set_of}
-use Rattle.tape_set.proofs.RefusedSets.{OnlyFiles, fit_of, empty_section, empty_form}
+use Rattle.tape_set.proofs.RefusedSets.{OnlyFiles, fit_of, empty_form}
 
 -- the only section of the file ends with EOV1
 abbrev unended : FileSet

@@ -1,28 +1,23 @@
 -- Small sets with invalid volume labels or second labels, and files whose sections state different
 -- forms.
-use Rattle.tape_set.proofs.Worked.{makes, alike_file}
-use Rattle.std.proofs.Common.{lit<}
+use Rattle.tape_set.proofs.Worked.{makes}
 use Rattle.std.proofs.Common.{◌≡◌, ℕ, List, [], ◌∷◌, ◌++◌, true, false, refl, sym, ap, ◌∙◌, inl}
 use Rattle.std.proofs.Common.{inr, arith, codes, lit≤}
 use Rattle.std.specs.Prelude.{replicate, slice_index}
 use Rattle.tape_label.specs.declared.values.Format.TheVariants.{Fixed, Counted}
 use Rattle.tape_label.specs.declared.values.Kind.TheVariants as kinds
 use Rattle.tape_label.specs.declared.values.Head1.{Head1}
-use Rattle.tape_label.specs.Positions.{positions}
-use Rattle.tape_label.specs.Kinds.{identifier}
 use Rattle.tape_label.specs.Head1.{IsHead1}
-use Rattle.tape_label.specs.Head2.{Head2Fits}
 use Rattle.tape_label.specs.Written.{text_of, head1_pieces}
 use Rattle.tape_label.proofs.Widths.{head_wide}
 use Rattle.tape_label.proofs.Texts.{head1_text_is}
 use Rattle.tape_blocks.specs.declared.parts.Shape.{Shape}
 use Rattle.tape_set.specs.Layout.{Section}
-use Rattle.tape_set.specs.Lawful.{FileForm, TellsForm, IsVolume, form_of}
-use Rattle.tape_set.specs.Tight.{second_of}
+use Rattle.tape_set.specs.Lawful.{FileForm, TellsForm, IsVolume}
 use Rattle.tape_set.proofs.Forms.{one_form}
-use Rattle.tape_set.proofs.Worked.{head, wide, vol1, second, made, form, second_is, made_form}
+use Rattle.tape_set.proofs.Worked.{head, wide, vol1, second, made, form, second_is}
 use Rattle.tape_set.proofs.WorkedFile.{shape, shape_fits}
-use Rattle.tape_set.proofs.RefusedSets.{OnlyVolumes, on_volume, only_volume, fit_of, empty_form}
+use Rattle.tape_set.proofs.RefusedSets.{OnlyVolumes, on_volume, only_volume, empty_form}
 
 -- ---- labels of volumes
 

@@ -1,17 +1,16 @@
 -- Sets that are not tight because of a later section or file, or because of the number of their
 -- shapes.
-use Rattle.tape_set.proofs.Worked.{makes, alike_file}
-use Rattle.std.proofs.Common.{lit<}
-use Rattle.std.proofs.Common.{◌≡◌, ◌≤◌, ℕ, List, [], ◌∷◌, ◌++◌, true, false, refl, ap, arith, codes}
+use Rattle.tape_set.proofs.Worked.{makes}
+use Rattle.std.proofs.Common.{◌≤◌, ℕ, List, [], ◌∷◌, ◌++◌, true, codes}
 use Rattle.std.proofs.Common.{lit≤}
-use Rattle.std.specs.Prelude.{replicate, length}
+use Rattle.std.specs.Prelude.{replicate}
 use Rattle.tape_label.specs.declared.values.Kind.TheVariants as kinds
 use Rattle.tape_blocks.specs.Packing.{IsWritable}
 use Rattle.tape_blocks.specs.Tight as packing
 use Rattle.tape_set.specs.Layout.{FileSet, Section}
 use Rattle.tape_set.specs.Before.{blocks_of_all}
 use Rattle.tape_set.specs.Tight.{IsTightFile, least_capacity}
-use Rattle.tape_set.proofs.Worked.{set_id, made, second, made_plain, plain_volume}
+use Rattle.tape_set.proofs.Worked.{set_id, made, second, plain_volume}
 use Rattle.tape_set.proofs.WorkedFile.{shape, writable, no_records}
 use Rattle.tape_set.proofs.WorkedSpan as span
 use Rattle.tape_set.proofs.RefusedTight.{OnlyFiles, OnlyEnds, OnlyChanges, nothing_packed}

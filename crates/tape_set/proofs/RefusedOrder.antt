@@ -4,15 +4,14 @@ use Rattle.tape_set.proofs.WorkedFile.{shape_fits}
 use Rattle.tape_set.specs.Lawful.{IsFile}
 use Rattle.std.specs.List.{AllByRecursion}
 use Rattle.tape_set.proofs.Worked.{makes, alike_file}
-use Rattle.std.proofs.Common.{◌≡◌, [], ◌∷◌, true, false, refl, inl, inr, arith, lit≤, lit<}
+use Rattle.std.proofs.Common.{◌≡◌, [], ◌∷◌, true, false}
 use Rattle.tape_set.specs.Layout.{FileSet}
 use Rattle.tape_set.specs.Lawful.{HasForm}
-use Rattle.tape_set.proofs.Worked.{set_id, made, form, made_section, made_form, plain_volume}
-use Rattle.tape_set.proofs.Worked.{plain_volume_is}
+use Rattle.tape_set.proofs.Worked.{set_id, made, form, made_form, plain_volume}
 use Rattle.tape_set.proofs.WorkedFile.{shape}
 use Rattle.tape_set.proofs.WorkedSpan as span
 use Rattle.tape_set.proofs.RefusedLawful.{set_of}
-use Rattle.tape_set.proofs.RefusedSets.{OnlyFiles, OnlyGoesOn, fit_of, empty_section, empty_form}
+use Rattle.tape_set.proofs.RefusedSets.{OnlyFiles, OnlyGoesOn, empty_section, empty_form}
 use Rattle.tape_set.proofs.RefusedSets.{empty_file}
 
 -- ---- the end of a file

@@ -1,9 +1,9 @@
 -- Second labels that do not state the shape, a second file that is not tight, and a change of
 -- volumes before the end of a file that has no room.
-use Rattle.tape_set.proofs.Worked.{makes, alike_file}
-use Rattle.std.proofs.Common.{◌≡◌, ◌≤◌, ℕ, List, [], ◌∷◌, ◌++◌, get_or, true, false, refl, sym, ap}
-use Rattle.std.proofs.Common.{subst, arith, lit≤, lit<}
-use Rattle.std.specs.Prelude.{map, replicate, slice_index, Ok}
+use Rattle.tape_set.proofs.Worked.{makes}
+use Rattle.std.proofs.Common.{◌≡◌, ◌≤◌, ℕ, List, [], ◌∷◌, ◌++◌, true, false, refl}
+use Rattle.std.proofs.Common.{lit≤, lit<}
+use Rattle.std.specs.Prelude.{map, replicate}
 use Rattle.tape_label.specs.declared.values.Kind.{Kind}
 use Rattle.tape_label.specs.declared.values.Kind.TheVariants as kinds
 use Rattle.tape_label.specs.declared.values.Head2.{Head2}

@@ -1,12 +1,12 @@
 -- For each clause of a tight file, a file that violates only this clause.
-use Rattle.tape_set.proofs.Worked.{makes, alike_file}
-use Rattle.std.proofs.Common.{◌≡◌, ◌≤◌, List, [], ◌∷◌, ◌++◌, get_or, true, false, refl, sym, ap}
-use Rattle.std.proofs.Common.{subst, arith, codes, lit≤}
-use Rattle.std.specs.Prelude.{replicate, slice_index}
+use Rattle.tape_set.proofs.Worked.{makes}
+use Rattle.std.proofs.Common.{◌≤◌, List, [], ◌∷◌, ◌++◌, true, false}
+use Rattle.std.proofs.Common.{codes, lit≤}
+use Rattle.std.specs.Prelude.{replicate}
 use Rattle.std.specs.List.{AllByRecursion}
 use Rattle.tape_label.specs.declared.values.Format.TheVariants.{Fixed}
 use Rattle.tape_label.specs.declared.values.Kind.TheVariants as kinds
-use Rattle.tape_label.specs.Head2.{IsHead2, Head2Fits}
+use Rattle.tape_label.specs.Head2.{Head2Fits}
 use Rattle.tape_blocks.specs.declared.parts.Shape.{Shape}
 use Rattle.tape_blocks.specs.Packing.{IsWritable}
 use Rattle.tape_blocks.specs.Tight as packing
@@ -15,7 +15,7 @@ use Rattle.tape_set.specs.Layout.{FileSet, Section}
 use Rattle.tape_set.specs.Before.{blocks_of_all}
 use Rattle.tape_set.specs.Tight.{HasPlainLabels, least_capacity, second_of}
 use Rattle.tape_set.proofs.Forms.{head2_same}
-use Rattle.tape_set.proofs.Worked.{set_id, second, made, second_is, made_plain, plain_volume}
+use Rattle.tape_set.proofs.Worked.{set_id, second, made, second_is, plain_volume}
 use Rattle.tape_set.proofs.WorkedFile.{shape, shape_fits, writable}
 use Rattle.tape_set.proofs.WorkedReadings.{shorter}
 use Rattle.tape_set.proofs.RefusedTight.{OnlyFiles, nothing_packed}

@@ -26,7 +26,7 @@ use Rattle.tape_blocks.specs.declared.parts.Shape.{Shape}
 use Rattle.tape_blocks.specs.Block.{Portion, Holds}
 use Rattle.tape_blocks.specs.Packing.{written}
 use Rattle.tape_blocks.specs.Tight.{Filled}
-use Rattle.tape_set.specs.Layout.{Section, Volume, Entry, a_label, a_mark, item_of, section_entries}
+use Rattle.tape_set.specs.Layout.{Section, Volume, Entry, item_of, section_entries}
 use Rattle.tape_set.specs.Layout.{data_group}
 use Rattle.tape_set.specs.Lawful.{IsVolume, IsSection, FileForm, HasForm, form_of, most_blocks}
 use Rattle.tape_set.specs.Lawful.{label_count, Ends, IsFile}

@@ -2,16 +2,14 @@
 -- file without records.
 use Rattle.tape_set.proofs.Worked.{makes, alike_file}
 use Rattle.std.proofs.Common.{◌≡◌, ◌≤◌, ℕ, zero, suc, ◌+◌, List, [], ◌∷◌, ◌++◌, length, true, false}
-use Rattle.std.proofs.Common.{refl, arith, codes, lit≤, lit<, length-append}
+use Rattle.std.proofs.Common.{refl, codes, lit≤, lit<}
 use Rattle.std.specs.Prelude.{map, replicate}
-use Rattle.std.proofs.lemmas.List.{length-replicate}
 use Rattle.std.specs.List.{AllByRecursion}
 use Rattle.tape_image.specs.Tape.{IsTapeItem, block, mark}
 use Rattle.tape_label.specs.declared.values.Format.TheVariants.{Fixed}
 use Rattle.tape_label.specs.declared.values.Kind.TheVariants as kinds
 use Rattle.tape_label.specs.Digits.{digits}
 use Rattle.tape_label.specs.Head2.{Head2Fits}
-use Rattle.tape_label.proofs.DigitLaws.{length-digits}
 use Rattle.tape_blocks.specs.declared.parts.Shape.{Shape}
 use Rattle.tape_blocks.specs.declared.parts.Span.TheVariants.{Whole}
 use Rattle.tape_blocks.specs.Block.{Portion, Holds, IsUnit}
@@ -27,9 +25,8 @@ use Rattle.tape_set.specs.Sizes.{items_size}
 use Rattle.tape_set.specs.Before.{before}
 use Rattle.tape_set.specs.Lawful.{IsLawful, most_blocks}
 use Rattle.tape_set.specs.Tight.{IsTight, IsTightFile, second_of}
-use Rattle.tape_set.proofs.Worked.{set_id, vol1, hdr1, second, trailer, made, filled, form, Fit}
-use Rattle.tape_set.proofs.Worked.{made_section, made_form, made_plain, plain_volume}
-use Rattle.tape_set.proofs.Worked.{plain_volume_is}
+use Rattle.tape_set.proofs.Worked.{set_id, vol1, hdr1, second, trailer, made, filled, Fit}
+use Rattle.tape_set.proofs.Worked.{made_plain, plain_volume}
 
 -- ---- records and blocks
 

@@ -2,20 +2,19 @@
 -- exactly enough room for a section without blocks, so the first section of the second file has no
 -- blocks, and ends with EOV1.
 use Rattle.tape_set.proofs.Worked.{makes, alike_file}
-use Rattle.std.proofs.Common.{lit<}
-use Rattle.std.proofs.Common.{◌≡◌, ◌≤◌, ℕ, [], ◌∷◌, ◌++◌, true, false, refl, inl, lit≤}
+use Rattle.std.proofs.Common.{◌≡◌, [], ◌∷◌, ◌++◌, true, false, refl, lit≤}
 use Rattle.std.specs.Prelude.{map, replicate}
 use Rattle.tape_set.specs.declared.position.Position.TheVariants.{Finished}
 use Rattle.tape_set.specs.Position.{awaiting, start}
 use Rattle.tape_set.specs.Layout.{FileSet, all_items}
 use Rattle.tape_set.specs.Sizes.{items_size}
 use Rattle.tape_set.specs.Before.{before}
-use Rattle.tape_set.specs.Lawful.{IsLawful, most_blocks}
+use Rattle.tape_set.specs.Lawful.{IsLawful}
 use Rattle.tape_set.specs.Reach.{far}
 use Rattle.tape_set.specs.Tight.{IsTight}
-use Rattle.tape_set.proofs.Worked.{set_id, made, form, Fit, made_section, made_form, made_plain}
-use Rattle.tape_set.proofs.Worked.{plain_volume, plain_volume_is}
-use Rattle.tape_set.proofs.WorkedFile.{shape, shape_fits, writable, records, lengths, blocks, held}
+use Rattle.tape_set.proofs.Worked.{set_id, made, made_plain}
+use Rattle.tape_set.proofs.Worked.{plain_volume}
+use Rattle.tape_set.proofs.WorkedFile.{shape, shape_fits, writable, lengths, blocks, held}
 use Rattle.tape_set.proofs.WorkedFile.{sized, wholes, in_order, packed}
 use Rattle.tape_set.proofs.WorkedReadings.{reading}
 

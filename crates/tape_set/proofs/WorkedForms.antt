@@ -1,6 +1,5 @@
 -- Files whose sections state different record lengths in their second labels, which is valid in
 -- formats D and S.
-use Rattle.std.proofs.Common.{lit<}
 use Rattle.std.proofs.Common.{◌≡◌, ◌≤◌, ℕ, [], ◌∷◌, true, false, refl, sym, subst, lit≤}
 use Rattle.tape_label.specs.declared.values.Format.TheVariants.{Counted, Spanned}
 use Rattle.tape_label.specs.Head2.{Head2Fits}

@@ -1,10 +1,10 @@
 -- Positions inside a block, in the worked file: its blocks have 10, 10 and 5 parts.
-use Rattle.tape_set.proofs.Worked.{makes, alike_file}
-use Rattle.std.proofs.Common.{◌≡◌, ◌∷◌, ◌++◌, length, true, false, refl, ap, inl, inr, arith, lit<}
+use Rattle.tape_set.proofs.Worked.{makes}
+use Rattle.std.proofs.Common.{◌≡◌, ◌∷◌, ◌++◌, true, false, refl, inl, inr, arith, lit<}
 use Rattle.std.specs.Prelude.{replicate}
 use Rattle.tape_set.specs.declared.position.Position.TheVariants.{Finished}
 use Rattle.tape_set.specs.Position.{start, awaiting, at_part, next_block, next_section}
-use Rattle.tape_set.specs.Before.{before, blocks_of, parts_at, IsIn}
+use Rattle.tape_set.specs.Before.{before, IsIn}
 use Rattle.tape_set.specs.Reach.{far}
 use Rattle.tape_set.proofs.WorkedFile.{one_volume, two_volumes, wholes}
 use Rattle.tape_set.proofs.WorkedReadings.{reading}

@@ -1,12 +1,12 @@
 -- The positions of the worked sets, and readings of all their volumes.
-use Rattle.tape_set.proofs.Worked.{makes, alike_file}
-use Rattle.std.proofs.Common.{◌≡◌, [], ◌∷◌, length, true, None, refl, ap, inl, arith}
+use Rattle.tape_set.proofs.Worked.{makes}
+use Rattle.std.proofs.Common.{◌≡◌, [], ◌∷◌, true, refl, inl, arith}
 use Rattle.std.specs.Prelude.{replicate, IsSome}
 use Rattle.tape_image.specs.Tape.{bad}
 use Rattle.tape_set.specs.declared.position.Position.TheVariants.{Finished}
 use Rattle.tape_set.specs.Position.{start, awaiting}
-use Rattle.tape_set.specs.Layout.{file_of, section_of}
-use Rattle.tape_set.specs.Before.{blocks_of, IsIn}
+use Rattle.tape_set.specs.Layout.{file_of}
+use Rattle.tape_set.specs.Before.{IsIn}
 use Rattle.tape_set.specs.Sizes.{items_size}
 use Rattle.tape_set.specs.Reading.{as_read, whole_readings}
 use Rattle.tape_set.specs.Reach.{far_over}

@@ -22,9 +22,8 @@ use Rattle.tape_set.specs.Sizes.{items_size}
 use Rattle.tape_set.specs.Before.{before}
 use Rattle.tape_set.specs.Lawful.{IsLawful}
 use Rattle.tape_set.specs.Tight.{IsTight, IsTightChange, ChainBehind, second_of}
-use Rattle.tape_set.proofs.Worked.{set_id, made, filled, form, made_section, made_form}
-use Rattle.tape_set.proofs.Worked.{made_plain, plain_volume, plain_volume_is}
-use Rattle.tape_set.proofs.WorkedFile.{fit_of}
+use Rattle.tape_set.proofs.Worked.{set_id, made, filled}
+use Rattle.tape_set.proofs.Worked.{plain_volume}
 
 -- for a format other than F the least record length does not matter
 pub not_fixed : Spanned ≡ Fixed → 1 ≤ 0

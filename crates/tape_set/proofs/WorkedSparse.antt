@@ -1,7 +1,7 @@
 -- A valid set that no writer writes: a data block without parts, a volume that ends with EOF1
 -- although the next file begins on the next volume, and a volume without sections.
 use Rattle.tape_set.proofs.Worked.{makes, alike_file}
-use Rattle.std.proofs.Common.{◌≡◌, ◌≤◌, ℕ, [], ◌∷◌, true, refl, inr, lit≤, lit<}
+use Rattle.std.proofs.Common.{◌≡◌, [], ◌∷◌, true, refl, lit≤, lit<}
 use Rattle.std.specs.Prelude.{map, replicate, length}
 use Rattle.tape_label.specs.declared.values.Format.TheVariants.{Fixed}
 use Rattle.tape_blocks.specs.Block.{Holds}
@@ -10,10 +10,9 @@ use Rattle.tape_set.specs.declared.position.Position.TheVariants.{Finished}
 use Rattle.tape_set.specs.Position.{start, awaiting}
 use Rattle.tape_set.specs.Layout.{FileSet, all_items}
 use Rattle.tape_set.specs.Before.{before}
-use Rattle.tape_set.specs.Lawful.{IsLawful, most_blocks}
+use Rattle.tape_set.specs.Lawful.{IsLawful}
 use Rattle.tape_set.specs.Reach.{far}
-use Rattle.tape_set.proofs.Worked.{set_id, made, form, Fit, made_section, made_form, plain_volume}
-use Rattle.tape_set.proofs.Worked.{plain_volume_is}
+use Rattle.tape_set.proofs.Worked.{set_id, made, plain_volume}
 use Rattle.tape_set.proofs.WorkedFile.{shape, shape_fits}
 use Rattle.tape_set.proofs.WorkedReadings.{reading}
 

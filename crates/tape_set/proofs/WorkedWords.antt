@@ -1,7 +1,7 @@
 -- Definitions used by the laws, worked out: prefixes of lists, elements of lists, the order of
 -- positions, numbers that fit their digits, and the first item that was not readable.
-use Rattle.tape_set.proofs.Worked.{makes, alike_file}
-use Rattle.std.proofs.Common.{◌≡◌, ◌≤◌, ℕ, [], ◌∷◌, ◌++◌, length, Bool, true, false, Option, Some}
+use Rattle.tape_set.proofs.Worked.{makes}
+use Rattle.std.proofs.Common.{◌≡◌, ◌≤◌, ℕ, [], ◌∷◌, ◌++◌, length, true, false}
 use Rattle.std.proofs.Common.{refl, ap, inl, inr, arith, lit≤, lit<, length-append}
 use Rattle.std.specs.Prelude.{slice_index, drop, unwrap_or}
 use Rattle.tape_set.specs.declared.position.Position.TheVariants.{Awaits, Finished}
