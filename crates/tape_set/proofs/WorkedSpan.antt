@@ -136,7 +136,8 @@ spanned = record {
 
 spanned_lawful : IsLawful spanned
 spanned_lawful =
-    search (makes, alike_file shape, shape_fits, middles_sized 21, held, middles_in_order 21) depth 9
+    search (makes, alike_file shape, shape_fits, middles_sized 21, held, middles_in_order 21)
+    depth 9
   where
     held : AllByRecursion (λ b. Holds Spanned 0 0 b.bytes b.parts) on_first
         × AllByRecursion (λ b. Holds Spanned 0 0 b.bytes b.parts) (last_block ∷ [])
