@@ -139,29 +139,38 @@ leaves_more stands old new said says P Q stops.WriteFailed e f (inr made) = inr 
 pub left_now : {L R O : Type 0} (result : Result MergeEnd MergeStop) (place : O → Option (List ℕ))
     (old new : O) (same : Type 0) (size : L → ℕ) (gives : Mounting L R)
     (remaining : R → Option (List ℕ)) (shelf left : L) (devices : List R)
-    (firsts : List (Reading R)) (says : List (List ℕ) → Type 0)
-    (holds : MergeEnd → List (List ℕ) → Type 0)
+    (firsts : List (Reading R)) (names : List (List ℕ)) (was is : Option (List ℕ))
+    (lines : Type 0) (holds : MergeEnd → List (List ℕ) → Type 0)
     → MountsAll size gives shelf left devices → AreAtFront (map remaining devices) firsts
-    → IfErr result (LeavesPlace place old new (same ⊎ IfImages firsts says)
-    ((end : MergeEnd) × IfImages firsts (holds end)))
     → IfErr result (LeavesPlace place old new
-    (same ⊎ IfMounted size gives remaining shelf left says)
-    ((end : MergeEnd) × IfMounted size gives remaining shelf left (holds end)))
-left_now (Ok end) place old new same size gives remaining shelf left devices firsts says holds
-    mounts
-    front h = tt
-left_now (Err stop) place old new same size gives remaining shelf left devices firsts says holds
-    mounts front h =
-    leaves_more place old new (same ⊎ IfImages firsts says) _ _ _ stop mounted (λ made. (
+    (same ⊎ ReportsNoImage R (IfImages firsts) names was is)
+    (lines × ((end : MergeEnd) × IfImages firsts (holds end))))
+    → IfErr result (LeavesPlace place old new
+    (same ⊎ ReportsNoImage R (IfMounted size gives remaining shelf left) names was is)
+    (lines × ((end : MergeEnd) × IfMounted size gives remaining shelf left (holds end))))
+left_now (Ok end) place old new same size gives remaining shelf left devices firsts names was is
+    lines holds mounts front h = tt
+left_now {R = R} (Err stop) place old new same size gives remaining shelf left devices firsts names
+    was is lines holds mounts front h = leaves_more place old new _ _ _ _ stop said (λ made. (
       made.0,
-      if_mounted size gives remaining shelf left devices firsts (holds made.0) mounts front made.1,
+      (
+        made.1.0,
+        if_mounted size gives remaining shelf left devices firsts (holds made.1.0) mounts front
+            made.1.1,
+      ),
     )) h
   where
-    mounted : same ⊎ IfImages firsts says
-        → same ⊎ IfMounted size gives remaining shelf left says
-    mounted (inl is) = inl is
-    mounted (inr said) =
-        inr (if_mounted size gives remaining shelf left devices firsts says mounts front said)
+    said : same ⊎ ReportsNoImage R (IfImages firsts) names was is
+        → same ⊎ ReportsNoImage R (IfMounted size gives remaining shelf left) names was is
+    said (inl same) = inl same
+    said (inr (nows, inl (part, of))) = inr (
+      nows,
+      inl (part, if_mounted size gives remaining shelf left devices firsts _ mounts front of),
+    )
+    said (inr (nows, inr (n, part, of))) = inr (
+      nows,
+      inr (n, part, if_mounted size gives remaining shelf left devices firsts _ mounts front of),
+    )
 
 -- the output's name was not touched
 pub stays : {O : Type 0} (stands : O → Option (List ℕ)) (place : O) (said made : Type 0)
@@ -194,17 +203,16 @@ pub says_front : {R : Type 0} (firsts nows : List (Reading R)) (counts : Merged)
     (old new : Option (List ℕ))
     → IfImages firsts (λ images. MergesImages images nows counts first mid log logged)
     → AppendsFront old new (lines_from (reading_line names) 0 nows)
-    → same ⊎ IfImages firsts (λ images. ReportsNoImage R images names old new)
+    → same ⊎ ReportsNoImage R (IfImages firsts) names old new
 says_front firsts nows counts first mid log logged names same old new merges part =
-    inr (λ images front.
-    let m = merges images front in (nows, inl (m.readings, m.have, part)))
+    inr (nows, inl (part, λ images front. let m = merges images front in (m.readings, m.have)))
 
 pub says_lines : {R : Type 0} (firsts nows : List (Reading R)) (counts : Merged)
     (first mid : Writer) (log logged : Option (List ℕ)) (names : List (List ℕ)) (same : Type 0)
     (old new : Option (List ℕ))
     → IfImages firsts (λ images. MergesImages images nows counts first mid log logged)
     → Appends old new (lines_from (reading_line names) 0 nows)
-    → same ⊎ IfImages firsts (λ images. ReportsNoImage R images names old new)
+    → same ⊎ ReportsNoImage R (IfImages firsts) names old new
 says_lines firsts nows counts first mid log logged names same old new merges wrote =
     let lines = lines_from (reading_line names) 0 nows in
     says_front firsts nows counts first mid log logged names same old new merges
@@ -221,12 +229,14 @@ module _ {R : Type 0} (firsts nows : List (Reading R)) (was now : Writer) (n : �
       subst (λ (f : MergeFault). FaultsImages images nows was now f) is (faulted images front)
 
   abbrev pub Says : Option (List ℕ) → Option (List ℕ) → Type 0
-  Says old new = same ⊎ IfImages firsts (λ images. ReportsNoImage R images names old new)
+  Says old new = same ⊎ ReportsNoImage R (IfImages firsts) names old new
 
   pub says_first : (old new : Option (List ℕ))
       → AppendsFront old new (lines_from (reading_line names) 0 nows) → Says old new
-  says_first old new part = inr (λ images front.
-      let d = differ images front in (nows, inl (d.readings, d.have, part)))
+  says_first old new part = inr (
+    nows,
+    inl (part, λ images front. let d = differ images front in (d.readings, d.have)),
+  )
 
   -- also the number of the item, or a prefix of that line
   pub says_differ : (old mid new : Option (List ℕ))
@@ -235,15 +245,15 @@ module _ {R : Type 0} (firsts nows : List (Reading R)) (was now : Writer) (n : �
   says_differ old mid new wrote part =
       let lines = lines_from (reading_line names) 0 nows in
       let items = lines_from (has_line names) 0 nows in
-      inr (λ images front. (
+      inr (
         nows,
         inr (
           n,
-          differ images front,
           front_then old mid new lines (differ_line n) items _ wrote part
               (sym (append_assoc lines (differ_line n) items)),
+          differ,
         ),
-      ))
+      )
 
   -- also items of the readings there, or a prefix of those lines
   pub says_items : (old mid new : Option (List ℕ))
@@ -252,16 +262,16 @@ module _ {R : Type 0} (firsts nows : List (Reading R)) (was now : Writer) (n : �
   says_items old mid new wrote part =
       let lines = lines_from (reading_line names) 0 nows in
       let items = lines_from (has_line names) 0 nows in
-      inr (λ images front. (
+      inr (
         nows,
         inr (
           n,
-          differ images front,
           front_then old mid new (lines ++ differ_line n) items [] _ wrote part
               (sym (append_assoc lines (differ_line n) items)
               ∙ sym (append-nil ((lines ++ differ_line n) ++ items))),
+          differ,
         ),
-      ))
+      )
 
 -- ---- the readings
 

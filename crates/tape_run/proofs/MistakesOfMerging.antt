@@ -16,7 +16,7 @@ use Rattle.tape_run.specs.declared.merge.reading.Reading.{Reading}
 use Rattle.tape_run.specs.Merging.{IsReadAs, IsReadFrom, IsMerged, Differ}
 use Rattle.tape_run.specs.declared.merge.reading.Verdict.TheVariants.{Third}
 use Rattle.tape_run.specs.MergeSteps.{AllStopped, IsFirst, Judges, AreJudgedAt}
-use Rattle.tape_run.specs.MergedImages.{TakeImages, DifferImages}
+use Rattle.tape_run.specs.MergedImages.{TakeImages}
 use Rattle.tape_run.specs.MergeCalls.{alone_in}
 use Rattle.tape_run.specs.MergeNow.{FitsEnd, EndsAs, end_bytes, IsTooLong, ReportsNoImage}
 use Rattle.tape_run.specs.MergeLines.{lines_from, reading_line, has_line, differ_line}
@@ -98,9 +98,10 @@ merge_too_long_at_once R size long = go long.nows long.readings long.have long.m
     go (n ∷ ns) rs have merged comes e over = absurd have
 
 -- merge_reported_without_a_file: the merged image has no name, but its line was reported
-merge_reported_without_a_file : (R : Type 0) (images names : List (List ℕ)) (rest : List ℕ)
-    → ReportsNoImage R images names (Some []) (Some (codes "MERGED" ++ rest)) → ⊥
-merge_reported_without_a_file R images names rest (nows, said) = either said
+merge_reported_without_a_file : (R : Type 0) (if_known : (List (List ℕ) → Type 0) → Type 0)
+    (names : List (List ℕ)) (rest : List ℕ)
+    → ReportsNoImage R if_known names (Some []) (Some (codes "MERGED" ++ rest)) → ⊥
+merge_reported_without_a_file R if_known names rest (nows, said) = either _ _ said
   where
     go : (nows : List (Reading R)) (n : ℕ) (front more : List ℕ)
         → front ≡ codes "MERGED" ++ rest → lines_from (reading_line names) 0 nows
@@ -116,17 +117,17 @@ merge_reported_without_a_file R images names rest (nows, said) = either said
     says n (front, more, wrote, is) = go nows n front more
         (cc (known_after (Some []) (Some (codes "MERGED" ++ rest)) [] front refl wrote)) is
 
-    either : ((readings : List (List TapeItem)) × TakeImages images nows readings
-        × AppendsFront (Some []) (Some (codes "MERGED" ++ rest))
-        (lines_from (reading_line names) 0 nows)) ⊎ ((n : ℕ) × DifferImages images nows n
+    either : (taken : Type 0) (differ : ℕ → Type 0)
+        → (AppendsFront (Some []) (Some (codes "MERGED" ++ rest))
+        (lines_from (reading_line names) 0 nows) × taken) ⊎ ((n : ℕ)
         × AppendsFront (Some []) (Some (codes "MERGED" ++ rest))
         (lines_from (reading_line names) 0 nows
-        ++ (differ_line n ++ lines_from (has_line names) 0 nows))) → ⊥
-    either (inl (readings, have, part)) =
+        ++ (differ_line n ++ lines_from (has_line names) 0 nows)) × differ n) → ⊥
+    either taken differ (inl (part, of)) =
         says 0 (front_more (Some []) (Some (codes "MERGED" ++ rest))
         (lines_from (reading_line names) 0 nows)
         (differ_line 0 ++ lines_from (has_line names) 0 nows) part)
-    either (inr (n, differ, part)) = says n part
+    either taken differ (inr (n, part, of)) = says n part
 
 -- merge_third_letter_for_the_second: the first item that differs from the best one is called a
 -- third one

@@ -147,16 +147,21 @@ Misses missing long stops.OutOfMemory = ⊤
 Misses missing long stops.WriteFailed = ⊤
 Misses missing long stops.LogFailed = ⊤
 
--- Lines about readings of these images were reported, or a prefix of them; or also lines about the
--- item at which they differ: none about a merged image.
-abbrev pub ReportsNoImage : Type 0 → List (List ℕ) → List (List ℕ) → Option (List ℕ)
-    → Option (List ℕ) → Type 0
-ReportsNoImage R images names old new = (nows : List (Reading R))
-    × (((readings : List (List TapeItem)) × TakeImages images nows readings
-    × AppendsFront old new (lines_from (reading_line names) 0 nows))
-    ⊎ ((n : ℕ) × DifferImages images nows n × AppendsFront old new
-    (lines_from (reading_line names) 0 nows ++ (differ_line n
-    ++ lines_from (has_line names) 0 nows))))
+-- Lines about readings were reported, or a prefix of them; or also lines about an item at which
+-- they differ: none about a merged image. If the bytes of the images are known, the lines are about
+-- what was read of them.
+abbrev pub ReportsNoImage : Type 0 → ((List (List ℕ) → Type 0) → Type 0) → List (List ℕ)
+    → Option (List ℕ) → Option (List ℕ) → Type 0
+ReportsNoImage R if_known names old new = (nows : List (Reading R))
+    × ((AppendsFront old new (lines_from (reading_line names) 0 nows)
+    × if_known (λ images. (readings : List (List TapeItem)) × TakeImages images nows readings))
+    ⊎ ((n : ℕ) × AppendsFront old new (lines_from (reading_line names) 0 nows ++ (differ_line n
+    ++ lines_from (has_line names) 0 nows)) × if_known (λ images. DifferImages images nows n)))
+
+-- Lines about readings and one about a merged image were reported, or a prefix of these.
+abbrev pub ReportsImage : Type 0 → List (List ℕ) → Option (List ℕ) → Option (List ℕ) → Type 0
+ReportsImage R names old new = (nows : List (Reading R)) × (counts : Merged) × (ends : MergedEnd)
+    × AppendsFront old new (lines_from (reading_line names) 0 nows ++ merged_line counts ends)
 
 -- The output's place and the report after a fault: the place was not touched, and no merged image
 -- is reported; or, if a write failed, what is there did not change, or the merged image is there.

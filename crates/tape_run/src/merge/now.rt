@@ -9,8 +9,8 @@ ghost use Rattle.tape_image.specs.Written.{AppendsFront};
 ghost use Rattle.tape_run.specs.MergeLines.{lines_from, reading_line, has_line};
 ghost use Rattle.tape_run.specs.MergeCalls.{IfImages};
 ghost use Rattle.tape_run.specs.MergeNow.{MountsAll, IsMissing, Misses, IfMounted, LeavesPlace};
-ghost use Rattle.tape_run.specs.MergeNow.{ReportsNoImage, ComesTo, IsTooLong, EndsAs, FitsEnd};
-ghost use Rattle.tape_run.specs.MergeNow.{end_bytes};
+ghost use Rattle.tape_run.specs.MergeNow.{ReportsNoImage, ReportsImage, ComesTo, IsTooLong};
+ghost use Rattle.tape_run.specs.MergeNow.{EndsAs, FitsEnd, end_bytes};
 ghost use Rattle.tape_run.specs.declared.merge.line.MergedEnd.TheVariants.{Marked};
 ghost use Rattle.tape_run.specs.declared.merge.now.MergeEnd.{MergeEnd};
 ghost use Rattle.tape_run.specs.declared.merge.now.MergeEnd.TheVariants.{Differs};
@@ -124,13 +124,14 @@ pub fn merge_now<
         (λ size. IfMounted L.size L.gives R.remaining images.old images.new
         (λ known. IsTooLong R known size))) }
     ensures left { IfErr result (LeavesPlace O.stands place.old place.new
-        ((report.new ≡ report.old) ⊎ IfMounted L.size L.gives R.remaining images.old images.new
-        (λ known. ReportsNoImage R known (map (λ n. n.now) names.now) (P.contents report.old)
-        (P.contents report.new))) ((end : MergeEnd)
-        × IfMounted L.size L.gives R.remaining images.old images.new
+        ((report.new ≡ report.old) ⊎ ReportsNoImage R
+        (IfMounted L.size L.gives R.remaining images.old images.new) (map (λ n. n.now) names.now)
+        (P.contents report.old) (P.contents report.new))
+        (ReportsImage R (map (λ n. n.now) names.now) (P.contents report.old) (P.contents report.new)
+        × ((end : MergeEnd) × IfMounted L.size L.gives R.remaining images.old images.new
         (λ known. ComesTo R known (map (λ n. n.now) names.now) (W.contents out)
         (O.stands place.new) (Appends (G.contents log.old) (G.contents log.new))
-        (AppendsFront (P.contents report.old) (P.contents report.new)) end))) }
+        (AppendsFront (P.contents report.old) (P.contents report.new)) end)))) }
 {
     let mut devices = mount_all(alloc, images)?;
     let mut readings = open_all(alloc, devices.as_mut_slice())?;
@@ -184,12 +185,13 @@ fn merge_readings<R: Read, W: Write + Drop, O: Place<W>, G: Write, P: Write>(
     ensures cause { IfErr result (Misses (λ _. ⊥) (λ size. IfImages readings.old (λ known.
         IsTooLong R known size))) }
     ensures left { IfErr result (LeavesPlace O.stands place.old place.new
-        ((report.new ≡ report.old) ⊎ IfImages readings.old (λ known. ReportsNoImage R known
-        (map (λ n. n.now) names.now) (P.contents report.old) (P.contents report.new)))
-        ((end : MergeEnd) × IfImages readings.old (λ known.
+        ((report.new ≡ report.old) ⊎ ReportsNoImage R (IfImages readings.old)
+        (map (λ n. n.now) names.now) (P.contents report.old) (P.contents report.new))
+        (ReportsImage R (map (λ n. n.now) names.now) (P.contents report.old) (P.contents report.new)
+        × ((end : MergeEnd) × IfImages readings.old (λ known.
         ComesTo R known (map (λ n. n.now) names.now) (W.contents out) (O.stands place.new)
         (Appends (G.contents log.old) (G.contents log.new))
-        (AppendsFront (P.contents report.old) (P.contents report.new)) end))) }
+        (AppendsFront (P.contents report.old) (P.contents report.new)) end)))) }
 {
     let mut image = ImageWriter::new(out);
     let head = log_head(alloc, names)?;

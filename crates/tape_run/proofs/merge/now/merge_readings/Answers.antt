@@ -170,15 +170,23 @@ returns-in_err-pass_on-in-Ok-merge_to-clause-left g c =
     let new = g.P.Write.contents c.pass_on.new.report in
     let lines = lines_from (reading_line names) 0 c.merge_to.new.readings in
     let last = merged_line c.in-Ok-merge_to.merged c.end_of-end.result in
-    err_write _ g.O.Place.stands _ _ _ _ (search rules) (inr (made_some
-    c.args.readings.now c.merge_to.new.readings c.in-Ok-merge_to.merged _ _
-    (g.G.Write.contents c.write_text.new.writer) (g.G.Write.contents c.merge_to.new.log) _ _ _
-    c.end_of-end.result names (Appends (g.G.Write.contents c.args.log.now)
-    (g.G.Write.contents c.flush.new.writer)) (AppendsFront old new)
-    c.new-image.ensures c.in-Ok-merge_to.ensures.ok c.in_ok-written-in-Ok-merge_to.ensures.ok
-    c.in_ok-place-in-Ok-merge_to.ensures.ok c.end_of-end.ensures (all_logged _ _ _ _ _ _ _
-    c.as_slice.ensures.value c.in_ok-head.ensures c.in-Ok.ensures.ok c.flush.ensures.kept)
-    (front_then old mid new lines last [] (lines ++ last)
-    c.in_ok-report_readings-in-Ok-merge_to.ensures.ok
+    let wrote : AppendsFront old new (lines ++ last) = front_then old mid new lines last []
+    (lines ++ last) c.in_ok-report_readings-in-Ok-merge_to.ensures.ok
     (subst (λ t. AppendsFront mid new t) (c.deref.ensures.0 ∙ c.merged_line.ensures)
-    c.in_err-pass_on-in-Ok-merge_to.ensures.err) (sym (append-nil (lines ++ last))))))
+    c.in_err-pass_on-in-Ok-merge_to.ensures.err) (sym (append-nil (lines ++ last))) in
+    err_write _ g.O.Place.stands _ _ _ _ (search rules) (inr (
+      (
+        c.merge_to.new.readings,
+        c.in-Ok-merge_to.merged,
+        c.end_of-end.result,
+        wrote,
+      ),
+      made_some c.args.readings.now c.merge_to.new.readings c.in-Ok-merge_to.merged _ _
+          (g.G.Write.contents c.write_text.new.writer) (g.G.Write.contents c.merge_to.new.log) _ _ _
+          c.end_of-end.result names (Appends (g.G.Write.contents c.args.log.now)
+          (g.G.Write.contents c.flush.new.writer)) (AppendsFront old new)
+          c.new-image.ensures c.in-Ok-merge_to.ensures.ok c.in_ok-written-in-Ok-merge_to.ensures.ok
+          c.in_ok-place-in-Ok-merge_to.ensures.ok c.end_of-end.ensures (all_logged _ _ _ _ _ _ _
+          c.as_slice.ensures.value c.in_ok-head.ensures c.in-Ok.ensures.ok c.flush.ensures.kept)
+          wrote,
+    ))
