@@ -1,11 +1,11 @@
 -- Readings that are asked for one item, one after another: how far they were read then, and the
 -- best item.
-use Rattle.std.proofs.Common.{◌≡◌, ◌≢◌, ℕ, ◌+◌, ◌<◌, ◌≤◌, List, [], ◌∷◌, ◌++◌, length, take, Option}
-use Rattle.std.proofs.Common.{Some, None, refl, sym, ap, subst, ◌∙◌, length-append, arith}
+use Rattle.std.proofs.Common.{◌≡◌, ◌≢◌, ℕ, ◌+◌, ◌-◌, ◌<◌, ◌≤◌, List, [], ◌∷◌, ◌++◌, length, take}
+use Rattle.std.proofs.Common.{Option, Some, None, refl, sym, ap, subst, ◌∙◌, length-append, arith}
 use Rattle.std.specs.Prelude.{slice_get}
 use Rattle.std.proofs.lemmas.Option.{slice_get_past}
 use Rattle.tape_image.specs.Tape.{TapeItem}
-use Rattle.tape_image.specs.Reader.{going}
+use Rattle.tape_image.specs.Reader.{Status, going, ended, failed}
 use Rattle.tape_run.specs.declared.merge.reading.Reading.{Reading}
 use Rattle.tape_run.specs.Merging.{IsReadFrom, AreReadFrom}
 use Rattle.tape_run.specs.MergeSteps.{joined, best_items, Asked, gives, stops, AskedAll, column}
@@ -45,7 +45,7 @@ pub record HasCandidate {R : Type 0} (f n : Reading R) (r m : List TapeItem)
   pub reading : List TapeItem
   pub has : HasTaken f n reading
   pub at : n.image.status ≡ going → length reading ≡ length m + 1
-  pub within : length reading ≤ length m + 1
+  pub short : n.image.status ≢ going → length reading ≤ length m + 1 - 1
   pub better : IsReadFrom (m ++ best_items best) (m ++ best_items now)
   pub reads : IsReadFrom reading (m ++ best_items now)
   pub least : (tape : List TapeItem) → others tape → IsReadFrom reading tape
@@ -58,6 +58,13 @@ pub record HasCandidate {R : Type 0} (f n : Reading R) (r m : List TapeItem)
   pub item : ComparesIf n.verdict (slice_get reading (length m)) best now None None
   pub judged : (end beside : Option TapeItem) → Keeps now end None beside
       → Judges n.verdict n.image.status reading end beside
+
+-- a reading has at most as many items as were asked for
+pub within_up : (status : Status) (r : List TapeItem) (k : ℕ) → (status ≡ going → length r ≡ k)
+    → (status ≢ going → length r ≤ k - 1) → length r ≤ k
+within_up going r k at short = omega (arith, at refl)
+within_up (ended ending) r k at short = omega (arith, short (λ is. absurd (cc is)))
+within_up (failed fault) r k at short = omega (arith, short (λ is. absurd (cc is)))
 
 pub one_best : {R : Type 0} (f o n : Reading R) (r m : List TapeItem) (best now : Option TapeItem)
     (others : List TapeItem → Type 0) → HasTaken f o r
@@ -78,7 +85,7 @@ one_best f o n r m best now others h at within reads least (gives x on given com
       reading = r ++ x ∷ [];
       has = has_given f o n r x h on given counts;
       at = λ _. long;
-      within = omega (arith, long);
+      short = λ off. absurd (off given.goes_on);
       better = subst (λ l. IsReadFrom (m ++ best_items best) l) (sym shown) (best_better m best x);
       reads = subst (λ l. IsReadFrom (r ++ x ∷ []) l) (sym shown)
           (reads_best m r best x a e reads);
@@ -102,7 +109,7 @@ one_best f o n r m best now others h at within reads least (stops off how counts
       reading = r;
       has = has_stopped f o n r h off counts;
       at = λ on. absurd (stopped_off o.image n.image off on);
-      within = omega (arith, within);
+      short = λ _. omega (arith, within);
       better = subst (λ l. IsReadFrom (m ++ best_items best) l) (sym shown)
           (reads_self (m ++ best_items best));
       reads = subst (λ l. IsReadFrom r l) (sym shown) reads;
@@ -156,7 +163,8 @@ all_best (f ∷ firsts) (o ∷ olds) (n ∷ nows) (r ∷ rs) m best now beside o
 all_best (f ∷ firsts) (o ∷ olds) (n ∷ nows) (r ∷ rs) m best now beside others h at reads least
     (mid, None, one, rest) so =
     let first = one_best f o n r m best mid (λ tape. others tape × AreReadFrom rs tape) h.0 at.0
-    at.1 reads.0 (λ tape k reads. least tape k.0 (reads, k.1)) one in
+    (within_up o.image.status r (length m) at.0 at.1) reads.0
+    (λ tape k reads. least tape k.0 (reads, k.1)) one in
     let more = all_best firsts olds nows rs m mid now beside
     (λ tape. others tape × IsReadFrom first.reading tape) h.1 at.2
     (are_better rs (m ++ best_items best) (m ++ best_items mid) first.better reads.1)
@@ -164,7 +172,7 @@ all_best (f ∷ firsts) (o ∷ olds) (n ∷ nows) (r ∷ rs) m best now beside o
     record {
       readings = first.reading ∷ more.readings;
       have = (first.has, more.have);
-      at = (first.at, first.within, more.at);
+      at = (first.at, first.short, more.at);
       better = reads_trans (m ++ best_items best) (m ++ best_items mid) (m ++ best_items now)
           first.better more.better;
       all = (

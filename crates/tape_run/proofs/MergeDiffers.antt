@@ -1,6 +1,7 @@
 -- Readings that are asked for one item, one after another, if at least one does not agree.
-use Rattle.std.proofs.Common.{◌≡◌, ◌≢◌, ℕ, ◌+◌, ◌≤◌, List, [], ◌∷◌, ◌++◌, length, take, Option}
-use Rattle.std.proofs.Common.{Some, None, refl, sym, ap, subst, map, ◌∙◌, length-append, arith}
+use Rattle.std.proofs.Common.{◌≡◌, ◌≢◌, ℕ, ◌+◌, ◌-◌, ◌≤◌, List, [], ◌∷◌, ◌++◌, length, take}
+use Rattle.std.proofs.Common.{Option, Some, None, refl, sym, ap, subst, map, ◌∙◌}
+use Rattle.std.proofs.Common.{length-append, arith}
 use Rattle.std.specs.Prelude.{slice_get}
 use Rattle.std.proofs.lemmas.Option.{slice_get_past}
 use Rattle.tape_image.specs.Tape.{TapeItem}
@@ -15,7 +16,7 @@ use Rattle.tape_run.proofs.MergeTaken.{has_given, has_stopped, stopped_off, get_
 use Rattle.tape_run.proofs.MergeTaken.{take_last}
 use Rattle.tape_run.proofs.MergeVerdicts.{IsOther, none_yet, Keeps, judges, judges_stop}
 use Rattle.tape_run.proofs.MergeVerdicts.{second_alone, all_keep, next_other}
-use Rattle.tape_run.proofs.MergeAsking.{one_best}
+use Rattle.tape_run.proofs.MergeAsking.{within_up, one_best}
 use Rattle.tape_run.proofs.MergeFirsts.{ComparesIf, AreCompared}
 
 -- a reading that was asked consists of the same items, or of one more
@@ -24,7 +25,7 @@ record HasMore {R : Type 0} (f n : Reading R) (r : List TapeItem) (k : ℕ)
   pub reading : List TapeItem
   pub has : HasTaken f n reading
   pub at : n.image.status ≡ going → length reading ≡ k + 1
-  pub within : length reading ≤ k + 1
+  pub short : n.image.status ≢ going → length reading ≤ k + 1 - 1
   pub of_all : (t : List TapeItem) → IsReadFrom reading t → IsReadFrom r t
   pub front : take k reading ≡ r
   pub item : ComparesIf n.verdict (slice_get reading k) best now other beside
@@ -43,7 +44,7 @@ has_more f o n r k best now other beside h at within is_other
       reading = r ++ x ∷ [];
       has = has_given f o n r x h on given counts;
       at = λ _. long;
-      within = omega (arith, long);
+      short = λ off. absurd (off given.goes_on);
       of_all = λ t reads. reads_front r (x ∷ []) t reads;
       front = take_last r x k e;
       item = subst (λ t. ComparesIf n.verdict t best now other beside) (sym (get_last r x k e))
@@ -56,7 +57,7 @@ has_more f o n r k best now other beside h at within is_other (stops off how cou
       reading = r;
       has = has_stopped f o n r h off counts;
       at = λ on. absurd (stopped_off o.image n.image off on);
-      within = omega (arith, within);
+      short = λ _. omega (arith, within);
       of_all = λ t reads. reads;
       front = take_past r k within;
       item = subst (λ t. ComparesIf n.verdict t best now other beside)
@@ -93,13 +94,14 @@ have_more (f ∷ firsts) (o ∷ olds) [] (r ∷ rs) k best now other beside h at
     absurd asked
 have_more (f ∷ firsts) (o ∷ olds) (n ∷ nows) (r ∷ rs) k best now other beside h at is_other
     (mid, between, one, rest) =
-    let first = has_more f o n r k best mid other between h.0 at.0 at.1 is_other one in
+    let first = has_more f o n r k best mid other between h.0 at.0
+    (within_up o.image.status r k at.0 at.1) is_other one in
     let more = have_more firsts olds nows rs k mid now between beside h.1 at.2
     (next_other o n best mid other between is_other one) rest in
     record {
       readings = first.reading ∷ more.readings;
       have = (first.has, more.have);
-      at = (first.at, first.within, more.at);
+      at = (first.at, first.short, more.at);
       of_all = λ tape k. (first.of_all tape k.0, more.of_all tape k.1);
       front = cc (first.front, more.front);
       compared = (mid, between, first.item, more.compared);
@@ -125,13 +127,12 @@ one_differs : {R : Type 0} (f o n : Reading R) (firsts olds nows : List (Reading
     (r : List TapeItem) (rs : List (List TapeItem)) (m : List TapeItem)
     (best mid now : Option TapeItem) (y : TapeItem) (beside : Option TapeItem)
     (others : List TapeItem → Type 0) → HasTaken f o r → HaveTaken firsts olds rs
-    → (o.image.status ≡ going → length r ≡ length m) → length r ≤ length m
-    → AreUpTo (length m) olds rs
+    → (o.image.status ≡ going → length r ≡ length m) → AreUpTo (length m) olds rs
     → ((tape : List TapeItem) → others tape → AreReadFrom (r ∷ rs) tape
     → IsReadFrom (m ++ best_items best) tape)
     → Asked o n best mid None (Some y) → AskedAll olds nows mid now (Some y) beside
     → HaveDiffered (f ∷ firsts) (n ∷ nows) (r ∷ rs) (length m) best now beside others
-one_differs f o n firsts olds nows r rs m best mid now y beside others h hs at within up least
+one_differs f o n firsts olds nows r rs m best mid now y beside others h hs at up least
     (gives x on given compares counts) rest =
     let more = have_more firsts olds nows rs (length m) mid now (Some y) beside hs up
     (next_other o n best mid None (Some y) none_yet (gives x on given compares counts)) rest in
@@ -141,7 +142,7 @@ one_differs f o n firsts olds nows r rs m best mid now y beside others h hs at w
     record {
       readings = (r ++ x ∷ []) ∷ more.readings;
       have = (has_given f o n r x h on given counts, more.have);
-      at = (λ _. long, omega (arith, long), more.at);
+      at = (λ _. long, λ off. absurd (off given.goes_on), more.at);
       front = cc (take_last r x (length m) e, more.front);
       compared = (
         mid,
@@ -159,7 +160,7 @@ one_differs f o n firsts olds nows r rs m best mid now y beside others h hs at w
           (second_alone n.verdict x best mid y compares) e
           (least tape k (reads_front r (x ∷ []) tape reads.0, more.of_all tape reads.1)) reads.0;
     }
-one_differs f o n firsts olds nows r rs m best mid now y beside others h hs at within up least
+one_differs f o n firsts olds nows r rs m best mid now y beside others h hs at up least
     (stops off how counts same left) rest = absurd (cc left)
 
 -- not all agreed
@@ -179,11 +180,12 @@ all_differ (f ∷ firsts) (o ∷ olds) [] (r ∷ rs) m best now beside others h 
     not_so = absurd asked
 all_differ (f ∷ firsts) (o ∷ olds) (n ∷ nows) (r ∷ rs) m best now beside others h at reads least
     (mid, Some y, one, rest) not_so = one_differs f o n firsts olds nows r rs m best mid now y
-    beside others h.0 h.1 at.0 at.1 at.2 least one rest
+    beside others h.0 h.1 at.0 at.2 least one rest
 all_differ (f ∷ firsts) (o ∷ olds) (n ∷ nows) (r ∷ rs) m best now beside others h at reads least
     (mid, None, one, rest) not_so =
     let first = one_best f o n r m best mid (λ tape. others tape × AreReadFrom rs tape) h.0 at.0
-    at.1 reads.0 (λ tape k reads. least tape k.0 (reads, k.1)) one in
+    (within_up o.image.status r (length m) at.0 at.1) reads.0
+    (λ tape k reads. least tape k.0 (reads, k.1)) one in
     let more = all_differ firsts olds nows rs m mid now beside
     (λ tape. others tape × IsReadFrom first.reading tape) h.1 at.2
     (are_better rs (m ++ best_items best) (m ++ best_items mid) first.better reads.1)
@@ -191,7 +193,7 @@ all_differ (f ∷ firsts) (o ∷ olds) (n ∷ nows) (r ∷ rs) m best now beside
     record {
       readings = first.reading ∷ more.readings;
       have = (first.has, more.have);
-      at = (first.at, first.within, more.at);
+      at = (first.at, first.short, more.at);
       front = cc (first.front, more.front);
       compared = (mid, None, first.item, more.compared);
       judged = (

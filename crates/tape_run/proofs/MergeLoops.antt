@@ -67,7 +67,7 @@ nothing_read (r ∷ rs) = (
 nothing_at : {R : Type 0} (rs : List (Reading R)) → AreUpTo 0 rs (none_of rs)
 unfolding none_of
 nothing_at [] = tt
-nothing_at (r ∷ rs) = (λ _. refl, omega arith, nothing_at rs)
+nothing_at (r ∷ rs) = (λ _. refl, λ _. omega arith, nothing_at rs)
 
 nothing_best : {R : Type 0} (rs : List (Reading R)) → AreReadFrom (none_of rs) []
 unfolding none_of

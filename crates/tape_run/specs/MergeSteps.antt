@@ -1,7 +1,7 @@
 -- One item of the merged tape, as readings are asked for it one after another, and what readings
 -- have taken.
-use Rattle.std.specs.Prelude.{◌≡◌, ◌≢◌, ◌⊎◌, ℕ, ◌+◌, ◌≤◌, Bool, true, false, List, [], ◌∷◌, ◌++◌}
-use Rattle.std.specs.Prelude.{length, map, slice_get, Option, Some, None, ⊤}
+use Rattle.std.specs.Prelude.{◌≡◌, ◌≢◌, ◌⊎◌, ℕ, ◌+◌, ◌-◌, ◌≤◌, Bool, true, false, List, [], ◌∷◌}
+use Rattle.std.specs.Prelude.{◌++◌, length, map, slice_get, Option, Some, None, ⊤}
 use Rattle.tape_image.specs.declared.item.{Ending.Ending, ImageFault.ImageFault}
 use Rattle.tape_image.specs.Tape.{TapeItem, block, bad, mark}
 use Rattle.tape_image.specs.Reader.{Reader, Status, going, ended, failed}
@@ -222,12 +222,11 @@ abbrev pub AllStopped : {R : Type 0} → List (Reading R) → Type 0
 AllStopped [] = ⊤
 AllStopped (r ∷ rs) = StopsAs r.verdict r.image.status × AllStopped rs
 
--- Each reading was read up to item n, counted from 1, or stopped at that item or before it.
+-- Each reading was read up to item n, counted from 1, or stopped before it.
 abbrev pub AreUpTo : {R : Type 0} → ℕ → List (Reading R) → List (List TapeItem) → Type 0
 AreUpTo number [] [] = ⊤
-AreUpTo number (n ∷ nows) (r ∷ readings) =
-    (n.image.status ≡ going → length r ≡ number) × (length r ≤ number)
-    × AreUpTo number nows readings
+AreUpTo number (n ∷ nows) (r ∷ readings) = (n.image.status ≡ going → length r ≡ number)
+    × (n.image.status ≢ going → length r ≤ number - 1) × AreUpTo number nows readings
 AreUpTo number _ _ = ⊥
 
 -- The meaning of the verdict on a reading of these items: how the last item compares with the best
