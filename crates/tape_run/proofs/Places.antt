@@ -1,8 +1,7 @@
 -- Positions inside a block.
 use Rattle.std.proofs.Common.{◌≡◌, ◌≢◌, ℕ, zero, suc, ◌-◌, ◌<◌, ◌≤◌, ◌==◌, Bool, true, false}
 use Rattle.std.proofs.Common.{if◌then◌else◌, List, [], ◌∷◌, ◌++◌, length, take, drop, Option, Some}
-use Rattle.std.proofs.Common.{None, refl, sym, ap, subst, ◌∙◌, arith, append-nil, Result, Ok, Err}
-use Rattle.std.proofs.Common.{OnOk}
+use Rattle.std.proofs.Common.{None, refl, sym, ap, subst, ◌∙◌, arith, append-nil}
 use Rattle.std.proofs.{lemmas.Bool.Decides.nat_tests, Math.Seq.take-nil}
 use Rattle.tape_blocks.specs.declared.parts.Shape.{Shape}
 use Rattle.tape_blocks.specs.{Block.Portion, Block.Holds, Judged.begun_behind}
@@ -208,10 +207,6 @@ no_block Mark bytes not is = absurd (cc)
 no_block ReelEnd bytes not is = absurd (cc)
 
 -- ---- results
-
-pub from_taken : {B : Type 0} (r : Result (Unit {0}) B) (P : Type 0) → OnOk r P → r ≡ Ok tt → P
-from_taken (Ok x) P p ok = p
-from_taken (Err e) P p ok = absurd (cc)
 
 pub shape_fits : (known : Option FileForm) (shape : Option Shape) (k : FileForm) (s : Shape)
     → Shows known shape → known ≡ Some k → shape ≡ Some s

@@ -236,7 +236,7 @@ pub record GoesBack (n : ℕ) (point : Point) (old : Seen) (new : List Portion �
 pub goes_back : (n : ℕ) (point : Point) (from place : State) (held : List Portion)
     (notes left : List Point) (failures before refusals : ℕ)
     → slice_get notes n ≡ Some point → KeepsNotes from [] notes held
-    → (point.set_id ≡ from.set_id → point.file ≡ from.file → place ≡ place_of point)
+    → place ≡ place_of point
     → left ≡ take (n + 1) notes → refusals ≡ before
     → GoesBack n point (session_of from held notes failures before)
     (λ parts. session_of place parts left failures refusals)
@@ -248,7 +248,7 @@ goes_back n point from place held notes left failures before refusals noted kept
     let went : WentBack n old new = record {
       point = point;
       noted = noted;
-      place = there at.note.of_set at.note.of_file;
+      place = there;
       front = at.is_front;
       weighs = sym at.note.staged;
       notes = forgets;

@@ -63,11 +63,9 @@ pub record WentBack (n : ℕ) (old new : Seen) : Type 0 where
   pub count : new.failures ≡ old.failures
   pub calm : new.refusals ≡ old.refusals
 
--- the session has the position of the checkpoint with this number, if the position belongs to its
--- file
+-- the session has the position of the checkpoint with this number
 abbrev pub IsAtNote : {S : Type 0} → ℕ → SessionState S → SessionState S → Type 0
 IsAtNote n old new = (point : Point) → slice_get old.notes n ≡ Some point
-    → point.set_id ≡ old.core.set_id → point.file ≡ old.core.file
     → rest_of new.core ≡ place_of point
 
 -- ---- steps that failed

@@ -312,7 +312,7 @@ impl<S: PartSink> Session<S> {
             Err(cause) => return Err(RunFault::Sink(cause)),
             Ok(()) => {}
         }
-        let _ = self.reel_reader.core.restart(&point);
+        self.reel_reader.core = ReaderCore::at(&point);
         self.notes.truncate(n + 1);
         Ok(())
     }

@@ -5,7 +5,6 @@ use Rattle.tape_core.specs.Place.{rest_of}
 use Rattle.tape_run.proofs.Causes.{refused_at}
 use Rattle.tape_run.proofs.Crashes.{cut_only}
 use Rattle.tape_run.proofs.Notes.{front_weighs}
-use Rattle.tape_run.proofs.Places.{from_taken}
 use Rattle.tape_run.proofs.Sessions.{goes_back, kept_at, session_of}
 use Rattle.tape_run.proofs.session.Session.restart.Goals as goal
 
@@ -17,10 +16,9 @@ returns-clause-ok g c =
     let refusals = g.S.PartSink.refusals in
     let noted : slice_get s.notes.items c.args.n ≡ Some point = grind (arith, common_steps, gets) in
     let back = goes_back c.args.n point (rest_of s.reel_reader.core)
-    (rest_of c.restart.new.self) held s.notes.items c.truncate.new.self.items s.failures
+    (rest_of c.at-self-inside.result) held s.notes.items c.truncate.new.self.items s.failures
     (refusals s.reel_reader.sink) (refusals c.cut_to.new.self) noted kept
-    (λ set file. from_taken c.restart.result _ c.restart.ensures.there
-    (c.restart.ensures.taken set file)) c.truncate.ensures.items c.in-Ok.ensures.calm in (
+    (ap rest_of c.at-self-inside.ensures) c.truncate.ensures.items c.in-Ok.ensures.calm in (
       back.parts,
       c.in-Ok.ensures.ok back.parts back.front.0
           (subst (g.S.PartSink.holds s.reel_reader.sink) back.front.1 was) back.weighs,
@@ -29,13 +27,12 @@ returns-clause-ok g c =
 
 pub returns-clause-place : goal.returns-clause-place
 returns-clause-place g c =
-    rw (← c.self.view_is) (λ point is set file.
+    rw (← c.self.view_is) (λ point is.
     let s = c.self.inside in
     let noted : slice_get s.notes.items c.args.n ≡ Some c.in-Some.field-0.now =
     grind (arith, common_steps, gets) in
     let same : point ≡ c.in-Some.field-0.now = cc in
-    rw same (from_taken c.restart.result _ c.restart.ensures.there
-    (c.restart.ensures.taken (rw same at set) (rw same at file))))
+    rw same (ap rest_of c.at-self-inside.ensures))
 
 pub returns-then-point-weight-clause-err : goal.returns-then-point-weight-clause-err
 returns-then-point-weight-clause-err g c =
