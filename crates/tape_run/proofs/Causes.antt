@@ -1,7 +1,7 @@
 -- The causes for which records were not written: the cause of one call, if no call before it was
 -- refused.
 use Rattle.std.proofs.Common.{◌≡◌, ◌<◌, ℕ, suc, ◌+◌, ◌-◌, List, [], ◌∷◌, ◌++◌, length, take}
-use Rattle.std.specs.Prelude.{◌≢◌, ◌⊎◌, is_some}
+use Rattle.std.specs.Prelude.{◌≢◌, ◌⊎◌}
 use Rattle.std.proofs.Common.{Bool, true, false, Result, Ok, Err, OnOk, IfErr}
 use Rattle.std.proofs.Common.{refl, sym, ap, inl, inr, subst, ◌∙◌, arith}
 use Rattle.tape_blocks.specs.Block.{Portion}
@@ -12,6 +12,7 @@ use Rattle.tape_run.specs.declared.fault.EngineFault.{EngineFault}
 use Rattle.tape_run.specs.declared.fault.EngineFault.TheVariants.{Run, WriteFailed}
 use Rattle.tape_run.specs.declared.fault.RunFault.TheVariants.{Sink, NoSuchPoint, TooFewReels}
 use Rattle.tape_run.specs.declared.fault.RunFault.TheVariants.{OutOfMemory, OtherFile}
+use Rattle.tape_set.specs.declared.position.Position.TheVariants.{Finished}
 use Rattle.tape_core.specs.Crash.{lost}
 use Rattle.tape_core.specs.Point.{Point}
 use Rattle.tape_core.specs.Weight.{IsFront}
@@ -252,15 +253,16 @@ pub ended_for : {W : Type 0} (holds : OutSink W → List Portion → Type 0)
     (refusals : OutSink W → ℕ) (refuses : OutSink W → SinkFault → OutSink W → Type 0)
     (old mid new : SessionState (OutSink W)) (form : Form) (fault : EngineFault)
     → refusals new.sink ≡ refusals old.sink
+    → mid.core.position ≡ Finished
     → (fault ≢ WriteFailed → (new ≡ mid)
-    × EndingFails (is_some mid.sink.out) mid.sink.begun mid.sink.form form fault)
+    × EndingFails mid.sink.begun mid.sink.form form fault)
     → ReadingFails (of_causes holds refusals refuses) false fault old new
-    ⊎ EndingFails (is_some new.sink.out) new.sink.begun new.sink.form form fault
-ended_for holds refusals refuses old mid new form (Run fault) calm ends =
+    ⊎ ((new.core.position ≡ Finished) × EndingFails new.sink.begun new.sink.form form fault)
+ended_for holds refusals refuses old mid new form (Run fault) calm done ends =
     let (same, fails) = ends (λ is. absurd (cc is)) in
-    inr (subst (λ (s : SessionState (OutSink _)). EndingFails (is_some s.sink.out) s.sink.begun
-    s.sink.form form (Run fault)) (sym same) fails)
-ended_for holds refusals refuses old mid new form WriteFailed calm ends = inl calm
+    inr (subst (λ (s : SessionState (OutSink _)). (s.core.position ≡ Finished)
+    × EndingFails s.sink.begun s.sink.form form (Run fault)) (sym same) (done, fails))
+ended_for holds refusals refuses old mid new form WriteFailed calm done ends = inl calm
 
 pub on_pair : {B : Type 0} (r : Result (Unit {0}) B) (P Q : Type 0) → OnOk r P → OnOk r Q
     → OnOk r (P × Q)

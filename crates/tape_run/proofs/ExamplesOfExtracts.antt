@@ -248,9 +248,10 @@ cases_of_outputs = record {
   tells_nothing = λ tells. absurd (let e = tells [] in cc e);
   ended = (refl, refl);
   write_refused = λ works still weight r. r;
-  not_heavy = λ works still r. absurd (omega (arith, r));
-  heavy = λ works still. omega arith;
-  refused_later = λ works still weight. tt;
+  not_heavy = λ works still r. absurd (omega (arith, r.2));
+  heavy = (refl, refl, omega arith);
+  refused_later = λ works weight. refl;
+  writer_kept = λ still. (λ r. r.1, λ r. r);
   no_memory_taken = λ works still weight r. r;
 }
 
@@ -264,10 +265,9 @@ only_failed : (cause : SinkFault) (old new : ℕ) → FailsUnknown (Run (Sink ca
 only_failed cause old new (inl r) = inl (r.counted, r.why)
 only_failed cause old new (inr (is, none)) = inr is
 
-ends_but_for_it : (form : Form) → CannotEnd true false form form → ⊥
+ends_but_for_it : (form : Form) → CannotEnd false form form → ⊥
 ends_but_for_it form (inl e) = cc e
-ends_but_for_it form (inr (inl e)) = cc e
-ends_but_for_it form (inr (inr other)) = other refl
+ends_but_for_it form (inr other) = other refl
 
 pub cases_of_causes : CasesOfCauses
 cases_of_causes = record {
@@ -282,10 +282,8 @@ cases_of_causes = record {
   fewer_given = inr (refl, λ parts none. none);
   no_other_fault = λ old new. (λ h. h, λ h. h, λ h. h, λ h. h);
   write_failed = λ old new h. h;
-  not_ended = λ works begun form asked fault h. h;
-  three_reasons = λ works begun form asked.
-      ((refl, inl refl), (refl, inr (inl refl)), λ other. (refl, inr (inr other)));
-  writer_failed = λ works begun form asked h.
-      (λ e. h (inl e), λ e. h (inr (inl e)), λ other. h (inr (inr other)));
+  not_ended = λ begun form asked fault h. h;
+  two_reasons = λ begun form asked. ((refl, inl refl), λ other. (refl, inr other));
+  writer_failed = λ begun form asked h. (λ e. h (inl e), λ other. h (inr other));
   ends_but_for_it = ends_but_for_it;
 }

@@ -1,9 +1,10 @@
 -- Wrong answers to a fault of a sink or a writer that the contracts exclude.
-use Rattle.std.proofs.Common.{◌≡◌, ◌<◌, true, false, List, inl, inr, sym, ◌∙◌}
-use Rattle.std.specs.Prelude.{Err, None, is_some, map}
+use Rattle.std.proofs.Common.{◌≡◌, ◌≢◌, ◌<◌, true, false, List, [], inl, inr, refl, sym, ◌∙◌}
+use Rattle.std.specs.Prelude.{Err, None, Ok, is_some, map}
 use Rattle.std.specs.Io.KnownBytes.{Appends}
 use Rattle.tape_blocks.specs.Block.{Portion}
 use Rattle.tape_core.specs.declared.sink.SinkFault.TheVariants as sink
+use Rattle.tape_set.specs.declared.position.Position.TheVariants.{Finished}
 use Rattle.tape_run.specs.declared.fault.EngineFault.TheVariants.{Run, WriteFailed}
 use Rattle.tape_run.specs.declared.fault.RunFault.TheVariants.{Sink}
 use Rattle.tape_core.specs.declared.sink.SinkFault.{SinkFault}
@@ -16,6 +17,7 @@ use Rattle.tape_run.proofs.extract.count_records.Reads as count_records
 use Rattle.tape_run.proofs.extract.write_file.Reads as write_file
 use Rattle.tape_run.proofs.extract.now.extract_streaming.Reads as streaming
 use Rattle.tape_run.proofs.extract.out_sink.OutSink.finish.Reads as finish
+use Rattle.tape_run.proofs.extract.out_sink.OutSinkPartSink.put.Reads as put
 use Rattle.tape_run.proofs.session.Session.reel.Reads as reel
 use Rattle.tape_run.proofs.session.Session.restart.Reads as restart
 use Rattle.tape_run.proofs.session.Session.save.Reads as save
@@ -31,21 +33,31 @@ failed_flush_told_as_the_sink S W LS LW g d g' d' h e κs a s l same few = elim 
   | inr other ↦ absurd (cc other.0)
 ]
 
--- empty_file_not_ended: no write failed, no record is unfinished, and the form is the sink's, but
--- its output is not finished
+-- empty_file_not_ended: no record is unfinished, and the form is the sink's, but a run's fault is
+-- reported
 empty_file_not_ended : (W : _) (L : _) (g : _) (d : _) (w : _) (κs : _) (a : _) (fault : _) (s : _)
     → finish.Learnt-named W L g d w κs a (Err (Run fault)) s
-    → is_some a.0.now.out ≡ true → a.0.now.begun ≡ false → a.0.now.form ≡ a.1.0 → ⊥
-empty_file_not_ended W L g d w κs a fault s l works ended same = elim (l.cause.1) [
-  | inl failed ↦ absurd (let e : true ≡ false = sym works ∙ failed in cc)
-  | inr (inl begun) ↦ absurd (let e : true ≡ false = sym begun ∙ ended in cc)
-  | inr (inr other) ↦ other same
+    → a.0.now.begun ≡ false → a.0.now.form ≡ a.1.0 → ⊥
+empty_file_not_ended W L g d w κs a fault s l ended same = elim (l.cause.1) [
+  | inl begun ↦ absurd (let e : true ≡ false = sym begun ∙ ended in cc)
+  | inr other ↦ other same
 ]
 
 -- begun_record_told_as_a_write: a record is unfinished, but a failed write is reported
 begun_record_told_as_a_write : (W : _) (L : _) (g : _) (d : _) (w : _) (κs : _) (a : _) (s : _)
     → finish.Learnt-named W L g d w κs a (Err WriteFailed) s → a.0.now.begun ≡ true → ⊥
-begun_record_told_as_a_write W L g d w κs a s l begun = l.cause (inr (inl begun))
+begun_record_told_as_a_write W L g d w κs a s l begun = l.cause (inl begun)
+
+-- begun_record_ended: a record is unfinished, but the output is finished
+begun_record_ended : (W : _) (L : _) (g : _) (d : _) (w : _) (κs : _) (a : _) (given : _) (s : _)
+    → finish.Learnt-named W L g d w κs a (Ok given) s → a.0.now.begun ≡ true → ⊥
+begun_record_ended W L g d w κs a given s l begun = l.ended (inl begun)
+
+-- writer_given_up_after_a_part: a part was accepted, but its sink has no writer
+writer_given_up_after_a_part : (W : _) (L : _) (g : _) (d : _) (w : _) (κs : _) (a : _) (s : _)
+    → put.Learnt-named W L g d w κs a (Ok tt) s → is_some s.0.now.out ≡ false → ⊥
+writer_given_up_after_a_part W L g d w κs a s l gone =
+    absurd (let e : true ≡ false = sym l.writer.1 ∙ gone in cc e)
 
 -- ---- which fault: the sinks of these lemmas refuse each change, and each part, with Device
 
@@ -94,7 +106,25 @@ streaming_is_full_at_once W R L O P LW LR LL LO LP w f wd h e rd m n o p i j κs
     elim (l.cause) [
       | inl (inl r) ↦ not_rose _ _ same few r.counted
       | inl (inr other) ↦ absurd (cc other.0)
-      | inr ends ↦ absurd (cc ends.0)
+      | inr (done, ends) ↦ absurd (cc ends.0)
+    ]
+
+-- missing_part_told_as_a_begun_record: the sink refused no call, and a part of the file is missing,
+-- but a record is reported as unfinished
+missing_part_told_as_a_begun_record : (W : _) (R : _) (L : _) (O : _) (P : _) (LW : _) (LR : _)
+    (LL : _) (LO : _) (LP : _) (w : _) (f : _) (wd : _) (h : _) (e : _) (rd : _) (m : _) (n : _)
+    (o : _) (p : _) (i : _) (j : _) (κs : _) (a : _) (s : _) (held : List Portion)
+    → streaming.Learnt-named W R L O P LW LR LL LO LP w f wd h e rd m n o p i j κs a
+    (Err (Run (Sink sink.Failed))) s
+    → HasTaken w.contents a.0.now.sink.form a.0.now.sink.out a.0.now.sink.weight
+    a.0.now.sink.records a.0.now.sink.begun held → a.0.now.notes ≡ []
+    → s.0.now.sink.refused ≡ a.0.now.sink.refused
+    → a.0.now.sink.refused < 18446744073709551615 → s.0.now.core.position ≢ Finished → ⊥
+missing_part_told_as_a_begun_record W R L O P LW LR LL LO LP w f wd h e rd m n o p i j κs a s held
+    l was unnoted same few missing = elim (l.cause) [
+      | inl (inl r) ↦ not_rose _ _ same few r.counted
+      | inl (inr other) ↦ other.1 held was (rw unnoted (held, refl))
+      | inr ends ↦ missing ends.0
     ]
 
 -- unsaved_reel_is_reported: a step failed, and the report is not exactly the lines of the images

@@ -299,13 +299,15 @@ pub record CasesOfOutputs : Type 0 where
   pub tells : TellsAlways (λ (w : List ℕ). Some w)
   pub tells_nothing : TellsAlways {W = List ℕ} (λ w. None) → ⊥
   pub ended : (with_end true 3 ≡ 3) × (with_end false 3 ≡ 4)
-  -- a change is refused with Device by the write that failed first, with Full if a part would be
-  -- too heavy, and never for lack of memory
+  -- a change is refused with Device by the write that failed first, which alone takes the writer
+  -- away, with Full if a part would be too heavy, and never for lack of memory
   pub write_refused : (works still : Bool) (weight : ℕ) → RefusesText works weight sink.Device still
       → (works ≡ true) × (still ≡ false)
   pub not_heavy : (works still : Bool) → RefusesText works 5 sink.Full still → ⊥
-  pub heavy : (works still : Bool) → RefusesText works 999999999999999 sink.Full still
-  pub refused_later : (works still : Bool) (weight : ℕ) → RefusesText works weight sink.Failed still
+  pub heavy : RefusesText true 999999999999999 sink.Full true
+  pub refused_later : (works : Bool) (weight : ℕ) → RefusesText works weight sink.Failed works
+  pub writer_kept : (still : Bool) → (RefusesText true 3 sink.Full still → still ≡ true)
+      × (RefusesText true 3 sink.Failed still → still ≡ true)
   pub no_memory_taken : (works still : Bool) (weight : ℕ)
       → RefusesText works weight sink.OutOfMemory still → ⊥
 
@@ -335,16 +337,14 @@ pub record CasesOfCauses : Type 0 where
       × (FailsUnknown (Run TooFewReels) old new → ⊥) × (FailsUnknown (Run OutOfMemory) old new → ⊥)
       × (FailsUnknown (Run OtherFile) old new → ⊥)
   pub write_failed : (old new : ℕ) → FailsUnknown WriteFailed old new → new ≡ old
-  -- the output of a sink is not finished for one of three reasons, and each of them is one
-  pub not_ended : (works begun : Bool) (form asked : Form) (fault : RunFault)
-      → EndingFails works begun form asked (Run fault)
-      → (fault ≡ Sink Failed) × ((works ≡ false) ⊎ (begun ≡ true) ⊎ (form ≢ asked))
-  pub three_reasons : (works begun : Bool) (form asked : Form)
-      → (EndingFails false begun form asked (Run (Sink Failed)))
-      × (EndingFails works true form asked (Run (Sink Failed)))
-      × (form ≢ asked → EndingFails works begun form asked (Run (Sink Failed)))
+  -- the output of a sink is not finished for one of two reasons, and each of them is one
+  pub not_ended : (begun : Bool) (form asked : Form) (fault : RunFault)
+      → EndingFails begun form asked (Run fault)
+      → (fault ≡ Sink Failed) × ((begun ≡ true) ⊎ (form ≢ asked))
+  pub two_reasons : (begun : Bool) (form asked : Form)
+      → EndingFails true form asked (Run (Sink Failed))
+      × (form ≢ asked → EndingFails begun form asked (Run (Sink Failed)))
   -- or the writer failed, and none of these reasons applies
-  pub writer_failed : (works begun : Bool) (form asked : Form)
-      → EndingFails works begun form asked WriteFailed → (works ≡ false → ⊥) × (begun ≡ true → ⊥)
-      × (form ≢ asked → ⊥)
-  pub ends_but_for_it : (form : Form) → EndingFails true false form form WriteFailed
+  pub writer_failed : (begun : Bool) (form asked : Form) → EndingFails begun form asked WriteFailed
+      → (begun ≡ true → ⊥) × (form ≢ asked → ⊥)
+  pub ends_but_for_it : (form : Form) → EndingFails false form form WriteFailed

@@ -1,5 +1,5 @@
 -- Why records were not written.
-use Rattle.std.specs.Prelude.{◌≡◌, ◌≢◌, ◌⊎◌, ℕ, Bool, true, false, List, []}
+use Rattle.std.specs.Prelude.{◌≡◌, ◌≢◌, ◌⊎◌, ℕ, Bool, true, List, []}
 use Rattle.tape_blocks.specs.Block.{Portion}
 use Rattle.tape_blocks.specs.declared.parts.Form.{Form}
 use Rattle.tape_core.specs.declared.sink.{PartSink.Ghosts, SinkFault.SinkFault}
@@ -57,13 +57,12 @@ pub record IsCalm {S : Type 0} (g : Ghosts S) (old new : SessionState S) : Type 
   pub notes : new.notes ≡ [] → old.notes ≡ []
   pub kept : IfSeen g old (λ was. IsKept was → IsSeen g new (λ is. IsKept is))
 
--- a write failed before, a record is unfinished, or another form was written than is requested
-abbrev pub CannotEnd : Bool → Bool → Form → Form → Type 0
-CannotEnd works begun form asked = (works ≡ false) ⊎ (begun ≡ true) ⊎ (form ≢ asked)
+-- a record is unfinished, or another form was written than is requested
+abbrev pub CannotEnd : Bool → Form → Form → Type 0
+CannotEnd begun form asked = (begun ≡ true) ⊎ (form ≢ asked)
 
 -- why the output of a sink was not finished: it cannot be finished; or it can, and the writer
--- failed
-abbrev pub EndingFails : Bool → Bool → Form → Form → EngineFault → Type 0
-EndingFails works begun form asked (Run fault) = (fault ≡ Sink Failed)
-    × CannotEnd works begun form asked
-EndingFails works begun form asked WriteFailed = CannotEnd works begun form asked → ⊥
+-- failed, or was given up before
+abbrev pub EndingFails : Bool → Form → Form → EngineFault → Type 0
+EndingFails begun form asked (Run fault) = (fault ≡ Sink Failed) × CannotEnd begun form asked
+EndingFails begun form asked WriteFailed = CannotEnd begun form asked → ⊥

@@ -41,9 +41,11 @@ pub record HasTaken {W : Type 0} (contents : W → Option (List ℕ)) (form : Fo
   pub text : TellsAlways contents → IsText contents (text_so_far form parts) out
 
 -- Why a change of an output of this weight is refused: a write failed, in the call or earlier, or a
--- part would be too heavy, or written records would have to be removed.
+-- part would be too heavy, or written records would have to be removed. Only a write that fails in
+-- the call takes the writer away.
 abbrev pub RefusesText : Bool → ℕ → SinkFault → Bool → Type 0
 RefusesText works weight Device still = (works ≡ true) × (still ≡ false)
-RefusesText works weight Failed still = ⊤
-RefusesText works weight Full still = most_staged < weight + (5 + longest_block)
+RefusesText works weight Failed still = still ≡ works
+RefusesText works weight Full still = (works ≡ true) × (still ≡ true)
+    × (most_staged < weight + (5 + longest_block))
 RefusesText works weight OutOfMemory still = ⊥

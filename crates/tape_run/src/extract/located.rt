@@ -1,7 +1,7 @@
 //! `unpack` of complete files: each image is read once for all of its files.
 
 ghost use Rattle.std.specs.Prelude.{◌≡◌, ◌≢◌, ◌<◌, ◌⊎◌, List, Option, Some, None, ℕ, OnOk, IfOk};
-ghost use Rattle.std.specs.Prelude.{OnErr, IfErr, is_some, false};
+ghost use Rattle.std.specs.Prelude.{OnErr, IfErr, is_some, true, false};
 ghost use Rattle.std.specs.Bool.{OnTrue, OnFalse};
 ghost use Rattle.tape_set.specs.declared.position.Position.TheVariants.{Finished};
 ghost use Rattle.tape_run.specs.Causes.{ReadingFails, EndingFails, IsCalm};
@@ -70,12 +70,12 @@ pub fn extract_located<W: Write + Drop, R: Read + Drop, L: ImageSource<R>, O: Pl
     ensures let_go { OnErr result (mounted.new ≡ None) }
     // Whatever the result, the session only read on.
     ensures reads { ReadsOnly ⟦<OutSink<W> as PartSink>⟧ session.old session.new }
-    // While the images were read the sink refused a call, or memory ran out; or the output could
-    // not be ended, in the state in which the session is left; or a write failed.
+    // While the images were read the sink refused a call, or memory ran out; or the file is
+    // complete, and its output could not be ended; or a write failed.
     ensures cause { IfErr result (λ fault.
         ReadingFails ⟦<OutSink<W> as PartSink>⟧ false fault session.old session.new
-        ⊎ EndingFails (is_some session.new.sink.out) session.new.sink.begun
-        session.new.sink.form form fault) }
+        ⊎ ((session.new.core.position ≡ Finished)
+        × EndingFails session.new.sink.begun session.new.sink.form form fault)) }
 {
     let complete = read_sections(session, images, mounted, locations)?;
     if !complete {
@@ -102,6 +102,8 @@ fn read_sections<S: PartSink, R: Read + Drop, L: ImageSource<R>>(
         → IsHeld R.remaining mounted.old whole
         → ReadsSections S.PartSink L.gives R.remaining locations.now.entries complete
         session.old session.new images.old images.new (is_some mounted.old) whole mounted.new) }
+    ensures finished { IfOk result (λ complete. complete ≡ true
+        → session.new.core.position ≡ Finished) }
     ensures let_go { OnErr result (mounted.new ≡ None) }
     ensures reads { ReadsOnly S.PartSink session.old session.new }
     ensures cause { IfErr result (λ fault.

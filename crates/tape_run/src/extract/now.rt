@@ -1,7 +1,8 @@
 //! `extract` without a stage: writes the records while it reads the images.
 
 ghost use Rattle.std.specs.Prelude.{◌≡◌, ◌≢◌, ◌⊎◌, ℕ, List, Option, None, OnOk, IfOk, OnErr};
-ghost use Rattle.std.specs.Prelude.{IfErr, is_some, false};
+ghost use Rattle.std.specs.Prelude.{IfErr, false};
+ghost use Rattle.tape_set.specs.declared.position.Position.TheVariants.{Finished};
 ghost use Rattle.tape_run.specs.Causes.{ReadingFails, EndingFails};
 ghost use Rattle.tape_run.specs.OutSinks.{TellsAlways};
 ghost use Rattle.tape_run.specs.ExtractingNow.{ExtractsNow, StopsNow};
@@ -61,12 +62,12 @@ pub fn extract_streaming<W: Write + Drop, R: Read + Drop, L: ImageSource<R>, O: 
     ensures err { IfErr result (StopsNow ⟦<OutSink<W> as PartSink>⟧ L.size L.gives R.remaining
         session.old session.new images.old images.new form (TellsAlways W.contents) O.stands
         out.old out.new (P.contents report.old) (P.contents report.new)) }
-    // While the images were read the sink refused a call, or memory ran out; or the output could
-    // not be ended, in the state in which the session is left; or a write failed.
+    // While the images were read the sink refused a call, or memory ran out; or the file is
+    // complete, and its output could not be ended; or a write failed.
     ensures cause { IfErr result (λ fault.
         ReadingFails ⟦<OutSink<W> as PartSink>⟧ false fault session.old session.new
-        ⊎ EndingFails (is_some session.new.sink.out) session.new.sink.begun
-        session.new.sink.form form fault) }
+        ⊎ ((session.new.core.position ≡ Finished)
+        × EndingFails session.new.sink.begun session.new.sink.form form fault)) }
 {
     // What was written remains: this session does not roll back.
     read_images(session, images, false, false, report)?;

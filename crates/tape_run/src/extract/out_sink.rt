@@ -1,7 +1,7 @@
 //! A sink that writes the records of a file as its parts come, and stores none of them.
 
 ghost use Rattle.std.specs.Prelude.{◌≡◌, ◌≢◌, ◌≤◌, ◌<◌, ◌+◌, ◌++◌, ◌∷◌, [], List, Some, None};
-ghost use Rattle.std.specs.Prelude.{is_some, length};
+ghost use Rattle.std.specs.Prelude.{is_some, length, true};
 ghost use Rattle.std.specs.Prelude.{OnOk, OnErr, IfOk, IfErr, Ok, Err};
 ghost use Rattle.std.specs.Io.KnownBytes.{Appends};
 ghost use Rattle.tape_blocks.specs.Block.{Portion};
@@ -12,7 +12,7 @@ ghost use Rattle.tape_core.specs.Crash.{lost};
 ghost use Rattle.tape_core.specs.Known.{most_staged};
 ghost use Rattle.tape_core.specs.Stands.{weight_of};
 ghost use Rattle.tape_core.specs.Weight.{Rose};
-ghost use Rattle.tape_run.specs.Causes.{EndingFails};
+ghost use Rattle.tape_run.specs.Causes.{CannotEnd, EndingFails};
 ghost use Rattle.tape_run.specs.RecordText.{part_text, output_of};
 ghost use Rattle.tape_run.specs.OutSinks.{TellsAlways, with_end, HasTaken, RefusesText};
 
@@ -81,15 +81,16 @@ impl<W: Write + Drop> OutSink<W> {
     ///
     /// # Errors
     ///
-    /// Returns `Run(Sink(Failed))` if a write failed before, a record is unfinished, or the records
-    /// cannot be written in this `form`; `WriteFailed`.
+    /// Returns `Run(Sink(Failed))` if a record is unfinished, or the records were not written in
+    /// this `form`; `WriteFailed` if a write fails now, or failed before, or the output was already
+    /// finished.
     pub fn finish(&mut self, form: Form) -> Result<(W, u64), EngineFault>
         ensures ok { IfOk result (λ given. (parts : List Portion) → HasTaken W.contents
             self.old.form self.old.out self.old.weight self.old.records self.old.begun parts
             → (given.1 ≡ length (join parts).records)
             × (TellsAlways W.contents → W.contents given.0 ≡ Some (output_of form parts))) }
-        ensures cause { IfErr result
-            (EndingFails (is_some self.old.out) self.old.begun self.old.form form) }
+        ensures cause { IfErr result (EndingFails self.old.begun self.old.form form) }
+        ensures ended { OnOk result (CannotEnd self.old.begun self.old.form form → ⊥) }
         ensures calm { self.new.refused ≡ self.old.refused }
         ensures kept { (parts : List Portion) → HasTaken W.contents self.old.form self.old.out
             self.old.weight self.old.records self.old.begun parts
@@ -102,7 +103,7 @@ impl<W: Write + Drop> OutSink<W> {
             return Err(walk_fault(SinkFault::Failed));
         }
         let Some(mut out) = self.out.take() else {
-            return Err(walk_fault(SinkFault::Failed));
+            return Err(EngineFault::WriteFailed);
         };
         flush(&mut out)?;
         Ok((out, self.records))
@@ -149,6 +150,10 @@ impl<W: Write + Drop> PartSink for OutSink<W> {
             RefusesText (is_some self.old.out) self.old.weight fault (is_some self.new.out)) }
         // A put is refused only because of the weight, or because a write failed now or before.
         ensures failed { result ≡ Err SinkFault.Failed → self.old.out ≡ None }
+        // A part that is accepted was written, and the writer is kept.
+        ensures writer { OnOk result ((is_some self.old.out ≡ true)
+            × (is_some self.new.out ≡ true)) }
+        ensures form { self.new.form ≡ self.old.form }
     {
         let Some(out) = &mut self.out else {
             self.refused = self.refused.saturating_add(1);
@@ -193,6 +198,8 @@ impl<W: Write + Drop> PartSink for OutSink<W> {
             → HasTaken W.contents self.new.form self.new.out self.new.weight self.new.records
             self.new.begun parts) }
         ensures same_weight { self.new.weight ≡ self.old.weight }
+        ensures writer { self.new.out ≡ self.old.out }
+        ensures form { self.new.form ≡ self.old.form }
         ensures cause { OnErr result (Rose self.old.refused self.new.refused) }
         ensures why { IfErr result (λ fault.
             RefusesText (is_some self.old.out) self.old.weight fault (is_some self.new.out)) }

@@ -1,5 +1,5 @@
 //! Writes the parts that a session contains as records.
-ghost use Rattle.std.specs.Prelude.{◌≡◌, ◌≢◌, List, None, OnOk, OnErr, IfOk, IfErr, is_some};
+ghost use Rattle.std.specs.Prelude.{◌≡◌, ◌≢◌, List, None, OnOk, OnErr, IfOk, IfErr};
 ghost use Rattle.tape_run.specs.OutSinks.{TellsAlways, HasTaken};
 ghost use Rattle.tape_blocks.specs.Block.{Portion};
 ghost use Rattle.tape_run.specs.Causes.{WritingFails, EndingFails};
@@ -58,8 +58,8 @@ impl<W: Write + Drop> Session<OutSink<W>> {
             → IsPut None (TellsAlways W.contents) records form (O.stands out.new) parts) }
         ensures err { OnErr result (O.stands out.new ≡ O.stands out.old) }
         ensures cause { IfErr result (λ fault. fault ≢ EngineFault.WriteFailed
-            → (self.new ≡ self.old) × EndingFails (is_some self.old.sink.out) self.old.sink.begun
-            self.old.sink.form form fault) }
+            → (self.new ≡ self.old)
+            × EndingFails self.old.sink.begun self.old.sink.form form fault) }
         ensures calm { self.new.sink.refused ≡ self.old.sink.refused }
         ensures same { IsWalked ⟦<OutSink<W> as PartSink>⟧ self.old self.new }
     {

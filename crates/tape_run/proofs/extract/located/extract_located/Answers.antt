@@ -31,8 +31,10 @@ returns-in_err-complete-clause-cause g c =
     told_err _ _ _ c.from_residual.ensures.1 (inl c.in_err-complete.ensures.cause)
 
 pub returns-in-Err-clause-cause : goal.returns-in-Err-clause-cause
-returns-in-Err-clause-cause g c = ended_for _ _ _ _ _ _ _ _ (c.place_output.ensures.calm
-    ∙ c.in_ok-complete.ensures.calm.calm) c.in-Err.ensures.cause
+returns-in-Err-clause-cause g c =
+    let ended : c.in_ok-complete.complete ≡ true = search (rules, c.if-not-complete.false) in
+    ended_for _ _ _ _ _ _ _ _ (c.place_output.ensures.calm ∙ c.in_ok-complete.ensures.calm.calm)
+    (c.in_ok-complete.ensures.finished ended) c.in-Err.ensures.cause
 
 pub returns-in-Err-clause-reads : goal.returns-in-Err-clause-reads
 returns-in-Err-clause-reads g c = reads_walked _ c.args.session.now c.read_sections.new.session

@@ -95,10 +95,12 @@ returns-in_err-end_report-clause-cause g c =
 
 pub returns-in_err-records-clause-cause : goal.returns-in_err-records-clause-cause
 returns-in_err-records-clause-cause g c =
+    let mid = c.read_images.new.session in
+    let none : None ≡ want_at mid.core.file mid.core.position = search rules in
     told_err _ _ _ c.from_residual-in_err-records.ensures.1 (ended_for _ _ _ c.args.session.now
-    c.read_images.new.session c.place_output.new.self c.args.form c.in_err-records.field-0.0
+    mid c.place_output.new.self c.args.form c.in_err-records.field-0.0
     (c.place_output.ensures.calm ∙ c.in_ok-read_images.ensures.calm.calm)
-    c.in_err-records.ensures.cause)
+    (none_finished mid.core.file mid.core.position none) c.in_err-records.ensures.cause)
 
 pub returns-in_err-end_report-2-clause-cause : goal.returns-in_err-end_report-2-clause-cause
 returns-in_err-end_report-2-clause-cause g c =
