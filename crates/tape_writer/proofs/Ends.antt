@@ -10,7 +10,7 @@ use Rattle.tape_set.specs.Layout.{Section, Placed, item_of, group_of}
 use Rattle.tape_set.specs.{Before.blocks_of_all, Sizes.items_size, Tight.least_capacity}
 use Rattle.tape_writer.specs.declared.course.{Opened.Opened, Course.Course}
 use Rattle.tape_writer.specs.declared.fault.WriteFault.{WriteFault}
-use Rattle.tape_writer.specs.Tapes.{Tapes, Ended, UnderWay, all_volumes}
+use Rattle.tape_writer.specs.Tapes.{Tapes, Ended, UnderWay, Takes, Closes}
 use Rattle.tape_label.specs.Widths.{IsWideVolume}
 use Rattle.tape_writer.specs.Labels.{IsReady, volume_label, header_items}
 use Rattle.tape_writer.specs.Told.{labelled, Told, AreFiled, IsWrittenSet}
@@ -99,8 +99,7 @@ pub filing_begun : (H H' : Tapes → Type 0) (vs : List Vol1) (cap : ℕ) (set_i
     → IsReady file → file.head.set_id ≡ set_id → file.head.sequence ≡ length told + 1
     → p ≡ record { shape = file.shape; parts = []; begun = false; closed = false }
     → IsBetween H vs cap set_id course told
-    → ((volumes : List (List TapeItem)) (items : List TapeItem) → H (UnderWay volumes
-    items) → OnOk r (H' (UnderWay volumes (items ++ header_items file 1))))
+    → Takes (header_items file 1) H r H'
     → OnOk r (course' ≡ begun_course course)
     → OnOk r (IsFiling H' vs cap set_id file course' p told [])
 filing_begun H H' vs cap set_id file course course' p told (Err x) ready s f e k h n = tt
@@ -136,7 +135,7 @@ pub end_written : (H1 H2 : Tapes → Type 0) (vs : List Vol1) (cap : ℕ) (set_i
     → told ≢ [] → IsBetween H vs cap set_id course told → (r : Result (Unit {0}) WriteFault)
     → ((volumes : List (List TapeItem)) (items : List TapeItem) → H (UnderWay volumes
     items) → H1 (UnderWay volumes (items ++ mark ∷ [])))
-    → ((tapes : Tapes) → H1 tapes → OnOk r (H2 (Ended (all_volumes tapes))))
+    → Closes H1 r H2
     → OnOk r (IsWrittenSet H2 vs cap set_id told)
 end_written H1 H2 vs cap set_id course told H wide some k (Err x) h f = tt
 end_written H1 H2 vs cap set_id course told H wide some k (Ok x) h f =

@@ -10,13 +10,13 @@ use Rattle.tape_blocks.specs.Tight.{Filled}
 use Rattle.tape_set.specs.{Layout.Section, Before.blocks_of_all, Sizes.item_size}
 use Rattle.tape_writer.specs.declared.course.{Opened.Opened, Course.Course}
 use Rattle.tape_writer.specs.declared.fault.WriteFault.{WriteFault}
-use Rattle.tape_writer.specs.{Tapes.Tapes, Tapes.UnderWay, Told.labelled}
+use Rattle.tape_writer.specs.{Tapes.Tapes, Tapes.UnderWay, Tapes.Takes, Told.labelled}
 use Rattle.tape_label.specs.Widths.{IsWideVolume}
 use Rattle.tape_writer.specs.Labels.{volume_label, header_items, trailer_items}
 use Rattle.tape_writer.specs.Draft.{Draft, open_blocks, closing, here, body_items, open_items}
 use Rattle.tape_writer.specs.Draft.{ended_volumes, Within, Steady, changed_draft, changed_course}
 use Rattle.tape_writer.specs.Draft.{ended_draft, added_draft, added_course, ended_course, IsOpen}
-use Rattle.tape_writer.specs.Draft.{Grew, Closed}
+use Rattle.tape_writer.specs.Draft.{Grew, Closed, changed_tapes}
 use Rattle.tape_writer.proofs.Sections.{ends_by, of_file}
 use Rattle.tape_writer.proofs.Changed.{changed, ended_changed, open_changed}
 use Rattle.tape_writer.proofs.Steps.{added_here, added_next, open_added, ended, end_refused}
@@ -36,21 +36,23 @@ blocks_next : (ss : List Section) (s : Section)
 blocks_next ss s = flat_map-append (λ x. x.blocks) ss (s ∷ [])
     ∙ ap (λ z. blocks_of_all ss ++ z) (append-nil s.blocks)
 
-pub grew_here : (H : Tapes → Type 0) (vs : List Vol1) (cap : ℕ) (set_id : List ℕ)
-    (file : Opened) (course : Course) (d : Draft) (b : Filled)
-    → (0 < length b.bytes) × (length b.bytes ≤ 99999)
-    → Steady (map labelled vs) cap set_id file course d
-    → course.used + item_size (block b.bytes) + 192 ≤ cap
-    → H (UnderWay (ended_volumes (map labelled vs) d)
-    (open_items (map labelled vs) file course d ++ block b.bytes ∷ []))
-    → Grew H vs cap set_id file (added_course course (item_size (block b.bytes))) d b
-grew_here H vs cap set_id file course d b sized s fits h = record {
+-- a block is written, in the current section or on the next volume
+pub write_here : (H H' : Tapes → Type 0) (vs : List Vol1) (cap : ℕ) (set_id : List ℕ)
+    (file : Opened) (course course' : Course) (d : Draft) (b : Filled)
+    (r : Result (Unit {0}) WriteFault)
+    → (0 < length b.bytes) × (length b.bytes ≤ 99999) → IsOpen H vs cap set_id file course d
+    → course.used + item_size (block b.bytes) + 192 ≤ cap → Takes (block b.bytes ∷ []) H r H'
+    → OnOk r (course' ≡ added_course course (item_size (block b.bytes)))
+    → OnOk r (Grew H' vs cap set_id file course' d b)
+write_here H H' vs cap set_id file course course' d b (Err e) sized o fits k n = tt
+write_here H H' vs cap set_id file course course' d b (Ok x) sized o fits k n = record {
   draft = added_draft d b;
-  is_open = record {
-    steady = added_here (map labelled vs) cap set_id file course d b sized s fits;
-    held = subst (λ z. H (UnderWay (ended_volumes (map labelled vs) d) z))
-        (sym (open_added (map labelled vs) file course d b (item_size (block b.bytes)))) h;
-  };
+  is_open = subst (λ z. IsOpen H' vs cap set_id file z (added_draft d b)) (sym n) (record {
+    steady = added_here (map labelled vs) cap set_id file course d b sized o.steady fits;
+    held = subst (λ z. H' (UnderWay (ended_volumes (map labelled vs) d) z))
+        (sym (open_added (map labelled vs) file course d b (item_size (block b.bytes))))
+        (k _ _ o.held);
+  });
   files = refl;
   blocks = sym (append_assoc (blocks_of_all d.sects) d.blocks (b ∷ []));
 }
@@ -59,9 +61,8 @@ grew_here H vs cap set_id file course d b sized s fits h = record {
 held_changed : (H : Tapes → Type 0) (vs : List Vol1) (cap : ℕ) (set_id : List ℕ)
     (file : Opened) (course : Course) (d : Draft) (v : Vol1)
     → Steady (map labelled vs) cap set_id file course d → slice_get vs course.volume ≡ Some v
-    → H (UnderWay (ended_volumes (map labelled vs) d ++ (open_items (map labelled vs) file course d
-    ++ trailer_items file course.sect course.count false ++ mark ∷ []) ∷ []) (block (volume_label v)
-    ∷ header_items file (course.sect + 1)))
+    → H (changed_tapes file course v (ended_volumes (map labelled vs) d)
+    (open_items (map labelled vs) file course d))
     → H (UnderWay (ended_volumes (map labelled vs) (changed_draft file course d))
     (open_items (map labelled vs) file (changed_course course) (changed_draft file course d)))
 held_changed H vs cap set_id file course d v s g h =
@@ -74,43 +75,40 @@ held_changed H vs cap set_id file course d v s g h =
     (sym (open_changed (map labelled vs) set_id file course d v w.done.each w.sequence w.sect
     w.volume (label_at vs course.volume v g))) h)
 
-pub grew_next : (H : Tapes → Type 0) (vs : List Vol1) (cap : ℕ) (set_id : List ℕ)
-    (file : Opened) (course : Course) (d : Draft) (b : Filled) (v : Vol1)
-    → (0 < length b.bytes) × (length b.bytes ≤ 99999)
-    → Steady (map labelled vs) cap set_id file course d
+pub write_next : (H H1 H2 : Tapes → Type 0) (vs : List Vol1) (cap : ℕ) (set_id : List ℕ)
+    (file : Opened) (course course1 course2 : Course) (d : Draft) (b : Filled) (v : Vol1)
+    (r : Result (Unit {0}) WriteFault)
+    → (0 < length b.bytes) × (length b.bytes ≤ 99999) → IsOpen H vs cap set_id file course d
     → cap < course.used + item_size (block b.bytes) + 192 → slice_get vs course.volume ≡ Some v
     → IsWideVolume v → length vs ≤ 9999 → 1024 + length b.bytes ≤ cap → cap ≤ 4294967295
-    → ((H' : Tapes → Type 0) → H' (UnderWay (ended_volumes (map labelled vs) d
-    ++ (open_items (map labelled vs) file course d ++ trailer_items file course.sect course.count
-    false ++ mark ∷ []) ∷ []) (block (volume_label v) ∷ header_items file (course.sect + 1)))
-    → H' (UnderWay (ended_volumes (map labelled vs) (changed_draft file course d))
-    (open_items (map labelled vs) file (changed_course course) (changed_draft file course d))))
-    × (H (UnderWay (ended_volumes (map labelled vs) (changed_draft file course d)) (open_items (map
-    labelled vs) file (changed_course course) (changed_draft file course d) ++ block b.bytes ∷ []))
-    → Grew H vs cap set_id file (added_course (changed_course course)
-    (item_size (block b.bytes))) d b)
-grew_next H vs cap set_id file course d b v sized s due g wide few room most = (
-  λ H' h. held_changed H' vs cap set_id file course d v s g h,
-  λ h. record {
-    draft = added_draft (changed_draft file course d) b;
-    is_open = record {
-      steady = added_next (map labelled vs) cap set_id file course d b v wide (omega (
-        arith,
-        few,
-        length-map vs labelled,
-      )) (omega (arith, room)) most (omega (arith, room)) sized s due
-          (in_range vs course.volume v g) (label_at vs course.volume v g);
-      held = subst (λ z. H (UnderWay (ended_volumes (map labelled vs) (changed_draft file course d))
-          z)) (sym (open_added (map labelled vs) file (changed_course course)
-          (changed_draft file course d) b (item_size (block b.bytes)))) h;
-    };
-    files = refl;
-    blocks = ap (λ z. z ++ b ∷ []) (blocks_next d.sects
-        (closing file course.volume course.sect d.blocks false));
-  },
-)
+    → ((volumes : List (List TapeItem)) (items : List TapeItem) → H (UnderWay volumes items)
+    → H1 (changed_tapes file course v volumes items))
+    → course1 ≡ changed_course course → Takes (block b.bytes ∷ []) H1 r H2
+    → OnOk r (course2 ≡ added_course course1 (item_size (block b.bytes)))
+    → OnOk r (Grew H2 vs cap set_id file course2 d b)
+write_next H H1 H2 vs cap set_id file course course1 course2 d b v
+    (Err e) sized o due g wide few room most k n k2 n2 = tt
+write_next H H1 H2 vs cap set_id file course course1 course2 d b v
+    (Ok x) sized o due g wide few room most k n k2 n2 =
+    let next = changed_draft file course d in record {
+      draft = added_draft next b;
+      is_open = subst (λ z. IsOpen H2 vs cap set_id file z (added_draft next b))
+          (sym (n2 ∙ ap (λ z. added_course z (item_size (block b.bytes))) n)) (record {
+            steady = added_next (map labelled vs) cap set_id file course d b v wide
+                (omega (arith, few, length-map vs labelled)) (omega (arith, room)) most
+                (omega (arith, room)) sized o.steady due (in_range vs course.volume v g)
+                (label_at vs course.volume v g);
+            held = subst (λ z. H2 (UnderWay (ended_volumes (map labelled vs) next) z))
+                (sym (open_added (map labelled vs) file (changed_course course) next b
+                (item_size (block b.bytes)))) (k2 _ _
+                (held_changed H1 vs cap set_id file course d v o.steady g (k _ _ o.held)));
+          });
+      files = refl;
+      blocks = ap (λ z. z ++ b ∷ []) (blocks_next d.sects
+          (closing file course.volume course.sect d.blocks false));
+    }
 
-pub closed_by : (H : Tapes → Type 0) (vs : List Vol1) (cap : ℕ) (set_id : List ℕ)
+closed_by : (H : Tapes → Type 0) (vs : List Vol1) (cap : ℕ) (set_id : List ℕ)
     (file : Opened) (course : Course) (d : Draft)
     → Within (map labelled vs) cap set_id file course d.blocks d → length vs ≤ 9999
     → cap ≤ 4294967295 → course.used + 556 ≤ cap
@@ -143,110 +141,12 @@ closed_by H vs cap set_id file course d w few most room h =
       blocks = blocks_next d.sects (closing file course.volume course.sect d.blocks true);
     }
 
-pub closed_next : (H : Tapes → Type 0) (vs : List Vol1) (cap : ℕ) (set_id : List ℕ)
-    (file : Opened) (course : Course) (d : Draft) (v : Vol1)
-    → Steady (map labelled vs) cap set_id file course d → cap < course.used + 556
-    → slice_get vs course.volume ≡ Some v → IsWideVolume v
-    → length vs ≤ 9999 → 1024 ≤ cap → cap ≤ 4294967295
-    → ((H' : Tapes → Type 0) → H' (UnderWay (ended_volumes (map labelled vs) d
-    ++ (open_items (map labelled vs) file course d ++ trailer_items file course.sect course.count
-    false ++ mark ∷ []) ∷ []) (block (volume_label v) ∷ header_items file (course.sect + 1)))
-    → H' (UnderWay (ended_volumes (map labelled vs) (changed_draft file course d))
-    (open_items (map labelled vs) file (changed_course course) (changed_draft file course d))))
-    × (H (UnderWay (ended_volumes (map labelled vs) (changed_draft file course d))
-    (open_items (map labelled vs) file (changed_course course) (changed_draft file course d)
-    ++ trailer_items file (course.sect + 1) 0 true))
-    → Closed H vs cap set_id file (ended_course (changed_course course)) d)
-closed_next H vs cap set_id file course d v s due g wide few room most = (
-  λ H' h. held_changed H' vs cap set_id file course d v s g h,
-  λ h.
-      let w : Within (map labelled vs) cap set_id file
-      (changed_course course) [] (changed_draft file course d) =
-      changed (map labelled vs) cap set_id file course d [] v wide
-      (omega (arith, few, length-map vs labelled)) room most s.inside (end_refused cap course.used
-      (omega (arith, due))) (in_range vs course.volume v g) (label_at vs course.volume v g) in
-      let c = closed_by H vs cap set_id file (changed_course course)
-      (changed_draft file course d) w few most (omega (arith, room)) h in
-      record {
-        draft = c.draft;
-        resting = c.resting;
-        sects = c.sects;
-        last = c.last;
-        files = c.files;
-        ready = c.ready;
-        sequence = c.sequence;
-        number = c.number;
-        going = c.going;
-        of_file = c.of_file;
-        ends = c.ends;
-        blocks = c.blocks ∙ (ap (λ z. z ++ []) (blocks_next d.sects
-            (closing file course.volume course.sect d.blocks false)) ∙ append-nil (open_blocks d));
-      },
-)
-
--- the same at the result of a call
-pub write_here : (H H' : Tapes → Type 0) (vs : List Vol1) (cap : ℕ) (set_id : List ℕ)
-    (file : Opened) (course course' : Course) (d : Draft) (b : Filled) (bytes : List ℕ)
-    (r : Result (Unit {0}) WriteFault)
-    → b.bytes ≡ bytes → (0 < length bytes) × (length bytes ≤ 99999)
-    → IsOpen H vs cap set_id file course d → course.used + item_size (block bytes) + 192 ≤ cap
-    → ((volumes : List (List TapeItem)) (items : List TapeItem) → H (UnderWay volumes
-    items) → OnOk r (H' (UnderWay volumes (items ++ block bytes ∷ []))))
-    → OnOk r (course' ≡ added_course course (item_size (block bytes)))
-    → OnOk r (Grew H' vs cap set_id file course' d b)
-write_here H H' vs cap set_id file course course' d b bytes (Err e) is sized o fits k n = tt
-write_here H H' vs cap set_id file course course' d b bytes (Ok x) is sized o fits k n =
-    let sized' : (0 < length b.bytes) × (length b.bytes ≤ 99999) =
-    subst (λ z. (0 < length z) × (length z ≤ 99999)) (sym is) sized in
-    let fits' : course.used + item_size (block b.bytes) + 192 ≤ cap =
-    subst (λ z. course.used + item_size (block z) + 192 ≤ cap) (sym is) fits in
-    let held = subst (λ z. H' (UnderWay (ended_volumes (map labelled vs) d)
-    (open_items (map labelled vs) file course d ++ block z ∷ []))) (sym is) (k _ _ o.held) in
-    subst (λ z. Grew H' vs cap set_id file z d b)
-    (ap (λ z. added_course course (item_size (block z))) is ∙ sym n)
-    (grew_here H' vs cap set_id file course d b sized' o.steady fits' held)
-
-pub write_next : (H H1 H2 : Tapes → Type 0) (vs : List Vol1) (cap : ℕ) (set_id : List ℕ)
-    (file : Opened) (course course1 course2 : Course) (d : Draft) (b : Filled) (v : Vol1)
-    (bytes : List ℕ) (r : Result (Unit {0}) WriteFault)
-    → b.bytes ≡ bytes → (0 < length bytes) × (length bytes ≤ 99999)
-    → IsOpen H vs cap set_id file course d → cap < course.used + item_size (block bytes) + 192
-    → slice_get vs course.volume ≡ Some v → IsWideVolume v
-    → length vs ≤ 9999 → 1024 + length bytes ≤ cap → cap ≤ 4294967295
-    → ((volumes : List (List TapeItem)) (items : List TapeItem) → H (UnderWay volumes
-    items) → H1 (UnderWay (volumes ++ (items ++ trailer_items file course.sect course.count false
-    ++ mark ∷ []) ∷ []) (block (volume_label v) ∷ header_items file (course.sect + 1))))
-    → course1 ≡ changed_course course
-    → ((volumes : List (List TapeItem)) (items : List TapeItem) → H1 (UnderWay volumes
-    items) → OnOk r (H2 (UnderWay volumes (items ++ block bytes ∷ []))))
-    → OnOk r (course2 ≡ added_course course1 (item_size (block bytes)))
-    → OnOk r (Grew H2 vs cap set_id file course2 d b)
-write_next H H1 H2 vs cap set_id file course course1 course2 d b v bytes
-    (Err e) is sized o due g wide few room most k n k2 n2 = tt
-write_next H H1 H2 vs cap set_id file course course1 course2 d b v bytes
-    (Ok x) is sized o due g wide few room most k n k2 n2 =
-    let sized' : (0 < length b.bytes) × (length b.bytes ≤ 99999) =
-    subst (λ z. (0 < length z) × (length z ≤ 99999)) (sym is) sized in
-    let due' : cap < course.used + item_size (block b.bytes) + 192 =
-    subst (λ z. cap < course.used + item_size (block z) + 192) (sym is) due in
-    let room' : 1024 + length b.bytes ≤ cap = subst (λ z. 1024 + length z ≤ cap) (sym is) room in
-    let both =
-    grew_next H2 vs cap set_id file course d b v sized' o.steady due' g wide few room' most in
-    let first = both.0 H1 (k _ _ o.held) in
-    let held =
-    subst (λ z. H2 (UnderWay (ended_volumes (map labelled vs) (changed_draft file course d))
-    (open_items (map labelled vs) file (changed_course course) (changed_draft file course d)
-    ++ block z ∷ []))) (sym is) (k2 _ _ first) in
-    subst (λ z. Grew H2 vs cap set_id file z d b)
-    (ap (λ z. added_course (changed_course course) (item_size (block z))) is
-    ∙ sym (n2 ∙ ap (λ z. added_course z (item_size (block bytes))) n)) (both.1 held)
-
+-- the file ends, in the current section or on the next volume
 pub close_here : (H H' : Tapes → Type 0) (vs : List Vol1) (cap : ℕ) (set_id : List ℕ)
     (file : Opened) (course course' : Course) (d : Draft) (r : Result (Unit {0}) WriteFault)
     → IsOpen H vs cap set_id file course d → length vs ≤ 9999 → cap ≤ 4294967295
     → course.used + 556 ≤ cap
-    → ((volumes : List (List TapeItem)) (items : List TapeItem) → H (UnderWay volumes items)
-    → OnOk r (H' (UnderWay volumes (items ++ trailer_items file course.sect course.count true))))
+    → Takes (trailer_items file course.sect course.count true) H r H'
     → OnOk r (course' ≡ ended_course course)
     → OnOk r (Closed H' vs cap set_id file course' d)
 close_here H H' vs cap set_id file course course' d (Err e) o few most room k n = tt
@@ -260,26 +160,44 @@ pub close_next : (H H1 H2 : Tapes → Type 0) (vs : List Vol1) (cap : ℕ) (set_
     → IsOpen H vs cap set_id file course d → cap < course.used + 556
     → slice_get vs course.volume ≡ Some v → IsWideVolume v → length vs ≤ 9999 → 1024 ≤ cap
     → cap ≤ 4294967295
-    → ((volumes : List (List TapeItem)) (items : List TapeItem) → H (UnderWay volumes
-    items) → H1 (UnderWay (volumes ++ (items ++ trailer_items file course.sect course.count false
-    ++ mark ∷ []) ∷ []) (block (volume_label v) ∷ header_items file (course.sect + 1))))
+    → ((volumes : List (List TapeItem)) (items : List TapeItem) → H (UnderWay volumes items)
+    → H1 (changed_tapes file course v volumes items))
     → course1 ≡ changed_course course
-    → ((volumes : List (List TapeItem)) (items : List TapeItem) → H1 (UnderWay volumes items)
-    → OnOk r (H2 (UnderWay volumes (items ++ trailer_items file course1.sect course1.count true))))
+    → Takes (trailer_items file course1.sect course1.count true) H1 r H2
     → OnOk r (course2 ≡ ended_course course1) → OnOk r (Closed H2 vs cap set_id file course2 d)
 close_next H H1 H2 vs cap set_id file course course1 course2 d v
     (Err e) o due g wide few room most k n k2 n2 = tt
 close_next H H1 H2 vs cap set_id file course course1 course2 d v
     (Ok x) o due g wide few room most k n k2 n2 =
-    let both = closed_next H2 vs cap set_id file course d v o.steady due g wide few room most in
-    let first = both.0 H1 (k _ _ o.held) in
-    let second : H2 (UnderWay (ended_volumes (map labelled vs) (changed_draft file course d))
-    (open_items (map labelled vs) file (changed_course course) (changed_draft file course d)
-    ++ trailer_items file (course.sect + 1) 0 true)) =
-    subst (λ z. H2 (UnderWay (ended_volumes (map labelled vs) (changed_draft file course d))
-    (open_items (map labelled vs) file (changed_course course) (changed_draft file course d)
-    ++ trailer_items file z.sect z.count true))) n (k2 _ _ first) in
-    subst (λ z. Closed H2 vs cap set_id file z d) (sym (n2 ∙ ap ended_course n)) (both.1 second)
+    let next = changed_draft file course d in
+    let first = held_changed H1 vs cap set_id file course d v o.steady g (k _ _ o.held) in
+    let second : H2 (UnderWay (ended_volumes (map labelled vs) next) (open_items (map labelled vs)
+    file (changed_course course) next ++ trailer_items file (course.sect + 1) 0 true)) =
+    subst (λ z. H2 (UnderWay (ended_volumes (map labelled vs) next) (open_items (map labelled vs)
+    file (changed_course course) next ++ trailer_items file z.sect z.count true))) n
+    (k2 _ _ first) in
+    let w : Within (map labelled vs) cap set_id file (changed_course course) [] next =
+    changed (map labelled vs) cap set_id file course d [] v wide
+    (omega (arith, few, length-map vs labelled)) room most o.steady.inside (end_refused cap
+    course.used (omega (arith, due))) (in_range vs course.volume v g) (label_at vs course.volume v
+    g) in
+    let c = closed_by H2 vs cap set_id file (changed_course course) next w few most
+    (omega (arith, room)) second in
+    subst (λ z. Closed H2 vs cap set_id file z d) (sym (n2 ∙ ap ended_course n)) (record {
+      draft = c.draft;
+      resting = c.resting;
+      sects = c.sects;
+      last = c.last;
+      files = c.files;
+      ready = c.ready;
+      sequence = c.sequence;
+      number = c.number;
+      going = c.going;
+      of_file = c.of_file;
+      ends = c.ends;
+      blocks = c.blocks ∙ (ap (λ z. z ++ []) (blocks_next d.sects
+          (closing file course.volume course.sect d.blocks false)) ∙ append-nil (open_blocks d));
+    })
 
 pub got : (vs : List Vol1) (k n : ℕ) (v : Vol1) → k ≡ n → k < length vs → v ≡ get_or vs k v
     → slice_get vs n ≡ Some v

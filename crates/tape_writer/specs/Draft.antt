@@ -2,7 +2,7 @@
 use Rattle.std.specs.Prelude.{◌≡◌, ◌<◌, ◌≤◌, ℕ, zero, suc, ◌+◌, List, [], ◌∷◌, ◌++◌, Bool, true}
 use Rattle.std.specs.Prelude.{false, length, map, slice_get}
 use Rattle.std.specs.List.{AllByRecursion}
-use Rattle.tape_image.specs.Tape.{TapeItem, block}
+use Rattle.tape_image.specs.Tape.{TapeItem, block, mark}
 use Rattle.tape_label.specs.declared.values.Vol1.{Vol1}
 use Rattle.tape_label.specs.declared.values.Kind.TheVariants as kinds
 use Rattle.tape_blocks.specs.{Tight.Filled, Tight.Chain, Packing.longest_block}
@@ -15,7 +15,8 @@ use Rattle.tape_set.specs.Tight.{IsTightChange, IsTightEnd, EachBehind, ChainBeh
 use Rattle.tape_writer.specs.declared.course.{Opened.Opened, Course.Course}
 use Rattle.tape_writer.specs.{Tapes.Tapes, Tapes.UnderWay, Labels.IsReady, Labels.first_label}
 use Rattle.tape_writer.specs.Labels.{second_label, trailer_label, second_kind}
-use Rattle.tape_writer.specs.{Labels.header_items, Told.labelled, Told.IsOfFile, Told.IsWithin}
+use Rattle.tape_writer.specs.Labels.{header_items, trailer_items, volume_label}
+use Rattle.tape_writer.specs.Told.{labelled, IsOfFile, IsWithin}
 
 -- The files that are finished; the finished sections of the current file, and the blocks of its
 -- next section; and the number of volumes that have ended.
@@ -155,6 +156,13 @@ changed_draft file course d = record {
 abbrev pub changed_course : Course → Course
 changed_course course =
     record { volume = course.volume + 1; sect = course.sect + 1; count = 0; used = 268 }
+
+-- the tapes after it: the section ended with EOV1 and EOV2, and the volume with a second mark, and
+-- the next volume begins with the label `v`
+abbrev pub changed_tapes : Opened → Course → Vol1 → List (List TapeItem) → List TapeItem → Tapes
+changed_tapes file course v volumes items = UnderWay
+    (volumes ++ (items ++ trailer_items file course.sect course.count false ++ mark ∷ []) ∷ [])
+    (block (volume_label v) ∷ header_items file (course.sect + 1))
 
 -- the draft after the end of a file
 abbrev pub ended_draft : Opened → Course → Draft → Draft

@@ -11,7 +11,7 @@ ghost use Rattle.tape_set.specs.Sizes.{item_size};
 ghost use Rattle.tape_writer.specs.Tapes.{Tapes, UnderWay, Takes, Keeps, Changes, all_volumes};
 ghost use Rattle.tape_writer.specs.Front.{HoldsFront};
 ghost use Rattle.tape_writer.specs.Lasting.{TapeLasts};
-ghost use Rattle.tape_writer.specs.Draft.{added_course, changed_course};
+ghost use Rattle.tape_writer.specs.Draft.{added_course, changed_course, changed_tapes};
 ghost use Rattle.tape_writer.specs.Faults.{FailsWith, IsOfOut};
 ghost use Rattle.tape_writer.specs.Labels.{IsReady, header_items, trailer_items, volume_label};
 ghost use Rattle.tape_writer.specs.Labels.{first_label, second_label, second_kind, trailer_label};
@@ -215,21 +215,11 @@ impl<T: TapeOut> Tape<T> {
         requires room { self.old.course.used + 192 ≤ image_limit }
         requires few { self.old.course.volume < 65535 }
         ensures ok { (volumes : List (List TapeItem)) (items : List TapeItem)
-            → T.holds self.old.out (UnderWay volumes items)
-            → OnOk result (T.holds self.new.out (UnderWay
-            (volumes ++ (items
-            ++ trailer_items file.now self.old.course.sect self.old.course.count false
-            ++ mark_item ∷ []) ∷ [])
-            (block_item (volume_label volume.now)
-            ∷ header_items file.now (self.old.course.sect + 1)))) }
+            → T.holds self.old.out (UnderWay volumes items) → OnOk result (T.holds self.new.out
+            (changed_tapes file.now self.old.course volume.now volumes items)) }
         ensures front { (volumes : List (List TapeItem)) (items : List TapeItem)
-            → T.holds self.old.out (UnderWay volumes items)
-            → HoldsFront (T.holds self.new.out) (UnderWay
-            (volumes ++ (items
-            ++ trailer_items file.now self.old.course.sect self.old.course.count false
-            ++ mark_item ∷ []) ∷ [])
-            (block_item (volume_label volume.now)
-            ∷ header_items file.now (self.old.course.sect + 1))) }
+            → T.holds self.old.out (UnderWay volumes items) → HoldsFront (T.holds self.new.out)
+            (changed_tapes file.now self.old.course volume.now volumes items) }
         ensures course { OnOk result (self.new.course ≡ changed_course self.old.course) }
         ensures lasting { TapeLasts T.TapeOut self.old self.new }
         ensures cause { FailsWith (T.failures self.old.out) result (T.failures self.new.out) }

@@ -59,7 +59,7 @@ pub returns-then-has_room-clause-flushed : goal.returns-then-has_room-clause-flu
 returns-then-has_room-clause-flushed g c = λ some set_id d o.
     let H = g.T.TapeOut.holds c.add_block.new.self.out in
     flushed_by H _ _ set_id _ _ d _ _ _ c.in-Some.ensures.found (write_here
-    (g.T.TapeOut.holds c.args.tape.now.out) H _ _ set_id _ _ _ d _ _ _ refl (given_sized _ _ _
+    (g.T.TapeOut.holds c.args.tape.now.out) H _ _ set_id _ _ _ d _ _ (given_sized _ _ _
     c.requires.shape c.requires.ready.writable c.in-Some.ensures.found) o (let fits =
     c.has_room.ensures.yes (search rules) in omega (arith, fits)) c.add_block.ensures.ok
     c.add_block.ensures.course)
@@ -71,7 +71,7 @@ returns-clause-flushed g c = λ some set_id d o.
     c.in-Some-get.ensures.lookup.1 in
     flushed_by H _ _ set_id _ _ d _ _ _ c.in-Some.ensures.found (write_next
     (g.T.TapeOut.holds c.args.tape.now.out) (g.T.TapeOut.holds c.change_to.new.self.out) H _ _
-    set_id _ _ _ _ d _ _ _ _ refl (given_sized _ _ _ c.requires.shape c.requires.ready.writable
+    set_id _ _ _ _ d _ _ _ (given_sized _ _ _ c.requires.shape c.requires.ready.writable
     c.in-Some.ensures.found) o (let due = c.has_room.ensures.no (search rules) in omega
     (arith, due)) there (every_at IsWideVolume _ _ _ c.requires.wide there) c.requires.volumes (let
     same = ap (λ s. s.block_len) c.requires.shape in
@@ -89,7 +89,7 @@ returns-then-has_room-clause-front g c = λ some set_id d o. err_any c.add_block
     let new = added_course c.args.tape.now.course (item_size (block text)) in (
       new,
       flushed_by (HoldsFront K) _ _ set_id _ _ d _ _ (Ok tt) c.in-Some.ensures.found (write_here old
-          (HoldsFront K) _ _ set_id _ _ _ d _ _ (Ok tt) refl (given_sized _ _ _ c.requires.shape
+          (HoldsFront K) _ _ set_id _ _ _ d _ (Ok tt) (given_sized _ _ _ c.requires.shape
           c.requires.ready.writable c.in-Some.ensures.found) o (let fits = c.has_room.ensures.yes
           (search rules) in omega (arith, fits)) (took old K (block text ∷ []) _
           c.add_block.ensures.ok c.add_block.ensures.err) refl),
@@ -112,7 +112,7 @@ returns-in_err-change_to-clause-front g c =
           c.args.packer.now text (Ok tt) c.in-Some.ensures.found
           (write_next (g.T.TapeOut.holds c.args.tape.now.out) (HoldsFront H) (HoldsFront H) vs
           c.args.capacity set_id c.args.file.now c.args.tape.now.course one two d b
-          c.in-Some-get.volume.now text (Ok tt) refl
+          c.in-Some-get.volume.now (Ok tt)
           (given_sized c.args.packer.now _ text c.requires.shape c.requires.ready.writable
           c.in-Some.ensures.found) o
           (let due = c.has_room.ensures.no (search rules) in omega (arith, due)) there
@@ -135,8 +135,8 @@ returns-clause-front g c = λ some set_id d o. err_any c.add_block-2.result _ (�
     let two = added_course one (item_size (block text)) in (
       two,
       flushed_by (HoldsFront K) _ _ set_id _ two d _ _ (Ok tt) c.in-Some.ensures.found (write_next
-          (g.T.TapeOut.holds c.args.tape.now.out) H (HoldsFront K) _ _ set_id _ _ _ two d _ _ _
-          (Ok tt) refl (given_sized _ _ _ c.requires.shape c.requires.ready.writable
+          (g.T.TapeOut.holds c.args.tape.now.out) H (HoldsFront K) _ _ set_id _ _ _ two d _ _
+          (Ok tt) (given_sized _ _ _ c.requires.shape c.requires.ready.writable
           c.in-Some.ensures.found) o (let due = c.has_room.ensures.no (search rules) in omega
           (arith, due)) there (every_at IsWideVolume _ _ _ c.requires.wide there) c.requires.volumes
           (let same = ap (λ s. s.block_len) c.requires.shape in
