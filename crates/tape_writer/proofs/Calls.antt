@@ -16,6 +16,7 @@ use Rattle.tape_writer.specs.Told.{Told, opened_by, with_record}
 use Rattle.tape_writer.specs.Inside.{IsInside, IsFiling, IsBetween, IsWaiting, IsStuck}
 use Rattle.tape_writer.specs.State.{SetState, Stands, IsFilingLast, IsWriting, Leaves, IfFiling}
 use Rattle.tape_writer.specs.State.{IsOutOfVolumes}
+use Rattle.tape_writer.proofs.Changed.{not_nil}
 
 pub with_last : (past : List Told) (t : Told) (r : List ℕ) → with_record (past ++ t ∷ []) r
     ≡ past ++ record { file = t.file; records = t.records ++ r ∷ [] } ∷ []
@@ -28,10 +29,6 @@ with_kept : (told : List Told) (r : List ℕ)
 with_kept [] r = refl
 with_kept (t ∷ []) r = refl
 with_kept (t ∷ u ∷ ts) r = ap (λ z. t.file ∷ z) (with_kept (u ∷ ts) r)
-
-not_nil : (xs : List Told) (x : Told) → xs ++ x ∷ [] ≡ [] → ⊥
-not_nil [] x e = cc
-not_nil (y ∷ xs) x e = cc
 
 -- the current file is the last of the files passed
 pub last_told : {T : Type 0} (H : Tapes → Type 0) (w : SetState T) (o : OpenFile) (told : List Told)

@@ -20,11 +20,13 @@ use Rattle.tape_writer.specs.Told.{labelled, IsWithin}
 use Rattle.tape_writer.specs.Draft.{Draft, placed, body, first_volumes, data_item, closing, here}
 use Rattle.tape_writer.specs.Draft.{body_items, open_items, ended_volumes, IsDone, IsGoing, OfLast}
 use Rattle.tape_writer.specs.Draft.{Within, changed_draft, changed_course, ended_draft}
-use Rattle.tape_writer.proofs.Lists.{snoc_same, all_push, all_weaken, chain_push, each_push}
+use Rattle.tape_set.proofs.Everywhere.{every}
+use Rattle.tape_writer.proofs.Lists.{snoc_same, all_push, chain_push, each_push}
 use Rattle.tape_writer.proofs.Lists.{chain_behind_push, numbered-push, all_numbered-push}
-use Rattle.tape_writer.proofs.Volumes.{on_none, body_here, first_same, first_next, eqb_same}
+use Rattle.tape_writer.proofs.Volumes.{on_none, body_here, first_same, first_next}
 use Rattle.tape_writer.proofs.Sections.{section_items, section_is, of_file, ends_by, header_size}
 use Rattle.tape_writer.proofs.Sections.{trailer_size, vol1_size, used_is}
+use Rattle.std.proofs.lemmas.Bool.{eq-eqb}
 
 -- one more section
 pub sects_next : (file : Opened) (course : Course) (d : Draft) (eof : Bool)
@@ -83,7 +85,7 @@ pub done_push : (vs : List Volume) (cap : ℕ) (set_id : List ℕ)
 done_push vs cap set_id n m file course bs eof xs d le r s p q few one ms sized goes change fresh
     end room = record {
       each = all_push (IsSection set_id m) xs (here file course bs eof)
-          (all_weaken (IsSection set_id n) (IsSection set_id m)
+          (every (IsSection set_id n) (IsSection set_id m)
           (λ x h. record {
             header = h.header;
             trailer = h.trailer;
@@ -145,7 +147,7 @@ body_new vs xs k v h g = ap (λ z. map item_of (group_of z ++ all_entries (on (k
 -- the volumes of the sections have begun
 below : (set_id : List ℕ) (n : ℕ) (xs : List Placed) → AllByRecursion (IsSection set_id n) xs
     → AllByRecursion (λ x. x.section.volume < n + 1) xs
-below set_id n xs h = all_weaken (IsSection set_id n)
+below set_id n xs h = every (IsSection set_id n)
     (λ x. x.section.volume < n + 1) (λ x k. omega (arith, k.volume.1)) xs h
 
 -- after a section on volume n, every section is before volume n + 1
@@ -214,11 +216,11 @@ changed vs cap set_id file course d next v wide few capacity most w refused more
       done = subst (IsDone vs cap set_id (d.past + 1 + 1)) (sym all) done;
       goes = last_is (placed d) (placed (changed_draft file course d)) x
           (λ ys y. GoesOn y (here file (changed_course course) [] true)) all
-          (rw (eqb_same file.head.sequence) refl);
+          (rw (eq-eqb file.head.sequence file.head.sequence refl) refl);
       fresh = λ e. absurd (not_nil (placed d) x (sym all ∙ e));
       change = last_is (placed d) (placed (changed_draft file course d)) x
           (λ ys y. IsTightChange vs cap ys y (here file (changed_course course) next true)) all
-          (rw (eqb_same file.head.sequence)
+          (rw (eq-eqb file.head.sequence file.head.sequence refl)
           (subst (λ n. takes_next cap n next ≡ false) used refused));
       going = subst (AllByRecursion (IsGoing file)) (sym (numbered-push file.head.sequence 1 d.sects
           x.section course.sect (omega (arith, w.sect))))

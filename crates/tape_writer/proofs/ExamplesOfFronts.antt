@@ -85,9 +85,9 @@ cases_of_fronts = record {
   all_held = λ tapes w told records g. g.all tt;
   wrong_length = λ tapes w told records g. g.all tt;
   left_in = λ tapes w id shape cut x fault g.
-      first_of tapes w id shape cut x g.before g.after g.input fault g.split g.left;
+      first_of tapes w id shape cut x g.before g.after g.input fault g.split g.holds;
   unbegun = λ tapes w told fault u.
       (λ e. u.0 (subst IsOfInput (sym e) tt), λ e. u.0 (subst IsOfInput (sym e) tt), u.1);
   left_of_none = of_none;
-  left_set = λ fault plan cut given g. (g.on_tapes, g.on_volumes, g.capacity, g.set_id, g.left);
+  left_set = λ fault plan cut given g. (g.on_tapes, g.on_volumes, g.capacity, g.set_id, g.holds);
 }

@@ -58,7 +58,7 @@ cases_of_inputs = record {
   all_known = λ h k a b given p. p;
   gave_up = λ H w told records g. (g.split, g.out);
   gave_up_in = λ tapes w id shape cut x g.
-      first_of tapes w id shape cut x g.before g.after g.input g.split g.stuck;
+      first_of tapes w id shape cut x g.before g.after g.input g.split g.holds;
   gave_up_set = λ plan cut given g. (g.on_tapes, g.on_volumes, g.capacity, g.set_id);
 }
 

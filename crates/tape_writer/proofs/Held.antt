@@ -19,7 +19,8 @@ use Rattle.tape_writer.specs.Draft.{ended_draft, added_draft, added_course, ende
 use Rattle.tape_writer.specs.Draft.{Grew, Closed, changed_tapes}
 use Rattle.tape_writer.proofs.Sections.{ends_by, of_file}
 use Rattle.tape_writer.proofs.Changed.{changed, ended_changed, open_changed}
-use Rattle.tape_writer.proofs.Steps.{added_here, added_next, open_added, ended, end_refused}
+use Rattle.tape_writer.proofs.Steps.{added_here, added_next, open_added, ended}
+use Rattle.std.proofs.lemmas.Bool.{lt-leb}
 
 pub label_at : (vs : List Vol1) (k : ℕ) (v : Vol1) → slice_get vs k ≡ Some v
     → slice_get (map labelled vs) k ≡ Some (labelled v)
@@ -178,8 +179,7 @@ close_next H H1 H2 vs cap set_id file course course1 course2 d v
     (k2 _ _ first) in
     let w : Within (map labelled vs) cap set_id file (changed_course course) [] next =
     changed (map labelled vs) cap set_id file course d [] v wide
-    (omega (arith, few, length-map vs labelled)) room most o.steady.inside (end_refused cap
-    course.used (omega (arith, due))) (in_range vs course.volume v g) (label_at vs course.volume v
+    (omega (arith, few, length-map vs labelled)) room most o.steady.inside (lt-leb _ _ (omega (arith, due))) (in_range vs course.volume v g) (label_at vs course.volume v
     g) in
     let c = closed_by H2 vs cap set_id file (changed_course course) next w few most
     (omega (arith, room)) second in

@@ -16,18 +16,6 @@ pub rose_none : Rose 0 0 → ⊥
 rose_none (inl lt) = omega (arith, lt)
 rose_none (inr top) = omega (arith, top)
 
-pub lasting_same : (H : Tapes → Type 0) (n m : Failures) (u v : ℕ) → Grows n m → v ≡ u → Lasting H n
-    u H m v
-lasting_same H n m u v le e = record {
-  lasts = λ volumes items h s. record {
-    more = [];
-    items = items;
-    held = subst (λ z. H (UnderWay z items)) (sym (append-nil volumes)) h;
-    size = e ∙ s;
-  };
-  count = le;
-}
-
 pub lasting_then : (H K L : Tapes → Type 0) (n m k : Failures) (u v w : ℕ) → Lasting H n u K m v
     → Lasting K m v L k w → Lasting H n u L k w
 lasting_then H K L n m k u v w a b = record {
@@ -74,7 +62,7 @@ lasting_err H K n m u v f le e = record {
 }
 
 pub lasting_self : (H : Tapes → Type 0) (n : Failures) (u : ℕ) → Lasting H n u H n u
-lasting_self H n u = lasting_same H n n u u (omega arith, omega arith) refl
+lasting_self H n u = lasting_err H H n n u u (λ t h. h) (omega arith, omega arith) refl
 
 -- the facts that a sequence of calls requires of each call
 pub ruleset kept = (lasting_then, lasting_self, rose_from)

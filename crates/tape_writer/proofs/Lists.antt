@@ -1,6 +1,6 @@
 -- Lists with one more element at the end.
 use Rattle.std.proofs.Common.{◌≡◌, ℕ, ◌+◌, List, [], ◌∷◌, ◌++◌, length, refl, sym, ap, ◌∙◌, subst}
-use Rattle.std.proofs.Common.{append_assoc, arith, length-append}
+use Rattle.std.proofs.Common.{append_assoc, append-nil, arith, length-append}
 use Rattle.std.specs.List.{AllByRecursion}
 use Rattle.tape_set.specs.Layout.{Placed, Section, numbered, all_numbered}
 use Rattle.tape_blocks.specs.Tight.{Chain}
@@ -23,11 +23,6 @@ pub all_push : {A : Type 0} (P : A → Type 0) (xs : List A) (x : A) → AllByRe
 all_push P [] x h p = (p, tt)
 all_push P (y ∷ xs) x h p = (h.0, all_push P xs x h.1 p)
 
-pub all_weaken : {A : Type 0} (P Q : A → Type 0) → ((x : A) → P x → Q x) → (xs : List A)
-    → AllByRecursion P xs → AllByRecursion Q xs
-all_weaken P Q f [] h = tt
-all_weaken P Q f (x ∷ xs) h = (f x h.0, all_weaken P Q f xs h.1)
-
 pub chain_push : {A : Type 0} (R : A → A → Type 0) (xs : List A) (y : A) → Chain R xs
     → ((ys : List A) (x : A) → xs ≡ ys ++ x ∷ [] → R x y) → Chain R (xs ++ y ∷ [])
 chain_push R [] y c h = tt
@@ -37,11 +32,7 @@ chain_push R (x ∷ z ∷ xs) y c h =
 
 pub each_push : (R : List Placed → Placed → Type 0) (past xs : List Placed) (y : Placed)
     → EachBehind R past xs → R (past ++ xs) y → EachBehind R past (xs ++ y ∷ [])
-each_push R past [] y c r = (subst (λ v. R v y) (append_nil past) r, tt)
-  where
-    append_nil : (l : List Placed) → l ++ [] ≡ l
-    append_nil [] = refl
-    append_nil (x ∷ l) = ap (λ v. x ∷ v) (append_nil l)
+each_push R past [] y c r = (subst (λ v. R v y) (append-nil past) r, tt)
 each_push R past (x ∷ xs) y c r = (
   c.0,
   each_push R (past ++ x ∷ []) xs y c.1
@@ -53,11 +44,7 @@ pub chain_behind_push : (R : List Placed → Placed → Placed → Type 0) (past
     → ((ys : List Placed) (x : Placed) → xs ≡ ys ++ x ∷ [] → R (past ++ ys) x y)
     → ChainBehind R past (xs ++ y ∷ [])
 chain_behind_push R past [] y c h = tt
-chain_behind_push R past (x ∷ []) y c h = (subst (λ v. R v x y) (append_nil past) (h [] x refl), tt)
-  where
-    append_nil : (l : List Placed) → l ++ [] ≡ l
-    append_nil [] = refl
-    append_nil (x ∷ l) = ap (λ v. x ∷ v) (append_nil l)
+chain_behind_push R past (x ∷ []) y c h = (subst (λ v. R v x y) (append-nil past) (h [] x refl), tt)
 chain_behind_push R past (x ∷ z ∷ xs) y c h = (
   c.0,
   chain_behind_push R (past ++ x ∷ []) (z ∷ xs) y c.1 (λ ys w e. subst (λ v. R v w y)
@@ -80,11 +67,7 @@ pub all_numbered-push : (file : ℕ) (fs : List (List Section)) (f : List Sectio
     ≡ file + length fs → all_numbered file (fs ++ f ∷ []) ≡ all_numbered file fs ++ numbered n 1 f
 all_numbered-push file [] f n e =
     let z : file ≡ n = omega arith in
-    ap (λ v. numbered v 1 f ++ []) z ∙ append_nil (numbered n 1 f)
-  where
-    append_nil : (l : List Placed) → l ++ [] ≡ l
-    append_nil [] = refl
-    append_nil (x ∷ l) = ap (λ v. x ∷ v) (append_nil l)
+    ap (λ v. numbered v 1 f ++ []) z ∙ append-nil (numbered n 1 f)
 all_numbered-push file (g ∷ fs) f n e =
     ap (λ v. numbered file 1 g ++ v) (all_numbered-push (file + 1) fs f n (omega arith))
     ∙ sym (append_assoc (numbered file 1 g) (all_numbered (file + 1) fs) (numbered n 1 f))

@@ -46,34 +46,22 @@ ends_by file course bs eof r p q =
 
 -- ---- sizes
 
-pub first_long : (file : Opened) (sect : ℕ) → IsReady file → 1 ≤ sect → sect ≤ 9999
-    → length (first_label file sect) ≡ 80
-first_long file sect r p q = (first_is file sect r p q).kind.size
-
-pub second_long : (file : Opened) (kind : Kind) → IsReady file → IsSecond kind
-    → length (second_label file kind) ≡ 80
-second_long file kind r s = (second_is file kind r s).kind.size
-
-pub trailer_long : (file : Opened) (sect count : ℕ) (eof : Bool) → IsReady file → 1 ≤ sect
-    → sect ≤ 9999 → length (trailer_label file sect count eof) ≡ 80
-trailer_long file sect count eof r p q = (trailer_is file sect count eof r p q).kind.size
-
 label_size : (b : List ℕ) → length b ≡ 80 → item_size (block b) ≡ 88
 label_size b e = ap (λ n. 8 + n + n % 2) e
 
 pub header_size : (file : Opened) (sect : ℕ) → IsReady file → 1 ≤ sect → sect ≤ 9999
     → items_size (header_items file sect) ≡ 180
 header_size file sect r p q =
-    let a = label_size (first_label file sect) (first_long file sect r p q) in
-    let b = label_size (second_label file kinds.Hdr2) (second_long file kinds.Hdr2 r tt) in
+    let a = label_size (first_label file sect) (first_is file sect r p q).kind.size in
+    let b = label_size (second_label file kinds.Hdr2) (second_is file kinds.Hdr2 r tt).kind.size in
     omega (arith, a, b)
 
 pub trailer_size : (file : Opened) (sect n : ℕ) (eof : Bool) → IsReady file → 1 ≤ sect → sect ≤ 9999
     → items_size (trailer_items file sect n eof) ≡ 184
 trailer_size file sect n eof r p q =
-    let a = label_size (trailer_label file sect n eof) (trailer_long file sect n eof r p q) in
+    let a = label_size (trailer_label file sect n eof) (trailer_is file sect n eof r p q).kind.size in
     let b = label_size (second_label file (second_kind eof))
-    (second_long file (second_kind eof) r (second_kind_is eof)) in
+    (second_is file (second_kind eof) r (second_kind_is eof)).kind.size in
     omega (arith, a, b)
 
 pub vol1_size : (v : Vol1) → IsWideVolume v → item_size (block (volume_label v)) ≡ 88
@@ -95,12 +83,12 @@ items_sized : (file : Opened) (sect : ℕ) (bs : List Filled) (eof : Bool) → I
     → AllByRecursion IsTapeItem (header_items file sect ++ map data_item bs
     ++ trailer_items file sect (length bs) eof)
 items_sized file sect bs eof r p q h =
-    let one = label_sized (first_label file sect) (first_long file sect r p q) in
-    let two = label_sized (second_label file kinds.Hdr2) (second_long file kinds.Hdr2 r tt) in
+    let one = label_sized (first_label file sect) (first_is file sect r p q).kind.size in
+    let two = label_sized (second_label file kinds.Hdr2) (second_is file kinds.Hdr2 r tt).kind.size in
     let last = label_sized (trailer_label file sect (length bs) eof)
-    (trailer_long file sect (length bs) eof r p q) in
+    (trailer_is file sect (length bs) eof r p q).kind.size in
     let second = label_sized (second_label file (second_kind eof))
-    (second_long file (second_kind eof) r (second_kind_is eof)) in (
+    (second_is file (second_kind eof) r (second_kind_is eof)).kind.size in (
       one,
       (
         two,

@@ -72,33 +72,15 @@ waiting_left H K vs cap set_id course told f (inr (k, some)) = inr (
   some,
 )
 
--- inside a file, the tapes contain everything that was passed
-pub all_writing : {T : Type 0} (H : Tapes → Type 0) (w : SetState T) (file : Opened)
-    (told : List Told) → IsInFile file w.phase → IsWriting H w told
-    → IsInLast H w.volumes w.capacity w.set_id told
-all_writing H w file told is k = go w.phase is k.stands
+-- inside a file, the tapes contain everything that was passed, and so a prefix of it
+pub inside_writing : {T : Type 0} (H K : Tapes → Type 0) (w : SetState T) (file : Opened)
+    (told : List Told) → ((t : Tapes) → H t → K t) → IsInFile file w.phase → IsWriting H w told
+    → IsInLast K w.volumes w.capacity w.set_id told
+inside_writing H K w file told f is k = go w.phase is k.stands
   where
     go : (phase : Phase) → IsInFile file phase
         → Stands H w.volumes w.capacity w.set_id w.course phase told
-        → IsInLast H w.volumes w.capacity w.set_id told
-    go (Filing o) is s = record {
-      past = s.past;
-      last = record { file = o.file; records = s.records };
-      is_told = s.is_told;
-      files = s.filing.files;
-      filed = s.filing.filed;
-      course = w.course;
-      partly = inl (o.packer, s.filing.inside);
-    }
-    go _ is s = absurd is
-
--- inside a file, the tapes contain a prefix of everything that was passed
-pub inside_writing : {T : Type 0} (H : Tapes → Type 0) (w : SetState T) (file : Opened)
-    (told : List Told) → IsInFile file w.phase → IsWriting H w told → IsLeftInside H w told
-inside_writing H w file told is k = go w.phase is k.stands
-  where
-    go : (phase : Phase) → IsInFile file phase
-        → Stands H w.volumes w.capacity w.set_id w.course phase told → IsLeftInside H w told
+        → IsInLast K w.volumes w.capacity w.set_id told
     go (Filing o) is s = record {
       past = s.past;
       last = record { file = o.file; records = s.records };
@@ -108,8 +90,8 @@ inside_writing H w file told is k = go w.phase is k.stands
       course = w.course;
       partly = inl (
         o.packer,
-        inside_left H (HoldsFront H) w.volumes w.capacity w.set_id o.file
-            w.course o.packer s.filing.files s.records (front_here H) s.filing.inside,
+        inside_left H K w.volumes w.capacity w.set_id o.file w.course o.packer s.filing.files
+            s.records f s.filing.inside,
       );
     }
     go _ is s = absurd is

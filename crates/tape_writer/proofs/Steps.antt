@@ -20,9 +20,10 @@ use Rattle.tape_writer.specs.Draft.{body_items, open_items, ended_volumes, IsDon
 use Rattle.tape_writer.specs.Draft.{Between, Within, Steady, changed_draft, changed_course}
 use Rattle.tape_writer.specs.Draft.{ended_draft, added_draft, added_course, ended_course}
 use Rattle.tape_writer.specs.Draft.{begun_course}
-use Rattle.tape_writer.proofs.{Lists.all_push, Volumes.first_same, Volumes.eqb_other}
+use Rattle.tape_writer.proofs.{Lists.all_push, Volumes.first_same}
 use Rattle.tape_writer.proofs.Sections.{header_size, trailer_size, used_is}
 use Rattle.tape_writer.proofs.Changed.{files_next, last_is, not_nil, done_push, body_ended, changed}
+use Rattle.std.proofs.lemmas.Bool.{ne_eqb, lt-leb, le-leb}
 
 pub open_added :
     (vs : List Volume) (file : Opened) (course : Course) (d : Draft) (b : Filled) (n : ℕ)
@@ -97,8 +98,8 @@ goes_on vs cap set_id file course d b s = record {
         → IsTightChange vs cap ys x (here file course bs true)
         → (bs ≡ [] → x.file ≡ file.head.sequence → ⊥)
         → IsTightChange vs cap ys x (here file course (bs ++ b ∷ []) true)
-    go [] ys x h n = rw (eqb_other x.file file.head.sequence (n refl))
-        (rw (eqb_other x.file file.head.sequence (n refl)) at h)
+    go [] ys x h n = rw (ne_eqb x.file file.head.sequence (n refl))
+        (rw (ne_eqb x.file file.head.sequence (n refl)) at h)
     go (c ∷ bs) ys x h n = h
 
 -- **a block is written** in the current section
@@ -109,31 +110,6 @@ pub added_here : (vs : List Volume) (cap : ℕ) (set_id : List ℕ)
     → Steady vs cap set_id file (added_course course (item_size (block b.bytes))) (added_draft d b)
 added_here vs cap set_id file course d b sized s fits =
     added vs cap set_id file course d b sized (goes_on vs cap set_id file course d b s) fits
-
-pub block_due : (cap used size : ℕ) → cap < used + size + 192
-    → nat_le (used + size + 192) cap ≡ false
-block_due cap used size h = go (nat_le (used + size + 192) cap) refl
-  where
-    go : (t : Bool) → nat_le (used + size + 192) cap ≡ t → t ≡ false
-    go false e = refl
-    go true e = absurd (grind (arith, nat_tests))
-
-end_due : (cap used : ℕ) → cap < used + 184 + 372 → nat_le (used + 184 + (180 + 192)) cap ≡ false
-end_due cap used h = go (nat_le (used + 184 + (180 + 192)) cap) refl
-  where
-    go : (t : Bool) → nat_le (used + 184 + (180 + 192)) cap ≡ t → t ≡ false
-    go false e = refl
-    go true e = absurd (grind (arith, nat_tests))
-
-pub end_taken : (cap used : ℕ) → used + 184 + 372 ≤ cap → takes_end cap used ≡ true
-end_taken cap used h = go (nat_le (used + 184 + (180 + 192)) cap) refl
-  where
-    go : (t : Bool) → nat_le (used + 184 + (180 + 192)) cap ≡ t → t ≡ true
-    go true e = refl
-    go false e = absurd (grind (arith, nat_tests))
-
-pub end_refused : (cap used : ℕ) → cap < used + 184 + 372 → takes_next cap used [] ≡ false
-end_refused cap used h = end_due cap used h
 
 -- **a block is written** after a change of the volume
 pub added_next : (vs : List Volume) (cap : ℕ) (set_id : List ℕ)
@@ -147,7 +123,7 @@ pub added_next : (vs : List Volume) (cap : ℕ) (set_id : List ℕ)
 added_next vs cap set_id file course d b v wide few capacity most size sized s refused more g =
     added vs cap set_id file (changed_course course) (changed_draft file course d) b sized
     (changed vs cap set_id file course d (b ∷ []) v wide few capacity most s.inside
-    (block_due cap course.used (item_size (block b.bytes)) refused) more g) (omega (arith, size))
+    (lt-leb _ _ refused) more g) (omega (arith, size))
 
 -- **a file ends**
 pub ended : (vs : List Volume) (cap : ℕ) (set_id : List ℕ)
@@ -178,7 +154,7 @@ ended vs cap set_id file course d few most w room =
       w.room,
       most,
     )) one sect w.sized w.goes w.change (λ e. omega (arith, w.volume, w.fresh e)) end
-    (λ e. subst (λ n. takes_end cap n ≡ true) used (end_taken cap course.used room)) in
+    (λ e. subst (λ n. takes_end cap n ≡ true) used (le-leb _ _ room)) in
     let items : body_items vs (ended_draft file course d)
     ≡ open_items vs file course d ++ trailer_items file course.sect course.count true =
     ap (λ z. map item_of (body vs z d.past)) all
@@ -238,10 +214,10 @@ begun vs cap set_id file course d w r s f =
           sized = subst (AllByRecursion (λ b. (0 < length b.bytes) × (length b.bytes ≤ 99999)))
               (sym w.no_blocks) tt;
           done = w.done;
-          goes = λ ys x e. rw (eqb_other x.file file.head.sequence (other ys x e))
+          goes = λ ys x e. rw (ne_eqb x.file file.head.sequence (other ys x e))
               (inl (sym (w.last ys x e).1));
           fresh = w.fresh;
-          change = λ ys x e. rw (eqb_other x.file file.head.sequence (other ys x e))
+          change = λ ys x e. rw (ne_eqb x.file file.head.sequence (other ys x e))
               (sym (w.last ys x e).1);
           going = subst (λ z. AllByRecursion (IsGoing file) (numbered file.head.sequence 1 z))
               (sym w.no_sects) tt;

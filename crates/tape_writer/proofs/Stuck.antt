@@ -17,7 +17,7 @@ use Rattle.tape_set.specs.{Layout.Section, Sizes.item_size}
 use Rattle.tape_writer.specs.declared.course.{Opened.Opened, Course.Course}
 use Rattle.tape_writer.specs.{Tapes.Tapes, Draft.open_blocks}
 use Rattle.tape_writer.specs.Inside.{IsInside, IsPacking, IsFlat, IsStuck, IsLeftOut, Continues}
-use Rattle.tape_writer.proofs.Steps.{block_due, end_refused}
+use Rattle.std.proofs.lemmas.Bool.{lt-leb}
 
 -- ---- the next block
 
@@ -97,7 +97,7 @@ left_out n cap course p text given none due = record {
   text = text;
   given = given;
   none_left = none;
-  due = block_due cap course.used (item_size (block text)) due;
+  due = lt-leb _ _ due;
 }
 
 -- a record that is being written
@@ -150,5 +150,5 @@ stuck_end H vs cap set_id file course fs records k none due = record {
   none_left = none;
   next = [];
   of_records = continues_end file.shape (open_blocks k.draft) records k.tight;
-  due = end_refused cap course.used due;
+  due = lt-leb _ _ due;
 }

@@ -10,36 +10,23 @@ use Rattle.tape_set.specs.Layout.{Placed, Volume, a_data_block, a_mark, on, all_
 use Rattle.tape_set.specs.Layout.{section_entries, item_of, group_of}
 use Rattle.tape_blocks.specs.Tight.{Filled}
 use Rattle.tape_writer.specs.Draft.{data_item, body, first_volumes}
-
-pub eqb_same : (n : ℕ) → (n == n) ≡ true
-eqb_same n = go (n == n) refl
-  where
-    go : (b : Bool) → (n == n) ≡ b → b ≡ true
-    go true e = refl
-    go false e = absurd (grind (arith, nat_tests))
-
-pub eqb_other : (n m : ℕ) → n ≢ m → (n == m) ≡ false
-eqb_other n m h = go (n == m) refl
-  where
-    go : (b : Bool) → (n == m) ≡ b → b ≡ false
-    go false e = refl
-    go true e = absurd (h (grind (arith, nat_tests)))
+use Rattle.std.proofs.lemmas.Bool.{eq-eqb, ne_eqb}
 
 pub on_here : (k : ℕ) (xs : List Placed) (x : Placed) → x.section.volume ≡ k
     → on k (xs ++ x ∷ []) ≡ on k xs ++ x ∷ []
 on_here k xs x e = filter-append (λ y. y.section.volume == k) xs (x ∷ [])
-    ∙ ap (λ v. on k xs ++ v) (ap (λ b. cond b (x ∷ []) []) (ap (λ n. n == k) e ∙ eqb_same k))
+    ∙ ap (λ v. on k xs ++ v) (ap (λ b. cond b (x ∷ []) []) (ap (λ n. n == k) e ∙ eq-eqb k k refl))
 
 pub on_other : (k : ℕ) (xs : List Placed) (x : Placed) → x.section.volume ≢ k
     → on k (xs ++ x ∷ []) ≡ on k xs
 on_other k xs x e = filter-append (λ y. y.section.volume == k) xs (x ∷ [])
-    ∙ (ap (λ v. on k xs ++ v) (ap (λ b. cond b (x ∷ []) []) (eqb_other x.section.volume k e))
+    ∙ (ap (λ v. on k xs ++ v) (ap (λ b. cond b (x ∷ []) []) (ne_eqb x.section.volume k e))
     ∙ append-nil (on k xs))
 
 pub on_none : (k : ℕ) (xs : List Placed) → AllByRecursion (λ x. x.section.volume < k) xs
     → on k xs ≡ []
 on_none k [] h = refl
-on_none k (x ∷ xs) h = ap (λ b. cond b (x ∷ on k xs) (on k xs)) (eqb_other x.section.volume k
+on_none k (x ∷ xs) h = ap (λ b. cond b (x ∷ on k xs) (on k xs)) (ne_eqb x.section.volume k
     (λ e. absurd (omega (arith, h.0, e)))) ∙ on_none k xs h.1
 
 pub body_here : (vs : List Volume) (xs : List Placed) (x : Placed) (k : ℕ) → x.section.volume

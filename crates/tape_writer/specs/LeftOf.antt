@@ -9,7 +9,8 @@ use Rattle.tape_writer.specs.Front.{IsInLast, IsLeftInside, IsLeftBehind, IsLeft
 use Rattle.tape_writer.specs.declared.inputs.{cut.Cut.Cut, set.SetPlan.SetPlan}
 use Rattle.tape_writer.specs.declared.fault.{SetFault.SetFault, SetFault.TheVariants.Write}
 use Rattle.tape_writer.specs.declared.fault.WriteFault.TheVariants.{OutOfMemory}
-use Rattle.tape_writer.specs.ToldFiles.{with_records, told_files, IfAllKnown}
+use Rattle.tape_writer.specs.ToldFiles.{with_records, told_files, IfAllKnown, InOne}
+use Rattle.tape_writer.specs.NoVolume.{WroteBy}
 
 -- A prefix of the given records was passed after the files `told`, and the tapes contain a prefix
 -- of the items written for them: inside the file, or at its end if no record is left. `OutOfMemory`
@@ -33,21 +34,13 @@ abbrev pub IsLeftUnbegun : {T : Type 0} → (Tapes → Type 0) → SetState T �
     → Type 0
 IsLeftUnbegun H w fault told = (IsOfInput fault → ⊥) × IsLeftBehind H w told
 
--- The state after a fault in one of the files of the given inputs: the files before one of them
--- were passed completely, and that file did not begin, or a prefix of its records was passed. Makes
--- no claim if the bytes of one of these inputs are unknown.
-pub record IsLeftIn {T : Type 0} (H : Tapes → Type 0) (w : SetState T) (G : Type 0)
-    (fault : SetFault) (set_id : List ℕ) (told : List Told) (shape : Shape) (cut : Cut)
-    (inputs : List (Head1 × Option (List ℕ))) : Type 0 where
-  pub before : List (Head1 × Option (List ℕ))
-  pub input : Head1 × Option (List ℕ)
-  pub after : List (Head1 × Option (List ℕ))
-  pub split : inputs ≡ before ++ input ∷ after
-  pub left : IfAllKnown before (λ fs. IfSome input.1 (λ bytes.
-      IsLeftUnbegun H w fault (told ++ told_files set_id shape cut (length told + 1) fs)
-      ⊎ IsLeftOf H w G fault
-      (with_file set_id (told ++ told_files set_id shape cut (length told + 1) fs) input.0 shape)
-      (records_of cut bytes)))
+-- the state after a fault in one of the files of the given inputs: that file did not begin, or a
+-- prefix of its records was passed
+abbrev pub IsLeftIn : {T : Type 0} → (Tapes → Type 0) → SetState T → Type 0 → SetFault → List ℕ
+    → List Told → Shape → Cut → List (Head1 × Option (List ℕ)) → Type 0
+IsLeftIn H w G fault set_id told shape cut inputs = InOne set_id told shape cut inputs
+    (λ past head bytes. IsLeftUnbegun H w fault past
+    ⊎ IsLeftOf H w G fault (with_file set_id past head shape) (records_of cut bytes))
 
 -- the same in one of the files, or at the end of the set after them, where only the tapes allocate
 abbrev pub IsLeftOfAll : {T : Type 0} → (Tapes → Type 0) → SetState T → Type 0 → SetFault → List ℕ
@@ -58,13 +51,8 @@ IsLeftOfAll H w G fault set_id told shape cut inputs =
     IsLeftBehind H w (told ++ told_files set_id shape cut (length told + 1) fs)
     ⊎ IsLeftWhole H w (told ++ told_files set_id shape cut (length told + 1) fs))
 
--- The state after a fault in a set: a writer of the plan, to which nothing was passed before, wrote
--- to tapes that satisfy P and do not allocate.
-pub record IsLeftSet {T : Type 0} (H : T → Tapes → Type 0) (P : T → Type 0) (fault : SetFault)
-    (plan : SetPlan) (cut : Cut) (inputs : List (Head1 × Option (List ℕ))) : Type 0 where
-  pub writer : SetState T
-  pub on_tapes : P writer.out
-  pub on_volumes : writer.volumes ≡ plan.volumes.items
-  pub capacity : writer.capacity ≡ plan.capacity
-  pub set_id : writer.set_id ≡ plan.set_id
-  pub left : IsLeftOfAll (H writer.out) writer ⊥ fault plan.set_id [] plan.shape cut inputs
+-- the state after a fault in a set, on tapes that do not allocate
+abbrev pub IsLeftSet : {T : Type 0} → (T → Tapes → Type 0) → (T → Type 0) → SetFault → SetPlan
+    → Cut → List (Head1 × Option (List ℕ)) → Type 0
+IsLeftSet H P fault plan cut inputs = WroteBy P plan
+    (λ w. IsLeftOfAll (H w.out) w ⊥ fault plan.set_id [] plan.shape cut inputs)

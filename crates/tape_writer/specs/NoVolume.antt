@@ -1,11 +1,11 @@
 -- When no volume is left for a set that is written from inputs.
-use Rattle.std.specs.Prelude.{◌≡◌, ◌⊎◌, ℕ, ◌+◌, List, [], ◌∷◌, ◌++◌, length, Option, IfSome}
+use Rattle.std.specs.Prelude.{◌≡◌, ◌⊎◌, ℕ, List, [], ◌++◌, length, Option, IfSome}
 use Rattle.tape_label.specs.declared.values.Head1.{Head1}
 use Rattle.tape_blocks.specs.declared.parts.Shape.{Shape}
 use Rattle.tape_writer.specs.{Tapes.Tapes, Told.Told, Told.with_file, State.SetState}
 use Rattle.tape_writer.specs.{State.IsOutOfVolumes, Records.records_of, WriteSet.cut_of}
 use Rattle.tape_writer.specs.declared.inputs.{cut.Cut.Cut, set.SetPlan.SetPlan}
-use Rattle.tape_writer.specs.ToldFiles.{with_records, told_files, IfAllKnown}
+use Rattle.tape_writer.specs.ToldFiles.{with_records, InOne}
 
 -- The writer has no volume left, after a prefix of the given records was passed after the files
 -- `told`: either the last of these records was refused, or the end of the file after it.
@@ -16,30 +16,29 @@ pub record GaveUp {T : Type 0} (H : Tapes → Type 0) (w : SetState T) (told : L
   pub split : records ≡ front ++ back
   pub out : IsOutOfVolumes H w (with_records told front)
 
--- The writer has no volume left for one of the files of the given inputs: the files before it were
--- passed completely, and a prefix of its records was passed. Makes no claim if the bytes of one of
--- these inputs are unknown.
-pub record GaveUpIn {T : Type 0} (H : Tapes → Type 0) (w : SetState T) (set_id : List ℕ)
-    (told : List Told) (shape : Shape) (cut : Cut) (inputs : List (Head1 × Option (List ℕ)))
-    : Type 0 where
-  pub before : List (Head1 × Option (List ℕ))
-  pub input : Head1 × Option (List ℕ)
-  pub after : List (Head1 × Option (List ℕ))
-  pub split : inputs ≡ before ++ input ∷ after
-  pub stuck : IfAllKnown before (λ fs. IfSome input.1 (λ bytes.
-      GaveUp H w (with_file set_id (told ++ told_files set_id shape cut (length told + 1) fs)
-      input.0 shape) (records_of cut bytes)))
+-- the writer has no volume left for one of the files of the given inputs, of which a prefix of its
+-- records was passed
+abbrev pub GaveUpIn : {T : Type 0} → (Tapes → Type 0) → SetState T → List ℕ → List Told → Shape
+    → Cut → List (Head1 × Option (List ℕ)) → Type 0
+GaveUpIn H w set_id told shape cut inputs = InOne set_id told shape cut inputs
+    (λ past head bytes. GaveUp H w (with_file set_id past head shape) (records_of cut bytes))
 
--- No volume is left for a set: a writer of the plan, to which nothing was passed before, wrote to
--- tapes that satisfy P.
-pub record GaveUpSet {T : Type 0} (H : T → Tapes → Type 0) (P : T → Type 0) (plan : SetPlan)
-    (cut : Cut) (inputs : List (Head1 × Option (List ℕ))) : Type 0 where
+-- A writer of the plan, to which nothing was passed before, wrote to tapes that satisfy P, and Q
+-- holds for it.
+pub record WroteBy {T : Type 0} (P : T → Type 0) (plan : SetPlan) (Q : SetState T → Type 0)
+    : Type 0 where
   pub writer : SetState T
   pub on_tapes : P writer.out
   pub on_volumes : writer.volumes ≡ plan.volumes.items
   pub capacity : writer.capacity ≡ plan.capacity
   pub set_id : writer.set_id ≡ plan.set_id
-  pub stuck : GaveUpIn (H writer.out) writer plan.set_id [] plan.shape cut inputs
+  pub holds : Q writer
+
+-- no volume is left for a set
+abbrev pub GaveUpSet : {T : Type 0} → (T → Tapes → Type 0) → (T → Type 0) → SetPlan → Cut
+    → List (Head1 × Option (List ℕ)) → Type 0
+GaveUpSet H P plan cut inputs =
+    WroteBy P plan (λ w. GaveUpIn (H w.out) w plan.set_id [] plan.shape cut inputs)
 
 -- the plan has no volume, or its last volume has no room for the next block, or the end of a file,
 -- of the inputs

@@ -1,5 +1,5 @@
 -- Files passed with the records of inputs.
-use Rattle.std.specs.Prelude.{ℕ, ◌+◌, List, [], ◌∷◌, Option, IfSome}
+use Rattle.std.specs.Prelude.{◌≡◌, ℕ, ◌+◌, List, [], ◌∷◌, ◌++◌, length, Option, IfSome}
 use Rattle.tape_label.specs.declared.values.Head1.{Head1}
 use Rattle.tape_blocks.specs.declared.parts.Shape.{Shape}
 use Rattle.tape_writer.specs.{Told.Told, Told.with_record, Told.opened_by, Records.records_of}
@@ -22,3 +22,16 @@ told_files set_id shape cut n (f ∷ fs) = record {
 abbrev pub IfAllKnown : List (Head1 × Option (List ℕ)) → (List (Head1 × List ℕ) → Type 0) → Type 0
 IfAllKnown [] P = P []
 IfAllKnown (x ∷ xs) P = IfSome x.1 (λ bytes. IfAllKnown xs (λ fs. P ((x.0, bytes) ∷ fs)))
+
+-- P holds for one of the inputs: for the files passed before it, its head and its bytes. The inputs
+-- before it were passed completely, after the files `told`. Makes no claim if the bytes of one of
+-- these inputs are unknown.
+pub record InOne (set_id : List ℕ) (told : List Told) (shape : Shape) (cut : Cut)
+    (inputs : List (Head1 × Option (List ℕ))) (P : List Told → Head1 → List ℕ → Type 0)
+    : Type 0 where
+  pub before : List (Head1 × Option (List ℕ))
+  pub input : Head1 × Option (List ℕ)
+  pub after : List (Head1 × Option (List ℕ))
+  pub split : inputs ≡ before ++ input ∷ after
+  pub holds : IfAllKnown before (λ fs. IfSome input.1 (λ bytes.
+      P (told ++ told_files set_id shape cut (length told + 1) fs) input.0 bytes))

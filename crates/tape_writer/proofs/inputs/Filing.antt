@@ -6,9 +6,9 @@ use Rattle.std.proofs.lemmas.List.{drop_more, drop-set-lt, map-append}
 use Rattle.tape_label.specs.declared.values.Head1.{Head1}
 use Rattle.tape_blocks.specs.declared.parts.Shape.{Shape}
 use Rattle.tape_writer.specs.{Told.Told, Told.opened_by, Records.records_of, ToldFiles.told_files}
-use Rattle.tape_writer.specs.ToldFiles.{IfAllKnown}
+use Rattle.tape_writer.specs.ToldFiles.{IfAllKnown, InOne}
 use Rattle.tape_writer.specs.declared.inputs.cut.Cut.{Cut}
-use Rattle.tape_writer.proofs.inputs.Finished.{if_known}
+use Rattle.tape_writer.proofs.inputs.Finished.{if_known, all_known}
 
 -- the files before index `at` are written, and the others are unchanged
 pub record Wrote (X : Type 0) (view : X → Head1 × Option (List ℕ)) (set_id : List ℕ) (shape : Shape)
@@ -104,6 +104,28 @@ wrote_one X view set_id shape cut first now at old mid new x y d within is w ste
           (known_push (map view w.done) (view x).0 (view x).1 _ _ (w.told told h)
           (λ fs m. if_known (view x).1 _ _ (step _ m)
           (λ b n. one_told new set_id shape cut told fs (view x).0 b n)));
+    }
+
+-- the file after those already written
+pub wrote_in : (X : Type 0) (view : X → Head1 × Option (List ℕ)) (set_id : List ℕ) (shape : Shape)
+    (cut : Cut) (first now : List X) (at : ℕ) (old mid : List Told → Type 0) (here : List ℕ)
+    (x d : X) (P : List ℕ → List Told → Head1 → List ℕ → Type 0) → at < length now
+    → x ≡ get_or now at d → Wrote X view set_id shape cut first now at old mid → here ≡ set_id
+    → ((told : List Told) → mid told → IfSome (view x).1 (P here told (view x).0))
+    → (told : List Told) → old told → InOne set_id told shape cut (map view first) (P set_id)
+wrote_in X view set_id shape cut first now at old mid here x d P within is wrote same holds told
+    held =
+    let next : drop at now ≡ x ∷ drop (at + 1) now =
+    drop_more now at d within ∙ ap (λ z. z ∷ drop (at + 1) now) (sym is) in
+    record {
+      before = map view wrote.done;
+      input = view x;
+      after = map view (drop (at + 1) now);
+      split = ap (map view) (wrote.split ∙ ap (λ l. wrote.done ++ l) next)
+          ∙ map-append view wrote.done (x ∷ drop (at + 1) now);
+      holds = all_known (map view wrote.done) _ _ (wrote.told told held) (λ fs m.
+          subst (λ s. IfSome (view x).1 (P s (told ++ told_files set_id shape cut
+          (length told + 1) fs) (view x).0)) same (holds _ m));
     }
 
 -- if no file was unfit, all were fit

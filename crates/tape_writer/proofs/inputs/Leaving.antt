@@ -16,17 +16,18 @@ use Rattle.tape_writer.specs.declared.inputs.records.InputFault.TheVariants as i
 use Rattle.std.specs.List.{AllByRecursion}
 use Rattle.tape_writer.specs.{WriteFaults.told_as, WriteFaults.IsOfInput, Tapes.Tapes}
 use Rattle.tape_writer.specs.{Faults.IsEnding, ToldFiles.with_records, ToldFiles.told_files}
-use Rattle.tape_writer.proofs.{Lists.all_weaken, inputs.Refusing.less_long, inputs.Filing.Wrote}
+use Rattle.tape_set.proofs.Everywhere.{every}
+use Rattle.tape_writer.proofs.{inputs.Refusing.less_long, inputs.Filing.Wrote}
 use Rattle.tape_writer.specs.Told.{Told, with_record, with_file}
 use Rattle.tape_writer.specs.State.{SetState, IsWriting, IfFiling, Leaves}
 use Rattle.tape_writer.specs.Refusals.{IsInFile, IsBeginFault, IsFinishFault}
-use Rattle.tape_writer.specs.Front.{IsInLast, IsLeftInside, IsLeftBehind}
+use Rattle.tape_writer.specs.Front.{IsInLast, IsLeftInside, IsLeftBehind, HoldsFront}
 use Rattle.tape_writer.specs.Records.{to_come, records_of, given, IsFirstLong}
 use Rattle.tape_writer.specs.LeftOf.{IsLeftOf, IsLeftIn, IsLeftOfAll, IsLeftUnbegun}
-use Rattle.tape_writer.proofs.Standing.{inside_writing, all_writing, behind_writing}
+use Rattle.tape_writer.proofs.{Standing.inside_writing, Standing.behind_writing, Fronts.front_here}
 use Rattle.tape_writer.proofs.inputs.Putting.{Put, PutWithin, known_one, known_then}
 use Rattle.tape_writer.proofs.inputs.Putting.{with_records-one}
-use Rattle.tape_writer.proofs.inputs.Finished.{all_known, if_known}
+use Rattle.tape_writer.proofs.inputs.Finished.{all_known, if_known, in_input, known_all}
 
 -- a fault ends the writer, or leaves it unchanged
 is_ending : {T : Type 0} (f : WriteFault)
@@ -91,10 +92,10 @@ pub read_left : {T : Type 0} (H : Tapes → Type 0) (w : SetState T) (G : Type 0
 read_left H w G fault told' n file cut here a b all left old p is e same m told h =
     known_left H w G told' told cut a b p.put.records all left p.put.known
     (λ f. if_known left _ _ (m (memory_told fault (sym e ∙ f))) (λ ys l.
-    inr (all_weaken (λ r. length r ≤ n) _ (λ r le. less_long (length r) n _ le
+    inr (every (λ r. length r ≤ n) _ (λ r le. less_long (length r) n _ le
     (subst (λ z. IsFirstLong n (to_come z b ys)) same l)) p.put.records p.within)))
-    (inside_writing H w file (with_records told p.put.records) is (p.put.told told h))
-    (λ e. all_writing H w file (with_records told p.put.records) is (p.put.told told h))
+    (inside_writing H (HoldsFront H) w file _ (front_here H) is (p.put.told told h))
+    (λ e. inside_writing H H w file _ (λ t h. h) is (p.put.told told h))
 
 -- no fault that ends the writer is a fault of an input
 pub ending_other : (f : WriteFault) → IsEnding f → IsOfInput (Write f) → ⊥
@@ -141,9 +142,9 @@ put_left H mid w G file cut a b c all left next old r f p is k leaves grew ends 
     refused_left H mid w f _ (with_records told p.records) leaves held
     (λ same writing. known_left (H w.out) w G (Write f) told cut a b p.records all left p.known
     (memory left p.records b)
-    (inside_writing (H w.out) w file (with_records told p.records)
+    (inside_writing (H w.out) (HoldsFront (H w.out)) w file _ (front_here (H w.out))
     (subst (λ z. IsInFile file z.phase) (sym same) is) writing)
-    (λ i. all_writing (H w.out) w file (with_records told p.records)
+    (λ i. inside_writing (H w.out) (H w.out) w file _ (λ t h. h)
     (subst (λ z. IsInFile file z.phase) (sym same) is) writing))
     (λ e. known_left (H w.out) w G (Write f) told cut a c (p.records ++ r ∷ []) all next
     (known_one cut a c r p.records all next
@@ -211,33 +212,8 @@ pub file_left : {T : Type 0} (H : Tapes → Type 0) (w : SetState T) (G G' : Typ
     → IfSome input (λ bytes. IsLeftUnbegun H w fault first
     ⊎ IsLeftOf H w G' fault told (records_of cut bytes))
 file_left H w G G' fault first told cut here over input all more a e f p =
-    let one = subst (λ z. IfSome z (λ xs. IsLeftOf H w G fault told (to_come here over xs))) a p in
-    let two = subst (λ z. IfSome input (λ xs. IsLeftOf H w G fault told (to_come z over xs))) e one
-    in
-    if_known input _ _
-    (subst (λ z. IfSome input (λ xs. IsLeftOf H w G fault told (to_come cut z xs))) f two)
+    if_known input _ _ (in_input (IsLeftOf H w G fault told) cut here over input all a e f p)
     (λ bytes l. inr (left_more H w G G' fault told (records_of cut bytes) more l))
-
-all_left : {T : Type 0} (H : Tapes → Type 0) (w : SetState T) (G : Type 0) (fault : SetFault)
-    (told : List Told) (cut : Cut) (over : Bool) (all next : Option (List ℕ))
-    (mid : List Told → Type 0)
-    → IfKnown all next (λ xs ys. mid (with_records told (to_come cut over xs)))
-    → (IsOfInput fault → ⊥) → (fault ≡ Write faults.OutOfMemory → G)
-    → ((t : List Told) → mid t → IsLeftInside H w t ⊎ IsLeftBehind H w t)
-    → IfSome all (λ xs. IsLeftOf H w G fault told (to_come cut over xs))
-all_left H w G fault told cut over None next mid put other grew left = tt
-all_left H w G fault told cut over (Some xs) None mid put other grew left = absurd put
-all_left H w G fault told cut over (Some xs) (Some ys) mid put other grew left = record {
-  front = to_come cut over xs;
-  back = [];
-  split = sym (append-nil (to_come cut over xs));
-  memory = λ e. inl (grew e);
-  left = elim (left _ put) [
-    | inl inside ↦ inl inside
-    | inr ended ↦ inr (refl, ended)
-  ];
-  all = λ e. absurd (other e);
-}
 
 -- the end of the file was not written
 pub ended_left : {T : Type 0} (H : T → Tapes → Type 0) (mid w : SetState T) (f : WriteFault)
@@ -248,8 +224,8 @@ pub ended_left : {T : Type 0} (H : T → Tapes → Type 0) (mid w : SetState T) 
     → IsLeftInside (H w.out) w told ⊎ IsLeftBehind (H w.out) w told
 ended_left H mid w f file is leaves ends told held =
     refused_left H mid w f _ told leaves held
-    (λ same writing. inl (inside_writing (H w.out) w file told
-    (subst (λ z. IsInFile file z.phase) (sym same) is) writing))
+    (λ same writing. inl (inside_writing (H w.out) (HoldsFront (H w.out)) w file told
+    (front_here (H w.out)) (subst (λ z. IsInFile file z.phase) (sym same) is) writing))
     (ends told held)
 
 -- all records of the file were written, but not its end
@@ -263,46 +239,28 @@ pub end_left : {T : Type 0} (H : Tapes → Type 0) (w : SetState T) (G : Type 0)
     ⊎ IsLeftOf H w G fault told (records_of cut bytes))
 end_left H w G fault first told cut here over input all next mid a e f put other grew left =
     file_left H w G G fault first told cut here over input all (λ g. g) a e f
-    (all_left H w G fault told here over all next mid put other grew left)
+    (known_all (IsLeftOf H w G fault told) told here over all next mid put (λ rs m. record {
+      front = rs;
+      back = [];
+      split = sym (append-nil rs);
+      memory = λ e. inl (grew e);
+      left = elim (left _ m) [
+        | inl inside ↦ inl inside
+        | inr ended ↦ inr (refl, ended)
+      ];
+      all = λ e. absurd (other e);
+    }))
 
-behind_more : {T : Type 0} (H : Tapes → Type 0) (w : SetState T) (G G' : Type 0)
-    (fault : SetFault) (first told : List Told) (records : List (List ℕ)) → (G → G')
-    → IsLeftUnbegun H w fault first ⊎ IsLeftOf H w G fault told records
-    → IsLeftUnbegun H w fault first ⊎ IsLeftOf H w G' fault told records
-behind_more H w G G' fault first told records more (inl l) = inl l
-behind_more H w G G' fault first told records more (inr l) =
-    inr (left_more H w G G' fault told records more l)
-
--- ---- one of the files
-
--- the file after those already written
-pub wrote_left : {T : Type 0} (H : Tapes → Type 0) (w : SetState T) (G G' : Type 0)
-    (fault : SetFault) (X : Type 0)
-    (view : X → Head1 × Option (List ℕ)) (set_id : List ℕ) (shape : Shape) (cut : Cut)
-    (first now : List X) (at : ℕ) (old mid : List Told → Type 0) (here : List ℕ) (x d : X)
-    → at < length now → x ≡ get_or now at d → Wrote X view set_id shape cut first now at old mid
-    → here ≡ set_id → (G → G') → ((told : List Told) → mid told → IfSome (view x).1
-    (λ bytes. IsLeftUnbegun H w fault told
-    ⊎ IsLeftOf H w G fault (with_file here told (view x).0 shape) (records_of cut bytes)))
-    → (told : List Told) → old told → IsLeftIn H w G' fault set_id told shape cut (map view first)
-wrote_left H w G G' fault X view set_id shape cut first now at old mid here x d within is wrote
-    same more left told held =
-    let next : drop at now ≡ x ∷ drop (at + 1) now =
-    drop_more now at d within ∙ ap (λ z. z ∷ drop (at + 1) now) (sym is) in
-    record {
-      before = map view wrote.done;
-      input = view x;
-      after = map view (drop (at + 1) now);
-      split = ap (map view) (wrote.split ∙ ap (λ l. wrote.done ++ l) next)
-          ∙ map-append view wrote.done (x ∷ drop (at + 1) now);
-      left = all_known (map view wrote.done) _ _ (wrote.told told held) (λ fs m.
-          subst (λ s. IfSome (view x).1 (λ bytes.
-          IsLeftUnbegun H w fault (told ++ told_files set_id shape cut (length told + 1) fs)
-          ⊎ IsLeftOf H w G' fault
-          (with_file s (told ++ told_files set_id shape cut (length told + 1) fs) (view x).0 shape)
-          (records_of cut bytes))) same (if_known (view x).1 _ _ (left _ m)
-          (λ bytes l. behind_more H w G G' fault _ _ _ more l)));
-    }
+pub all_more : {T : Type 0} (H : Tapes → Type 0) (w : SetState T) (G G' : Type 0)
+    (fault : SetFault) (first told : List Told) (cut : Cut) (input : Option (List ℕ)) → (G → G')
+    → IfSome input (λ bytes. IsLeftUnbegun H w fault first
+    ⊎ IsLeftOf H w G fault told (records_of cut bytes))
+    → IfSome input (λ bytes. IsLeftUnbegun H w fault first
+    ⊎ IsLeftOf H w G' fault told (records_of cut bytes))
+all_more H w G G' fault first told cut None more l = tt
+all_more H w G G' fault first told cut (Some bytes) more (inl l) = inl l
+all_more H w G G' fault first told cut (Some bytes) more (inr l) =
+    inr (left_more H w G G' fault told (records_of cut bytes) more l)
 
 -- ---- a set
 
@@ -317,8 +275,8 @@ left_without H w G fault set_id told shape cut given none (inl l) = inl record {
   input = l.input;
   after = l.after;
   split = l.split;
-  left = all_known l.before _ _ l.left (λ fs m. if_known l.input.1 _ _ m (λ bytes k.
-      behind_more H w G ⊥ fault _ _ _ none k));
+  holds = all_known l.before _ _ l.holds (λ fs m.
+      all_more H w G ⊥ fault _ _ cut l.input.1 none m);
 }
 left_without H w G fault set_id told shape cut given none (inr l) =
     inr (λ e. none (l.0 e), l.1, l.2)

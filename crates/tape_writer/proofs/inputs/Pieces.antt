@@ -1,12 +1,13 @@
 -- The effect of a prefix of some bytes on a record.
 use Rattle.std.proofs.Common.{◌≡◌, ◌≢◌, ◌<◌, ◌≤◌, ℕ, zero, suc, ◌+◌, ◌∙◌, List, [], ◌∷◌, ◌++◌, Bool}
-use Rattle.std.proofs.Common.{true, false, length, take, get_or, sym, ap, subst, arith}
+use Rattle.std.proofs.Common.{true, false, length, take, get_or, sym, ap, subst, arith, inl, inr}
 use Rattle.std.proofs.Common.{append_assoc, append-nil, length-append, ◌==◌, if◌then◌else◌}
 use Rattle.std.proofs.lemmas.{Bool.Decides.nat_tests, List.take_all}
 use Rattle.tape_writer.specs.declared.inputs.cut.Cut.{Cut}
 use Rattle.tape_writer.specs.declared.inputs.cut.Cut.TheVariants.{Lines, Length, Whole}
 use Rattle.tape_writer.specs.{Records.records_from, Records.Adds, RecordLaws.IsLine}
 use Rattle.tape_writer.proofs.inputs.Splitting.{line_goes_on, piece_goes_on, piece_is_whole}
+use Rattle.tape_writer.proofs.inputs.Splitting.{whole_goes_on}
 
 -- up to a line feed, which ends the record
 line_ends : (hay : List ℕ) (p : ℕ) (r more : List ℕ) → p < length hay
@@ -46,36 +47,20 @@ pub line_inside : (hay r : List ℕ) → ((k : ℕ) → k < length hay → get_o
     → Adds Lines r hay (r ++ hay) false
 line_inside hay r none = λ more. line_goes_on hay r more (no_feed hay none)
 
--- a record that already exceeds the length is never complete
-longer_goes_on : (n : ℕ) (l r ys : List ℕ) → n ≤ length r
-    → records_from (Length n) r (l ++ ys) ≡ records_from (Length n) (r ++ l) ys
-longer_goes_on n [] r ys long = ap (λ x. records_from (Length n) x ys) (sym (append-nil r))
-longer_goes_on n (b ∷ l) r ys long =
-    let no : (length r + 1 == n) ≡ false = grind (arith, nat_tests, long) in
-    ap (λ (t : Bool). if t then (r ++ b ∷ []) ∷ records_from (Length n) [] (l
-    ++ ys) else records_from (Length n) (r ++ b ∷ []) (l ++ ys)) no
-    ∙ longer_goes_on n l (r ++ b ∷ []) ys (omega (arith, long, length-append r (b ∷ [])))
-    ∙ ap (λ x. records_from (Length n) x ys) (append_assoc r (b ∷ []) l)
-
 pub length_passed : (n : ℕ) (l r : List ℕ) → n ≤ length r → Adds (Length n) r l (r ++ l) false
-length_passed n l r long = λ more. longer_goes_on n l r more long
+length_passed n l r long = λ more. piece_goes_on n l r more (inr long)
 
 pub length_inside : (n : ℕ) (l r : List ℕ) → length r + length l < n
     → Adds (Length n) r l (r ++ l) false
-length_inside n l r few = λ more. piece_goes_on n l r more few
+length_inside n l r few = λ more. piece_goes_on n l r more (inl few)
 
 pub length_ended : (n : ℕ) (l r : List ℕ) → 0 < length l → length r + length l ≡ n
     → Adds (Length n) r l (r ++ l) true
 length_ended n [] r some is = absurd (omega (arith, some))
 length_ended n (b ∷ l) r some is = λ more. piece_is_whole n b l r more is
 
-whole_more : (l r ys : List ℕ) → records_from Whole r (l ++ ys) ≡ records_from Whole (r ++ l) ys
-whole_more [] r ys = ap (λ x. records_from Whole x ys) (sym (append-nil r))
-whole_more (b ∷ l) r ys = whole_more l (r ++ b ∷ []) ys
-    ∙ ap (λ x. records_from Whole x ys) (append_assoc r (b ∷ []) l)
-
 pub whole_inside : (l r : List ℕ) → Adds Whole r l (r ++ l) false
-whole_inside l r = λ more. whole_more l r more
+whole_inside l r = λ more. whole_goes_on l r more
 
 -- all bytes are their own prefix
 pub adds_all : (cut : Cut) (n : ℕ) (l r : List ℕ) (ended : Bool) → n ≡ length l

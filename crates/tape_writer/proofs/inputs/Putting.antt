@@ -3,11 +3,14 @@ use Rattle.std.proofs.Common.{◌≡◌, ℕ, List, [], ◌∷◌, ◌++◌, Boo
 use Rattle.std.proofs.Common.{refl, sym, ap, subst, ◌∙◌, append_assoc, append-nil, ◌≤◌, length}
 use Rattle.std.proofs.Common.{arith, IfSome}
 use Rattle.std.specs.List.{AllByRecursion}
-use Rattle.tape_writer.proofs.Lists.{all_push, all_weaken}
+use Rattle.tape_set.proofs.Everywhere.{every}
+use Rattle.tape_writer.proofs.Lists.{all_push}
 use Rattle.tape_image.specs.Reader.{IfKnown}
+use Rattle.tape_writer.proofs.inputs.Finished.{in_input, known_all}
 use Rattle.tape_writer.specs.declared.{course.Opened.Opened, inputs.cut.Cut.Cut}
 use Rattle.tape_writer.specs.{Told.Told, Told.with_record, ToldFiles.with_records}
 use Rattle.tape_writer.specs.Records.{to_come, records_of, given}
+use Rattle.tape_writer.proofs.Calls.{with_last}
 
 -- records were returned and written, which moved the writer from `old` to `new`
 pub record Put (cut : Cut) (over over' : Bool) (all left : Option (List ℕ))
@@ -72,16 +75,9 @@ within_one n m cut a b c all left next old mid new r p k step le fits = record {
         (step (with_records told p.put.records) (p.put.told told h));
   };
   within = all_push (λ x. length x ≤ m) p.put.records r
-      (all_weaken (λ x. length x ≤ n) (λ x. length x ≤ m) (λ x l. omega (arith, l, le))
+      (every (λ x. length x ≤ n) (λ x. length x ≤ m) (λ x l. omega (arith, l, le))
       p.put.records p.within) fits;
 }
-
-with_last : (told : List Told) (file : Opened) (before : List (List ℕ)) (r : List ℕ)
-    → with_record (told ++ record { file = file; records = before } ∷ []) r
-    ≡ told ++ record { file = file; records = before ++ r ∷ [] } ∷ []
-with_last [] file before r = refl
-with_last (t ∷ []) file before r = refl
-with_last (t ∷ u ∷ ts) file before r = ap (λ l. t ∷ l) (with_last (u ∷ ts) file before r)
 
 -- the records of a file that has just begun
 pub of_file : (told : List Told) (file : Opened) (before rs : List (List ℕ))
@@ -90,7 +86,7 @@ pub of_file : (told : List Told) (file : Opened) (before rs : List (List ℕ))
 of_file told file before [] =
     ap (λ l. told ++ record { file = file; records = l } ∷ []) (sym (append-nil before))
 of_file told file before (r ∷ rs) =
-    ap (λ l. with_records l rs) (with_last told file before r)
+    ap (λ l. with_records l rs) (with_last told (record { file = file; records = before }) r)
     ∙ of_file told file (before ++ r ∷ []) rs
     ∙ ap (λ l. told ++ record { file = file; records = l } ∷ []) (append_assoc before (r ∷ []) rs)
 
@@ -111,17 +107,6 @@ pub same_record : (s r : List ℕ) (mid new : List Told → Type 0) → s ≡ r
     → new (with_record told r)
 same_record s r mid new e step told h = subst (λ x. new (with_record told x)) e (step told h)
 
-told_known : (told : List Told) (file : Opened) (cut : Cut) (all next : Option (List ℕ))
-    (mid last : List Told → Type 0)
-    → IfKnown all next (λ xs ys.
-    mid (with_records (told ++ record { file = file; records = [] } ∷ []) (to_come cut false xs)))
-    → ((t : List Told) → mid t → last t) → IfSome all (λ bytes.
-    last (told ++ record { file = file; records = records_of cut bytes } ∷ []))
-told_known told file cut None next mid last h ends = tt
-told_known told file cut (Some xs) None mid last h ends = absurd h
-told_known told file cut (Some xs) (Some ys) mid last h ends =
-    ends _ (subst mid (of_file told file [] (records_of cut xs)) h)
-
 -- a file began, the records of its input were written, and it ended
 pub file_told : (told : List Told) (file : Opened) (cut here : Cut) (over : Bool) (input all
     next : Option (List ℕ)) (mid last : List Told → Type 0) → all ≡ input → here ≡ cut
@@ -130,10 +115,6 @@ pub file_told : (told : List Told) (file : Opened) (cut here : Cut) (over : Bool
     → ((t : List Told) → mid t → last t) → IfSome input (λ bytes.
     last (told ++ record { file = file; records = records_of cut bytes } ∷ []))
 file_told told file cut here over input all next mid last a e f h ends =
-    let one = subst (λ t. IfKnown all next (λ xs ys. mid
-    (with_records (told ++ record { file = file; records = [] } ∷ []) (to_come t over xs)))) e h in
-    let two = subst (λ t. IfKnown all next (λ xs ys. mid
-    (with_records (told ++ record { file = file; records = [] } ∷ []) (to_come cut t xs)))) f one in
-    subst (λ t. IfSome t
-    (λ bytes. last (told ++ record { file = file; records = records_of cut bytes } ∷ []))) a
-    (told_known told file cut all next mid last two ends)
+    in_input (λ rs. last (told ++ record { file = file; records = rs } ∷ [])) cut here over input
+    all a e f (known_all _ (told ++ record { file = file; records = [] } ∷ []) here over all next mid
+    h (λ rs m. ends _ (subst mid (of_file told file [] rs) m)))

@@ -9,6 +9,7 @@ use Rattle.tape_image.specs.Reader.{IfKnown}
 use Rattle.tape_label.specs.declared.values.Head1.{Head1}
 use Rattle.tape_blocks.specs.declared.parts.Shape.{Shape}
 use Rattle.tape_blocks.specs.Packing.{HasRecordLength}
+use Rattle.tape_writer.proofs.inputs.Finished.{in_input}
 use Rattle.tape_writer.specs.declared.{course.Opened.Opened, phase.Phase.Phase}
 use Rattle.tape_writer.specs.declared.{phase.Phase.TheVariants.Filing, phase.OpenFile.OpenFile}
 use Rattle.tape_writer.specs.declared.{fault.WriteFault.WriteFault, fault.SetFault.SetFault}
@@ -235,10 +236,7 @@ pub input_fault : (shape : Shape) (cut here : Cut) (over : Bool) (input all : Op
     → IsInputFault (IfSome all (λ xs. OneIsOther shape (to_come here over xs))) fault
     → IsInputFault (IfSome input (λ bytes. OneIsOther shape (records_of cut bytes))) fault
 input_fault shape cut here over input all fault a e f p =
-    of_input _ _ fault (λ h.
-    let one = subst (λ z. IfSome z (λ xs. OneIsOther shape (to_come here over xs))) a h in
-    let two = subst (λ z. IfSome input (λ xs. OneIsOther shape (to_come z over xs))) e one in
-    subst (λ z. IfSome input (λ xs. OneIsOther shape (to_come cut z xs))) f two) p
+    of_input _ _ fault (in_input (OneIsOther shape) cut here over input all a e f) p
 
 -- ---- one of the files
 

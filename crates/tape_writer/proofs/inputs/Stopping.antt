@@ -12,9 +12,9 @@ use Rattle.tape_writer.specs.declared.inputs.cut.Cut.{Cut}
 use Rattle.tape_writer.specs.Tapes.{Tapes, Failures, Grows, Rose}
 use Rattle.tape_writer.specs.Told.{Told, with_record, with_file}
 use Rattle.tape_writer.specs.{State.SetState, State.IsOutOfVolumes, ToldFiles.with_records}
-use Rattle.tape_writer.specs.{ToldFiles.told_files, NoVolume.GaveUp, NoVolume.GaveUpIn}
+use Rattle.tape_writer.specs.NoVolume.{GaveUp}
 use Rattle.tape_writer.specs.Records.{to_come, records_of, given}
-use Rattle.tape_writer.proofs.{Last.rose_from, inputs.Filing.Wrote, inputs.Finished.all_known}
+use Rattle.tape_writer.proofs.{Last.rose_from, inputs.Finished.in_input, inputs.Finished.known_all}
 use Rattle.tape_writer.proofs.inputs.Putting.{Put, known_one, known_then, with_records-one}
 
 -- ---- no volume is left
@@ -43,30 +43,6 @@ gave_up H w cut a b c all left next old mid r p k stuck told h =
     (subst (λ z. IsOutOfVolumes H w z) (sym (with_records-one told p.records r))
     (stuck (with_records told p.records) (p.told told h)))
 
--- the same for the input
-pub file_out : {T : Type 0} (H : Tapes → Type 0) (w : SetState T) (told : List Told)
-    (cut here : Cut) (over : Bool) (input all : Option (List ℕ)) → all ≡ input → here ≡ cut
-    → over ≡ false → IfSome all (λ xs. GaveUp H w told (to_come here over xs))
-    → IfSome input (λ bytes. GaveUp H w told (records_of cut bytes))
-file_out H w told cut here over input all a e f p =
-    let one = subst (λ z. IfSome z (λ xs. GaveUp H w told (to_come here over xs))) a p in
-    let two = subst (λ z. IfSome input (λ xs. GaveUp H w told (to_come z over xs))) e one in
-    subst (λ z. IfSome input (λ xs. GaveUp H w told (to_come cut z xs))) f two
-
-known_end : {T : Type 0} (H : Tapes → Type 0) (w : SetState T) (told : List Told) (cut : Cut)
-    (over : Bool) (all next : Option (List ℕ)) (mid : List Told → Type 0)
-    → IfKnown all next (λ xs ys. mid (with_records told (to_come cut over xs)))
-    → ((t : List Told) → mid t → IsOutOfVolumes H w t)
-    → IfSome all (λ xs. GaveUp H w told (to_come cut over xs))
-known_end H w told cut over None next mid put stuck = tt
-known_end H w told cut over (Some xs) None mid put stuck = absurd put
-known_end H w told cut over (Some xs) (Some ys) mid put stuck = record {
-  front = to_come cut over xs;
-  back = [];
-  split = sym (append-nil (to_come cut over xs));
-  out = stuck _ put;
-}
-
 -- all records of the file were written, but not its end
 pub end_out : {T : Type 0} (H : Tapes → Type 0) (w : SetState T) (told : List Told)
     (cut here : Cut) (over : Bool) (input all next : Option (List ℕ)) (mid : List Told → Type 0)
@@ -75,33 +51,9 @@ pub end_out : {T : Type 0} (H : Tapes → Type 0) (w : SetState T) (told : List 
     → ((t : List Told) → mid t → IsOutOfVolumes H w t)
     → IfSome input (λ bytes. GaveUp H w told (records_of cut bytes))
 end_out H w told cut here over input all next mid a e f put stuck =
-    file_out H w told cut here over input all a e f
-    (known_end H w told here over all next mid put stuck)
-
--- the file after those already written
-pub wrote_out : {T : Type 0} (H : Tapes → Type 0) (w : SetState T) (X : Type 0)
-    (view : X → Head1 × Option (List ℕ)) (set_id : List ℕ) (shape : Shape) (cut : Cut)
-    (first now : List X) (at : ℕ) (old mid : List Told → Type 0) (here : List ℕ) (x d : X)
-    → at < length now → x ≡ get_or now at d → Wrote X view set_id shape cut first now at old mid
-    → here ≡ set_id
-    → ((told : List Told) → mid told → IfSome (view x).1
-    (λ bytes. GaveUp H w (with_file here told (view x).0 shape) (records_of cut bytes)))
-    → (told : List Told) → old told → GaveUpIn H w set_id told shape cut (map view first)
-wrote_out H w X view set_id shape cut first now at old mid here x d within is wrote same stuck
-    told held =
-    let next : drop at now ≡ x ∷ drop (at + 1) now =
-    drop_more now at d within ∙ ap (λ z. z ∷ drop (at + 1) now) (sym is) in
-    record {
-      before = map view wrote.done;
-      input = view x;
-      after = map view (drop (at + 1) now);
-      split = ap (map view) (wrote.split ∙ ap (λ l. wrote.done ++ l) next)
-          ∙ map-append view wrote.done (x ∷ drop (at + 1) now);
-      stuck = all_known (map view wrote.done) _ _ (wrote.told told held) (λ fs m.
-          subst (λ s. IfSome (view x).1 (λ bytes. GaveUp H w
-          (with_file s (told ++ told_files set_id shape cut (length told + 1) fs) (view x).0 shape)
-          (records_of cut bytes))) same (stuck _ m));
-    }
+    in_input (GaveUp H w told) cut here over input all a e f
+    (known_all (GaveUp H w told) told here over all next mid put (λ rs m.
+    record { front = rs; back = []; split = sym (append-nil rs); out = stuck _ m }))
 
 -- ---- the device failed
 

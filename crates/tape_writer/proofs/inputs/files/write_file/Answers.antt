@@ -4,7 +4,8 @@ use Rattle.std.proofs.lemmas.Result.{err_from_is_err_and}
 use Rattle.tape_writer.specs.{State.IsWriting, Told.opened_by}
 use Rattle.tape_writer.proofs.{Last.rose_from, Standing.inside_writing, inputs.Putting.file_told}
 use Rattle.tape_writer.proofs.inputs.Refusing.{input_fault, end_fault}
-use Rattle.tape_writer.proofs.inputs.Stopping.{file_out, end_out}
+use Rattle.tape_writer.proofs.{inputs.Stopping.end_out, inputs.Finished.in_input, Fronts.front_here}
+use Rattle.tape_writer.specs.NoVolume.{GaveUp}
 use Rattle.tape_writer.proofs.inputs.Leaving.{begin_left, none_left, if_any, file_left, end_left}
 use Rattle.tape_writer.proofs.inputs.Leaving.{ended_left, ending_other, end_ends, of_writer}
 use Rattle.tape_writer.proofs.inputs.files.write_file.Goals as goal
@@ -35,8 +36,8 @@ returns-in_err-put_records-clause-stuck g c =
     let p = err_from_is_err_and c.from_residual.result c.from_residual.ensures.1 in
     let made = c.in-Ok.ensures in
     rw (p.1, p.2) (λ e told held.
-    file_out (g.T.TapeOut.holds c.put_records.new.writer.out) c.put_records.new.writer
-    _ c.args.cut _ _ _ _ made.left made.cut made.begun
+    in_input (GaveUp (g.T.TapeOut.holds c.put_records.new.writer.out) c.put_records.new.writer _)
+    c.args.cut _ _ _ _ made.left made.cut made.begun
     (c.in_err-put_records.ensures.stuck e _ (c.in_default.ensures.told told held)))
 
 pub returns-clause-stuck : goal.returns-clause-stuck
@@ -62,7 +63,8 @@ returns-in-Err-clause-front g c = λ between told held. if_any _ _ (λ bytes. be
 pub returns-in_default-new-clause-front : goal.returns-in_default-new-clause-front
 returns-in_default-new-clause-front g c = λ between told held. if_any _ _ (λ bytes. inr (none_left
     (g.T.TapeOut.holds c.begin_file.new.self.out) _ _ _ _ _ (inside_writing
-    (g.T.TapeOut.holds c.begin_file.new.self.out) _ _ _ c.in_default.ensures.opened
+    (g.T.TapeOut.holds c.begin_file.new.self.out) _ _ _ _
+    (front_here (g.T.TapeOut.holds c.begin_file.new.self.out)) c.in_default.ensures.opened
     (c.in_default.ensures.told told held)) (λ i. i)))
 
 pub returns-in_err-put_records-clause-front : goal.returns-in_err-put_records-clause-front

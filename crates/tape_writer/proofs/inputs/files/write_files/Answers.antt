@@ -1,11 +1,14 @@
 use Rattle.std.proofs.Common.{rules, arith, get_or, ◌+◌, ◌++◌, ◌∷◌, [], length, refl, subst, ◌∙◌}
-use Rattle.std.proofs.Common.{◌≤◌, IfSome}
+use Rattle.std.proofs.Common.{◌≤◌, IfSome, ◌⊎◌}
 use Rattle.tape_set.specs.Tight.{least_capacity}
 use Rattle.std.proofs.lemmas.Result.{err_from_is_err_and}
 use Rattle.tape_writer.proofs.{Last.rose_from, inputs.Filing.wrote_none, inputs.Filing.wrote_one}
-use Rattle.tape_writer.proofs.{inputs.Refusing.wrote_fault, inputs.Leaving.wrote_left}
+use Rattle.tape_writer.proofs.{inputs.Refusing.wrote_fault, inputs.Leaving.all_more}
+use Rattle.tape_writer.proofs.{inputs.Filing.wrote_in}
+use Rattle.tape_writer.specs.{NoVolume.GaveUp, LeftOf.IsLeftOf, LeftOf.IsLeftUnbegun}
+use Rattle.tape_writer.specs.{Told.with_file, Tapes.Rose}
 use Rattle.tape_writer.specs.{State.IsWriting, Told.opened_by, Records.records_of}
-use Rattle.tape_writer.proofs.inputs.Stopping.{wrote_out, grows_self, grows_then}
+use Rattle.tape_writer.proofs.inputs.Stopping.{grows_self, grows_then}
 use Rattle.tape_writer.proofs.inputs.files.write_files.Goals as goal
 
 pub files-init : goal.files-init
@@ -63,23 +66,29 @@ returns-in_err-write_file-clause-due g c = λ between.
 pub returns-in_err-write_file-clause-stuck : goal.returns-in_err-write_file-clause-stuck
 returns-in_err-write_file-clause-stuck g c =
     let p = err_from_is_err_and c.from_residual.result c.from_residual.ensures.1 in
-    rw (p.1, p.2) (λ e told held. wrote_out (g.T.TapeOut.holds c.write_file.new.writer.out) _ _
-    (λ f. (f.head, g.R.Read.remaining f.reader)) _ _ _ _ _ _ (IsWriting
-    (g.T.TapeOut.holds c.args.writer.now.out) c.args.writer.now) (IsWriting
-    (g.T.TapeOut.holds c.files.writer.out) c.files.writer) _ _ _ (search rules) refl
+    rw (p.1, p.2) (λ e told held. wrote_in _ (λ f. (f.head, g.R.Read.remaining f.reader)) _ _ _ _
+    _ _ (IsWriting (g.T.TapeOut.holds c.args.writer.now.out) c.args.writer.now) (IsWriting
+    (g.T.TapeOut.holds c.files.writer.out) c.files.writer) _ _ _ (λ s past head bytes.
+    GaveUp (g.T.TapeOut.holds c.write_file.new.writer.out) c.write_file.new.writer
+    (with_file s past head c.args.shape) (records_of c.args.cut bytes)) (search rules) refl
     c.files.invariant.wrote c.files.invariant.set_id (c.in_err-write_file.ensures.stuck e) told
     held)
 
 pub returns-in_err-write_file-clause-front : goal.returns-in_err-write_file-clause-front
 returns-in_err-write_file-clause-front g c =
     let p = err_from_is_err_and c.from_residual.result c.from_residual.ensures.1 in
-    rw (p.1, p.2) (λ between told held. wrote_left (g.T.TapeOut.holds c.write_file.new.writer.out) _
-    _ _ _ _ (λ f. (f.head, g.R.Read.remaining f.reader)) _ _ _ _ _ _ (IsWriting
+    rw (p.1, p.2) (λ between told held.
+    let H = g.T.TapeOut.holds c.write_file.new.writer.out in
+    wrote_in _ (λ f. (f.head, g.R.Read.remaining f.reader)) _ _ _ _ _ _ (IsWriting
     (g.T.TapeOut.holds c.args.writer.now.out) c.args.writer.now) (IsWriting
-    (g.T.TapeOut.holds c.files.writer.out) c.files.writer) _ _ _ (search rules) refl
-    c.files.invariant.wrote c.files.invariant.set_id
-    (λ grew. rose_from _ _ _ c.files.invariant.grew.1 grew) (c.in_err-write_file.ensures.front
-    (c.files.invariant.stands between).0) told held)
+    (g.T.TapeOut.holds c.files.writer.out) c.files.writer) _ _ _ (λ s past head bytes.
+    IsLeftUnbegun H c.write_file.new.writer c.in_err-write_file.field-0.0 past
+    ⊎ IsLeftOf H c.write_file.new.writer (Rose (g.T.TapeOut.failures c.args.writer.now.out).memory
+    (g.T.TapeOut.failures c.write_file.new.writer.out).memory) c.in_err-write_file.field-0.0
+    (with_file s past head c.args.shape) (records_of c.args.cut bytes)) (search rules) refl
+    c.files.invariant.wrote c.files.invariant.set_id (λ t m. all_more H _ _ _ _ _ _ _
+    _ (λ grew. rose_from _ _ _ c.files.invariant.grew.1 grew) (c.in_err-write_file.ensures.front
+    (c.files.invariant.stands between).0 t m)) told held)
 
 pub returns-in_err-write_file-clause-unfit : goal.returns-in_err-write_file-clause-unfit
 returns-in_err-write_file-clause-unfit g c =

@@ -1,11 +1,11 @@
-use Rattle.std.proofs.Common.{◌≡◌, ◌≤◌, [], ap, sym, subst, ◌∙◌, map, inl, inr}
+use Rattle.std.proofs.Common.{◌≡◌, ◌≤◌, [], ap, sym, subst, ◌∙◌, map, inl, inr, refl}
 use Rattle.tape_set.specs.Tight.{least_capacity}
 use Rattle.tape_writer.specs.{Images.Holds, Refusals.IsFinishFault, NoVolume.GaveUpIn}
 use Rattle.tape_writer.specs.{NoVolume.GaveUpSet, ToldFiles.IfAllKnown, ToldFiles.told_files}
 use Rattle.tape_writer.specs.{LeftOf.IsLeftOfAll, LeftOf.IsLeftSet, WriteSet.IsSetOfImages}
 use Rattle.tape_writer.specs.WriteFaults.{IsFaultOfCut, IsFilesFault, IsOfWriter}
 use Rattle.tape_writer.proofs.{Last.rose_none, Standing.behind_writing, inputs.Heads.head_fault}
-use Rattle.tape_writer.proofs.inputs.Finished.{set_of_images, if_cut, all_known}
+use Rattle.tape_writer.proofs.inputs.Finished.{set_of_images, if_cut, all_known, of_plan}
 use Rattle.tape_writer.proofs.inputs.Leaving.{left_without, refused_left, finish_other}
 use Rattle.tape_writer.proofs.inputs.set.write_set.Goals as goal
 
@@ -41,60 +41,32 @@ returns-clause-written g c fresh =
 
 pub returns-in-Err-write_files-clause-stuck : goal.returns-in-Err-write_files-clause-stuck
 returns-in-Err-write_files-clause-stuck g c fresh = λ e.
-    let plan = c.args.plan in
     let inputs = map (λ f. (f.head, g.R.Read.remaining f.reader)) c.args.files.now in
-    let begun = c.in-Ok.ensures.told (c.new-tapes.ensures.held fresh) in
-    let made = c.in-Ok.ensures.made in
-    let whole = c.write_files.new.writer in
     let left = c.left-in-Err-write_files in
-    let back = c.into_out-in-Err-write_files in
-    let H = g.S.ImageStore.holds in
-    let fault = sym left.ensures.fault ∙ e in
-    let out = c.in-Err-write_files.ensures.stuck fault [] begun in
-    inr (if_cut (λ cut.
-    GaveUpSet (Holds H) (λ t. (t.store ≡ left.result.images)
-    × (t.image ≡ left.result.under_way)) plan cut inputs) _ _ c.in-Some.cut
-    c.in-Some.is c.cut_of.ensures record {
-      writer = whole;
-      on_tapes = (
-        sym (left.ensures.images ∙ ap (λ t. t.store) back.ensures),
-        sym (left.ensures.under_way ∙ ap (λ t. t.image) back.ensures),
-      );
-      on_volumes = c.write_files.ensures.same.0 ∙ ap (λ w. w.volumes) made;
-      capacity = c.write_files.ensures.same.1 ∙ ap (λ w. w.capacity) made;
-      set_id = c.write_files.ensures.same.2 ∙ ap (λ w. w.set_id) made;
-      stuck = subst (λ s. GaveUpIn (Holds H whole.out) whole s [] plan.shape c.in-Some.cut inputs)
-          (ap (λ w. w.set_id) made) out;
-    })
+    inr (of_plan c.args.plan _ _ c.write_files.new.writer _ _ _
+    (λ cut s w. GaveUpIn (Holds g.S.ImageStore.holds w.out) w s [] c.args.plan.shape cut inputs) _ _
+    c.in-Some.is c.cut_of.ensures c.in-Ok.ensures.made (refl, refl, refl) c.write_files.ensures.same
+    c.into_out-in-Err-write_files.ensures left.ensures.images left.ensures.under_way
+    (c.in-Err-write_files.ensures.stuck (sym left.ensures.fault ∙ e) []
+    (c.in-Ok.ensures.told (c.new-tapes.ensures.held fresh))))
 
 pub returns-in-Err-write_files-clause-front : goal.returns-in-Err-write_files-clause-front
 returns-in-Err-write_files-clause-front g c fresh =
     let plan = c.args.plan in
     let inputs = map (λ f. (f.head, g.R.Read.remaining f.reader)) c.args.files.now in
-    let begun = c.in-Ok.ensures.told (c.new-tapes.ensures.held fresh) in
     let made = c.in-Ok.ensures.made in
     let whole = c.write_files.new.writer in
     let left = c.left-in-Err-write_files in
-    let back = c.into_out-in-Err-write_files in
     let H = g.S.ImageStore.holds in
-    let out = c.in-Err-write_files.ensures.front (ap (λ w. w.phase) made) [] begun in
-    inr (if_cut (λ cut. IsLeftSet (Holds H) (λ t. (t.store ≡ left.result.images)
-    × (t.image ≡ left.result.under_way)) left.result.fault plan cut inputs) _ _ c.in-Some.cut
-    c.in-Some.is c.cut_of.ensures record {
-      writer = whole;
-      on_tapes = (
-        sym (left.ensures.images ∙ ap (λ t. t.store) back.ensures),
-        sym (left.ensures.under_way ∙ ap (λ t. t.image) back.ensures),
-      );
-      on_volumes = c.write_files.ensures.same.0 ∙ ap (λ w. w.volumes) made;
-      capacity = c.write_files.ensures.same.1 ∙ ap (λ w. w.capacity) made;
-      set_id = c.write_files.ensures.same.2 ∙ ap (λ w. w.set_id) made;
-      left = subst (λ s. IsLeftOfAll (Holds H whole.out) whole ⊥ left.result.fault s [] plan.shape
-          c.in-Some.cut inputs) (ap (λ w. w.set_id) made) (subst (λ f. IsLeftOfAll
-          (Holds H whole.out) whole ⊥ f c.in-Ok.writer.set_id [] plan.shape c.in-Some.cut inputs)
-          (sym left.ensures.fault) (left_without (Holds H whole.out) _ _ _ _ [] plan.shape _ _
-          rose_none (inl out)));
-    })
+    let out = c.in-Err-write_files.ensures.front (ap (λ w. w.phase) made) []
+    (c.in-Ok.ensures.told (c.new-tapes.ensures.held fresh)) in
+    inr (of_plan plan _ _ whole _ _ _ (λ cut s w.
+    IsLeftOfAll (Holds H w.out) w ⊥ left.result.fault s [] plan.shape cut inputs) _ _ c.in-Some.is
+    c.cut_of.ensures made (refl, refl, refl) c.write_files.ensures.same
+    c.into_out-in-Err-write_files.ensures left.ensures.images left.ensures.under_way
+    (subst (λ f. IsLeftOfAll (Holds H whole.out) whole ⊥ f c.in-Ok.writer.set_id [] plan.shape
+    c.in-Some.cut inputs) (sym left.ensures.fault) (left_without (Holds H whole.out) _ _ _ _ []
+    plan.shape _ _ rose_none (inl out))))
 
 pub returns-in-Err-write_files-clause-unfit : goal.returns-in-Err-write_files-clause-unfit
 returns-in-Err-write_files-clause-unfit g c unfit some =
@@ -124,43 +96,29 @@ pub returns-in-Err-finish-clause-front : goal.returns-in-Err-finish-clause-front
 returns-in-Err-finish-clause-front g c fresh =
     let plan = c.args.plan in
     let inputs = map (λ f. (f.head, g.R.Read.remaining f.reader)) c.args.files.now in
-    let begun = c.in-Ok.ensures.told (c.new-tapes.ensures.held fresh) in
     let made = c.in-Ok.ensures.made in
     let between = (c.in_default-write_files.ensures.stands (ap (λ w. w.phase) made)).0 in
     let whole = c.finish.new.self in
     let left = c.left-in-Err-finish in
-    let back = c.into_out-in-Err-finish in
     let H = g.S.ImageStore.holds in
-    inr (if_cut (λ cut.
-    IsLeftSet (Holds H) (λ t. (t.store ≡ left.result.images)
-    × (t.image ≡ left.result.under_way)) left.result.fault plan cut inputs) _ _ c.in-Some.cut
-    c.in-Some.is c.cut_of.ensures record {
-      writer = whole;
-      on_tapes = (
-        sym (left.ensures.images ∙ ap (λ t. t.store) back.ensures),
-        sym (left.ensures.under_way ∙ ap (λ t. t.image) back.ensures),
-      );
-      on_volumes = c.finish.ensures.same.0 ∙ c.write_files.ensures.same.0
-          ∙ ap (λ w. w.volumes) made;
-      capacity = c.finish.ensures.same.1 ∙ c.write_files.ensures.same.1
-          ∙ ap (λ w. w.capacity) made;
-      set_id = c.finish.ensures.same.2 ∙ c.write_files.ensures.same.2
-          ∙ ap (λ w. w.set_id) made;
-      left = subst (λ s. IsLeftOfAll (Holds H whole.out) whole ⊥ left.result.fault s []
-          plan.shape c.in-Some.cut inputs) (ap (λ w. w.set_id) made)
-          (subst (λ f. IsLeftOfAll (Holds H whole.out) whole ⊥ f c.in-Ok.writer.set_id []
-          plan.shape c.in-Some.cut inputs) (sym left.ensures.fault)
-          (inr (
-            λ e. rose_none (c.in-Err-finish.ensures.cause.1 cc),
-            finish_other _ c.in-Err-finish.fault (c.in-Err-finish.ensures.due between),
-            all_known inputs _ _ (c.in_default-write_files.ensures.told [] begun) (λ fs w.
-                refused_left (Holds H) c.write_files.new.writer whole c.in-Err-finish.fault _ _
-                c.in-Err-finish.ensures.leaves w
-                (λ same writing. inl (behind_writing (Holds H whole.out) whole _
-                (ap (λ w. w.phase) same ∙ between) writing))
-                (λ e. inr (c.in-Err-finish.ensures.front _ w e))),
-          )));
-    })
+    let one = c.write_files.ensures.same in
+    let two = c.finish.ensures.same in
+    inr (of_plan plan _ _ whole _ _ _ (λ cut s w.
+    IsLeftOfAll (Holds H w.out) w ⊥ left.result.fault s [] plan.shape cut inputs) _ _ c.in-Some.is
+    c.cut_of.ensures made (refl, refl, refl) (two.0 ∙ one.0, two.1 ∙ one.1, two.2 ∙ one.2)
+    c.into_out-in-Err-finish.ensures left.ensures.images left.ensures.under_way
+    (subst (λ f. IsLeftOfAll (Holds H whole.out) whole ⊥ f c.in-Ok.writer.set_id [] plan.shape
+    c.in-Some.cut inputs) (sym left.ensures.fault) (inr (
+      λ e. rose_none (c.in-Err-finish.ensures.cause.1 cc),
+      finish_other _ c.in-Err-finish.fault (c.in-Err-finish.ensures.due between),
+      all_known inputs _ _ (c.in_default-write_files.ensures.told []
+          (c.in-Ok.ensures.told (c.new-tapes.ensures.held fresh))) (λ fs w.
+          refused_left (Holds H) c.write_files.new.writer whole c.in-Err-finish.fault _ _
+          c.in-Err-finish.ensures.leaves w
+          (λ same writing. inl (behind_writing (Holds H whole.out) whole _
+          (ap (λ w. w.phase) same ∙ between) writing))
+          (λ e. inr (c.in-Err-finish.ensures.front _ w e))),
+    ))))
 
 pub returns-in-Err-finish-clause-unfit : goal.returns-in-Err-finish-clause-unfit
 returns-in-Err-finish-clause-unfit g c unfit some =
