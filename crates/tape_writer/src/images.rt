@@ -1,7 +1,6 @@
 //! Volumes as images, one after another.
 
 ghost use Rattle.std.specs.Prelude.{◌≡◌, ◌⊎◌, ◌≤◌, ◌<◌, [], None, Option, false, OnOk};
-ghost use Rattle.std.specs.Bool.{OnTrue, OnFalse};
 ghost use Rattle.tape_image.specs.Writer.{Writer};
 ghost use Rattle.tape_label.specs.declared.values.Vol1.{Vol1};
 ghost use Rattle.tape_writer.specs.Tapes.{Ended, Rose, Closes, Keeps, HasCause};
@@ -84,15 +83,6 @@ impl<S: ImageStore + Drop> ImageTapes<S> {
         OutFault::Device
     }
 
-    /// Returns true if there is a device for another volume. After a failed call no device is left.
-    fn has_next(&self) -> bool
-        ensures yes { OnTrue result ((self.now.failed ≡ 0) × (0 < S.left self.now.store)) }
-        ensures no { OnFalse result ((0 < self.now.failed) ⊎ (S.left self.now.store ≡ 0)) }
-        ensures stopped { OnFalse result (HasStopped (S.left self.now.store) self.now.image) }
-    {
-        self.failed == 0 && self.store.left() > 0
-    }
-
     /// Ends the image of the current volume, if there is one, and passes it to the store.
     fn end_image(&mut self) -> Result<(), OutFault>
         ensures ok { Closes (Holds S.holds self.old) result (Holds S.holds self.new) }
@@ -151,7 +141,7 @@ impl<S: ImageStore + Drop> TapeOut for ImageTapes<S> {
     fn change_volume(&mut self, volume: &Vol1) -> Result<(), OutFault> {
         // Checked first: otherwise the current volume would already have ended when the next volume
         // is refused.
-        if !self.has_next() {
+        if self.failed > 0 || self.store.left() == 0 {
             return Err(self.fail());
         }
         self.end_image()?;
