@@ -1,22 +1,18 @@
 -- The writer's calls, as its callers see them.
-use Rattle.std.proofs.Common.{◌≡◌, ℕ, ◌+◌, List, [], ◌∷◌, ◌++◌, length, refl, sym, ap, ◌∙◌, subst}
-use Rattle.std.proofs.Common.{inr, map}
-use Rattle.std.proofs.lemmas.List.{map-append, length-map}
-use Rattle.tape_label.specs.declared.values.{Vol1.Vol1, Head1.Head1}
-use Rattle.tape_blocks.specs.declared.parts.Shape.{Shape}
-use Rattle.tape_blocks.specs.Packing.{Packing}
-use Rattle.tape_set.specs.Layout.{Section}
-use Rattle.tape_writer.specs.declared.course.{Opened.Opened, Course.Course}
-use Rattle.tape_writer.specs.declared.phase.{Phase.Phase, OpenFile.OpenFile}
-use Rattle.tape_writer.specs.declared.fault.WriteFault.{WriteFault}
-use Rattle.tape_writer.specs.declared.fault.WriteFault.TheVariants as faults
-use Rattle.tape_writer.specs.declared.phase.Phase.TheVariants.{Between, Filing, Failed}
-use Rattle.tape_writer.specs.{Tapes.Tapes, Faults.IsEnding}
+use Rattle.tape_writer.proofs.Words.{◌≡◌, ℕ, ◌+◌, List, [], ◌∷◌, ◌++◌, length, refl, sym, ap, ◌∙◌}
+use Rattle.tape_writer.proofs.Words.{subst, inr, map, map-append, length-map, Vol1, Head1, Shape}
+use Rattle.tape_writer.proofs.Words.{Packing, Section}
+use Rattle.tape_writer.specs.declared.{course.Opened.Opened, course.Course.Course}
+use Rattle.tape_writer.specs.declared.{phase.Phase.Phase, phase.OpenFile.OpenFile}
+use Rattle.tape_writer.specs.declared.{fault.WriteFault.WriteFault, phase.Phase.TheVariants.Between}
+use Rattle.tape_writer.specs.declared.{phase.Phase.TheVariants.Filing}
+use Rattle.tape_writer.specs.declared.{phase.Phase.TheVariants.Failed}
 use Rattle.tape_writer.specs.Told.{Told, opened_by, with_record}
 use Rattle.tape_writer.specs.Inside.{IsInside, IsFiling, IsBetween, IsWaiting, IsStuck}
 use Rattle.tape_writer.specs.State.{SetState, Stands, IsFilingLast, IsWriting, Leaves, IfFiling}
-use Rattle.tape_writer.specs.State.{IsOutOfVolumes}
+use Rattle.tape_writer.specs.{Tapes.Tapes, Faults.IsEnding, State.IsOutOfVolumes}
 use Rattle.tape_writer.proofs.Changed.{not_nil}
+use Rattle.tape_writer.specs.declared.fault.WriteFault.TheVariants as faults
 
 pub with_last : (past : List Told) (t : Told) (r : List ℕ) → with_record (past ++ t ∷ []) r
     ≡ past ++ record { file = t.file; records = t.records ++ r ∷ [] } ∷ []

@@ -1,29 +1,23 @@
 -- After a change of the volume the set written so far is still a draft of a valid, tight set.
-use Rattle.std.proofs.Common.{◌≡◌, ◌<◌, ◌≤◌, ℕ, ◌+◌, List, [], ◌∷◌, ◌++◌, length, Bool, true, false}
-use Rattle.std.proofs.Common.{Some, refl, sym, ap, ◌∙◌, subst, append_assoc, arith, length-append}
-use Rattle.std.proofs.Common.{map, slice_get}
-use Rattle.std.specs.List.{AllByRecursion}
-use Rattle.std.proofs.lemmas.List.{map-append, append-nil}
-use Rattle.tape_label.specs.declared.values.Vol1.{Vol1}
-use Rattle.tape_image.specs.Tape.{TapeItem, block, mark}
-use Rattle.tape_blocks.specs.Tight.{Filled}
-use Rattle.tape_set.specs.Layout.{Placed, Section, Volume, a_mark, numbered, all_numbered, on}
-use Rattle.tape_set.specs.Layout.{all_entries, section_entries, item_of, group_of}
-use Rattle.tape_set.specs.Sizes.{items_size}
-use Rattle.tape_set.specs.Lawful.{IsSection, GoesOn, StartsOnFirst, most_blocks}
-use Rattle.tape_set.specs.Tight.{used_before, takes_end, takes_next, IsTightChange, IsTightEnd}
-use Rattle.tape_set.proofs.Measures.{items_size-append}
-use Rattle.tape_writer.specs.declared.course.{Opened.Opened, Course.Course}
-use Rattle.tape_label.specs.Widths.{IsWideVolume}
+use Rattle.tape_writer.proofs.Words.{◌≡◌, ◌<◌, ◌≤◌, ℕ, ◌+◌, List, [], ◌∷◌, ◌++◌, length, Bool, true}
+use Rattle.tape_writer.proofs.Words.{false, Some, refl, sym, ap, ◌∙◌, subst, append_assoc, arith}
+use Rattle.tape_writer.proofs.Words.{length-append, map, slice_get, AllByRecursion, map-append}
+use Rattle.tape_writer.proofs.Words.{append-nil, Vol1, TapeItem, block, mark, Filled, Placed}
+use Rattle.tape_writer.proofs.Words.{Section, Volume, a_mark, numbered, all_numbered, on}
+use Rattle.tape_writer.proofs.Words.{all_entries, section_entries, item_of, group_of, items_size}
+use Rattle.tape_writer.proofs.Words.{IsSection, used_before, IsTightChange, items_size-append}
+use Rattle.tape_writer.proofs.Words.{IsWideVolume, every}
+use Rattle.tape_set.specs.Lawful.{GoesOn, StartsOnFirst, most_blocks}
+use Rattle.tape_set.specs.Tight.{takes_end, takes_next, IsTightEnd}
+use Rattle.tape_writer.specs.declared.{course.Opened.Opened, course.Course.Course}
 use Rattle.tape_writer.specs.Labels.{IsReady, volume_label, header_items, trailer_items}
 use Rattle.tape_writer.specs.Told.{labelled, IsWithin}
 use Rattle.tape_writer.specs.Draft.{Draft, placed, body, first_volumes, data_item, closing, here}
 use Rattle.tape_writer.specs.Draft.{body_items, open_items, ended_volumes, IsDone, IsGoing, OfLast}
 use Rattle.tape_writer.specs.Draft.{Within, changed_draft, changed_course, ended_draft}
-use Rattle.tape_set.proofs.Everywhere.{every}
-use Rattle.tape_writer.proofs.Lists.{snoc_same, all_push, chain_push, each_push}
-use Rattle.tape_writer.proofs.Lists.{chain_behind_push, numbered-push, all_numbered-push}
-use Rattle.tape_writer.proofs.Volumes.{on_none, body_here, first_same, first_next}
+use Rattle.tape_writer.proofs.Volumes.{snoc_same, all_push, chain_push, each_push}
+use Rattle.tape_writer.proofs.Volumes.{chain_behind_push, numbered-push, all_numbered-push, on_none}
+use Rattle.tape_writer.proofs.Volumes.{body_here, first_same, first_next}
 use Rattle.tape_writer.proofs.Sections.{section_items, section_is, of_file, ends_by, header_size}
 use Rattle.tape_writer.proofs.Sections.{trailer_size, vol1_size, used_is}
 use Rattle.std.proofs.lemmas.Bool.{eq-eqb}

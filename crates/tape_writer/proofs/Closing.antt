@@ -1,11 +1,10 @@
 -- Tapes in memory: ending a volume, and looking up volumes.
-use Rattle.std.proofs.Common.{◌≡◌, ◌≢◌, ◌≤◌, ℕ, zero, suc, List, [], ◌∷◌, ◌++◌, length, Option}
-use Rattle.std.proofs.Common.{Some, None, refl, sym, ap, ◌∙◌, arith, map, slice_get, option_map}
-use Rattle.std.proofs.lemmas.List.{map-append, length-map}
+use Rattle.tape_writer.proofs.Words.{◌≡◌, ◌≢◌, ◌≤◌, ℕ, zero, suc, List, [], ◌∷◌, ◌++◌, length}
+use Rattle.tape_writer.proofs.Words.{Option, Some, None, refl, sym, ap, ◌∙◌, arith, map, slice_get}
+use Rattle.tape_writer.proofs.Words.{option_map, map-append, length-map, TapeItem}
 use Rattle.std.proofs.lemmas.Option.{slice_get-map, slice_get_past}
 use Rattle.tape_writer.specs.declared.memory.Kept.{Kept}
 use Rattle.tape_writer.specs.Tapes.{Tapes, Ended, UnderWay, all_volumes}
-use Rattle.tape_image.specs.Tape.{TapeItem}
 use Rattle.tape_writer.specs.Kept.{item_of, volume_of, tapes_of}
 
 pub closed : (old new : List (List Kept)) (current left : Option (List Kept)) (items : List Kept)

@@ -1,22 +1,18 @@
 -- The beginnings and ends of files and of the set.
-use Rattle.std.proofs.Common.{◌≡◌, ◌≢◌, ◌≤◌, ℕ, ◌+◌, List, [], ◌∷◌, ◌++◌, length, false, Some, refl}
-use Rattle.std.proofs.Common.{sym, ap, ◌∙◌, subst, arith, map, OnOk, Result, Ok, Err, slice_get}
-use Rattle.std.specs.List.{AllByRecursion}
-use Rattle.tape_image.specs.Tape.{TapeItem, block, mark}
-use Rattle.tape_label.specs.declared.values.Vol1.{Vol1}
-use Rattle.tape_blocks.specs.{Packing.Packing, Run.RunOf, Tight.Filled}
+use Rattle.tape_writer.proofs.Words.{◌≡◌, ◌≢◌, ◌≤◌, ℕ, ◌+◌, List, [], ◌∷◌, ◌++◌, length, false}
+use Rattle.tape_writer.proofs.Words.{Some, refl, sym, ap, ◌∙◌, subst, arith, map, OnOk, Result, Ok}
+use Rattle.tape_writer.proofs.Words.{Err, slice_get, AllByRecursion, TapeItem, block, mark, Vol1}
+use Rattle.tape_writer.proofs.Words.{Packing, Filled, Section, Placed, item_of, group_of}
+use Rattle.tape_writer.proofs.Words.{blocks_of_all, items_size, least_capacity, IsWideVolume}
+use Rattle.tape_blocks.specs.Run.{RunOf}
 use Rattle.tape_blocks.proofs.RunLaws.{run_begins}
-use Rattle.tape_set.specs.Layout.{Section, Placed, item_of, group_of}
-use Rattle.tape_set.specs.{Before.blocks_of_all, Sizes.items_size, Tight.least_capacity}
-use Rattle.tape_writer.specs.declared.course.{Opened.Opened, Course.Course}
-use Rattle.tape_writer.specs.declared.fault.WriteFault.{WriteFault}
+use Rattle.tape_writer.specs.declared.{course.Opened.Opened, course.Course.Course}
+use Rattle.tape_writer.specs.declared.{fault.WriteFault.WriteFault}
 use Rattle.tape_writer.specs.Tapes.{Tapes, Ended, UnderWay, Takes, Closes}
-use Rattle.tape_label.specs.Widths.{IsWideVolume}
-use Rattle.tape_writer.specs.Labels.{IsReady, volume_label, header_items}
 use Rattle.tape_writer.specs.Told.{labelled, Told, AreFiled, IsWrittenSet}
 use Rattle.tape_writer.specs.Draft.{Draft, open_blocks, IsOpen, Closed, begun_course, body_items}
-use Rattle.tape_writer.specs.Draft.{ended_volumes}
-use Rattle.tape_writer.specs.Inside.{IsFlat, IsBetween, IsFiling}
+use Rattle.tape_writer.specs.{Labels.IsReady, Labels.volume_label, Labels.header_items}
+use Rattle.tape_writer.specs.{Draft.ended_volumes, Inside.IsFlat, Inside.IsBetween, Inside.IsFiling}
 use Rattle.tape_writer.proofs.{Sections.vol1_size, Steps.begun, Held.label_at, Held.in_range}
 use Rattle.tape_writer.proofs.{Filed.filed, Filed.filed_push, Filed.filed_many, Finish.written_set}
 

@@ -1,12 +1,12 @@
 -- Proofs of the test cases for tapes, for the files passed to a writer, and for its refusals.
-use Rattle.std.proofs.Common.{◌≡◌, ℕ, List, [], refl, sym, ap, ◌∙◌, arith, subst, inl, inr, Some}
-use Rattle.std.proofs.Common.{◌≤◌, ◌⊎◌}
-use Rattle.tape_image.specs.Writer.{Writer, writing, broken}
-use Rattle.tape_blocks.specs.{Packing.HasRecordLength, Spans.Joined}
-use Rattle.tape_writer.specs.{Images.TakesNoMore, Tapes.Tapes, Told.Told}
+use Rattle.tape_writer.proofs.Words.{◌≡◌, ℕ, List, [], refl, sym, ap, ◌∙◌, arith, subst, inl, inr}
+use Rattle.tape_writer.proofs.Words.{Some, ◌≤◌, ◌⊎◌, Writer, writing, HasRecordLength}
+use Rattle.tape_image.specs.Writer.{broken}
+use Rattle.tape_blocks.specs.Spans.{Joined}
 use Rattle.tape_writer.specs.State.{SetState, IsWriting, Stands}
-use Rattle.tape_writer.specs.declared.phase.Phase.TheVariants as phases
 use Rattle.tape_writer.specs.Cases.{CasesOfTapes, CasesOfImages, CasesOfSets, CasesOfRefusals}
+use Rattle.tape_writer.specs.{Images.TakesNoMore, Tapes.Tapes, Told.Told}
+use Rattle.tape_writer.specs.declared.phase.Phase.TheVariants as phases
 
 pub cases_of_tapes : CasesOfTapes
 cases_of_tapes = record {

@@ -1,17 +1,15 @@
 -- Proofs of the test cases for sets that are being written.
-use Rattle.std.proofs.Common.{◌≡◌, ◌≤◌, ℕ, ◌+◌, List, [], ◌∷◌, refl, sym, arith, inl, inr, false}
-use Rattle.tape_image.specs.Tape.{block}
-use Rattle.tape_label.specs.declared.values.Vol1.{Vol1}
+use Rattle.tape_writer.proofs.Words.{◌≡◌, ◌≤◌, ℕ, ◌+◌, List, [], ◌∷◌, refl, sym, arith, inl, inr}
+use Rattle.tape_writer.proofs.Words.{false, block, Vol1, Placed, Volume, items_size}
 use Rattle.tape_blocks.specs.Packing.{the_packing}
 use Rattle.tape_blocks.proofs.RunLaws.{run_begins}
-use Rattle.tape_set.specs.{Layout.Placed, Layout.Volume, Sizes.items_size}
-use Rattle.tape_writer.specs.declared.course.{Opened.Opened, Course.Course}
+use Rattle.tape_writer.specs.declared.{course.Opened.Opened, course.Course.Course}
 use Rattle.tape_writer.specs.CasesOfDrafts.{CasesOfDrafts, CasesOfInside, nothing_yet, as_placed}
-use Rattle.tape_writer.specs.CasesOfDrafts.{first_course, first_items}
 use Rattle.tape_writer.specs.Draft.{OfLast, IsDone, Steady, IsOpen, IsResting}
 use Rattle.tape_writer.specs.Inside.{IsBetween, IsFiling, IsFlat, IsWaiting}
-use Rattle.tape_writer.specs.{Labels.IsReady, Labels.volume_label, Told.Told, Told.labelled}
-use Rattle.tape_writer.specs.Tapes.{Tapes, Ended, UnderWay}
+use Rattle.tape_writer.specs.{CasesOfDrafts.first_course, CasesOfDrafts.first_items, Labels.IsReady}
+use Rattle.tape_writer.specs.{Labels.volume_label, Told.Told, Told.labelled, Tapes.Tapes}
+use Rattle.tape_writer.specs.{Tapes.Ended, Tapes.UnderWay}
 
 of_none : (P : List Placed → Placed → Type 0) → OfLast [] P
 of_none P [] x e = absurd (cc e)

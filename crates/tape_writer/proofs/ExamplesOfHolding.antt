@@ -1,5 +1,5 @@
 -- Proofs of the test cases for write buffers.
-use Rattle.std.proofs.Common.{◌≡◌, length, true, false, refl, sym, ap, ◌∙◌, arith}
+use Rattle.tape_writer.proofs.Words.{◌≡◌, length, true, false, refl, sym, ap, ◌∙◌, arith}
 use Rattle.tape_writer.specs.CasesOfHolding.{CasesOfHolding}
 
 pub cases_of_holding : CasesOfHolding

@@ -1,18 +1,17 @@
 -- Proofs of the test cases for sets written from inputs.
-use Rattle.std.proofs.Common.{◌≡◌, ◌⊎◌, ℕ, List, [], ◌∷◌, ◌++◌, length, Option, Some, IfSome, refl}
-use Rattle.std.proofs.Common.{inl, inr, subst, arith, ap}
-use Rattle.std.specs.Io.KnownBytes.{prepend_known}
-use Rattle.tape_label.specs.declared.values.Head1.{Head1}
-use Rattle.tape_blocks.specs.declared.parts.Shape.{Shape}
-use Rattle.tape_blocks.specs.Packing.{HasRecordLength}
-use Rattle.tape_writer.specs.declared.fault.{SetFault.SetFault, SetFault.TheVariants.Write}
-use Rattle.tape_writer.specs.declared.inputs.cut.Cut.{Cut}
-use Rattle.tape_writer.specs.declared.fault.WriteFault.TheVariants as faults
-use Rattle.tape_writer.specs.{NoVolume.GaveUp, Records.records_of, State.SetState, Tapes.Tapes}
-use Rattle.tape_writer.specs.{Told.with_file, ToldFiles.told_files, ToldFiles.IfAllKnown}
-use Rattle.tape_writer.specs.CasesOfInputs.{CasesOfInputs, CasesOfSetFaults}
-use Rattle.tape_writer.proofs.Fitting.{within_longest, has_longest}
+use Rattle.tape_writer.proofs.Words.{◌≡◌, ◌⊎◌, ℕ, List, [], ◌∷◌, ◌++◌, length, Option, Some, IfSome}
+use Rattle.tape_writer.proofs.Words.{refl, inl, inr, subst, arith, ap, prepend_known, Head1, Shape}
+use Rattle.tape_writer.proofs.Words.{HasRecordLength}
+use Rattle.tape_writer.specs.declared.{fault.SetFault.SetFault, fault.SetFault.TheVariants.Write}
+use Rattle.tape_writer.specs.declared.{inputs.cut.Cut.Cut, inputs.set.SetPlan.SetPlan}
+use Rattle.tape_writer.specs.LeftOf.{GaveUp, HasNoVolume, GaveUpSet}
+use Rattle.tape_writer.specs.CasesOfInputs.{CasesOfInputs, CasesOfSetFaults, CasesOfWritten}
 use Rattle.tape_writer.specs.WriteFaults.{OneIsOther, IsFileFault, IsFilesFault, IsWholeFault}
+use Rattle.tape_writer.specs.{Records.records_of, State.SetState, Tapes.Tapes, Tapes.Ended}
+use Rattle.tape_writer.specs.{Told.with_file, ToldFiles.told_files, ToldFiles.IfAllKnown}
+use Rattle.tape_writer.specs.{CasesOfInputs.CasesOfRecordLaws, WriteSet.cut_of}
+use Rattle.tape_writer.proofs.inputs.Cutting.{within_longest, has_longest}
+use Rattle.tape_writer.specs.declared.fault.WriteFault.TheVariants as faults
 
 -- the only input of a set is the first one
 first_of : (tapes : Tapes) (w : SetState ℕ) (id : List ℕ) (shape : Shape) (cut : Cut)
@@ -111,4 +110,35 @@ cases_of_set_faults = record {
   some_file = some_file;
   not_cut = λ plan given fault h. h;
   cut_so = λ plan given cut fault h. h;
+}
+
+no_volume : (plan : SetPlan) (cut : Cut) (given : List (Head1 × Option (List ℕ)))
+    → cut_of plan.form plan.shape ≡ Some cut
+    → HasNoVolume {T = ℕ} (λ n t. t ≡ Ended []) (λ n. n ≡ 7) plan given
+    → (length plan.volumes.items ≡ 0)
+    ⊎ GaveUpSet {T = ℕ} (λ n t. t ≡ Ended []) (λ n. n ≡ 7) plan cut given
+no_volume plan cut given e h = subst (λ c. (length plan.volumes.items ≡ 0)
+    ⊎ IfSome c (λ cut. GaveUpSet {T = ℕ} (λ n t. t ≡ Ended []) (λ n. n ≡ 7) plan cut given)) e h
+
+pub cases_of_written : CasesOfWritten
+cases_of_written = record {
+  as_of_a_device = λ n. (refl, refl);
+  its_sections = λ capacity t f i. (i.is_file, i.labels);
+  its_number = λ file x o. o.number;
+  begun_behind = λ id t head shape. refl;
+  of_images = λ given volumes capacity id told w. w.held.1;
+  set_failed = λ old new h. h refl;
+  set_fault = λ plan given fault h. h;
+  no_volume = no_volume;
+}
+
+pub cases_of_record_laws : CasesOfRecordLaws
+cases_of_record_laws = record {
+  lines_are_cut = λ law line rest one all. law (line ∷ []) rest (one, tt) all;
+  pieces_are_cut = λ law piece rest less.
+      law (length piece) (piece ∷ []) rest (omega (arith, less)) (refl, tt) less;
+  whole_is_one = λ law bytes. law bytes;
+  a_line = (λ e. absurd (omega (arith, e)), (λ e. absurd (omega (arith, e)), tt));
+  no_line = λ l. l.1.0 refl;
+  ended = refl;
 }

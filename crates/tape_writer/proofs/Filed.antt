@@ -1,25 +1,24 @@
 -- A file that has ended is valid and tight.
-use Rattle.std.proofs.Common.{◌≡◌, ◌≤◌, ℕ, suc, ◌+◌, List, [], ◌∷◌, ◌++◌, length, Bool, true, refl}
-use Rattle.std.proofs.Common.{sym, ap, subst, arith, if◌then◌else◌}
-use Rattle.std.specs.List.{AllByRecursion}
-use Rattle.tape_label.specs.declared.values.Kind.TheVariants as kinds
-use Rattle.tape_label.specs.declared.values.Format.{Format}
+use Rattle.tape_writer.proofs.Words.{◌≡◌, ◌≤◌, ℕ, suc, ◌+◌, List, [], ◌∷◌, ◌++◌, length, Bool, true}
+use Rattle.tape_writer.proofs.Words.{refl, sym, ap, subst, arith, if◌then◌else◌, AllByRecursion}
+use Rattle.tape_writer.proofs.Words.{Format, Portion, Filled, Section, Placed, numbered}
+use Rattle.tape_writer.proofs.Words.{blocks_of_all, least_capacity, every}
 use Rattle.tape_label.specs.declared.values.Format.TheVariants.{Fixed, Counted, Spanned}
-use Rattle.tape_label.specs.{Head1.IsHead1, Head2.IsHead2, Trail1.IsTrail1}
-use Rattle.tape_blocks.specs.Block.{Portion, IsUnit, Holds}
-use Rattle.tape_blocks.specs.{Records.AreRecordsOf, Tight.Filled, Tight.IsWritten}
-use Rattle.tape_blocks.specs.Tight as packing
-use Rattle.tape_set.specs.Layout.{Section, Placed, numbered, ends_file}
-use Rattle.tape_set.specs.Before.{blocks_of_all}
+use Rattle.tape_label.specs.Head1.{IsHead1}
+use Rattle.tape_label.specs.Head2.{IsHead2}
+use Rattle.tape_label.specs.Trail1.{IsTrail1}
+use Rattle.tape_blocks.specs.{Block.IsUnit, Block.Holds, Records.AreRecordsOf, Tight.IsWritten}
+use Rattle.tape_set.specs.Layout.{ends_file}
 use Rattle.tape_set.specs.Lawful.{Ends, FileForm, TellsForm, HasForm, binding_len, form_of}
-use Rattle.tape_set.specs.Tight.{HasPlainLabels, second_of, second_trailer, least_capacity}
-use Rattle.tape_set.proofs.Everywhere.{every, every_front, every_rest}
+use Rattle.tape_set.specs.Tight.{HasPlainLabels, second_of, second_trailer}
+use Rattle.tape_set.proofs.Everywhere.{every_front, every_rest}
 use Rattle.tape_writer.specs.declared.course.Opened.{Opened}
 use Rattle.tape_writer.specs.Labels.{IsReady, head_at, trailer_at, second_label, second_kind}
 use Rattle.tape_writer.specs.{Told.IsOfFile, Told.Told, Told.IsFiled, Told.AreFiled, Draft.IsGoing}
-use Rattle.tape_writer.proofs.LabelLaws.{first_is, second_is, trailer_is}
-use Rattle.tape_writer.proofs.LabelLaws
-use Rattle.tape_writer.proofs.{Sections.second_kind_is, Lists.all_push, Lists.numbered-push}
+use Rattle.tape_writer.proofs.Sections.{first_is, second_is, trailer_is, second_kind_is}
+use Rattle.tape_writer.proofs.{Sections.trailer_ends, Volumes.all_push, Volumes.numbered-push}
+use Rattle.tape_label.specs.declared.values.Kind.TheVariants as kinds
+use Rattle.tape_blocks.specs.Tight as packing
 
 abbrev pub form_by : Opened → FileForm
 form_by file = form_of file.head (second_of file.shape)
@@ -42,7 +41,7 @@ trailer_by s eof e = ap (λ b. if b then kinds.Eof2 else kinds.Eov2) e
 plain : (file : Opened) (x : Placed) → IsReady file → IsOfFile file x
     → HasPlainLabels file.shape x.section
 plain file x r is =
-    let ends : ends_file x.section ≡ is.eof = LabelLaws.ends_by x.section.trailer
+    let ends : ends_file x.section ≡ is.eof = trailer_ends x.section.trailer
     (trailer_at file x.sect (length x.section.blocks) is.eof) (subst
     (λ l. IsTrail1 l (trailer_at file x.sect (length x.section.blocks) is.eof)) (sym is.trailer)
     (trailer_is file x.sect (length x.section.blocks) is.eof r is.number.0 is.number.1)) in

@@ -1,24 +1,20 @@
 -- The set is finished: its volumes are those of a valid, tight set.
-use Rattle.std.proofs.Common.{◌≡◌, ◌≢◌, ◌<◌, ◌≤◌, ℕ, zero, suc, ◌+◌, List, [], ◌∷◌, ◌++◌, length}
-use Rattle.std.proofs.Common.{Some, refl, sym, ap, ◌∙◌, subst, arith, take, add-one, map, slice_get}
-use Rattle.std.specs.List.{AllByRecursion}
-use Rattle.std.proofs.lemmas.List.{map-append, append-nil}
-use Rattle.tape_image.specs.Tape.{mark}
-use Rattle.tape_label.specs.declared.values.Vol1.{Vol1}
-use Rattle.tape_set.specs.Layout.{FileSet, Section, Placed, Volume, a_mark, nth, sections, on}
-use Rattle.tape_set.specs.Layout.{all_entries, numbered, all_numbered, group_of, entries_on}
-use Rattle.tape_set.specs.Layout.{item_of, header_group, data_group, items, first_items, all_items}
-use Rattle.tape_set.specs.{Sizes.entries_size, Lawful.IsVolume, Lawful.IsFile, Lawful.IsSection}
-use Rattle.tape_set.specs.Tight.{IsTightEnd, IsTightChange, AreTightFiles, EachBehind, ChainBehind}
-use Rattle.tape_set.specs.Tight.{used_before, last_volume}
-use Rattle.tape_set.proofs.{Measures.items_size-append, Everywhere.every}
+use Rattle.tape_writer.proofs.Words.{◌≡◌, ◌≢◌, ◌<◌, ◌≤◌, ℕ, zero, suc, ◌+◌, List, [], ◌∷◌, ◌++◌}
+use Rattle.tape_writer.proofs.Words.{length, Some, refl, sym, ap, ◌∙◌, subst, arith, take, add-one}
+use Rattle.tape_writer.proofs.Words.{map, slice_get, AllByRecursion, map-append, append-nil, mark}
+use Rattle.tape_writer.proofs.Words.{Vol1, Section, Placed, Volume, a_mark, on, all_entries}
+use Rattle.tape_writer.proofs.Words.{numbered, all_numbered, group_of, item_of, IsSection}
+use Rattle.tape_writer.proofs.Words.{IsTightChange, used_before, items_size-append, every}
+use Rattle.tape_writer.proofs.Words.{IsWideVolume}
+use Rattle.tape_set.specs.Layout.{FileSet, nth, sections, entries_on, header_group, data_group}
+use Rattle.tape_set.specs.Layout.{items, first_items, all_items}
+use Rattle.tape_set.specs.Tight.{IsTightEnd, AreTightFiles, EachBehind, ChainBehind, last_volume}
+use Rattle.tape_set.specs.{Sizes.entries_size, Lawful.IsVolume, Lawful.IsFile}
 use Rattle.tape_writer.specs.declared.course.Course.{Course}
-use Rattle.tape_writer.specs.Tapes.{Tapes, Ended}
-use Rattle.tape_label.specs.Widths.{IsWideVolume}
 use Rattle.tape_writer.specs.Told.{labelled, IsWithin, Told, AreFiled, IsWrittenSet}
 use Rattle.tape_writer.specs.Draft.{Draft, placed, body, first_volumes, body_items, ended_volumes}
-use Rattle.tape_writer.specs.Draft.{IsDone, Between, OfLast}
-use Rattle.tape_writer.proofs.{LabelLaws.vol1_is, Lists.all_push, Volumes.first_next}
+use Rattle.tape_writer.specs.{Tapes.Tapes, Tapes.Ended, Draft.IsDone, Draft.Between, Draft.OfLast}
+use Rattle.tape_writer.proofs.{Sections.vol1_is, Volumes.all_push, Volumes.first_next}
 
 abbrev pub set_of : List Vol1 → List ℕ → Draft → FileSet
 set_of vs set_id d =

@@ -1,26 +1,22 @@
 -- The steps of the writer, with the contents of the tapes.
-use Rattle.std.proofs.Common.{◌≡◌, ◌<◌, ◌≤◌, ℕ, zero, suc, ◌+◌, List, [], ◌∷◌, ◌++◌, length, true}
-use Rattle.std.proofs.Common.{false, Some, refl, sym, ap, ◌∙◌, subst, append_assoc, arith, get_or}
-use Rattle.std.proofs.Common.{map, slice_get, OnOk, Result, Ok, Err, option_map}
-use Rattle.std.proofs.lemmas.List.{append-nil, length-map}
+use Rattle.tape_writer.proofs.Words.{◌≡◌, ◌<◌, ◌≤◌, ℕ, zero, suc, ◌+◌, List, [], ◌∷◌, ◌++◌, length}
+use Rattle.tape_writer.proofs.Words.{true, false, Some, refl, sym, ap, ◌∙◌, subst, append_assoc}
+use Rattle.tape_writer.proofs.Words.{arith, get_or, map, slice_get, OnOk, Result, Ok, Err}
+use Rattle.tape_writer.proofs.Words.{option_map, append-nil, length-map, Vol1, TapeItem, block}
+use Rattle.tape_writer.proofs.Words.{mark, Filled, Section, blocks_of_all, item_size, IsWideVolume}
+use Rattle.tape_writer.proofs.Words.{lt-leb}
 use Rattle.std.proofs.lemmas.{Option.slice_get-map, Grind.flat_map-append}
-use Rattle.tape_label.specs.declared.values.Vol1.{Vol1}
-use Rattle.tape_image.specs.Tape.{TapeItem, block, mark}
-use Rattle.tape_blocks.specs.Tight.{Filled}
-use Rattle.tape_set.specs.{Layout.Section, Before.blocks_of_all, Sizes.item_size}
-use Rattle.tape_writer.specs.declared.course.{Opened.Opened, Course.Course}
-use Rattle.tape_writer.specs.declared.fault.WriteFault.{WriteFault}
-use Rattle.tape_writer.specs.{Tapes.Tapes, Tapes.UnderWay, Tapes.Takes, Told.labelled}
-use Rattle.tape_label.specs.Widths.{IsWideVolume}
+use Rattle.tape_writer.specs.declared.{course.Opened.Opened, course.Course.Course}
+use Rattle.tape_writer.specs.declared.{fault.WriteFault.WriteFault}
 use Rattle.tape_writer.specs.Labels.{volume_label, header_items, trailer_items}
 use Rattle.tape_writer.specs.Draft.{Draft, open_blocks, closing, here, body_items, open_items}
 use Rattle.tape_writer.specs.Draft.{ended_volumes, Within, Steady, changed_draft, changed_course}
 use Rattle.tape_writer.specs.Draft.{ended_draft, added_draft, added_course, ended_course, IsOpen}
 use Rattle.tape_writer.specs.Draft.{Grew, Closed, changed_tapes}
+use Rattle.tape_writer.specs.{Tapes.Tapes, Tapes.UnderWay, Tapes.Takes, Told.labelled}
 use Rattle.tape_writer.proofs.Sections.{ends_by, of_file}
 use Rattle.tape_writer.proofs.Changed.{changed, ended_changed, open_changed}
 use Rattle.tape_writer.proofs.Steps.{added_here, added_next, open_added, ended}
-use Rattle.std.proofs.lemmas.Bool.{lt-leb}
 
 pub label_at : (vs : List Vol1) (k : ℕ) (v : Vol1) → slice_get vs k ≡ Some v
     → slice_get (map labelled vs) k ≡ Some (labelled v)

@@ -1,11 +1,8 @@
 -- Properties that sequences of calls preserve.
-use Rattle.std.proofs.Common.{◌≡◌, ◌≤◌, ℕ, ◌+◌, List, [], ◌∷◌, ◌++◌, refl, sym, ◌∙◌, subst}
-use Rattle.std.proofs.Common.{append_assoc, arith, inl, inr}
-use Rattle.std.proofs.lemmas.List.{append-nil}
-use Rattle.tape_image.specs.Tape.{TapeItem}
-use Rattle.tape_set.specs.Sizes.{item_size}
-use Rattle.tape_set.proofs.Measures.{items_size-append}
-use Rattle.tape_writer.specs.Tapes.{Tapes, UnderWay, Rose, Failures, Grows}
+use Rattle.tape_writer.proofs.Words.{◌≡◌, ◌≤◌, ℕ, ◌+◌, List, [], ◌∷◌, ◌++◌, refl, sym, ◌∙◌, subst}
+use Rattle.tape_writer.proofs.Words.{append_assoc, arith, inl, inr, append-nil, TapeItem, item_size}
+use Rattle.tape_writer.proofs.Words.{items_size-append, Vol1}
+use Rattle.tape_writer.specs.Tapes.{Tapes, UnderWay, Rose, Failures, Grows, WasAsked}
 use Rattle.tape_writer.specs.Lasting.{Lasting}
 
 pub rose_from : (a b c : ℕ) → a ≤ b → Rose b c → Rose a c
@@ -66,3 +63,9 @@ lasting_self H n u = lasting_err H H n n u u (λ t h. h) (omega arith, omega ari
 
 -- the facts that a sequence of calls requires of each call
 pub ruleset kept = (lasting_then, lasting_self, rose_from)
+
+-- the same for an equal list of volumes
+pub asked_of : (A B : Vol1 → Type 0) (us vs : List Vol1) (n m : ℕ) → us ≡ vs
+    → (WasAsked A us n → WasAsked B us m) → WasAsked A vs n → WasAsked B vs m
+asked_of A B us vs n m e = subst (λ ws. (WasAsked A us n → WasAsked B us m)
+    → WasAsked A ws n → WasAsked B ws m) e (λ f. f)

@@ -1,28 +1,25 @@
 -- The contents of the tapes after a refused call, in terms of the files and records passed to the
 -- writer.
-use Rattle.std.proofs.Common.{◌≡◌, ◌≢◌, ◌≤◌, ℕ, ◌+◌, List, [], ◌∷◌, ◌++◌, length, refl, sym, ap}
-use Rattle.std.proofs.Common.{◌∙◌, subst, inl, inr, arith, drop, IfErr, Result, Ok, Err}
-use Rattle.std.proofs.lemmas.List.{length-map}
-use Rattle.tape_label.specs.declared.values.{Vol1.Vol1, Head1.Head1}
-use Rattle.tape_blocks.specs.declared.{parts.Shape.Shape, offer.Offer.TheVariants.BlockReady}
-use Rattle.tape_blocks.specs.Block.{Portion}
-use Rattle.tape_blocks.specs.Packing.{Packing, IsJudged, Offers, emptied}
-use Rattle.tape_set.specs.{Layout.Section, Tight.least_capacity}
-use Rattle.tape_writer.specs.declared.course.{Opened.Opened, Course.Course}
-use Rattle.tape_writer.specs.declared.{fault.WriteFault.WriteFault, phase.OpenFile.OpenFile}
-use Rattle.tape_writer.specs.declared.fault.WriteFault.TheVariants as faults
+use Rattle.tape_writer.proofs.Words.{◌≡◌, ◌≢◌, ◌≤◌, ℕ, ◌+◌, List, [], ◌∷◌, ◌++◌, length, refl, sym}
+use Rattle.tape_writer.proofs.Words.{ap, ◌∙◌, subst, inl, inr, arith, drop, IfErr, Result, Ok, Err}
+use Rattle.tape_writer.proofs.Words.{length-map, Vol1, Head1, Shape, Portion, Packing, IsJudged}
+use Rattle.tape_writer.proofs.Words.{Offers, emptied, Section, least_capacity}
+use Rattle.tape_blocks.specs.declared.offer.Offer.TheVariants.{BlockReady}
+use Rattle.tape_writer.specs.declared.course.Opened.{Opened}
+use Rattle.tape_writer.specs.declared.course.Course.{Course}
+use Rattle.tape_writer.specs.declared.fault.WriteFault.{WriteFault}
+use Rattle.tape_writer.specs.declared.phase.OpenFile.{OpenFile}
 use Rattle.tape_writer.specs.declared.phase.Phase.TheVariants.{Between, Filing, Failed}
-use Rattle.tape_writer.specs.{Tapes.Tapes, Tapes.Ended, State.SetState, State.IsWriting}
 use Rattle.tape_writer.specs.Told.{Told, AreFiled, IsWrittenSet, opened_by, with_record}
-use Rattle.tape_writer.specs.Draft.{Draft, IsOpen, Closed}
 use Rattle.tape_writer.specs.Inside.{IsInside, IsPacking, IsFlat, Flushed, IsBetween, IsFiling}
-use Rattle.tape_writer.specs.Inside.{IsWaiting}
 use Rattle.tape_writer.specs.Front.{HoldsFront, IsMidRecord, IsPartly, IsInLast, IsEndingLast}
-use Rattle.tape_writer.specs.Front.{IsLeftInside}
+use Rattle.tape_writer.specs.{Tapes.Tapes, Tapes.Ended, State.SetState, State.IsWriting}
+use Rattle.tape_writer.specs.{Draft.Draft, Draft.IsOpen, Draft.Closed, Inside.IsWaiting}
+use Rattle.tape_writer.specs.{Front.IsLeftInside}
+use Rattle.tape_writer.proofs.Fronts.{front_here, is_out, inside_left, packing_left, flat_left}
 use Rattle.tape_writer.proofs.{Changed.not_nil, Packed.packing_with, Packed.flat_with}
-use Rattle.tape_writer.proofs.{Ends.between_with, Fronts.front_here, Fronts.is_out, Calls.last_told}
-use Rattle.tape_writer.proofs.Calls.{with_last}
-use Rattle.tape_writer.proofs.Standing.{inside_left, packing_left, flat_left, waits}
+use Rattle.tape_writer.proofs.{Ends.between_with, Fronts.waits, Calls.last_told, Calls.with_last}
+use Rattle.tape_writer.specs.declared.fault.WriteFault.TheVariants as faults
 
 -- ---- inside a file
 

@@ -1,8 +1,6 @@
-pub mod LabelLaws
+pub mod Words
 pub mod Last
 pub mod Fronts
-pub mod Asked
-pub mod Lists
 pub mod Volumes
 pub mod Sections
 pub mod Changed
@@ -15,18 +13,13 @@ pub mod Filed
 pub mod Finish
 pub mod Ends
 pub mod Calls
-pub mod Standing
 pub mod Left
 pub mod Closing
 pub mod Written
-pub mod Fitting
-pub mod HoldingLaws
 pub mod Examples
 pub mod ExamplesOfInputs
-pub mod ExamplesOfWritten
 pub mod ExamplesOfFronts
 pub mod ExamplesOfDrafts
 pub mod ExamplesOfHolding
 pub mod Paths
 mod Mistakes
-mod MistakesOfBlanks

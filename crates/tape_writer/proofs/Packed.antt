@@ -1,22 +1,19 @@
 -- The bytes of a record, in one block after another.
-use Rattle.std.proofs.Common.{◌≡◌, ◌≢◌, ◌<◌, ◌≤◌, ℕ, List, [], ◌∷◌, ◌++◌, length, false, None, refl}
-use Rattle.std.proofs.Common.{sym, ap, ◌∙◌, subst, inl, inr, arith, drop, OnOk, IfErr, Result, Ok}
-use Rattle.std.proofs.Common.{Err, ◌⊎◌}
-use Rattle.tape_label.specs.declared.values.Vol1.{Vol1}
-use Rattle.tape_blocks.specs.declared.parts.Shape.{Shape}
+use Rattle.tape_writer.proofs.Words.{◌≡◌, ◌≢◌, ◌<◌, ◌≤◌, ℕ, List, [], ◌∷◌, ◌++◌, length, false}
+use Rattle.tape_writer.proofs.Words.{None, refl, sym, ap, ◌∙◌, subst, inl, inr, arith, drop, OnOk}
+use Rattle.tape_writer.proofs.Words.{IfErr, Result, Ok, Err, ◌⊎◌, Vol1, Shape, Portion, Filled}
+use Rattle.tape_writer.proofs.Words.{Packing, Given, IsJudged, IsWritable, HasRecordLength, Offers}
+use Rattle.tape_writer.proofs.Words.{emptied, offers_shape, Section}
 use Rattle.tape_blocks.specs.declared.offer.Offer.TheVariants.{Taken, BlockReady}
-use Rattle.tape_blocks.specs.{Block.Portion, Run.Going, Tight.Filled}
-use Rattle.tape_blocks.specs.Packing.{Packing, Given, IsJudged, IsWritable, HasRecordLength, Offers}
-use Rattle.tape_blocks.specs.Packing.{emptied}
-use Rattle.tape_blocks.specs.Tight as packing
-use Rattle.tape_blocks.proofs.RunLaws.{filled_of, offers_shape, going_length, going_ends}
-use Rattle.tape_blocks.proofs.RunLaws.{going_block, run_last, run_none}
-use Rattle.tape_set.specs.Layout.{Section}
-use Rattle.tape_writer.specs.declared.course.{Opened.Opened, Course.Course}
+use Rattle.tape_blocks.specs.Run.{Going}
+use Rattle.tape_blocks.proofs.RunLaws.{filled_of, going_length, going_ends, going_block, run_last}
+use Rattle.tape_blocks.proofs.RunLaws.{run_none}
+use Rattle.tape_writer.specs.declared.{course.Opened.Opened, course.Course.Course}
 use Rattle.tape_writer.specs.declared.{fault.WriteFault.WriteFault, tape.Tape.Tape}
 use Rattle.tape_writer.specs.{Tapes.Tapes, Draft.Draft, Draft.IsOpen, Draft.Grew, Draft.open_blocks}
-use Rattle.tape_writer.specs.Inside.{IsInside, IsPacking, Flushed, IsFlat}
-use Rattle.tape_writer.proofs.Lists.{all_push}
+use Rattle.tape_writer.specs.{Inside.IsInside, Inside.IsPacking, Inside.Flushed, Inside.IsFlat}
+use Rattle.tape_writer.proofs.Volumes.{all_push}
+use Rattle.tape_blocks.specs.Tight as packing
 
 -- ---- a block that is returned has bytes
 

@@ -1,9 +1,9 @@
 -- The directory and the name in a path.
-use Rattle.std.proofs.Common.{◌≡◌, ◌≢◌, ◌<◌, ◌+◌, ℕ, zero, suc, List, [], ◌∷◌, ◌++◌, length, get_or}
-use Rattle.std.proofs.Common.{take, drop, codes, refl, sym, ap, subst, ◌∙◌, inl, inr, arith}
-use Rattle.std.proofs.Common.{MatchOption, Option, Some, None}
-use Rattle.std.proofs.lemmas.List.{drop_more, get_or-drop, length-drop, length-take-le}
-use Rattle.std.proofs.lemmas.List.{take-append-drop}
+use Rattle.tape_writer.proofs.Words.{◌≡◌, ◌≢◌, ◌<◌, ◌+◌, ℕ, zero, suc, List, [], ◌∷◌, ◌++◌, length}
+use Rattle.tape_writer.proofs.Words.{get_or, take, drop, codes, refl, sym, ap, subst, ◌∙◌, inl, inr}
+use Rattle.tape_writer.proofs.Words.{arith, Option, Some, None, drop_more, length-take-le}
+use Rattle.std.proofs.Common.{MatchOption}
+use Rattle.std.proofs.lemmas.List.{get_or-drop, length-drop, take-append-drop}
 use Rattle.tape_writer.specs.System.{IsPathOf}
 
 -- the last slash of a path is at this index

@@ -1,18 +1,18 @@
 -- Each record uses up room of the writer.
-use Rattle.std.proofs.Common.{◌≡◌, inl, inr, ℕ, ◌+◌, ◌-◌, ◌*◌, ◌<◌, ◌≤◌, List, [], ◌∷◌, ◌++◌}
-use Rattle.std.proofs.Common.{length, Bool, true, false, refl, sym, ap, subst, ◌∙◌, arith}
-use Rattle.std.proofs.Common.{length-append, replicate, Result, Ok, Err, OnOk}
-use Rattle.std.proofs.{Math.Nat.add-mul, lemmas.List.length-replicate}
-use Rattle.tape_image.specs.Tape.{block}
-use Rattle.tape_label.specs.declared.values.Format.{Format}
+use Rattle.tape_writer.proofs.Words.{◌≡◌, inl, inr, ℕ, ◌+◌, ◌-◌, ◌<◌, ◌≤◌, List, [], ◌∷◌, ◌++◌}
+use Rattle.tape_writer.proofs.Words.{length, Bool, true, false, refl, sym, ap, subst, ◌∙◌, arith}
+use Rattle.tape_writer.proofs.Words.{length-append, Result, Ok, Err, OnOk, block, Format, Shape}
+use Rattle.tape_writer.proofs.Words.{Portion, Packing, Given, IsJudged, IsWritable, HasRecordLength}
+use Rattle.tape_writer.proofs.Words.{Offers, emptied, item_size}
+use Rattle.std.proofs.Common.{◌*◌, replicate}
+use Rattle.std.proofs.Math.Nat.{add-mul}
+use Rattle.std.proofs.lemmas.List.{length-replicate}
 use Rattle.tape_label.specs.declared.values.Format.TheVariants.{Fixed, Counted, Spanned}
-use Rattle.tape_blocks.specs.declared.parts.Shape.{Shape}
 use Rattle.tape_blocks.specs.declared.offer.Offer.TheVariants.{Taken, BlockReady}
-use Rattle.tape_blocks.specs.{Block.Portion, Block.spellings, Block.head_len, Spans.span_of}
-use Rattle.tape_blocks.specs.Packing.{Packing, Given, IsJudged, IsWritable, HasRecordLength, Offers}
-use Rattle.tape_blocks.specs.Packing.{HasWritableRecords, emptied, size_of, padded_len}
+use Rattle.tape_blocks.specs.Block.{spellings, head_len}
+use Rattle.tape_blocks.specs.Spans.{span_of}
+use Rattle.tape_blocks.specs.Packing.{HasWritableRecords, size_of, padded_len}
 use Rattle.tape_blocks.proofs.PackLaws.{size_push}
-use Rattle.tape_set.specs.Sizes.{item_size}
 use Rattle.tape_writer.specs.declared.{course.Course.Course, fault.WriteFault.WriteFault}
 use Rattle.tape_writer.specs.{Draft.added_course, Draft.changed_course, Room.room_of}
 

@@ -1,29 +1,23 @@
 -- After each step of the writer the set written so far is still a draft of a valid, tight set.
-use Rattle.std.proofs.Common.{◌≡◌, ◌<◌, ◌≤◌, ℕ, ◌+◌, List, [], ◌∷◌, ◌++◌, length, Bool, true, false}
-use Rattle.std.proofs.Common.{Some, refl, sym, ap, ◌∙◌, subst, inl, append_assoc, arith}
-use Rattle.std.proofs.Common.{length-append, map, slice_get, nat_le}
-use Rattle.std.specs.List.{AllByRecursion}
-use Rattle.std.proofs.lemmas.{List.map-append, List.append-nil, Bool.Decides.nat_tests}
-use Rattle.tape_label.specs.declared.values.Vol1.{Vol1}
-use Rattle.tape_image.specs.Tape.{block}
-use Rattle.tape_blocks.specs.Tight.{Filled}
-use Rattle.tape_set.specs.Layout.{Placed, Volume, numbered, item_of}
-use Rattle.tape_set.specs.Sizes.{item_size, items_size}
-use Rattle.tape_set.specs.Tight.{used_before, takes_end, takes_next, IsTightChange}
-use Rattle.tape_set.proofs.Measures.{items_size-append}
-use Rattle.tape_writer.specs.declared.course.{Opened.Opened, Course.Course}
-use Rattle.tape_label.specs.Widths.{IsWideVolume}
+use Rattle.tape_writer.proofs.Words.{◌≡◌, ◌<◌, ◌≤◌, ℕ, ◌+◌, List, [], ◌∷◌, ◌++◌, length, Bool, true}
+use Rattle.tape_writer.proofs.Words.{false, Some, refl, sym, ap, ◌∙◌, subst, inl, append_assoc}
+use Rattle.tape_writer.proofs.Words.{arith, length-append, map, slice_get, AllByRecursion}
+use Rattle.tape_writer.proofs.Words.{map-append, append-nil, nat_tests, Vol1, block, Filled, Placed}
+use Rattle.tape_writer.proofs.Words.{Volume, numbered, item_of, item_size, items_size, used_before}
+use Rattle.tape_writer.proofs.Words.{IsTightChange, items_size-append, IsWideVolume, ne_eqb, lt-leb}
+use Rattle.std.proofs.Common.{nat_le}
+use Rattle.tape_set.specs.Tight.{takes_end, takes_next}
+use Rattle.tape_writer.specs.declared.{course.Opened.Opened, course.Course.Course}
 use Rattle.tape_writer.specs.Labels.{IsReady, header_items, trailer_items}
-use Rattle.tape_writer.specs.Told.{labelled, IsWithin}
 use Rattle.tape_writer.specs.Draft.{Draft, placed, body, first_volumes, data_item, closing, here}
 use Rattle.tape_writer.specs.Draft.{body_items, open_items, ended_volumes, IsDone, IsGoing, OfLast}
 use Rattle.tape_writer.specs.Draft.{Between, Within, Steady, changed_draft, changed_course}
 use Rattle.tape_writer.specs.Draft.{ended_draft, added_draft, added_course, ended_course}
-use Rattle.tape_writer.specs.Draft.{begun_course}
-use Rattle.tape_writer.proofs.{Lists.all_push, Volumes.first_same}
+use Rattle.tape_writer.specs.{Told.labelled, Told.IsWithin, Draft.begun_course}
+use Rattle.tape_writer.proofs.Volumes.{all_push, first_same}
 use Rattle.tape_writer.proofs.Sections.{header_size, trailer_size, used_is}
 use Rattle.tape_writer.proofs.Changed.{files_next, last_is, not_nil, done_push, body_ended, changed}
-use Rattle.std.proofs.lemmas.Bool.{ne_eqb, lt-leb, le-leb}
+use Rattle.std.proofs.lemmas.Bool.{le-leb}
 
 pub open_added :
     (vs : List Volume) (file : Opened) (course : Course) (d : Draft) (b : Filled) (n : ℕ)

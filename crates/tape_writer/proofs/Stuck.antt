@@ -1,23 +1,19 @@
 -- The next block of the records does not fit, and no volume is left.
-use Rattle.std.proofs.Common.{◌≡◌, ◌<◌, ◌≤◌, ℕ, ◌+◌, List, [], ◌∷◌, ◌++◌, length, false, None, refl}
-use Rattle.std.proofs.Common.{sym, ap, ◌∙◌, subst, arith, drop}
-use Rattle.std.specs.List.{AllByRecursion}
-use Rattle.std.proofs.lemmas.List.{append-nil}
-use Rattle.tape_label.specs.declared.values.Vol1.{Vol1}
-use Rattle.tape_blocks.specs.declared.{parts.Shape.Shape, offer.Offer.TheVariants.BlockReady}
-use Rattle.tape_blocks.specs.{Block.Portion, Run.Run, Run.Going, Tight.Filled, Tight.parts_of_all}
+use Rattle.tape_writer.proofs.Words.{◌≡◌, ◌<◌, ◌≤◌, ℕ, ◌+◌, List, [], ◌∷◌, ◌++◌, length, false}
+use Rattle.tape_writer.proofs.Words.{None, refl, sym, ap, ◌∙◌, subst, arith, drop, AllByRecursion}
+use Rattle.tape_writer.proofs.Words.{append-nil, Vol1, Shape, Portion, Filled, Packing, Given}
+use Rattle.tape_writer.proofs.Words.{IsJudged, Offers, offers_shape, block, Section, item_size}
+use Rattle.tape_writer.proofs.Words.{lt-leb}
 use Rattle.tape_blocks.specs.Spans.{InOrder, Joined, span_of, join}
-use Rattle.tape_blocks.specs.Packing.{Packing, Given, IsJudged, Offers}
-use Rattle.tape_blocks.specs.Tight as packing
-use Rattle.tape_blocks.proofs.JoinLaws.{join_ends, leaves_of}
-use Rattle.tape_blocks.proofs.{LongerRuns.order_part, TightLaws.chain_of}
-use Rattle.tape_blocks.proofs.RunLaws.{filled_of, offers_shape, going_block, run_last}
-use Rattle.tape_image.specs.Tape.{block}
-use Rattle.tape_set.specs.{Layout.Section, Sizes.item_size}
-use Rattle.tape_writer.specs.declared.course.{Opened.Opened, Course.Course}
-use Rattle.tape_writer.specs.{Tapes.Tapes, Draft.open_blocks}
+use Rattle.tape_blocks.specs.{declared.offer.Offer.TheVariants.BlockReady, Run.Run, Run.Going}
+use Rattle.tape_blocks.specs.{Tight.parts_of_all}
+use Rattle.tape_blocks.proofs.RunLaws.{filled_of, going_block, run_last}
+use Rattle.tape_blocks.proofs.{JoinLaws.join_ends, JoinLaws.leaves_of, LongerRuns.order_part}
+use Rattle.tape_blocks.proofs.{TightLaws.chain_of}
+use Rattle.tape_writer.specs.declared.{course.Opened.Opened, course.Course.Course}
 use Rattle.tape_writer.specs.Inside.{IsInside, IsPacking, IsFlat, IsStuck, IsLeftOut, Continues}
-use Rattle.std.proofs.lemmas.Bool.{lt-leb}
+use Rattle.tape_writer.specs.{Tapes.Tapes, Draft.open_blocks}
+use Rattle.tape_blocks.specs.Tight as packing
 
 -- ---- the next block
 

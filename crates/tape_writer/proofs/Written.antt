@@ -1,23 +1,21 @@
 -- Images, one volume after another.
-use Rattle.std.proofs.Common.{◌≡◌, ◌≢◌, ℕ, ◌+◌, List, [], ◌∷◌, ◌++◌, Bool, true, false, Option}
-use Rattle.std.proofs.Common.{Some, inl, inr, None, Ok, Err, length, ◌%◌, replicate, refl, sym, ap}
-use Rattle.std.proofs.Common.{subst, ◌∙◌, arith, append-nil, length-append, MatchBool}
+use Rattle.tape_writer.proofs.Words.{◌≡◌, ◌≢◌, ℕ, ◌+◌, List, [], ◌∷◌, ◌++◌, Bool, true, false}
+use Rattle.tape_writer.proofs.Words.{Option, Some, inl, inr, None, Ok, Err, length, ◌%◌, refl, sym}
+use Rattle.tape_writer.proofs.Words.{ap, subst, ◌∙◌, arith, length-append, TapeItem, block, mark}
+use Rattle.tape_writer.proofs.Words.{Writer, writing, items_size, item_size, items_size-append}
+use Rattle.std.proofs.Common.{replicate, append-nil, MatchBool}
 use Rattle.byteorder.specs.Endian.{little_bytes}
-use Rattle.tape_image.specs.declared.item.Ending.TheVariants.{Marked}
-use Rattle.tape_image.specs.Tape.{TapeItem, block, mark}
-use Rattle.tape_image.specs.{Word.end_word, Written.written, Written.is_no_block}
-use Rattle.tape_image.specs.declared.item.ImageWriteFault.{ImageWriteFault}
-use Rattle.tape_image.specs.declared.item.ImageWriteFault.TheVariants as faults
-use Rattle.tape_image.specs.Writer.{Writer, Standing, writing, finished, broken, Puts, PutsFrom}
-use Rattle.tape_image.specs.Writer.{BlockFrom, PutItem}
+use Rattle.tape_image.specs.Writer.{Standing, finished, broken, Puts, PutsFrom, BlockFrom, PutItem}
+use Rattle.tape_image.specs.{declared.item.Ending.TheVariants.Marked, Word.end_word}
+use Rattle.tape_image.specs.{Written.written, Written.is_no_block}
+use Rattle.tape_image.specs.{declared.item.ImageWriteFault.ImageWriteFault}
 use Rattle.tape_image.proofs.Leads.{Leads-nil, Leads-then, Leads-before}
 use Rattle.tape_image.proofs.WrittenItems.{put_item, put_all, known_after}
-use Rattle.tape_set.specs.Sizes.{items_size, item_size}
-use Rattle.tape_set.proofs.Measures.{items_size-append}
 use Rattle.std.proofs.lemmas.List.{length-replicate}
 use Rattle.tape_writer.specs.Tapes.{Tapes, Ended, UnderWay, all_volumes}
 use Rattle.tape_writer.specs.Images.{IsNext, IsImageSoFar, IsImageOf, AreImagesOf, IsUnderWay}
 use Rattle.tape_writer.specs.Images.{AreImages}
+use Rattle.tape_image.specs.declared.item.ImageWriteFault.TheVariants as faults
 
 -- an open writer has written exactly the items
 contents_open : (items : List TapeItem) (w : Writer) (s : IsImageSoFar items w)

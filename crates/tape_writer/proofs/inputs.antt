@@ -1,12 +1,6 @@
-mod Ahead
-pub mod Splitting
-mod Pieces
-mod Cutting
-mod Putting
-mod Filing
-mod Refusing
-mod Finished
-mod Stopping
+pub mod Cutting
+pub mod Putting
+pub mod Filing
+pub mod Refusing
 mod Leaving
-mod Heads
 mod Mistakes

@@ -1,41 +1,41 @@
 -- Test cases for the definitions of tapes, of the files passed to a writer, and of its refusals.
 -- They are part of the contract of the function `laws::cases`.
+use Rattle.byteorder.specs.Endian.{little_bytes}
 use Rattle.std.specs.Prelude.{◌≡◌, ◌≢◌, ◌≤◌, ◌+◌, ℕ, List, [], ◌∷◌, ◌++◌, length, map, take, Ok}
 use Rattle.std.specs.Prelude.{Err, Option, Some, None, true, false, ◌⊎◌, Result, codes}
 use Rattle.std.specs.List.{AllByRecursion}
-use Rattle.byteorder.specs.Endian.{little_bytes}
-use Rattle.tape_image.specs.Tape.{TapeItem, bad, mark}
-use Rattle.tape_image.specs.{Word.end_word, Written.written, Spelling.Leads, Spelling.Spells}
 use Rattle.tape_image.specs.Writer.{Writer, writing, finished, broken}
-use Rattle.tape_label.specs.declared.values.{Format.TheVariants.Fixed, Head1.Head1, Vol1.Vol1}
-use Rattle.tape_label.specs.declared.values.Kind.TheVariants as kinds
-use Rattle.tape_blocks.specs.declared.parts.Shape.{Shape}
-use Rattle.tape_blocks.specs.{Packing.IsWritable, Spans.join, Run.AreClosed}
+use Rattle.tape_image.specs.{Tape.TapeItem, Tape.bad, Tape.mark, Word.end_word, Written.written}
+use Rattle.tape_image.specs.{Spelling.Leads, Spelling.Spells}
+use Rattle.tape_label.specs.{declared.values.Format.TheVariants.Fixed, declared.values.Head1.Head1}
+use Rattle.tape_label.specs.{declared.values.Vol1.Vol1}
 use Rattle.tape_blocks.specs.Tight.{Filled, Chain, IsDue, IsWritten, first_len, parts_of_all}
-use Rattle.tape_set.specs.Layout.{Section, Placed, all_items}
-use Rattle.tape_set.specs.{Lawful.IsLawful, Before.section_parts, Sizes.items_size}
+use Rattle.tape_blocks.specs.{declared.parts.Shape.Shape, Packing.IsWritable, Spans.join}
+use Rattle.tape_blocks.specs.{Run.AreClosed}
 use Rattle.tape_set.specs.Tight.{IsTight, IsTightFile, least_capacity, takes_next}
-use Rattle.tape_writer.specs.declared.course.{Course.Course, Opened.Opened}
+use Rattle.tape_set.specs.{Layout.Section, Layout.Placed, Layout.all_items, Lawful.IsLawful}
+use Rattle.tape_set.specs.{Before.section_parts, Sizes.items_size}
+use Rattle.tape_writer.specs.declared.{course.Course.Course, course.Opened.Opened}
 use Rattle.tape_writer.specs.declared.{fault.WriteFault.WriteFault, out.TapeOut.Ghosts}
 use Rattle.tape_writer.specs.declared.{phase.OpenFile.OpenFile, tape.Tape.Tape}
-use Rattle.tape_writer.specs.declared.fault.OutFault.TheVariants as out
-use Rattle.tape_writer.specs.declared.fault.WriteFault.TheVariants as faults
-use Rattle.tape_writer.specs.declared.phase.Phase.TheVariants as phases
-use Rattle.tape_writer.specs.{Blank.IsPrefix, Draft.open_blocks, Inside.Continues, Inside.IsStuck}
-use Rattle.tape_writer.specs.Faults.{FailsByDevice, FailsWith, IsEnding}
-use Rattle.tape_writer.specs.Fields.{IsText, IsTextVolume, IsTextHead}
 use Rattle.tape_writer.specs.Images.{IsImageOf, IsImageSoFar, AreImagesOf, HandedOn, AreImages}
 use Rattle.tape_writer.specs.Images.{TakesNoMore, HasStopped, Images, Holds}
 use Rattle.tape_writer.specs.Labels.{first_label, second_label, trailer_label, second_kind}
 use Rattle.tape_writer.specs.Lasting.{Lasts, Lasting, TapeLasts, StaysAsked}
 use Rattle.tape_writer.specs.Refusals.{IsNewFault, IsBeginFault, IsPutFault, IsFinishFault}
-use Rattle.tape_writer.specs.Refusals.{IsInFile}
 use Rattle.tape_writer.specs.State.{SetState, IsWriting, IsOutOfVolumes, Leaves, HasLength, Refuses}
-use Rattle.tape_writer.specs.State.{IfFiling, tape_of, HasAsked, SameSet}
 use Rattle.tape_writer.specs.Tapes.{Tapes, Ended, UnderWay, all_volumes, volume_at, Takes, Changes}
 use Rattle.tape_writer.specs.Tapes.{Closes, Keeps, Rose, Failures, Grows, HasCause, WasAsked}
 use Rattle.tape_writer.specs.Told.{Told, opened_by, with_record, labelled, IsWithin, IsOfFile}
-use Rattle.tape_writer.specs.Told.{IsFiled, AreFiled, IsWrittenSet}
+use Rattle.tape_writer.specs.{Blank.IsPrefix, Draft.open_blocks, Inside.Continues, Inside.IsStuck}
+use Rattle.tape_writer.specs.{Faults.FailsByDevice, Faults.FailsWith, Faults.IsEnding}
+use Rattle.tape_writer.specs.{Fields.IsText, Fields.IsTextVolume, Fields.IsTextHead}
+use Rattle.tape_writer.specs.{Refusals.IsInFile, State.IfFiling, State.tape_of, State.HasAsked}
+use Rattle.tape_writer.specs.{State.SameSet, Told.IsFiled, Told.AreFiled, Told.IsWrittenSet}
+use Rattle.tape_label.specs.declared.values.Kind.TheVariants as kinds
+use Rattle.tape_writer.specs.declared.fault.OutFault.TheVariants as out
+use Rattle.tape_writer.specs.declared.fault.WriteFault.TheVariants as faults
+use Rattle.tape_writer.specs.declared.phase.Phase.TheVariants as phases
 
 -- a model of tapes: their contents, their failures, and the label of the last volume requested
 abbrev pub Bare : Type 0

@@ -4,23 +4,21 @@ use Rattle.std.specs.Prelude.{◌≡◌, ◌≤◌, ◌<◌, ℕ, ◌+◌, List,
 use Rattle.std.specs.List.{AllByRecursion}
 use Rattle.tape_image.specs.Tape.{TapeItem, block, mark}
 use Rattle.tape_label.specs.declared.values.Vol1.{Vol1}
-use Rattle.tape_blocks.specs.declared.parts.Shape.{Shape}
 use Rattle.tape_blocks.specs.Packing.{Packing, HasRecordLength, the_packing, longest_block}
-use Rattle.tape_blocks.specs.{Records.AreRecordsOf, Run.RunOf, Run.Going, Spans.InOrder}
-use Rattle.tape_blocks.specs.Tight.{Filled, parts_of_all}
-use Rattle.tape_blocks.specs.Tight as packing
+use Rattle.tape_blocks.specs.{declared.parts.Shape.Shape, Records.AreRecordsOf, Run.RunOf}
+use Rattle.tape_blocks.specs.{Run.Going, Spans.InOrder, Tight.Filled, Tight.parts_of_all}
 use Rattle.tape_set.specs.Layout.{Section, Placed, Volume, ends_file}
 use Rattle.tape_set.specs.Lawful.{IsSection, GoesOn, StartsOnFirst}
 use Rattle.tape_set.specs.{Sizes.items_size, Tight.IsTightChange, Tight.IsTightEnd}
-use Rattle.tape_writer.specs.declared.course.{Opened.Opened, Course.Course}
+use Rattle.tape_writer.specs.declared.{course.Opened.Opened, course.Course.Course}
 use Rattle.tape_writer.specs.Draft.{Draft, placed, open_blocks, closing, here, IsDone, OfLast}
 use Rattle.tape_writer.specs.Draft.{body_items, open_items, ended_volumes, Between, Within, Steady}
-use Rattle.tape_writer.specs.Draft.{IsOpen, IsResting, IsRoomy}
 use Rattle.tape_writer.specs.Inside.{IsInside, IsPacking, IsFlat, IsBetween, IsFiling, IsWaiting}
-use Rattle.tape_writer.specs.Inside.{Continues, IsStuck}
 use Rattle.tape_writer.specs.Labels.{IsReady, volume_label, header_items, trailer_items}
-use Rattle.tape_writer.specs.Tapes.{Tapes, Ended, UnderWay}
 use Rattle.tape_writer.specs.Told.{Told, AreFiled, IsOfFile, IsWithin, labelled}
+use Rattle.tape_writer.specs.{Draft.IsOpen, Draft.IsResting, Draft.IsRoomy, Inside.Continues}
+use Rattle.tape_writer.specs.{Inside.IsStuck, Tapes.Tapes, Tapes.Ended, Tapes.UnderWay}
+use Rattle.tape_blocks.specs.Tight as packing
 
 -- ---- worked drafts
 

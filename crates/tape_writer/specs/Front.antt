@@ -5,10 +5,10 @@ use Rattle.tape_image.specs.Tape.{TapeItem}
 use Rattle.tape_label.specs.declared.values.Vol1.{Vol1}
 use Rattle.tape_blocks.specs.Packing.{Packing}
 use Rattle.tape_set.specs.Layout.{Section}
-use Rattle.tape_writer.specs.declared.course.{Opened.Opened, Course.Course}
-use Rattle.tape_writer.specs.Tapes.{Tapes, Ended, UnderWay, all_volumes}
-use Rattle.tape_writer.specs.{Told.Told, Told.AreFiled, Told.IsWrittenSet, State.SetState}
+use Rattle.tape_writer.specs.declared.{course.Opened.Opened, course.Course.Course}
 use Rattle.tape_writer.specs.Inside.{IsInside, IsPacking, IsFlat, IsWaiting}
+use Rattle.tape_writer.specs.{Tapes.Tapes, Tapes.Ended, Tapes.UnderWay, Tapes.all_volumes}
+use Rattle.tape_writer.specs.{Told.Told, Told.AreFiled, Told.IsWrittenSet, State.SetState}
 
 -- a step on tapes: an item is appended to the current volume, the next volume begins, or the last
 -- volume ends

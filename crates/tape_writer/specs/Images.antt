@@ -1,10 +1,10 @@
 -- The images of volumes.
+use Rattle.byteorder.specs.Endian.{little_bytes}
 use Rattle.std.specs.Prelude.{◌≡◌, ◌≢◌, ◌⊎◌, ◌<◌, ℕ, ◌+◌, List, [], ◌∷◌, ◌++◌, Bool, true, false}
 use Rattle.std.specs.Prelude.{Option, Some, None, length}
-use Rattle.byteorder.specs.Endian.{little_bytes}
 use Rattle.tape_image.specs.{Tape.TapeItem, Word.end_word, Begins.image_limit, Written.written}
-use Rattle.tape_image.specs.Spelling.{Leads, Spells}
-use Rattle.tape_image.specs.Writer.{Writer, writing, finished}
+use Rattle.tape_image.specs.{Spelling.Leads, Spelling.Spells, Writer.Writer, Writer.writing}
+use Rattle.tape_image.specs.{Writer.finished}
 use Rattle.tape_set.specs.Sizes.{items_size}
 use Rattle.tape_writer.specs.Tapes.{Tapes, Ended, UnderWay, Failures}
 

@@ -3,16 +3,16 @@
 use Rattle.std.specs.Prelude.{◌≡◌, ◌⊎◌, ◌≢◌, ◌≤◌, ℕ, ◌+◌, List, [], ◌∷◌, ◌++◌, false, None, length}
 use Rattle.std.specs.List.{AllByRecursion}
 use Rattle.tape_label.specs.declared.values.Vol1.{Vol1}
-use Rattle.tape_blocks.specs.declared.parts.Shape.{Shape}
-use Rattle.tape_blocks.specs.{Packing.Packing, Packing.Given, Block.Portion, Records.AreRecordsOf}
-use Rattle.tape_blocks.specs.{Spans.InOrder, Spans.join, Run.RunOf, Run.Going, Run.AreClosed}
 use Rattle.tape_blocks.specs.Tight.{Filled, first_len, parts_of_all}
-use Rattle.tape_blocks.specs.Tight as packing
+use Rattle.tape_blocks.specs.{declared.parts.Shape.Shape, Packing.Packing, Packing.Given}
+use Rattle.tape_blocks.specs.{Block.Portion, Records.AreRecordsOf, Spans.InOrder, Spans.join}
+use Rattle.tape_blocks.specs.{Run.RunOf, Run.Going, Run.AreClosed}
 use Rattle.tape_set.specs.{Layout.Section, Tight.takes_next}
-use Rattle.tape_writer.specs.declared.course.{Opened.Opened, Course.Course}
+use Rattle.tape_writer.specs.declared.{course.Opened.Opened, course.Course.Course}
 use Rattle.tape_writer.specs.declared.{out.TapeOut.Ghosts, tape.Tape.Tape}
-use Rattle.tape_writer.specs.{Tapes.Tapes, Tapes.Ended, Told.Told, Told.AreFiled}
 use Rattle.tape_writer.specs.Draft.{Draft, IsOpen, IsResting, open_blocks}
+use Rattle.tape_writer.specs.{Tapes.Tapes, Tapes.Ended, Told.Told, Told.AreFiled}
+use Rattle.tape_blocks.specs.Tight as packing
 
 -- Inside a file, after the finished files fs, the given records were passed.
 pub record IsInside (H : Tapes → Type 0) (volumes : List Vol1) (capacity : ℕ) (set_id : List ℕ)

@@ -1,13 +1,14 @@
 -- The labels that are written: each is the text that `tape_label` writes for its fields.
 use Rattle.std.specs.Prelude.{◌≤◌, ℕ, List, [], ◌∷◌, Bool, if◌then◌else◌}
 use Rattle.tape_image.specs.Tape.{TapeItem, block, mark}
-use Rattle.tape_label.specs.declared.values.{Vol1.Vol1, Head1.Head1, Trail1.Trail1, Kind.Kind}
-use Rattle.tape_label.specs.declared.values.Kind.TheVariants as kinds
-use Rattle.tape_label.specs.Written.{text_of, vol1_pieces, head1_pieces}
-use Rattle.tape_label.specs.{Written.head2_pieces, Written.trail1_pieces, Widths.IsWide}
+use Rattle.tape_label.specs.Written.{text_of, vol1_pieces, head1_pieces, head2_pieces}
+use Rattle.tape_label.specs.{declared.values.Vol1.Vol1, declared.values.Head1.Head1}
+use Rattle.tape_label.specs.{declared.values.Trail1.Trail1, declared.values.Kind.Kind}
+use Rattle.tape_label.specs.{Written.trail1_pieces, Widths.IsWide}
 use Rattle.tape_blocks.specs.Packing.{IsWritable}
 use Rattle.tape_set.specs.{Lawful.label_count, Tight.second_of}
 use Rattle.tape_writer.specs.declared.course.Opened.{Opened}
+use Rattle.tape_label.specs.declared.values.Kind.TheVariants as kinds
 
 -- The labels of the file can be written.
 pub record IsReady (file : Opened) : Type 0 where

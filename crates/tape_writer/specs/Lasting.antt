@@ -4,7 +4,7 @@ use Rattle.tape_image.specs.Tape.{TapeItem}
 use Rattle.tape_label.specs.declared.values.Vol1.{Vol1}
 use Rattle.tape_set.specs.Sizes.{items_size}
 use Rattle.tape_writer.specs.declared.{fault.WriteFault.WriteFault, out.TapeOut.Ghosts}
-use Rattle.tape_writer.specs.declared.tape.Tape.{Tape}
+use Rattle.tape_writer.specs.declared.{tape.Tape.Tape}
 use Rattle.tape_writer.specs.Tapes.{Tapes, UnderWay, Failures, Grows, WasAsked}
 
 -- There is a current volume of the counted size, and the given volumes ended first.

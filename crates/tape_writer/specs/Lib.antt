@@ -16,7 +16,6 @@ pub mod Records
 pub mod RecordLaws
 pub mod ToldFiles
 pub mod WriteSet
-pub mod NoVolume
 pub mod LeftOf
 pub mod WriteFaults
 -- blank volumes:
@@ -27,7 +26,6 @@ pub mod Holding
 -- test cases for these definitions:
 pub mod Cases
 pub mod CasesOfInputs
-pub mod CasesOfWritten
 pub mod CasesOfFronts
 pub mod CasesOfDrafts
 pub mod CasesOfHolding

@@ -2,17 +2,17 @@
 -- definitions rule out is not returned.
 use Rattle.std.specs.Prelude.{◌≡◌, ◌<◌, ◌≤◌, ℕ, List, length}
 use Rattle.std.specs.List.{AllByRecursion}
-use Rattle.tape_label.specs.declared.values.{Vol1.Vol1, Head1.Head1}
-use Rattle.tape_blocks.specs.declared.parts.Shape.{Shape}
-use Rattle.tape_blocks.specs.Packing.{IsWritable}
+use Rattle.tape_label.specs.{declared.values.Vol1.Vol1, declared.values.Head1.Head1}
+use Rattle.tape_blocks.specs.{declared.parts.Shape.Shape, Packing.IsWritable}
 use Rattle.tape_set.specs.Tight.{least_capacity}
-use Rattle.tape_writer.specs.declared.phase.{Phase.Phase, OpenFile.OpenFile}
-use Rattle.tape_writer.specs.declared.phase.Phase.TheVariants.{Filing}
-use Rattle.tape_writer.specs.declared.{course.Opened.Opened, fault.WriteFault.WriteFault}
 use Rattle.tape_writer.specs.declared.fault.WriteFault.TheVariants.{BadField, BadShape, NoFile}
 use Rattle.tape_writer.specs.declared.fault.WriteFault.TheVariants.{CapacityTooSmall, TooMany}
 use Rattle.tape_writer.specs.declared.fault.WriteFault.TheVariants.{RecordLength, OutOfVolumes}
-use Rattle.tape_writer.specs.declared.fault.WriteFault.TheVariants.{Device, OutOfMemory}
+use Rattle.tape_writer.specs.declared.{phase.Phase.Phase, phase.OpenFile.OpenFile}
+use Rattle.tape_writer.specs.declared.{phase.Phase.TheVariants.Filing, course.Opened.Opened}
+use Rattle.tape_writer.specs.declared.{fault.WriteFault.WriteFault}
+use Rattle.tape_writer.specs.declared.{fault.WriteFault.TheVariants.Device}
+use Rattle.tape_writer.specs.declared.{fault.WriteFault.TheVariants.OutOfMemory}
 use Rattle.tape_writer.specs.Fields.{IsText, IsTextVolume, IsTextHead}
 use Rattle.tape_writer.specs.State.{HasLength}
 

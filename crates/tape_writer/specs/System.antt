@@ -4,10 +4,10 @@ use Rattle.std.specs.Prelude.{Bool, true, false}
 use Rattle.std.specs.declared.io.ErrorKind.{ErrorKind}
 use Rattle.std.specs.declared.io.ErrorKind.TheVariants.{InvalidInput, Unsupported}
 use Rattle.tape_writer.specs.declared.fault.SetFault.{SetFault}
-use Rattle.tape_writer.specs.declared.fault.SetFault.TheVariants as sets
-use Rattle.tape_writer.specs.declared.system.fault.FileFault.TheVariants as files
 use Rattle.tape_writer.specs.declared.system.fault.SystemFault.{SystemFault}
 use Rattle.tape_writer.specs.declared.system.fault.SystemFault.TheVariants.{File, Write}
+use Rattle.tape_writer.specs.declared.fault.SetFault.TheVariants as sets
+use Rattle.tape_writer.specs.declared.system.fault.FileFault.TheVariants as files
 
 -- the fault for a set that was not written
 abbrev pub of_set : SetFault → SystemFault

@@ -1,9 +1,9 @@
 -- The output: volumes of items, and the effect of the calls of a `TapeOut`.
+pub use Rattle.tape_set.specs.Counts.{Rose}
 use Rattle.std.specs.Prelude.{◌≡◌, ◌≤◌, ℕ, List, [], ◌∷◌, ◌++◌, Result, OnOk, OnErr, IfErr}
 use Rattle.std.specs.Prelude.{slice_get, unwrap_or, ◌+◌, Some}
 use Rattle.tape_image.specs.Tape.{TapeItem}
 use Rattle.tape_label.specs.declared.values.Vol1.{Vol1}
-pub use Rattle.tape_set.specs.Counts.{Rose}
 
 -- the volumes that have ended, in order, and the items of the current volume, if there is one
 pub data Tapes : Type 0 where

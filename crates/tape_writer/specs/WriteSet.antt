@@ -1,12 +1,13 @@
 -- The result of `write_set`.
 use Rattle.std.specs.Prelude.{ℕ, List, Bool, Option, Some, None}
-use Rattle.tape_label.specs.declared.values.{Format.Format, Vol1.Vol1}
+use Rattle.tape_label.specs.declared.values.Format.{Format}
+use Rattle.tape_label.specs.declared.values.Vol1.{Vol1}
 use Rattle.tape_label.specs.declared.values.Format.TheVariants.{Fixed, Counted, Spanned}
-use Rattle.tape_blocks.specs.declared.parts.{Shape.Shape, Form.Form}
+use Rattle.tape_blocks.specs.{declared.parts.Shape.Shape, declared.parts.Form.Form}
 use Rattle.tape_writer.specs.{Images.AreImages, Told.Told, Told.IsWrittenSet}
-use Rattle.tape_blocks.specs.declared.parts.Form.TheVariants as forms
 use Rattle.tape_writer.specs.declared.inputs.cut.Cut.{Cut}
 use Rattle.tape_writer.specs.declared.inputs.cut.Cut.TheVariants.{Lines, Length, Whole}
+use Rattle.tape_blocks.specs.declared.parts.Form.TheVariants as forms
 
 -- The images passed to the store are exactly those of the volumes of a valid set without unused
 -- space, for the given capacity and shapes. Its files are the files passed, and its volumes are the

@@ -5,7 +5,7 @@ ghost use Rattle.tape_writer.specs.RecordLaws.{LinesAreCut, PiecesAreCut, WholeI
 ghost use Rattle.tape_writer.specs.Cases.{CasesOfTapes, CasesOfImages, CasesOfSets};
 ghost use Rattle.tape_writer.specs.Cases.{CasesOfRefusals};
 ghost use Rattle.tape_writer.specs.CasesOfInputs.{CasesOfInputs, CasesOfSetFaults};
-ghost use Rattle.tape_writer.specs.CasesOfWritten.{CasesOfWritten, CasesOfRecordLaws};
+ghost use Rattle.tape_writer.specs.CasesOfInputs.{CasesOfWritten, CasesOfRecordLaws};
 ghost use Rattle.tape_writer.specs.CasesOfFronts.{CasesOfFronts};
 ghost use Rattle.tape_writer.specs.CasesOfDrafts.{CasesOfDrafts, CasesOfInside};
 ghost use Rattle.tape_writer.specs.CasesOfHolding.{CasesOfHolding};

@@ -1,11 +1,177 @@
--- The records of the bytes read so far.
-use Rattle.std.proofs.Common.{◌≡◌, ℕ, List, [], ◌++◌, Bool, true, false, Option, Some, None, take}
-use Rattle.std.proofs.Common.{drop, sym, ap, subst, ◌∙◌, append_assoc, take-append-drop}
-use Rattle.std.specs.Io.KnownBytes.{Consumes, Keeps, prepend_known}
+-- The cutting of an input into records.
+use Rattle.tape_writer.proofs.Words.{◌≡◌, ◌<◌, ℕ, ◌+◌, ◌∙◌, List, [], ◌∷◌, ◌++◌, Bool, true, false}
+use Rattle.tape_writer.proofs.Words.{length, sym, ap, arith, append_assoc, length-append}
+use Rattle.tape_writer.proofs.Words.{if◌then◌else◌, inl, inr, ◌⊎◌, ◌≤◌, nat_tests, ne_eqb, ◌≢◌}
+use Rattle.tape_writer.proofs.Words.{zero, suc, take, get_or, subst, ◌-◌, drop, Option, Some, None}
+use Rattle.tape_writer.proofs.Words.{prepend_known, IfKnown, refl, Format, Shape, HasRecordLength}
+use Rattle.std.proofs.Common.{append-nil, ◌==◌, flat_map, min, slice_range, length-take, drop-drop}
+use Rattle.std.proofs.Common.{take-append-drop}
 use Rattle.std.proofs.KnownBytes.{Consumes-trans, Consumes-kept}
-use Rattle.tape_image.specs.Reader.{IfKnown}
+use Rattle.tape_writer.specs.declared.inputs.cut.Cut.TheVariants.{Lines, Length, Whole}
 use Rattle.tape_writer.specs.declared.inputs.cut.Cut.{Cut}
-use Rattle.tape_writer.specs.Records.{records_from, records_of, to_come, given, Adds}
+use Rattle.tape_writer.specs.Records.{records_from, records_of, Adds, to_come, given, longest_by}
+use Rattle.tape_writer.specs.Records.{longest}
+use Rattle.tape_writer.specs.RecordLaws.{IsLine, ended_line, LinesAreCut, PiecesAreCut, WholeIsOne}
+use Rattle.std.proofs.lemmas.List.{take_all, drop-take, drop_min}
+use Rattle.std.specs.Io.KnownBytes.{Consumes, Keeps}
+use Rattle.tape_label.specs.declared.values.Format.TheVariants.{Fixed, Counted, Spanned}
+
+-- ---- records in terms of the input: lines, and pieces of one length
+
+-- bytes of a line are bytes of its record
+pub line_goes_on : (l r ys : List ℕ) → IsLine l
+    → records_from Lines r (l ++ ys) ≡ records_from Lines (r ++ l) ys
+line_goes_on [] r ys is = ap (λ x. records_from Lines x ys) (sym (append-nil r))
+line_goes_on (b ∷ l) r ys (not, is) =
+    let no : (b == 10) ≡ false = grind (arith, nat_tests, not) in
+    ap (λ (t : Bool). if t then r ∷ records_from Lines [] (l ++ ys) else records_from Lines (r
+    ++ b ∷ []) (l ++ ys)) no
+    ∙ line_goes_on l (r ++ b ∷ []) ys is
+    ∙ ap (λ x. records_from Lines x ys) (append_assoc r (b ∷ []) l)
+
+pub lines_are_cut : LinesAreCut
+lines_are_cut [] rest is last = ap (λ x. records_from Lines [] x) (sym (append-nil rest))
+    ∙ line_goes_on rest [] [] last
+lines_are_cut (l ∷ ls) rest (one, is) last =
+    ap (records_of Lines) (append_assoc (l ++ 10 ∷ []) (flat_map ended_line ls) rest
+    ∙ append_assoc l (10 ∷ []) (flat_map ended_line ls ++ rest))
+    ∙ line_goes_on l [] (10 ∷ (flat_map ended_line ls ++ rest)) one
+    ∙ ap (λ x. l ∷ x) (lines_are_cut ls rest is last)
+
+-- bytes are bytes of one record if they are too few to complete it, or if it already exceeds the
+-- length, so that it is never complete
+pub piece_goes_on : (n : ℕ) (l r ys : List ℕ) → (length r + length l < n) ⊎ (n ≤ length r)
+    → records_from (Length n) r (l ++ ys) ≡ records_from (Length n) (r ++ l) ys
+piece_goes_on n [] r ys h = ap (λ x. records_from (Length n) x ys) (sym (append-nil r))
+piece_goes_on n (b ∷ l) r ys h =
+    let long = length-append r (b ∷ []) in
+    let no : (length r + 1 == n) ≡ false = elim h [
+      | inl few ↦ ne_eqb (length r + 1) n (λ e. absurd (omega (arith, few, e)))
+      | inr more ↦ ne_eqb (length r + 1) n (λ e. absurd (omega (arith, more, e)))
+    ] in
+    let next : (length (r ++ b ∷ []) + length l < n) ⊎ (n ≤ length (r ++ b ∷ [])) = elim h [
+      | inl few ↦ inl (omega (arith, few, long))
+      | inr more ↦ inr (omega (arith, more, long))
+    ] in
+    ap (λ (t : Bool). if t then (r ++ b ∷ []) ∷ records_from (Length n) [] (l
+    ++ ys) else records_from (Length n) (r ++ b ∷ []) (l ++ ys)) no
+    ∙ piece_goes_on n l (r ++ b ∷ []) ys next
+    ∙ ap (λ x. records_from (Length n) x ys) (append_assoc r (b ∷ []) l)
+
+-- as many bytes as the length are a record
+pub piece_is_whole : (n : ℕ) (b : ℕ) (l r ys : List ℕ) → length r + length (b ∷ l) ≡ n
+    → records_from (Length n) r ((b ∷ l) ++ ys) ≡ (r ++ (b ∷ l)) ∷ records_from (Length n) [] ys
+piece_is_whole n b [] r ys is =
+    let yes : (length r + 1 == n) ≡ true = grind (arith, nat_tests, is) in
+    ap (λ (t : Bool). if t then (r
+    ++ b ∷ []) ∷ records_from (Length n) [] ys else records_from (Length n) (r ++ b ∷ []) ys) yes
+piece_is_whole n b (d ∷ l) r ys is =
+    let no : (length r + 1 == n) ≡ false = grind (arith, nat_tests, is) in
+    ap (λ (t : Bool). if t then (r ++ b ∷ []) ∷ records_from (Length n) [] ((d ∷ l)
+    ++ ys) else records_from (Length n) (r ++ b ∷ []) ((d ∷ l) ++ ys)) no
+    ∙ piece_is_whole n d l (r ++ b ∷ []) ys (omega (arith, is, length-append r (b ∷ [])))
+    ∙ ap (λ x. x ∷ records_from (Length n) [] ys) (append_assoc r (b ∷ []) (d ∷ l))
+
+pub pieces_are_cut : PiecesAreCut
+pieces_are_cut n [] rest some is few =
+    ap (λ x. records_from (Length n) [] x) (sym (append-nil rest))
+    ∙ piece_goes_on n rest [] [] (inl (omega (arith, few)))
+pieces_are_cut n ([] ∷ ps) rest some (long, is) few = absurd (omega (arith, long, some))
+pieces_are_cut n ((b ∷ p) ∷ ps) rest some (long, is) few =
+    ap (records_of (Length n)) (append_assoc (b ∷ p) (flat_map (λ p. p) ps) rest)
+    ∙ piece_is_whole n b p [] (flat_map (λ p. p) ps ++ rest) (omega (arith, long))
+    ∙ ap (λ x. (b ∷ p) ∷ x) (pieces_are_cut n ps rest some is few)
+
+pub whole_goes_on : (l r ys : List ℕ)
+    → records_from Whole r (l ++ ys) ≡ records_from Whole (r ++ l) ys
+whole_goes_on [] r ys = ap (λ x. records_from Whole x ys) (sym (append-nil r))
+whole_goes_on (b ∷ l) r ys = whole_goes_on l (r ++ b ∷ []) ys
+    ∙ ap (λ x. records_from Whole x ys) (append_assoc r (b ∷ []) l)
+
+pub whole_is_one : WholeIsOne
+whole_is_one bytes =
+    ap (records_of Whole) (sym (append-nil bytes)) ∙ whole_goes_on bytes [] []
+
+-- ---- the effect of a prefix of some bytes on a record
+
+-- up to a line feed, which ends the record
+line_ends : (hay : List ℕ) (p : ℕ) (r more : List ℕ) → p < length hay
+    → ((k : ℕ) → k < p → get_or hay k 0 ≢ 10) → get_or hay p 0 ≡ 10
+    → records_from Lines r (take (suc p) hay ++ more) ≡ (r
+    ++ take p hay) ∷ records_from Lines [] more
+line_ends [] p r more within before at = absurd (omega (arith, within))
+line_ends (b ∷ hay) zero r more within before at =
+    let yes : (b == 10) ≡ true = grind (arith, nat_tests, at) in
+    ap (λ (t : Bool). if t then r ∷ records_from Lines [] more else records_from Lines (r
+    ++ b ∷ []) more) yes
+    ∙ ap (λ x. x ∷ records_from Lines [] more) (sym (append-nil r))
+line_ends (b ∷ hay) (suc p) r more within before at =
+    let none : b ≢ 10 = before 0 (omega arith) in
+    let no : (b == 10) ≡ false = grind (arith, nat_tests, none) in
+    ap (λ (t : Bool). if t then r ∷ records_from Lines [] (take (suc p) hay
+    ++ more) else records_from Lines (r ++ b ∷ []) (take (suc p) hay ++ more)) no
+    ∙ line_ends hay p (r
+    ++ b ∷ []) more (omega (arith, within)) (λ k l. before (suc k) (omega (arith, l))) at
+    ∙ ap (λ x. x ∷ records_from Lines [] more) (append_assoc r (b ∷ []) (take p hay))
+
+no_feed : (hay : List ℕ) → ((k : ℕ) → k < length hay → get_or hay k 0 ≢ 10) → IsLine hay
+no_feed [] none = tt
+no_feed (b ∷ hay) none =
+    (none 0 (omega arith), no_feed hay (λ k l. none (suc k) (omega (arith, l))))
+
+pub line_ended : (hay : List ℕ) (p : ℕ) (r : List ℕ) → p < length hay
+    → ((k : ℕ) → k < p → get_or hay k 0 ≢ 10) → get_or hay p 0 ≡ 10
+    → Adds Lines r (take (p + 1) hay) (r ++ take p hay) true
+line_ended hay p r within before at =
+    let same : suc p ≡ p + 1 = omega arith in
+    subst (λ n. Adds Lines r (take n hay) (r ++ take p hay) true) same
+    (λ more. line_ends hay p r more within before at)
+
+-- without a line feed the record continues
+pub line_inside : (hay r : List ℕ) → ((k : ℕ) → k < length hay → get_or hay k 0 ≢ 10)
+    → Adds Lines r hay (r ++ hay) false
+line_inside hay r none = λ more. line_goes_on hay r more (no_feed hay none)
+
+pub length_passed : (n : ℕ) (l r : List ℕ) → n ≤ length r → Adds (Length n) r l (r ++ l) false
+length_passed n l r long = λ more. piece_goes_on n l r more (inr long)
+
+pub length_inside : (n : ℕ) (l r : List ℕ) → length r + length l < n
+    → Adds (Length n) r l (r ++ l) false
+length_inside n l r few = λ more. piece_goes_on n l r more (inl few)
+
+pub length_ended : (n : ℕ) (l r : List ℕ) → 0 < length l → length r + length l ≡ n
+    → Adds (Length n) r l (r ++ l) true
+length_ended n [] r some is = absurd (omega (arith, some))
+length_ended n (b ∷ l) r some is = λ more. piece_is_whole n b l r more is
+
+pub whole_inside : (l r : List ℕ) → Adds Whole r l (r ++ l) false
+whole_inside l r = λ more. whole_goes_on l r more
+
+-- all bytes are their own prefix
+pub adds_all : (cut : Cut) (n : ℕ) (l r : List ℕ) (ended : Bool) → n ≡ length l
+    → Adds cut r l (r ++ l) ended → Adds cut r (take n l) (r ++ take n l) ended
+adds_all cut n l r ended is adds =
+    subst (λ x. Adds cut r x (r ++ x) ended) (sym (take_all n l (omega (arith, is)))) adds
+
+-- ---- bytes read ahead, some of which were used
+
+drop-min-take : (k n : ℕ) (xs : List ℕ) → drop (min k n) (take k xs) ≡ drop n (take k xs)
+drop-min-take k n xs =
+    let front = take k xs in
+    let same : min (min k n) (length front) ≡ min n (length front) =
+    omega (arith, length-take k xs) in
+    sym (drop_min (min k n) front) ∙ ap (λ m. drop m front) same ∙ drop_min n front
+
+pub slice_range-advance : (xs : List ℕ) (a e n : ℕ)
+    → slice_range xs (a + min (e - a) n) e ≡ drop n (slice_range xs a e)
+slice_range-advance xs a e n =
+    let m = min (e - a) n in
+    let whole : m + (e - (a + m)) ≡ e - a = omega arith in
+    ap (take (e - (a + m))) (sym (drop-drop m a xs))
+    ∙ sym (drop-take m (e - (a + m)) (drop a xs)) ∙ ap (λ k. drop m (take k (drop a xs))) whole
+    ∙ drop-min-take (e - a) n (drop a xs)
+
+-- ---- the records of the bytes read so far
 
 -- The bytes read from the input are the beginning of a record.
 pub record SoFar (cut : Cut) (all left : Option (List ℕ)) (r : List ℕ) : Type 0 where
@@ -93,3 +259,27 @@ taken cut all left next r now s kept same =
     go None b c = tt
     go (Some xs) None c = c
     go (Some xs) (Some ys) c = c
+
+-- ---- the longest record that a shape allows
+
+within_by : (format : Format) (rec_len n : ℕ) → HasRecordLength format rec_len n
+    → n ≤ longest_by format rec_len
+within_by Fixed rec_len n has = omega (arith, has)
+within_by Counted rec_len n has = omega (arith, has)
+within_by Spanned rec_len n has = has
+
+has_by : (format : Format) (rec_len n : ℕ) → HasRecordLength format rec_len n
+    → HasRecordLength format rec_len (longest_by format rec_len)
+has_by Fixed rec_len n has = refl
+has_by Counted rec_len n has = omega (arith, has)
+has_by Spanned rec_len n has = omega arith
+
+-- no record of the shape is longer
+pub within_longest : (shape : Shape) (n : ℕ) → HasRecordLength shape.format shape.rec_len n
+    → n ≤ longest shape
+within_longest shape n has = within_by shape.format shape.rec_len n has
+
+-- if the shape allows records, it allows records of this length
+pub has_longest : (shape : Shape) (n : ℕ) → HasRecordLength shape.format shape.rec_len n
+    → HasRecordLength shape.format shape.rec_len (longest shape)
+has_longest shape n has = has_by shape.format shape.rec_len n has

@@ -1,33 +1,29 @@
 -- The contents of the tapes after a fault, in terms of the files and their inputs.
-use Rattle.std.proofs.Common.{◌≡◌, ℕ, ◌+◌, ◌<◌, ◌≤◌, List, [], ◌∷◌, ◌++◌, Bool, true, false, Option}
-use Rattle.std.proofs.Common.{Some, None, length, map, drop, get_or, refl, sym, ap, subst, ◌∙◌}
-use Rattle.std.proofs.Common.{append-nil, inl, inr, ◌⊎◌, IfSome}
-use Rattle.std.proofs.lemmas.List.{drop_more, map-append}
-use Rattle.tape_image.specs.Reader.{IfKnown}
-use Rattle.tape_label.specs.declared.values.Head1.{Head1}
-use Rattle.tape_blocks.specs.declared.parts.Shape.{Shape}
-use Rattle.tape_writer.specs.declared.fault.{WriteFault.WriteFault, SetFault.SetFault}
-use Rattle.tape_writer.specs.declared.fault.SetFault.TheVariants.{Write}
-use Rattle.tape_writer.specs.declared.inputs.{records.InputFault.InputFault, cut.Cut.Cut}
+use Rattle.tape_writer.proofs.Words.{◌≡◌, ℕ, ◌+◌, ◌<◌, ◌≤◌, List, [], ◌∷◌, ◌++◌, Bool, true, false}
+use Rattle.tape_writer.proofs.Words.{Option, Some, None, length, map, drop, get_or, refl, sym, ap}
+use Rattle.tape_writer.proofs.Words.{subst, ◌∙◌, inl, inr, ◌⊎◌, IfSome, drop_more, map-append}
+use Rattle.tape_writer.proofs.Words.{IfKnown, Head1, Shape, AllByRecursion, every}
+use Rattle.std.proofs.Common.{append-nil}
+use Rattle.tape_writer.specs.declared.{fault.WriteFault.WriteFault, fault.SetFault.SetFault}
+use Rattle.tape_writer.specs.declared.{fault.SetFault.TheVariants.Write}
+use Rattle.tape_writer.specs.declared.{inputs.records.InputFault.InputFault, inputs.cut.Cut.Cut}
 use Rattle.tape_writer.specs.declared.{course.Opened.Opened, phase.Phase.Phase}
-use Rattle.tape_writer.specs.declared.phase.Phase.TheVariants.{Between, Filing}
-use Rattle.tape_writer.specs.declared.fault.WriteFault.TheVariants as faults
-use Rattle.tape_writer.specs.declared.inputs.records.InputFault.TheVariants as inputs
-use Rattle.std.specs.List.{AllByRecursion}
-use Rattle.tape_writer.specs.{WriteFaults.told_as, WriteFaults.IsOfInput, Tapes.Tapes}
-use Rattle.tape_writer.specs.{Faults.IsEnding, ToldFiles.with_records, ToldFiles.told_files}
-use Rattle.tape_set.proofs.Everywhere.{every}
-use Rattle.tape_writer.proofs.{inputs.Refusing.less_long, inputs.Filing.Wrote}
+use Rattle.tape_writer.specs.declared.{phase.Phase.TheVariants.Between}
+use Rattle.tape_writer.specs.declared.{phase.Phase.TheVariants.Filing}
 use Rattle.tape_writer.specs.Told.{Told, with_record, with_file}
 use Rattle.tape_writer.specs.State.{SetState, IsWriting, IfFiling, Leaves}
 use Rattle.tape_writer.specs.Refusals.{IsInFile, IsBeginFault, IsFinishFault}
 use Rattle.tape_writer.specs.Front.{IsInLast, IsLeftInside, IsLeftBehind, HoldsFront}
 use Rattle.tape_writer.specs.Records.{to_come, records_of, given, IsFirstLong}
 use Rattle.tape_writer.specs.LeftOf.{IsLeftOf, IsLeftIn, IsLeftOfAll, IsLeftUnbegun}
-use Rattle.tape_writer.proofs.{Standing.inside_writing, Standing.behind_writing, Fronts.front_here}
+use Rattle.tape_writer.specs.{WriteFaults.told_as, WriteFaults.IsOfInput, Tapes.Tapes}
+use Rattle.tape_writer.specs.{Faults.IsEnding, ToldFiles.with_records, ToldFiles.told_files}
+use Rattle.tape_writer.proofs.inputs.Filing.{Wrote, all_known, if_known, in_input, known_all}
 use Rattle.tape_writer.proofs.inputs.Putting.{Put, PutWithin, known_one, known_then}
-use Rattle.tape_writer.proofs.inputs.Putting.{with_records-one}
-use Rattle.tape_writer.proofs.inputs.Finished.{all_known, if_known, in_input, known_all}
+use Rattle.tape_writer.proofs.inputs.{Refusing.less_long, Putting.with_records-one}
+use Rattle.tape_writer.proofs.Fronts.{inside_writing, behind_writing, front_here}
+use Rattle.tape_writer.specs.declared.fault.WriteFault.TheVariants as faults
+use Rattle.tape_writer.specs.declared.inputs.records.InputFault.TheVariants as inputs
 
 -- a fault ends the writer, or leaves it unchanged
 is_ending : {T : Type 0} (f : WriteFault)

@@ -1,10 +1,9 @@
 -- Results that the contracts of writing from inputs exclude: each is the result of a wrong body.
-use Rattle.std.proofs.Common.{◌≡◌, ℕ, List, [], ◌∷◌, ◌++◌, length, false, refl, sym, ap, ◌∙◌, subst}
-use Rattle.std.proofs.Common.{arith, codes, Option, Some, Ok, Err, map}
-use Rattle.tape_image.specs.Reader.{IfKnown}
-use Rattle.tape_label.specs.declared.values.Head1.{Head1}
+use Rattle.tape_writer.proofs.Words.{◌≡◌, ℕ, List, [], ◌∷◌, ◌++◌, length, false, refl, sym, ap, ◌∙◌}
+use Rattle.tape_writer.proofs.Words.{subst, arith, codes, Option, Some, Ok, Err, map, IfKnown}
+use Rattle.tape_writer.proofs.Words.{Head1}
 use Rattle.tape_writer.specs.{State.IsWriting, Records.left_of, Records.last_record}
-use Rattle.tape_writer.specs.ToldFiles.{IfAllKnown, told_files}
+use Rattle.tape_writer.specs.{ToldFiles.IfAllKnown, ToldFiles.told_files}
 use Rattle.tape_writer.specs.declared.inputs.cut.Cut.TheVariants.{Lines}
 use Rattle.tape_writer.specs.declared.inputs.records.InputFault.TheVariants.{ReadFailed}
 use Rattle.tape_writer.proofs.inputs.cut.Cut.is_last.Reads as is_last

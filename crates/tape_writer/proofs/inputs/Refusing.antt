@@ -1,32 +1,93 @@
 -- The causes of the faults of writing from inputs.
-use Rattle.std.proofs.Common.{◌≡◌, ◌<◌, ◌≤◌, ℕ, ◌+◌, List, [], ◌∷◌, ◌++◌, Bool, true, false, Option}
-use Rattle.std.proofs.Common.{Some, None, length, map, take, drop, get_or, refl, sym, ap, subst}
-use Rattle.std.proofs.Common.{◌∙◌, arith, append_assoc, take-append-drop, length-append, inl, inr}
-use Rattle.std.proofs.Common.{IfSome, if◌then◌else◌}
-use Rattle.std.specs.Io.KnownBytes.{Consumes, Keeps, prepend_known}
-use Rattle.std.proofs.lemmas.List.{length-take-le, drop_more, map-append, length-map}
-use Rattle.tape_image.specs.Reader.{IfKnown}
-use Rattle.tape_label.specs.declared.values.Head1.{Head1}
-use Rattle.tape_blocks.specs.declared.parts.Shape.{Shape}
-use Rattle.tape_blocks.specs.Packing.{HasRecordLength}
-use Rattle.tape_writer.proofs.inputs.Finished.{in_input}
+use Rattle.tape_writer.proofs.Words.{◌≡◌, ℕ, ◌+◌, List, [], ◌∷◌, Option, Some, None, map, inl, inr}
+use Rattle.tape_writer.proofs.Words.{refl, ◌⊎◌, AllByRecursion, Head1, Shape, ◌<◌, ◌≤◌, ◌++◌, Bool}
+use Rattle.tape_writer.proofs.Words.{true, false, length, take, drop, get_or, sym, ap, subst, ◌∙◌}
+use Rattle.tape_writer.proofs.Words.{arith, append_assoc, length-append, IfSome, if◌then◌else◌}
+use Rattle.tape_writer.proofs.Words.{prepend_known, length-take-le, drop_more, map-append}
+use Rattle.tape_writer.proofs.Words.{length-map, IfKnown, HasRecordLength}
+use Rattle.std.proofs.Common.{take-append-drop}
+use Rattle.tape_label.specs.Characters.{first_other}
+use Rattle.tape_writer.specs.declared.{fault.WriteFault.TheVariants.BadField}
+use Rattle.tape_writer.specs.declared.{fault.SetFault.TheVariants.Write}
+use Rattle.tape_writer.specs.declared.{fault.SetFault.TheVariants.ReadFailed, inputs.cut.Cut.Cut}
 use Rattle.tape_writer.specs.declared.{course.Opened.Opened, phase.Phase.Phase}
 use Rattle.tape_writer.specs.declared.{phase.Phase.TheVariants.Filing, phase.OpenFile.OpenFile}
 use Rattle.tape_writer.specs.declared.{fault.WriteFault.WriteFault, fault.SetFault.SetFault}
-use Rattle.tape_writer.specs.declared.{inputs.records.InputFault.InputFault, inputs.cut.Cut.Cut}
-use Rattle.tape_writer.specs.declared.fault.WriteFault.TheVariants as faults
-use Rattle.tape_writer.specs.{Told.Told, Faults.IsEnding, State.IfFiling, State.HasLength}
-use Rattle.tape_writer.specs.Refusals.{IsInFile, IsPutFault}
-use Rattle.tape_writer.specs.declared.fault.SetFault.TheVariants.{Write, ReadFailed}
-use Rattle.tape_writer.specs.declared.inputs.records.InputFault.TheVariants as inputs
-use Rattle.tape_writer.specs.declared.inputs.cut.Cut.TheVariants.{Lines, Length, Whole}
+use Rattle.tape_writer.specs.declared.{inputs.records.InputFault.InputFault}
+use Rattle.tape_writer.specs.declared.{inputs.cut.Cut.TheVariants.Lines}
+use Rattle.tape_writer.specs.declared.{inputs.cut.Cut.TheVariants.Length}
+use Rattle.tape_writer.specs.declared.{inputs.cut.Cut.TheVariants.Whole}
+use Rattle.tape_writer.specs.WriteFaults.{IsFilesFault, told_as, IsOther, OneIsOther}
+use Rattle.tape_writer.specs.WriteFaults.{IsPuttingFault, IsInputFault, IsFileFault}
 use Rattle.tape_writer.specs.Records.{records_from, records_of, to_come, given, longest}
 use Rattle.tape_writer.specs.Records.{ends_before, is_full, Adds, IsFirstLong, GrowsLong}
-use Rattle.tape_writer.specs.WriteFaults.{told_as, IsOther, OneIsOther, IsPuttingFault}
-use Rattle.tape_writer.specs.WriteFaults.{IsInputFault, IsFileFault, IsFilesFault}
-use Rattle.tape_writer.proofs.inputs.Cutting.{SoFar, read_ahead}
-use Rattle.tape_writer.proofs.{Fitting.within_longest, inputs.Filing.Wrote}
+use Rattle.tape_writer.specs.{Fields.IsText, Fields.IsTextHead, Told.Told, Faults.IsEnding}
+use Rattle.tape_writer.specs.{State.IfFiling, State.HasLength, Refusals.IsInFile}
+use Rattle.tape_writer.specs.{Refusals.IsPutFault}
+use Rattle.std.specs.Io.KnownBytes.{Consumes, Keeps}
+use Rattle.tape_writer.proofs.inputs.Filing.{in_input, Wrote}
+use Rattle.tape_writer.proofs.inputs.Cutting.{SoFar, read_ahead, within_longest}
 use Rattle.tape_writer.proofs.inputs.Putting.{Put, known_then}
+use Rattle.tape_writer.specs.declared.fault.WriteFault.TheVariants as faults
+use Rattle.tape_writer.specs.declared.inputs.records.InputFault.TheVariants as inputs
+
+-- ---- heads that cannot be labelled
+
+none_or_not : {A : Type 0} (o : Option A) → (o ≡ None) ⊎ (o ≡ None → ⊥)
+none_or_not None = inl refl
+none_or_not (Some n) = inr (λ e. cc)
+
+both_or_not : (A B : Type 0) → A ⊎ (A → ⊥) → B ⊎ (B → ⊥) → (A × B) ⊎ (A × B → ⊥)
+both_or_not A B (inl a) (inl b) = inl (a, b)
+both_or_not A B (inl a) (inr not) = inr (λ p. not p.1)
+both_or_not A B (inr not) b = inr (λ p. not p.0)
+
+text_or_not : (bytes : List ℕ) → IsText bytes ⊎ (IsText bytes → ⊥)
+text_or_not bytes = none_or_not (first_other bytes)
+
+head_or_not : (h : Head1) → IsTextHead h ⊎ (IsTextHead h → ⊥)
+head_or_not h = elim (both_or_not _ _ (text_or_not h.file_id)
+    (both_or_not _ _ (text_or_not h.generation)
+    (both_or_not _ _ (text_or_not h.gen_version)
+    (both_or_not _ _ (text_or_not h.created)
+    (both_or_not _ _ (text_or_not h.expires)
+    (both_or_not _ _ (text_or_not (h.access ∷ [])) (text_or_not h.implementation))))))) [
+      | inl p ↦ inl record {
+        file_id = p.0;
+        generation = p.1.0;
+        gen_version = p.1.1.0;
+        created = p.1.1.1.0;
+        expires = p.1.1.1.1.0;
+        access = p.1.1.1.1.1.0;
+        implementation = p.1.1.1.1.1.1;
+      }
+      | inr not ↦ inr (λ t. not (
+        t.file_id,
+        (
+          t.generation,
+          (
+            t.gen_version,
+            (
+              t.created,
+              (
+                t.expires,
+                (t.access, t.implementation),
+              ),
+            ),
+          ),
+        ),
+      ))
+    ]
+
+-- if not all heads can be labelled, the fault is that of one of the files
+pub head_fault : (X : Type 0) (view : X → Head1 × Option (List ℕ)) (capacity : ℕ) (shape : Shape)
+    (cut : Cut) (n : ℕ) (xs : List X) → (AllByRecursion (λ x. IsTextHead (view x).0) xs → ⊥)
+    → IsFilesFault capacity shape cut n (map view xs) (Write BadField)
+head_fault X view capacity shape cut n [] not = absurd (not tt)
+head_fault X view capacity shape cut n (x ∷ xs) not = elim (head_or_not (view x).0) [
+  | inl is ↦ inr (head_fault X view capacity shape cut (n + 1) xs (λ all. not (is, all)))
+  | inr other ↦ inl (inl other)
+]
 
 -- ---- records that get too long
 

@@ -12,7 +12,7 @@ ghost use Rattle.tape_writer.specs.declared.course.Opened.{Opened};
 ghost use Rattle.tape_writer.specs.declared.phase.Phase.TheVariants.{Between};
 ghost use Rattle.tape_writer.specs.Records.{records_of, to_come, left_of, longest as longest_of};
 ghost use Rattle.tape_writer.specs.ToldFiles.{with_records, told_files, IfAllKnown};
-ghost use Rattle.tape_writer.specs.NoVolume.{GaveUp, GaveUpIn};
+ghost use Rattle.tape_writer.specs.LeftOf.{GaveUp, GaveUpIn};
 ghost use Rattle.tape_writer.specs.LeftOf.{IsLeftOf, IsLeftIn, IsLeftUnbegun};
 ghost use Rattle.tape_writer.specs.WriteFaults.{OneIsOther, IsInputFault, IsFileFault};
 ghost use Rattle.tape_writer.specs.WriteFaults.{IsFilesFault, told_as, StopsByDevice};

@@ -7,7 +7,7 @@ ghost use Rattle.tape_set.specs.Tight.{least_capacity};
 ghost use Rattle.tape_writer.specs.Fields.{IsText, IsTextVolume, IsTextHead};
 ghost use Rattle.tape_writer.specs.Images.{Holds, HasStopped};
 ghost use Rattle.tape_writer.specs.ToldFiles.{IfAllKnown, told_files};
-ghost use Rattle.tape_writer.specs.NoVolume.{HasNoVolume};
+ghost use Rattle.tape_writer.specs.LeftOf.{HasNoVolume};
 ghost use Rattle.tape_writer.specs.LeftOf.{IsLeftSet};
 ghost use Rattle.tape_writer.specs.WriteSet.{IsSetOfImages, cut_of as cut_by};
 ghost use Rattle.tape_writer.specs.WriteFaults.{IsSetFault, IsOfInput};

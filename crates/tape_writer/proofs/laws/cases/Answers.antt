@@ -1,9 +1,9 @@
 use Rattle.tape_writer.proofs.Examples.{cases_of_tapes, cases_of_images, cases_of_sets}
-use Rattle.tape_writer.proofs.Examples.{cases_of_refusals}
 use Rattle.tape_writer.proofs.ExamplesOfInputs.{cases_of_inputs, cases_of_set_faults}
-use Rattle.tape_writer.proofs.ExamplesOfWritten.{cases_of_written, cases_of_record_laws}
-use Rattle.tape_writer.proofs.{ExamplesOfFronts.cases_of_fronts, ExamplesOfHolding.cases_of_holding}
+use Rattle.tape_writer.proofs.ExamplesOfInputs.{cases_of_written, cases_of_record_laws}
 use Rattle.tape_writer.proofs.ExamplesOfDrafts.{cases_of_drafts, cases_of_inside}
+use Rattle.tape_writer.proofs.{Examples.cases_of_refusals, ExamplesOfFronts.cases_of_fronts}
+use Rattle.tape_writer.proofs.{ExamplesOfHolding.cases_of_holding}
 use Rattle.tape_writer.proofs.laws.cases.Goals as goal
 
 pub returns-clause-tapes : goal.returns-clause-tapes

@@ -1,4 +1,4 @@
-use Rattle.tape_writer.proofs.inputs.Splitting.{lines_are_cut, pieces_are_cut, whole_is_one}
+use Rattle.tape_writer.proofs.inputs.Cutting.{lines_are_cut, pieces_are_cut, whole_is_one}
 use Rattle.tape_writer.proofs.laws.inputs_are_cut.Goals as goal
 
 pub returns-clause-lines : goal.returns-clause-lines

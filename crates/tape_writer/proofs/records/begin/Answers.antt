@@ -1,13 +1,11 @@
-use Rattle.std.proofs.Common.{refl, sym, subst, rules, arith, ◌+◌, ℕ, List, Ok}
-use Rattle.tape_label.specs.Widths.{IsWideVolume}
-use Rattle.tape_set.proofs.Everywhere.{every_at}
+use Rattle.tape_writer.proofs.Words.{refl, sym, subst, rules, arith, ◌+◌, ℕ, List, Ok, IsWideVolume}
+use Rattle.tape_writer.proofs.Words.{every_at}
 use Rattle.tape_writer.specs.declared.{course.Course.Course, tape.Tape.Tape}
 use Rattle.tape_writer.specs.{Draft.begun_course, Front.HoldsFront, Inside.IsBetween}
 use Rattle.tape_writer.specs.{Inside.IsWaiting, Labels.header_items, Tapes.Ended, Told.Told}
+use Rattle.tape_writer.proofs.records.begin.Goals.{then-tape-eq0+in_ok-begin_volume, else-tape-eq0}
 use Rattle.tape_writer.proofs.{Ends.between_first, Ends.filing_begun, Fronts.front_items}
 use Rattle.tape_writer.proofs.{Fronts.err_any, Held.got, Left.unbegun, Left.is_begun}
-use Rattle.tape_writer.proofs.records.begin.Goals.{then-tape-eq0+in_ok-begin_volume}
-use Rattle.tape_writer.proofs.records.begin.Goals.{else-tape-eq0}
 use Rattle.tape_writer.proofs.records.begin.Goals as goal
 
 pub returns-in_err-begin_volume-clause-front : goal.returns-in_err-begin_volume-clause-front

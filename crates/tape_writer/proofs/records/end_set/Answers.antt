@@ -1,8 +1,7 @@
-use Rattle.std.proofs.Common.{◌∷◌, [], refl, Ok}
-use Rattle.tape_image.specs.Tape.{mark}
+use Rattle.tape_writer.proofs.Words.{◌∷◌, [], refl, Ok, mark}
 use Rattle.tape_writer.specs.{Tapes.UnderWay, Front.HoldsFront}
-use Rattle.tape_writer.proofs.{Ends.end_written, Last.lasting_err, Last.lasting_then}
 use Rattle.tape_writer.proofs.Fronts.{front_here, front_items, front_closed}
+use Rattle.tape_writer.proofs.{Ends.end_written, Last.lasting_err, Last.lasting_then}
 use Rattle.tape_writer.proofs.records.end_set.Goals as goal
 
 pub returns-clause-written : goal.returns-clause-written

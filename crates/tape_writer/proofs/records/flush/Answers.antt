@@ -1,16 +1,12 @@
 -- The current block is written, in the current section or after a change of the volume.
-use Rattle.std.proofs.Common.{rules, arith, ap, refl, ◌∷◌, [], length, Ok}
-use Rattle.std.proofs.lemmas.Result.{err_from_is_err_and}
-use Rattle.tape_image.specs.Tape.{block}
-use Rattle.tape_label.specs.Widths.{IsWideVolume}
-use Rattle.tape_blocks.specs.Tight.{Filled}
-use Rattle.tape_set.specs.Sizes.{item_size}
-use Rattle.tape_set.proofs.Everywhere.{every_at}
+use Rattle.tape_writer.proofs.Words.{rules, arith, ap, refl, ◌∷◌, [], length, Ok}
+use Rattle.tape_writer.proofs.Words.{err_from_is_err_and, block, IsWideVolume, Filled, item_size}
+use Rattle.tape_writer.proofs.Words.{every_at}
 use Rattle.tape_writer.specs.{Draft.added_course, Draft.changed_course, Front.HoldsFront}
-use Rattle.tape_writer.proofs.{Fronts.took, Fronts.front_items, Fronts.err_any, Held.got}
-use Rattle.tape_writer.proofs.{Held.write_here, Held.write_next, Last.lasting_self}
-use Rattle.tape_writer.proofs.{Packed.given_sized, Packed.flushed_by, Stuck.left_out}
+use Rattle.tape_writer.proofs.Held.{got, write_here, write_next}
 use Rattle.tape_writer.proofs.Room.{flushed_here, flushed_next, none_room}
+use Rattle.tape_writer.proofs.{Fronts.took, Fronts.front_items, Fronts.err_any, Last.lasting_self}
+use Rattle.tape_writer.proofs.{Packed.given_sized, Packed.flushed_by, Stuck.left_out}
 use Rattle.tape_writer.proofs.records.flush.Goals as goal
 
 pub add_block-requires-clause-sized : goal.add_block-requires-clause-sized

@@ -1,9 +1,8 @@
-use Rattle.std.proofs.Common.{◌≡◌, ◌⊎◌, ◌≤◌, ℕ, ◌+◌, List, length, false, true}
+use Rattle.tape_writer.proofs.Words.{◌≡◌, ◌⊎◌, ◌≤◌, ℕ, ◌+◌, List, length, false, true}
+use Rattle.tape_writer.proofs.Words.{HasRecordLength, IsJudged, Section}
 use Rattle.tape_label.specs.declared.values.Format.TheVariants.{Spanned}
-use Rattle.tape_blocks.specs.Packing.{HasRecordLength, IsJudged}
-use Rattle.tape_set.specs.Layout.{Section}
 use Rattle.tape_writer.specs.{Draft.IsRoomy, Lasting.Lasting, Tapes.WasAsked, Room.room_of}
-use Rattle.tape_writer.specs.Inside.{IsInside, IsPacking}
+use Rattle.tape_writer.specs.{Inside.IsInside, Inside.IsPacking}
 use Rattle.tape_writer.proofs.records.put_record.Given as goal
 
 abbrev pub invariant-offers : goal.invariant-offers

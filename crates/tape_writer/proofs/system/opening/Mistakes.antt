@@ -1,7 +1,8 @@
 -- A result that the contract of the check for a blank volume excludes: it is the result of a wrong
 -- body.
-use Rattle.std.proofs.Common.{◌≡◌, ◌++◌, ◌∷◌, [], length, refl, ap, subst, arith, length-append}
-use Rattle.std.proofs.Common.{◌↔◌, IfSome, IsTrue, Ok, Some, min, true}
+use Rattle.tape_writer.proofs.Words.{◌≡◌, ◌++◌, ◌∷◌, [], length, refl, ap, subst, arith}
+use Rattle.tape_writer.proofs.Words.{length-append, IfSome, Ok, Some, true}
+use Rattle.std.proofs.Common.{◌↔◌, IsTrue, min}
 use Rattle.tape_writer.specs.Blank.{blank_image, blank_volume}
 use Rattle.tape_writer.proofs.system.opening.is_blank.Reads as is_blank
 

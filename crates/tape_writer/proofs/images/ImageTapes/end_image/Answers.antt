@@ -1,6 +1,6 @@
-use Rattle.std.proofs.Common.{rules, ◌∙◌, refl, sym, subst, inl}
-use Rattle.tape_writer.proofs.Written.{end_at, put_kept}
+use Rattle.tape_writer.proofs.Words.{rules, ◌∙◌, refl, sym, subst, inl}
 use Rattle.byteorder.specs.Endian.{little_bytes}
+use Rattle.tape_writer.proofs.Written.{end_at, put_kept}
 use Rattle.tape_image.specs.{Word.end_word, Writer.finished}
 use Rattle.tape_writer.specs.Images.{AreImages}
 use Rattle.tape_writer.proofs.images.ImageTapes.end_image.Goals as goal

@@ -1,4 +1,4 @@
-use Rattle.std.proofs.Common.{sym, subst}
+use Rattle.tape_writer.proofs.Words.{sym, subst}
 use Rattle.tape_writer.specs.{Tapes.Ended, Tapes.all_volumes, Images.AreImages}
 use Rattle.tape_writer.proofs.Written.{begun_at}
 use Rattle.tape_writer.proofs.images.ImageTapesTapeOut.change_volume.Goals as goal

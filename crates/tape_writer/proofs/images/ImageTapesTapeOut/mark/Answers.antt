@@ -1,6 +1,6 @@
-use Rattle.std.proofs.Common.{rules, refl, sym, subst, Some, inr}
+use Rattle.tape_writer.proofs.Words.{rules, refl, sym, subst, Some, inr, mark, writing}
 use Rattle.tape_writer.proofs.Written.{mark_at, put_kept}
-use Rattle.tape_image.specs.{Tape.mark, Written.written, Writer.writing}
+use Rattle.tape_image.specs.Written.{written}
 use Rattle.tape_writer.specs.Images.{AreImages}
 use Rattle.tape_writer.proofs.images.ImageTapesTapeOut.mark.Goals as goal
 

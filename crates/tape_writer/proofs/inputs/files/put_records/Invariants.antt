@@ -1,7 +1,7 @@
-use Rattle.std.proofs.Common.{◌≡◌, vec_capacity}
+use Rattle.tape_writer.proofs.Words.{◌≡◌, vec_capacity}
 use Rattle.tape_writer.specs.declared.course.Opened.{Opened}
 use Rattle.tape_writer.specs.{State.IsWriting, Refusals.IsInFile, Records.left_of, Room.room_left}
-use Rattle.tape_writer.specs.Tapes.{Grows}
+use Rattle.tape_writer.specs.{Tapes.Grows}
 use Rattle.tape_writer.proofs.inputs.Putting.{PutWithin}
 use Rattle.tape_writer.proofs.inputs.files.put_records.Given as goal
 

@@ -1,13 +1,11 @@
-use Rattle.std.proofs.Common.{◌≡◌, ◌+◌, ◌∙◌, length, inr, arith}
+use Rattle.tape_writer.proofs.Words.{◌≡◌, ◌+◌, ◌∙◌, length, inr, arith, err_from_is_err_and}
 use Rattle.tape_writer.specs.declared.fault.WriteFault.TheVariants.{OutOfVolumes, OutOfMemory}
-use Rattle.std.proofs.lemmas.Result.{err_from_is_err_and}
-use Rattle.tape_writer.specs.{State.IsWriting, Told.opened_by}
-use Rattle.tape_writer.proofs.{Last.rose_from, Standing.inside_writing, inputs.Putting.file_told}
-use Rattle.tape_writer.proofs.inputs.Refusing.{input_fault, end_fault}
-use Rattle.tape_writer.proofs.{inputs.Stopping.end_out, inputs.Finished.in_input, Fronts.front_here}
-use Rattle.tape_writer.specs.NoVolume.{GaveUp}
+use Rattle.tape_writer.specs.{State.IsWriting, Told.opened_by, LeftOf.GaveUp}
+use Rattle.tape_writer.proofs.{Last.rose_from, Fronts.inside_writing, Fronts.front_here}
 use Rattle.tape_writer.proofs.inputs.Leaving.{begin_left, none_left, if_any, file_left, end_left}
 use Rattle.tape_writer.proofs.inputs.Leaving.{ended_left, ending_other, end_ends, of_writer}
+use Rattle.tape_writer.proofs.inputs.{Putting.file_told, Putting.end_out, Refusing.input_fault}
+use Rattle.tape_writer.proofs.inputs.{Refusing.end_fault, Filing.in_input}
 use Rattle.tape_writer.proofs.inputs.files.write_file.Goals as goal
 
 pub returns-in-Ok-end_file-clause-told : goal.returns-in-Ok-end_file-clause-told

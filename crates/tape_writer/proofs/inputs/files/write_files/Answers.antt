@@ -1,14 +1,11 @@
-use Rattle.std.proofs.Common.{rules, arith, get_or, ◌+◌, ◌++◌, ◌∷◌, [], length, refl, subst, ◌∙◌}
-use Rattle.std.proofs.Common.{◌≤◌, IfSome, ◌⊎◌}
-use Rattle.tape_set.specs.Tight.{least_capacity}
-use Rattle.std.proofs.lemmas.Result.{err_from_is_err_and}
-use Rattle.tape_writer.proofs.{Last.rose_from, inputs.Filing.wrote_none, inputs.Filing.wrote_one}
-use Rattle.tape_writer.proofs.{inputs.Refusing.wrote_fault, inputs.Leaving.all_more}
-use Rattle.tape_writer.proofs.{inputs.Filing.wrote_in}
-use Rattle.tape_writer.specs.{NoVolume.GaveUp, LeftOf.IsLeftOf, LeftOf.IsLeftUnbegun}
-use Rattle.tape_writer.specs.{Told.with_file, Tapes.Rose}
-use Rattle.tape_writer.specs.{State.IsWriting, Told.opened_by, Records.records_of}
-use Rattle.tape_writer.proofs.inputs.Stopping.{grows_self, grows_then}
+use Rattle.tape_writer.proofs.Words.{rules, arith, get_or, ◌+◌, ◌++◌, ◌∷◌, [], length, refl, subst}
+use Rattle.tape_writer.proofs.Words.{◌∙◌, ◌≤◌, IfSome, ◌⊎◌, least_capacity, err_from_is_err_and}
+use Rattle.tape_writer.proofs.Last.{rose_from}
+use Rattle.tape_writer.proofs.inputs.Filing.{wrote_none, wrote_one, wrote_in}
+use Rattle.tape_writer.proofs.inputs.{Refusing.wrote_fault, Leaving.all_more, Putting.grows_self}
+use Rattle.tape_writer.proofs.inputs.{Putting.grows_then}
+use Rattle.tape_writer.specs.{LeftOf.GaveUp, LeftOf.IsLeftOf, LeftOf.IsLeftUnbegun, Told.with_file}
+use Rattle.tape_writer.specs.{Told.opened_by, Tapes.Rose, State.IsWriting, Records.records_of}
 use Rattle.tape_writer.proofs.inputs.files.write_files.Goals as goal
 
 pub files-init : goal.files-init

@@ -1,6 +1,4 @@
-use Rattle.std.proofs.Common.{◌≡◌, ◌<◌, ◌≤◌, ◌+◌, ◌-◌, length}
-use Rattle.tape_blocks.specs.Packing.{IsWritable}
-use Rattle.tape_set.specs.Tight.{least_capacity}
+use Rattle.tape_writer.proofs.Words.{◌≡◌, ◌<◌, ◌≤◌, ◌+◌, ◌-◌, length, IsWritable, least_capacity}
 use Rattle.tape_writer.specs.declared.phase.Phase.TheVariants.{Between}
 use Rattle.tape_writer.specs.{State.IsWriting, Tapes.Grows}
 use Rattle.tape_writer.proofs.inputs.Filing.{Wrote}

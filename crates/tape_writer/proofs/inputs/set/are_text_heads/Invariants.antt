@@ -1,5 +1,4 @@
-use Rattle.std.proofs.Common.{take}
-use Rattle.std.specs.List.{AllByRecursion}
+use Rattle.tape_writer.proofs.Words.{take, AllByRecursion}
 use Rattle.tape_writer.specs.Fields.{IsTextHead}
 use Rattle.tape_writer.proofs.inputs.set.are_text_heads.Given as goal
 

@@ -1,4 +1,4 @@
-use Rattle.std.proofs.Common.{rules}
+use Rattle.tape_writer.proofs.Words.{rules}
 use Rattle.tape_writer.proofs.Closing.{volume_between, volume_current, volume_ended}
 use Rattle.tape_writer.proofs.memory.MemoryTapes.volume.Goals as goal
 

@@ -1,5 +1,4 @@
-use Rattle.std.proofs.Common.{sym, ap, ◌∙◌, map, option_map}
-use Rattle.std.proofs.lemmas.List.{map-append}
+use Rattle.tape_writer.proofs.Words.{sym, ap, ◌∙◌, map, option_map, map-append}
 use Rattle.tape_writer.proofs.Closing.{closed}
 use Rattle.tape_writer.proofs.memory.MemoryTapesTapeOut.close.Goals as goal
 

@@ -1,7 +1,7 @@
-use Rattle.std.proofs.Common.{rules, inl, inr, refl, sym, ap, subst, ◌∙◌}
+use Rattle.tape_writer.proofs.Words.{rules, inl, inr, refl, sym, ap, subst, ◌∙◌}
 use Rattle.tape_writer.specs.{Faults.IsEnding, State.SetState}
-use Rattle.tape_writer.proofs.{Standing.behind_writing, Asked.asked_of, Calls.begin_told}
-use Rattle.tape_writer.proofs.{Left.left_begin, Last.lasting_self}
+use Rattle.tape_writer.proofs.{Fronts.behind_writing, Last.asked_of, Last.lasting_self}
+use Rattle.tape_writer.proofs.{Calls.begin_told, Left.left_begin}
 use Rattle.tape_writer.specs.declared.phase.Phase.TheVariants.{Failed}
 use Rattle.tape_writer.proofs.set.SetWriter.begin_file.Goals as goal
 

@@ -1,5 +1,5 @@
-use Rattle.std.proofs.Common.{rules}
-use Rattle.tape_writer.proofs.{Asked.asked_of, Left.left_finish, Last.lasting_self}
+use Rattle.tape_writer.proofs.Words.{rules}
+use Rattle.tape_writer.proofs.{Last.asked_of, Last.lasting_self, Left.left_finish}
 use Rattle.tape_writer.proofs.set.SetWriter.finish.Goals as goal
 
 pub returns-in-Filing-clause-lasting : goal.returns-in-Filing-clause-lasting

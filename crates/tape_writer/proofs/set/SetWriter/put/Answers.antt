@@ -1,6 +1,6 @@
-use Rattle.std.proofs.Common.{rules}
-use Rattle.tape_writer.proofs.{Asked.asked_of, Last.lasting_self, Left.left_put}
+use Rattle.tape_writer.proofs.Words.{rules}
 use Rattle.tape_writer.proofs.Calls.{put_told, stuck_put_told, if_filing}
+use Rattle.tape_writer.proofs.{Last.asked_of, Last.lasting_self, Left.left_put}
 use Rattle.tape_writer.proofs.set.SetWriter.put.Goals as goal
 
 pub returns-in-Between-clause-lasting : goal.returns-in-Between-clause-lasting

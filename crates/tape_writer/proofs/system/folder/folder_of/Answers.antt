@@ -1,4 +1,4 @@
-use Rattle.std.proofs.Common.{◌≡◌, ◌+◌, ◌-◌, Some, drop, take, ap, subst, sym, ◌∙◌, arith}
+use Rattle.tape_writer.proofs.Words.{◌≡◌, ◌+◌, ◌-◌, Some, drop, take, ap, subst, sym, ◌∙◌, arith}
 use Rattle.std.proofs.lemmas.Str.Pattern.{rfind_char}
 use Rattle.tape_writer.specs.System.{IsPathOf}
 use Rattle.tape_writer.proofs.Paths.{in_current, in_folder, in_root, last_of, none_of}

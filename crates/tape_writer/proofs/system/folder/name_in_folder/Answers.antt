@@ -1,4 +1,4 @@
-use Rattle.std.proofs.Common.{List, ℕ, codes, subst, sym, arith}
+use Rattle.tape_writer.proofs.Words.{List, ℕ, codes, subst, sym, arith}
 use Rattle.std.proofs.lemmas.Str.Pattern.{rfind_char}
 use Rattle.tape_writer.specs.System.{IsPathOf}
 use Rattle.tape_writer.proofs.Paths.{in_current, in_some, last_of, none_of}

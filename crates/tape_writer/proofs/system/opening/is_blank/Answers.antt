@@ -1,7 +1,8 @@
-use Rattle.std.proofs.Common.{◌≡◌, ◌<◌, ℕ, Bool, List, ◌++◌, length, take, Option, None, Some, sym}
-use Rattle.std.proofs.Common.{ap, ◌∙◌, arith, rules, append-nil, length-append, ◌↔◌, IfSome, IsTrue}
-use Rattle.std.proofs.lemmas.{Bool.Decides.Decides-eqb, List.length-take-le}
-use Rattle.std.proofs.lemmas.Slice.Eq.{slice_eq-Decides}
+use Rattle.tape_writer.proofs.Words.{◌≡◌, ◌<◌, ℕ, Bool, List, ◌++◌, length, take, Option, None}
+use Rattle.tape_writer.proofs.Words.{Some, sym, ap, ◌∙◌, arith, rules, length-append, IfSome}
+use Rattle.tape_writer.proofs.Words.{length-take-le}
+use Rattle.std.proofs.Common.{append-nil, ◌↔◌, IsTrue}
+use Rattle.std.proofs.lemmas.{Bool.Decides.Decides-eqb, Slice.Eq.slice_eq-Decides}
 use Rattle.tape_image.specs.Device.{Fills}
 use Rattle.tape_writer.proofs.system.opening.is_blank.Goals as goal
 

@@ -1,10 +1,9 @@
 -- The headers, or a prefix of them.
-use Rattle.std.proofs.Common.{◌++◌, ◌∷◌, [], List, subst}
-use Rattle.tape_image.specs.Tape.{TapeItem, block, mark}
-use Rattle.tape_label.specs.declared.values.Kind.TheVariants as kinds
+use Rattle.tape_writer.proofs.Words.{◌++◌, ◌∷◌, [], List, subst, TapeItem, block, mark}
 use Rattle.tape_writer.specs.Tapes.{UnderWay}
 use Rattle.tape_writer.specs.Labels.{first_label, second_label, header_items}
 use Rattle.tape_writer.proofs.Fronts.{front_here, front_items, front_behind, front_assoc}
+use Rattle.tape_label.specs.declared.values.Kind.TheVariants as kinds
 use Rattle.tape_writer.proofs.tape.Tape.begin_section.Goals as goal
 
 pub returns-in_err-label-clause-front : goal.returns-in_err-label-clause-front

@@ -1,6 +1,5 @@
 -- A volume with its label, or a prefix of it.
-use Rattle.std.proofs.Common.{◌∷◌, [], refl, subst}
-use Rattle.tape_image.specs.Tape.{block}
+use Rattle.tape_writer.proofs.Words.{◌∷◌, [], refl, subst, block}
 use Rattle.tape_writer.specs.{Tapes.UnderWay, Tapes.all_volumes, Front.HoldsFront}
 use Rattle.tape_writer.proofs.Fronts.{front_here, front_changed, took}
 use Rattle.tape_writer.proofs.Last.{lasting_err}

@@ -1,8 +1,8 @@
 -- The end of a section and the beginning of the next volume, or a prefix of them.
-use Rattle.std.proofs.Common.{◌++◌, ◌∷◌, [], ◌+◌, List, false, subst, ap, ◌∙◌}
-use Rattle.tape_image.specs.Tape.{TapeItem, block, mark}
-use Rattle.tape_writer.specs.{Tapes.UnderWay, Front.HoldsFront}
+use Rattle.tape_writer.proofs.Words.{◌++◌, ◌∷◌, [], ◌+◌, List, false, subst, ap, ◌∙◌, TapeItem}
+use Rattle.tape_writer.proofs.Words.{block, mark}
 use Rattle.tape_writer.specs.Labels.{volume_label, header_items, trailer_items}
+use Rattle.tape_writer.specs.{Tapes.UnderWay, Front.HoldsFront}
 use Rattle.tape_writer.proofs.Fronts.{front_here, front_items, front_changed}
 use Rattle.tape_writer.proofs.tape.Tape.change_to.Goals as goal
 

@@ -1,15 +1,13 @@
 -- The last block and the end of a file, in the current section or after a change of the volume.
-use Rattle.std.proofs.Common.{rules, arith, refl, true, sym, subst, inl, Ok, Err}
-use Rattle.std.proofs.lemmas.Result.{err_from_is_err_and}
-use Rattle.tape_label.specs.Widths.{IsWideVolume}
-use Rattle.tape_set.proofs.Everywhere.{every_at}
+use Rattle.tape_writer.proofs.Words.{rules, arith, refl, true, sym, subst, inl, Ok, Err}
+use Rattle.tape_writer.proofs.Words.{err_from_is_err_and, IsWideVolume, every_at}
 use Rattle.tape_writer.specs.declared.fault.WriteFault.TheVariants.{OutOfVolumes}
 use Rattle.tape_writer.specs.Draft.{ended_course, changed_course}
 use Rattle.tape_writer.specs.{Labels.trailer_items, Front.HoldsFront, Inside.IsStuck}
 use Rattle.tape_writer.proofs.{Ends.between_closed, Fronts.front_items, Fronts.err_any, Held.got}
 use Rattle.tape_writer.proofs.{Held.close_here, Held.close_next, Last.lasting_then, Left.last_left}
 use Rattle.tape_writer.proofs.{Left.end_left, Packed.flat_flushed, Packed.err_map, Stuck.stuck_last}
-use Rattle.tape_writer.proofs.Stuck.{stuck_end}
+use Rattle.tape_writer.proofs.{Stuck.stuck_end}
 use Rattle.tape_writer.proofs.tape.Tape.end_file.Goals as goal
 
 pub returns-then-has_room-clause-filed : goal.returns-then-has_room-clause-filed

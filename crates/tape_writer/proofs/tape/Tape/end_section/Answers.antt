@@ -1,6 +1,5 @@
 -- The end of a section, or a prefix of it.
-use Rattle.std.proofs.Common.{◌++◌, ◌∷◌, [], List, subst, ◌∙◌, ap}
-use Rattle.tape_image.specs.Tape.{TapeItem, block, mark}
+use Rattle.tape_writer.proofs.Words.{◌++◌, ◌∷◌, [], List, subst, ◌∙◌, ap, TapeItem, block, mark}
 use Rattle.tape_writer.specs.Tapes.{UnderWay}
 use Rattle.tape_writer.specs.Labels.{trailer_label, second_label, second_kind, trailer_items}
 use Rattle.tape_writer.proofs.Fronts.{front_here, front_items, front_behind, front_thrice}

@@ -1,4 +1,4 @@
-use Rattle.std.proofs.Common.{rules, refl}
+use Rattle.tape_writer.proofs.Words.{rules, refl}
 use Rattle.tape_writer.proofs.Last.{lasting_item, lasting_err}
 use Rattle.tape_writer.proofs.tape.Tape.mark.Goals as goal
 

@@ -1,4 +1,4 @@
-use Rattle.tape_writer.proofs.inputs.Ahead.{slice_range-advance}
+use Rattle.tape_writer.proofs.inputs.Cutting.{slice_range-advance}
 use Rattle.tape_writer.proofs.inputs.chunk.Chunk.skip.Goals as goal
 
 pub returns : goal.returns

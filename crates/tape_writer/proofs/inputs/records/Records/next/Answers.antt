@@ -1,9 +1,8 @@
-use Rattle.std.proofs.Common.{arith, rules, refl, subst, vec_capacity}
-use Rattle.std.proofs.lemmas.{Grind.common_steps, Result.err_from_is_err_and}
+use Rattle.tape_writer.proofs.Words.{arith, rules, refl, subst, vec_capacity, err_from_is_err_and}
+use Rattle.std.proofs.lemmas.Grind.{common_steps}
 use Rattle.tape_writer.specs.Records.{Adds, GrowsLong}
 use Rattle.tape_writer.proofs.inputs.Cutting.{read_ahead, used, piece_taken, piece_more, next_given}
-use Rattle.tape_writer.proofs.inputs.Cutting.{taken}
-use Rattle.tape_writer.proofs.inputs.Refusing.{no_room, grows_long}
+use Rattle.tape_writer.proofs.inputs.{Cutting.taken, Refusing.no_room, Refusing.grows_long}
 use Rattle.tape_writer.proofs.inputs.records.Records.next.Goals as goal
 
 pub pieces-preserved : goal.pieces-preserved

@@ -1,4 +1,4 @@
-use Rattle.std.proofs.Common.{◌≡◌, ◌≤◌, ◌-◌, ◌+◌, length, false, vec_capacity}
+use Rattle.tape_writer.proofs.Words.{◌≡◌, ◌≤◌, ◌-◌, ◌+◌, length, false, vec_capacity}
 use Rattle.tape_writer.specs.Records.{left_of}
 use Rattle.tape_writer.proofs.inputs.Cutting.{SoFar}
 use Rattle.tape_writer.proofs.inputs.records.Records.next.Given as goal
