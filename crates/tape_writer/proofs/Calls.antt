@@ -20,6 +20,13 @@ with_last [] t r = refl
 with_last (u ∷ []) t r = refl
 with_last (u ∷ v ∷ past) t r = ap (λ z. u ∷ z) (with_last (v ∷ past) t r)
 
+-- one more record was passed for the last file
+pub put_last : (told past : List Told) (file : Opened) (records : List (List ℕ)) (r : List ℕ)
+    → told ≡ past ++ record { file = file; records = records } ∷ []
+    → with_record told r ≡ past ++ record { file = file; records = records ++ r ∷ [] } ∷ []
+put_last told past file records r e = ap (λ z. with_record z r) e
+    ∙ with_last past (record { file = file; records = records }) r
+
 with_kept : (told : List Told) (r : List ℕ)
     → map (λ t. t.file) (with_record told r) ≡ map (λ t. t.file) told
 with_kept [] r = refl
@@ -51,8 +58,7 @@ put_told H H' w out vs course o q told r is v packed k =
       stands = record {
         past = last.past;
         records = last.records ++ r ∷ [];
-        is_told = ap (λ z. with_record z r) last.is_told
-            ∙ with_last last.past (record { file = o.file; records = last.records }) r;
+        is_told = put_last told last.past o.file last.records r last.is_told;
         filing = record {
           files = f.files;
           filed = f.filed;
@@ -89,44 +95,6 @@ end_told H H' w out vs course o told is v closed k =
       );
     }
 
-opened_told : {T : Type 0} (H H' : Tapes → Type 0) (w : SetState T) (out : T) (vs : List Vol1)
-    (files : List Opened) (course : Course) (p : Packing) (told : List Told) (head : Head1)
-    (shape : Shape) (number : ℕ)
-    → w.phase ≡ Between → vs ≡ w.volumes → number ≡ length w.files + 1
-    → files ≡ w.files ++ opened_by w.set_id number head shape ∷ []
-    → (number ≡ length told + 1 → IsWaiting H vs w.capacity w.set_id w.course told
-    → IsFiling H' vs w.capacity w.set_id (opened_by w.set_id number head shape) course p told [])
-    → IsWriting H w told → IsWriting H'
-    (record w {
-      out = out;
-      files = files;
-      course = course;
-      phase = Filing (record { file = opened_by w.set_id number head shape; packer = p });
-    })
-    (told ++ record { file = opened_by w.set_id (length told + 1) head shape; records = [] } ∷ [])
-opened_told H H' w out vs files course p told head shape number is v n f filing k =
-    let waits : IsWaiting H w.volumes w.capacity w.set_id w.course told =
-    subst (λ z. Stands H w.volumes w.capacity w.set_id w.course z told) is k.stands in
-    let many : length w.files ≡ length told = ap length k.kept ∙ length-map told (λ t. t.file) in
-    let number_is : number ≡ length told + 1 = n ∙ ap (λ i. i + 1) many in
-    let o : OpenFile = record { file = opened_by w.set_id number head shape; packer = p } in
-    let t : Told = record { file = opened_by w.set_id number head shape; records = [] } in
-    let made : IsWriting H' (record w
-    { out = out; files = files; course = course; phase = Filing o }) (told ++ t ∷ []) = record {
-      kept = f ∙ (ap (λ z. z ++ o.file ∷ []) k.kept ∙ sym (map-append (λ x. x.file) told (t ∷ [])));
-      stands = record {
-        past = told;
-        records = [];
-        is_told = refl;
-        filing = subst (λ z. IsFiling H' z w.capacity w.set_id o.file course p told []) v
-            (filing number_is
-            (subst (λ z. IsWaiting H z w.capacity w.set_id w.course told) (sym v) waits));
-      };
-    } in
-    subst (λ i. IsWriting H'
-    (record w { out = out; files = files; course = course; phase = Filing o })
-    (told ++ record { file = opened_by w.set_id i head shape; records = [] } ∷ [])) number_is made
-
 pub begin_told : {T : Type 0} (H H' : Tapes → Type 0) (w : SetState T) (out : T) (vs : List Vol1)
     (files : List Opened) (file : Opened) (course : Course) (p : Packing) (told : List Told)
     (head : Head1) (shape : Shape)
@@ -143,69 +111,52 @@ pub begin_told : {T : Type 0} (H H' : Tapes → Type 0) (w : SetState T) (out : 
     })
     (told ++ record { file = opened_by w.set_id (length told + 1) head shape; records = [] } ∷ [])
 begin_told H H' w out vs files file course p told head shape is v same f filing k =
-    let number = length w.files + 1 in
-    subst (λ z. files ≡ w.files ++ z ∷ []
-    → (z.head.set_id ≡ w.set_id → z.head.sequence ≡ length told + 1
-    → IsWaiting H vs w.capacity w.set_id w.course told
-    → IsFiling H' vs w.capacity w.set_id z course p told []) → IsWriting H'
-    (record w {
-      out = out;
-      files = files;
-      course = course;
-      phase = Filing (record { file = z; packer = p });
-    })
-    (told ++ record { file = opened_by w.set_id (length told + 1) head shape; records = [] } ∷ []))
-    (sym same)
-    (λ g h. opened_told H H' w out vs files course p told head shape number is v refl g
-    (λ n x. h refl n x) k)
-    f filing
+    let waits : IsWaiting H w.volumes w.capacity w.set_id w.course told =
+    subst (λ z. Stands H w.volumes w.capacity w.set_id w.course z told) is k.stands in
+    let many : length w.files ≡ length told = ap length k.kept ∙ length-map told (λ t. t.file) in
+    let named : file ≡ opened_by w.set_id (length told + 1) head shape =
+    same ∙ ap (λ i. opened_by w.set_id (i + 1) head shape) many in
+    let o : OpenFile = record { file = file; packer = p } in
+    let t : Told = record { file = file; records = [] } in
+    let made : IsWriting H' (record w
+    { out = out; files = files; course = course; phase = Filing o }) (told ++ t ∷ []) = record {
+      kept = f ∙ (ap (λ z. z ++ file ∷ []) k.kept ∙ sym (map-append (λ x. x.file) told (t ∷ [])));
+      stands = record {
+        past = told;
+        records = [];
+        is_told = refl;
+        filing = subst (λ z. IsFiling H' z w.capacity w.set_id file course p told []) v
+            (filing (ap (λ z. z.head.set_id) named) (ap (λ z. z.head.sequence) named)
+            (subst (λ z. IsWaiting H z w.capacity w.set_id w.course told) (sym v) waits));
+      };
+    } in
+    subst (λ z. IsWriting H'
+    (record w { out = out; files = files; course = course; phase = Filing o })
+    (told ++ record { file = z; records = [] } ∷ [])) named made
 
+-- no volume is left, for the records passed or for others in their place
 pub stuck_told : {T : Type 0} (H H' : Tapes → Type 0) (w : SetState T) (out : T) (vs : List Vol1)
-    (course : Course) (o : OpenFile) (told : List Told)
-    → w.phase ≡ Filing o → vs ≡ w.volumes
+    (course : Course) (o : OpenFile) (told told' : List Told)
+    (grow : List (List ℕ) → List (List ℕ)) → w.phase ≡ Filing o → vs ≡ w.volumes
+    → ((past : List Told) (records : List (List ℕ))
+    → told ≡ past ++ record { file = o.file; records = records } ∷ []
+    → told' ≡ past ++ record { file = o.file; records = grow records } ∷ [])
     → ((fs : List (List Section)) (records : List (List ℕ))
     → IsInside H vs w.capacity w.set_id o.file w.course o.packer fs records
-    → IsStuck H' vs w.capacity w.set_id o.file course fs records)
+    → IsStuck H' vs w.capacity w.set_id o.file course fs (grow records))
     → IsWriting H w told
-    → IsOutOfVolumes H' (record w { out = out; course = course; phase = Failed }) told
-stuck_told H H' w out vs course o told is v stuck k =
+    → IsOutOfVolumes H' (record w { out = out; course = course; phase = Failed }) told'
+stuck_told H H' w out vs course o told told' grow is v grown stuck k =
     let last = last_told H w o told is k in
     let f = last.filing in
     record {
       past = last.past;
-      last = record { file = o.file; records = last.records };
-      is_told = last.is_told;
-      files = f.files;
-      filed = f.filed;
-      stuck = subst (λ z. IsStuck H' z w.capacity w.set_id o.file course f.files last.records) v
-          (stuck f.files last.records
-          (subst (λ z. IsInside H z w.capacity w.set_id o.file w.course o.packer f.files
-          last.records) (sym v) f.inside));
-    }
-
--- the same for a record that was offered after them
-pub stuck_put_told : {T : Type 0} (H H' : Tapes → Type 0) (w : SetState T) (out : T)
-    (vs : List Vol1)
-    (course : Course) (o : OpenFile) (told : List Told) (r : List ℕ)
-    → w.phase ≡ Filing o → vs ≡ w.volumes
-    → ((fs : List (List Section)) (records : List (List ℕ))
-    → IsInside H vs w.capacity w.set_id o.file w.course o.packer fs records
-    → IsStuck H' vs w.capacity w.set_id o.file course fs (records ++ r ∷ []))
-    → IsWriting H w told
-    → IsOutOfVolumes H' (record w { out = out; course = course; phase = Failed })
-    (with_record told r)
-stuck_put_told H H' w out vs course o told r is v stuck k =
-    let last = last_told H w o told is k in
-    let f = last.filing in
-    record {
-      past = last.past;
-      last = record { file = o.file; records = last.records ++ r ∷ [] };
-      is_told = ap (λ z. with_record z r) last.is_told
-          ∙ with_last last.past (record { file = o.file; records = last.records }) r;
+      last = record { file = o.file; records = grow last.records };
+      is_told = grown last.past last.records last.is_told;
       files = f.files;
       filed = f.filed;
       stuck = subst (λ z. IsStuck H' z w.capacity w.set_id o.file course f.files
-          (last.records ++ r ∷ [])) v
+          (grow last.records)) v
           (stuck f.files last.records
           (subst (λ z. IsInside H z w.capacity w.set_id o.file w.course o.packer f.files
           last.records) (sym v) f.inside));

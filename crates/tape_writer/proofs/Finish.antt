@@ -6,6 +6,7 @@ use Rattle.tape_writer.proofs.Words.{Vol1, Section, Placed, Volume, a_mark, on, 
 use Rattle.tape_writer.proofs.Words.{numbered, all_numbered, group_of, item_of, IsSection}
 use Rattle.tape_writer.proofs.Words.{IsTightChange, used_before, items_size-append, every}
 use Rattle.tape_writer.proofs.Words.{IsWideVolume}
+use Rattle.tape_writer.proofs.Words.{length-take-le}
 use Rattle.tape_set.specs.Layout.{FileSet, nth, sections, entries_on, header_group, data_group}
 use Rattle.tape_set.specs.Layout.{items, first_items, all_items}
 use Rattle.tape_set.specs.Tight.{IsTightEnd, AreTightFiles, EachBehind, ChainBehind, last_volume}
@@ -34,11 +35,6 @@ all_plain : (vs : List Vol1) (n : ℕ)
 all_plain vs zero = tt
 all_plain [] (suc n) = tt
 all_plain (v ∷ vs) (suc n) = (refl, all_plain vs n)
-
-pub length_taken : {A : Type 0} (vs : List A) (n : ℕ) → n ≤ length vs → length (take n vs) ≡ n
-length_taken vs zero h = refl
-length_taken [] (suc n) h = absurd (omega arith)
-length_taken (v ∷ vs) (suc n) h = ap suc (length_taken vs n (omega arith))
 
 get_taken : {A : Type 0} (vs : List A) (n k : ℕ) → k < n → slice_get (take n vs) k ≡ slice_get vs k
 get_taken vs zero k h = absurd (omega arith)
@@ -147,7 +143,7 @@ written_set H vs cap set_id course d told wide some b files h =
     let n : ℕ = d.past + 1 in
     let all_vs : List Volume = map labelled vs in
     let set : FileSet = set_of vs set_id d in
-    let long : length set.volumes ≡ n = length_taken all_vs n (omega (arith, b.volume, b.few)) in
+    let long : length set.volumes ≡ n = length-take-le n all_vs (omega (arith, b.volume, b.few)) in
     let all : placed d ≡ sections set =
     ap (λ z. all_numbered 1 d.files ++ numbered (length d.files + 1) 1 z) b.no_sects
     ∙ append-nil (all_numbered 1 d.files) in

@@ -4,15 +4,18 @@ use Rattle.tape_writer.proofs.Words.{true, false, Some, refl, sym, ap, ◌∙◌
 use Rattle.tape_writer.proofs.Words.{arith, get_or, map, slice_get, OnOk, Result, Ok, Err}
 use Rattle.tape_writer.proofs.Words.{option_map, append-nil, length-map, Vol1, TapeItem, block}
 use Rattle.tape_writer.proofs.Words.{mark, Filled, Section, blocks_of_all, item_size, IsWideVolume}
-use Rattle.tape_writer.proofs.Words.{lt-leb}
+use Rattle.tape_writer.proofs.Words.{lt-leb, every_at, AllByRecursion, least_capacity, Packing}
+use Rattle.tape_writer.proofs.Words.{Given, IsWritable, Shape}
 use Rattle.std.proofs.lemmas.{Option.slice_get-map, Grind.flat_map-append}
+use Rattle.std.proofs.lemmas.Option.{slice_get_within, slice_get-get_or}
 use Rattle.tape_writer.specs.declared.{course.Opened.Opened, course.Course.Course}
 use Rattle.tape_writer.specs.declared.{fault.WriteFault.WriteFault}
 use Rattle.tape_writer.specs.Labels.{volume_label, header_items, trailer_items}
 use Rattle.tape_writer.specs.Draft.{Draft, open_blocks, closing, here, body_items, open_items}
 use Rattle.tape_writer.specs.Draft.{ended_volumes, Within, Steady, changed_draft, changed_course}
 use Rattle.tape_writer.specs.Draft.{ended_draft, added_draft, added_course, ended_course, IsOpen}
-use Rattle.tape_writer.specs.Draft.{Grew, Closed, changed_tapes}
+use Rattle.tape_writer.specs.Draft.{Closed, changed_tapes}
+use Rattle.tape_writer.specs.Inside.{Flushed}
 use Rattle.tape_writer.specs.{Tapes.Tapes, Tapes.UnderWay, Tapes.Takes, Told.labelled}
 use Rattle.tape_writer.proofs.Sections.{ends_by, of_file}
 use Rattle.tape_writer.proofs.Changed.{changed, ended_changed, open_changed}
@@ -24,35 +27,48 @@ label_at vs k v e = slice_get-map labelled vs k ∙ ap (option_map labelled) e
 
 pub in_range : (vs : List Vol1) (k : ℕ) (v : Vol1) → slice_get vs k ≡ Some v
     → k < length (map labelled vs)
-in_range [] k v e = absurd (cc)
-in_range (w ∷ vs) zero v e = omega arith
-in_range (w ∷ vs) (suc k) v e = let ih = in_range vs k v e in omega (arith, ih)
+in_range vs k v e = omega (arith, slice_get_within vs k v e, length-map vs labelled)
 
 blocks_next : (ss : List Section) (s : Section)
     → blocks_of_all (ss ++ s ∷ []) ≡ blocks_of_all ss ++ s.blocks
 blocks_next ss s = flat_map-append (λ x. x.blocks) ss (s ∷ [])
     ∙ ap (λ z. blocks_of_all ss ++ z) (append-nil s.blocks)
 
--- a block is written, in the current section or on the next volume
+pub got : (vs : List Vol1) (k n : ℕ) (v : Vol1) → k ≡ n → k < length vs → v ≡ get_or vs k v
+    → slice_get vs n ≡ Some v
+got vs k n v e h g =
+    ap (slice_get vs) (sym e) ∙ (slice_get-get_or vs k v h ∙ ap Some (sym g))
+
+-- a block that is returned has bytes
+pub given_sized : (p : Packing) (shape : Shape) (text : List ℕ) → p.shape ≡ shape
+    → IsWritable shape → Given p text → (0 < length text) × (length text ≤ 99999)
+given_sized p shape text same w given =
+    (given.some_bytes, omega (arith, given.within, w.most, ap (λ s. s.block_len) same))
+
+-- the current block is written, in the current section or on the next volume
 pub write_here : (H H' : Tapes → Type 0) (vs : List Vol1) (cap : ℕ) (set_id : List ℕ)
-    (file : Opened) (course course' : Course) (d : Draft) (b : Filled)
+    (file : Opened) (course course' : Course) (d : Draft) (p : Packing) (text : List ℕ)
     (r : Result (Unit {0}) WriteFault)
-    → (0 < length b.bytes) × (length b.bytes ≤ 99999) → IsOpen H vs cap set_id file course d
-    → course.used + item_size (block b.bytes) + 192 ≤ cap → Takes (block b.bytes ∷ []) H r H'
-    → OnOk r (course' ≡ added_course course (item_size (block b.bytes)))
-    → OnOk r (Grew H' vs cap set_id file course' d b)
-write_here H H' vs cap set_id file course course' d b (Err e) sized o fits k n = tt
-write_here H H' vs cap set_id file course course' d b (Ok x) sized o fits k n = record {
-  draft = added_draft d b;
-  is_open = subst (λ z. IsOpen H' vs cap set_id file z (added_draft d b)) (sym n) (record {
-    steady = added_here (map labelled vs) cap set_id file course d b sized o.steady fits;
-    held = subst (λ z. H' (UnderWay (ended_volumes (map labelled vs) d) z))
-        (sym (open_added (map labelled vs) file course d b (item_size (block b.bytes))))
-        (k _ _ o.held);
-  });
-  files = refl;
-  blocks = sym (append_assoc (blocks_of_all d.sects) d.blocks (b ∷ []));
-}
+    → Given p text → p.shape ≡ file.shape → IsOpen H vs cap set_id file course d
+    → course.used + item_size (block text) + 192 ≤ cap → Takes (block text ∷ []) H r H'
+    → OnOk r (course' ≡ added_course course (item_size (block text)))
+    → OnOk r (Flushed H' vs cap set_id file course' d p)
+write_here H H' vs cap set_id file course course' d p text (Err e) given same o fits k n = tt
+write_here H H' vs cap set_id file course course' d p text (Ok x) given same o fits k n =
+    let b : Filled = record { bytes = text; parts = p.parts } in record {
+      draft = added_draft d b;
+      text = text;
+      given = given;
+      is_open = subst (λ z. IsOpen H' vs cap set_id file z (added_draft d b)) (sym n) (record {
+        steady = added_here (map labelled vs) cap set_id file course d b
+            (given_sized p file.shape text same o.steady.inside.ready.writable given) o.steady fits;
+        held = subst (λ z. H' (UnderWay (ended_volumes (map labelled vs) d) z))
+            (sym (open_added (map labelled vs) file course d b (item_size (block text))))
+            (k _ _ o.held);
+      });
+      files = refl;
+      blocks = sym (append_assoc (blocks_of_all d.sects) d.blocks (b ∷ []));
+    }
 
 -- the contents after a change
 held_changed : (H : Tapes → Type 0) (vs : List Vol1) (cap : ℕ) (set_id : List ℕ)
@@ -73,31 +89,41 @@ held_changed H vs cap set_id file course d v s g h =
     w.volume (label_at vs course.volume v g))) h)
 
 pub write_next : (H H1 H2 : Tapes → Type 0) (vs : List Vol1) (cap : ℕ) (set_id : List ℕ)
-    (file : Opened) (course course1 course2 : Course) (d : Draft) (b : Filled) (v : Vol1)
-    (r : Result (Unit {0}) WriteFault)
-    → (0 < length b.bytes) × (length b.bytes ≤ 99999) → IsOpen H vs cap set_id file course d
-    → cap < course.used + item_size (block b.bytes) + 192 → slice_get vs course.volume ≡ Some v
-    → IsWideVolume v → length vs ≤ 9999 → 1024 + length b.bytes ≤ cap → cap ≤ 4294967295
+    (file : Opened) (course course1 course2 : Course) (d : Draft) (p : Packing) (text : List ℕ)
+    (v : Vol1) (i : ℕ) (r : Result (Unit {0}) WriteFault)
+    → Given p text → p.shape ≡ file.shape → IsOpen H vs cap set_id file course d
+    → cap < course.used + item_size (block text) + 192 → i ≡ course.volume → i < length vs
+    → v ≡ get_or vs i v → AllByRecursion IsWideVolume vs → length vs ≤ 9999
+    → least_capacity file.shape ≤ cap → cap ≤ 4294967295
     → ((volumes : List (List TapeItem)) (items : List TapeItem) → H (UnderWay volumes items)
     → H1 (changed_tapes file course v volumes items))
-    → course1 ≡ changed_course course → Takes (block b.bytes ∷ []) H1 r H2
-    → OnOk r (course2 ≡ added_course course1 (item_size (block b.bytes)))
-    → OnOk r (Grew H2 vs cap set_id file course2 d b)
-write_next H H1 H2 vs cap set_id file course course1 course2 d b v
-    (Err e) sized o due g wide few room most k n k2 n2 = tt
-write_next H H1 H2 vs cap set_id file course course1 course2 d b v
-    (Ok x) sized o due g wide few room most k n k2 n2 =
-    let next = changed_draft file course d in record {
+    → course1 ≡ changed_course course → Takes (block text ∷ []) H1 r H2
+    → OnOk r (course2 ≡ added_course course1 (item_size (block text)))
+    → OnOk r (Flushed H2 vs cap set_id file course2 d p)
+write_next H H1 H2 vs cap set_id file course course1 course2 d p text v i
+    (Err e) given same o due at within is wide few room most k n k2 n2 = tt
+write_next H H1 H2 vs cap set_id file course course1 course2 d p text v i
+    (Ok x) given same o due at within is wide few room most k n k2 n2 =
+    let b : Filled = record { bytes = text; parts = p.parts } in
+    let next = changed_draft file course d in
+    let g = got vs i course.volume v at within is in
+    let length_is = ap (λ s. s.block_len) same in
+    let big : 1024 + length text ≤ cap = omega (arith, length_is, room, given.within) in
+    record {
       draft = added_draft next b;
+      text = text;
+      given = given;
       is_open = subst (λ z. IsOpen H2 vs cap set_id file z (added_draft next b))
-          (sym (n2 ∙ ap (λ z. added_course z (item_size (block b.bytes))) n)) (record {
-            steady = added_next (map labelled vs) cap set_id file course d b v wide
-                (omega (arith, few, length-map vs labelled)) (omega (arith, room)) most
-                (omega (arith, room)) sized o.steady due (in_range vs course.volume v g)
-                (label_at vs course.volume v g);
+          (sym (n2 ∙ ap (λ z. added_course z (item_size (block text))) n)) (record {
+            steady = added_next (map labelled vs) cap set_id file course d b v
+                (every_at IsWideVolume vs course.volume v wide g)
+                (omega (arith, few, length-map vs labelled)) (omega (arith, big)) most
+                (omega (arith, big))
+                (given_sized p file.shape text same o.steady.inside.ready.writable given) o.steady
+                due (in_range vs course.volume v g) (label_at vs course.volume v g);
             held = subst (λ z. H2 (UnderWay (ended_volumes (map labelled vs) next) z))
                 (sym (open_added (map labelled vs) file (changed_course course) next b
-                (item_size (block b.bytes)))) (k2 _ _
+                (item_size (block text)))) (k2 _ _
                 (held_changed H1 vs cap set_id file course d v o.steady g (k _ _ o.held)));
           });
       files = refl;
@@ -153,20 +179,21 @@ close_here H H' vs cap set_id file course course' d (Ok x) o few most room k n =
 
 pub close_next : (H H1 H2 : Tapes → Type 0) (vs : List Vol1) (cap : ℕ) (set_id : List ℕ)
     (file : Opened) (course course1 course2 : Course) (d : Draft) (v : Vol1)
-    (r : Result (Unit {0}) WriteFault)
-    → IsOpen H vs cap set_id file course d → cap < course.used + 556
-    → slice_get vs course.volume ≡ Some v → IsWideVolume v → length vs ≤ 9999 → 1024 ≤ cap
-    → cap ≤ 4294967295
+    (i : ℕ) (r : Result (Unit {0}) WriteFault)
+    → IsOpen H vs cap set_id file course d → cap < course.used + 556 → i ≡ course.volume
+    → i < length vs → v ≡ get_or vs i v → AllByRecursion IsWideVolume vs → length vs ≤ 9999
+    → least_capacity file.shape ≤ cap → cap ≤ 4294967295
     → ((volumes : List (List TapeItem)) (items : List TapeItem) → H (UnderWay volumes items)
     → H1 (changed_tapes file course v volumes items))
     → course1 ≡ changed_course course
     → Takes (trailer_items file course1.sect course1.count true) H1 r H2
     → OnOk r (course2 ≡ ended_course course1) → OnOk r (Closed H2 vs cap set_id file course2 d)
-close_next H H1 H2 vs cap set_id file course course1 course2 d v
-    (Err e) o due g wide few room most k n k2 n2 = tt
-close_next H H1 H2 vs cap set_id file course course1 course2 d v
-    (Ok x) o due g wide few room most k n k2 n2 =
+close_next H H1 H2 vs cap set_id file course course1 course2 d v i
+    (Err e) o due at within is wide few room most k n k2 n2 = tt
+close_next H H1 H2 vs cap set_id file course course1 course2 d v i
+    (Ok x) o due at within is wide few room most k n k2 n2 =
     let next = changed_draft file course d in
+    let g = got vs i course.volume v at within is in
     let first = held_changed H1 vs cap set_id file course d v o.steady g (k _ _ o.held) in
     let second : H2 (UnderWay (ended_volumes (map labelled vs) next) (open_items (map labelled vs)
     file (changed_course course) next ++ trailer_items file (course.sect + 1) 0 true)) =
@@ -174,9 +201,11 @@ close_next H H1 H2 vs cap set_id file course course1 course2 d v
     file (changed_course course) next ++ trailer_items file z.sect z.count true))) n
     (k2 _ _ first) in
     let w : Within (map labelled vs) cap set_id file (changed_course course) [] next =
-    changed (map labelled vs) cap set_id file course d [] v wide
-    (omega (arith, few, length-map vs labelled)) room most o.steady.inside (lt-leb _ _ (omega (arith, due))) (in_range vs course.volume v g) (label_at vs course.volume v
-    g) in
+    changed (map labelled vs) cap set_id file course d [] v
+    (every_at IsWideVolume vs course.volume v wide g)
+    (omega (arith, few, length-map vs labelled)) (omega (arith, room)) most o.steady.inside
+    (lt-leb _ _ (omega (arith, due))) (in_range vs course.volume v g)
+    (label_at vs course.volume v g) in
     let c = closed_by H2 vs cap set_id file (changed_course course) next w few most
     (omega (arith, room)) second in
     subst (λ z. Closed H2 vs cap set_id file z d) (sym (n2 ∙ ap ended_course n)) (record {
@@ -194,13 +223,3 @@ close_next H H1 H2 vs cap set_id file course course1 course2 d v
       blocks = c.blocks ∙ (ap (λ z. z ++ []) (blocks_next d.sects
           (closing file course.volume course.sect d.blocks false)) ∙ append-nil (open_blocks d));
     })
-
-pub got : (vs : List Vol1) (k n : ℕ) (v : Vol1) → k ≡ n → k < length vs → v ≡ get_or vs k v
-    → slice_get vs n ≡ Some v
-got vs k n v e h g = ap (slice_get vs) (sym e) ∙ (slice_get_some vs k v h ∙ ap Some (sym g))
-  where
-    slice_get_some : (xs : List Vol1) (i : ℕ) (d : Vol1) → i < length xs
-        → slice_get xs i ≡ Some (get_or xs i d)
-    slice_get_some [] i d h = absurd (omega arith)
-    slice_get_some (x ∷ xs) zero d h = refl
-    slice_get_some (x ∷ xs) (suc i) d h = slice_get_some xs i d (omega arith)

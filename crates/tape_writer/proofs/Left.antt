@@ -18,7 +18,7 @@ use Rattle.tape_writer.specs.{Draft.Draft, Draft.IsOpen, Draft.Closed, Inside.Is
 use Rattle.tape_writer.specs.{Front.IsLeftInside}
 use Rattle.tape_writer.proofs.Fronts.{front_here, is_out, inside_left, packing_left, flat_left}
 use Rattle.tape_writer.proofs.{Changed.not_nil, Packed.packing_with, Packed.flat_with}
-use Rattle.tape_writer.proofs.{Ends.between_with, Fronts.waits, Calls.last_told, Calls.with_last}
+use Rattle.tape_writer.proofs.{Ends.between_with, Fronts.waits, Calls.last_told, Calls.put_last}
 use Rattle.tape_writer.specs.declared.fault.WriteFault.TheVariants as faults
 
 -- ---- inside a file
@@ -147,17 +147,16 @@ is_begun H vs cap set_id course told some (inr (k, many)) = k
 
 -- ---- the writer's calls
 
-pub left_put : {T : Type 0} (H H' : Tapes → Type 0) (w : SetState T) (out : T) (vs : List Vol1)
-    (course : Course) (o : OpenFile) (told : List Told) (r : List ℕ)
+pub left_put : {T : Type 0} (H H' : Tapes → Type 0) (w : SetState T) (vs : List Vol1)
+    (o : OpenFile) (told : List Told) (r : List ℕ)
     → w.phase ≡ Filing o → vs ≡ w.volumes
     → ((fs : List (List Section)) (records : List (List ℕ))
     → IsInside H vs w.capacity w.set_id o.file w.course o.packer fs records
     → (c : Course) × IsMidRecord (HoldsFront H') vs w.capacity w.set_id o.file c fs
     (records ++ r ∷ []))
     → IsWriting H w told
-    → IsLeftInside H' (record w { out = out; course = course; phase = Failed })
-    (with_record told r)
-left_put H H' w out vs course o told r is v mid k =
+    → IsInLast (HoldsFront H') w.volumes w.capacity w.set_id (with_record told r)
+left_put H H' w vs o told r is v mid k =
     let last = last_told H w o told is k in
     let f = last.filing in
     let q = mid f.files last.records
@@ -166,8 +165,7 @@ left_put H H' w out vs course o told r is v mid k =
     record {
       past = last.past;
       last = record { file = o.file; records = last.records ++ r ∷ [] };
-      is_told = ap (λ z. with_record z r) last.is_told
-          ∙ with_last last.past (record { file = o.file; records = last.records }) r;
+      is_told = put_last told last.past o.file last.records r last.is_told;
       files = f.files;
       filed = f.filed;
       course = q.0;
@@ -192,18 +190,17 @@ left_end H H' w vs o told is v ends k =
     (subst (λ z. IsFiling H z w.capacity w.set_id o.file w.course o.packer last.past last.records)
     (sym v) last.filing)))
 
-pub left_begin : {T : Type 0} (H H' : Tapes → Type 0) (w new : SetState T) (vs : List Vol1)
+pub left_begin : {T : Type 0} (H H' : Tapes → Type 0) (w : SetState T) (vs : List Vol1)
     (file : Opened) (p : Packing) (told : List Told) (head : Head1) (shape : Shape)
     → w.phase ≡ Between → vs ≡ w.volumes
-    → (new.volumes ≡ w.volumes) × (new.capacity ≡ w.capacity) × (new.set_id ≡ w.set_id)
     → file ≡ opened_by w.set_id (length w.files + 1) head shape
     → (file.head.set_id ≡ w.set_id → file.head.sequence ≡ length told + 1
     → IsWaiting H vs w.capacity w.set_id w.course told
     → (c : Course) × IsFiling (HoldsFront H') vs w.capacity w.set_id file c p told [])
     → IsWriting H w told
-    → IsLeftInside H' new
+    → IsInLast (HoldsFront H') w.volumes w.capacity w.set_id
     (told ++ record { file = opened_by w.set_id (length told + 1) head shape; records = [] } ∷ [])
-left_begin H H' w new vs file p told head shape is v kept same filing k =
+left_begin H H' w vs file p told head shape is v same filing k =
     let many : length w.files ≡ length told = ap length k.kept ∙ length-map told (λ t. t.file) in
     let named : file ≡ opened_by w.set_id (length told + 1) head shape =
     same ∙ ap (λ i. opened_by w.set_id (i + 1) head shape) many in
@@ -219,14 +216,10 @@ left_begin H H' w new vs file p told head shape is v kept same filing k =
       course = q.0;
       partly = inl (p, q.1.inside);
     } in
-    subst (λ z. IsInLast (HoldsFront H') new.volumes new.capacity new.set_id
+    subst (λ z. IsInLast (HoldsFront H') w.volumes w.capacity w.set_id
     (told ++ record { file = z; records = [] } ∷ [])) named
-    (subst (λ z. IsInLast (HoldsFront H') z new.capacity new.set_id
-    (told ++ record { file = file; records = [] } ∷ [])) (v ∙ sym kept.0)
-    (subst (λ z. IsInLast (HoldsFront H') vs z new.set_id
-    (told ++ record { file = file; records = [] } ∷ [])) (sym kept.1)
-    (subst (λ z. IsInLast (HoldsFront H') vs w.capacity z
-    (told ++ record { file = file; records = [] } ∷ [])) (sym kept.2) left)))
+    (subst (λ z. IsInLast (HoldsFront H') z w.capacity w.set_id
+    (told ++ record { file = file; records = [] } ∷ [])) v left)
 
 pub left_finish : {T : Type 0} (H H' : Tapes → Type 0) (w : SetState T) (vs : List Vol1)
     (told : List Told) → w.phase ≡ Between → vs ≡ w.volumes → w.course.volume ≢ 0

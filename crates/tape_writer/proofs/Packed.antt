@@ -10,17 +10,10 @@ use Rattle.tape_blocks.proofs.RunLaws.{filled_of, going_length, going_ends, goin
 use Rattle.tape_blocks.proofs.RunLaws.{run_none}
 use Rattle.tape_writer.specs.declared.{course.Opened.Opened, course.Course.Course}
 use Rattle.tape_writer.specs.declared.{fault.WriteFault.WriteFault, tape.Tape.Tape}
-use Rattle.tape_writer.specs.{Tapes.Tapes, Draft.Draft, Draft.IsOpen, Draft.Grew, Draft.open_blocks}
+use Rattle.tape_writer.specs.{Tapes.Tapes, Draft.Draft, Draft.IsOpen, Draft.open_blocks}
 use Rattle.tape_writer.specs.{Inside.IsInside, Inside.IsPacking, Inside.Flushed, Inside.IsFlat}
 use Rattle.tape_writer.proofs.Volumes.{all_push}
 use Rattle.tape_blocks.specs.Tight as packing
-
--- ---- a block that is returned has bytes
-
-pub given_sized : (p : Packing) (shape : Shape) (text : List ℕ) → p.shape ≡ shape
-    → IsWritable shape → Given p text → (0 < length text) × (length text ≤ 99999)
-given_sized p shape text same w given =
-    (given.some_bytes, omega (arith, given.within, w.most, ap (λ s. s.block_len) same))
 
 -- ---- the records of a file
 
@@ -162,20 +155,6 @@ judged_next old new left rest n opened judged offers is =
 
 -- ---- a block written
 
-pub flushed_by : (H : Tapes → Type 0) (vs : List Vol1) (cap : ℕ) (set_id : List ℕ) (file : Opened)
-    (course : Course) (d : Draft) (p : Packing) (text : List ℕ) (r : Result (Unit {0}) WriteFault)
-    → Given p text → OnOk r (Grew H vs cap set_id file course d
-    (record { bytes = text; parts = p.parts })) → OnOk r (Flushed H vs cap set_id file course d p)
-flushed_by H vs cap set_id file course d p text (Err e) given grew = tt
-flushed_by H vs cap set_id file course d p text (Ok x) given grew = record {
-  draft = grew.draft;
-  text = text;
-  given = given;
-  is_open = grew.is_open;
-  files = grew.files;
-  blocks = grew.blocks;
-}
-
 flat_from : (H H' : Tapes → Type 0) (vs : List Vol1) (cap : ℕ) (set_id : List ℕ)
     (file : Opened) (course course' : Course) (p : Packing) (fs : List (List Section))
     (records : List (List ℕ)) (ps : List Portion) → p.parts ≡ ps
@@ -190,17 +169,17 @@ flat_from H H' vs cap set_id file course course' p fs records (q ∷ ps) is none
     flat_some H H' vs cap set_id file course course' p fs records (some (λ e. absurd (cc))) k
 
 -- all records are in blocks after the packer's block, if it had one, was written
-pub flat_flushed : {T : Type 0} (G : T → Tapes → Type 0) (vs : List Vol1) (cap : ℕ)
+pub flat_flushed : {T : Type 0} {R : Type 0} (G : T → Tapes → Type 0) (vs : List Vol1) (cap : ℕ)
     (set_id : List ℕ) (file : Opened) (old new : Tape T) (p : Packing) (fs : List (List Section))
-    (records : List (List ℕ)) → (p.parts ≡ [] → new ≡ old)
-    → (p.parts ≢ [] → (d : Draft) → IsOpen (G old.out) vs cap set_id file old.course d
-    → Flushed (G new.out) vs cap set_id file new.course d p)
+    (records : List (List ℕ)) → (p.parts ≡ [] → R × (new ≡ old))
+    → (p.parts ≢ [] → (set_id : List ℕ) (d : Draft) → IsOpen (G old.out) vs cap set_id file
+    old.course d → Flushed (G new.out) vs cap set_id file new.course d p)
     → IsInside (G old.out) vs cap set_id file old.course p fs records
     → IsFlat (G new.out) vs cap set_id file new.course fs records
 flat_flushed G vs cap set_id file old new p fs records none some k =
     flat_from (G old.out) (G new.out) vs cap set_id file old.course new.course p fs records p.parts
     refl (λ e. subst (λ t. IsInside (G t.out) vs cap set_id file t.course p fs records)
-    (sym (none e)) k) some k
+    (sym (none e).1) k) (λ more. some more set_id) k
 
 -- a record whose first offer was valid has a valid length
 pub judged_more : (shape : Shape) (first p : Packing) (whole rest : List ℕ) → first.shape ≡ shape
@@ -215,10 +194,3 @@ judged_more shape first p whole rest is opened ended Same (inl a) judged =
     subst (λ (s : Shape). HasRecordLength s.format s.rec_len (length whole))
     (ap (λ (z : Packing). z.shape) a.1 ∙ is)
     (subst (λ (r : List ℕ). HasRecordLength p.shape.format p.shape.rec_len (length r)) a.2 fits)
-
--- ---- a fault's cause
-
-pub err_map : (r : Result (Unit {0}) WriteFault) (P Q : WriteFault → Type 0)
-    → ((f : WriteFault) → P f → Q f) → IfErr r P → IfErr r Q
-err_map (Ok x) P Q f h = h
-err_map (Err e) P Q f h = f e h

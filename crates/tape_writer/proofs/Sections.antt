@@ -92,7 +92,8 @@ begins_by label true e = rw e refl
 begins_by label false e = rw e refl
 
 -- a trailer says whether its file ends
-pub trailer_ends : (label : List ℕ) (t : Trail1) → IsTrail1 label t → begins_as label kinds.Eof1 ≡ t.eof
+pub trailer_ends : (label : List ℕ) (t : Trail1) → IsTrail1 label t
+    → begins_as label kinds.Eof1 ≡ t.eof
 trailer_ends label t is = begins_by label t.eof is.kind.named
 
 -- ---- items
@@ -133,7 +134,8 @@ header_size file sect r p q =
 pub trailer_size : (file : Opened) (sect n : ℕ) (eof : Bool) → IsReady file → 1 ≤ sect → sect ≤ 9999
     → items_size (trailer_items file sect n eof) ≡ 184
 trailer_size file sect n eof r p q =
-    let a = label_size (trailer_label file sect n eof) (trailer_is file sect n eof r p q).kind.size in
+    let a = label_size (trailer_label file sect n eof)
+    (trailer_is file sect n eof r p q).kind.size in
     let b = label_size (second_label file (second_kind eof))
     (second_is file (second_kind eof) r (second_kind_is eof)).kind.size in
     omega (arith, a, b)
@@ -158,7 +160,8 @@ items_sized : (file : Opened) (sect : ℕ) (bs : List Filled) (eof : Bool) → I
     ++ trailer_items file sect (length bs) eof)
 items_sized file sect bs eof r p q h =
     let one = label_sized (first_label file sect) (first_is file sect r p q).kind.size in
-    let two = label_sized (second_label file kinds.Hdr2) (second_is file kinds.Hdr2 r tt).kind.size in
+    let two = label_sized (second_label file kinds.Hdr2)
+    (second_is file kinds.Hdr2 r tt).kind.size in
     let last = label_sized (trailer_label file sect (length bs) eof)
     (trailer_is file sect (length bs) eof r p q).kind.size in
     let second = label_sized (second_label file (second_kind eof))

@@ -205,14 +205,6 @@ pub record IsResting (H : Tapes → Type 0) (volumes : List Vol1) (capacity : �
   pub held : H (UnderWay (ended_volumes (map labelled volumes) d)
       (body_items (map labelled volumes) d))
 
--- One more block was written.
-pub record Grew (H : Tapes → Type 0) (volumes : List Vol1) (capacity : ℕ) (set_id : List ℕ)
-    (file : Opened) (course : Course) (d : Draft) (b : Filled) : Type 0 where
-  pub draft : Draft
-  pub is_open : IsOpen H volumes capacity set_id file course draft
-  pub files : draft.files ≡ d.files
-  pub blocks : open_blocks draft ≡ open_blocks d ++ b ∷ []
-
 -- The file has ended, with the given sections.
 pub record Closed (H : Tapes → Type 0) (volumes : List Vol1) (capacity : ℕ) (set_id : List ℕ)
     (file : Opened) (course : Course) (d : Draft) : Type 0 where

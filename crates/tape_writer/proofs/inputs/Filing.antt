@@ -13,6 +13,7 @@ use Rattle.tape_writer.specs.{LeftOf.WroteBy, WriteSet.cut_of, WriteSet.IsSetOfI
 use Rattle.tape_writer.specs.{Images.Images, Images.AreImages, Images.Holds, Records.to_come}
 use Rattle.tape_writer.specs.{Records.records_of}
 use Rattle.std.proofs.lemmas.List.{drop-set-lt}
+use Rattle.std.proofs.lemmas.Option.{IfSome_then}
 
 -- ---- a finished writer of images, and known inputs
 
@@ -50,11 +51,6 @@ set_of_images H w store vs d t told done a b e i h =
     (of_images (H w.out.store) w.out.image w.volumes w.capacity w.set_id told
     (finished_set (λ t. Holds H w.out t) w told done h)))))
 
-pub if_known : (known : Option (List ℕ)) (P Q : List ℕ → Type 0) → IfSome known P
-    → ((bytes : List ℕ) → P bytes → Q bytes) → IfSome known Q
-if_known None P Q h f = tt
-if_known (Some bytes) P Q h f = f bytes h
-
 some_cut : (P : Cut → Type 0) (cut : Option Cut) (c : Cut) → cut ≡ Some c → P c → IfSome cut P
 some_cut P None c e p = tt
 some_cut P (Some d) c e p = let same : c ≡ d = cc in subst P same p
@@ -67,7 +63,7 @@ if_cut P cut other c e f p = some_cut P cut c (sym f ∙ e) p
 pub all_known : (xs : List (Head1 × Option (List ℕ))) (P Q : List (Head1 × List ℕ) → Type 0)
     → IfAllKnown xs P → ((fs : List (Head1 × List ℕ)) → P fs → Q fs) → IfAllKnown xs Q
 all_known [] P Q h f = f [] h
-all_known (x ∷ xs) P Q h f = if_known x.1 _ _ h (λ b q. all_known xs
+all_known (x ∷ xs) P Q h f = IfSome_then x.1 h (λ b q. all_known xs
     (λ fs. P ((x.0, b) ∷ fs)) (λ fs. Q ((x.0, b) ∷ fs)) q (λ fs. f ((x.0, b) ∷ fs)))
 
 -- what holds for the records to come of a new reader holds for the records of its input
@@ -136,7 +132,7 @@ known_push : (xs : List (Head1 × Option (List ℕ))) (h : Head1) (known : Optio
     → IfAllKnown (xs ++ (h, known) ∷ []) Q
 known_push [] h known P Q p f = f [] p
 known_push (x ∷ xs) h known P Q p f =
-    if_known x.1 _ _ p (λ b q. known_push xs h known
+    IfSome_then x.1 p (λ b q. known_push xs h known
     (λ fs. P ((x.0, b) ∷ fs)) (λ fs. Q ((x.0, b) ∷ fs)) q (λ fs r. f ((x.0, b) ∷ fs) r))
 
 told_files-length : (set_id : List ℕ) (shape : Shape) (cut : Cut) (n : ℕ) (fs : List (Head1
@@ -202,7 +198,7 @@ wrote_one X view set_id shape cut first now at old mid new x y d within is w ste
           (λ fs. new (told ++ told_files set_id shape cut (length told + 1) fs)))
           (sym (map-append view w.done (x ∷ [])))
           (known_push (map view w.done) (view x).0 (view x).1 _ _ (w.told told h)
-          (λ fs m. if_known (view x).1 _ _ (step _ m)
+          (λ fs m. IfSome_then (view x).1 (step _ m)
           (λ b n. one_told new set_id shape cut told fs (view x).0 b n)));
     }
 

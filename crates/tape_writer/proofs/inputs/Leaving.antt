@@ -18,12 +18,13 @@ use Rattle.tape_writer.specs.Records.{to_come, records_of, given, IsFirstLong}
 use Rattle.tape_writer.specs.LeftOf.{IsLeftOf, IsLeftIn, IsLeftOfAll, IsLeftUnbegun}
 use Rattle.tape_writer.specs.{WriteFaults.told_as, WriteFaults.IsOfInput, Tapes.Tapes}
 use Rattle.tape_writer.specs.{Faults.IsEnding, ToldFiles.with_records, ToldFiles.told_files}
-use Rattle.tape_writer.proofs.inputs.Filing.{Wrote, all_known, if_known, in_input, known_all}
+use Rattle.tape_writer.proofs.inputs.Filing.{Wrote, all_known, in_input, known_all}
 use Rattle.tape_writer.proofs.inputs.Putting.{Put, PutWithin, known_one, known_then}
 use Rattle.tape_writer.proofs.inputs.{Refusing.less_long, Putting.with_records-one}
 use Rattle.tape_writer.proofs.Fronts.{inside_writing, behind_writing, front_here}
 use Rattle.tape_writer.specs.declared.fault.WriteFault.TheVariants as faults
 use Rattle.tape_writer.specs.declared.inputs.records.InputFault.TheVariants as inputs
+use Rattle.std.proofs.lemmas.Option.{IfSome_then}
 
 -- a fault ends the writer, or leaves it unchanged
 is_ending : {T : Type 0} (f : WriteFault)
@@ -87,7 +88,7 @@ pub read_left : {T : Type 0} (H : Tapes → Type 0) (w : SetState T) (G : Type 0
     → IfSome all (λ xs. IsLeftOf H w G told' told (to_come cut a xs))
 read_left H w G fault told' n file cut here a b all left old p is e same m told h =
     known_left H w G told' told cut a b p.put.records all left p.put.known
-    (λ f. if_known left _ _ (m (memory_told fault (sym e ∙ f))) (λ ys l.
+    (λ f. IfSome_then left (m (memory_told fault (sym e ∙ f))) (λ ys l.
     inr (every (λ r. length r ≤ n) _ (λ r le. less_long (length r) n _ le
     (subst (λ z. IsFirstLong n (to_come z b ys)) same l)) p.put.records p.within)))
     (inside_writing H (HoldsFront H) w file _ (front_here H) is (p.put.told told h))
@@ -208,7 +209,7 @@ pub file_left : {T : Type 0} (H : Tapes → Type 0) (w : SetState T) (G G' : Typ
     → IfSome input (λ bytes. IsLeftUnbegun H w fault first
     ⊎ IsLeftOf H w G' fault told (records_of cut bytes))
 file_left H w G G' fault first told cut here over input all more a e f p =
-    if_known input _ _ (in_input (IsLeftOf H w G fault told) cut here over input all a e f p)
+    IfSome_then input (in_input (IsLeftOf H w G fault told) cut here over input all a e f p)
     (λ bytes l. inr (left_more H w G G' fault told (records_of cut bytes) more l))
 
 -- the end of the file was not written

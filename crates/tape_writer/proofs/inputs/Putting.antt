@@ -119,8 +119,8 @@ pub file_told : (told : List Told) (file : Opened) (cut here : Cut) (over : Bool
     last (told ++ record { file = file; records = records_of cut bytes } ∷ []))
 file_told told file cut here over input all next mid last a e f h ends =
     in_input (λ rs. last (told ++ record { file = file; records = rs } ∷ [])) cut here over input
-    all a e f (known_all _ (told ++ record { file = file; records = [] } ∷ []) here over all next mid
-    h (λ rs m. ends _ (subst mid (of_file told file [] rs) m)))
+    all a e f (known_all _ (told ++ record { file = file; records = [] } ∷ []) here over all next
+    mid h (λ rs m. ends _ (subst mid (of_file told file [] rs) m)))
 
 -- ---- no volume is left
 

@@ -3,10 +3,10 @@ use Rattle.tape_writer.proofs.Words.{rules, arith, ap, refl, ◌∷◌, [], leng
 use Rattle.tape_writer.proofs.Words.{err_from_is_err_and, block, IsWideVolume, Filled, item_size}
 use Rattle.tape_writer.proofs.Words.{every_at}
 use Rattle.tape_writer.specs.{Draft.added_course, Draft.changed_course, Front.HoldsFront}
-use Rattle.tape_writer.proofs.Held.{got, write_here, write_next}
+use Rattle.tape_writer.proofs.Held.{given_sized, write_here, write_next}
 use Rattle.tape_writer.proofs.Room.{flushed_here, flushed_next, none_room}
 use Rattle.tape_writer.proofs.{Fronts.took, Fronts.front_items, Fronts.err_any, Last.lasting_self}
-use Rattle.tape_writer.proofs.{Packed.given_sized, Packed.flushed_by, Stuck.left_out}
+use Rattle.tape_writer.proofs.{Stuck.left_out}
 use Rattle.tape_writer.proofs.records.flush.Goals as goal
 
 pub add_block-requires-clause-sized : goal.add_block-requires-clause-sized
@@ -52,28 +52,20 @@ returns-clause-room g c = flushed_next (length c.args.volumes.now) c.args.capaci
 -- ---- the draft
 
 pub returns-then-has_room-clause-flushed : goal.returns-then-has_room-clause-flushed
-returns-then-has_room-clause-flushed g c = λ some set_id d o.
-    let H = g.T.TapeOut.holds c.add_block.new.self.out in
-    flushed_by H _ _ set_id _ _ d _ _ _ c.in-Some.ensures.found (write_here
-    (g.T.TapeOut.holds c.args.tape.now.out) H _ _ set_id _ _ _ d _ _ (given_sized _ _ _
-    c.requires.shape c.requires.ready.writable c.in-Some.ensures.found) o (let fits =
-    c.has_room.ensures.yes (search rules) in omega (arith, fits)) c.add_block.ensures.ok
-    c.add_block.ensures.course)
+returns-then-has_room-clause-flushed g c = λ some set_id d o. write_here
+    (g.T.TapeOut.holds c.args.tape.now.out) (g.T.TapeOut.holds c.add_block.new.self.out) _ _ set_id
+    _ _ _ d _ _ _ c.in-Some.ensures.found c.requires.shape o (let fits = c.has_room.ensures.yes
+    (search rules) in omega (arith, fits)) c.add_block.ensures.ok c.add_block.ensures.course
 
 pub returns-clause-flushed : goal.returns-clause-flushed
-returns-clause-flushed g c = λ some set_id d o.
-    let H = g.T.TapeOut.holds c.add_block-2.new.self.out in
-    let there = got _ _ _ _ (search rules) c.in-Some-get.ensures.lookup.3.0
-    c.in-Some-get.ensures.lookup.1 in
-    flushed_by H _ _ set_id _ _ d _ _ _ c.in-Some.ensures.found (write_next
-    (g.T.TapeOut.holds c.args.tape.now.out) (g.T.TapeOut.holds c.change_to.new.self.out) H _ _
-    set_id _ _ _ _ d _ _ _ (given_sized _ _ _ c.requires.shape c.requires.ready.writable
-    c.in-Some.ensures.found) o (let due = c.has_room.ensures.no (search rules) in omega
-    (arith, due)) there (every_at IsWideVolume _ _ _ c.requires.wide there) c.requires.volumes (let
-    same = ap (λ s. s.block_len) c.requires.shape in
-    omega (arith, same, c.requires.capacity, c.in-Some.ensures.found.within)) (omega arith)
-    c.in_ok-change_to.ensures.ok c.in_ok-change_to.ensures.course c.add_block-2.ensures.ok
-    c.add_block-2.ensures.course)
+returns-clause-flushed g c = λ some set_id d o. write_next
+    (g.T.TapeOut.holds c.args.tape.now.out) (g.T.TapeOut.holds c.change_to.new.self.out)
+    (g.T.TapeOut.holds c.add_block-2.new.self.out) _ _ set_id _ _ _ _ d _ _ _ _ _
+    c.in-Some.ensures.found c.requires.shape o
+    (let due = c.has_room.ensures.no (search rules) in omega (arith, due)) (search rules)
+    c.in-Some-get.ensures.lookup.3.0 c.in-Some-get.ensures.lookup.1 c.requires.wide
+    c.requires.volumes c.requires.capacity (omega arith) c.in_ok-change_to.ensures.ok
+    c.in_ok-change_to.ensures.course c.add_block-2.ensures.ok c.add_block-2.ensures.course
 
 -- ---- or a prefix of its items
 
@@ -81,62 +73,45 @@ pub returns-then-has_room-clause-front : goal.returns-then-has_room-clause-front
 returns-then-has_room-clause-front g c = λ some set_id d o. err_any c.add_block.result _ (λ f not.
     let text = c.in-Some.block.now in
     let old = g.T.TapeOut.holds c.args.tape.now.out in
-    let K = g.T.TapeOut.holds c.add_block.new.self.out in
-    let new = added_course c.args.tape.now.course (item_size (block text)) in (
-      new,
-      flushed_by (HoldsFront K) _ _ set_id _ _ d _ _ (Ok tt) c.in-Some.ensures.found (write_here old
-          (HoldsFront K) _ _ set_id _ _ _ d _ (Ok tt) (given_sized _ _ _ c.requires.shape
-          c.requires.ready.writable c.in-Some.ensures.found) o (let fits = c.has_room.ensures.yes
-          (search rules) in omega (arith, fits)) (took old K (block text ∷ []) _
-          c.add_block.ensures.ok c.add_block.ensures.err) refl),
+    let K = g.T.TapeOut.holds c.add_block.new.self.out in (
+      added_course c.args.tape.now.course (item_size (block text)),
+      write_here old (HoldsFront K) _ _ set_id _ _ _ d _ text (Ok tt) c.in-Some.ensures.found
+          c.requires.shape o (let fits = c.has_room.ensures.yes (search rules) in omega
+          (arith, fits)) (took old K (block text ∷ []) _ c.add_block.ensures.ok
+          c.add_block.ensures.err) refl,
     ))
 
 pub returns-in_err-change_to-clause-front : goal.returns-in_err-change_to-clause-front
 returns-in_err-change_to-clause-front g c =
     let p = err_from_is_err_and c.from_residual.result c.from_residual.ensures.1 in
     rw (p.1, p.2) (λ some set_id d o not.
-    let vs = c.args.volumes.now in
     let text = c.in-Some.block.now in
-    let b : Filled = record { bytes = text; parts = c.args.packer.now.parts } in
-    let there = got vs c.from.result c.args.tape.now.course.volume c.in-Some-get.volume.now
-    (search rules) c.in-Some-get.ensures.lookup.3.0 c.in-Some-get.ensures.lookup.1 in
     let H = g.T.TapeOut.holds c.change_to.new.self.out in
     let one = changed_course c.args.tape.now.course in
     let two = added_course one (item_size (block text)) in (
       two,
-      flushed_by (HoldsFront H) vs c.args.capacity set_id c.args.file.now two d
-          c.args.packer.now text (Ok tt) c.in-Some.ensures.found
-          (write_next (g.T.TapeOut.holds c.args.tape.now.out) (HoldsFront H) (HoldsFront H) vs
-          c.args.capacity set_id c.args.file.now c.args.tape.now.course one two d b
-          c.in-Some-get.volume.now (Ok tt)
-          (given_sized c.args.packer.now _ text c.requires.shape c.requires.ready.writable
-          c.in-Some.ensures.found) o
-          (let due = c.has_room.ensures.no (search rules) in omega (arith, due)) there
-          (every_at IsWideVolume vs c.args.tape.now.course.volume c.in-Some-get.volume.now
-          c.requires.wide there) c.requires.volumes
-          (let same = ap (λ s. s.block_len) c.requires.shape in
-          omega (arith, same, c.requires.capacity, c.in-Some.ensures.found.within)) (omega arith)
-          c.change_to.ensures.front refl
-          (λ past items h. front_items H past items (block text ∷ []) h) refl),
+      write_next (g.T.TapeOut.holds c.args.tape.now.out) (HoldsFront H) (HoldsFront H)
+          c.args.volumes.now c.args.capacity set_id c.args.file.now c.args.tape.now.course one two d
+          c.args.packer.now text c.in-Some-get.volume.now c.from.result (Ok tt)
+          c.in-Some.ensures.found c.requires.shape o
+          (let due = c.has_room.ensures.no (search rules) in omega (arith, due)) (search rules)
+          c.in-Some-get.ensures.lookup.3.0 c.in-Some-get.ensures.lookup.1 c.requires.wide
+          c.requires.volumes c.requires.capacity (omega arith) c.change_to.ensures.front refl
+          (λ past items h. front_items H past items (block text ∷ []) h) refl,
     ))
 
 pub returns-clause-front : goal.returns-clause-front
 returns-clause-front g c = λ some set_id d o. err_any c.add_block-2.result _ (λ f not.
     let text = c.in-Some.block.now in
-    let there = got _ _ _ _ (search rules) c.in-Some-get.ensures.lookup.3.0
-    c.in-Some-get.ensures.lookup.1 in
     let H = g.T.TapeOut.holds c.change_to.new.self.out in
     let K = g.T.TapeOut.holds c.add_block-2.new.self.out in
-    let one = c.change_to.new.self.course in
-    let two = added_course one (item_size (block text)) in (
+    let two = added_course c.change_to.new.self.course (item_size (block text)) in (
       two,
-      flushed_by (HoldsFront K) _ _ set_id _ two d _ _ (Ok tt) c.in-Some.ensures.found (write_next
-          (g.T.TapeOut.holds c.args.tape.now.out) H (HoldsFront K) _ _ set_id _ _ _ two d _ _
-          (Ok tt) (given_sized _ _ _ c.requires.shape c.requires.ready.writable
-          c.in-Some.ensures.found) o (let due = c.has_room.ensures.no (search rules) in omega
-          (arith, due)) there (every_at IsWideVolume _ _ _ c.requires.wide there) c.requires.volumes
-          (let same = ap (λ s. s.block_len) c.requires.shape in
-          omega (arith, same, c.requires.capacity, c.in-Some.ensures.found.within)) (omega arith)
-          c.in_ok-change_to.ensures.ok c.in_ok-change_to.ensures.course (took H K (block text ∷ [])
-          _ c.add_block-2.ensures.ok c.add_block-2.ensures.err) refl),
+      write_next (g.T.TapeOut.holds c.args.tape.now.out) H (HoldsFront K) _ _ set_id _ _ _ two d _
+          text _ _ (Ok tt) c.in-Some.ensures.found c.requires.shape o
+          (let due = c.has_room.ensures.no (search rules) in omega (arith, due)) (search rules)
+          c.in-Some-get.ensures.lookup.3.0 c.in-Some-get.ensures.lookup.1 c.requires.wide
+          c.requires.volumes c.requires.capacity (omega arith) c.in_ok-change_to.ensures.ok
+          c.in_ok-change_to.ensures.course (took H K (block text ∷ []) _ c.add_block-2.ensures.ok
+          c.add_block-2.ensures.err) refl,
     ))

@@ -86,9 +86,8 @@ returns-in-Err-begin-clause-front g c =
     ∙ c.in_default.ensures.ok.0 in
     rw (← c.self.view_is) (λ told k ends.
     inr (left_begin (g.T.TapeOut.holds c.self.inside.tape.out)
-    (g.T.TapeOut.holds c.begin.new.tape.out) old (record old { phase = Failed })
-    c.deref.result.now c.next_file-file.result c.in-Ok.packer told c.args.head c.args.shape
-    between (search rules) (refl, refl, refl) (search rules)
+    (g.T.TapeOut.holds c.begin.new.tape.out) old c.deref.result.now c.next_file-file.result
+    c.in-Ok.packer told c.args.head c.args.shape between (search rules) (search rules)
     (λ s f x. c.in-Err-begin.ensures.front c.self.inside.set_id told c.in-Ok.packer s f
     (search rules) x) k))
 

@@ -21,8 +21,9 @@ returns-in-Ok-clause-told g c =
 pub returns-in-Err-clause-stuck : goal.returns-in-Err-clause-stuck
 returns-in-Err-clause-stuck g c =
     rw (← c.self.view_is) (λ told k e. stuck_told (g.T.TapeOut.holds c.self.inside.tape.out)
-    (g.T.TapeOut.holds c.end_file.new.self.out) _ _ _ _ _ told c.in-Filing.is (search rules) (λ fs
-    records x. c.in-Err.ensures.stuck e c.self.inside.set_id fs records x) k)
+    (g.T.TapeOut.holds c.end_file.new.self.out) _ _ _ _ _ told told (λ rs. rs) c.in-Filing.is
+    (search rules) (λ past records is. is)
+    (λ fs records x. c.in-Err.ensures.stuck e c.self.inside.set_id fs records x) k)
 
 pub returns-in-Ok-clause-asked : goal.returns-in-Ok-clause-asked
 returns-in-Ok-clause-asked g c =

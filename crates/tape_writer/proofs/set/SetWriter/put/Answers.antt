@@ -1,5 +1,5 @@
-use Rattle.tape_writer.proofs.Words.{rules}
-use Rattle.tape_writer.proofs.Calls.{put_told, stuck_put_told, if_filing}
+use Rattle.tape_writer.proofs.Words.{rules, ◌++◌, ◌∷◌, []}
+use Rattle.tape_writer.proofs.Calls.{put_told, put_last, stuck_told, if_filing}
 use Rattle.tape_writer.proofs.{Last.asked_of, Last.lasting_self, Left.left_put}
 use Rattle.tape_writer.proofs.set.SetWriter.put.Goals as goal
 
@@ -20,9 +20,11 @@ returns-in-Ok-clause-told g c =
 
 pub returns-in-Err-2-clause-stuck : goal.returns-in-Err-2-clause-stuck
 returns-in-Err-2-clause-stuck g c =
-    rw (← c.self.view_is) (λ told k e. stuck_put_told (g.T.TapeOut.holds c.self.inside.tape.out)
-    (g.T.TapeOut.holds c.put_record.new.tape.out) _ _ _ _ _ told _ c.in-Filing.is (search rules) (λ
-    fs records x. c.in-Err.ensures.stuck e c.self.inside.set_id fs records x) k)
+    rw (← c.self.view_is) (λ told k e. stuck_told (g.T.TapeOut.holds c.self.inside.tape.out)
+    (g.T.TapeOut.holds c.put_record.new.tape.out) _ _ _ _ _ told _
+    (λ rs. rs ++ c.args.bytes.now ∷ []) c.in-Filing.is (search rules)
+    (λ past records is. put_last told past _ records c.args.bytes.now is) (λ fs records x.
+    c.in-Err.ensures.stuck e c.self.inside.set_id fs records x) k)
 
 pub returns-in-Err-2-clause-length : goal.returns-in-Err-2-clause-length
 returns-in-Err-2-clause-length g c =
@@ -36,11 +38,8 @@ pub returns-in-Err-2-clause-front : goal.returns-in-Err-2-clause-front
 returns-in-Err-2-clause-front g c =
     rw (← c.self.view_is) (λ told k ends.
     left_put (g.T.TapeOut.holds c.self.inside.tape.out)
-    (g.T.TapeOut.holds c.put_record.new.tape.out) _
-    c.put_record.new.tape.out c.deref.result.now c.put_record.new.tape.course c.in-Filing.file told
-    c.args.bytes.now
-    c.in-Filing.is
-    (search rules)
+    (g.T.TapeOut.holds c.put_record.new.tape.out) _ c.deref.result.now c.in-Filing.file told
+    c.args.bytes.now c.in-Filing.is (search rules)
     (λ fs records x. c.in-Err.ensures.front c.self.inside.set_id fs records x ends) k)
 
 pub returns-in-Between-clause-front : goal.returns-in-Between-clause-front

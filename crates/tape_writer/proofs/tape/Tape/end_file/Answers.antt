@@ -4,17 +4,17 @@ use Rattle.tape_writer.proofs.Words.{err_from_is_err_and, IsWideVolume, every_at
 use Rattle.tape_writer.specs.declared.fault.WriteFault.TheVariants.{OutOfVolumes}
 use Rattle.tape_writer.specs.Draft.{ended_course, changed_course}
 use Rattle.tape_writer.specs.{Labels.trailer_items, Front.HoldsFront, Inside.IsStuck}
-use Rattle.tape_writer.proofs.{Ends.between_closed, Fronts.front_items, Fronts.err_any, Held.got}
+use Rattle.tape_writer.proofs.{Ends.between_closed, Fronts.front_items, Fronts.err_any}
 use Rattle.tape_writer.proofs.{Held.close_here, Held.close_next, Last.lasting_then, Left.last_left}
-use Rattle.tape_writer.proofs.{Left.end_left, Packed.flat_flushed, Packed.err_map, Stuck.stuck_last}
+use Rattle.tape_writer.proofs.{Left.end_left, Packed.flat_flushed, Stuck.stuck_last}
 use Rattle.tape_writer.proofs.{Stuck.stuck_end}
+use Rattle.std.proofs.lemmas.Result.{IfErr-weaker}
 use Rattle.tape_writer.proofs.tape.Tape.end_file.Goals as goal
 
 pub returns-then-has_room-clause-filed : goal.returns-then-has_room-clause-filed
 returns-then-has_room-clause-filed g c = λ set_id past records k.
     let flat = flat_flushed g.T.TapeOut.holds _ _ set_id _ _ _ _ k.files records
-    (λ e. (c.flush.ensures.none e).1) (λ some d o. c.in_ok-flush.ensures.flushed some set_id d o)
-    k.inside in
+    c.flush.ensures.none c.in_ok-flush.ensures.flushed k.inside in
     between_closed (g.T.TapeOut.holds c.flush.new.tape.out) (g.T.TapeOut.holds
     c.end_section.new.self.out) _ _ set_id _ _ _ past k.files records _ c.requires.capacity k.filed
     flat (λ d o. close_here (g.T.TapeOut.holds c.flush.new.tape.out)
@@ -25,17 +25,14 @@ returns-then-has_room-clause-filed g c = λ set_id past records k.
 pub returns-clause-filed : goal.returns-clause-filed
 returns-clause-filed g c = λ set_id past records k.
     let flat = flat_flushed g.T.TapeOut.holds _ _ set_id _ _ _ _ k.files records
-    (λ e. (c.flush.ensures.none e).1) (λ some d o. c.in_ok-flush.ensures.flushed some set_id d o)
-    k.inside in
-    let there = got _ _ _ _ (search rules) c.in-Some.ensures.lookup.3.0 c.in-Some.ensures.lookup.1
-    in
+    c.flush.ensures.none c.in_ok-flush.ensures.flushed k.inside in
     between_closed (g.T.TapeOut.holds c.flush.new.tape.out) (g.T.TapeOut.holds
     c.end_section-2.new.self.out) _ _ set_id _ _ _ past k.files records _ c.requires.capacity
     k.filed flat (λ d o. close_next (g.T.TapeOut.holds c.flush.new.tape.out) (g.T.TapeOut.holds
     c.change_to.new.self.out) (g.T.TapeOut.holds c.end_section-2.new.self.out) _ _ set_id _ _ _ _ d
-    _ _ o (let due = c.has_room.ensures.no (search rules) in omega (arith, due)) there (every_at
-    IsWideVolume _ _ _ c.requires.wide there) c.requires.volumes
-    (omega (arith, c.requires.capacity)) (omega arith) c.in_ok-change_to.ensures.ok
+    _ _ _ o (let due = c.has_room.ensures.no (search rules) in omega (arith, due)) (search rules)
+    c.in-Some.ensures.lookup.3.0 c.in-Some.ensures.lookup.1 c.requires.wide c.requires.volumes
+    c.requires.capacity (omega arith) c.in_ok-change_to.ensures.ok
     c.in_ok-change_to.ensures.course c.end_section-2.ensures.ok c.end_section-2.ensures.course)
 
 pub returns-in_err-flush-clause-stuck : goal.returns-in_err-flush-clause-stuck
@@ -49,13 +46,12 @@ returns-in_err-flush-clause-stuck g c =
 
 pub returns-then-has_room-clause-stuck : goal.returns-then-has_room-clause-stuck
 returns-then-has_room-clause-stuck g c =
-    err_map c.end_section.result _ _ (λ f p e. absurd (p.1 e)) c.end_section.ensures.out
+    IfErr-weaker c.end_section.result _ _ (λ f p e. absurd (p.1 e)) c.end_section.ensures.out
 
 pub returns-in_default-clause-stuck : goal.returns-in_default-clause-stuck
 returns-in_default-clause-stuck g c = λ e set_id fs records k.
     let flat = flat_flushed g.T.TapeOut.holds _ _ set_id _ _ _ _ fs records
-    (λ e. (c.flush.ensures.none e).1) (λ some d o. c.in_ok-flush.ensures.flushed some set_id d o) k
-    in
+    c.flush.ensures.none c.in_ok-flush.ensures.flushed k in
     stuck_end (g.T.TapeOut.holds c.flush.new.tape.out) _ _ set_id _ _ fs records flat (search rules)
     (let due = c.has_room.ensures.no (search rules) in omega (arith, due))
 
@@ -67,7 +63,7 @@ returns-in_err-change_to-clause-stuck g c =
 
 pub returns-clause-stuck : goal.returns-clause-stuck
 returns-clause-stuck g c =
-    err_map c.end_section-2.result _ _ (λ f p e. absurd (p.1 e)) c.end_section-2.ensures.out
+    IfErr-weaker c.end_section-2.result _ _ (λ f p e. absurd (p.1 e)) c.end_section-2.ensures.out
 
 pub returns-then-has_room-clause-lasting : goal.returns-then-has_room-clause-lasting
 returns-then-has_room-clause-lasting g c =
@@ -103,11 +99,10 @@ returns-in_err-flush-clause-front g c =
 pub returns-then-has_room-clause-front : goal.returns-then-has_room-clause-front
 returns-then-has_room-clause-front g c = λ set_id past records k.
     let flat = flat_flushed g.T.TapeOut.holds _ _ set_id _ _ _ _ k.files records
-    (λ e. (c.flush.ensures.none e).1) (λ some d o. c.in_ok-flush.ensures.flushed some set_id d o)
-    k.inside in
+    c.flush.ensures.none c.in_ok-flush.ensures.flushed k.inside in
     end_left (g.T.TapeOut.holds c.flush.new.tape.out) (g.T.TapeOut.holds c.end_section.new.self.out)
     _ _ set_id _ _ past k.files
-    records _ c.requires.capacity (err_map c.end_section.result _ _ (λ f p e. absurd (p.1 e))
+    records _ c.requires.capacity (IfErr-weaker c.end_section.result _ _ (λ f p e. absurd (p.1 e))
     c.end_section.ensures.out) (λ d o. err_any c.end_section.result _ (λ f not.
     let new = ended_course c.flush.new.tape.course in (
       new,
@@ -120,8 +115,7 @@ returns-then-has_room-clause-front g c = λ set_id past records k.
 pub returns-in_default-clause-front : goal.returns-in_default-clause-front
 returns-in_default-clause-front g c = λ set_id past records k.
     let flat = flat_flushed g.T.TapeOut.holds _ _ set_id _ _ _ _ k.files records
-    (λ e. (c.flush.ensures.none e).1) (λ some d o. c.in_ok-flush.ensures.flushed some set_id d o)
-    k.inside in
+    c.flush.ensures.none c.in_ok-flush.ensures.flushed k.inside in
     end_left (g.T.TapeOut.holds c.flush.new.tape.out) (g.T.TapeOut.holds c.flush.new.tape.out) _ _
     set_id _ _ past k.files
     records (Err OutOfVolumes) c.requires.capacity (λ e t h. h) (λ d o not. absurd (not refl))
@@ -134,10 +128,7 @@ returns-in_err-change_to-clause-front g c =
     rw p.1 (λ set_id past records k.
     let flat = flat_flushed g.T.TapeOut.holds c.args.volumes.now c.args.capacity set_id
     c.args.file.now c.args.self.now c.flush.new.tape c.args.packer.now k.files records
-    (λ e. (c.flush.ensures.none e).1) (λ some d o. c.in_ok-flush.ensures.flushed some set_id d o)
-    k.inside in
-    let there = got c.args.volumes.now c.from.result c.flush.new.tape.course.volume
-    c.in-Some.volume.now (search rules) c.in-Some.ensures.lookup.3.0 c.in-Some.ensures.lookup.1 in
+    c.flush.ensures.none c.in_ok-flush.ensures.flushed k.inside in
     let K = HoldsFront (g.T.TapeOut.holds c.change_to.new.self.out) in
     let one = changed_course c.flush.new.tape.course in
     let two = ended_course one in
@@ -148,12 +139,11 @@ returns-in_err-change_to-clause-front g c =
     (λ d o not. (
       two,
       close_next (g.T.TapeOut.holds c.flush.new.tape.out) K K c.args.volumes.now c.args.capacity
-          set_id c.args.file.now c.flush.new.tape.course one two d c.in-Some.volume.now (Ok tt)
-          o (let due = c.has_room.ensures.no (search rules) in omega (arith, due)) there
-          (every_at IsWideVolume c.args.volumes.now c.flush.new.tape.course.volume
-          c.in-Some.volume.now
-          c.requires.wide there) c.requires.volumes (omega (arith, c.requires.capacity))
-          (omega arith) c.change_to.ensures.front refl
+          set_id c.args.file.now c.flush.new.tape.course one two d c.in-Some.volume.now
+          c.from.result (Ok tt) o
+          (let due = c.has_room.ensures.no (search rules) in omega (arith, due)) (search rules)
+          c.in-Some.ensures.lookup.3.0 c.in-Some.ensures.lookup.1 c.requires.wide
+          c.requires.volumes c.requires.capacity (omega arith) c.change_to.ensures.front refl
           (λ vs items h. front_items (g.T.TapeOut.holds c.change_to.new.self.out) vs items
           (trailer_items c.args.file.now one.sect one.count true) h) refl,
     )) k.filed flat)
@@ -162,28 +152,23 @@ pub returns-clause-front : goal.returns-clause-front
 returns-clause-front g c = λ set_id past records k.
     let flat = flat_flushed g.T.TapeOut.holds c.args.volumes.now c.args.capacity set_id
     c.args.file.now c.args.self.now c.flush.new.tape c.args.packer.now k.files records
-    (λ e. (c.flush.ensures.none e).1) (λ some d o. c.in_ok-flush.ensures.flushed some set_id d o)
-    k.inside in
-    let there = got c.args.volumes.now c.from.result c.flush.new.tape.course.volume
-    c.in-Some.volume.now (search rules) c.in-Some.ensures.lookup.3.0 c.in-Some.ensures.lookup.1 in
+    c.flush.ensures.none c.in_ok-flush.ensures.flushed k.inside in
     let one = c.change_to.new.self.course in
     let two = ended_course one in
     end_left (g.T.TapeOut.holds c.flush.new.tape.out) (g.T.TapeOut.holds
     c.end_section-2.new.self.out)
     c.args.volumes.now c.args.capacity set_id c.args.file.now c.flush.new.tape.course past k.files
     records c.end_section-2.result c.requires.capacity
-    (err_map c.end_section-2.result _ _ (λ f p e. absurd (p.1 e)) c.end_section-2.ensures.out)
+    (IfErr-weaker c.end_section-2.result _ _ (λ f p e. absurd (p.1 e)) c.end_section-2.ensures.out)
     (λ d o. err_any c.end_section-2.result _ (λ f not. (
       two,
       close_next (g.T.TapeOut.holds c.flush.new.tape.out) (g.T.TapeOut.holds
           c.change_to.new.self.out)
           (HoldsFront (g.T.TapeOut.holds c.end_section-2.new.self.out)) c.args.volumes.now
           c.args.capacity set_id c.args.file.now c.flush.new.tape.course one two d
-          c.in-Some.volume.now (Ok tt)
-          o (let due = c.has_room.ensures.no (search rules) in omega (arith, due)) there
-          (every_at IsWideVolume c.args.volumes.now c.flush.new.tape.course.volume
-          c.in-Some.volume.now
-          c.requires.wide there) c.requires.volumes (omega (arith, c.requires.capacity))
-          (omega arith) c.in_ok-change_to.ensures.ok c.in_ok-change_to.ensures.course
-          c.end_section-2.ensures.front refl,
+          c.in-Some.volume.now c.from.result (Ok tt) o
+          (let due = c.has_room.ensures.no (search rules) in omega (arith, due)) (search rules)
+          c.in-Some.ensures.lookup.3.0 c.in-Some.ensures.lookup.1 c.requires.wide
+          c.requires.volumes c.requires.capacity (omega arith) c.in_ok-change_to.ensures.ok
+          c.in_ok-change_to.ensures.course c.end_section-2.ensures.front refl,
     ))) k.filed flat
