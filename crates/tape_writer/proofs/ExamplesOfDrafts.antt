@@ -40,69 +40,65 @@ resting_first v capacity id used size room = record {
   held = refl;
 }
 
-steady_first : (v : Vol1) (capacity : ℕ) (file : Opened) (used : ℕ) → IsReady file
-    → file.head.sequence ≡ 1 → used ≡ items_size (first_items v file) → used + 192 ≤ capacity
-    → Steady (labelled v ∷ []) capacity file.head.set_id file (first_course used) nothing_yet
-steady_first v capacity file used ready number size room = record {
-  inside = record {
-    ready = ready;
-    of_set = refl;
-    sequence = number;
-    volume = refl;
-    few = omega arith;
-    sect = refl;
-    sect_most = omega arith;
-    count = refl;
-    count_most = omega arith;
-    sized = tt;
-    done = done_none (labelled v ∷ []) capacity file.head.set_id 1;
-    goes = of_none _;
-    fresh = λ e. refl;
-    change = of_none _;
-    going = tt;
-    within = tt;
-    used = size;
-    room = room;
-  };
-  begins = λ e. of_none _;
-}
+-- the first file, on the first volume
+module _ (v : Vol1) (capacity : ℕ) (file : Opened) (used : ℕ) (ready : IsReady file)
+    (number : file.head.sequence ≡ 1) (size : used ≡ items_size (first_items v file))
+    (room : used + 192 ≤ capacity) where
+  steady_first :
+      Steady (labelled v ∷ []) capacity file.head.set_id file (first_course used) nothing_yet
+  steady_first = record {
+    inside = record {
+      ready = ready;
+      of_set = refl;
+      sequence = number;
+      volume = refl;
+      few = omega arith;
+      sect = refl;
+      sect_most = omega arith;
+      count = refl;
+      count_most = omega arith;
+      sized = tt;
+      done = done_none (labelled v ∷ []) capacity file.head.set_id 1;
+      goes = of_none _;
+      fresh = λ e. refl;
+      change = of_none _;
+      going = tt;
+      within = tt;
+      used = size;
+      room = room;
+    };
+    begins = λ e. of_none _;
+  }
 
-open_first : (v : Vol1) (capacity : ℕ) (file : Opened) (used : ℕ) → IsReady file
-    → file.head.sequence ≡ 1 → used ≡ items_size (first_items v file) → used + 192 ≤ capacity
-    → IsOpen (λ t. t ≡ UnderWay [] (first_items v file)) (v ∷ []) capacity file.head.set_id file
-    (first_course used) nothing_yet
-open_first v capacity file used ready number size room =
-    record { steady = steady_first v capacity file used ready number size room; held = refl }
+  open_first : IsOpen (λ t. t ≡ UnderWay [] (first_items v file)) (v ∷ []) capacity
+      file.head.set_id file (first_course used) nothing_yet
+  open_first = record { steady = steady_first; held = refl }
 
-begun_first : (v : Vol1) (capacity : ℕ) (file : Opened) (used : ℕ) → IsReady file
-    → file.head.sequence ≡ 1 → used ≡ items_size (first_items v file) → used + 192 ≤ capacity
-    → IsFiling (λ t. t ≡ UnderWay [] (first_items v file)) (v ∷ []) capacity file.head.set_id file
-    (first_course used) (the_packing file.shape [] false false) [] []
-begun_first v capacity file used ready number size room = record {
-  files = [];
-  filed = tt;
-  inside = record {
+  begun_first : IsFiling (λ t. t ≡ UnderWay [] (first_items v file)) (v ∷ []) capacity
+      file.head.set_id file (first_course used) (the_packing file.shape [] false false) [] []
+  begun_first = record {
+    files = [];
+    filed = tt;
+    inside = record {
+      draft = nothing_yet;
+      is_open = open_first;
+      files = refl;
+      shape = refl;
+      ended = refl;
+      run = λ n. run_begins (the_packing file.shape [] false false) n refl refl refl;
+      lengths = tt;
+    };
+  }
+
+  flat_first : IsFlat (λ t. t ≡ UnderWay [] (first_items v file)) (v ∷ []) capacity
+      file.head.set_id file (first_course used) [] []
+  flat_first = record {
     draft = nothing_yet;
-    is_open = open_first v capacity file used ready number size room;
+    is_open = open_first;
     files = refl;
-    shape = refl;
-    ended = refl;
-    run = λ n. run_begins (the_packing file.shape [] false false) n refl refl refl;
+    tight = record { joins = refl; order = refl; each = tt; closed = tt };
     lengths = tt;
-  };
-}
-
-flat_first : (v : Vol1) (capacity : ℕ) (file : Opened) (used : ℕ) → IsReady file
-    → file.head.sequence ≡ 1 → used ≡ items_size (first_items v file) → used + 192 ≤ capacity
-    → IsFlat (λ t. t ≡ UnderWay [] (first_items v file)) (v ∷ []) capacity file.head.set_id file
-    (first_course used) [] []
-flat_first v capacity file used ready number size room = record {
-  draft = nothing_yet;
-  is_open = open_first v capacity file used ready number size room;
-  files = refl;
-  tight = record { joins = refl; order = refl; each = tt; closed = tt };
-  lengths = tt;
-}
+  }
 
 waiting_first : (tapes : Tapes) (volumes : List Vol1) (capacity : ℕ) (id : List ℕ)
     (course : Course) → IsWaiting (λ t. t ≡ tapes) volumes capacity id course []

@@ -79,19 +79,6 @@ packing_last H vs cap set_id file course old new fs records whole rest judged of
           (subst (λ (s : Shape). HasRecordLength s.format s.rec_len (length whole)) k.shape fits);
     }
 
-pub packing_next : (H H' : Tapes → Type 0) (vs : List Vol1) (cap : ℕ) (set_id : List ℕ)
-    (file : Opened) (course course' : Course) (old new left : Packing) (fs : List (List Section))
-    (records : List (List ℕ)) (whole rest : List ℕ) (n : ℕ)
-    → IsJudged old rest → Offers old rest (BlockReady n) new → left ≡ emptied new
-    → ((d : Draft) → IsOpen H vs cap set_id file course d
-    → Flushed H' vs cap set_id file course' d new)
-    → IsPacking H vs cap set_id file course old fs records whole rest
-    → IsPacking H' vs cap set_id file course' left fs records whole (drop n rest)
-packing_next H H' vs cap set_id file course course' old new left fs
-    records whole rest n judged offers is f k =
-    packing_with H H' vs cap set_id file course course' old new left fs records whole rest n
-    judged offers is k (f k.draft k.is_open)
-
 -- ---- the last block of a file
 
 pub flat_none : (H : Tapes → Type 0) (vs : List Vol1) (cap : ℕ) (set_id : List ℕ) (file : Opened)
@@ -124,15 +111,6 @@ flat_with H H' vs cap set_id file course course' p fs records k q =
       lengths = k.lengths;
     }
 
-pub flat_some : (H H' : Tapes → Type 0) (vs : List Vol1) (cap : ℕ) (set_id : List ℕ) (file : Opened)
-    (course course' : Course) (p : Packing) (fs : List (List Section)) (records : List (List ℕ))
-    → ((d : Draft) → IsOpen H vs cap set_id file course d
-    → Flushed H' vs cap set_id file course' d p)
-    → IsInside H vs cap set_id file course p fs records
-    → IsFlat H' vs cap set_id file course' fs records
-flat_some H H' vs cap set_id file course course' p fs records f k =
-    flat_with H H' vs cap set_id file course course' p fs records k (f k.draft k.is_open)
-
 -- ---- records of valid length
 
 -- the rest of a record of valid length is also valid
@@ -155,19 +133,6 @@ judged_next old new left rest n opened judged offers is =
 
 -- ---- a block written
 
-flat_from : (H H' : Tapes → Type 0) (vs : List Vol1) (cap : ℕ) (set_id : List ℕ)
-    (file : Opened) (course course' : Course) (p : Packing) (fs : List (List Section))
-    (records : List (List ℕ)) (ps : List Portion) → p.parts ≡ ps
-    → (p.parts ≡ [] → IsInside H' vs cap set_id file course' p fs records)
-    → (p.parts ≢ [] → (d : Draft) → IsOpen H vs cap set_id file course d
-    → Flushed H' vs cap set_id file course' d p)
-    → IsInside H vs cap set_id file course p fs records
-    → IsFlat H' vs cap set_id file course' fs records
-flat_from H H' vs cap set_id file course course' p fs records [] is none some k =
-    flat_none H' vs cap set_id file course' p fs records is (none is)
-flat_from H H' vs cap set_id file course course' p fs records (q ∷ ps) is none some k =
-    flat_some H H' vs cap set_id file course course' p fs records (some (λ e. absurd (cc))) k
-
 -- all records are in blocks after the packer's block, if it had one, was written
 pub flat_flushed : {T : Type 0} {R : Type 0} (G : T → Tapes → Type 0) (vs : List Vol1) (cap : ℕ)
     (set_id : List ℕ) (file : Opened) (old new : Tape T) (p : Packing) (fs : List (List Section))
@@ -176,10 +141,15 @@ pub flat_flushed : {T : Type 0} {R : Type 0} (G : T → Tapes → Type 0) (vs : 
     old.course d → Flushed (G new.out) vs cap set_id file new.course d p)
     → IsInside (G old.out) vs cap set_id file old.course p fs records
     → IsFlat (G new.out) vs cap set_id file new.course fs records
-flat_flushed G vs cap set_id file old new p fs records none some k =
-    flat_from (G old.out) (G new.out) vs cap set_id file old.course new.course p fs records p.parts
-    refl (λ e. subst (λ t. IsInside (G t.out) vs cap set_id file t.course p fs records)
-    (sym (none e).1) k) (λ more. some more set_id) k
+flat_flushed G vs cap set_id file old new p fs records none some k = go p.parts refl
+  where
+    go : (ps : List Portion) → p.parts ≡ ps
+        → IsFlat (G new.out) vs cap set_id file new.course fs records
+    go [] is = flat_none (G new.out) vs cap set_id file new.course p fs records is
+        (subst (λ t. IsInside (G t.out) vs cap set_id file t.course p fs records)
+        (sym (none is).1) k)
+    go (q ∷ ps) is = flat_with (G old.out) (G new.out) vs cap set_id file old.course new.course p fs
+        records k (some (λ e. absurd (cc)) set_id k.draft k.is_open)
 
 -- a record whose first offer was valid has a valid length
 pub judged_more : (shape : Shape) (first p : Packing) (whole rest : List ℕ) → first.shape ≡ shape

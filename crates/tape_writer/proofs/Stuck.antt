@@ -86,16 +86,6 @@ continues_end shape taken records tight =
 
 -- ---- the calls
 
-pub left_out : (n cap : ℕ) (course : Course) (p : Packing) (text : List ℕ) → Given p text
-    → n ≤ course.volume → cap < course.used + item_size (block text) + 192
-    → IsLeftOut n cap course p
-left_out n cap course p text given none due = record {
-  text = text;
-  given = given;
-  none_left = none;
-  due = lt-leb _ _ due;
-}
-
 -- a record that is being written
 pub stuck_put : (H : Tapes → Type 0) (vs : List Vol1) (cap : ℕ) (set_id : List ℕ)
     (file : Opened) (course : Course) (p q : Packing) (fs : List (List Section))

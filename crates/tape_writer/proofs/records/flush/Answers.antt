@@ -6,7 +6,7 @@ use Rattle.tape_writer.specs.{Draft.added_course, Draft.changed_course, Front.Ho
 use Rattle.tape_writer.proofs.Held.{given_sized, write_here, write_next}
 use Rattle.tape_writer.proofs.Room.{flushed_here, flushed_next, none_room}
 use Rattle.tape_writer.proofs.{Fronts.took, Fronts.front_items, Fronts.err_any, Last.lasting_self}
-use Rattle.tape_writer.proofs.{Stuck.left_out}
+use Rattle.tape_writer.proofs.Words.{lt-leb}
 use Rattle.tape_writer.proofs.records.flush.Goals as goal
 
 pub add_block-requires-clause-sized : goal.add_block-requires-clause-sized
@@ -26,8 +26,12 @@ returns-in_default-get-clause-lasting g c = lasting_self _ _ _
 pub returns-in_default-get-clause-stuck : goal.returns-in_default-get-clause-stuck
 returns-in_default-get-clause-stuck g c = λ e. (
   refl,
-  left_out _ _ _ _ _ c.in-Some.ensures.found (search rules) (let due = c.has_room.ensures.no
-      (search rules) in omega (arith, due)),
+  record {
+    text = c.in-Some.block.now;
+    given = c.in-Some.ensures.found;
+    none_left = search rules;
+    due = lt-leb _ _ (let due = c.has_room.ensures.no (search rules) in omega (arith, due));
+  },
 )
 
 -- ---- the room that is left

@@ -5,7 +5,7 @@ use Rattle.tape_writer.proofs.Words.{offers_shape}
 use Rattle.std.proofs.lemmas.List.{take_rest}
 use Rattle.tape_writer.specs.Inside.{IsStuck}
 use Rattle.tape_blocks.specs.declared.offer.Offer.TheVariants.{BlockReady}
-use Rattle.tape_writer.proofs.Packed.{packing_first, packing_last, packing_next, judged_next}
+use Rattle.tape_writer.proofs.Packed.{packing_first, packing_last, packing_with, judged_next}
 use Rattle.tape_writer.proofs.Room.{begun_spanned, offered_room, taken_room}
 use Rattle.tape_writer.proofs.{Packed.judged_more, Stuck.stuck_put, Left.mid_left}
 use Rattle.tape_writer.proofs.{Last.lasting_then, Last.lasting_self}
@@ -64,10 +64,10 @@ offers-preserved g c =
       asked = λ w. c.in_ok-flush-in-Ok-BlockReady.ensures.asked (c.offers.invariant.asked w);
       packing = λ set_id fs records k.
           rw (take_rest c.offers.rest.now c.in-Ok-BlockReady.taken)
-          (packing_next _ _ _ _ _ _ _ _ _ _ _ _ _ _ _ _ c.in-Ok-BlockReady.ensures.judged
-          offers c.in_ok-flush-in-Ok-BlockReady.ensures.emptied
-          (λ d o. c.in_ok-flush-in-Ok-BlockReady.ensures.flushed offers.0 set_id d o)
-          (c.offers.invariant.packing set_id fs records k));
+          (let now = c.offers.invariant.packing set_id fs records k in
+          packing_with _ _ _ _ _ _ _ _ _ _ _ _ _ _ _ _ c.in-Ok-BlockReady.ensures.judged offers
+          c.in_ok-flush-in-Ok-BlockReady.ensures.emptied now
+          (c.in_ok-flush-in-Ok-BlockReady.ensures.flushed offers.0 set_id now.draft now.is_open));
     }
 
 pub returns-in_err-flush-in-Ok-BlockReady-clause-stuck :
