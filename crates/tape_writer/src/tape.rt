@@ -14,7 +14,7 @@ ghost use Rattle.tape_writer.specs.Lasting.{TapeLasts};
 ghost use Rattle.tape_writer.specs.Draft.{added_course, changed_course, changed_tapes};
 ghost use Rattle.tape_writer.specs.Faults.{FailsWith, IsOfOut};
 ghost use Rattle.tape_writer.specs.Labels.{IsReady, header_items, trailer_items, volume_label};
-ghost use Rattle.tape_writer.specs.Labels.{first_label, second_label, second_kind, trailer_label};
+ghost use Rattle.tape_writer.specs.Labels.{second_label, second_kind, trailer_label};
 
 use crate::course::{Course, Opened};
 use crate::fault::{WriteFault, fault_of};
@@ -123,7 +123,7 @@ impl<T: TapeOut> Tape<T> {
     }
 
     /// Writes the headers of section number `sect`: HDR1, HDR2 and a mark.
-    #[tactic(auto, using(crate::proofs::Last::lasting_then, crate::proofs::Last::rose_from))]
+    #[tactic(auto, using(crate::proofs::Last::kept), unfolding(crate::specs::Labels::first_label))]
     pub(crate) fn begin_section(&mut self, file: &Opened, sect: u16) -> Result<(), WriteFault>
         requires ready { IsReady file.now }
         requires first { 1 ≤ sect }
@@ -146,7 +146,7 @@ impl<T: TapeOut> Tape<T> {
         ensures asked { (v : Vol1) → T.asked self.old.out v → T.asked self.new.out v }
         ensures out { IfErr result IsOfOut }
     {
-        self.label(first_label(file, sect))?;
+        self.label(write_head1(&file.head_at(sect)))?;
         self.label(second_label(file, Kind::Hdr2))?;
         self.mark()?;
         self.course.sect = sect;
@@ -182,7 +182,7 @@ impl<T: TapeOut> Tape<T> {
     }
 
     /// Begins a volume with its VOL1.
-    #[tactic(auto, using(crate::proofs::Last::lasting_then, crate::proofs::Last::rose_from))]
+    #[tactic(auto, using(crate::proofs::Last::kept), unfolding(crate::specs::Labels::volume_label))]
     pub(crate) fn begin_volume(&mut self, volume: &Vol1) -> Result<(), WriteFault>
         requires few { self.old.course.volume < 65535 }
         ensures ok { Changes (block_item (volume_label volume.now) ∷ [])
@@ -202,7 +202,7 @@ impl<T: TapeOut> Tape<T> {
         }
         self.course.volume += 1;
         self.course.used = 0;
-        self.label(volume_label(volume))
+        self.label(write_vol1(volume))
     }
 
     /// Ends the section with EOV1 and EOV2, and continues on the next volume, with the label
@@ -232,25 +232,6 @@ impl<T: TapeOut> Tape<T> {
         let sect = self.course.sect + 1;
         self.begin_section(file, sect)
     }
-}
-
-/// Returns VOL1.
-#[tactic(auto, unfolding(crate::specs::Labels::volume_label))]
-fn volume_label(volume: &Vol1) -> [u8; 80]
-    ensures { result ≡ volume_label volume.now }
-{
-    write_vol1(volume)
-}
-
-/// Returns HDR1 of section number `sect`.
-#[tactic(auto, unfolding(crate::specs::Labels::first_label))]
-fn first_label(file: &Opened, sect: u16) -> [u8; 80]
-    requires ready { IsReady file.now }
-    requires first { 1 ≤ sect }
-    requires most { sect ≤ 9999 }
-    ensures { result ≡ first_label file.now sect }
-{
-    write_head1(&file.head_at(sect))
 }
 
 /// Returns the second label of the given kind: HDR2, EOF2 or EOV2.

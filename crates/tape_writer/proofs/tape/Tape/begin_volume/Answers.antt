@@ -3,6 +3,7 @@ use Rattle.tape_writer.proofs.Words.{◌∷◌, [], refl, subst, block}
 use Rattle.tape_writer.specs.{Tapes.UnderWay, Tapes.all_volumes, Front.HoldsFront}
 use Rattle.tape_writer.proofs.Fronts.{front_here, front_changed, took}
 use Rattle.tape_writer.proofs.Last.{lasting_err}
+use Rattle.tape_writer.specs.Labels.{volume_label}
 use Rattle.tape_writer.proofs.tape.Tape.begin_volume.Goals as goal
 
 pub returns-in-Err-clause-lasting : goal.returns-in-Err-clause-lasting
@@ -15,8 +16,10 @@ returns-in-Err-clause-front g c = λ tapes h.
     (c.in-Err.ensures.err tapes h))
 
 pub returns-clause-front : goal.returns-clause-front
+unfolding volume_label
 returns-clause-front g c = λ tapes h.
     let H = g.T.TapeOut.holds c.label.new.self.out in
-    subst (λ z. HoldsFront H (UnderWay (all_volumes tapes) (block z ∷ []))) c.volume_label.ensures
-    (took (g.T.TapeOut.holds c.change_volume.new.self) H (block c.volume_label.result ∷ []) _
+    subst (λ z. HoldsFront H (UnderWay (all_volumes tapes) (block z ∷ [])))
+    c.write_vol1.ensures.text
+    (took (g.T.TapeOut.holds c.change_volume.new.self) H (block c.write_vol1.result ∷ []) _
     c.label.ensures.ok c.label.ensures.err (all_volumes tapes) [] (c.in_default.ensures.ok tapes h))
