@@ -1,23 +1,19 @@
 -- The remains of a stage after a crash.
-use Rattle.std.proofs.Common.{◌≡◌, ◌⊎◌, inl, inr, ℕ, ◌+◌, ◌≤◌, Bool, false, not, List}
-use Rattle.std.proofs.Common.{sym, ◌∙◌, subst}
-use Rattle.tape_stage.specs.declared.disk.Disk.{Ghosts}
-use Rattle.tape_blocks.specs.Block.{Portion}
-use Rattle.tape_core.specs.Crash as crash
-use Rattle.tape_core.specs.Crash.{AddsNothing, AddsOnly, Crashes, IsThis}
-use Rattle.tape_core.proofs.Crashes.{only_same}
-use Rattle.tape_stage.specs.Moments.{Passes}
+use Rattle.std.proofs.Common.{◌≡◌, ◌⊎◌, inl, inr, ℕ, ◌+◌, ◌≤◌, Bool, false, not, List, sym, ◌∙◌}
+use Rattle.std.proofs.Common.{subst}
 use Rattle.tape_stage.specs.Staged.{Staged, StagedIn, IsEither, Ready}
-use Rattle.tape_stage.specs.Stages.{IsStage, Returns, Survives, Returned, Survived}
-use Rattle.tape_stage.specs.Stages.{HasRefused, crashes_of}
-use Rattle.tape_core.specs.Point.{Point}
-use Rattle.tape_stage.specs.declared.stage.Stage.{Stage}
-use Rattle.tape_stage.specs.declared.stage.StageFault.{StageFault}
+use Rattle.tape_stage.specs.Stages.{IsStage, Returns, Survives, Returned, Survived, HasRefused}
+use Rattle.tape_stage.specs.Stages.{crashes_of}
 use Rattle.tape_stage.specs.declared.stage.StageFault.TheVariants.{NoPoint, BadFrame, Device}
 use Rattle.tape_stage.specs.declared.stage.StageFault.TheVariants.{OutOfMemory, Failed, Full}
-use Rattle.tape_stage.proofs.Tears.{staged_named}
-use Rattle.tape_stage.proofs.SlotSteps.{ready_each}
-use Rattle.tape_stage.proofs.Once.{staged_once}
+use Rattle.tape_stage.specs.{declared.disk.Disk.Ghosts, Moments.Passes, declared.stage.Stage.Stage}
+use Rattle.tape_stage.specs.declared.stage.StageFault.{StageFault}
+use Rattle.tape_blocks.specs.Block.{Portion}
+use Rattle.tape_core.specs.Crash.{AddsNothing, AddsOnly, Crashes, IsThis}
+use Rattle.tape_core.specs.Point.{Point}
+use Rattle.tape_core.proofs.Crashes.{only_same}
+use Rattle.tape_stage.proofs.{Tears.staged_named, SlotSteps.ready_each, Once.staged_once}
+use Rattle.tape_core.specs.Crash as crash
 
 -- the bytes represent something
 pub in_stands : (second : Bool) (g : ℕ) (point : Point) (parts : List Portion) (bytes : List ℕ)

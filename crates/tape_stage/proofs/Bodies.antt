@@ -1,19 +1,15 @@
 -- A body that was written is read back.
-use Rattle.std.proofs.Common.{◌≡◌, ℕ, Bool, true, false, cond, List, ◌++◌, length}
-use Rattle.std.proofs.Common.{take, drop, replicate, Option, Some, None, refl, ap, ◌∙◌}
-use Rattle.std.proofs.Common.{arith, length-append}
+use Rattle.std.proofs.Common.{◌≡◌, ℕ, Bool, true, false, cond, List, ◌++◌, length, take, drop}
+use Rattle.std.proofs.Common.{replicate, Option, Some, None, refl, ap, ◌∙◌, arith, length-append}
 use Rattle.std.proofs.lemmas.List.{take_at, drop_at}
-use Rattle.std.specs.Str.{all_ascii_digits}
+use Rattle.std.specs.{Str.all_ascii_digits, Result.result_ok}
 use Rattle.tape_label.specs.Digits.{digits, number_of}
 use Rattle.tape_label.proofs.DigitLaws.{length-digits, all_ascii_digits-digits, number_of-digits}
 use Rattle.tape_core.specs.Point.{Point}
-use Rattle.tape_stage.specs.declared.point.Version.TheVariants.{Two}
-use Rattle.tape_stage.specs.Text.{IsPointText}
-use Rattle.std.specs.Result.{result_ok}
-use Rattle.tape_stage.specs.Reading.{point_in}
-use Rattle.tape_stage.proofs.PointLaws.{reads_only}
-use Rattle.tape_stage.proofs.PointLaws.{text_size}
 use Rattle.tape_stage.specs.Body.{Slot, point_text, body_text, with_generation, body_of, FitBody}
+use Rattle.tape_stage.specs.{declared.point.Version.TheVariants.Two, Text.IsPointText}
+use Rattle.tape_stage.specs.Reading.{point_in}
+use Rattle.tape_stage.proofs.PointLaws.{reads_only, text_size}
 
 length-point : (point : Point) → IsPointText Two (point_text point) point
     → length (point_text point) ≡ 80

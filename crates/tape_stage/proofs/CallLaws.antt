@@ -1,14 +1,12 @@
 -- One more call.
 use Rattle.std.proofs.Common.{◌≡◌, ◌⊎◌, inl, inr, ℕ, zero, suc, ◌+◌, ◌≤◌, List, [], ◌∷◌, ◌++◌}
 use Rattle.std.proofs.Common.{length, take, drop, refl, sym, ◌∙◌, subst, arith, length-append}
-use Rattle.std.proofs.Common.{replicate, if◌then◌else◌}
+use Rattle.std.proofs.Common.{replicate, if◌then◌else◌, Bool, true, false, ap}
 use Rattle.std.proofs.lemmas.List.{length-replicate}
-use Rattle.tape_stage.specs.Disk.{Elapses}
-use Rattle.std.proofs.Common.{Bool, true, false, ap}
 use Rattle.tape_stage.specs.Calls.{after, left_after, seen_by, left_by, since_by, IsImage, WasImage}
 use Rattle.tape_stage.specs.Calls.{Fits, AllFit, worst_after, worst_by, worst_longer, kept_or}
 use Rattle.tape_stage.specs.Calls.{IsRight}
-use Rattle.tape_stage.specs.declared.disk.content.Call.{Call}
+use Rattle.tape_stage.specs.{Disk.Elapses, declared.disk.content.Call.Call}
 
 pub seen_more : (seen : List ℕ) (calls : List Call) (call : Call)
     → seen_by seen (calls ++ call ∷ []) ≡ after (seen_by seen calls) call

@@ -1,6 +1,5 @@
 -- A wrapper fails no more often than its disk.
-use Rattle.std.proofs.Common.{ℕ, ◌≡◌, ◌≤◌, Result, Ok, Err, OnOk, inl, inr, arith}
-use Rattle.std.specs.Prelude.{OnErr}
+use Rattle.std.proofs.Common.{ℕ, ◌≡◌, ◌≤◌, Result, Ok, Err, OnOk, inl, inr, arith, OnErr}
 use Rattle.tape_core.specs.Weight.{Rose}
 
 -- after a call of the disk, whatever its result

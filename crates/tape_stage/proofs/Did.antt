@@ -1,13 +1,10 @@
 -- The effect of a call on the contents that a crash may leave of a disk in memory.
-use Rattle.std.proofs.Common.{◌≡◌, ℕ, List, length, Vec, sym}
-use Rattle.std.proofs.Common.{subst}
+use Rattle.std.proofs.Common.{◌≡◌, ℕ, List, length, Vec, sym, subst}
 use Rattle.std.specs.declared.alloc.Global.{Global}
 use Rattle.tape_stage.specs.Disk.{Torn, Elapses}
 use Rattle.tape_stage.specs.Calls.{kept_or, left_after, IsImage, WasImage, seen_image, worst_image}
-use Rattle.tape_stage.specs.Memory.{first_of}
-use Rattle.tape_stage.specs.Same.{DidCall}
-use Rattle.tape_stage.specs.declared.disk.content.Call.{Call}
 use Rattle.tape_stage.specs.declared.disk.content.Call.TheVariants.{Write, Sync}
+use Rattle.tape_stage.specs.{Memory.first_of, Same.DidCall, declared.disk.content.Call.Call}
 use Rattle.tape_stage.specs.declared.disk.content.Content.{Content}
 use Rattle.tape_stage.proofs.CallLaws.{image_back, image_more, elapses_more}
 

@@ -1,22 +1,13 @@
 -- Proofs of the examples for disks and stages.
-use Rattle.std.proofs.Common.{◌≡◌, ◌⊎◌, ◌∙◌, List, ℕ, [], ◌∷◌, refl, inl}
-use Rattle.std.proofs.Common.{inr, arith, get_or, ap, take, subst, Some, Ok}
+use Rattle.std.proofs.Common.{◌≡◌, ◌⊎◌, ◌∙◌, List, ℕ, [], ◌∷◌, refl, inl, inr, arith, get_or, ap}
+use Rattle.std.proofs.Common.{take, subst, Some, Ok}
+use Rattle.tape_blocks.specs.{declared.parts.Part.Part, Block.Portion, Parts.view}
+use Rattle.tape_stage.specs.{declared.disk.Disk.Ghosts, declared.stage.Stage.Stage, Reads.StageGave}
+use Rattle.tape_stage.specs.{Stages.IsAhead, Body.body_text, Calls.IsImage, Calls.WasImage}
+use Rattle.tape_stage.specs.{Calls.kept_or, Disk.Torn, Frames.NoFrameAt, Memory.first_of}
+use Rattle.tape_stage.specs.{Staged.HoldsNone, Cases.CasesOfCrashes, Cases.CasesOfMoments}
+use Rattle.tape_stage.specs.{Cases.CasesOfFiles, Cases.CasesOfStages, Cases.CasesOfFaults}
 use Rattle.tape_blocks.specs.declared.parts.Span.TheVariants as spans
-use Rattle.tape_blocks.specs.declared.parts.Part.{Part}
-use Rattle.tape_blocks.specs.Block.{Portion}
-use Rattle.tape_blocks.specs.Parts.{view}
-use Rattle.tape_stage.specs.declared.disk.Disk.{Ghosts}
-use Rattle.tape_stage.specs.declared.stage.Stage.{Stage}
-use Rattle.tape_stage.specs.Reads.{StageGave}
-use Rattle.tape_stage.specs.Stages.{IsAhead}
-use Rattle.tape_stage.specs.Body.{body_text}
-use Rattle.tape_stage.specs.Calls.{IsImage, WasImage, kept_or}
-use Rattle.tape_stage.specs.Disk.{Torn}
-use Rattle.tape_stage.specs.Frames.{NoFrameAt}
-use Rattle.tape_stage.specs.Memory.{first_of}
-use Rattle.tape_stage.specs.Staged.{HoldsNone}
-use Rattle.tape_stage.specs.Cases.{CasesOfCrashes, CasesOfMoments, CasesOfFiles, CasesOfStages}
-use Rattle.tape_stage.specs.Cases.{CasesOfFaults}
 
 pub cases_of_crashes : CasesOfCrashes
 cases_of_crashes = record {

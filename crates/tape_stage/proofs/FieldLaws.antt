@@ -1,18 +1,13 @@
 -- The groups of fields, read from a text and written to it.
-use Rattle.std.proofs.Common.{◌≡◌, ℕ, ◌+◌, ◌-◌, ◌≤◌, List, []}
-use Rattle.std.proofs.Common.{◌∷◌, length, take, drop, replicate, Ok, refl}
-use Rattle.std.proofs.Common.{subst, arith}
+use Rattle.std.proofs.Common.{◌≡◌, ℕ, ◌+◌, ◌-◌, ◌≤◌, List, [], ◌∷◌, length, take, drop, replicate}
+use Rattle.std.proofs.Common.{Ok, refl, subst, arith}
 use Rattle.tape_label.specs.Positions.{positions}
 use Rattle.tape_stage.specs.Text.{state_letter, flag_digit, format_letter}
-use Rattle.tape_stage.specs.Reading.{number_at, flag_at, format_at, tail_at}
-use Rattle.tape_stage.specs.Reading.{place_at, flags_at, form_at, staged_at, state_position}
-use Rattle.tape_stage.specs.Reading.{fields_at}
-use Rattle.tape_stage.specs.declared.point.Version.{Version}
+use Rattle.tape_stage.specs.Reading.{number_at, flag_at, format_at, tail_at, place_at, flags_at}
+use Rattle.tape_stage.specs.Reading.{form_at, staged_at, state_position, fields_at}
 use Rattle.tape_stage.specs.declared.point.Version.TheVariants.{One, Two}
-use Rattle.tape_stage.specs.declared.point.Place.{Place}
-use Rattle.tape_stage.specs.declared.point.Flags.{Flags}
-use Rattle.tape_stage.specs.declared.point.Form.{Form}
-use Rattle.tape_stage.specs.declared.point.Fields.{Fields}
+use Rattle.tape_stage.specs.declared.{point.Version.Version, point.Place.Place, point.Flags.Flags}
+use Rattle.tape_stage.specs.declared.{point.Form.Form, point.Fields.Fields}
 use Rattle.tape_stage.proofs.Steps.{bind_ok, ok_is, HasDigits, number_found, number_again}
 use Rattle.tape_stage.proofs.Steps.{flag_found, flag_again, format_found, format_again, tail_found}
 use Rattle.tape_stage.proofs.Steps.{tail_again}

@@ -1,20 +1,16 @@
 -- The slots that are found on a disk.
-use Rattle.std.proofs.Common.{◌≡◌, ⊎_elim, ℕ, ◌+◌, ◌≤◌, Bool, true, false, not, List}
-use Rattle.std.proofs.Common.{take, length, Option, Some, None, ◌==◌, sym, ap, ◌∙◌}
-use Rattle.std.proofs.Common.{subst, arith}
+use Rattle.std.proofs.Common.{◌≡◌, ⊎_elim, ℕ, ◌+◌, ◌≤◌, Bool, true, false, not, List, take, length}
+use Rattle.std.proofs.Common.{Option, Some, None, ◌==◌, sym, ap, ◌∙◌, subst, arith}
 use Rattle.std.proofs.lemmas.List.{take-take, length-take, length-take-le}
 use Rattle.std.proofs.lemmas.Bool.Decides.{eqb_tells}
 use Rattle.tape_blocks.specs.Block.{Portion}
-use Rattle.tape_stage.specs.Body.{body_of}
+use Rattle.tape_stage.specs.Body.{body_of, Slot}
 use Rattle.tape_stage.specs.Staged.{gate_at, body_at, read_slot, slot_at, best, Staged, StagedIn}
 use Rattle.tape_stage.specs.Staged.{Holding, Loses, Ready, StandsLike}
-use Rattle.tape_stage.specs.Found.{IsFound}
-use Rattle.tape_stage.specs.Salvaged.{RemainsNone}
+use Rattle.tape_stage.specs.{Found.IsFound, Salvaged.RemainsNone, declared.stage.Found.Found}
 use Rattle.tape_core.specs.Point.{Point}
-use Rattle.tape_stage.specs.declared.stage.Found.{Found}
-use Rattle.tape_stage.proofs.Tears.{slot_alike, gate_alike, closed_none, open_reads}
-use Rattle.tape_stage.proofs.Tears.{alike_holding, best_named, staged_named}
-use Rattle.tape_stage.specs.Body.{Slot}
+use Rattle.tape_stage.proofs.Tears.{slot_alike, gate_alike, closed_none, open_reads, alike_holding}
+use Rattle.tape_stage.proofs.Tears.{best_named, staged_named}
 
 pub front_same : (n : ℕ) (front bytes : List ℕ) → front ≡ take n bytes → take n front ≡ take n bytes
 front_same n front bytes is = ap (take n) is ∙ take-take n n bytes (omega arith)

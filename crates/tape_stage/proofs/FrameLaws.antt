@@ -1,16 +1,13 @@
 -- Frames of parts.
-use Rattle.std.proofs.Common.{◌≡◌, ℕ, ◌+◌, ◌≤◌, List, [], ◌∷◌, ◌++◌, length, take, drop, w32}
-use Rattle.std.proofs.Common.{refl, sym, ap, ◌∙◌, subst, arith, length-append, append_assoc}
-use Rattle.std.proofs.Common.{append-nil}
+use Rattle.std.proofs.Common.{◌≡◌, ℕ, ◌+◌, ◌≤◌, List, [], ◌∷◌, ◌++◌, length, take, drop, w32, refl}
+use Rattle.std.proofs.Common.{sym, ap, ◌∙◌, subst, arith, length-append, append_assoc, append-nil}
 use Rattle.std.proofs.lemmas.List.{take-take, take_at, length-take-le, drop-drop}
 use Rattle.std.proofs.Math.Seq.{take-add}
 use Rattle.std.specs.Int.{to_be_bytes}
-use Rattle.tape_stage.specs.Disk.{Holds}
+use Rattle.tape_stage.specs.Parts.{IsFront, frame, frames, AllShort}
+use Rattle.tape_stage.specs.{Disk.Holds, Staged.Holding, Staged.IsPut}
 use Rattle.tape_blocks.specs.Block.{Portion}
 use Rattle.tape_core.specs.Stands.{weight_of}
-use Rattle.tape_stage.specs.Parts.{IsFront}
-use Rattle.tape_stage.specs.Parts.{frame, frames, AllShort}
-use Rattle.tape_stage.specs.Staged.{Holding, IsPut}
 use Rattle.tape_stage.proofs.Torn.{alike_piece, holds_torn, holds_piece}
 
 frames-append : (xs ys : List Portion) → frames (xs ++ ys) ≡ frames xs ++ frames ys

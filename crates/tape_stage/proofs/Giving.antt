@@ -1,23 +1,18 @@
 -- Frames can be read in only one way.
 use Rattle.std.proofs.Common.{◌≡◌, ℕ, ◌+◌, ◌-◌, ◌≤◌, ◌<◌, List, [], ◌∷◌, ◌++◌, length, take, drop}
-use Rattle.std.proofs.Common.{w32, refl, sym, ap, ◌∙◌, subst, arith, length-append}
+use Rattle.std.proofs.Common.{w32, refl, sym, ap, ◌∙◌, subst, arith, length-append, Bool, ◌⊎◌, inl}
+use Rattle.std.proofs.Common.{inr, ◌==◌, if◌then◌else◌}
 use Rattle.std.proofs.lemmas.List.{take-take, take_at, drop_at, drop-take, length-take-le}
 use Rattle.std.proofs.lemmas.List.{length-drop, drop-drop}
 use Rattle.std.proofs.lemmas.Nat.{from_be_bytes-to_be_bytes_4}
 use Rattle.std.specs.Int.{to_be_bytes, from_be_bytes}
-use Rattle.std.proofs.Common.{Bool, ◌⊎◌, inl, inr, ◌==◌, if◌then◌else◌}
-use Rattle.tape_core.specs.Weight.{Rose}
-use Rattle.tape_core.specs.declared.sink.SinkFault.{SinkFault}
 use Rattle.tape_core.specs.declared.sink.SinkFault.TheVariants.{Device, Failed}
-use Rattle.tape_stage.specs.declared.disk.Disk.{Ghosts}
-use Rattle.tape_blocks.specs.declared.parts.Span.{Span}
-use Rattle.tape_blocks.specs.declared.parts.Span.TheVariants.{Whole, First, Middle, Last}
-use Rattle.tape_blocks.specs.Block.{Portion}
+use Rattle.tape_core.specs.{Weight.Rose, declared.sink.SinkFault.SinkFault}
 use Rattle.tape_stage.specs.Parts.{frame, frames, AllShort}
-use Rattle.tape_blocks.specs.Block.{indicator}
-use Rattle.tape_stage.specs.Staged.{Holding}
 use Rattle.tape_stage.specs.Frames.{AheadIn, IsFrameAt, NoFrameAt}
-use Rattle.tape_stage.specs.Stages.{LendsNone}
+use Rattle.tape_stage.specs.{declared.disk.Disk.Ghosts, Staged.Holding, Stages.LendsNone}
+use Rattle.tape_blocks.specs.declared.parts.Span.TheVariants.{Whole, First, Middle, Last}
+use Rattle.tape_blocks.specs.{declared.parts.Span.Span, Block.Portion, Block.indicator}
 use Rattle.tape_stage.proofs.FrameLaws.{length-frame}
 
 -- the span with the given digit

@@ -1,23 +1,18 @@
 -- The contents of a stage as a sink.
-use Rattle.std.proofs.Common.{◌≡◌, ℕ, Bool, false, List, length}
-use Rattle.std.specs.Prelude.{Option, None}
-use Rattle.std.proofs.Common.{drop, refl, sym, ap, ◌∙◌, subst, arith}
+use Rattle.std.proofs.Common.{◌≡◌, ℕ, Bool, false, List, length, Option, None, drop, refl, sym, ap}
+use Rattle.std.proofs.Common.{◌∙◌, subst, arith}
 use Rattle.std.proofs.lemmas.List.{length-take-le, length-drop}
-use Rattle.tape_stage.specs.declared.disk.Disk.{Ghosts}
-use Rattle.tape_blocks.specs.Block.{Portion}
-use Rattle.tape_core.specs.Stands.{weight_of}
 use Rattle.tape_stage.specs.Staged.{Holding, Ready}
-use Rattle.tape_core.specs.Weight.{Rose}
-use Rattle.tape_core.specs.declared.sink.SinkFault.{SinkFault}
-use Rattle.tape_core.specs.declared.sink.SinkFault.TheVariants as sink
-use Rattle.tape_stage.specs.Faults.{sink_fault_of}
 use Rattle.tape_stage.specs.Stages.{IsStage, IsStaged, AreHeld, Holds, HasRefused, RefusesChange}
-use Rattle.tape_core.specs.Point.{Point}
-use Rattle.tape_stage.specs.declared.stage.Stage.{Stage}
-use Rattle.tape_stage.specs.declared.stage.StageFault.{StageFault}
 use Rattle.tape_stage.specs.declared.stage.StageFault.TheVariants.{NoPoint, BadFrame, Device}
 use Rattle.tape_stage.specs.declared.stage.StageFault.TheVariants.{OutOfMemory, Failed, Full}
+use Rattle.tape_stage.specs.{declared.disk.Disk.Ghosts, Faults.sink_fault_of}
+use Rattle.tape_stage.specs.{declared.stage.Stage.Stage, declared.stage.StageFault.StageFault}
+use Rattle.tape_blocks.specs.Block.{Portion}
+use Rattle.tape_core.specs.{Stands.weight_of, Weight.Rose, declared.sink.SinkFault.SinkFault}
+use Rattle.tape_core.specs.Point.{Point}
 use Rattle.tape_stage.proofs.FrameLaws.{length-frames}
+use Rattle.tape_core.specs.declared.sink.SinkFault.TheVariants as sink
 
 -- the weight of framed parts is the length of their frames
 pub holding_weighs : (weight : ℕ) (parts : List Portion) (bytes : List ℕ)

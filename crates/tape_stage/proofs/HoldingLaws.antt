@@ -1,16 +1,14 @@
 -- The effect of buffered bytes on the results of reads, and on the contents that a crash may leave.
-use Rattle.std.proofs.Common.{◌≡◌, inl, inr, ⊎_elim, ℕ, ◌+◌, ◌-◌, ◌≤◌, ◌<◌, List, [], ◌++◌}
-use Rattle.std.proofs.Common.{length, take, drop, refl, sym, ap, ◌∙◌, subst, arith}
-use Rattle.std.proofs.Common.{length-append, length-drop, append_assoc}
-use Rattle.std.proofs.lemmas.List.{length-take-le, take_at, drop_at}
-use Rattle.std.proofs.lemmas.List.{take-append-drop, take-take, drop-take, drop-drop}
-use Rattle.std.proofs.lemmas.Bool.{cases_lt}
-use Rattle.std.proofs.Math.ListN.{drop_of_length-le}
-use Rattle.std.proofs.Math.Seq.{take-add}
+use Rattle.std.proofs.Common.{◌≡◌, inl, inr, ⊎_elim, ℕ, ◌+◌, ◌-◌, ◌≤◌, ◌<◌, List, [], ◌++◌, length}
+use Rattle.std.proofs.Common.{take, drop, refl, sym, ap, ◌∙◌, subst, arith, length-append}
+use Rattle.std.proofs.Common.{length-drop, append_assoc}
+use Rattle.std.proofs.lemmas.List.{length-take-le, take_at, drop_at, take-append-drop, take-take}
+use Rattle.std.proofs.lemmas.List.{drop-take, drop-drop}
+use Rattle.std.proofs.{lemmas.Bool.cases_lt, Math.ListN.drop_of_length-le, Math.Seq.take-add}
 use Rattle.tape_stage.specs.Calls.{over}
-use Rattle.tape_stage.proofs.Torn.{alike_less, torn_high}
 use Rattle.tape_stage.specs.Disk.{Torn, CutShort, Elapses, NoMore, Holds, Allows, Follows}
 use Rattle.tape_stage.specs.Holding.{with_held, LeftTorn, LeftSince, torn_same}
+use Rattle.tape_stage.proofs.Torn.{alike_less, torn_high}
 
 pub cut_same : (n : ℕ) (c : List ℕ) → CutShort n c c
 cut_same n c = record { no_shorter = omega arith; no_longer = omega arith; front = refl }

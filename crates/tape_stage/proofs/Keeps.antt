@@ -1,11 +1,10 @@
 -- Bytes that a call leaves unchanged, whatever its result.
-use Rattle.std.proofs.Common.{◌≡◌, ℕ, ◌+◌, ◌≤◌, Bool, true, false, List, length, take, drop}
-use Rattle.std.proofs.Common.{ap, ◌∙◌, arith}
+use Rattle.std.proofs.Common.{◌≡◌, ℕ, ◌+◌, ◌≤◌, Bool, true, false, List, length, take, drop, ap}
+use Rattle.std.proofs.Common.{◌∙◌, arith}
 use Rattle.tape_stage.specs.Disk.{Torn}
-use Rattle.tape_blocks.specs.Block.{Portion}
 use Rattle.tape_stage.specs.Staged.{slot_place, Holding, KeepsFrames, KeepsFront}
-use Rattle.tape_stage.proofs.Torn.{torn_high, torn_front}
-use Rattle.tape_stage.proofs.Tears.{alike_holding}
+use Rattle.tape_blocks.specs.Block.{Portion}
+use Rattle.tape_stage.proofs.{Torn.torn_high, Torn.torn_front, Tears.alike_holding}
 
 pub frames_same : (old new : List ℕ) → new ≡ old → KeepsFrames old new
 frames_same old new same = record {

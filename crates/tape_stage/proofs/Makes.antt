@@ -1,12 +1,10 @@
 -- A newly created stage.
-use Rattle.std.proofs.Common.{◌≡◌, ℕ, ◌+◌, ◌==◌, true, false, List, [], ◌∷◌, ◌++◌}
-use Rattle.std.proofs.Common.{length, take, drop, get_or, refl, sym, ap, ◌∙◌, subst}
-use Rattle.std.proofs.Common.{arith, length-append, append-nil}
+use Rattle.std.proofs.Common.{◌≡◌, ℕ, ◌+◌, ◌==◌, true, false, List, [], ◌∷◌, ◌++◌, length, take}
+use Rattle.std.proofs.Common.{drop, get_or, refl, sym, ap, ◌∙◌, subst, arith, length-append}
+use Rattle.std.proofs.Common.{append-nil}
 use Rattle.std.proofs.lemmas.List.{take_at, get_or_at, nil_from_length, drop_all}
-use Rattle.tape_stage.specs.Disk.{Holds, Only}
-use Rattle.tape_stage.specs.Body.{body_text, body_of, FitBody}
-use Rattle.tape_stage.specs.Staged.{gate_at, body_at, Holding, Loses, Ready}
-use Rattle.tape_stage.specs.Staged.{blank}
+use Rattle.tape_stage.specs.Staged.{gate_at, body_at, Holding, Loses, Ready, blank}
+use Rattle.tape_stage.specs.{Disk.Holds, Disk.Only, Body.body_text, Body.body_of, Body.FitBody}
 use Rattle.tape_core.specs.Point.{Point}
 use Rattle.tape_stage.proofs.Bodies.{body_reads, length-body}
 use Rattle.tape_stage.proofs.Tears.{closed_none, none_loses}

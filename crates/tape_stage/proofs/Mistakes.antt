@@ -1,25 +1,19 @@
 -- Results that the contracts of checkpoints, disks and stages exclude: each is the result of a
 -- wrong body.
-use Rattle.std.proofs.Common.{◌≡◌, ℕ, Option, ◌+◌, List, [], ◌∷◌, ◌++◌, length, take, drop}
-use Rattle.std.proofs.Common.{get_or, true, false, refl, inl, inr, sym, ap, subst, ◌∙◌, arith}
-use Rattle.std.specs.Prelude.{replicate, Some, Ok, Err, option_map, unwrap_or}
-use Rattle.tape_core.specs.Point.{Point}
-use Rattle.tape_core.specs.Weight.{Rose}
-use Rattle.tape_stage.specs.Calls.{worst_by}
-use Rattle.tape_stage.specs.Disk.{CountsDown}
-use Rattle.tape_stage.specs.Faults.{IsNotDevice}
-use Rattle.tape_stage.specs.Found.{IsFaultOf}
+use Rattle.std.proofs.Common.{◌≡◌, ℕ, Option, ◌+◌, List, [], ◌∷◌, ◌++◌, length, take, drop, get_or}
+use Rattle.std.proofs.Common.{true, false, refl, inl, inr, sym, ap, subst, ◌∙◌, arith, replicate}
+use Rattle.std.proofs.Common.{Some, Ok, Err, option_map, unwrap_or}
+use Rattle.tape_core.specs.{Point.Point, Weight.Rose}
 use Rattle.tape_stage.specs.Memory.{first_of, memory_bytes}
-use Rattle.tape_stage.specs.Salvaged.{Remains}
 use Rattle.tape_stage.specs.Staged.{best, gate_at, slot_at}
-use Rattle.tape_stage.specs.Text.{IsPointText}
-use Rattle.tape_stage.specs.declared.disk.Disk.{Ghosts}
-use Rattle.tape_stage.specs.declared.disk.DiskFault.TheVariants as disk_faults
+use Rattle.tape_stage.specs.declared.stage.StageFault.TheVariants.{Device, NoPoint, OutOfMemory}
+use Rattle.tape_stage.specs.{Calls.worst_by, Disk.CountsDown, Faults.IsNotDevice, Found.IsFaultOf}
+use Rattle.tape_stage.specs.{Salvaged.Remains, Text.IsPointText, declared.disk.Disk.Ghosts}
 use Rattle.tape_stage.specs.declared.disk.content.Call.TheVariants.{Write}
 use Rattle.tape_stage.specs.declared.disk.read_ahead.ReadAhead.{ReadAhead}
 use Rattle.tape_stage.specs.declared.point.Version.TheVariants.{One}
+use Rattle.tape_stage.specs.declared.disk.DiskFault.TheVariants as disk_faults
 use Rattle.tape_stage.specs.declared.point.text.PointFault.TheVariants as faults
-use Rattle.tape_stage.specs.declared.stage.StageFault.TheVariants.{Device, NoPoint, OutOfMemory}
 use Rattle.tape_stage.proofs.disk.file.FileDiskDisk.sync.Reads as sync
 use Rattle.tape_stage.proofs.disk.memory.MemoryDisk.crash.Reads as crash
 use Rattle.tape_stage.proofs.disk.memory_disk.MemoryDiskDisk.sync.Reads as memory_sync

@@ -1,15 +1,13 @@
 -- Files that a crash inside a call of a stage never leaves, according to the call's contract: each
 -- would be possible with a wrong body, and no crash before the call could leave it. The assumptions
 -- about a stage (`IsStage`, `Ready`) are guarantees of `create` and `save`.
-use Rattle.std.proofs.Common.{◌≡◌, ◌⊎◌, inl, inr, ℕ, ◌+◌, Bool, true, false, List, length}
-use Rattle.std.proofs.Common.{sym, ap, ◌∙◌, subst, arith}
-use Rattle.std.specs.Prelude.{not, Some, option_map, unwrap_or}
+use Rattle.std.proofs.Common.{◌≡◌, ◌⊎◌, inl, inr, ℕ, ◌+◌, Bool, true, false, List, length, sym, ap}
+use Rattle.std.proofs.Common.{◌∙◌, subst, arith, not, Some, option_map, unwrap_or}
 use Rattle.tape_blocks.specs.Block.{Portion}
 use Rattle.tape_core.specs.Point.{Point}
-use Rattle.tape_stage.specs.Parts.{IsFront}
-use Rattle.tape_stage.specs.Staged.{body_at, gate_at, read_slot, slot_at, IsEither, Loses}
-use Rattle.tape_stage.specs.Staged.{Ready, Staged, StagedIn}
-use Rattle.tape_stage.specs.Stages.{Holds, IsStage, Survived}
+use Rattle.tape_stage.specs.Staged.{body_at, gate_at, read_slot, slot_at, IsEither, Loses, Ready}
+use Rattle.tape_stage.specs.Staged.{Staged, StagedIn}
+use Rattle.tape_stage.specs.{Parts.IsFront, Stages.Holds, Stages.IsStage, Stages.Survived}
 use Rattle.tape_stage.proofs.stage.saving.close_gate.Reads as close_gate
 use Rattle.tape_stage.proofs.stage.Stage.restart.Reads as restart
 use Rattle.tape_stage.proofs.stage.Stage.save.Reads as save

@@ -1,12 +1,10 @@
 -- Results that the contract of opening a damaged stage excludes: each is the result of a wrong
 -- body.
-use Rattle.std.proofs.Common.{◌≡◌, ℕ, List, [], ◌∷◌, true, false, sym, ap, ◌∙◌, arith}
-use Rattle.std.specs.Prelude.{Option, Some, None, Ok, Err}
+use Rattle.std.proofs.Common.{◌≡◌, ℕ, List, [], ◌∷◌, true, false, sym, ap, ◌∙◌, arith, Option, Some}
+use Rattle.std.proofs.Common.{None, Ok, Err}
 use Rattle.tape_blocks.specs.Block.{Portion}
-use Rattle.tape_core.specs.Point.{Point}
-use Rattle.tape_core.specs.Stands.{weight_of}
-use Rattle.tape_stage.specs.Salvaged.{Remains}
-use Rattle.tape_stage.specs.Stages.{Holds}
+use Rattle.tape_core.specs.{Point.Point, Stands.weight_of}
+use Rattle.tape_stage.specs.{Salvaged.Remains, Stages.Holds}
 use Rattle.tape_stage.specs.declared.stage.StageFault.TheVariants.{NoPoint}
 use Rattle.tape_stage.proofs.Once.{remains_once}
 use Rattle.tape_stage.proofs.stage.Stage.open_read_only.Reads as open_read_only

@@ -1,15 +1,11 @@
 -- A stage file has at most one meaning.
-use Rattle.std.proofs.Common.{◌≡◌, inl, inr, ℕ, not, ◌+◌, ◌-◌, ◌≤◌, ◌<◌, min, List}
-use Rattle.std.proofs.Common.{[], ◌∷◌, length, Some, refl, sym, ap, ◌∙◌, subst, arith}
-use Rattle.std.specs.Prelude.{Option, None, IfSome}
-use Rattle.tape_blocks.specs.declared.parts.Span.{Span}
-use Rattle.tape_blocks.specs.Block.{Portion}
-use Rattle.tape_stage.specs.Body.{Slot}
+use Rattle.std.proofs.Common.{◌≡◌, inl, inr, ℕ, not, ◌+◌, ◌-◌, ◌≤◌, ◌<◌, min, List, [], ◌∷◌, length}
+use Rattle.std.proofs.Common.{Some, refl, sym, ap, ◌∙◌, subst, arith, Option, None, IfSome}
+use Rattle.tape_blocks.specs.{declared.parts.Span.Span, Block.Portion}
 use Rattle.tape_stage.specs.Frames.{AheadIn, IsFrameAt, NoFrameAt}
 use Rattle.tape_stage.specs.Salvaged.{BreaksAt, FramedTo, Remains, RemainsOnce}
-use Rattle.tape_stage.specs.Staged.{Staged}
-use Rattle.tape_stage.specs.StageLaws.{StandsOnce, ReadsOneOf, NamedStands}
-use Rattle.tape_stage.specs.StageLaws.{EitherStands}
+use Rattle.tape_stage.specs.StageLaws.{StandsOnce, ReadsOneOf, NamedStands, EitherStands}
+use Rattle.tape_stage.specs.{Body.Slot, Staged.Staged}
 use Rattle.tape_core.specs.Point.{Point}
 use Rattle.tape_stage.proofs.Tears.{staged_named}
 use Rattle.tape_stage.proofs.Giving.{one_ahead, one_frame, more_ahead, held_ahead, none_ends}

@@ -1,22 +1,15 @@
 -- Opening: the slots are found by reading, and then the bytes after the staged data are removed.
 use Rattle.std.proofs.Common.{◌≡◌, ◌⊎◌, inl, inr, ℕ, ◌+◌, List, take, ap, ◌∙◌, subst, arith}
 use Rattle.tape_blocks.specs.Block.{Portion}
-use Rattle.tape_stage.specs.declared.disk.Disk.{Ghosts}
-use Rattle.tape_stage.specs.declared.stage.Found.{Found}
-use Rattle.tape_stage.specs.Disk.{CutShort}
-use Rattle.tape_stage.specs.Found.{IsFound}
-use Rattle.tape_stage.specs.Moments.{Passes, Untouched}
-use Rattle.tape_stage.specs.OnlyReading.{OnlyReads}
-use Rattle.tape_core.specs.Weight.{Rose}
-use Rattle.tape_stage.specs.Faults.{SaysNone}
-use Rattle.tape_stage.specs.Found.{IsFaultOf}
 use Rattle.tape_stage.specs.Staged.{Holding, HoldsNone, KeepsStaged, Ready, Staged, StandsLike}
-use Rattle.tape_stage.specs.Stages.{RefusesOpening}
-use Rattle.tape_stage.specs.declared.stage.StageFault.{StageFault}
 use Rattle.tape_stage.specs.declared.stage.StageFault.TheVariants.{Device, Failed, Full}
-use Rattle.tape_stage.proofs.Finds.{stands_like, cut_ready, found_read}
-use Rattle.tape_stage.proofs.Passing.{weaken, follow}
-use Rattle.tape_stage.proofs.Refusals.{same_keeps, cut_keeps}
+use Rattle.tape_stage.specs.{declared.disk.Disk.Ghosts, declared.stage.Found.Found, Disk.CutShort}
+use Rattle.tape_stage.specs.{Found.IsFound, Found.IsFaultOf, Moments.Passes, Moments.Untouched}
+use Rattle.tape_stage.specs.{OnlyReading.OnlyReads, Faults.SaysNone, Stages.RefusesOpening}
+use Rattle.tape_stage.specs.declared.stage.StageFault.{StageFault}
+use Rattle.tape_core.specs.Weight.{Rose}
+use Rattle.tape_stage.proofs.{Finds.stands_like, Finds.cut_ready, Finds.found_read, Passing.weaken}
+use Rattle.tape_stage.proofs.{Passing.follow, Refusals.same_keeps, Refusals.cut_keeps}
 
 -- the disk represents the slot found, with its parts, and the stage is ready
 pub record IsOpened {D : Type 0} (disk : Ghosts D) (found : Found) (old new : D) : Type 0 where

@@ -1,8 +1,6 @@
 -- Consecutive calls of a disk.
 use Rattle.std.proofs.Common.{inl, inr, ⊎_elim, ℕ, List, arith}
-use Rattle.tape_stage.specs.declared.disk.Disk.{Ghosts}
-use Rattle.tape_stage.specs.Disk.{IsLater}
-use Rattle.tape_stage.specs.Moments.{Passes}
+use Rattle.tape_stage.specs.{declared.disk.Disk.Ghosts, Disk.IsLater, Moments.Passes}
 
 module _ {D : Type 0} (g : Ghosts D) where
   pub weaken : (old new : D) (P Q : List ℕ → Type 0) → ((c : List ℕ) → P c → Q c)

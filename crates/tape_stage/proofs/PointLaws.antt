@@ -1,32 +1,23 @@
 -- The text of a checkpoint, written and read.
-use Rattle.std.proofs.Common.{◌≡◌, ℕ, ◌^◌, ◌<◌, true, List, length}
-use Rattle.std.proofs.Common.{Option, None, Some, Result, Ok, Err, refl, sym, subst, ap, ◌∙◌}
-use Rattle.std.proofs.Common.{arith}
-use Rattle.std.specs.Prelude.{IfOk}
+use Rattle.std.proofs.Common.{◌≡◌, ℕ, ◌^◌, ◌<◌, true, List, length, Option, None, Some, Result, Ok}
+use Rattle.std.proofs.Common.{Err, refl, sym, subst, ap, ◌∙◌, arith, IfOk}
 use Rattle.tape_label.specs.Written.{text_of, spaces, HaveWidths}
-use Rattle.tape_label.proofs.Pieces.{StandAt, pieces_stand}
-use Rattle.tape_label.proofs.Steps.{length-positions}
-use Rattle.tape_set.specs.declared.position.Position.{Position}
+use Rattle.tape_label.proofs.{Pieces.StandAt, Pieces.pieces_stand, Steps.length-positions}
 use Rattle.tape_set.specs.declared.position.Position.TheVariants.{Awaits, Finished}
-use Rattle.tape_set.specs.Position.{sect_of}
-use Rattle.tape_set.specs.Lawful.{FileForm}
-use Rattle.tape_core.specs.Known.{PositionFits}
-use Rattle.tape_core.specs.Point.{Point}
-use Rattle.tape_stage.specs.declared.point.text.PointFault.{PointFault}
-use Rattle.tape_stage.specs.declared.point.text.PointFault.TheVariants as faults
-use Rattle.tape_stage.specs.declared.point.Version.{Version}
-use Rattle.tape_stage.specs.declared.point.Version.TheVariants.{One, Two}
-use Rattle.tape_stage.specs.declared.point.Fields.{Fields}
-use Rattle.tape_stage.specs.Fields.{form_of, fields_of, point_by}
-use Rattle.tape_stage.specs.Range.{is_right}
-use Rattle.tape_stage.specs.Reading.{text_at, right_point, reading}
+use Rattle.tape_set.specs.{declared.position.Position.Position, Position.sect_of, Lawful.FileForm}
+use Rattle.tape_core.specs.{Known.PositionFits, Point.Point}
 use Rattle.tape_stage.specs.Text.{pieces, rest_pieces, tail_width, Fit, KnownFits, IsWritable}
 use Rattle.tape_stage.specs.Text.{IsPointText}
-use Rattle.tape_stage.proofs.Stood.{stood}
-use Rattle.tape_stage.proofs.Steps.{bind_ok, passed}
+use Rattle.tape_stage.specs.declared.point.text.PointFault.{PointFault}
+use Rattle.tape_stage.specs.{declared.point.Version.Version, declared.point.Version.TheVariants.One}
+use Rattle.tape_stage.specs.{declared.point.Version.TheVariants.Two, declared.point.Fields.Fields}
+use Rattle.tape_stage.specs.{Fields.form_of, Fields.fields_of, Fields.point_by, Range.is_right}
+use Rattle.tape_stage.specs.{Reading.text_at, Reading.right_point, Reading.reading}
 use Rattle.tape_stage.proofs.TextLaws.{Reads, text_found, text_again, reads_stand, stands_read}
 use Rattle.tape_stage.proofs.TextLaws.{reads_fit}
 use Rattle.tape_stage.proofs.PointFields.{point_again, point_right, fields_again, right_writable}
+use Rattle.tape_stage.proofs.{Stood.stood, Steps.bind_ok, Steps.passed}
+use Rattle.tape_stage.specs.declared.point.text.PointFault.TheVariants as faults
 
 -- ---- the text of a checkpoint is read as that checkpoint
 

@@ -1,18 +1,13 @@
 -- The state of a disk after opening a stage was refused.
-use Rattle.std.proofs.Common.{◌≡◌, ℕ, ◌+◌, ◌≤◌, List, take, length, Some, Result, Ok, Err}
-use Rattle.std.proofs.Common.{OnErr, sym, ap, ◌∙◌, subst, arith}
+use Rattle.std.proofs.Common.{◌≡◌, ℕ, ◌+◌, ◌≤◌, List, take, length, Some, Result, Ok, Err, OnErr}
+use Rattle.std.proofs.Common.{sym, ap, ◌∙◌, subst, arith}
 use Rattle.std.proofs.lemmas.List.{take-take, length-take-le}
 use Rattle.tape_blocks.specs.Block.{Portion}
 use Rattle.tape_core.specs.Point.{Point}
-use Rattle.tape_stage.specs.Body.{Slot}
-use Rattle.tape_stage.specs.Disk.{CutShort, IsLater, NoMore}
-use Rattle.tape_stage.specs.Found.{IsFound}
-use Rattle.tape_stage.specs.Moments.{Untouched}
-use Rattle.tape_stage.specs.Staged.{Staged, KeepsStaged}
-use Rattle.tape_stage.specs.declared.disk.Disk.{Ghosts}
-use Rattle.tape_stage.specs.declared.stage.Found.{Found}
-use Rattle.tape_stage.proofs.Finds.{best_of}
-use Rattle.tape_stage.proofs.Passing.{stands, weaken, follow}
+use Rattle.tape_stage.specs.{Body.Slot, Disk.CutShort, Disk.IsLater, Disk.NoMore, Found.IsFound}
+use Rattle.tape_stage.specs.{Moments.Untouched, Staged.Staged, Staged.KeepsStaged}
+use Rattle.tape_stage.specs.{declared.disk.Disk.Ghosts, declared.stage.Found.Found}
+use Rattle.tape_stage.proofs.{Finds.best_of, Passing.stands, Passing.weaken, Passing.follow}
 
 pub on_each_err : {A B : Type 0} (r : Result A B) {P : Type 0} → P → OnErr r P
 on_each_err (Ok x) p = tt

@@ -1,18 +1,14 @@
 -- The remains of a damaged stage.
-use Rattle.std.proofs.Common.{◌≡◌, ℕ, ◌+◌, ◌≤◌, ◌<◌, List, length, min}
-use Rattle.std.proofs.Common.{Some, subst, arith}
-use Rattle.std.specs.Prelude.{Option, None}
-use Rattle.tape_blocks.specs.Block.{Portion}
-use Rattle.tape_blocks.specs.Spans.{join}
+use Rattle.std.proofs.Common.{◌≡◌, ℕ, ◌+◌, ◌≤◌, ◌<◌, List, length, min, Some, subst, arith, Option}
+use Rattle.std.proofs.Common.{None}
+use Rattle.tape_blocks.specs.{Block.Portion, Spans.join}
 use Rattle.tape_core.specs.Point.{Point}
 use Rattle.tape_stage.specs.Found.{IsFound, IsBadPlace}
-use Rattle.tape_stage.specs.Frames.{NoFrameAt}
 use Rattle.tape_stage.specs.Salvaged.{FramedTo, Remains, RemainsNone, WalkedOver}
 use Rattle.tape_stage.specs.Staged.{Holding, HoldsNone, Staged, WalkedTo}
-use Rattle.tape_stage.specs.declared.stage.Found.{Found}
-use Rattle.tape_stage.proofs.Finds.{best_of}
+use Rattle.tape_stage.specs.{Frames.NoFrameAt, declared.stage.Found.Found}
 use Rattle.tape_stage.proofs.Once.{remains_once, staged_remains}
-use Rattle.tape_stage.proofs.Walks.{walked_holding}
+use Rattle.tape_stage.proofs.{Finds.best_of, Walks.walked_holding}
 
 -- all frames are intact
 pub framed_whole : (staged place records : ℕ) (bytes : List ℕ) → place ≡ 256 + staged

@@ -1,12 +1,9 @@
 -- Clauses about the result of a call.
-use Rattle.std.proofs.Common.{ℕ, List, Result, Ok, Err, OnOk}
-use Rattle.std.specs.Prelude.{IfErr, IfOk}
-use Rattle.tape_stage.specs.declared.stage.StageFault.{StageFault}
-use Rattle.tape_stage.specs.Faults.{SaysNone, OnBadFrame}
-use Rattle.tape_stage.specs.Found.{IsFaultOf}
-use Rattle.tape_stage.specs.Salvaged.{RemainsNone}
+use Rattle.std.proofs.Common.{ℕ, List, Result, Ok, Err, OnOk, IfErr, IfOk}
 use Rattle.tape_stage.specs.declared.stage.StageFault.TheVariants.{NoPoint, BadFrame, Device}
 use Rattle.tape_stage.specs.declared.stage.StageFault.TheVariants.{OutOfMemory, Failed, Full}
+use Rattle.tape_stage.specs.{declared.stage.StageFault.StageFault, Faults.SaysNone}
+use Rattle.tape_stage.specs.{Faults.OnBadFrame, Found.IsFaultOf, Salvaged.RemainsNone}
 
 pub on_ok : {A B : Type 0} (r : Result A B) {P Q : Type 0} → (P → Q) → OnOk r P → OnOk r Q
 on_ok (Ok x) also p = also p

@@ -1,14 +1,11 @@
 -- A checkpoint has one text in a version, and a text one checkpoint.
 use Rattle.std.proofs.Common.{◌≡◌, Result, Ok, refl, sym, ap, ◌∙◌, arith}
 use Rattle.tape_label.specs.Written.{text_of}
-use Rattle.tape_stage.specs.declared.point.text.PointFault.{PointFault}
-use Rattle.tape_stage.specs.declared.point.Version.{Version}
 use Rattle.tape_stage.specs.declared.point.Version.TheVariants.{One, Two}
-use Rattle.tape_stage.specs.declared.point.Fields.{Fields}
-use Rattle.tape_stage.specs.Fields.{fields_of}
 use Rattle.tape_stage.specs.Laws.{IsTextOfOne, IsTextOnce, HasBothTexts}
-use Rattle.tape_stage.specs.Reading.{text_at}
-use Rattle.tape_stage.specs.Text.{pieces}
+use Rattle.tape_stage.specs.declared.point.text.PointFault.{PointFault}
+use Rattle.tape_stage.specs.{declared.point.Version.Version, declared.point.Fields.Fields}
+use Rattle.tape_stage.specs.{Fields.fields_of, Reading.text_at, Text.pieces}
 use Rattle.tape_stage.proofs.Steps.{ok_is}
 use Rattle.tape_stage.proofs.PointLaws.{point_read, reads_only, text_size}
 

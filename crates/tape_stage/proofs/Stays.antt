@@ -1,14 +1,12 @@
 -- The effect of a call on a stage that was ready.
-use Rattle.std.proofs.Common.{◌≡◌, ℕ, ◌+◌, ◌≤◌, Bool, true, false, not, List, length, take}
-use Rattle.std.proofs.Common.{◌==◌, sym, ap, ◌∙◌, arith}
+use Rattle.std.proofs.Common.{◌≡◌, ℕ, ◌+◌, ◌≤◌, Bool, true, false, not, List, length, take, ◌==◌}
+use Rattle.std.proofs.Common.{sym, ap, ◌∙◌, arith}
 use Rattle.std.proofs.lemmas.List.{length-take}
 use Rattle.tape_blocks.specs.Block.{Portion}
-use Rattle.tape_stage.specs.Staged.{gate_at, StagedIn, Ready}
-use Rattle.tape_stage.specs.Staged.{FrontOf}
+use Rattle.tape_stage.specs.Staged.{gate_at, StagedIn, Ready, FrontOf}
 use Rattle.tape_core.specs.Point.{Point}
-use Rattle.tape_stage.proofs.Torn.{alike_less}
 use Rattle.tape_stage.proofs.Tears.{alike_staged, gate_alike}
-use Rattle.tape_stage.proofs.SlotSteps.{ready_each}
+use Rattle.tape_stage.proofs.{Torn.alike_less, SlotSteps.ready_each}
 
 pub gate_test : (second : Bool) (bytes : List ℕ) → gate_at second bytes ≡ 79
     → true ≡ (gate_at (not (not second)) bytes == 79)

@@ -1,22 +1,19 @@
 -- The meaning of each reading step that does not fail, and conversely the step's result from the
 -- text.
-use Rattle.std.proofs.Common.{◌≡◌, ℕ, ◌-◌, ◌^◌, ◌<◌, ◌≤◌, Bool, true, false, cond, eqb, List}
-use Rattle.std.proofs.Common.{[], ◌∷◌, length, get_or, take, drop, replicate, Option, None, Some}
+use Rattle.std.proofs.Common.{◌≡◌, ℕ, ◌-◌, ◌^◌, ◌<◌, ◌≤◌, Bool, true, false, cond, eqb, List, []}
+use Rattle.std.proofs.Common.{◌∷◌, length, get_or, take, drop, replicate, Option, None, Some}
 use Rattle.std.proofs.Common.{Result, Ok, Err, refl, sym, subst, rules}
+use Rattle.std.proofs.{lemmas.Bool.eqb-true, lemmas.Slice.Eq.bytes_eq-Decides}
 use Rattle.std.specs.Str.{bytes_eq, all_ascii_digits}
-use Rattle.std.proofs.lemmas.Bool.{eqb-true}
-use Rattle.std.proofs.lemmas.Slice.Eq.{bytes_eq-Decides}
-use Rattle.tape_label.specs.declared.values.Format.{Format}
 use Rattle.tape_label.specs.declared.values.Format.TheVariants.{Fixed, Counted, Spanned}
 use Rattle.tape_label.specs.Digits.{digits, number_of}
-use Rattle.tape_label.specs.Positions.{positions}
+use Rattle.tape_label.specs.{declared.values.Format.Format, Positions.positions}
 use Rattle.tape_label.proofs.DigitLaws.{digits-number_of, number_of-digits, number_of-lt}
 use Rattle.tape_label.proofs.DigitLaws.{all_ascii_digits-digits}
 use Rattle.tape_label.proofs.Steps.{length-positions, character_found, character_is}
-use Rattle.tape_stage.specs.declared.point.text.PointFault.{PointFault}
-use Rattle.tape_stage.specs.declared.point.text.PointFault.TheVariants as faults
-use Rattle.tape_stage.specs.Text.{format_letter}
 use Rattle.tape_stage.specs.Reading.{◌>>=◌, number_at, flag_at, format_at, tail_at}
+use Rattle.tape_stage.specs.{declared.point.text.PointFault.PointFault, Text.format_letter}
+use Rattle.tape_stage.specs.declared.point.text.PointFault.TheVariants as faults
 
 -- a step that did not fail, and the steps before it
 pub bind_ok : {A B : Type 0} (r : Result A PointFault) (f : A → Result B PointFault) (y : B)

@@ -1,6 +1,5 @@
 -- Consecutive pieces are the text.
-use Rattle.std.proofs.Common.{◌≡◌, ℕ, ◌+◌, List, [], ◌∷◌, ◌++◌, drop, sym, ap}
-use Rattle.std.proofs.Common.{◌∙◌, arith}
+use Rattle.std.proofs.Common.{◌≡◌, ℕ, ◌+◌, List, [], ◌∷◌, ◌++◌, drop, sym, ap, ◌∙◌, arith}
 use Rattle.std.proofs.lemmas.List.{drop_all, drop-drop, take-append-drop}
 use Rattle.tape_label.specs.Written.{Piece, text_of}
 use Rattle.tape_label.proofs.Pieces.{StandAt}

@@ -1,18 +1,15 @@
 -- The effect of torn and of completed writes on the slots.
-use Rattle.std.proofs.Common.{◌≡◌, ℕ, ◌+◌, ◌≤◌, Bool, true, false, not}
-use Rattle.std.proofs.Common.{List, length, take, drop, Option, Some, None}
-use Rattle.std.proofs.Common.{if◌then◌else◌, ◌==◌, nat_lt, refl, sym, ap, ◌∙◌, subst, arith}
-use Rattle.std.proofs.lemmas.Bool.{ne_eqb, lt-ltb}
-use Rattle.std.proofs.lemmas.Bool.Decides.{nat_tests}
-use Rattle.tape_stage.specs.Disk.{Torn}
-use Rattle.tape_blocks.specs.Block.{Portion}
-use Rattle.tape_stage.specs.Body.{body_of}
+use Rattle.std.proofs.Common.{◌≡◌, ℕ, ◌+◌, ◌≤◌, Bool, true, false, not, List, length, take, drop}
+use Rattle.std.proofs.Common.{Option, Some, None, if◌then◌else◌, ◌==◌, nat_lt, refl, sym, ap, ◌∙◌}
+use Rattle.std.proofs.Common.{subst, arith}
+use Rattle.std.proofs.{lemmas.Bool.ne_eqb, lemmas.Bool.lt-ltb, lemmas.Bool.Decides.nat_tests}
 use Rattle.tape_stage.specs.Staged.{slot_place, gate_at, body_at, read_slot, slot_at, best, Holding}
 use Rattle.tape_stage.specs.Staged.{Staged, Loses, StagedIn}
+use Rattle.tape_stage.specs.{Disk.Torn, Body.body_of, Body.Slot}
+use Rattle.tape_blocks.specs.Block.{Portion}
 use Rattle.tape_core.specs.Point.{Point}
 use Rattle.tape_stage.proofs.Torn.{alike_piece, alike_byte, torn_low, torn_high, torn_byte_low}
 use Rattle.tape_stage.proofs.Torn.{torn_byte_high}
-use Rattle.tape_stage.specs.Body.{Slot}
 
 le-ltb-false : (m n : ℕ) → n ≤ m → nat_lt m n ≡ false
 le-ltb-false m n le = grind (arith, nat_tests)

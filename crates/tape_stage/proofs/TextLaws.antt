@@ -1,23 +1,19 @@
 -- A text that is read is that of its fields, and the text written for fields is read back.
-use Rattle.std.proofs.Common.{◌≡◌, ℕ, ◌+◌, ◌-◌, ◌++◌, Bool, true, false, cond, eqb, List}
-use Rattle.std.proofs.Common.{[], ◌∷◌, length, get_or, take, drop, replicate}
-use Rattle.std.proofs.Common.{Result, Ok, Err, refl, sym, subst, ap, ◌∙◌, arith}
-use Rattle.std.specs.Prelude.{codes}
-use Rattle.std.specs.Str.{bytes_eq}
-use Rattle.std.proofs.lemmas.Bool.{eqb-true}
+use Rattle.std.proofs.Common.{◌≡◌, ℕ, ◌+◌, ◌-◌, ◌++◌, Bool, true, false, cond, eqb, List, [], ◌∷◌}
+use Rattle.std.proofs.Common.{length, get_or, take, drop, replicate, Result, Ok, Err, refl, sym}
+use Rattle.std.proofs.Common.{subst, ap, ◌∙◌, arith, codes}
 use Rattle.std.proofs.lemmas.List.{take_all, length-drop}
-use Rattle.std.proofs.lemmas.Slice.Eq.{bytes_eq-Decides}
-use Rattle.tape_label.proofs.Pieces.{StandAt}
-use Rattle.tape_label.proofs.Steps.{character_found, character_is}
-use Rattle.tape_stage.specs.declared.point.text.PointFault.{PointFault}
-use Rattle.tape_stage.specs.declared.point.text.PointFault.TheVariants as faults
-use Rattle.tape_stage.specs.declared.point.Version.{Version}
+use Rattle.std.proofs.{lemmas.Bool.eqb-true, lemmas.Slice.Eq.bytes_eq-Decides}
+use Rattle.std.specs.Str.{bytes_eq}
+use Rattle.tape_label.proofs.{Pieces.StandAt, Steps.character_found, Steps.character_is}
 use Rattle.tape_stage.specs.declared.point.Version.TheVariants.{One, Two}
-use Rattle.tape_stage.specs.declared.point.Fields.{Fields}
 use Rattle.tape_stage.specs.Text.{version_digit, place_pieces, rest_pieces, pieces, Fit}
 use Rattle.tape_stage.specs.Reading.{state_position, version_by, fields_at, text_at}
+use Rattle.tape_stage.specs.declared.point.text.PointFault.{PointFault}
+use Rattle.tape_stage.specs.{declared.point.Version.Version, declared.point.Fields.Fields}
 use Rattle.tape_stage.proofs.Steps.{HasDigits, bind_ok, done, ok_is}
 use Rattle.tape_stage.proofs.FieldLaws.{HasFields, fields_found, fields_again}
+use Rattle.tape_stage.specs.declared.point.text.PointFault.TheVariants as faults
 
 -- the text has the given fields in the given version
 pub record Reads (version : Version) (f : Fields) (text : List ℕ) : Type 0 where

@@ -1,11 +1,9 @@
 -- The bytes outside the range of a write that was interrupted.
-use Rattle.std.proofs.Common.{◌≡◌, ℕ, ◌+◌, ◌-◌, ◌≤◌, ◌<◌, List, [], ◌∷◌, ◌++◌, length}
-use Rattle.std.proofs.Common.{take, drop, get_or, refl, sym, ap, ◌∙◌, subst, arith}
-use Rattle.std.proofs.Common.{append_assoc}
+use Rattle.std.proofs.Common.{◌≡◌, ℕ, ◌+◌, ◌-◌, ◌≤◌, ◌<◌, List, [], ◌∷◌, ◌++◌, length, take, drop}
+use Rattle.std.proofs.Common.{get_or, refl, sym, ap, ◌∙◌, subst, arith, append_assoc}
 use Rattle.std.proofs.lemmas.List.{drop-take, take-take, drop-drop, get_or-take, get_or-drop}
 use Rattle.std.proofs.lemmas.List.{drop_at, take_at, get_or_at, length-take-le}
-use Rattle.tape_stage.specs.Disk.{Torn, Holds}
-use Rattle.tape_stage.specs.Calls.{over}
+use Rattle.tape_stage.specs.{Disk.Torn, Disk.Holds, Calls.over}
 
 -- lists with the same prefix
 pub alike_piece : (n a k : ℕ) (old new : List ℕ) → a + k ≤ n → take n new ≡ take n old

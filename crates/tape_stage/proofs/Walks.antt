@@ -1,17 +1,14 @@
 -- Consecutive frames.
-use Rattle.std.proofs.Common.{◌≡◌, ℕ, ◌+◌, ◌-◌, ◌≤◌, List}
-use Rattle.std.proofs.Common.{[], ◌∷◌, ◌++◌, take, drop, length, w32, refl, sym, ap, ◌∙◌}
-use Rattle.std.proofs.Common.{subst, arith, true, false, length-append}
+use Rattle.std.proofs.Common.{◌≡◌, ℕ, ◌+◌, ◌-◌, ◌≤◌, List, [], ◌∷◌, ◌++◌, take, drop, length, w32}
+use Rattle.std.proofs.Common.{refl, sym, ap, ◌∙◌, subst, arith, true, false, length-append}
 use Rattle.std.proofs.lemmas.List.{length-take-le, length-drop, drop-drop}
 use Rattle.std.proofs.Math.Seq.{take-add}
 use Rattle.std.specs.Int.{to_be_bytes}
-use Rattle.tape_blocks.specs.Block.{Portion}
 use Rattle.tape_blocks.specs.Spans.{Joined, content_after, join, leaves}
+use Rattle.tape_blocks.specs.{Block.Portion, Block.indicator, declared.parts.Span.Span}
 use Rattle.tape_blocks.proofs.JoinLaws.{join_ends, join_goes_on}
 use Rattle.tape_stage.specs.Parts.{frame, frames}
-use Rattle.tape_blocks.specs.Block.{indicator}
 use Rattle.tape_stage.specs.Staged.{Holding, IsPut, WalkedTo}
-use Rattle.tape_blocks.specs.declared.parts.Span.{Span}
 use Rattle.tape_stage.proofs.FrameLaws.{put_holding}
 
 pub walked_holding : (place : ℕ) (bytes : List ℕ) → place ≤ length bytes

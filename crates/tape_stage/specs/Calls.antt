@@ -1,16 +1,12 @@
 -- A disk as the calls made on it: the bytes that a read returns after them, and the contents that a
 -- crash may leave at each moment.
-use Rattle.std.specs.Prelude.{◌≡◌, ◌⊎◌, ℕ, zero, suc, ◌+◌, ◌≤◌, Bool, true, false, List, [], ◌∷◌}
-use Rattle.std.specs.Prelude.{◌++◌, length, take, drop}
-use mathlib.Core.Logic.{inr}
-use Rattle.std.proofs.Common.{◌-◌, replicate, refl, ◌∙◌, subst, arith, length-append}
-use Rattle.std.proofs.Common.{length-drop, append-nil}
-use Rattle.std.proofs.lemmas.List.{length-take-le, take-append-le, take_at, drop_at}
-use Rattle.std.proofs.lemmas.List.{length-replicate}
-use Rattle.std.proofs.Props.{props}
-use Rattle.tape_stage.specs.Disk.{Torn, CutShort}
-use Rattle.tape_stage.specs.declared.disk.content.Call.{Call}
+use Rattle.std.proofs.Common.{◌≡◌, ◌⊎◌, ℕ, zero, suc, ◌+◌, ◌≤◌, Bool, true, false, List, [], ◌∷◌}
+use Rattle.std.proofs.Common.{◌++◌, length, take, drop, inr, ◌-◌, replicate, refl, ◌∙◌, subst}
+use Rattle.std.proofs.Common.{arith, length-append, length-drop, append-nil}
+use Rattle.std.proofs.{lemmas.List.length-take-le, lemmas.List.take-append-le, lemmas.List.take_at}
+use Rattle.std.proofs.{lemmas.List.drop_at, lemmas.List.length-replicate, Props.props}
 use Rattle.tape_stage.specs.declared.disk.content.Call.TheVariants.{Look, Write, Cut, Sync}
+use Rattle.tape_stage.specs.{Disk.Torn, Disk.CutShort, declared.disk.content.Call.Call}
 
 -- the original contents, which are saved before the first change
 abbrev pub kept_or : Bool → List ℕ → List ℕ → List ℕ

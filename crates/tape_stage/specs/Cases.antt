@@ -4,43 +4,33 @@
 use Rattle.std.specs.Prelude.{◌≡◌, ◌⊎◌, ◌≤◌, ◌+◌, ◌-◌, ◌==◌, ℕ, List, [], ◌∷◌, ◌++◌, take, drop}
 use Rattle.std.specs.Prelude.{length, min, replicate, codes, Some, None, Bool, true, false, not}
 use Rattle.std.specs.Prelude.{Option, Result, Ok, Err, ◌<◌}
-use Rattle.tape_blocks.specs.declared.parts.Span.{Span}
-use Rattle.tape_blocks.specs.declared.parts.Span.TheVariants.{Whole}
-use Rattle.tape_blocks.specs.declared.parts.Part.{Part}
-use Rattle.tape_blocks.specs.Block.{Portion}
-use Rattle.tape_blocks.specs.Parts.{view}
-use Rattle.tape_label.specs.declared.values.Format.TheVariants.{Spanned}
+use Rattle.tape_blocks.specs.{declared.parts.Span.Span, declared.parts.Span.TheVariants.Whole}
+use Rattle.tape_blocks.specs.{declared.parts.Part.Part, Block.Portion, Parts.view}
 use Rattle.tape_blocks.specs.Packing.{longest_block}
+use Rattle.tape_label.specs.declared.values.Format.TheVariants.{Spanned}
 use Rattle.tape_set.specs.declared.position.Position.TheVariants.{Awaits}
-use Rattle.tape_core.specs.Point.{Point}
-use Rattle.tape_core.specs.Stands.{weight_of}
-use Rattle.tape_core.specs.Weight.{Rose}
+use Rattle.tape_core.specs.{Point.Point, Stands.weight_of, Weight.Rose}
 use Rattle.tape_core.specs.declared.sink.SinkFault.{SinkFault}
-use Rattle.tape_stage.specs.declared.disk.content.Call.TheVariants.{Cut, Sync}
-use Rattle.tape_stage.specs.Body.{body_text, point_text}
-use Rattle.tape_stage.specs.Calls.{IsImage, WasImage, worst_by}
-use Rattle.tape_stage.specs.declared.disk.Disk.{Ghosts}
-use Rattle.tape_stage.specs.declared.disk.memory.MemoryDisk.{MemoryDisk}
-use Rattle.tape_stage.specs.declared.stage.part_reader.PartReader.{PartReader}
-use Rattle.tape_stage.specs.declared.stage.Stage.{Stage}
 use Rattle.tape_stage.specs.declared.stage.StageFault.TheVariants.{NoPoint, BadFrame, Device}
 use Rattle.tape_stage.specs.declared.stage.StageFault.TheVariants.{OutOfMemory, Failed, Full}
 use Rattle.tape_stage.specs.Disk.{Torn, CutShort, Elapses, Follows, Allows, NoMore, Only}
-use Rattle.tape_stage.specs.Disk as disk
-use Rattle.tape_stage.specs.Faults.{SaysNone, IsNotDevice, OnBadFrame}
-use Rattle.tape_stage.specs.Found.{IsBadPlace}
-use Rattle.tape_stage.specs.Frames.{AheadIn, IsFrameAt, NoFrameAt}
-use Rattle.tape_stage.specs.Holding.{with_held, LeftTorn, LeftSince}
 use Rattle.tape_stage.specs.Memory.{memory_leaves, memory_left, memory_bytes, first_of}
-use Rattle.tape_stage.specs.Moments.{Passes, Untouched}
-use Rattle.tape_stage.specs.OnlyReading.{OnlyReads}
-use Rattle.tape_stage.specs.Parts.{IsFront, AllShort, frames}
-use Rattle.tape_stage.specs.Reads.{StageGave, HasRead}
-use Rattle.tape_stage.specs.Staged.{Staged, Holding, HoldsNone, StandsLike}
-use Rattle.tape_stage.specs.Staged.{KeepsStaged, KeepsFrames, Loses}
-use Rattle.tape_stage.specs.Staged.{WalkedTo, Ready, StagedIn, slot_at, best, gate_at, read_slot}
+use Rattle.tape_stage.specs.Staged.{Staged, Holding, HoldsNone, StandsLike, KeepsStaged}
+use Rattle.tape_stage.specs.Staged.{KeepsFrames, Loses, WalkedTo, Ready, StagedIn, slot_at, best}
+use Rattle.tape_stage.specs.Staged.{gate_at, read_slot}
 use Rattle.tape_stage.specs.Stages.{Holds, IsAhead, IsStage, Returns, Survives, HasRefused}
 use Rattle.tape_stage.specs.Stages.{EndsCall, OpensOver, Returned, Survived, crashes_of}
+use Rattle.tape_stage.specs.declared.disk.content.Call.TheVariants.{Cut}
+use Rattle.tape_stage.specs.declared.{disk.content.Call.TheVariants.Sync, disk.Disk.Ghosts}
+use Rattle.tape_stage.specs.declared.disk.memory.MemoryDisk.{MemoryDisk}
+use Rattle.tape_stage.specs.declared.{stage.part_reader.PartReader.PartReader, stage.Stage.Stage}
+use Rattle.tape_stage.specs.{Body.body_text, Body.point_text, Calls.IsImage, Calls.WasImage}
+use Rattle.tape_stage.specs.{Calls.worst_by, Faults.SaysNone, Faults.IsNotDevice, Faults.OnBadFrame}
+use Rattle.tape_stage.specs.{Found.IsBadPlace, Frames.AheadIn, Frames.IsFrameAt, Frames.NoFrameAt}
+use Rattle.tape_stage.specs.{Holding.with_held, Holding.LeftTorn, Holding.LeftSince, Moments.Passes}
+use Rattle.tape_stage.specs.{Moments.Untouched, OnlyReading.OnlyReads, Parts.IsFront}
+use Rattle.tape_stage.specs.{Parts.AllShort, Parts.frames, Reads.StageGave, Reads.HasRead}
+use Rattle.tape_stage.specs.Disk as disk
 
 -- the possible results of a crash after a write and after a cut
 pub record CasesOfCrashes : Type 0 where

@@ -5,13 +5,11 @@ use Rattle.std.specs.Prelude.{◌≡◌, ◌⊎◌, ◌≤◌, ℕ, List, length
 use Rattle.tape_blocks.specs.Block.{Portion}
 use Rattle.tape_set.specs.Position.{block_of, part_of}
 use Rattle.tape_core.specs.Point.{Point, IsPoint}
-use Rattle.tape_stage.specs.declared.point.Version.{Version}
-use Rattle.tape_stage.specs.declared.point.Version.TheVariants.{One, Two}
-use Rattle.tape_stage.specs.Fields.{form_of}
-use Rattle.tape_stage.specs.Laws.{IsTextOfOne, IsTextOnce, HasBothTexts}
-use Rattle.tape_stage.specs.Staged.{Staged, StagedIn, IsEither}
 use Rattle.tape_stage.specs.StageLaws.{StandsOnce, ReadsOneOf, NamedStands, EitherStands}
-use Rattle.tape_stage.specs.Text.{IsPointText, KnownFits}
+use Rattle.tape_stage.specs.{declared.point.Version.Version, declared.point.Version.TheVariants.One}
+use Rattle.tape_stage.specs.{declared.point.Version.TheVariants.Two, Fields.form_of}
+use Rattle.tape_stage.specs.{Laws.IsTextOfOne, Laws.IsTextOnce, Laws.HasBothTexts, Staged.Staged}
+use Rattle.tape_stage.specs.{Staged.StagedIn, Staged.IsEither, Text.IsPointText, Text.KnownFits}
 
 -- laws, and two consecutive generations
 pub record CasesOfLaws : Type 0 where

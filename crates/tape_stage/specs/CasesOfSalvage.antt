@@ -2,14 +2,11 @@
 -- contract of the call `laws::cases`.
 use Rattle.std.specs.Prelude.{◌≡◌, ◌-◌, ◌+◌, ◌≤◌, ◌<◌, min, ℕ, List, [], ◌∷◌, ◌++◌, length, take}
 use Rattle.std.specs.Prelude.{drop, replicate, Option, Some, None, false, true}
-use Rattle.tape_blocks.specs.declared.parts.Span.TheVariants.{Whole}
-use Rattle.tape_blocks.specs.Block.{Portion}
+use Rattle.tape_blocks.specs.{declared.parts.Span.TheVariants.Whole, Block.Portion}
 use Rattle.tape_core.specs.Point.{Point}
-use Rattle.tape_stage.specs.Found.{IsBadPlace, IsFaultOf}
-use Rattle.tape_stage.specs.Frames.{NoFrameAt}
-use Rattle.tape_stage.specs.Parts.{frames}
 use Rattle.tape_stage.specs.Salvaged.{FramedTo, Remains, RemainsNone, RemainsOnce}
 use Rattle.tape_stage.specs.Staged.{Staged, best, slot_at}
+use Rattle.tape_stage.specs.{Found.IsBadPlace, Found.IsFaultOf, Frames.NoFrameAt, Parts.frames}
 use Rattle.tape_stage.specs.declared.stage.StageFault.TheVariants.{NoPoint, BadFrame}
 
 -- a whole record of one byte, A

@@ -1,17 +1,12 @@
 -- The fields of a checkpoint's text, and the checkpoint with given fields.
-use Rattle.std.specs.Prelude.{Bool, if◌then◌else◌, replicate, Option, Some}
-use Rattle.std.specs.Prelude.{None, is_some}
+use Rattle.std.specs.Prelude.{Bool, if◌then◌else◌, replicate, Option, Some, None, is_some}
 use Rattle.tape_label.specs.declared.values.Format.{Format}
-use Rattle.tape_set.specs.declared.position.Position.{Position}
 use Rattle.tape_set.specs.declared.position.Position.TheVariants.{Awaits, Finished}
 use Rattle.tape_set.specs.Position.{sect_of, block_of, part_of}
-use Rattle.tape_set.specs.Lawful.{FileForm}
-use Rattle.tape_core.specs.Known.{is_finished}
-use Rattle.tape_core.specs.Point.{Point}
-use Rattle.tape_stage.specs.declared.point.Place.{Place}
-use Rattle.tape_stage.specs.declared.point.Flags.{Flags}
-use Rattle.tape_stage.specs.declared.point.Form.{Form}
-use Rattle.tape_stage.specs.declared.point.Fields.{Fields}
+use Rattle.tape_set.specs.{declared.position.Position.Position, Lawful.FileForm}
+use Rattle.tape_core.specs.{Known.is_finished, Point.Point}
+use Rattle.tape_stage.specs.{declared.point.Place.Place, declared.point.Flags.Flags}
+use Rattle.tape_stage.specs.{declared.point.Form.Form, declared.point.Fields.Fields}
 
 -- ---- the fields of a checkpoint
 

@@ -1,14 +1,11 @@
 -- The contents of the slots of a stage file.
 use Rattle.std.specs.Prelude.{◌≡◌, ℕ, ◌+◌, ◌≤◌, ◌<◌, min, length, true, false, not, List, Some}
 use Rattle.std.specs.Prelude.{◌==◌}
-use Rattle.tape_stage.specs.Staged.{best, WalkedTo}
-use Rattle.tape_stage.specs.Frames.{NoFrameAt}
-use Rattle.tape_core.specs.Point.{Point}
-use Rattle.tape_stage.specs.Staged.{gate_at, slot_at, Loses}
-use Rattle.tape_stage.specs.Salvaged.{RemainsNone}
-use Rattle.tape_stage.specs.declared.stage.Found.{Found}
-use Rattle.tape_stage.specs.declared.stage.StageFault.{StageFault}
+use Rattle.tape_stage.specs.Staged.{best, WalkedTo, gate_at, slot_at, Loses}
 use Rattle.tape_stage.specs.declared.stage.StageFault.TheVariants.{NoPoint, BadFrame}
+use Rattle.tape_stage.specs.{Frames.NoFrameAt, Salvaged.RemainsNone, declared.stage.Found.Found}
+use Rattle.tape_stage.specs.declared.stage.StageFault.{StageFault}
+use Rattle.tape_core.specs.Point.{Point}
 
 -- the slot found is the current one, and `other_open` is the state of the other slot's gate
 pub record IsFound (found : Found) (bytes : List ℕ) : Type 0 where

@@ -1,11 +1,8 @@
 -- Frames in a list of bytes.
-use Rattle.std.specs.Prelude.{◌≡◌, ℕ, ◌+◌, ◌-◌, ◌≤◌, List, ◌∷◌, length, take, drop}
+use Rattle.std.proofs.Common.{◌≡◌, ℕ, ◌+◌, ◌-◌, ◌≤◌, List, ◌∷◌, length, take, drop, w32}
 use Rattle.std.specs.Int.{to_be_bytes}
-use Rattle.std.proofs.Common.{w32}
-use Rattle.tape_blocks.specs.declared.parts.Span.{Span}
-use Rattle.tape_blocks.specs.Block.{Portion}
+use Rattle.tape_blocks.specs.{declared.parts.Span.Span, Block.Portion, Block.indicator}
 use Rattle.tape_stage.specs.Parts.{frames, longest_part, AllShort}
-use Rattle.tape_blocks.specs.Block.{indicator}
 
 -- The bytes from `place` to `end` are the frames of the given parts.
 pub record AheadIn (place end : ℕ) (bytes : List ℕ) (parts : List Portion) : Type 0 where

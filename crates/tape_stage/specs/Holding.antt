@@ -1,9 +1,8 @@
 -- Bytes that are buffered before they are written to a disk.
-use Rattle.std.specs.Prelude.{◌≡◌, ◌⊎◌, ℕ, ◌+◌, ◌≤◌, List, ◌++◌, length, take, drop, max}
-use Rattle.std.proofs.Common.{inr, ⊎_elim, refl, arith, length-append, length-drop}
+use Rattle.std.proofs.Common.{◌≡◌, ◌⊎◌, ℕ, ◌+◌, ◌≤◌, List, ◌++◌, length, take, drop, max, inr}
+use Rattle.std.proofs.Common.{⊎_elim, refl, arith, length-append, length-drop}
 use Rattle.std.proofs.lemmas.List.{length-take-le}
-use Rattle.tape_stage.specs.Disk.{Torn}
-use Rattle.tape_stage.specs.Calls.{over}
+use Rattle.tape_stage.specs.{Disk.Torn, Calls.over}
 
 -- the bytes that a read returns: those of the disk, with the buffered bytes written over them
 abbrev pub with_held : ℕ → List ℕ → List ℕ → List ℕ

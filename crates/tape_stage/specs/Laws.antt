@@ -3,10 +3,9 @@
 use Rattle.std.specs.Prelude.{◌≡◌, ℕ, ◌≤◌, List, length}
 use Rattle.tape_set.specs.Position.{block_of, part_of}
 use Rattle.tape_core.specs.Point.{Point, IsPoint}
-use Rattle.tape_stage.specs.declared.point.Version.{Version}
 use Rattle.tape_stage.specs.declared.point.Version.TheVariants.{One, Two}
-use Rattle.tape_stage.specs.Fields.{form_of}
 use Rattle.tape_stage.specs.Text.{IsPointText, KnownFits}
+use Rattle.tape_stage.specs.{declared.point.Version.Version, Fields.form_of}
 
 -- if bytes are the text of two checkpoints, the checkpoints and the versions are the same
 abbrev pub IsTextOfOne : Type 0

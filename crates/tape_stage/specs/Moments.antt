@@ -1,8 +1,7 @@
 -- The contents that a crash may have left while calls were made.
 use Rattle.std.specs.Prelude.{◌≡◌, ◌⊎◌, ℕ, ◌≤◌, List, Result, OnOk, OnErr}
 use Rattle.tape_core.specs.Weight.{Rose}
-use Rattle.tape_stage.specs.declared.disk.Disk.{Ghosts}
-use Rattle.tape_stage.specs.declared.disk.DiskFault.{DiskFault}
+use Rattle.tape_stage.specs.{declared.disk.Disk.Ghosts, declared.disk.DiskFault.DiskFault}
 use Rattle.tape_stage.specs.Disk.{Only}
 
 -- contents that may be left now, or contents that a step changed

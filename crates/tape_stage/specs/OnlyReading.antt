@@ -1,8 +1,7 @@
 -- The effect on a disk of a call that only reads.
 use Rattle.std.specs.Prelude.{◌≡◌}
-use Rattle.tape_stage.specs.declared.disk.Disk.{Ghosts}
 use Rattle.tape_stage.specs.Disk.{IsLater, NoMore, SameFact}
-use Rattle.tape_stage.specs.Moments.{Passes}
+use Rattle.tape_stage.specs.{declared.disk.Disk.Ghosts, Moments.Passes}
 
 -- The length is unchanged, and no disk became honest; on an honest disk reads return the same
 -- bytes, and a crash at each moment left contents that were possible before.

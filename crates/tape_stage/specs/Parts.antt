@@ -1,10 +1,7 @@
 -- Frames of parts, and the first parts up to a given weight.
-use Rattle.std.specs.Prelude.{◌≡◌, ℕ, ◌≤◌, List, [], ◌∷◌, ◌++◌, length}
-use Rattle.std.specs.List.{flat_map}
-use Rattle.std.specs.Int.{to_be_bytes}
-use Rattle.std.proofs.Common.{w32}
-use Rattle.tape_blocks.specs.Block.{Portion, indicator}
-use Rattle.tape_blocks.specs.Packing.{longest_block}
+use Rattle.std.proofs.Common.{◌≡◌, ℕ, ◌≤◌, List, [], ◌∷◌, ◌++◌, length, w32}
+use Rattle.std.specs.{List.flat_map, Int.to_be_bytes}
+use Rattle.tape_blocks.specs.{Block.Portion, Block.indicator, Packing.longest_block}
 use Rattle.tape_core.specs.Stands.{weight_of}
 
 -- a frame: the span's indicator, the length in four bytes, greatest first, and the content

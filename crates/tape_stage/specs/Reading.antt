@@ -1,25 +1,18 @@
 -- The result of reading a checkpoint's text, as a function of the text: the checkpoint, or the
 -- fault of the first test that fails, in the order of the lines.
-use Rattle.std.specs.Prelude.{ℕ, ◌+◌, ◌-◌, ◌==◌, List, length, codes, replicate, drop}
-use Rattle.std.specs.Prelude.{slice_range, slice_index, Bool, true, false, if◌then◌else◌, Option}
-use Rattle.std.specs.Prelude.{Some, None, Result, Ok, Err}
-use Rattle.std.specs.Result.{result_ok}
-use Rattle.std.specs.Str.{bytes_eq, all_ascii_digits}
-use Rattle.tape_label.specs.declared.values.Format.{Format}
+use Rattle.std.specs.Prelude.{ℕ, ◌+◌, ◌-◌, ◌==◌, List, length, codes, replicate, drop, slice_range}
+use Rattle.std.specs.Prelude.{slice_index, Bool, true, false, if◌then◌else◌, Option, Some, None}
+use Rattle.std.specs.Prelude.{Result, Ok, Err}
+use Rattle.std.specs.{Result.result_ok, Str.bytes_eq, Str.all_ascii_digits}
 use Rattle.tape_label.specs.declared.values.Format.TheVariants.{Fixed, Counted, Spanned}
-use Rattle.tape_label.specs.Digits.{number_of}
-use Rattle.tape_label.specs.Positions.{positions}
+use Rattle.tape_label.specs.{declared.values.Format.Format, Digits.number_of, Positions.positions}
 use Rattle.tape_core.specs.Point.{Point}
-use Rattle.tape_stage.specs.declared.point.text.PointFault.{PointFault}
-use Rattle.tape_stage.specs.declared.point.text.PointFault.TheVariants as faults
-use Rattle.tape_stage.specs.declared.point.Version.{Version}
 use Rattle.tape_stage.specs.declared.point.Version.TheVariants.{One, Two}
-use Rattle.tape_stage.specs.declared.point.Place.{Place}
-use Rattle.tape_stage.specs.declared.point.Flags.{Flags}
-use Rattle.tape_stage.specs.declared.point.Form.{Form}
-use Rattle.tape_stage.specs.declared.point.Fields.{Fields}
-use Rattle.tape_stage.specs.Fields.{point_by}
-use Rattle.tape_stage.specs.Range.{is_right}
+use Rattle.tape_stage.specs.declared.point.text.PointFault.{PointFault}
+use Rattle.tape_stage.specs.{declared.point.Version.Version, declared.point.Place.Place}
+use Rattle.tape_stage.specs.{declared.point.Flags.Flags, declared.point.Form.Form}
+use Rattle.tape_stage.specs.{declared.point.Fields.Fields, Fields.point_by, Range.is_right}
+use Rattle.tape_stage.specs.declared.point.text.PointFault.TheVariants as faults
 
 -- the next step, unless a step has failed already
 infixl 10 ◌>>=◌

@@ -1,16 +1,13 @@
 -- The state of a reader of parts, once its part is no longer borrowed.
 use Rattle.std.specs.Prelude.{◌≡◌, ◌-◌, [], Option, Result}
-use Rattle.std.specs.Borrow.{Fml, RattleType, MutBor}
-use Rattle.std.specs.Io.BufRead.{Rests}
+use Rattle.std.specs.{Borrow.Fml, Borrow.RattleType, Borrow.MutBor, Io.BufRead.Rests}
 use mir.Syntax.{named}
-use Rattle.tape_stage.specs.declared.disk.Disk.{Ghosts}
-use Rattle.tape_core.specs.Walks.{HasGiven}
-use Rattle.tape_blocks.specs.declared.parts.Part.{Part}
-use Rattle.tape_core.specs.declared.sink.SinkFault.{SinkFault}
 use Rattle.tape_stage.specs.Stages.{Holds, IsAhead, LendsNone, crashes_of}
-use Rattle.tape_stage.specs.declared.stage.Stage.{Stage}
+use Rattle.tape_stage.specs.{declared.disk.Disk.Ghosts, declared.stage.Stage.Stage}
 use Rattle.tape_stage.specs.declared.stage.part_reader.PartReader.{PartReader}
 use Rattle.tape_stage.specs.contracts.stage.part_reader.PartReader.{the_row}
+use Rattle.tape_core.specs.{Walks.HasGiven, declared.sink.SinkFault.SinkFault}
+use Rattle.tape_blocks.specs.declared.parts.Part.{Part}
 
 -- the stage returned its next part, or refused the call
 abbrev pub StageGave : {D : Type 0} {disk : Ghosts D} → Stage D disk

@@ -1,11 +1,9 @@
 -- The remains of a damaged stage.
-use Rattle.std.specs.Prelude.{◌≡◌, ℕ, ◌+◌, ◌-◌, ◌≤◌, ◌<◌, min, length, true, false, List}
-use Rattle.std.specs.Prelude.{Option, Some, None, IfSome}
-use Rattle.tape_blocks.specs.Block.{Portion}
-use Rattle.tape_blocks.specs.Spans.{join}
+use Rattle.std.specs.Prelude.{◌≡◌, ℕ, ◌+◌, ◌-◌, ◌≤◌, ◌<◌, min, length, true, false, List, Option}
+use Rattle.std.specs.Prelude.{Some, None, IfSome}
+use Rattle.tape_blocks.specs.{Block.Portion, Spans.join}
 use Rattle.tape_core.specs.Point.{Point}
-use Rattle.tape_stage.specs.Frames.{NoFrameAt}
-use Rattle.tape_stage.specs.Staged.{Holding, best, slot_at}
+use Rattle.tape_stage.specs.{Frames.NoFrameAt, Staged.Holding, Staged.best, Staged.slot_at}
 
 -- The frames after the first 256 bytes should have the weight `staged`, but they are damaged: no
 -- frame begins at `place` and ends within that weight and the file.

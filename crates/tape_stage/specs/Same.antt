@@ -1,8 +1,7 @@
 -- The effect of calls on a disk's content.
 use Rattle.std.specs.Prelude.{◌≡◌, [], ◌∷◌, ◌++◌}
 use Rattle.tape_stage.specs.Calls.{kept_or, after}
-use Rattle.tape_stage.specs.declared.disk.content.Call.{Call}
-use Rattle.tape_stage.specs.declared.disk.content.Content.{Content}
+use Rattle.tape_stage.specs.{declared.disk.content.Call.Call, declared.disk.content.Content.Content}
 
 pub record SameContent (old new : Content) : Type 0 where
   pub bytes : new.bytes.items ≡ old.bytes.items

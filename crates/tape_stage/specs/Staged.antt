@@ -1,17 +1,12 @@
 -- The meaning of the bytes of a stage file.
-use Rattle.std.specs.Prelude.{◌≡◌, ◌⊎◌, ℕ, ◌+◌, ◌≤◌, ◌<◌, ◌-◌, Bool, true, false, not, List, ◌∷◌}
-use Rattle.std.specs.Prelude.{length, take, drop, get_or, ◌++◌, replicate, Option, Some, None}
-use Rattle.std.specs.Prelude.{if◌then◌else◌, ◌==◌, nat_lt}
+use Rattle.std.proofs.Common.{◌≡◌, ◌⊎◌, ℕ, ◌+◌, ◌≤◌, ◌<◌, ◌-◌, Bool, true, false, not, List, ◌∷◌}
+use Rattle.std.proofs.Common.{length, take, drop, get_or, ◌++◌, replicate, Option, Some, None}
+use Rattle.std.proofs.Common.{if◌then◌else◌, ◌==◌, nat_lt, w32}
 use Rattle.std.specs.Int.{to_be_bytes}
-use Rattle.std.proofs.Common.{w32}
-use Rattle.tape_blocks.specs.declared.parts.Span.{Span}
-use Rattle.tape_blocks.specs.Block.{Portion}
-use Rattle.tape_stage.specs.Disk.{CutShort}
+use Rattle.tape_blocks.specs.{declared.parts.Span.Span, Block.Portion, Block.indicator}
 use Rattle.tape_stage.specs.Parts.{frame, frames, longest_part, AllShort}
-use Rattle.tape_blocks.specs.Block.{indicator}
-use Rattle.tape_stage.specs.Body.{body_text, body_of}
+use Rattle.tape_stage.specs.{Disk.CutShort, Body.body_text, Body.body_of, Body.Slot}
 use Rattle.tape_core.specs.Point.{Point}
-use Rattle.tape_stage.specs.Body.{Slot}
 
 -- the offset of the first or the second slot
 abbrev pub slot_place : Bool → ℕ

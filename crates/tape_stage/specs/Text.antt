@@ -1,17 +1,13 @@
 -- The text of a checkpoint: 80 characters, in one of two versions.
 use Rattle.std.specs.Prelude.{◌≡◌, ℕ, ◌<◌, ◌^◌, List, [], ◌∷◌, ◌++◌, length, codes, Bool}
 use Rattle.std.specs.Prelude.{if◌then◌else◌, Option, Some, None}
-use Rattle.tape_label.specs.declared.values.Format.{Format}
-use Rattle.tape_label.specs.Formats.{letter}
 use Rattle.tape_label.specs.Written.{Piece, chars, spaces, number, text_of}
+use Rattle.tape_label.specs.{declared.values.Format.Format, Formats.letter}
 use Rattle.tape_set.specs.Lawful.{FileForm}
-use Rattle.tape_core.specs.Known.{IsForm}
-use Rattle.tape_core.specs.Point.{Point, IsPoint}
-use Rattle.tape_stage.specs.declared.point.Version.{Version}
+use Rattle.tape_core.specs.{Known.IsForm, Point.Point, Point.IsPoint}
 use Rattle.tape_stage.specs.declared.point.Version.TheVariants.{One, Two}
-use Rattle.tape_stage.specs.declared.point.Place.{Place}
-use Rattle.tape_stage.specs.declared.point.Fields.{Fields}
 use Rattle.tape_stage.specs.Fields.{place_of, form_of, fields_of}
+use Rattle.tape_stage.specs.declared.{point.Version.Version, point.Place.Place, point.Fields.Fields}
 
 -- ---- the text of fields, piece by piece
 

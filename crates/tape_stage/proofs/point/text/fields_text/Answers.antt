@@ -1,5 +1,4 @@
-use Rattle.std.proofs.Common.{ℕ, List, [], ◌∷◌, ◌++◌, sym, ap, ◌∙◌, append-nil, refl}
-use Rattle.std.specs.Prelude.{codes}
+use Rattle.std.proofs.Common.{ℕ, List, [], ◌∷◌, ◌++◌, sym, ap, ◌∙◌, append-nil, refl, codes}
 use Rattle.tape_label.specs.Digits.{digits}
 use Rattle.tape_stage.proofs.Assembled.{back}
 use Rattle.tape_stage.proofs.point.text.fields_text.Goals as goal

@@ -1,5 +1,4 @@
-use Rattle.tape_stage.proofs.SlotSteps.{ready_each}
-use Rattle.tape_stage.proofs.Tears.{staged_named}
+use Rattle.tape_stage.proofs.{SlotSteps.ready_each, Tears.staged_named}
 use Rattle.tape_stage.proofs.stage.Stage.acknowledged.Goals as goal
 
 pub returns-clause-stands : goal.returns-clause-stands

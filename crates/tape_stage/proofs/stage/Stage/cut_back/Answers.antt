@@ -1,9 +1,7 @@
-use Rattle.std.proofs.Common.{◌≡◌, ◌∙◌, subst, sym, Result, Ok, Err}
-use Rattle.std.specs.Prelude.{IfErr}
+use Rattle.std.proofs.Common.{◌≡◌, ◌∙◌, subst, sym, Result, Ok, Err, IfErr}
 use Rattle.tape_core.specs.Point.{Point}
-use Rattle.tape_stage.specs.Parts.{IsFront}
-use Rattle.tape_stage.specs.declared.stage.StageFault.{StageFault}
 use Rattle.tape_stage.specs.declared.stage.StageFault.TheVariants.{Device, Full}
+use Rattle.tape_stage.specs.{Parts.IsFront, declared.stage.StageFault.StageFault}
 use Rattle.tape_stage.proofs.Results.{on_ok}
 use Rattle.tape_stage.proofs.stage.Stage.cut_back.Goals as goal
 

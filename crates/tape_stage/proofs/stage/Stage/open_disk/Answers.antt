@@ -1,20 +1,15 @@
-use Rattle.std.proofs.Common.{◌≡◌, ℕ, List, Err, refl, sym, ap, subst, arith}
-use Rattle.std.specs.Prelude.{Option, Some}
+use Rattle.std.proofs.Common.{◌≡◌, ℕ, List, Err, refl, sym, ap, subst, arith, Option, Some}
 use Rattle.tape_blocks.specs.Block.{Portion}
 use Rattle.tape_core.specs.Weight.{Rose}
-use Rattle.tape_stage.specs.Salvaged.{FramedTo, Remains}
-use Rattle.tape_stage.specs.Stages.{OpensOver}
-use Rattle.tape_stage.specs.Staged.{Holding}
 use Rattle.tape_stage.specs.declared.stage.StageFault.TheVariants.{BadFrame, Device, Failed, Full}
+use Rattle.tape_stage.specs.{Salvaged.FramedTo, Salvaged.Remains, Stages.OpensOver, Staged.Holding}
 use Rattle.tape_stage.proofs.Backs.{ready_survives, ready_returns}
-use Rattle.tape_stage.proofs.Finds.{found_read}
-use Rattle.tape_stage.proofs.Held.{opened_holds}
 use Rattle.tape_stage.proofs.Openings.{IsOpened, cut_opened, cut_passes, cut_stopped, read_refuses}
-use Rattle.tape_stage.proofs.Remaining.{broken_bad, broken_none, found_remains}
-use Rattle.tape_stage.proofs.Remaining.{none_staged, whole_framed}
-use Rattle.tape_stage.proofs.Results.{no_frame_says}
-use Rattle.tape_stage.proofs.stage.Stage.open_disk.Given.{Over}
+use Rattle.tape_stage.proofs.Remaining.{broken_bad, broken_none, found_remains, none_staged}
+use Rattle.tape_stage.proofs.Remaining.{whole_framed}
 use Rattle.tape_stage.proofs.stage.Stage.open_disk.Goals.{After-cut_kept, In-Ok-cut_kept}
+use Rattle.tape_stage.proofs.{Finds.found_read, Held.opened_holds, Results.no_frame_says}
+use Rattle.tape_stage.proofs.stage.Stage.open_disk.Given.{Over}
 use Rattle.tape_stage.proofs.stage.Stage.open_disk.Goals as goal
 
 -- ---- nothing was found

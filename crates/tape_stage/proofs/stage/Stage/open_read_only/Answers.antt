@@ -1,8 +1,6 @@
 use Rattle.std.proofs.Common.{◌≡◌, ℕ, Err, true, false, sym, ap, subst, ◌∙◌}
-use Rattle.tape_stage.specs.Salvaged.{standing}
-use Rattle.tape_stage.specs.Staged.{Holding}
-use Rattle.tape_stage.proofs.Held.{holding_weighs}
-use Rattle.tape_stage.proofs.Remaining.{found_remains}
+use Rattle.tape_stage.specs.{Salvaged.standing, Staged.Holding}
+use Rattle.tape_stage.proofs.{Held.holding_weighs, Remaining.found_remains}
 use Rattle.tape_stage.proofs.stage.Stage.open_read_only.Goals as goal
 
 pub returns-in-Err-clause-refused : goal.returns-in-Err-clause-refused

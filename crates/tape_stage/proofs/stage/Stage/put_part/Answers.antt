@@ -1,11 +1,7 @@
-use Rattle.std.proofs.Common.{◌+◌}
-use Rattle.std.proofs.Common.{refl}
-use Rattle.std.proofs.Common.{arith}
+use Rattle.std.proofs.Common.{◌+◌, refl, arith}
 use Rattle.tape_blocks.specs.Parts.{view}
-use Rattle.tape_stage.proofs.Passing.{weaken, nothing}
-use Rattle.tape_stage.proofs.SlotSteps.{ready_each}
-use Rattle.tape_stage.proofs.FrameLaws.{put_holding}
-use Rattle.tape_stage.proofs.Stays.{front_staged, still_ready}
+use Rattle.tape_stage.proofs.{Passing.weaken, Passing.nothing, SlotSteps.ready_each}
+use Rattle.tape_stage.proofs.{FrameLaws.put_holding, Stays.front_staged, Stays.still_ready}
 use Rattle.tape_stage.proofs.stage.Stage.put_part.Goals as goal
 
 pub returns-then-size-self-clause-any_moment : goal.returns-then-size-self-clause-any_moment

@@ -1,16 +1,9 @@
-use Rattle.std.proofs.Common.{◌≡◌, inr, ℕ, false, Result, Ok, Err}
-use Rattle.std.specs.Prelude.{IfErr}
-use Rattle.std.proofs.Common.{rules, subst, sym, ◌∙◌}
-use Rattle.tape_core.specs.Weight.{Rose}
-use Rattle.tape_stage.specs.Parts.{IsFront}
-use Rattle.tape_core.specs.Point.{Point}
-use Rattle.tape_stage.proofs.Passing.{weaken, follow}
-use Rattle.tape_stage.proofs.Results.{on_ok}
-use Rattle.tape_stage.specs.declared.disk.Disk.{Ghosts}
-use Rattle.tape_stage.specs.declared.stage.Stage.{Stage}
+use Rattle.std.proofs.Common.{◌≡◌, inr, ℕ, false, Result, Ok, Err, IfErr, rules, subst, sym, ◌∙◌}
+use Rattle.tape_core.specs.{Weight.Rose, Point.Point}
+use Rattle.tape_stage.specs.{Parts.IsFront, declared.disk.Disk.Ghosts, declared.stage.Stage.Stage}
 use Rattle.tape_stage.specs.declared.stage.StageFault.{StageFault}
-use Rattle.tape_stage.specs.declared.stage.StageFault.TheVariants.{Device}
-use Rattle.tape_stage.specs.Stages.{HasRefused}
+use Rattle.tape_stage.specs.{declared.stage.StageFault.TheVariants.Device, Stages.HasRefused}
+use Rattle.tape_stage.proofs.{Passing.weaken, Passing.follow, Results.on_ok}
 use Rattle.tape_stage.proofs.stage.Stage.restart.Goals as goal
 
 pub returns-in-Ok-clause-ok : goal.returns-in-Ok-clause-ok

@@ -1,15 +1,14 @@
-use Rattle.std.proofs.Common.{◌≡◌, ◌+◌, List, [], ◌∷◌, ◌++◌, take, drop, min}
-use Rattle.std.proofs.Common.{length, refl, sym, ap, subst, ◌∙◌, arith}
-use Rattle.tape_blocks.specs.Block.{Portion}
-use Rattle.tape_blocks.specs.Spans.{join}
+use Rattle.std.proofs.Common.{◌≡◌, ◌+◌, List, [], ◌∷◌, ◌++◌, take, drop, min, length, refl, sym, ap}
+use Rattle.std.proofs.Common.{subst, ◌∙◌, arith}
+use Rattle.tape_blocks.specs.{Block.Portion, Spans.join}
 use Rattle.tape_stage.specs.Frames.{NoFrameAt}
 use Rattle.tape_stage.proofs.Passing.{follow, stands, weaken}
 use Rattle.tape_stage.proofs.Walks.{counted_ends, counted_goes_on, walked_more}
 use Rattle.tape_stage.proofs.Remaining.{framed_whole, framed_broken}
 use Rattle.tape_stage.proofs.stage.frames.walk.Given.{Over}
+use Rattle.tape_stage.proofs.stage.frames.walk.Goals.{After-min-limit, then-not-leaves}
+use Rattle.tape_stage.proofs.stage.frames.walk.Goals.{else-not-leaves}
 use Rattle.tape_stage.proofs.stage.frames.walk.Goals as goal
-use Rattle.tape_stage.proofs.stage.frames.walk.Goals.{After-min-limit}
-use Rattle.tape_stage.proofs.stage.frames.walk.Goals.{then-not-leaves, else-not-leaves}
 
 -- the limit of the walk, in terms of the bytes
 limit_at : (g : Over) (c : After-min-limit g) (h : g.D.Disk.is_honest c.args.disk.now)

@@ -1,8 +1,6 @@
 use Rattle.std.proofs.Common.{◌≡◌, ◌-◌, ◌≤◌, length}
 use Rattle.tape_blocks.specs.Spans.{join}
-use Rattle.tape_stage.specs.Disk.{SameFact}
-use Rattle.tape_stage.specs.Moments.{Passes}
-use Rattle.tape_stage.specs.Staged.{WalkedTo}
+use Rattle.tape_stage.specs.{Disk.SameFact, Moments.Passes, Staged.WalkedTo}
 use Rattle.tape_stage.proofs.stage.frames.walk.Given as goal
 
 abbrev pub invariant-loop-place : goal.invariant-loop-place

@@ -1,10 +1,8 @@
 use Rattle.std.proofs.Common.{◌≡◌, ℕ, List, ◌∷◌, length, ap, subst, arith, length-append}
 use Rattle.tape_core.specs.Point.{Point}
-use Rattle.tape_stage.proofs.Bodies.{length-body}
-use Rattle.tape_stage.specs.Disk.{Holds}
-use Rattle.tape_stage.specs.Body.{body_text, FitBody}
-use Rattle.tape_stage.specs.Staged.{blank, new_slots}
-use Rattle.tape_stage.proofs.Makes.{made_ready}
+use Rattle.tape_stage.proofs.{Bodies.length-body, Makes.made_ready}
+use Rattle.tape_stage.specs.{Disk.Holds, Body.body_text, Body.FitBody, Staged.blank}
+use Rattle.tape_stage.specs.Staged.{new_slots}
 use Rattle.tape_stage.proofs.stage.open_disk.make.Goals as goal
 
 slots_size : (point : Point) → FitBody 1 point → length (new_slots point) ≡ 256

@@ -1,15 +1,10 @@
-use Rattle.std.proofs.Common.{◌≡◌, ℕ, ◌≤◌, List, ◌++◌, length, drop, Result, Ok, Err}
-use Rattle.std.proofs.Common.{◌∷◌, OnOk, OnErr, ◌∙◌, ap, arith, w32, length-append}
-use Rattle.std.proofs.lemmas.List.{take_at}
-use Rattle.std.proofs.lemmas.Slice.{take-put_mid}
+use Rattle.std.proofs.Common.{◌≡◌, ℕ, ◌≤◌, List, ◌++◌, length, drop, Result, Ok, Err, ◌∷◌, OnOk}
+use Rattle.std.proofs.Common.{OnErr, ◌∙◌, ap, arith, w32, length-append}
+use Rattle.std.proofs.{lemmas.List.take_at, lemmas.Slice.take-put_mid}
 use Rattle.std.specs.Int.{to_be_bytes}
-use Rattle.tape_blocks.specs.Block.{indicator}
-use Rattle.tape_blocks.specs.Parts.{view}
+use Rattle.tape_blocks.specs.{Block.indicator, Parts.view}
 use Rattle.tape_stage.specs.Disk.{Holds, Torn}
-use Rattle.tape_stage.proofs.FrameLaws.{one_write}
-use Rattle.tape_stage.proofs.Keeps.{torn_keeps}
-use Rattle.tape_stage.proofs.Passing.{stands}
-use Rattle.tape_stage.proofs.Results.{on_ok}
+use Rattle.tape_stage.proofs.{FrameLaws.one_write, Keeps.torn_keeps, Passing.stands, Results.on_ok}
 use Rattle.tape_stage.proofs.Torn.{holds_torn}
 use Rattle.tape_stage.proofs.stage.putting.write_frame.Goals as goal
 

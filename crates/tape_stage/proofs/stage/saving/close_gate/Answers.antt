@@ -1,11 +1,8 @@
 use Rattle.std.proofs.Common.{ℕ, Bool, subst}
-use Rattle.tape_stage.specs.Disk.{Torn}
-use Rattle.tape_stage.specs.Staged.{Ready}
-use Rattle.tape_stage.specs.Moments.{After}
-use Rattle.tape_stage.proofs.Passing.{weaken, stands}
-use Rattle.tape_stage.proofs.Results.{on_ok}
+use Rattle.tape_stage.specs.{Disk.Torn, Staged.Ready, Moments.After}
 use Rattle.tape_stage.proofs.SlotSteps.{ready_each, ready_after, closed_done}
-use Rattle.tape_stage.proofs.Keeps.{torn_gate_frames, frames_same}
+use Rattle.tape_stage.proofs.{Passing.weaken, Passing.stands, Results.on_ok, Keeps.torn_gate_frames}
+use Rattle.tape_stage.proofs.Keeps.{frames_same}
 use Rattle.tape_stage.proofs.stage.saving.close_gate.Goals as goal
 
 pub returns-then-is_open-clause-closed : goal.returns-then-is_open-clause-closed

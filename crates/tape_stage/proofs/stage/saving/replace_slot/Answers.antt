@@ -3,14 +3,13 @@ use Rattle.tape_blocks.specs.Block.{Portion}
 use Rattle.tape_core.specs.Point.{Point}
 use Rattle.tape_stage.specs.Moments.{Passes}
 use Rattle.tape_stage.specs.Staged.{Holding, KeepsFrames, Ready, StagedIn}
-use Rattle.tape_stage.proofs.Bodies.{length-body}
 use Rattle.tape_stage.proofs.Keeps.{frames_then, frames_holding, torn_body_frames, torn_gate_frames}
 use Rattle.tape_stage.proofs.Passing.{weaken, follow}
-use Rattle.tape_stage.proofs.Results.{on_ok}
 use Rattle.tape_stage.proofs.SlotSteps.{IsFilled, filled_done, filled_body, filled_after}
 use Rattle.tape_stage.proofs.SlotSteps.{opened_done, opened_after}
-use Rattle.tape_stage.proofs.stage.saving.replace_slot.Given.{Over}
 use Rattle.tape_stage.proofs.stage.saving.replace_slot.Goals.{After-write_kept, In_ok-write_kept}
+use Rattle.tape_stage.proofs.{Bodies.length-body, Results.on_ok}
+use Rattle.tape_stage.proofs.stage.saving.replace_slot.Given.{Over}
 use Rattle.tape_stage.proofs.stage.saving.replace_slot.Goals as goal
 
 size : (g : Over) (c : After-write_kept g) → length c.body_bytes-body.result ≡ 127

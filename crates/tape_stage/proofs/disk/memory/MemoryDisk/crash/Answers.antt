@@ -1,6 +1,5 @@
 use Rattle.std.proofs.Common.{◌≡◌, Bool, true, false, List, ℕ, subst, sym, ◌∙◌, ap}
-use Rattle.tape_stage.specs.Calls.{kept_or}
-use Rattle.tape_stage.specs.Memory.{memory_leaves}
+use Rattle.tape_stage.specs.{Calls.kept_or, Memory.memory_leaves}
 use Rattle.tape_stage.proofs.Did.{worst_left_now}
 use Rattle.tape_stage.proofs.disk.memory.MemoryDisk.crash.Goals as goal
 

@@ -1,8 +1,7 @@
 use Rattle.std.proofs.Common.{◌≡◌, [], rules, arith}
-use Rattle.std.proofs.lemmas.List.{nil_from_length}
-use Rattle.std.proofs.lemmas.Grind.{common_steps}
-use Rattle.tape_stage.proofs.HoldingLaws.{idle_elapses, passed_elapses, failed_elapses}
-use Rattle.tape_stage.proofs.HoldingLaws.{none_left, left_none, torn_both}
+use Rattle.std.proofs.{lemmas.List.nil_from_length, lemmas.Grind.common_steps}
+use Rattle.tape_stage.proofs.HoldingLaws.{idle_elapses, passed_elapses, failed_elapses, none_left}
+use Rattle.tape_stage.proofs.HoldingLaws.{left_none, torn_both}
 use Rattle.tape_stage.proofs.disk.write_behind.WriteBehind.pass_on.Goals as goal
 
 pub returns-then-is_empty-clause-stays : goal.returns-then-is_empty-clause-stays

@@ -1,9 +1,8 @@
 use Rattle.std.proofs.Common.{◌≡◌, ◌+◌, length, arith}
 use Rattle.tape_stage.specs.Holding.{torn_same}
-use Rattle.tape_stage.proofs.HoldingLaws.{then_elapses, then_stays, then_allows}
-use Rattle.tape_stage.proofs.HoldingLaws.{holds_more, same_elapses, more_elapses}
-use Rattle.tape_stage.proofs.HoldingLaws.{added_follows, added_stays, added_allows}
-use Rattle.tape_stage.proofs.HoldingLaws.{begun_stays, begun_allows}
+use Rattle.tape_stage.proofs.HoldingLaws.{then_elapses, then_stays, then_allows, holds_more}
+use Rattle.tape_stage.proofs.HoldingLaws.{same_elapses, more_elapses, added_follows, added_stays}
+use Rattle.tape_stage.proofs.HoldingLaws.{added_allows, begun_stays, begun_allows}
 use Rattle.tape_stage.proofs.Results.{on_ok}
 use Rattle.tape_stage.proofs.disk.write_behind.WriteBehindDisk.write_at.Goals as goal
 

@@ -1,8 +1,6 @@
-use Rattle.std.proofs.Common.{◌≡◌, ℕ, List, ◌++◌, refl, ap, inr}
-use Rattle.std.specs.Prelude.{Err}
+use Rattle.std.proofs.Common.{◌≡◌, ℕ, List, ◌++◌, refl, ap, inr, Err}
 use Rattle.tape_blocks.specs.Block.{Portion}
-use Rattle.tape_core.specs.Crash.{IsThis}
-use Rattle.tape_core.specs.Stands.{weight_of}
+use Rattle.tape_core.specs.{Crash.IsThis, Stands.weight_of}
 use Rattle.tape_stage.specs.Parts.{IsFront}
 use Rattle.tape_stage.proofs.Held.{stage_holds, change_refused}
 use Rattle.tape_stage.proofs.Backs.{adds_this, adds_refused}

@@ -1,13 +1,10 @@
-use Rattle.std.proofs.Common.{◌≡◌, ◌∙◌, ℕ, List, [], ap, sym, inr, append-nil}
-use Rattle.std.specs.Prelude.{Option, Some, None, Err}
+use Rattle.std.proofs.Common.{◌≡◌, ◌∙◌, ℕ, List, [], ap, sym, inr, append-nil, Option, Some, None}
+use Rattle.std.proofs.Common.{Err}
 use Rattle.tape_blocks.specs.Block.{Portion}
-use Rattle.tape_core.specs.Crash.{IsThis}
-use Rattle.tape_core.specs.Point.{Point}
-use Rattle.tape_core.specs.Stands.{weight_of}
-use Rattle.tape_stage.specs.Parts.{IsFront}
+use Rattle.tape_core.specs.{Crash.IsThis, Point.Point, Stands.weight_of}
+use Rattle.tape_stage.specs.{Parts.IsFront, Stages.Returns}
 use Rattle.tape_stage.proofs.Held.{stage_holds, refused_holds, change_refused}
 use Rattle.tape_stage.proofs.Keeps.{frames_holding}
-use Rattle.tape_stage.specs.Stages.{Returns}
 use Rattle.tape_stage.proofs.Backs.{returned_kept, returned_now, adds_this, adds_refused}
 use Rattle.tape_stage.proofs.stage.putting.StagePartSink.keep.Goals as goal
 

@@ -1,9 +1,7 @@
-use Rattle.std.proofs.Common.{[], ◌∷◌, ◌++◌, ap, inl, arith}
-use Rattle.std.specs.Prelude.{Err}
+use Rattle.std.proofs.Common.{[], ◌∷◌, ◌++◌, ap, inl, arith, Err}
 use Rattle.tape_blocks.specs.Parts.{view}
 use Rattle.tape_stage.proofs.Held.{stage_holds, refused_holds, change_refused}
-use Rattle.tape_stage.proofs.Keeps.{kept_front_holding}
-use Rattle.tape_stage.proofs.Backs.{adds_nothing, adds_refused}
+use Rattle.tape_stage.proofs.{Keeps.kept_front_holding, Backs.adds_nothing, Backs.adds_refused}
 use Rattle.tape_stage.proofs.stage.putting.StagePartSink.put.Goals as goal
 
 pub returns-in-Ok-clause-ok : goal.returns-in-Ok-clause-ok
