@@ -1,15 +1,14 @@
 -- Files that a crash inside a call of a stage never leaves, according to the call's contract: each
 -- would be possible with a wrong body, and no crash before the call could leave it. The assumptions
 -- about a stage (`IsStage`, `Ready`) are guarantees of `create` and `save`.
-use Rattle.std.proofs.Common.{◌≡◌, ◌⊎◌, inl, inr, ℕ, ◌+◌, Bool, true, false, List, length, sym, ap}
-use Rattle.std.proofs.Common.{◌∙◌, subst, arith, not, Some, option_map, unwrap_or}
+use Rattle.std.proofs.Common.{◌≡◌, ◌⊎◌, inl, inr, ℕ, ◌+◌, Bool, true, false, List, sym, ap, ◌∙◌}
+use Rattle.std.proofs.Common.{subst, arith, not, Some, option_map, unwrap_or}
 use Rattle.tape_blocks.specs.Block.{Portion}
 use Rattle.tape_core.specs.Point.{Point}
-use Rattle.tape_stage.specs.Staged.{body_at, gate_at, read_slot, slot_at, IsEither, Loses, Ready}
-use Rattle.tape_stage.specs.Staged.{Staged, StagedIn}
+use Rattle.tape_stage.specs.Staged.{body_at, read_slot, slot_at, IsEither, Loses, Ready, Staged}
+use Rattle.tape_stage.specs.Staged.{StagedIn}
 use Rattle.tape_stage.specs.{Parts.IsFront, Stages.Holds, Stages.IsStage, Stages.Survived}
 use Rattle.tape_stage.proofs.stage.saving.close_gate.Reads as close_gate
-use Rattle.tape_stage.proofs.stage.Stage.restart.Reads as restart
 use Rattle.tape_stage.proofs.stage.Stage.save.Reads as save
 use Rattle.tape_stage.proofs.stage.putting.StagePartSink.keep.Reads as keep
 
@@ -64,32 +63,6 @@ closed_gate_closed_again D L g d κs a z s n point other parts c l honest ready 
     let e : StagedIn true n point parts c
     = subst (λ b. StagedIn b n point parts c) second staged in
     wins true n other (subst (Loses true n) says e.other)
-
--- a file that was cut to parts of weight 85, although 170 were acknowledged and no later slot is
--- valid
-cut_too_early : (second : Bool) (n : ℕ) (point next : Point) (parts more : List Portion)
-    (c : List ℕ) → point.staged ≡ 170 → length c ≡ 341 → gate_at (not second) c ≡ 67
-    → IsEither second n point next parts more c → ⊥
-cut_too_early second n point next parts more c told size closed (inl old) =
-    absurd (omega (arith, told, size, old.parts_are.long))
-cut_too_early second n point next parts more c told size closed (inr new) =
-    absurd (let m : 67 ≡ 79 = sym closed ∙ new.is_open in omega arith)
-
--- restart_cuts_before_saving: in a roll-back from weight 170 to 85 the parts are removed while the
--- older checkpoint is still current
-restart_cuts_before_saving : (D : _) (L : _) (g : _) (d : _) (κs : _) (a : _) (z : _) (s : _)
-    (acked parts front : List Portion) (c : List ℕ)
-    → restart.Learnt-named D L g d κs a z s → g.is_honest a.0.now.disk → IsStage a.0.now acked parts
-    → IsFront a.1.0.now.staged front parts → a.0.now.acknowledged.staged ≡ 170
-    → g.left_since s.0.now.disk (g.moment a.0.now.disk) c
-    → (g.left_since a.0.now.disk (g.moment a.0.now.disk) c → ⊥)
-    → length c ≡ 341 → gate_at (not a.0.now.in_second) c ≡ 67 → ⊥
-restart_cuts_before_saving D L g d κs a z s acked parts front c l honest stage first told left
-    before
-    size closed =
-    cut_too_early a.0.now.in_second a.0.now.generation a.0.now.acknowledged a.1.0.now acked front c
-    told size closed (since_then before ((l.any_moment honest acked parts front stage first).before
-    (g.moment a.0.now.disk) c (omega arith) left))
 
 -- saved_checkpoint_removed_first: a stage that survives every crash saves a checkpoint, and
 -- meanwhile a crash leaves a file that represents nothing
