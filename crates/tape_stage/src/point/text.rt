@@ -1,15 +1,14 @@
 //! The text of a checkpoint: its fields, read and written character by character.
 
-ghost use Rattle.std.specs.Prelude.{◌≡◌, ◌≤◌, length, ◌<◌, ◌+◌, ◌-◌, ◌^◌, ◌++◌};
+ghost use Rattle.std.specs.Prelude.{◌≡◌, ◌≤◌, length, ◌<◌, ◌+◌, ◌-◌, ◌++◌, if◌then◌else◌};
 ghost use Rattle.arrayvec.specs.ArrayVec.{array_vec_len};
-ghost use Rattle.tape_label.specs.Digits.{digits};
 ghost use Rattle.tape_label.specs.Positions.{positions};
 ghost use Rattle.tape_label.specs.Written.{text_of, HaveWidths};
 ghost use Rattle.tape_stage.specs.Reading.{version_by, state_position, fields_at, text_at};
 ghost use Rattle.tape_stage.specs.Reading.{place_at, flags_at, form_at, staged_at};
 ghost use Rattle.tape_stage.specs.Reading.{number_at, flag_at, format_at, tail_at};
 ghost use Rattle.tape_stage.specs.PointFaults.{number};
-ghost use Rattle.tape_stage.specs.Text.{state_letter, flag_digit, format_letter, Fit, pieces};
+ghost use Rattle.tape_stage.specs.Text.{format_letter, Fit, pieces};
 ghost use Rattle.tape_stage.specs.declared.point.Version.TheVariants.{Two};
 
 use crate::point::{Fields, Flags, Form, Place, Version};
@@ -260,16 +259,6 @@ pub(crate) fn put<const N: usize>(text: &mut ArrayVec<u8, N>, piece: &[u8])
     }
 }
 
-/// Appends `number` in `W` digits.
-fn put_number<const W: usize>(text: &mut ArrayVec<u8, 80>, number: u64)
-    requires fits { number < 10 ^ W }
-    requires room { array_vec_len text.old + W ≤ 80 }
-    ensures items { text.new.items ≡ text.old.items ++ digits W number }
-    ensures len { array_vec_len text.new ≡ array_vec_len text.old + W }
-{
-    put(text, &digits_of::<W>(number));
-}
-
 /// Returns the complete text.
 pub(crate) fn whole<const N: usize>(text: ArrayVec<u8, N>) -> [u8; N]
     requires { array_vec_len text ≡ N }
@@ -281,18 +270,11 @@ pub(crate) fn whole<const N: usize>(text: ArrayVec<u8, N>) -> [u8; N]
     }
 }
 
-/// Returns `D` if the whole file was delivered, otherwise `R`.
-fn state_letter(done: bool) -> u8
-    ensures { result ≡ state_letter done }
+/// Returns `yes` for true, `no` for false.
+fn flag_letter(flag: bool, yes: u8, no: u8) -> u8
+    ensures { result ≡ if flag then yes else no }
 {
-    if done { b'D' } else { b'R' }
-}
-
-/// Returns `1` for true, `0` for false.
-fn flag_digit(flag: bool) -> u8
-    ensures { result ≡ flag_digit flag }
-{
-    if flag { b'1' } else { b'0' }
+    if flag { yes } else { no }
 }
 
 /// Returns `F`, `D` or `S`, or a space for `None`.
@@ -314,18 +296,18 @@ pub(crate) fn fields_text(fields: &Fields) -> [u8; 80]
     let mut text = ArrayVec::new();
     put(&mut text, b"TPCK2");
     put(&mut text, fields.set_id.bytes());
-    put_number::<4>(&mut text, fields.file);
-    put_number::<4>(&mut text, fields.sect);
-    put_number::<10>(&mut text, fields.place.block);
-    put_number::<5>(&mut text, fields.place.part);
-    text.push(state_letter(fields.flags.done));
-    text.push(flag_digit(fields.flags.begun));
-    text.push(flag_digit(fields.flags.known));
+    put(&mut text, &digits_of::<4>(fields.file));
+    put(&mut text, &digits_of::<4>(fields.sect));
+    put(&mut text, &digits_of::<10>(fields.place.block));
+    put(&mut text, &digits_of::<5>(fields.place.part));
+    text.push(flag_letter(fields.flags.done, b'D', b'R'));
+    text.push(flag_letter(fields.flags.begun, b'1', b'0'));
+    text.push(flag_letter(fields.flags.known, b'1', b'0'));
     text.push(format_letter(fields.form.format));
-    put_number::<5>(&mut text, fields.form.rec_len);
-    put_number::<2>(&mut text, fields.form.offset);
+    put(&mut text, &digits_of::<5>(fields.form.rec_len));
+    put(&mut text, &digits_of::<2>(fields.form.offset));
     put(&mut text, fields.form.file_id.bytes());
-    put_number::<15>(&mut text, fields.staged);
+    put(&mut text, &digits_of::<15>(fields.staged));
     put(&mut text, b"   ");
     whole(text)
 }

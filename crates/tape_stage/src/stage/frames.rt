@@ -6,7 +6,6 @@ ghost use Rattle.std.specs.Prelude.{◌⊎◌};
 ghost use Rattle.std.specs.Int.{to_be_bytes};
 ghost use Rattle.std.proofs.Common.{w32};
 ghost use Rattle.tape_blocks.specs.Block.{Portion, indicator};
-ghost use Rattle.tape_blocks.specs.declared.parts.Span.{Span};
 ghost use Rattle.tape_core.specs.Weight.{Rose};
 ghost use Rattle.tape_core.specs.Known.{most_staged};
 ghost use Rattle.tape_stage.specs.Body.{most_generation};
@@ -27,27 +26,19 @@ use tape_core::{Checkpoint, SinkFault};
 /// The maximum number of bytes of a part.
 const LONGEST_PART: u32 = 99_999;
 
-/// Returns the span with the given digit.
-fn span_by(digit: u8) -> Option<Span>
-    ensures { MatchOption result ((span : Span) → digit ≡ indicator span → ⊥)
-        (λ span. digit ≡ indicator span) }
-{
-    match digit {
-        b'0' => Some(Span::Whole),
-        b'1' => Some(Span::First),
-        b'2' => Some(Span::Middle),
-        b'3' => Some(Span::Last),
-        _ => None,
-    }
-}
-
 /// Returns the span and the length in a header, if it is valid.
 fn header_of(header: &[u8; 5]) -> Option<(Span, u64)>
     ensures { MatchOption result (IsNoHeader header.now)
         (λ found. (found.1 ≤ longest_part)
         × (header.now ≡ indicator found.0 ∷ to_be_bytes w32 found.1)) }
 {
-    let span = span_by(header[0])?;
+    let span = match header[0] {
+        b'0' => Span::Whole,
+        b'1' => Span::First,
+        b'2' => Span::Middle,
+        b'3' => Span::Last,
+        _ => return None,
+    };
     let size = u32::from_be_bytes([header[1], header[2], header[3], header[4]]);
     if size > LONGEST_PART {
         return None;

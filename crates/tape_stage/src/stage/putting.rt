@@ -26,24 +26,18 @@ use crate::stage::{MOST_STAGED, Stage, StageFault};
 use tape_blocks::{Part, Span};
 use tape_core::{Checkpoint, PartSink, PartWalk, SinkFault};
 
-/// Returns the digit of a span.
-fn digit(span: Span) -> u8
-    ensures { result ≡ indicator span }
-{
-    match span {
-        Span::Whole => b'0',
-        Span::First => b'1',
-        Span::Middle => b'2',
-        Span::Last => b'3',
-    }
-}
-
 /// Returns the header of a part: its span, and its length in four bytes.
 fn header(span: Span, size: u32) -> [u8; 5]
     ensures { result ≡ indicator span ∷ to_be_bytes w32 size }
 {
+    let digit = match span {
+        Span::Whole => b'0',
+        Span::First => b'1',
+        Span::Middle => b'2',
+        Span::Last => b'3',
+    };
     let n = size.to_be_bytes();
-    [digit(span), n[0], n[1], n[2], n[3]]
+    [digit, n[0], n[1], n[2], n[3]]
 }
 
 /// Writes a part's frame at offset `place`. `buffer` provides room for the frame.
