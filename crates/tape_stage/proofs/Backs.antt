@@ -19,36 +19,29 @@ use Rattle.tape_core.specs.Crash as crash
 pub in_stands : (second : Bool) (g : ℕ) (point : Point) (parts : List Portion) (bytes : List ℕ)
     → StagedIn second g point parts bytes → (h : ℕ) × (back : Point) × (there : List Portion)
     × Staged bytes h back there
-in_stands second g point parts bytes is =
-    (g, point, parts, staged_named second g point parts bytes is)
+in_stands second g point parts bytes is = (g, point, parts, staged_named _ _ _ _ _ is)
 
 pub either_stands : (second : Bool) (g : ℕ) (point next : Point) (parts more : List Portion)
     (bytes : List ℕ) → IsEither second g point next parts more bytes
     → (h : ℕ) × (back : Point) × (there : List Portion) × Staged bytes h back there
-either_stands second g point next parts more bytes (inl was) =
-    in_stands second g point parts bytes was
-either_stands second g point next parts more bytes (inr new) =
-    in_stands (not second) (g + 1) next more bytes new
+either_stands second g point next parts more bytes (inl was) = in_stands _ _ _ _ _ was
+either_stands second g point next parts more bytes (inr new) = in_stands _ _ _ _ _ new
 
 -- a stage that was just opened or created survives a crash
 pub ready_survives : (seen : List ℕ) (may_leave : List ℕ → Type 0) (second : Bool) (g : ℕ)
     (point : Point) (other_open : Bool) (parts : List Portion)
-    → Ready second g point parts other_open seen may_leave
-    → (bytes : List ℕ) → may_leave bytes → (h : ℕ) × (back : Point) × (there : List Portion)
-    × Staged bytes h back there
+    → Ready second g point parts other_open seen may_leave → (bytes : List ℕ) → may_leave bytes
+    → (h : ℕ) × (back : Point) × (there : List Portion) × Staged bytes h back there
 ready_survives seen may_leave second g point other_open parts ready bytes left =
-    in_stands second g point parts bytes (ready_each second g point parts other_open seen may_leave
-    bytes ready left).0
+    in_stands _ _ _ _ _ (ready_each _ _ _ _ _ _ _ bytes ready left).0
 
 pub ready_returns : (seen : List ℕ) (may_leave : List ℕ → Type 0) (second : Bool) (g : ℕ)
-    (point : Point) (other_open : Bool) (parts : List Portion)
-    → Ready second g point parts other_open seen may_leave
-    → (back : Point) (there : List Portion) → (bytes : List ℕ) × may_leave bytes
-    × ((h : ℕ) × Staged bytes h back there) → (back ≡ point) × (there ≡ parts)
+    (point : Point) (other_open : Bool) (parts : List Portion) → Ready second g point parts
+    other_open seen may_leave → (back : Point) (there : List Portion) → (bytes : List ℕ)
+    × may_leave bytes × ((h : ℕ) × Staged bytes h back there) → (back ≡ point) × (there ≡ parts)
 ready_returns seen may_leave second g point other_open parts ready back there r =
-    let each = (ready_each second g point parts other_open seen may_leave r.0 ready r.1).0 in
-    let same = staged_once r.0 r.2.0 g back point there parts r.2.1
-    (staged_named second g point parts r.0 each) in
+    let each = (ready_each _ _ _ _ _ _ _ r.0 ready r.1).0 in
+    let same = staged_once r.0 r.2.0 g back point there parts r.2.1 (staged_named _ _ _ _ _ each) in
     (same.1, same.2)
 
 -- the effect of crashes on a stage on the given disk
@@ -59,9 +52,8 @@ crashes_on disk at = record {
   survives = (bytes : List ℕ) → disk.may_leave at bytes → (g : ℕ) × (point : Point)
       × (parts : List Portion) × Staged bytes g point parts;
   moment = disk.moment at;
-  returned = λ t back there. (bytes : List ℕ)
-      × (disk.left_since at t bytes ⊎ disk.may_leave at bytes)
-      × ((g : ℕ) × Staged bytes g back there);
+  returned = λ t back there. (bytes : List ℕ) × (disk.left_since at t bytes
+      ⊎ disk.may_leave at bytes) × ((g : ℕ) × Staged bytes g back there);
   survived = λ t. (bytes : List ℕ) → disk.left_since at t bytes ⊎ disk.may_leave at bytes
       → (g : ℕ) × (point : Point) × (parts : List Portion) × Staged bytes g point parts;
 }
@@ -81,22 +73,19 @@ module _ {D : Type 0} {disk : Ghosts D} where
     now,
     (
       stage.generation,
-      staged_named stage.in_second stage.generation
-          stage.acknowledged acked (disk.seen stage.disk) is.ready.staged,
+      staged_named _ _ _ _ _ is.ready.staged,
     ),
   )
 
   -- a file that represents the acknowledged data
   pub returned_old : (old : Stage D disk) (acked parts : List Portion) (bytes : List ℕ) (g : ℕ)
       (back : Point) (there : List Portion) → disk.may_leave old.disk (disk.seen old.disk)
-      → IsStage old acked parts
-      → StagedIn old.in_second old.generation old.acknowledged acked bytes
+      → IsStage old acked parts → StagedIn old.in_second old.generation old.acknowledged acked bytes
       → Staged bytes g back there → Returns old back there
   returned_old old acked parts bytes g back there now is was staged =
       let same = staged_once bytes g old.generation back old.acknowledged there acked staged
-      (staged_named old.in_second old.generation old.acknowledged acked bytes was) in
-      returns_as old old.acknowledged back acked there same.1 same.2
-      (acked_returns old acked parts now is)
+      (staged_named _ _ _ _ _ was) in
+      returns_as old _ _ _ _ same.1 same.2 (acked_returns old acked parts now is)
 
   -- a file that represents the acknowledged data, or the next checkpoint
   pub returned : (old : Stage D disk) (acked parts front : List Portion) (next : Point)
@@ -105,10 +94,10 @@ module _ {D : Type 0} {disk : Ghosts D} where
       → IsEither old.in_second old.generation old.acknowledged next acked front bytes
       → Staged bytes g back there → Returns old back there ⊎ ((back ≡ next) × (there ≡ front))
   returned old acked parts front next bytes g back there now is (inl was) staged =
-      inl (returned_old old acked parts bytes g back there now is was staged)
+      inl (returned_old old _ parts _ _ _ _ now is was staged)
   returned old acked parts front next bytes g back there now is (inr new) staged =
       let same = staged_once bytes g (old.generation + 1) back next there front staged
-      (staged_named (not old.in_second) (old.generation + 1) next front bytes new) in
+      (staged_named _ _ _ _ _ new) in
       inr (same.1, same.2)
 
   -- only the saved checkpoint may be left
@@ -116,11 +105,9 @@ module _ {D : Type 0} {disk : Ghosts D} where
       (there : List Portion) → IsStage stage parts parts → stage.acknowledged ≡ point
       → Returns stage back there → (back ≡ point) × (there ≡ parts)
   returned_kept stage parts point back there is kept r =
-      let each =
-      (ready_each stage.in_second stage.generation stage.acknowledged parts stage.other_open
-      (disk.seen stage.disk) (disk.may_leave stage.disk) r.0 is.ready r.1).0 in
+      let each = (ready_each _ _ _ _ _ _ _ r.0 is.ready r.1).0 in
       let same = staged_once r.0 r.2.0 stage.generation back stage.acknowledged there parts r.2.1
-      (staged_named stage.in_second stage.generation stage.acknowledged parts r.0 each) in
+      (staged_named _ _ _ _ _ each) in
       (same.1 ∙ kept, same.2)
 
   -- contents that might have returned since this moment may return now
@@ -137,8 +124,7 @@ module _ {D : Type 0} {disk : Ghosts D} where
       → ((c : List ℕ) → disk.is_honest stage.disk
       → disk.left_since stage.disk (disk.moment stage.disk) c → disk.may_leave stage.disk c)
       → Survives stage → Survived stage (disk.moment stage.disk)
-  survived_now stage honest only survives bytes (inl left) =
-      survives bytes (only bytes honest left)
+  survived_now stage honest only survives bytes (inl left) = survives bytes (only bytes honest left)
   survived_now stage honest only survives bytes (inr left) = survives bytes left
 
   -- ---- the contents that a call adds
@@ -181,9 +167,8 @@ module _ {D : Type 0} {disk : Ghosts D} where
       since t back there le (bytes, inr left, (g, staged)) =
           was t back there bytes g staged (inr (passes.now bytes left))
 
-      stood : (t : ℕ) (bytes : List ℕ) → Survived old t
-          → disk.left_since old.disk t bytes ⊎ P bytes → (g : ℕ) × (point : Point)
-          × (parts : List Portion) × Staged bytes g point parts
+      stood : (t : ℕ) (bytes : List ℕ) → Survived old t → disk.left_since old.disk t bytes ⊎ P bytes
+          → (g : ℕ) × (point : Point) × (parts : List Portion) × Staged bytes g point parts
       stood t bytes before (inl left) = before bytes (inl left)
       stood t bytes before (inr p) = stands (λ c left. before c (inr left)) bytes p
 
@@ -195,34 +180,25 @@ module _ {D : Type 0} {disk : Ghosts D} where
   -- a call that leaves the acknowledged data
   pub adds_nothing : (old new : Stage D disk) (acked parts : List Portion)
       → disk.may_leave old.disk (disk.seen old.disk) → IsStage old acked parts
-      → Passes disk old.disk new.disk
-      (StagedIn old.in_second old.generation old.acknowledged acked)
+      → Passes disk old.disk new.disk (StagedIn old.in_second old.generation old.acknowledged acked)
       → AddsNothing (crashes_of old) (crashes_of new)
-  adds_nothing old new acked parts now is passes =
-      adds_passed old new.disk (λ back there. ⊥) _ passes
-      (λ bytes g back there was staged.
-      inl (returned_old old acked parts bytes g back there now is was staged))
-      (λ before bytes was.
-      in_stands old.in_second old.generation old.acknowledged acked bytes was)
+  adds_nothing old new acked parts now is passes = adds_passed old _ (λ back there. ⊥) _ passes
+      (λ bytes g back there was staged. inl (returned_old old _ parts _ _ _ _ now is was staged))
+      (λ before bytes was. in_stands _ _ _ _ _ was)
 
   -- a call that leaves the acknowledged data unchanged, or acknowledges the given data
   pub adds_this : (old new : Stage D disk) (acked parts front : List Portion) (next : Point)
-      → disk.may_leave old.disk (disk.seen old.disk) → IsStage old acked parts
-      → Passes disk old.disk new.disk
-      (IsEither old.in_second old.generation old.acknowledged next acked front)
+      → disk.may_leave old.disk (disk.seen old.disk) → IsStage old acked parts → Passes disk
+      old.disk new.disk (IsEither old.in_second old.generation old.acknowledged next acked front)
       → AddsOnly (IsThis next front) (crashes_of old) (crashes_of new)
-  adds_this old new acked parts front next now is passes =
-      adds_passed old new.disk (IsThis next front) _ passes
-      (λ bytes g back there was staged.
-      returned old acked parts front next bytes g back there now is was staged)
-      (λ before bytes was.
-      either_stands old.in_second old.generation old.acknowledged next acked front bytes was)
+  adds_this old new acked parts front next now is passes = adds_passed old _ (IsThis next front) _
+      passes (λ bytes g back there was staged. returned old _ parts _ _ _ _ _ _ now is was staged)
+      (λ before bytes was. either_stands _ _ _ _ _ _ _ was)
 
   -- a call that only reads
-  pub adds_read : (old : Stage D disk) (new : D)
-      → Passes disk old.disk new (disk.may_leave old.disk)
-      → AddsNothing (crashes_of old) (crashes_on disk new)
-  adds_read old new passes = adds_passed old new (λ back there. ⊥) _ passes
+  pub adds_read : (old : Stage D disk) (new : D) → Passes disk old.disk new
+      (disk.may_leave old.disk) → AddsNothing (crashes_of old) (crashes_on disk new)
+  adds_read old new passes = adds_passed old _ (λ back there. ⊥) _ passes
       (λ bytes g back there left staged. inl (bytes, left, (g, staged)))
       (λ before bytes left. before bytes left)
 

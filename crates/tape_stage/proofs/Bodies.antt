@@ -13,23 +13,20 @@ use Rattle.tape_stage.proofs.PointLaws.{reads_only, text_size}
 
 length-point : (point : Point) → IsPointText Two (point_text point) point
     → length (point_text point) ≡ 80
-length-point point is = text_size Two point (point_text point) is
+length-point point is = text_size _ _ _ is
 
 pub length-body : (g : ℕ) (point : Point) → FitBody g point → length (body_text g point) ≡ 127
 unfolding body_text
-length-body g point fit =
-    omega (
-      arith,
-      length-append (digits 15 g) (point_text point ++ replicate 32 32),
-      length-append
-          (point_text point) (replicate 32 32),
-      length-digits 15 g,
-      length-point point fit.text,
-    )
+length-body g point fit = omega (
+  arith,
+  length-append (digits 15 g) (point_text point ++ replicate 32 32),
+  length-append (point_text point) (replicate 32 32),
+  length-digits 15 g,
+  length-point _ fit.text,
+)
 
-body_is : (G P R : List ℕ) (g : ℕ) (f : Point) → length G ≡ 15 → length P ≡ 80
-    → all_ascii_digits G ≡ true → number_of G ≡ g → point_in P ≡ Some f → body_of (G ++ (P ++ R))
-    ≡ Some (g, f)
+body_is : (G P R : List ℕ) (g : ℕ) (f : Point) → length G ≡ 15 → length P ≡ 80 → all_ascii_digits G
+    ≡ true → number_of G ≡ g → point_in P ≡ Some f → body_of (G ++ (P ++ R)) ≡ Some (g, f)
 unfolding body_of
 body_is G P R g f long size digits value says =
     let front : take 15 (G ++ (P ++ R)) ≡ G = take_at G (P ++ R) 15 long in
@@ -40,11 +37,9 @@ body_is G P R g f long size digits value says =
 pub body_reads : (g : ℕ) (point : Point) → FitBody g point → body_of (body_text g point) ≡ Some
     (g, point)
 unfolding body_text
-body_reads g point fit =
-    body_is (digits 15 g) (point_text point) (replicate 32 32) g point (length-digits 15 g)
-    (length-point point fit.text) (all_ascii_digits-digits 15 g)
-    (number_of-digits 15 g fit.generation)
-    (ap result_ok (reads_only Two point (point_text point) fit.text))
+body_reads g point fit = body_is (digits 15 g) (point_text point) (replicate 32 32) _ point
+    (length-digits 15 g) (length-point _ fit.text) (all_ascii_digits-digits 15 g)
+    (number_of-digits 15 g fit.generation) (ap result_ok (reads_only _ _ _ fit.text))
 
 -- ---- a body that was read
 

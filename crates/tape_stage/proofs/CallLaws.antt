@@ -28,8 +28,7 @@ left_back seen left (x ∷ calls) call c now =
     left_back (after seen x) (left_after seen left x) calls call c now
 
 since_keeps : (seen : List ℕ) (left : List ℕ → Type 0) (calls : List Call) (call : Call) (t : ℕ)
-    (c : List ℕ)
-    → since_by seen left calls t c → since_by seen left (calls ++ call ∷ []) t c
+    (c : List ℕ) → since_by seen left calls t c → since_by seen left (calls ++ call ∷ []) t c
 since_keeps seen left [] call zero c was = inl was
 since_keeps seen left [] call (suc t) c was = absurd was
 since_keeps seen left (x ∷ calls) call zero c (inl was) = inl was
@@ -39,9 +38,8 @@ since_keeps seen left (x ∷ calls) call (suc t) c was =
     since_keeps (after seen x) (left_after seen left x) calls call t c was
 
 since_else : (seen : List ℕ) (left : List ℕ → Type 0) (calls : List Call) (call : Call) (t : ℕ)
-    (c : List ℕ) → t ≤ length calls
-    → since_by seen left (calls ++ call ∷ []) t c → since_by seen left calls t c
-    ⊎ left_by seen left (calls ++ call ∷ []) c
+    (c : List ℕ) → t ≤ length calls → since_by seen left (calls ++ call ∷ []) t c
+    → since_by seen left calls t c ⊎ left_by seen left (calls ++ call ∷ []) c
 since_else seen left [] call zero c le (inl was) = inl was
 since_else seen left [] call zero c le (inr now) = inr now
 since_else seen left [] call (suc t) c le was = absurd (omega arith)
@@ -62,8 +60,7 @@ image_back first bytes calls call c is now =
 pub image_more : (first bytes : List ℕ) (calls : List Call) (call : Call) (c : List ℕ)
     → seen_by first calls ≡ bytes
     → left_after bytes (IsImage first calls) call c → IsImage first (calls ++ call ∷ []) c
-image_more first bytes calls call c is now =
-    left_more first (λ d. d ≡ first) calls call c
+image_more first bytes calls call c is now = left_more first (λ d. d ≡ first) calls call c
     (subst (λ (b : List ℕ). left_after b (IsImage first calls) call c) (sym is) now)
 
 pub elapses_more : (first : List ℕ) (calls : List Call) (call : Call)
@@ -93,26 +90,24 @@ one_more first worst bytes calls call right fits = record {
   seen = seen_more first calls call ∙ ap (λ (b : List ℕ). after b call) right.seen;
   fit = fit_more first calls call right.fit (subst (λ (b : List ℕ). Fits b call) (sym right.seen)
       fits);
-  worst_is =
-      worst_more first first calls call ∙ ap (λ (b : List ℕ). worst_after b
-      (worst_by first first calls) call) right.seen ∙ ap (λ (w : List ℕ). worst_after bytes w call)
-      right.worst_is;
+  worst_is = worst_more first first calls call
+      ∙ ap (λ (b : List ℕ). worst_after b (worst_by first first calls) call) right.seen
+      ∙ ap (λ (w : List ℕ). worst_after bytes w call) right.worst_is;
   no_longer = worst_longer bytes worst call fits right.no_longer;
 }
 
 pub right_more : (changed : Bool) (first worst worst' bytes bytes' : List ℕ)
     (calls calls' : List Call) (call : Call) → changed ≡ true
     → IsRight (kept_or changed first bytes) (kept_or changed worst bytes) bytes calls
-    → Fits bytes call
-    → calls' ≡ calls ++ call ∷ [] → bytes' ≡ after bytes call → worst' ≡ worst_after bytes worst
-    call
+    → Fits bytes call → calls' ≡ calls ++ call ∷ [] → bytes' ≡ after bytes call
+    → worst' ≡ worst_after bytes worst call
     → IsRight (kept_or changed first bytes') (kept_or changed worst' bytes') bytes' calls'
 right_more false first worst worst' bytes bytes' calls calls' call is right fits c b w = absurd (cc)
 right_more true first worst worst' bytes bytes' calls calls' call is right fits c b w =
     subst (λ (l : List Call). IsRight first worst' bytes' l) (sym c)
     (subst (λ (l : List ℕ). IsRight first worst' l (calls ++ call ∷ [])) (sym b)
     (subst (λ (l : List ℕ). IsRight first l (after bytes call) (calls ++ call ∷ [])) (sym w)
-    (one_more first worst bytes calls call right fits)))
+    (one_more _ _ _ _ call right fits)))
 
 -- a call that only reads
 pub right_looked : (first worst bytes : List ℕ) (calls calls' : List Call) (call : Call)
@@ -123,7 +118,7 @@ right_looked first worst bytes calls calls' call same same_worst fits right c =
     subst (λ (l : List Call). IsRight first worst bytes l) (sym c)
     (subst (λ (l : List ℕ). IsRight first worst l (calls ++ call ∷ [])) same
     (subst (λ (l : List ℕ). IsRight first l (after bytes call) (calls ++ call ∷ [])) same_worst
-    (one_more first worst bytes calls call right fits)))
+    (one_more _ _ _ _ call right fits)))
 
 pub over_same : (place : ℕ) (next old kept copy bytes : List ℕ) → next ≡ take place kept ++ bytes
     ++ drop (place + length bytes) kept → kept ≡ old → copy ≡ bytes
@@ -148,6 +143,6 @@ pub right_if : (done : Bool) (first worst bytes : List ℕ) (calls calls' : List
     → IsRight first worst bytes calls → calls' ≡ (if done then calls ++ call ∷ [] else calls)
     → IsRight first worst bytes calls'
 right_if true first worst bytes calls calls' call same same_worst fits right c =
-    right_looked first worst bytes calls calls' call same same_worst fits right c
+    right_looked _ _ _ _ _ call same same_worst fits right c
 right_if false first worst bytes calls calls' call same same_worst fits right c =
     subst (λ (l : List Call). IsRight first worst bytes l) (sym c) right

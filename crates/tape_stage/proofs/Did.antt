@@ -27,28 +27,27 @@ pub did_left : (old mid new : Content) (call : Call) → mid ≡ old → DidCall
 did_left old mid new call is before c now =
     let did = subst (λ (o : Content). DidCall call o new) is before in
     let P : List ℕ → List Call → Type 0 = λ f calls. IsImage f calls c in
-    image_back (first_of old) old.bytes.items old.calls.items call c old.right.seen
+    image_back (first_of old) _ old.calls.items call c old.right.seen
     (subst (λ (calls : List Call). P (first_of old) calls) did.calls
     (subst (λ (f : List ℕ). P f new.calls.items) did.first now))
 
 pub synced_same : (old mid new : Content) → mid ≡ old → DidCall Sync mid new → (c : List ℕ)
     → Leaves new c → Leaves old c
 synced_same old mid new is did c now =
-    subst (λ (b : List ℕ). Leaves old b) (sym (did_left old mid new Sync is did c now))
-    (seen_image (first_of old) old.bytes.items old.calls.items old.right.fit old.right.seen)
+    subst (λ (b : List ℕ). Leaves old b) (sym (did_left _ _ _ _ is did c now))
+    (seen_image (first_of old) _ old.calls.items old.right.fit old.right.seen)
 
 pub written_left : (old mid new : Content) (place : ℕ) (copy : Vec ℕ Global) (bytes : List ℕ)
     → mid ≡ old → copy.items ≡ bytes → DidCall (Write place copy) mid new
     → (c : List ℕ) → Leaves new c → (d : List ℕ) × Leaves old d × Torn place (length bytes) d c
 written_left old mid new place copy bytes is same did c now =
-    let from = did_left old mid new (Write place copy) is did c now in
+    let from = did_left _ _ _ _ is did c now in
     (from.0, from.1, subst (λ (b : List ℕ). Torn place (length b) from.0 c) same from.2)
 
 pub worst_left_now : (content : Content)
     → Leaves content (kept_or content.changed content.worst.items content.bytes.items)
 worst_left_now content =
-    worst_image (first_of content) (kept_or content.changed content.worst.items content.bytes.items)
-    content.calls.items content.right.fit content.right.worst_is
+    worst_image (first_of content) _ content.calls.items content.right.fit content.right.worst_is
 
 pub did_open : (old mid new : Content) (call : Call) → mid ≡ old → DidCall call mid new
     → (c : List ℕ) → left_after old.bytes.items (Leaves old) call c → Leaves new c
@@ -57,11 +56,10 @@ did_open old mid new call is before c from =
     let P : List ℕ → List Call → Type 0 = λ f calls. IsImage f calls c in
     subst (λ (f : List ℕ). P f new.calls.items) (sym did.first)
     (subst (λ (calls : List Call). P (first_of old) calls) (sym did.calls)
-    (image_more (first_of old) old.bytes.items old.calls.items call c old.right.seen from))
+    (image_more (first_of old) _ old.calls.items call c old.right.seen from))
 
 pub written_open : (old mid new : Content) (place : ℕ) (copy : Vec ℕ Global) (bytes : List ℕ)
     → mid ≡ old → copy.items ≡ bytes → DidCall (Write place copy) mid new
     → (d c : List ℕ) → Leaves old d → Torn place (length bytes) d c → Leaves new c
-written_open old mid new place copy bytes is same did d c left torn =
-    did_open old mid new (Write place copy) is did c
+written_open old mid new place copy bytes is same did d c left torn = did_open _ _ _ _ is did c
     (d, left, subst (λ (b : List ℕ). Torn place (length b) d c) (sym same) torn)

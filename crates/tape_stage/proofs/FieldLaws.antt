@@ -60,9 +60,8 @@ place_found Two text place size e =
 place_again : (version : Version) (text : List ℕ) (place : Place) → HasPlace version text place
     → place_at version text ≡ Ok place
 unfolding place_at
-place_again One text place has = rw (number_again text 20 25 place.block has.0, has.1) refl
-place_again Two text place has =
-    rw (number_again text 20 29 place.block has.0, number_again text 30 34 place.part has.1) refl
+place_again One text place has = rw (number_again _ _ _ _ has.0, has.1) refl
+place_again Two text place has = rw (number_again _ _ _ _ has.0, number_again _ _ _ _ has.1) refl
 
 flags_found : (text : List ℕ) (first : ℕ) (flags : Flags) → length text ≡ 80 → first ≤ 70
     → flags_at text first ≡ Ok flags → HasFlags text first flags
@@ -81,14 +80,11 @@ flags_found text first flags size low e =
 flags_again : (text : List ℕ) (first : ℕ) (flags : Flags) → length text ≡ 80 → first ≤ 70
     → HasFlags text first flags → flags_at text first ≡ Ok flags
 unfolding flags_at
-flags_again text first flags size low has =
-    rw (
-      flag_again text first 68 82 flags.done (omega (arith, size)) refl has.done,
-      flag_again text
-          (first + 1) 49 48 flags.begun (omega (arith, size)) refl has.begun,
-      flag_again text
-          (first + 2) 49 48 flags.known (omega (arith, size)) refl has.known,
-    ) refl
+flags_again text first flags size low has = rw (
+  flag_again text first 68 82 flags.done (omega (arith, size)) refl has.done,
+  flag_again text (first + 1) 49 48 flags.begun (omega (arith, size)) refl has.begun,
+  flag_again text (first + 2) 49 48 flags.known (omega (arith, size)) refl has.known,
+) refl
 
 form_found : (text : List ℕ) (first : ℕ) (form : Form) → length text ≡ 80 → first ≤ 40
     → form_at text first ≡ Ok form → HasForm text first form
@@ -113,15 +109,12 @@ form_found text first form size low e =
 form_again : (text : List ℕ) (first : ℕ) (form : Form) → length text ≡ 80 → first ≤ 40
     → HasForm text first form → form_at text first ≡ Ok form
 unfolding form_at
-form_again text first form size low has =
-    rw (
-      format_again text first form.format (omega (arith, size)) has.format,
-      number_again text
-          (first + 1) (first + 5) form.rec_len has.rec_len,
-      number_again text (first + 6) (first + 7)
-          form.offset has.offset,
-      has.file_id,
-    ) refl
+form_again text first form size low has = rw (
+  format_again text first form.format (omega (arith, size)) has.format,
+  number_again _ _ _ _ has.rec_len,
+  number_again _ _ _ _ has.offset,
+  has.file_id,
+) refl
 
 staged_found : (text : List ℕ) (first staged : ℕ) → length text ≡ 80 → first ≤ 65
     → staged_at text first ≡ Ok staged → HasStaged text first staged
@@ -137,12 +130,10 @@ staged_found text first staged size low e =
 staged_again : (text : List ℕ) (first staged : ℕ) → HasStaged text first staged
     → staged_at text first ≡ Ok staged
 unfolding staged_at
-staged_again text first staged has =
-    rw (
-      number_again text first (first + 14) staged has.number,
-      tail_again text (first + 15)
-          has.tail,
-    ) refl
+staged_again text first staged has = rw (
+  number_again _ _ _ _ has.number,
+  tail_again text (first + 15) has.tail,
+) refl
 
 low_state : (version : Version) → state_position version ≤ 35
 low_state One = omega arith
@@ -186,13 +177,11 @@ fields_again version text f size has =
     let at = state_position version in
     let low = low_state version in
     rw (
-      number_again text 12 15 f.file has.file,
-      number_again text 16 19 f.sect has.sect,
+      number_again _ _ _ _ has.file,
+      number_again _ _ _ _ has.sect,
       place_again version text f.place has.place,
-      flags_again text at f.flags size
-          (omega (arith, low)) has.flags,
-      form_again text (at + 3) f.form size (omega (arith, low))
-          has.form,
-      staged_again text (at + 28) f.staged has.staged,
+      flags_again text at f.flags size (omega (arith, low)) has.flags,
+      form_again _ _ _ size (omega (arith, low)) has.form,
+      staged_again _ _ _ has.staged,
       has.set_id,
     ) refl

@@ -19,11 +19,9 @@ pub found_alike : (found : Found) (old new : List ℕ) → take 256 new ≡ take
     → IsFound found old → IsFound found new
 found_alike found old new same is = record {
   slot = slot_alike found.in_second 256 old new (omega arith) same ∙ is.slot;
-  other =
-      subst (Loses found.in_second found.generation)
+  other = subst (Loses found.in_second found.generation)
       (sym (slot_alike (not found.in_second) 256 old new (omega arith) same)) is.other;
-  gate =
-      is.gate ∙ ap (λ (n : ℕ). n == 79)
+  gate = is.gate ∙ ap (λ (n : ℕ). n == 79)
       (sym (gate_alike (not found.in_second) 256 old new (omega arith) same));
 }
 
@@ -42,7 +40,7 @@ none_remains front bytes same no_first no_second g point broken parts remains =
 slot_gate : (gate : ℕ) (body : List ℕ) (found : Slot) → read_slot gate body ≡ Some found
     → (gate ≡ 79) × (body_of body ≡ Some found)
 slot_gate gate body found is =
-    ⊎_elim (λ yes. (yes.1, sym (open_reads gate body yes.1) ∙ is)) (λ no. let none =
+    ⊎_elim (λ yes. (yes.1, sym (open_reads _ body yes.1) ∙ is)) (λ no. let none =
     closed_none gate body no.1 in cc (none, is)) (eqb_tells gate 79)
 
 -- the slot found, with intact frames after it, is staged
@@ -60,7 +58,7 @@ pub found_ready : (found : Found) (parts : List Portion) (bytes : List ℕ) (may
     → ((c : List ℕ) → may_leave c → c ≡ bytes)
     → Ready found.in_second found.generation found.point parts found.other_open bytes may_leave
 found_ready found parts bytes may_leave is holding only = record {
-  staged = found_staged found parts bytes is holding;
+  staged = found_staged _ _ _ is holding;
   gate = is.gate;
   alike = λ c left. ap (take (256 + found.point.staged)) (only c left);
 }
@@ -68,12 +66,10 @@ found_ready found parts bytes may_leave is holding only = record {
 pub best_of : (second : Bool) (g : ℕ) (point : Point) (bytes : List ℕ) → slot_at second bytes ≡ Some
     (g, point) → Loses second g (slot_at (not second) bytes) → best (slot_at false bytes)
     (slot_at true bytes) ≡ Some (g, point)
-best_of false g point bytes is loses =
-    ap (λ (s : Option Slot). best s (slot_at true bytes)) is ∙ best_named false g point
-    (slot_at true bytes) loses
-best_of true g point bytes is loses =
-    ap (λ (s : Option Slot). best (slot_at false bytes) s) is ∙ best_named true g point
-    (slot_at false bytes) loses
+best_of false g point bytes is loses = ap (λ (s : Option Slot). best s (slot_at true bytes)) is
+    ∙ best_named false g point (slot_at true bytes) loses
+best_of true g point bytes is loses = ap (λ (s : Option Slot). best (slot_at false bytes) s) is
+    ∙ best_named true g point (slot_at false bytes) loses
 
 -- bytes that agree up to the staged end represent the same
 pub stands_like : (found : Found) (read c : List ℕ) (end : ℕ) → IsFound found read
@@ -88,11 +84,9 @@ stands_like found read c end is at room same g point parts staged =
     omega (arith, ap length same, length-take end c, length-take end read) in
     record {
       slot = ap (λ (s : Option Slot). best s (slot_at true c)) (slot_alike false end read c
-          (omega arith) same)
-          ∙ ap (λ (s : Option Slot). best (slot_at false read) s)
+          (omega arith) same) ∙ ap (λ (s : Option Slot). best (slot_at false read) s)
           (slot_alike true end read c (omega arith) same) ∙ staged.slot;
-      parts_are = alike_holding end point.staged parts read c (omega (arith, weight)) same long
-          staged.parts_are;
+      parts_are = alike_holding end _ _ _ c (omega (arith, weight)) same long staged.parts_are;
     }
 
 -- the stage after the cut is ready
@@ -108,12 +102,9 @@ cut_ready found parts read new may_leave end is at holding cut only =
     let long : length new ≡ end = ap length cut ∙ length-take-le end read room in
     let front : take 256 new ≡ take 256 read =
     ap (take 256) cut ∙ take-take 256 end read (omega arith) in
-    found_ready found parts new may_leave (found_alike found read new front is)
-    (alike_holding end found.point.staged parts read new (omega arith) same
-    (omega (arith, long)) holding) only
+    found_ready _ _ _ may_leave (found_alike _ _ new front is)
+    (alike_holding end _ _ _ new (omega arith) same (omega (arith, long)) holding) only
 
 pub found_read : (found : Found) (parts : List Portion) (bytes : List ℕ) → IsFound found bytes
     → Holding found.point.staged parts bytes → Staged bytes found.generation found.point parts
-found_read found parts bytes is holding =
-    staged_named found.in_second found.generation found.point parts bytes
-    (found_staged found parts bytes is holding)
+found_read found parts bytes is holding = staged_named _ _ _ _ _ (found_staged _ _ _ is holding)

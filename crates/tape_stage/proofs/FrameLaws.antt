@@ -34,9 +34,8 @@ short_front (x ∷ xs) ys all = (all.0, short_front xs ys all.1)
 
 -- one more part
 pub put_holding : (weight place : ℕ) (parts : List Portion) (part : Portion) (old new : List ℕ)
-    → place ≡ 256 + weight → length part.bytes ≤ 99999
-    → Holding weight parts old → IsPut place part old new
-    → Holding (weight + (5 + length part.bytes)) (parts ++ part ∷ []) new
+    → place ≡ 256 + weight → length part.bytes ≤ 99999 → Holding weight parts old
+    → IsPut place part old new → Holding (weight + (5 + length part.bytes)) (parts ++ part ∷ []) new
 put_holding weight place parts part old new is short holding put =
     let size = 5 + length part.bytes in
     let there : drop weight (drop 256 new) ≡ drop place new =

@@ -42,8 +42,7 @@ one_frame place end bytes s t c d a b =
     let size : length c ≡ length d =
     size_same (length c) (length d) a.short b.short (ap (drop 1) headers) in (
       sym (span_again s) ∙ ap span_of (head_same _ _ _ _ headers) ∙ span_again t,
-      sym a.content_is ∙ ap
-          (λ (k : ℕ). take k (drop (place + 5) bytes)) size ∙ b.content_is,
+      sym a.content_is ∙ ap (λ (k : ℕ). take k (drop (place + 5) bytes)) size ∙ b.content_is,
     )
 
 -- the next part, and the parts after it
@@ -61,18 +60,16 @@ length-between place end bytes low high =
 
 -- if no parts are to come, the offset is the end
 pub none_ends : (place end : ℕ) (bytes : List ℕ) → AheadIn place end bytes [] → end ≡ place
-none_ends place end bytes ahead =
-    omega (
-      arith,
-      length-between place end bytes ahead.low ahead.high,
-      ap length ahead.frames_are,
-      ahead.low,
-    )
+none_ends place end bytes ahead = omega (
+  arith,
+  length-between place end bytes ahead.low ahead.high,
+  ap length ahead.frames_are,
+  ahead.low,
+)
 
 split_ahead : (place end : ℕ) (bytes : List ℕ) (part : Portion) (rest : List Portion) → place ≤ end
     → end ≤ length bytes → take (end - place) (drop place bytes) ≡ frame part ++ frames rest
-    → length part.bytes ≤ 99999 → AllShort rest
-    → OneAhead place end bytes (part ∷ rest)
+    → length part.bytes ≤ 99999 → AllShort rest → OneAhead place end bytes (part ∷ rest)
 split_ahead place end bytes part rest low high is short all =
     let n = length part.bytes in
     let size : end - place ≡ 5 + n + length (frames rest) =
@@ -113,57 +110,49 @@ split_ahead place end bytes part rest low high is short all =
 
 pub one_ahead : (place end : ℕ) (bytes : List ℕ) (parts : List Portion) → place < end
     → AheadIn place end bytes parts → OneAhead place end bytes parts
-one_ahead place end bytes [] low ahead =
-    absurd (omega (
-      arith,
-      length-between place end bytes ahead.low ahead.high,
-      ap length
-          ahead.frames_are,
-    ))
-one_ahead place end bytes (part ∷ rest) low ahead =
-    split_ahead place end bytes part rest ahead.low ahead.high ahead.frames_are ahead.short.0
-    ahead.short.1
+one_ahead place end bytes [] low ahead = absurd (omega (
+  arith,
+  length-between place end bytes ahead.low ahead.high,
+  ap length ahead.frames_are,
+))
+one_ahead place end bytes (part ∷ rest) low ahead = split_ahead place end bytes part rest ahead.low
+    ahead.high ahead.frames_are ahead.short.0 ahead.short.1
 
 -- no parts are to come at or after the end
 pub none_ahead : (place end : ℕ) (bytes : List ℕ) (parts : List Portion) → end ≤ place
     → AheadIn place end bytes parts → parts ≡ []
 none_ahead place end bytes [] low ahead = refl
-none_ahead place end bytes (part ∷ rest) low ahead =
-    absurd (omega (
-      arith,
-      length-between place end bytes ahead.low ahead.high,
-      ap length
-          ahead.frames_are,
-      length-append (frame part) (frames rest),
-      length-frame part,
-    ))
+none_ahead place end bytes (part ∷ rest) low ahead = absurd (omega (
+  arith,
+  length-between place end bytes ahead.low ahead.high,
+  ap length ahead.frames_are,
+  length-append (frame part) (frames rest),
+  length-frame part,
+))
 
 -- if a part is to come, the offset is before the end
 pub more_ahead : (place end : ℕ) (bytes : List ℕ) (part : Portion) (rest : List Portion)
     → AheadIn place end bytes (part ∷ rest) → place < end
-more_ahead place end bytes part rest ahead =
-    omega (
-      arith,
-      length-between place end bytes ahead.low ahead.high,
-      ap length ahead.frames_are,
-      length-append (frame part) (frames rest),
-      length-frame part,
-    )
+more_ahead place end bytes part rest ahead = omega (
+  arith,
+  length-between place end bytes ahead.low ahead.high,
+  ap length ahead.frames_are,
+  length-append (frame part) (frames rest),
+  length-frame part,
+)
 
 -- the frame that was read is the next part
 pub given : (walked end size : ℕ) (old new : List ℕ) (span : Span) (content : List ℕ)
     (parts : List Portion) → 256 + walked < end → IsFrameAt (256 + walked) end old span content
     → length content ≡ size → new ≡ old
     → AheadIn (256 + walked) end old parts → (rest : List Portion) × (parts ≡ record {
-      span =
-          span;
+      span = span;
       bytes = content;
     } ∷ rest) × AheadIn (256 + (walked + (5 + size))) end new rest
 given walked end size old new span content parts low found long same ahead =
     let place = 256 + walked in
-    let one = one_ahead place end old parts low ahead in
-    let frame_same = one_frame place end old one.part.span span one.part.bytes content one.frame_is
-    found in
+    let one = one_ahead _ _ _ _ low ahead in
+    let frame_same = one_frame _ _ _ _ _ _ _ one.frame_is found in
     let value : one.part ≡ record { span = span; bytes = content } =
     rw (← frame_same.0, ← frame_same.1) refl in
     let there : place + (5 + length one.part.bytes) ≡ 256 + (walked + (5 + size)) =
@@ -178,7 +167,7 @@ given walked end size old new span content parts low found long same ahead =
 pub nothing_ahead : (place end : ℕ) (bytes : List ℕ) (parts : List Portion) → end ≤ place
     → AheadIn place end bytes parts → (parts ≡ []) × AheadIn place end bytes []
 nothing_ahead place end bytes parts low ahead =
-    let none = none_ahead place end bytes parts low ahead in
+    let none = none_ahead _ _ _ _ low ahead in
     (none, subst (λ (ps : List Portion). AheadIn place end bytes ps) none ahead)
 
 -- at the beginning all parts are to come
@@ -198,12 +187,10 @@ held_ahead weight parts bytes holding = record {
 
 pub lends_none : {D : Type 0} (disk : Ghosts D) (readable : Bool) (walked weight : ℕ) (old new : D)
     (fault : SinkFault) → (fault ≡ Device) ⊎ (fault ≡ Failed)
-    → (fault ≡ Device → Rose (disk.faults old) (disk.faults new))
-    → (disk.is_honest old → fault ≡ Failed
-    → NoFrameAt (256 + walked) (256 + weight) (disk.seen old))
+    → (fault ≡ Device → Rose (disk.faults old) (disk.faults new)) → (disk.is_honest old
+    → fault ≡ Failed → NoFrameAt (256 + walked) (256 + weight) (disk.seen old))
     → LendsNone disk readable walked weight old fault new
 lends_none disk readable walked weight old new fault (inl is) device none =
     subst (λ f. LendsNone disk readable walked weight old f new) (sym is) (device is)
-lends_none disk readable walked weight old new fault (inr is) device none =
-    subst (λ f. LendsNone disk readable walked weight old f new) (sym is)
-    (inr (λ honest. none honest is))
+lends_none disk readable walked weight old new fault (inr is) device none = subst
+    (λ f. LendsNone disk readable walked weight old f new) (sym is) (inr (λ honest. none honest is))

@@ -17,10 +17,9 @@ use Rattle.tape_core.specs.declared.sink.SinkFault.TheVariants as sink
 -- the weight of framed parts is the length of their frames
 pub holding_weighs : (weight : ℕ) (parts : List Portion) (bytes : List ℕ)
     → Holding weight parts bytes → weight ≡ weight_of parts
-holding_weighs weight parts bytes holding =
-    sym (length-take-le weight (drop 256 bytes)
-    (omega (arith, length-drop 256 bytes, holding.long))) ∙ ap length holding.frames_are ∙
-    length-frames parts
+holding_weighs weight parts bytes holding = sym (length-take-le weight (drop 256 bytes)
+    (omega (arith, length-drop 256 bytes, holding.long))) ∙ ap length holding.frames_are
+    ∙ length-frames parts
 
 module _ {D : Type 0} {disk : Ghosts D} where
   -- a stage that has not failed contains its parts
@@ -29,7 +28,7 @@ module _ {D : Type 0} {disk : Ghosts D} where
   stage_holds stage acked parts honest is = record {
     honest = λ none. honest;
     framed = is.holds;
-    weighs = holding_weighs stage.weight parts (disk.seen stage.disk) is.holds;
+    weighs = holding_weighs _ _ _ is.holds;
     ready = λ alive. (acked, is);
   }
 
@@ -44,15 +43,14 @@ module _ {D : Type 0} {disk : Ghosts D} where
       record {
         honest = λ none. honest;
         framed = framed;
-        weighs = holding_weighs weight parts (disk.seen at) framed;
+        weighs = holding_weighs _ _ _ framed;
         ready = λ alive. (
           parts,
           record {
             alive = refl;
             ready = ready;
             holds = framed;
-            behind =
-                omega (arith, told);
+            behind = omega (arith, told);
           },
         );
       }
@@ -108,8 +106,7 @@ module _ {D : Type 0} {disk : Ghosts D} where
             (record {
               staged = is.ready.staged;
               gate = is.ready.gate;
-              alike =
-                  λ c left. is.ready.alike c (no_more c left);
+              alike = λ c left. is.ready.alike c (no_more c left);
             });
         holds = subst (Holding weight parts) (sym same) is.holds;
         behind = is.behind;
@@ -122,14 +119,12 @@ module _ {D : Type 0} {disk : Ghosts D} where
       → AreHeld disk old in_second g point other_open weight failed pending parts
       → AreHeld disk new in_second g point other_open weight failed pending parts
   read_held old new in_second g point other_open weight failed pending parts honest same no_more
-      held =
-      record {
+      held = record {
         honest = λ none. honest;
         framed = subst (Holding weight parts) (sym same) held.framed;
         weighs = held.weighs;
         ready = λ alive. let was = held.ready alive in (
           was.0,
-          read_staged old new in_second g point other_open weight failed was.0 parts
-              same no_more was.1,
+          read_staged _ new _ _ _ _ _ _ _ _ same no_more was.1,
         );
       }

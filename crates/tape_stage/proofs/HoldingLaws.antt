@@ -15,8 +15,7 @@ cut_same n c = record { no_shorter = omega arith; no_longer = omega arith; front
 
 -- nothing is torn
 pub torn_none : (p : ℕ) (d c : List ℕ) → Torn p 0 d c → c ≡ d
-torn_none p d c torn =
-    sym (take-append-drop p c) ∙ ap (λ (l : List ℕ). l ++ drop p c) torn.before
+torn_none p d c torn = sym (take-append-drop p c) ∙ ap (λ (l : List ℕ). l ++ drop p c) torn.before
     ∙ ap (λ (l : List ℕ). take p d ++ l) (subst (λ (k : ℕ). drop k c ≡ drop k d) none torn.after)
     ∙ take-append-drop p d
   where
@@ -26,8 +25,7 @@ torn_none p d c torn =
 pub left_none : (leaves : List ℕ → Type 0) (p : ℕ) (bytes c : List ℕ) → bytes ≡ []
     → LeftTorn leaves p bytes c → leaves c
 left_none leaves p bytes c none left = subst leaves
-    (sym (torn_none p left.0 c
-    (subst (λ (l : List ℕ). Torn p (length l) left.0 c) none left.2))) left.1
+    (sym (torn_none _ _ _ (subst (λ (l : List ℕ). Torn p (length l) left.0 c) none left.2))) left.1
 
 pub none_left : (leaves : List ℕ → Type 0) (p : ℕ) (bytes c : List ℕ) → leaves c
     → LeftTorn leaves p bytes c
@@ -41,17 +39,15 @@ idle_elapses m past leaves s0 s1 b none = record {
   later = omega arith;
   nothing_else = λ t c le was. ⊎_elim (λ before. inl (inl before)) (λ now. inr now) was;
   keeps = λ t c le was. ⊎_elim (λ before. inl before)
-      (λ now. inr (none_left leaves s1 b c (left_none leaves s0 b c none now))) was;
+      (λ now. inr (none_left leaves s1 b c (left_none leaves s0 _ c none now))) was;
 }
 
 -- the buffered bytes are written
 pub passed_elapses : (m0 m1 : ℕ) (past0 past1 : ℕ → List ℕ → Type 0)
-    (leaves0 leaves1 : List ℕ → Type 0) (s0 s1 : ℕ) (b0 b1 : List ℕ)
-    → Allows (Torn s0 (length b0)) leaves0 leaves1
-    → ((t : ℕ) (c : List ℕ) → t ≤ m1 → leaves1 c → past1 t c)
-    → Elapses m0 m1 past0 past1 leaves1
-    → Elapses m0 m1 (LeftSince past0 leaves0 s0 b0) (LeftSince past1 leaves1 s1 b1)
-    (LeftTorn leaves1 s1 b1)
+    (leaves0 leaves1 : List ℕ → Type 0) (s0 s1 : ℕ) (b0 b1 : List ℕ) → Allows (Torn s0 (length b0))
+    leaves0 leaves1 → ((t : ℕ) (c : List ℕ) → t ≤ m1 → leaves1 c → past1 t c)
+    → Elapses m0 m1 past0 past1 leaves1 → Elapses m0 m1 (LeftSince past0 leaves0 s0 b0)
+    (LeftSince past1 leaves1 s1 b1) (LeftTorn leaves1 s1 b1)
 passed_elapses m0 m1 past0 past1 leaves0 leaves1 s0 s1 b0 b1 any counts time = record {
   later = time.later;
   nothing_else = λ t c le was. ⊎_elim
@@ -64,9 +60,8 @@ passed_elapses m0 m1 past0 past1 leaves0 leaves1 s0 s1 b0 b1 any counts time = r
 -- the same bytes remain buffered
 pub failed_elapses : (m0 m1 : ℕ) (past0 past1 : ℕ → List ℕ → Type 0)
     (leaves0 leaves1 : List ℕ → Type 0) (s : ℕ) (b : List ℕ) → NoMore leaves1 leaves0
-    → Elapses m0 m1 past0 past1 leaves1
-    → Elapses m0 m1 (LeftSince past0 leaves0 s b) (LeftSince past1 leaves1 s b)
-    (LeftTorn leaves1 s b)
+    → Elapses m0 m1 past0 past1 leaves1 → Elapses m0 m1 (LeftSince past0 leaves0 s b)
+    (LeftSince past1 leaves1 s b) (LeftTorn leaves1 s b)
 failed_elapses m0 m1 past0 past1 leaves0 leaves1 s b stays time = record {
   later = time.later;
   nothing_else = λ t c le was. ⊎_elim
@@ -78,17 +73,14 @@ failed_elapses m0 m1 past0 past1 leaves0 leaves1 s b stays time = record {
 
 -- the buffer is written, and then a call is made on the disk
 pub then_elapses : (m0 m1 m2 : ℕ) (past0 past1 past2 : ℕ → List ℕ → Type 0)
-    (leaves0 leaves1 leaves2 : List ℕ → Type 0) (s0 s1 : ℕ) (b0 b1 : List ℕ) → b1 ≡ []
-    → NoMore (LeftTorn leaves0 s0 b0) (LeftTorn leaves1 s1 b1)
-    → ((t : ℕ) (c : List ℕ) → t ≤ m1 → leaves1 c → past1 t c)
-    → Elapses m0 m1 (LeftSince past0 leaves0 s0 b0) (LeftSince past1 leaves1 s1 b1)
-    (LeftTorn leaves1 s1 b1)
-    → Elapses m1 m2 past1 past2 leaves2
-    → Elapses m0 m2 (LeftSince past0 leaves0 s0 b0) (LeftSince past2 leaves2 s1 b1)
-    (LeftTorn leaves2 s1 b1)
+    (leaves0 leaves1 leaves2 : List ℕ → Type 0) (s0 s1 : ℕ) (b0 b1 : List ℕ)
+    → b1 ≡ [] → NoMore (LeftTorn leaves0 s0 b0) (LeftTorn leaves1 s1 b1)
+    → ((t : ℕ) (c : List ℕ) → t ≤ m1 → leaves1 c → past1 t c) → Elapses m0 m1
+    (LeftSince past0 leaves0 s0 b0) (LeftSince past1 leaves1 s1 b1) (LeftTorn leaves1 s1 b1)
+    → Elapses m1 m2 past1 past2 leaves2 → Elapses m0 m2 (LeftSince past0 leaves0 s0 b0)
+    (LeftSince past2 leaves2 s1 b1) (LeftTorn leaves2 s1 b1)
 then_elapses m0 m1 m2 past0 past1 past2 leaves0 leaves1 leaves2 s0 s1 b0 b1 none crash counts first
-    second =
-    record {
+    second = record {
       later = omega (arith, first.later, second.later);
       nothing_else = λ t c le was. ⊎_elim
           (λ there. ⊎_elim
@@ -100,7 +92,7 @@ then_elapses m0 m1 m2 past0 past1 past2 leaves0 leaves1 leaves2 s0 s1 b0 b1 none
       keeps = λ t c le was. ⊎_elim
           (λ before. inl (second.keeps t c (omega (arith, le, first.later)) before))
           (λ now. inl (second.keeps t c (omega (arith, le, first.later))
-          (counts t c (omega (arith, le, first.later)) (left_none leaves1 s1 b1 c none now))))
+          (counts t c (omega (arith, le, first.later)) (left_none leaves1 s1 _ c none now))))
           (first.keeps t c le was);
     }
 
@@ -109,26 +101,25 @@ module _ (old mid new : List ℕ → Type 0) (s : ℕ) (b : List ℕ) where
   pub then_follows : (step : List ℕ → List ℕ → Type 0) → b ≡ [] → NoMore old (LeftTorn mid s b)
       → Follows step mid new → Follows step old (LeftTorn new s b)
   then_follows step none crash follows c left =
-      let (d, first, torn) = follows c (left_none new s b c none left) in
+      let (d, first, torn) = follows c (left_none new s _ c none left) in
       (d, crash d (none_left mid s b d first), torn)
 
   pub then_stays : b ≡ [] → NoMore (LeftTorn mid s b) old → NoMore new mid
       → NoMore (LeftTorn new s b) old
   then_stays none stays more c left = none_left new s b c
-      (more c (left_none mid s b c none (stays c left)))
+      (more c (left_none mid s _ c none (stays c left)))
 
   pub then_allows : (step : List ℕ → List ℕ → Type 0) → b ≡ [] → NoMore (LeftTorn mid s b) old
       → Allows step mid new → Allows step old (LeftTorn new s b)
   then_allows step none stays allows d c left torn = none_left new s b c
-      (allows d c (left_none mid s b d none (stays d left)) torn)
+      (allows d c (left_none mid s _ d none (stays d left)) torn)
 
 -- two torn writes, one after the other, are one torn write
-pub torn_one : (p m n : ℕ) (d e c : List ℕ) → Torn p m d e → Torn (p + m) n e c
-    → Torn p (m + n) d c
+pub torn_one : (p m n : ℕ) (d e c : List ℕ) → Torn p m d e → Torn (p + m) n e c → Torn p (m + n) d c
 torn_one p m n d e c first second = record {
   before = alike_less (p + m) p e c (omega arith) second.before ∙ first.before;
-  after = torn_high (p + m) n (p + (m + n)) e c (omega arith) second
-      ∙ torn_high p m (p + (m + n)) d e (omega arith) first;
+  after = torn_high _ _ (p + (m + n)) _ _ (omega arith) second
+      ∙ torn_high _ _ (p + (m + n)) _ _ (omega arith) first;
   no_shorter = omega (arith, first.no_shorter, second.no_shorter);
   no_longer = omega (arith, first.no_longer, second.no_longer);
 }
@@ -141,18 +132,17 @@ more_open leaves p bytes more d c left torn = (
   left.0,
   left.1,
   subst (λ (n : ℕ). Torn p n left.0 c) (sym (length-append bytes more))
-      (torn_one p (length bytes) (length more) left.0 d c left.2 torn),
+      (torn_one _ _ _ _ _ _ left.2 torn),
 )
 
 pub more_stays : (leaves : List ℕ → Type 0) (p : ℕ) (bytes more : List ℕ) (c : List ℕ)
     → LeftTorn leaves p bytes c → LeftTorn leaves p (bytes ++ more) c
-more_stays leaves p bytes more c left = more_open leaves p bytes more c c left
+more_stays leaves p bytes more c left = more_open leaves p bytes more _ _ left
     (torn_same (p + length bytes) (length more) c)
 
 pub more_elapses : (m : ℕ) (past : ℕ → List ℕ → Type 0) (leaves : List ℕ → Type 0) (s : ℕ)
-    (b more : List ℕ)
-    → Elapses m m (LeftSince past leaves s b) (LeftSince past leaves s (b ++ more))
-    (LeftTorn leaves s (b ++ more))
+    (b more : List ℕ) → Elapses m m (LeftSince past leaves s b)
+    (LeftSince past leaves s (b ++ more)) (LeftTorn leaves s (b ++ more))
 more_elapses m past leaves s b more = record {
   later = omega arith;
   nothing_else = λ t c le was. ⊎_elim (λ before. inl (inl before)) (λ now. inr now) was;
@@ -175,8 +165,7 @@ torn_two p m n d c torn = ⊎_elim
         no_longer = omega (arith, short);
       },
       torn_same (p + m) n c,
-    ))
-    (λ (long : p + m ≤ length c).
+    )) (λ (long : p + m ≤ length c).
     let front : length (take (p + m) c) ≡ p + m = length-take-le (p + m) c long in
     let all : length (take (p + m) c ++ drop (p + m) d) ≡ (p + m) + (length d - (p + m)) =
     omega (arith, front, length-append (take (p + m) c) (drop (p + m) d), length-drop (p + m) d) in
@@ -197,13 +186,11 @@ torn_two p m n d c torn = ⊎_elim
       record {
         before = sym low;
         after = subst (λ (k : ℕ). drop k c ≡ drop k d) assoc torn.after
-            ∙ sym (torn_high p m (p + m + n) d (take (p + m) c ++ drop (p + m) d)
-            (omega arith) first);
+            ∙ sym (torn_high _ _ (p + m + n) _ _ (omega arith) first);
         no_shorter = omega (arith, all, torn.no_shorter, long);
         no_longer = omega (arith, all, torn.no_longer);
       },
-    ))
-    (cases_lt (length c) (p + m))
+    )) (cases_lt (length c) (p + m))
 
 -- the buffered bytes with more bytes after them
 pub holds_more : (p : ℕ) (bytes more old : List ℕ) → p ≤ length old
@@ -215,8 +202,7 @@ holds_more p bytes more old le =
     let low : take (p + length bytes) w ≡ take p old ++ bytes =
     take_at (take p old ++ bytes) (drop (p + length bytes) old) (p + length bytes) front in
     let rest : drop (p + length bytes + length more) w ≡ drop (p + length bytes + length more) old =
-    torn_high p (length bytes) (p + length bytes + length more) old w (omega arith)
-    (over p bytes old le) in
+    torn_high _ _ (p + length bytes + length more) _ _ (omega arith) (over p bytes old le) in
     let count : p + length (bytes ++ more) ≡ p + length bytes + length more =
     omega (arith, length-append bytes more) in
     ap (λ (n : ℕ). take p old ++ (bytes ++ more) ++ drop n old) count
@@ -230,7 +216,7 @@ pub left_more : (leaves : List ℕ → Type 0) (p : ℕ) (bytes more : List ℕ)
     → LeftTorn leaves p (bytes ++ more) c
     → (e : List ℕ) × LeftTorn leaves p bytes e × Torn (p + length bytes) (length more) e c
 left_more leaves p bytes more c left =
-    let (e, first, second) = torn_two p (length bytes) (length more) left.0 c
+    let (e, first, second) = torn_two _ (length bytes) (length more) _ _
     (subst (λ (n : ℕ). Torn p n left.0 c) (length-append bytes more) left.2) in
     (e, (left.0, left.1, first), second)
 
@@ -252,14 +238,14 @@ module _ {D : Type 0} (leaves : D → List ℕ → Type 0) (a b : D) (s t place 
       (LeftTorn (leaves b) t y)
   added_follows c left =
       let (e, first, second) = left_more (leaves a) s x more c
-      (same_left leaves b a t s y (x ++ more) c disk start bytes left) in
+      (same_left leaves _ _ _ _ _ _ c disk start bytes left) in
       (e, first, subst (λ (n : ℕ). Torn n (length more) e c) end second)
 
   pub added_allows : Allows (Torn place (length more)) (LeftTorn (leaves a) s x)
       (LeftTorn (leaves b) t y)
   added_allows d c left torn =
-      same_left leaves a b s t (x ++ more) y c (sym disk) (sym start) (sym bytes)
-      (more_open (leaves a) s x more d c left
+      same_left leaves _ _ _ _ _ _ c (sym disk) (sym start) (sym bytes)
+      (more_open (leaves a) s x more _ _ left
       (subst (λ (n : ℕ). Torn n (length more) d c) (sym end) torn))
 
   pub added_stays : NoMore (LeftTorn (leaves b) t y) (LeftTorn (leaves a) s x)
@@ -270,10 +256,9 @@ module _ {D : Type 0} (leaves : D → List ℕ → Type 0) (a b : D) (old : List
     (s t place : ℕ) (x y bytes : List ℕ) (none : x ≡ []) (disk : b ≡ a) (start : t ≡ place)
     (held : y ≡ x ++ bytes) (stays : NoMore (LeftTorn (leaves a) s x) old) where
   pub begun_allows : Allows (Torn place (length bytes)) old (LeftTorn (leaves b) t y)
-  begun_allows d c left torn =
-      same_left leaves a b place t bytes y c (sym disk) (sym start)
+  begun_allows d c left torn = same_left leaves _ _ _ _ _ _ c (sym disk) (sym start)
       (sym (held ∙ ap (λ (l : List ℕ). l ++ bytes) none))
-      (d, left_none (leaves a) s x d none (stays d left), torn)
+      (d, left_none (leaves a) s _ d none (stays d left), torn)
 
   pub begun_stays : NoMore (LeftTorn (leaves b) t y) old
   begun_stays c left = begun_allows c c left (torn_same place (length bytes) c)
@@ -289,11 +274,9 @@ torn_both p n d e c first second = record {
 
 pub same_elapses : {D : Type 0} (moment : D → ℕ) (left_since : D → ℕ → List ℕ → Type 0)
     (may_leave : D → List ℕ → Type 0) (m0 : ℕ) (past0 : ℕ → List ℕ → Type 0) (a b : D) (s t : ℕ)
-    (x y : List ℕ) → b ≡ a → t ≡ s → y ≡ x
-    → Elapses m0 (moment a) past0 (LeftSince (left_since a) (may_leave a) s x)
-    (LeftTorn (may_leave a) s x)
-    → Elapses m0 (moment b) past0 (LeftSince (left_since b) (may_leave b) t y)
-    (LeftTorn (may_leave b) t y)
+    (x y : List ℕ) → b ≡ a → t ≡ s → y ≡ x → Elapses m0 (moment a) past0
+    (LeftSince (left_since a) (may_leave a) s x) (LeftTorn (may_leave a) s x) → Elapses m0
+    (moment b) past0 (LeftSince (left_since b) (may_leave b) t y) (LeftTorn (may_leave b) t y)
 same_elapses moment left_since may_leave m0 past0 a b s t x y disk start bytes time =
     subst (λ (d : _). Elapses m0 (moment d) past0 (LeftSince (left_since d) (may_leave d) t y)
     (LeftTorn (may_leave d) t y)) (sym disk)
@@ -307,12 +290,9 @@ same_elapses moment left_since may_leave m0 past0 a b s t x y disk start bytes t
 part_of_part : (xs held out : List ℕ) (start from rest n : ℕ)
     → take (from + rest) (drop start xs) ≡ held → n ≤ rest
     → out ≡ take n (take rest (drop from held)) → out ≡ take n (drop (start + from) xs)
-part_of_part xs held out start from rest n is fits o =
-    o ∙ take-take n rest (drop from held) fits
-    ∙ ap (λ l. take n (drop from l)) (sym is)
-    ∙ ap (take n) (drop-take from rest (drop start xs))
-    ∙ take-take n rest (drop from (drop start xs)) fits
-    ∙ ap (take n) (drop-drop from start xs)
+part_of_part xs held out start from rest n is fits o = o ∙ take-take n rest (drop from held) fits
+    ∙ ap (λ l. take n (drop from l)) (sym is) ∙ ap (take n) (drop-take from rest (drop start xs))
+    ∙ take-take n rest (drop from (drop start xs)) fits ∙ ap (take n) (drop-drop from start xs)
 
 -- a slice of a slice is a slice from a later offset
 pub slice_of_slice : (xs held out : List ℕ) (start place n : ℕ)
@@ -325,9 +305,8 @@ slice_of_slice xs held out start place n is from inside fits o =
     = omega (arith, from, inside) in
     let there : start + (place - start) ≡ place = omega (arith, from) in
     let many : n ≡ place + n - place = omega arith in
-    part_of_part xs held out start (place - start) (length held - (place - start)) n
-    (ap (λ k. take k (drop start xs)) whole ∙ is) fits o
-    ∙ ap (λ k. take n (drop k xs)) there
+    part_of_part xs _ _ start (place - start) (length held - (place - start)) n
+    (ap (λ k. take k (drop start xs)) whole ∙ is) fits o ∙ ap (λ k. take n (drop k xs)) there
     ∙ ap (λ k. take k (drop place xs)) many
 
 -- two consecutive slices are a slice of both lengths
@@ -338,8 +317,7 @@ pub slices_join : (xs front rest : List ℕ) (place n m size : ℕ) → n + m �
 slices_join xs front rest place n m size all first second =
     let ys : List ℕ = drop place xs in
     let f : front ≡ take n ys = first ∙ ap (λ k. take k ys) (omega arith) in
-    let r : rest ≡ take m (drop n ys) = second
-    ∙ ap (λ k. take k (drop (place + n) xs)) (omega arith)
-    ∙ ap (take m) (sym (drop-drop n place xs)) in
+    let r : rest ≡ take m (drop n ys) = second ∙ ap (λ k. take k (drop (place + n) xs))
+    (omega arith) ∙ ap (take m) (sym (drop-drop n place xs)) in
     ap (λ l. l ++ rest) f ∙ ap (λ l. take n ys ++ l) r ∙ sym (take-add n m ys)
     ∙ ap (λ k. take k ys) (omega (arith, all))

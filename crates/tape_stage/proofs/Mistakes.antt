@@ -25,18 +25,16 @@ version_1_refused κs a s c l spelled =
 -- ---- disks
 
 -- sync_failure_forgotten: the file could not be synced, but later calls succeed
-sync_failure_forgotten : (F : _) (L : _) (r : _) (dr : _) (w : _) (dw : _) (k : _) (dk : _)
-    (o : _) (dp : _) (κs : _) (a : _) (s : _)
-    → sync.Learnt-named F L r dr w dw k dk o dp κs a (Err disk_faults.Device) s
-    → s.0.now.lost ≡ false → ⊥
+sync_failure_forgotten : (F : _) (L : _) (r : _) (dr : _) (w : _) (dw : _) (k : _) (dk : _) (o : _)
+    (dp : _) (κs : _) (a : _) (s : _) → sync.Learnt-named F L r dr w dw k dk o dp κs a
+    (Err disk_faults.Device) s → s.0.now.lost ≡ false → ⊥
 sync_failure_forgotten F L r dr w dw k dk o dp κs a s l is =
     let e : false ≡ true = sym is ∙ l.lost in
     absurd (cc)
 
 -- lost_disk_synced: after a failed sync the file is not synced again, but success is reported
-lost_disk_synced : (F : _) (L : _) (r : _) (dr : _) (w : _) (dw : _) (k : _) (dk : _)
-    (o : _) (dp : _) (κs : _) (a : _) (s : _)
-    → sync.Learnt-named F L r dr w dw k dk o dp κs a (Ok tt) s
+lost_disk_synced : (F : _) (L : _) (r : _) (dr : _) (w : _) (dw : _) (k : _) (dk : _) (o : _)
+    (dp : _) (κs : _) (a : _) (s : _) → sync.Learnt-named F L r dr w dw k dk o dp κs a (Ok tt) s
     → a.0.now.lost ≡ true → ⊥
 lost_disk_synced F L r dr w dw k dk o dp κs a s l is =
     let e : true ≡ false = sym is ∙ l.alive in
@@ -45,19 +43,16 @@ lost_disk_synced F L r dr w dw k dk o dp κs a s l is =
 -- ---- stages
 
 -- older_slot_opened: the slots have the generations 3 and 4, but the older one is opened
-older_slot_opened : (D : _) (L : _) (g : _) (d : _) (κs : _) (a : _) (opened : _) (s : _)
-    (old : _) (young : _) → open_disk.Learnt-named D L g d κs a (Ok opened) s
-    → g.is_honest a.1.0
+older_slot_opened : (D : _) (L : _) (g : _) (d : _) (κs : _) (a : _) (opened : _) (s : _) (old : _)
+    (young : _) → open_disk.Learnt-named D L g d κs a (Ok opened) s → g.is_honest a.1.0
     → slot_at false (g.seen a.1.0) ≡ Some (3, old) → slot_at true (g.seen a.1.0) ≡ Some (4, young)
     → opened.0.generation ≡ 3 → ⊥
 older_slot_opened D L g d κs a opened s old young l honest first second w =
     let e : best (slot_at false (g.seen a.1.0)) (slot_at true (g.seen a.1.0))
-    ≡ Some (opened.0.generation, opened.1)
-    = (l.ok honest).1.slot in
-    let f : best (Some (3, old)) (Some (4, young)) ≡ Some (opened.0.generation, opened.1)
-    = subst (λ v. best v (Some (4, young)) ≡ Some (opened.0.generation, opened.1)) first
-    (subst (λ v. best (slot_at false (g.seen a.1.0)) v ≡ Some (opened.0.generation, opened.1))
-    second e) in
+    ≡ Some (opened.0.generation, opened.1) = (l.ok honest).1.slot in
+    let f : best (Some (3, old)) (Some (4, young)) ≡ Some (opened.0.generation, opened.1) =
+    subst (λ v. best v (Some (4, young)) ≡ Some (opened.0.generation, opened.1)) first (subst
+    (λ v. best (slot_at false (g.seen a.1.0)) v ≡ Some (opened.0.generation, opened.1)) second e) in
     absurd (let n : 4 ≡ 3 = ap (λ v. unwrap_or (option_map (λ b. b.0) v) 0) f ∙ w in omega arith)
 
 -- no_stage_emptied: a file that is not a stage is truncated to length 0
@@ -84,8 +79,7 @@ disk_cut_without_memory : (D : _) (L : _) (g : _) (d : _) (κs : _) (a : _) (ref
     → create.Learnt-named D L g d κs a (Err refused) s → refused.fault ≡ OutOfMemory
     → g.moment a.1.0 ≡ 0 → g.moment refused.disk ≡ 1 → ⊥
 disk_cut_without_memory D L g d κs a refused s l w before later =
-    let n : 1 ≡ 0 =
-    sym later ∙ ap g.moment (l.unwritten (subst IsNotDevice (sym w) tt)) ∙ before in
+    let n : 1 ≡ 0 = sym later ∙ ap g.moment (l.unwritten (subst IsNotDevice (sym w) tt)) ∙ before in
     absurd (omega (arith, n))
 
 -- acknowledged_before_the_last_sync: the gate is open, but a crash may leave it closed

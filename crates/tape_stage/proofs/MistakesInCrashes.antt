@@ -39,14 +39,12 @@ body_read second n point next other parts more c says (inr new) =
 gate_before_sync : (D : _) (L : _) (g : _) (d : _) (κs : _) (a : _) (z : _) (s : _)
     (acked parts front : List Portion) (c : List ℕ) (other : Point)
     → save.Learnt-named D L g d κs a z s → g.is_honest a.0.now.disk → IsStage a.0.now acked parts
-    → IsFront a.1.0.now.staged front parts
-    → g.left_since s.0.now.disk (g.moment a.0.now.disk) c
-    → (g.left_since a.0.now.disk (g.moment a.0.now.disk) c → ⊥)
-    → slot_at (not a.0.now.in_second) c ≡ Some (a.0.now.generation + 5, other) → ⊥
+    → IsFront a.1.0.now.staged front parts → g.left_since s.0.now.disk (g.moment a.0.now.disk) c
+    → (g.left_since a.0.now.disk (g.moment a.0.now.disk) c → ⊥) → slot_at (not a.0.now.in_second) c
+    ≡ Some (a.0.now.generation + 5, other) → ⊥
 gate_before_sync D L g d κs a z s acked parts front c other l honest stage of left before says =
-    body_read a.0.now.in_second a.0.now.generation a.0.now.acknowledged a.1.0.now other acked front
-    c says (since_then before ((l.any_moment honest acked parts front stage of).before
-    (g.moment a.0.now.disk) c (omega arith) left))
+    body_read _ _ _ _ other _ _ _ says (since_then before ((l.any_moment honest acked parts front
+    stage of).before (g.moment a.0.now.disk) c (omega arith) left))
 
 -- closed_gate_closed_again: the second slot is current, and a torn write opens the closed gate of
 -- the first, over a body with a later generation
@@ -60,16 +58,14 @@ closed_gate_closed_again D L g d κs a z s n point other parts c l honest ready 
     before says =
     let staged : StagedIn a.1.0 n point parts c = since_then before
     ((l.any_moment honest n point parts ready).before (g.moment a.0.now) c (omega arith) left) in
-    let e : StagedIn true n point parts c
-    = subst (λ b. StagedIn b n point parts c) second staged in
+    let e : StagedIn true n point parts c = subst (λ b. StagedIn b n point parts c) second staged in
     wins true n other (subst (Loses true n) says e.other)
 
 -- saved_checkpoint_removed_first: a stage that survives every crash saves a checkpoint, and
 -- meanwhile a crash leaves a file that represents nothing
 saved_checkpoint_removed_first : (D : _) (L : _) (g : _) (d : _) (κs : _) (a : _) (z : _) (s : _)
     (parts : List Portion) (c : List ℕ) → keep.Learnt-named D L g d κs a z s → Holds a.0.now parts
-    → Survived a.0.now (g.moment a.0.now.disk)
-    → g.left_since s.0.now.disk (g.moment a.0.now.disk) c
+    → Survived a.0.now (g.moment a.0.now.disk) → g.left_since s.0.now.disk (g.moment a.0.now.disk) c
     → ((n : ℕ) (point : Point) (ps : List Portion) → Staged c n point ps → ⊥) → ⊥
 saved_checkpoint_removed_first D L g d κs a z s parts c l holds survives left none =
     let (n, point, ps, staged) = (l.crash parts holds).survived (g.moment a.0.now.disk)

@@ -25,10 +25,9 @@ module _ {D : Type 0} (g : Ghosts D) (a b : D) (reads : OnlyReads g a b)
   look_untouched = record { read = reads.same honest; crash = reads.any_moment honest }
 
   pub look_keeps : KeepsStaged (g.seen a) (g.seen b)
-  look_keeps = same_keeps (g.seen a) (g.seen b) (reads.same honest)
+  look_keeps = same_keeps _ _ (reads.same honest)
 
-  pub look_passes : (P : List ℕ → Type 0)
-      → Passes g a b (λ x. g.may_leave a x ⊎ P x)
+  pub look_passes : (P : List ℕ → Type 0) → Passes g a b (λ x. g.may_leave a x ⊎ P x)
   look_passes P = weaken g a b (g.may_leave a)
       (λ x. g.may_leave a x ⊎ P x) (λ x left. inl left) (reads.any_moment honest)
 
@@ -55,8 +54,7 @@ module _ {D : Type 0} (g : Ghosts D) (a b c : D) (reads : OnlyReads g a b)
     (honest : g.is_honest a) (found : Found) (is : IsFound found (g.seen a)) (n : ℕ)
     (told : n ≡ found.point.staged) where
   pub cut_stopped : CutShort (256 + n) (g.seen b) (g.seen c) → KeepsStaged (g.seen a) (g.seen c)
-  cut_stopped cut = cut_keeps found (g.seen a) (g.seen c) (256 + n) is
-      (ap (λ (k : ℕ). 256 + k) told)
+  cut_stopped cut = cut_keeps _ _ _ _ is (ap (λ (k : ℕ). 256 + k) told)
       (subst (λ (old : List ℕ). CutShort (256 + n) old (g.seen c)) (reads.same honest) cut)
 
   pub cut_is : g.seen c ≡ take (256 + n) (g.seen b)
@@ -65,10 +63,8 @@ module _ {D : Type 0} (g : Ghosts D) (a b c : D) (reads : OnlyReads g a b)
       ∙ ap (λ (k : ℕ). take (256 + k) (g.seen a)) told
 
   module _ (parts : List Portion) (holding : Holding found.point.staged parts (g.seen a)) where
-    pub cut_passes : Passes g b c
-        (λ x. take (256 + n) x ≡ take (256 + n) (g.seen b))
-        → Passes g a c
-        (λ x. g.may_leave a x ⊎ StandsLike (g.seen a) x)
+    pub cut_passes : Passes g b c (λ x. take (256 + n) x ≡ take (256 + n) (g.seen b))
+        → Passes g a c (λ x. g.may_leave a x ⊎ StandsLike (g.seen a) x)
     cut_passes cut =
         let P : List ℕ → Type 0 = λ x. g.may_leave a x ⊎ StandsLike (g.seen a) x in
         follow g a b c P
@@ -80,8 +76,7 @@ module _ {D : Type 0} (g : Ghosts D) (a b c : D) (reads : OnlyReads g a b)
         (alike ∙ ap (take (256 + n)) (reads.same honest)))) cut)
 
     pub cut_opened : g.seen c ≡ take (256 + n) (g.seen b)
-        → ((x : List ℕ) → g.may_leave c x → x ≡ g.seen c)
-        → IsOpened g found a c
+        → ((x : List ℕ) → g.may_leave c x → x ≡ g.seen c) → IsOpened g found a c
     cut_opened cut only = record {
       parts = parts;
       read = found_read found parts (g.seen a) is holding;

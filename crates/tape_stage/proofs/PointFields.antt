@@ -36,9 +36,8 @@ point_again c = rw (position_again c.position, known_again c.known) refl
 
 -- ---- a checkpoint's fields agree and are in range
 
-place_right : (p : Position) → PositionFits p
-    → (if is_finished p then (sect_of p == 0) && (block_of p == 0) && (part_of p == 0) else nat_le
-    (block_of p) most_blocks) ≡ true
+place_right : (p : Position) → PositionFits p → (if is_finished p then (sect_of p == 0)
+    && (block_of p == 0) && (part_of p == 0) else nat_le (block_of p) most_blocks) ≡ true
 place_right (Awaits sect block part) fits = let small : block ≤ 4294967295 = fits.2 in search rules
 place_right Finished fits = refl
 
@@ -57,12 +56,10 @@ offset_right offset small = search rules
 form_right : (known : Option FileForm) → KnownFits known → form_agrees (form_of known)
     (is_some known) (form_of known).format ≡ true
 form_right None fits = refl
-form_right (Some form) fits =
-    rw (
-      length_right form.format form.rec_len form.offset fits,
-      offset_right form.offset
-          fits.offset_fits,
-    ) refl
+form_right (Some form) fits = rw (
+  length_right _ _ _ fits,
+  offset_right form.offset fits.offset_fits,
+) refl
 
 three : (a b c : Bool) → a ≡ true → b ≡ true → c ≡ true → (a && b && c) ≡ true
 three a b c p q r = rw (p, q, r) refl
@@ -103,17 +100,15 @@ place_back true sect block part e =
 place_back false sect block part e = record {
   sect_is = refl;
   block_is = refl;
-  part_is =
-      refl;
+  part_is = refl;
   done_is = refl;
 }
 
 blank_is : (form : Form) → is_blank form ≡ true → (form.rec_len ≡ 0) × (form.offset ≡ 0)
     × (form.file_id ≡ replicate 17 32)
 blank_is form e =
-    let a =
-    and_parts ((form.rec_len == 0) && (form.offset == 0)) (bytes_eq form.file_id (replicate 17 32))
-    e in
+    let a = and_parts ((form.rec_len == 0) && (form.offset == 0))
+    (bytes_eq form.file_id (replicate 17 32)) e in
     let b = and_parts (form.rec_len == 0) (form.offset == 0) a.0 in
     let len : (form.rec_len == 0) ≡ true = b.0 in
     let off : (form.offset == 0) ≡ true = b.1 in
@@ -133,14 +128,12 @@ form_back form known None is e =
       format = None;
       rec_len = 0;
       offset = 0;
-      file_id =
-          replicate 17 32;
+      file_id = replicate 17 32;
     } in
     let same : record {
       format = form.format;
       rec_len = form.rec_len;
-      offset =
-          form.offset;
+      offset = form.offset;
       file_id = form.file_id;
     } ≡ blank = rw (is, b.0, b.1, b.2) refl in
     (sym same, not_true known a.0)
@@ -151,7 +144,7 @@ pub fields_again : (f : Fields) → is_right f ≡ true → fields_of (point_by 
 fields_again f right =
     let r = are_right f right in
     let p = place_back f.flags.done f.sect f.place.block f.place.part r.place in
-    let k = form_back f.form f.flags.known f.form.format refl r.form in
+    let k = form_back f.form f.flags.known _ refl r.form in
     rw (p.sect_is, p.block_is, p.part_is, p.done_is, k.0, k.1) refl
 
 -- ---- such fields give a checkpoint that has a text
@@ -169,8 +162,7 @@ form_says Counted rec_len offset e small =
       least = omega arith;
       binding = sym none;
       len_fits = omega (arith, none);
-      offset_fits =
-          small;
+      offset_fits = small;
     }
 form_says Spanned rec_len offset e small =
     let none : rec_len ≡ 0 = search rules in
@@ -178,8 +170,7 @@ form_says Spanned rec_len offset e small =
       least = omega arith;
       binding = sym none;
       len_fits = omega (arith, none);
-      offset_fits =
-          small;
+      offset_fits = small;
     }
 
 known_fits : (form : Form) (known : Bool) (format : Option Format) → form.offset < 10 ^ 2
@@ -202,7 +193,5 @@ right_writable v f fit right =
     record {
       right = ranged (point_by f) r.range;
       known = known_fits f.form f.flags.known f.form.format fit.offset r.form;
-      fits =
-          subst (λ (p : Place). FitsVersion v p)
-          (sym (place_same (position_by f) f.flags.done f place)) fit.place;
+      fits = subst (λ (p : Place). FitsVersion v p) (sym (place_same _ _ f place)) fit.place;
     }

@@ -64,14 +64,12 @@ point_read v c text is =
     let ps = pieces v (fields_of c) in
     let stand : StandAt 0 ps text = subst (λ (t : List ℕ). StandAt 0 ps t) (sym is.text)
     (pieces_stand ps (widths v (fields_of c) is.set_id is.file_id)) in
-    text_again text v (fields_of c) (stands_read v (fields_of c) text (point_fits v c is.writable)
-    stand)
+    text_again _ _ _ (stands_read _ _ text (point_fits _ _ is.writable) stand)
 
 pub reads_only : (v : Version) (c : Point) (text : List ℕ) → IsPointText v text c
     → reading text ≡ Ok c
 unfolding reading
-reads_only v c text is = rw (point_read v c text is, point_right v c is.writable, point_again c)
-    refl
+reads_only v c text is = rw (point_read _ _ _ is, point_right _ _ is.writable, point_again c) refl
 
 -- ---- the result of reading is the checkpoint with that text
 
@@ -86,11 +84,11 @@ is_text : (v : Version) (f : Fields) (text : List ℕ) → Reads v f text → is
 is_text v f text r right =
     let same = fields_again f right in
     record {
-      writable = right_writable v f (reads_fit v f text r) right;
+      writable = right_writable _ _ (reads_fit _ _ _ r) right;
       set_id = ap length (sym r.fields.set_id) ∙ length-positions text 6 11 (omega (arith, r.size));
-      file_id = ap (λ (x : Fields). length x.form.file_id) same ∙ id_length v f text r;
+      file_id = ap (λ (x : Fields). length x.form.file_id) same ∙ id_length _ _ _ r;
       text = subst (λ (x : Fields). text ≡ text_of (pieces v x)) (sym same)
-          (stood 0 (pieces v f) text (reads_stand v f text r));
+          (stood 0 (pieces v f) text (reads_stand _ _ _ r));
     }
 
 pub reads_found : (c : Point) (text : List ℕ) → reading text ≡ Ok c → (v : Version)
@@ -102,7 +100,7 @@ reads_found c text e =
     let right = passed (is_right f) faults.Range (point_by f) c r.2 in (
       r.0.0,
       subst (λ (x : Point). IsPointText r.0.0 text x) right.1
-          (is_text r.0.0 f text (text_found text r.0.0 f r.1) right.0),
+          (is_text _ _ _ (text_found text r.0.0 f r.1) right.0),
     )
 
 pub found_of : (r : Result Point PointFault) (text : List ℕ) → r ≡ reading text
@@ -112,4 +110,4 @@ found_of (Err fault) text e = tt
 
 -- a checkpoint's text has 80 characters
 pub text_size : (v : Version) (c : Point) (text : List ℕ) → IsPointText v text c → length text ≡ 80
-text_size v c text is = (text_found text v (fields_of c) (point_read v c text is)).size
+text_size v c text is = (text_found text v (fields_of c) (point_read _ _ _ is)).size

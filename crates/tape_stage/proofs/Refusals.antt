@@ -49,7 +49,7 @@ uncut n old new same = record {
 }
 
 pub same_keeps : (old new : List ℕ) → new ≡ old → KeepsStaged old new
-same_keeps old new same g point parts staged = uncut (256 + point.staged) old new same
+same_keeps old new same g point parts staged = uncut (256 + point.staged) _ _ same
 
 -- a cut after the staged data that were found preserves them
 pub cut_keeps : (found : Found) (old new : List ℕ) (end : ℕ) → IsFound found old
@@ -69,4 +69,4 @@ opened_keeps g point parts old new is cut h next more staged =
     let e : (g, point) ≡ (h, next) = cc in
     let weight : point.staged ≡ next.staged = ap (λ (p : Slot). p.1.staged) e in
     subst (λ (n : ℕ). CutShort n old new) (ap (λ (n : ℕ). 256 + n) weight)
-    (cut_whole (256 + point.staged) old new is.parts_are.long cut)
+    (cut_whole (256 + point.staged) old _ is.parts_are.long cut)

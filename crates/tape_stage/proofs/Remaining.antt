@@ -43,12 +43,10 @@ framed_broken staged place limit records bytes is le high walked count none = (
 )
 
 -- the same under other names
-pub walked_as : (staged n : ℕ) (broken : Option ℕ) (records : ℕ) (old new : List ℕ)
-    → staged ≡ n → old ≡ new → WalkedOver staged broken records old
-    → WalkedOver n broken records new
-walked_as staged n broken records old new weighs same walked =
-    subst (WalkedOver n broken records) same
-    (subst (λ (m : ℕ). WalkedOver m broken records old) weighs walked)
+pub walked_as : (staged n : ℕ) (broken : Option ℕ) (records : ℕ) (old new : List ℕ) → staged ≡ n
+    → old ≡ new → WalkedOver staged broken records old → WalkedOver n broken records new
+walked_as staged n broken records old new weighs same walked = subst (WalkedOver n broken records)
+    same (subst (λ (m : ℕ). WalkedOver m broken records old) weighs walked)
 
 -- nothing is damaged
 pub whole_framed : (staged : ℕ) (broken : Option ℕ) (parts : List Portion) (bytes : List ℕ)
@@ -73,7 +71,7 @@ pub broken_none : (bytes : List ℕ) (g : ℕ) (point : Point) (place : ℕ) (pa
     → Remains bytes g point (Some place) parts → HoldsNone bytes
 broken_none bytes g point place parts remains n next more staged =
     let same = remains_once bytes g n point next (Some place) None parts more remains
-    (staged_remains bytes n next more staged) in
+    (staged_remains _ _ _ _ staged) in
     absurd (some_none place same.2)
 
 -- the offset of the damage is that of a bad frame
@@ -102,10 +100,10 @@ pub whole_staged : (bytes : List ℕ) (g : ℕ) (point : Point) (broken : Option
     → Staged bytes g point parts
 whole_staged bytes g point broken parts none remains = record {
   slot = remains.slot;
-  parts_are = whole_framed point.staged broken parts bytes none remains.framed;
+  parts_are = whole_framed _ _ _ _ none remains.framed;
 }
 
 -- if nothing remains, nothing is staged
 pub none_staged : (bytes : List ℕ) → RemainsNone bytes → HoldsNone bytes
 none_staged bytes none g point parts staged =
-    none g point None parts (staged_remains bytes g point parts staged)
+    none g point None parts (staged_remains _ _ _ _ staged)

@@ -29,34 +29,29 @@ kept_staged second g point parts old new kept loses staged = record {
   is_open = kept.gate ∙ staged.is_open;
   body = ap body_of kept.body ∙ staged.body;
   other = loses;
-  parts_are = kept_holding second point.staged parts old new kept staged.parts_are;
+  parts_are = kept_holding _ _ _ _ _ kept staged.parts_are;
 }
 
 gate_kept : (second : Bool) (old new : List ℕ) → Torn (slot_place (not second)) 1 old new
     → KeptIn second old new
-gate_kept second old new torn = torn_other second (slot_place (not second)) 1 old new (omega arith)
-    (omega arith) torn
+gate_kept second old new torn = torn_other second _ _ _ _ (omega arith) (omega arith) torn
 
 body_kept : (second : Bool) (old new : List ℕ) → Torn (slot_place (not second) + 1) 127 old new
     → KeptIn second old new
-body_kept second old new torn = torn_other second (slot_place (not second) + 1) 127 old new
-    (omega arith) (omega arith) torn
+body_kept second old new torn = torn_other second _ _ _ _ (omega arith) (omega arith) torn
 
 -- 1. the gate of the other slot, which was open, may contain any byte
 pub closing : (second : Bool) (g : ℕ) (point : Point) (parts : List Portion) (old new : List ℕ)
-    → gate_at (not second) old ≡ 79
-    → StagedIn second g point parts old → Torn (slot_place (not second)) 1 old new
-    → StagedIn second g point parts new
+    → gate_at (not second) old ≡ 79 → StagedIn second g point parts old
+    → Torn (slot_place (not second)) 1 old new → StagedIn second g point parts new
 closing second g point parts old new was_open staged torn =
     let body : body_at (not second) new ≡ body_at (not second) old =
-    torn_gate_body (not second) old new torn in
+    torn_gate_body (not second) _ _ torn in
     let before =
-    subst (Loses second g) (open_reads (gate_at (not second) old) (body_at (not second) old)
-    was_open) staged.other in
+    subst (Loses second g) (open_reads _ (body_at (not second) old) was_open) staged.other in
     let loses = subst (λ (b : List ℕ). Loses second g (read_slot (gate_at (not second) new) b))
-    (sym body) (loses_gate second g (gate_at (not second) new) (body_at (not second) old)
-    before) in
-    kept_staged second g point parts old new (gate_kept second old new torn) loses staged
+    (sym body) (loses_gate second g (gate_at (not second) new) (body_at (not second) old) before) in
+    kept_staged _ _ _ _ _ _ (gate_kept second _ _ torn) loses staged
 
 -- 2. the body after a closed gate may contain any bytes
 pub filling : (second : Bool) (g : ℕ) (point : Point) (parts : List Portion) (old new : List ℕ)
@@ -64,11 +59,10 @@ pub filling : (second : Bool) (g : ℕ) (point : Point) (parts : List Portion) (
     → IsClosed second g point parts new
 filling second g point parts old new is torn =
     let gate : gate_at (not second) new ≡ gate_at (not second) old =
-    torn_body_gate (not second) old new torn in
+    torn_body_gate (not second) _ _ torn in
     let closed : gate_at (not second) new ≡ 79 → ⊥ = λ open_now. is.closed (sym gate ∙ open_now) in
     record {
-      staged = kept_staged second g point parts old new (body_kept second old new torn)
-          (subst (Loses second g)
+      staged = kept_staged _ _ _ _ _ _ (body_kept second _ _ torn) (subst (Loses second g)
           (sym (closed_none (gate_at (not second) new) (body_at (not second) new) closed))
           (none_loses second g)) is.staged;
       closed = closed;
@@ -85,17 +79,15 @@ pub opened : (second : Bool) (g : ℕ) (point next : Point) (parts more : List P
     → IsFilled second g point next parts more old → Torn (slot_place (not second)) 1 old new
     → gate_at (not second) new ≡ 79 → StagedIn (not second) (g + 1) next more new
 opened second g point next parts more old new fit is torn open_now =
-    let kept = gate_kept second old new torn in
+    let kept = gate_kept second _ _ torn in
     let now = is.closed.staged in
     let slot : slot_at second new ≡ Some (g, point) =
-    open_reads (gate_at second new) (body_at second new) (kept.gate ∙ now.is_open) ∙ ap body_of
-    kept.body ∙ now.body in
+    open_reads _ (body_at second new) (kept.gate ∙ now.is_open) ∙ ap body_of kept.body ∙ now.body in
     record {
       is_open = open_now;
-      body = ap body_of (torn_gate_body (not second) old new torn ∙ is.body) ∙ body_reads
-          (g + 1) next fit;
+      body = ap body_of (torn_gate_body (not second) _ _ torn ∙ is.body) ∙ body_reads _ _ fit;
       other = next_loses second g point new slot;
-      parts_are = kept_holding second next.staged more old new kept is.holds;
+      parts_are = kept_holding _ _ _ _ _ kept is.holds;
     }
 
 pub opening : (second : Bool) (g : ℕ) (point next : Point) (parts more : List Portion)
@@ -103,10 +95,10 @@ pub opening : (second : Bool) (g : ℕ) (point next : Point) (parts more : List 
     → IsFilled second g point next parts more old → Torn (slot_place (not second)) 1 old new
     → StagedIn second g point parts new ⊎ StagedIn (not second) (g + 1) next more new
 opening second g point next parts more old new fit is torn =
-    let kept = gate_kept second old new torn in
+    let kept = gate_kept second _ _ torn in
     ⊎_elim
     (λ yes. inr (opened second g point next parts more old new fit is torn yes.1))
-    (λ no. inl (kept_staged second g point parts old new kept
+    (λ no. inl (kept_staged _ _ _ _ _ _ kept
     (subst (Loses second g) (sym (closed_none (gate_at (not second) new) (body_at (not second) new)
     no.1)) (none_loses second g)) is.closed.staged))
     (eqb_tells (gate_at (not second) new) 79)
@@ -127,20 +119,18 @@ ready_each second g point parts is_open seen may_leave c ready left =
     let n = 256 + point.staged in
     let same = ready.alike c left in
     let long = alike_long n seen c ready.staged.parts_are.long same in (
-      alike_staged second g point parts n seen c (omega arith) same long ready.staged,
-      gate_alike
-          (not second) n seen c (omega arith) same,
+      alike_staged _ _ _ _ n _ c (omega arith) same long ready.staged,
+      gate_alike (not second) n seen c (omega arith) same,
     )
 
 pub ready_after : (second : Bool) (g : ℕ) (point : Point) (parts : List Portion) (seen : List ℕ)
-    (may_leave : List ℕ → Type 0) (c : List ℕ)
-    → Ready second g point parts true seen may_leave → After (Torn (slot_place (not second)) 1)
-    may_leave c → StagedIn second g point parts c
+    (may_leave : List ℕ → Type 0) (c : List ℕ) → Ready second g point parts true seen may_leave
+    → After (Torn (slot_place (not second)) 1) may_leave c → StagedIn second g point parts c
 ready_after second g point parts seen may_leave c ready (inl left) =
-    (ready_each second g point parts true seen may_leave c ready left).0
+    (ready_each _ _ _ _ _ _ _ c ready left).0
 ready_after second g point parts seen may_leave c ready (inr step) =
-    let was = ready_each second g point parts true seen may_leave step.0 ready step.1 in
-    closing second g point parts step.0 c (was.1 ∙ eq_from_test (gate_at (not second) seen) 79
+    let was = ready_each _ _ _ _ _ _ _ step.0 ready step.1 in
+    closing _ _ _ _ _ _ (was.1 ∙ eq_from_test (gate_at (not second) seen) 79
     ready.gate) was.0 step.2
 
 place_in : (second : Bool) (old : List ℕ) → 256 ≤ length old → slot_place second + 128 ≤ length old
@@ -149,18 +139,16 @@ place_in false old long = omega arith
 
 -- the slots after the gate was closed
 pub closed_done : (second : Bool) (g : ℕ) (point : Point) (parts : List Portion) (old new : List ℕ)
-    (may_leave : List ℕ → Type 0)
-    → Ready second g point parts true old may_leave → Holds old (slot_place (not second))
-    (67 ∷ []) new → IsClosed second g point parts new
+    (may_leave : List ℕ → Type 0) → Ready second g point parts true old may_leave
+    → Holds old (slot_place (not second)) (67 ∷ []) new → IsClosed second g point parts new
 closed_done second g point parts old new may_leave ready holds =
     let long = place_in (not second) old (omega (arith, ready.staged.parts_are.long)) in
     let torn = holds_torn (slot_place (not second)) (67 ∷ []) old new (omega arith) holds in
     let gate : gate_at (not second) new ≡ 67 =
     holds_byte (slot_place (not second)) 67 old new (omega arith) holds in
     record {
-      staged =
-          closing second g point parts old new (eq_from_test (gate_at (not second) old) 79
-          ready.gate) ready.staged torn;
+      staged = closing _ _ _ _ _ _
+          (eq_from_test (gate_at (not second) old) 79 ready.gate) ready.staged torn;
       closed = λ open_now. absurd (omega (arith, gate, open_now));
     }
 
@@ -197,16 +185,15 @@ filled_after second g point parts body seen may_leave c size is only (inr step) 
 
 -- the slots after the gate was opened
 pub opened_done : (second : Bool) (g : ℕ) (point next : Point) (parts more : List Portion)
-    (old new : List ℕ) → FitBody (g + 1) next
-    → IsFilled second g point next parts more old → Holds old (slot_place (not second))
-    (79 ∷ []) new → IsNext second (g + 1) next more new
+    (old new : List ℕ) → FitBody (g + 1) next → IsFilled second g point next parts more old
+    → Holds old (slot_place (not second)) (79 ∷ []) new → IsNext second (g + 1) next more new
 opened_done second g point next parts more old new fit is holds =
     let long = place_in (not second) old (omega (arith, is.holds.long)) in
     let torn = holds_torn (slot_place (not second)) (79 ∷ []) old new (omega arith) holds in
     record {
       staged = opened second g point next parts more old new fit is torn
           (holds_byte (slot_place (not second)) 79 old new (omega arith) holds);
-      gate = (gate_kept second old new torn).gate ∙ is.closed.staged.is_open;
+      gate = (gate_kept second _ _ torn).gate ∙ is.closed.staged.is_open;
     }
 
 -- the contents that a crash may leave while the gate is opened
@@ -218,5 +205,5 @@ pub opened_after : (second : Bool) (g : ℕ) (point next : Point) (parts more : 
 opened_after second g point next parts more seen may_leave c fit is only (inl left) =
     inl (subst (StagedIn second g point parts) (sym (only c left)) is.closed.staged)
 opened_after second g point next parts more seen may_leave c fit is only (inr step) =
-    opening second g point next parts more seen c fit is
+    opening _ _ _ _ _ _ _ _ fit is
     (subst (λ (d : List ℕ). Torn (slot_place (not second)) 1 d c) (only step.0 step.1) step.2)

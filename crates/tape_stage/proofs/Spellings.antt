@@ -17,13 +17,12 @@ first_same v w f g r x y =
 
 pub text_of_one : IsTextOfOne
 text_of_one bytes v w a b first second = (
-  first_same v w (fields_of a) (fields_of b) (text_at bytes) (point_read v a bytes first)
-      (point_read w b bytes second),
-  ok_is a b (sym (reads_only v a bytes first) ∙ reads_only w b bytes second),
+  first_same v w (fields_of a) (fields_of b) _ (point_read _ _ _ first) (point_read _ _ _ second),
+  ok_is a b (sym (reads_only _ _ _ first) ∙ reads_only _ _ _ second),
 )
 
 pub text_once : IsTextOnce
-text_once version a b c first second = (first.text ∙ sym second.text, text_size version c a first)
+text_once version a b c first second = (first.text ∙ sym second.text, text_size _ _ _ first)
 
 pub both_texts : HasBothTexts
 both_texts c right known set_id file_id block part = (
@@ -39,8 +38,7 @@ both_texts c right known set_id file_id block part = (
     writable = record {
       right = right;
       known = known;
-      fits =
-          (omega (arith, block), omega (arith, part));
+      fits = (omega (arith, block), omega (arith, part));
     };
     set_id = set_id;
     file_id = file_id;

@@ -75,7 +75,7 @@ pub flag_found : (text : List ℕ) (position one other : ℕ) (b : Bool) → pos
     ∷ []
 flag_found text position one other b lt e =
     let c = get_or text (position - 1) 0 in
-    rw (← flag_cases c one other (eqb c one) (eqb c other) (faults.Field position) b refl refl e)
+    rw (← flag_cases c one other _ _ (faults.Field position) b refl refl e)
     (character_found text (position - 1) lt)
 
 same : (n : ℕ) → eqb n n ≡ true
@@ -90,13 +90,11 @@ flag_once one other d false apart = rw (apart, same other) refl
 pub flag_again : (text : List ℕ) (position one other : ℕ) (b : Bool) → position - 1 < length text
     → eqb other one ≡ false → take 1 (drop (position - 1) text) ≡ cond b one other ∷ []
     → flag_at text position one other ≡ Ok b
-flag_again text position one other b lt apart e =
-    rw (character_is text (position - 1) (cond b one other) lt e)
-    (flag_once one other (faults.Field position) b apart)
+flag_again text position one other b lt apart e = rw (character_is text
+    (position - 1) (cond b one other) lt e) (flag_once one other (faults.Field position) b apart)
 
-format_cases : (c : ℕ) (p q r s : Bool) (d : PointFault) (f : Option Format) → eqb c 70 ≡ p
-    → eqb c 68 ≡ q → eqb c 83 ≡ r → eqb c 32 ≡ s
-    → cond p (Ok (Some Fixed))
+format_cases : (c : ℕ) (p q r s : Bool) (d : PointFault) (f : Option Format)
+    → eqb c 70 ≡ p → eqb c 68 ≡ q → eqb c 83 ≡ r → eqb c 32 ≡ s → cond p (Ok (Some Fixed))
     (cond q (Ok (Some Counted)) (cond r (Ok (Some Spanned)) (cond s (Ok None) (Err d)))) ≡ done f
     → c ≡ format_letter f
 format_cases c true q r s d f w x y z e = rw (← ok_is (Some Fixed) f e) (eqb-true _ _ w)
@@ -109,7 +107,7 @@ pub format_found : (text : List ℕ) (position : ℕ) (f : Option Format) → po
     → format_at text position ≡ Ok f → take 1 (drop (position - 1) text) ≡ format_letter f ∷ []
 format_found text position f lt e =
     let c = get_or text (position - 1) 0 in
-    rw (← format_cases c (eqb c 70) (eqb c 68) (eqb c 83) (eqb c 32) (faults.Field position) f refl
+    rw (← format_cases c _ _ _ _ (faults.Field position) f refl
     refl refl refl e) (character_found text (position - 1) lt)
 
 pub format_again : (text : List ℕ) (position : ℕ) (f : Option Format) → position - 1 < length text

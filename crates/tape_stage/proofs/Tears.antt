@@ -25,28 +25,28 @@ pub record KeptIn (second : Bool) (old new : List ℕ) : Type 0 where
 pub torn_other : (second : Bool) (p n : ℕ) (old new : List ℕ) → slot_place (not second) ≤ p
     → p + n ≤ slot_place (not second) + 128 → Torn p n old new → KeptIn second old new
 torn_other false p n old new low high torn = record {
-  gate = torn_byte_low p n 0 old new (omega arith) torn;
-  body = torn_low p n 1 127 old new (omega arith) torn;
-  rest = torn_high p n 256 old new (omega arith) torn;
+  gate = torn_byte_low _ _ 0 _ _ (omega arith) torn;
+  body = torn_low _ _ 1 127 _ _ (omega arith) torn;
+  rest = torn_high _ _ 256 _ _ (omega arith) torn;
   long = torn.no_shorter;
 }
 torn_other true p n old new low high torn = record {
-  gate = torn_byte_high p n 128 old new (omega arith) torn;
-  body = ap (take 127) (torn_high p n 129 old new (omega arith) torn);
-  rest = torn_high p n 256 old new (omega arith) torn;
+  gate = torn_byte_high _ _ 128 _ _ (omega arith) torn;
+  body = ap (take 127) (torn_high _ _ 129 _ _ (omega arith) torn);
+  rest = torn_high _ _ 256 _ _ (omega arith) torn;
   long = torn.no_shorter;
 }
 
 -- a write of the gate preserves the body, and a write of the body preserves the gate
 pub torn_gate_body : (second : Bool) (old new : List ℕ) → Torn (slot_place second) 1 old new
     → body_at second new ≡ body_at second old
-torn_gate_body false old new torn = ap (take 127) (torn_high 0 1 1 old new (omega arith) torn)
-torn_gate_body true old new torn = ap (take 127) (torn_high 128 1 129 old new (omega arith) torn)
+torn_gate_body false old new torn = ap (take 127) (torn_high _ _ 1 _ _ (omega arith) torn)
+torn_gate_body true old new torn = ap (take 127) (torn_high _ _ 129 _ _ (omega arith) torn)
 
 pub torn_body_gate : (second : Bool) (old new : List ℕ) → Torn (slot_place second + 1) 127 old new
     → gate_at second new ≡ gate_at second old
-torn_body_gate false old new torn = torn_byte_low 1 127 0 old new (omega arith) torn
-torn_body_gate true old new torn = torn_byte_low 129 127 128 old new (omega arith) torn
+torn_body_gate false old new torn = torn_byte_low _ _ 0 _ _ (omega arith) torn
+torn_body_gate true old new torn = torn_byte_low _ _ 128 _ _ (omega arith) torn
 
 pub kept_holding : (second : Bool) (weight : ℕ) (parts : List Portion) (old new : List ℕ)
     → KeptIn second old new → Holding weight parts old → Holding weight parts new
@@ -96,7 +96,7 @@ alike_staged second g point parts n old new le same long staged = record {
   body = ap body_of (body_alike second n old new (omega arith) same) ∙ staged.body;
   other = subst (Loses second g) (sym (slot_alike (not second) n old new (omega arith) same))
       staged.other;
-  parts_are = alike_holding n point.staged parts old new le same long staged.parts_are;
+  parts_are = alike_holding n _ _ _ new le same long staged.parts_are;
 }
 
 -- a slot whose gate may contain any byte replaces the other at most as if it were open
@@ -125,10 +125,9 @@ none_loses true g = tt
 none_loses false g = tt
 
 -- the named slot is the current one
-pub best_named : (second : Bool) (g : ℕ) (point : Point) (other : Option Slot)
-    → Loses second g other
-    → (if second then best other (Some (g, point)) else best (Some (g, point)) other) ≡ Some
-    (g, point)
+pub best_named : (second : Bool) (g : ℕ) (point : Point) (other : Option Slot) → Loses second g
+    other → (if second then best other (Some (g, point)) else best (Some (g, point)) other)
+    ≡ Some (g, point)
 best_named false g point None loses = refl
 best_named false g point (Some other) loses =
     ap (λ (b : Bool). if b then Some other else Some (g, point)) (le-ltb-false g other.0 loses)
@@ -139,14 +138,12 @@ best_named true g point (Some other) loses =
 pub staged_named : (second : Bool) (g : ℕ) (point : Point) (parts : List Portion) (bytes : List ℕ)
     → StagedIn second g point parts bytes → Staged bytes g point parts
 staged_named false g point parts bytes staged = record {
-  slot = ap (λ (s : Option Slot). best s (slot_at true bytes)) (open_reads (gate_at false bytes)
-      (body_at false bytes) staged.is_open ∙ staged.body) ∙ best_named false g point
-      (slot_at true bytes) staged.other;
+  slot = ap (λ (s : Option Slot). best s (slot_at true bytes)) (open_reads _ (body_at false bytes)
+      staged.is_open ∙ staged.body) ∙ best_named false g point (slot_at true bytes) staged.other;
   parts_are = staged.parts_are;
 }
 staged_named true g point parts bytes staged = record {
-  slot = ap (λ (s : Option Slot). best (slot_at false bytes) s) (open_reads (gate_at true bytes)
-      (body_at true bytes) staged.is_open ∙ staged.body) ∙ best_named true g point
-      (slot_at false bytes) staged.other;
+  slot = ap (λ (s : Option Slot). best (slot_at false bytes) s) (open_reads _ (body_at true bytes)
+      staged.is_open ∙ staged.body) ∙ best_named true g point (slot_at false bytes) staged.other;
   parts_are = staged.parts_are;
 }

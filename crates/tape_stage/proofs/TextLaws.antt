@@ -53,7 +53,7 @@ text_found text v f e =
       size = size;
       mark = (bytes_eq-Decides (take 4 text) (codes "TPCK")).0 a.1;
       digit = character_found text 4 (omega (arith, size)) ∙ ap (λ (n : ℕ). n ∷ [])
-          (version_cases c (eqb c 49) (eqb c 50) b.0 refl refl b.1);
+          (version_cases c _ _ b.0 refl refl b.1);
       fields = fields_found b.0 text d.0 size d.1;
     }
 
@@ -80,29 +80,29 @@ form_stand : (v : Version) (f : Fields) (text : List ℕ) → Reads v f text
     → StandAt (state_position v + 2) (drop 3 (rest_pieces v f)) text
 form_stand One f text r =
     let h = r.fields.form in
-    (h.format, (h.rec_len.spelled, (h.offset.spelled, (h.file_id, staged_stand One f text r))))
+    (h.format, (h.rec_len.spelled, (h.offset.spelled, (h.file_id, staged_stand _ _ _ r))))
 form_stand Two f text r =
     let h = r.fields.form in
-    (h.format, (h.rec_len.spelled, (h.offset.spelled, (h.file_id, staged_stand Two f text r))))
+    (h.format, (h.rec_len.spelled, (h.offset.spelled, (h.file_id, staged_stand _ _ _ r))))
 
 rest_stand : (v : Version) (f : Fields) (text : List ℕ) → Reads v f text
     → StandAt (state_position v - 1) (rest_pieces v f) text
 rest_stand One f text r =
-    let h = r.fields.flags in (h.done, (h.begun, (h.known, form_stand One f text r)))
+    let h = r.fields.flags in (h.done, (h.begun, (h.known, form_stand _ _ _ r)))
 rest_stand Two f text r =
-    let h = r.fields.flags in (h.done, (h.begun, (h.known, form_stand Two f text r)))
+    let h = r.fields.flags in (h.done, (h.begun, (h.known, form_stand _ _ _ r)))
 
 place_stand : (v : Version) (f : Fields) (text : List ℕ) → Reads v f text
     → StandAt 19 (place_pieces v f.place ++ rest_pieces v f) text
-place_stand One f text r = (r.fields.place.0.spelled, rest_stand One f text r)
+place_stand One f text r = (r.fields.place.0.spelled, rest_stand _ _ _ r)
 place_stand Two f text r =
-    (r.fields.place.0.spelled, (r.fields.place.1.spelled, rest_stand Two f text r))
+    (r.fields.place.0.spelled, (r.fields.place.1.spelled, rest_stand _ _ _ r))
 
 pub reads_stand : (v : Version) (f : Fields) (text : List ℕ) → Reads v f text
     → StandAt 0 (pieces v f) text
 reads_stand v f text r =
     let h = r.fields in
-    (r.mark, (r.digit, (h.set_id, (h.file.spelled, (h.sect.spelled, place_stand v f text r)))))
+    (r.mark, (r.digit, (h.set_id, (h.file.spelled, (h.sect.spelled, place_stand _ _ _ r)))))
 
 -- the tail is the rest of the text
 tail_is : (n i : ℕ) (text tail : List ℕ) → length text ≡ n + i → take n (drop i text) ≡ tail
@@ -133,7 +133,7 @@ stands_read One f text fit s =
         };
         staged = record {
           number = record { spelled = r.1.1.1.1.1.1.1.0; fits = fit.staged };
-          tail = tail_is 12 68 text (replicate 12 32) size r.1.1.1.1.1.1.1.1.0;
+          tail = tail_is 12 68 text _ size r.1.1.1.1.1.1.1.1.0;
         };
       };
     }
@@ -160,7 +160,7 @@ stands_read Two f text fit s =
         };
         staged = record {
           number = record { spelled = r.1.1.1.1.1.1.1.0; fits = fit.staged };
-          tail = tail_is 3 77 text (replicate 3 32) size r.1.1.1.1.1.1.1.1.0;
+          tail = tail_is 3 77 text _ size r.1.1.1.1.1.1.1.1.0;
         };
       };
     }
@@ -201,4 +201,4 @@ fit_two One f fit = record {
 fit_two Two f fit = fit
 
 pub text_fits : (text : List ℕ) (v : Version) (f : Fields) → text_at text ≡ Ok (v, f) → Fit Two f
-text_fits text v f e = fit_two v f (reads_fit v f text (text_found text v f e))
+text_fits text v f e = fit_two _ _ (reads_fit _ _ _ (text_found text v f e))

@@ -64,10 +64,9 @@ holds_torn p bytes old new le holds = subst (λ (l : List ℕ). Torn p (length b
 
 pub holds_piece : (p : ℕ) (bytes old new : List ℕ) → p ≤ length old → Holds old p bytes new
     → take (length bytes) (drop p new) ≡ bytes
-holds_piece p bytes old new le holds =
-    ap (λ (l : List ℕ). take (length bytes) (drop p l)) (holds ∙ sym_assoc)
-    ∙ ap (take (length bytes)) (drop_at (take p old) (bytes ++ drop (p + length bytes) old) p
-    (length-take-le p old le))
+holds_piece p bytes old new le holds = ap (λ (l : List ℕ). take (length bytes) (drop p l))
+    (holds ∙ sym_assoc) ∙ ap (take (length bytes))
+    (drop_at (take p old) (bytes ++ drop (p + length bytes) old) p (length-take-le p old le))
     ∙ take_at bytes (drop (p + length bytes) old) (length bytes) refl
   where
     sym_assoc : take p old ++ bytes ++ drop (p + length bytes) old ≡ take p old
@@ -76,7 +75,6 @@ holds_piece p bytes old new le holds =
 
 pub holds_byte : (p b : ℕ) (old new : List ℕ) → p ≤ length old → Holds old p (b ∷ []) new
     → get_or new p 0 ≡ b
-holds_byte p b old new le holds =
-    ap (λ (l : List ℕ). get_or l p 0) (holds ∙ append_assoc (take p old) (b ∷ [])
-    (drop (p + 1) old)) ∙ get_or_at (take p old) b (drop (p + 1) old) 0 p
-    (length-take-le p old le)
+holds_byte p b old new le holds = ap (λ (l : List ℕ). get_or l p 0)
+    (holds ∙ append_assoc (take p old) (b ∷ []) (drop (p + 1) old))
+    ∙ get_or_at (take p old) b (drop (p + 1) old) 0 p (length-take-le p old le)

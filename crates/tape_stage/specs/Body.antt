@@ -32,10 +32,8 @@ with_generation g (Some point) = Some (g, point)
 -- the contents of a body, if its generation consists of digits and its text is that of a
 -- checkpoint; the rest is ignored
 unfoldable pub body_of : List ℕ → Option Slot
-body_of body =
-    if all_ascii_digits (take 15 body)
-    then with_generation (number_of (take 15 body)) (point_in (take 80 (drop 15 body)))
-    else None
+body_of body = if all_ascii_digits (take 15 body) then with_generation (number_of (take 15 body))
+    (point_in (take 80 (drop 15 body))) else None
 
 -- the generation has at most 15 digits, and the checkpoint has a text
 pub record FitBody (g : ℕ) (point : Point) : Type 0 where

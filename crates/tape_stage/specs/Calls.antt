@@ -95,12 +95,10 @@ pub over : (place : ℕ) (bytes old : List ℕ) → place ≤ length old
 over place bytes old le =
     let front : length (take place old) ≡ place = length-take-le place old le in
     let all : length (take place old ++ bytes ++ drop (place + length bytes) old)
-    ≡ place + length bytes + (length old - (place + length bytes)) =
-    omega (
+    ≡ place + length bytes + (length old - (place + length bytes)) = omega (
       arith,
       front,
-      length-append (take place old ++ bytes)
-          (drop (place + length bytes) old),
+      length-append (take place old ++ bytes) (drop (place + length bytes) old),
       length-append (take place old) bytes,
       length-drop (place + length bytes) old,
     ) in
@@ -130,8 +128,7 @@ seen_left : (seen : List ℕ) (left : List ℕ → Type 0) (calls : List Call) �
     → left seen → left_by seen left calls (seen_by seen calls)
 seen_left seen left [] fit now = now
 seen_left seen left (Look ∷ calls) fit now = seen_left seen left calls fit.1 now
-seen_left seen left (Write place bytes ∷ calls) fit now =
-    seen_left (after seen (Write place bytes))
+seen_left seen left (Write place bytes ∷ calls) fit now = seen_left (after seen (Write place bytes))
     (left_after seen left (Write place bytes)) calls fit.1
     (seen, now, over place bytes.items seen fit.0)
 seen_left seen left (Cut len ∷ calls) fit now =
@@ -166,14 +163,13 @@ worst_longer seen worst (Write place bytes) fits le =
       length-drop (place + length bytes.items) seen,
       length-drop (place + length bytes.items) worst,
     )
-worst_longer seen worst (Cut len) fits le =
-    omega (
-      arith,
-      length-append (take len worst) (replicate (length worst - len) 255),
-      length-take-le len seen fits,
-      length-take-le len worst (omega arith),
-      length-replicate {A = ℕ} (length worst - len) 255,
-    )
+worst_longer seen worst (Cut len) fits le = omega (
+  arith,
+  length-append (take len worst) (replicate (length worst - len) 255),
+  length-take-le len seen fits,
+  length-take-le len worst (omega arith),
+  length-replicate {A = ℕ} (length worst - len) 255,
+)
 worst_longer seen worst Sync fits le = omega arith
 
 worst_left : (seen : List ℕ) (left : List ℕ → Type 0) (worst : List ℕ) (calls : List Call)
@@ -184,22 +180,19 @@ worst_left seen left worst (Look ∷ calls) fit now le = worst_left seen left wo
 worst_left seen left worst (Write place bytes ∷ calls) fit now le =
     let open_bytes : length (replicate (length bytes.items) 255) ≡ length bytes.items =
     length-replicate {A = ℕ} (length bytes.items) 255 in
-    let torn = subst (λ (n : ℕ). Torn place n worst
-    (take place worst ++ replicate (length bytes.items) 255 ++ drop
-    (place + n) worst)) open_bytes
+    let torn = subst (λ (n : ℕ). Torn place n worst (take place worst
+    ++ replicate (length bytes.items) 255 ++ drop (place + n) worst)) open_bytes
     (over place (replicate (length bytes.items) 255) worst (omega (arith, fit.0))) in
     worst_left (after seen (Write place bytes)) (left_after seen left (Write place bytes))
     (worst_after seen worst (Write place bytes)) calls fit.1
     (worst, now, torn) (worst_longer seen worst (Write place bytes) fit.0 le)
-worst_left seen left worst (Cut len ∷ calls) fit now le =
-    worst_left (take len seen) (left_after seen left (Cut len))
-    (worst_after seen worst (Cut len)) calls fit.1 (
+worst_left seen left worst (Cut len ∷ calls) fit now le = worst_left (take len seen)
+    (left_after seen left (Cut len)) (worst_after seen worst (Cut len)) calls fit.1 (
       worst,
       now,
       cut_short len worst (replicate (length worst - len) 255) (omega (arith, fit.0))
           (omega (arith, length-replicate {A = ℕ} (length worst - len) 255)),
-    )
-    (worst_longer seen worst (Cut len) fit.0 le)
+    ) (worst_longer seen worst (Cut len) fit.0 le)
 worst_left seen left worst (Sync ∷ calls) fit now le = worst_left seen
     (left_after seen left Sync) seen calls fit.1 refl (omega arith)
 

@@ -177,8 +177,7 @@ pub record CasesOfFiles : Type 0 where
   pub staged_is_there : (bytes : List ℕ) (g : ℕ) (point : Point) (parts : List Portion)
       → Staged bytes g point parts
       → (best (slot_at false bytes) (slot_at true bytes) ≡ Some (g, point))
-      × (256 + point.staged ≤ length bytes)
-      × (take point.staged (drop 256 bytes) ≡ frames parts)
+      × (256 + point.staged ≤ length bytes) × (take point.staged (drop 256 bytes) ≡ frames parts)
   -- and no frames are staged if the bytes represent nothing
   pub none_holds : (bytes : List ℕ) (g : ℕ) (point : Point) (parts : List Portion)
       → HoldsNone bytes → Staged bytes g point parts → ⊥
@@ -188,8 +187,7 @@ pub record CasesOfFiles : Type 0 where
   -- staged data that are kept do not change, but the bytes after them may be removed
   pub staged_stays : (old new : List ℕ) (g : ℕ) (point : Point) (parts : List Portion)
       → KeepsStaged old new → Staged old g point parts
-      → (take (256 + point.staged) new ≡ take (256 + point.staged) old)
-      × (length new ≤ length old)
+      → (take (256 + point.staged) new ≡ take (256 + point.staged) old) × (length new ≤ length old)
   -- frames that are kept are all intact
   pub frames_stay : (old new : List ℕ) → KeepsFrames old new
       → (drop 256 new ≡ drop 256 old) × (length old ≤ length new)
@@ -235,15 +233,13 @@ pub record CasesOfStages {D : Type 0} (g : Ghosts D) : Type 0 where
   -- all parts of a stage have frames, the first of them are acknowledged, and the stage has not
   -- failed
   pub is_stage : (stage : Stage D g) (acked parts : List Portion) → IsStage stage acked parts
-      → (stage.failed ≡ false) × (stage.acknowledged.staged ≤ stage.weight)
-      × Holding stage.weight parts (g.seen stage.disk)
-      × Ready stage.in_second stage.generation stage.acknowledged acked stage.other_open
-      (g.seen stage.disk) (g.may_leave stage.disk)
+      → (stage.failed ≡ false) × (stage.acknowledged.staged ≤ stage.weight) × Holding stage.weight
+      parts (g.seen stage.disk) × Ready stage.in_second stage.generation stage.acknowledged acked
+      stage.other_open (g.seen stage.disk) (g.may_leave stage.disk)
   -- a stage contains the parts that it would read, on a disk that is honest unless a save failed
   pub holds : (stage : Stage D g) (parts : List Portion) → Holds stage parts
       → (stage.pending ≡ None → g.is_honest stage.disk)
-      × Holding stage.weight parts (g.seen stage.disk)
-      × (stage.weight ≡ weight_of parts)
+      × Holding stage.weight parts (g.seen stage.disk) × (stage.weight ≡ weight_of parts)
       × (stage.failed ≡ false → (acked : List Portion) × IsStage stage acked parts)
   pub ahead : (stage : Stage D g) (parts : List Portion) → IsAhead stage parts
       → (stage.pending ≡ None → g.is_honest stage.disk)
@@ -281,9 +277,8 @@ pub record CasesOfStages {D : Type 0} (g : Ghosts D) : Type 0 where
       (there : List Portion) → g.left_since stage.disk t bytes ⊎ g.may_leave stage.disk bytes
       → Staged bytes n back there → Returned stage t back there
   pub what_returned_was_left : (stage : Stage D g) (t : ℕ) (back : Point) (there : List Portion)
-      → Returned stage t back there → (bytes : List ℕ)
-      × (g.left_since stage.disk t bytes ⊎ g.may_leave stage.disk bytes)
-      × ((n : ℕ) × Staged bytes n back there)
+      → Returned stage t back there → (bytes : List ℕ) × (g.left_since stage.disk t bytes
+      ⊎ g.may_leave stage.disk bytes) × ((n : ℕ) × Staged bytes n back there)
   pub something_returned : (stage : Stage D g) (t : ℕ) (bytes : List ℕ) → Survived stage t
       → g.left_since stage.disk t bytes ⊎ g.may_leave stage.disk bytes
       → (back : Point) × (there : List Portion) × Returned stage t back there

@@ -25,9 +25,8 @@ pub record CasesOfLaws : Type 0 where
       → StandsOnce bytes → Staged bytes g point parts → Staged bytes h next more
       → (g ≡ h) × (point ≡ next) × (parts ≡ more)
   pub one_of : (bytes : List ℕ) (g h : ℕ) (point next read : Point)
-      (parts more there : List Portion) → ReadsOneOf bytes → Staged bytes g next more
-      → Staged bytes h read there
-      → ((read ≡ point) × (there ≡ parts)) ⊎ ((read ≡ next) × (there ≡ more))
+      (parts more there : List Portion) → ReadsOneOf bytes → Staged bytes g next more → Staged bytes
+      h read there → ((read ≡ point) × (there ≡ parts)) ⊎ ((read ≡ next) × (there ≡ more))
   pub named : (bytes : List ℕ) (g : ℕ) (point : Point) (parts : List Portion)
       → NamedStands bytes → StagedIn true g point parts bytes → Staged bytes g point parts
   pub either : (bytes : List ℕ) (point next : Point) (parts more : List Portion)
@@ -39,7 +38,6 @@ pub record CasesOfLaws : Type 0 where
       → IsPointText v bytes a → IsPointText w bytes b → (v ≡ w) × (a ≡ b)
   pub one_text : (version : Version) (a b : List ℕ) (c : Point) → IsTextOnce
       → IsPointText version a c → IsPointText version b c → (a ≡ b) × (length a ≡ 80)
-  pub both_texts : (c : Point) → HasBothTexts → IsPoint c → KnownFits c.known
-      → length c.set_id ≡ 6 → length (form_of c.known).file_id ≡ 17
-      → block_of c.position ≤ 999999 → part_of c.position ≡ 0
-      → (one : List ℕ) × (two : List ℕ) × IsPointText One one c × IsPointText Two two c
+  pub both_texts : (c : Point) → HasBothTexts → IsPoint c → KnownFits c.known → length c.set_id ≡ 6
+      → length (form_of c.known).file_id ≡ 17 → block_of c.position ≤ 999999 → part_of c.position
+      ≡ 0 → (one : List ℕ) × (two : List ℕ) × IsPointText One one c × IsPointText Two two c

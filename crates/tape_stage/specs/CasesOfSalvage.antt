@@ -19,8 +19,7 @@ cut_frame = replicate 256 32 ++ 48 ∷ 0 ∷ 0 ∷ 0 ∷ 1 ∷ []
 
 -- a valid frame, followed by a frame with an invalid digit
 abbrev pub frame_and_none : List ℕ
-frame_and_none = replicate 256 32
-    ++ 48 ∷ 0 ∷ 0 ∷ 0 ∷ 1 ∷ 65 ∷ 52 ∷ 0 ∷ 0 ∷ 0 ∷ 1 ∷ 66 ∷ []
+frame_and_none = replicate 256 32 ++ 48 ∷ 0 ∷ 0 ∷ 0 ∷ 1 ∷ 65 ∷ 52 ∷ 0 ∷ 0 ∷ 0 ∷ 1 ∷ 66 ∷ []
 
 pub record CasesOfSalvage : Type 0 where
   -- no part remains of a frame without its last byte, and the frame is not intact
@@ -39,9 +38,8 @@ pub record CasesOfSalvage : Type 0 where
   -- the current slot counts the parts that remain before the damage, and the slot is intact
   pub before_break : (bytes : List ℕ) (n : ℕ) (point : Point) (place : ℕ) (parts : List Portion)
       → Remains bytes n point (Some place) parts
-      → (best (slot_at false bytes) (slot_at true bytes) ≡ Some (n, point))
-      × (256 ≤ place) × (place < 256 + point.staged)
-      × (take (place - 256) (drop 256 bytes) ≡ frames parts)
+      → (best (slot_at false bytes) (slot_at true bytes) ≡ Some (n, point)) × (256 ≤ place)
+      × (place < 256 + point.staged) × (take (place - 256) (drop 256 bytes) ≡ frames parts)
       × NoFrameAt place (min (256 + point.staged) (length bytes)) bytes
   -- if something remains, it is false that nothing remains
   pub none_remains : (bytes : List ℕ) (n : ℕ) (point : Point) (broken : Option ℕ)

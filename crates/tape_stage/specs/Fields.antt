@@ -21,14 +21,12 @@ flags_of p begun known = record { done = is_finished p; begun = begun; known = i
 -- the fields of the file's form, or spaces and zeros if the form is unknown
 abbrev pub form_of : Option FileForm → Form
 form_of None = record { format = None; rec_len = 0; offset = 0; file_id = replicate 17 32 }
-form_of (Some form) =
-    record {
-      format = Some form.format;
-      rec_len = form.rec_len;
-      offset = form.offset;
-      file_id =
-          form.file_id;
-    }
+form_of (Some form) = record {
+  format = Some form.format;
+  rec_len = form.rec_len;
+  offset = form.offset;
+  file_id = form.file_id;
+}
 
 -- the fields of a checkpoint
 abbrev pub fields_of : Point → Fields

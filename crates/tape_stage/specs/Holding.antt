@@ -27,15 +27,14 @@ torn_same place n c = record {
 
 pub held_long : (start : ℕ) (bytes old : List ℕ) (long : ℕ) → long ≡ length old → start ≤ long
     → max long (start + length bytes) ≡ length (with_held start bytes old)
-held_long start bytes old long same le =
-    omega (
-      arith,
-      same,
-      length-append (take start old ++ bytes) (drop (start + length bytes) old),
-      length-append (take start old) bytes,
-      length-drop (start + length bytes) old,
-      length-take-le start old (omega (arith, same, le)),
-    )
+held_long start bytes old long same le = omega (
+  arith,
+  same,
+  length-append (take start old ++ bytes) (drop (start + length bytes) old),
+  length-append (take start old) bytes,
+  length-drop (start + length bytes) old,
+  length-take-le start old (omega (arith, same, le)),
+)
 
 pub held_over : (start : ℕ) (bytes old : List ℕ) (long : ℕ) → long ≡ length old → start ≤ long
     → Torn start (length bytes) old (with_held start bytes old)

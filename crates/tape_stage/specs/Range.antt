@@ -11,9 +11,8 @@ use Rattle.tape_stage.specs.{declared.point.Form.Form, declared.point.Fields.Fie
 -- if the file is complete, the section, block and part are 0; otherwise the block number is
 -- possible in a section
 abbrev pub place_agrees : Fields → Bool
-place_agrees f =
-    if f.flags.done then (f.sect == 0) && (f.place.block == 0) && (f.place.part == 0)
-    else nat_le f.place.block most_blocks
+place_agrees f = if f.flags.done then (f.sect == 0) && (f.place.block == 0)
+    && (f.place.part == 0) else nat_le f.place.block most_blocks
 
 -- the fields of the file's form are empty
 abbrev pub is_blank : Form → Bool

@@ -23,9 +23,8 @@ abbrev pub ◌>>=◌ : {A B : Type 0} → Result A PointFault → (A → Result 
 
 -- the decimal number at the positions `first` to `last`
 abbrev pub number_at : List ℕ → ℕ → ℕ → Result ℕ PointFault
-number_at text first last =
-    if all_ascii_digits (positions text first last)
-    then Ok (number_of (positions text first last)) else Err (faults.Field first)
+number_at text first last = if all_ascii_digits (positions text first last) then Ok
+    (number_of (positions text first last)) else Err (faults.Field first)
 
 -- which of two characters is at the position
 abbrev pub flag_at : List ℕ → ℕ → ℕ → ℕ → Result Bool PointFault
@@ -37,16 +36,13 @@ flag_at text position one other =
 abbrev pub format_at : List ℕ → ℕ → Result (Option Format) PointFault
 format_at text position =
     let c = slice_index text (position - 1)
-    in if c == 70 then Ok (Some Fixed)
-    else (if c == 68 then Ok (Some Counted)
-    else (if c == 83 then Ok (Some Spanned)
-    else (if c == 32 then Ok None else Err (faults.Field position))))
+    in if c == 70 then Ok (Some Fixed) else (if c == 68 then Ok (Some Counted) else (if c
+    == 83 then Ok (Some Spanned) else (if c == 32 then Ok None else Err (faults.Field position))))
 
 -- spaces from the position `first` to the end
 abbrev pub tail_at : List ℕ → ℕ → Result (Unit {0}) PointFault
-tail_at text first =
-    if bytes_eq (drop (first - 1) text) (replicate (81 - first) 32) then Ok tt else Err
-    (faults.Field first)
+tail_at text first = if bytes_eq (drop (first - 1) text)
+    (replicate (81 - first) 32) then Ok tt else Err (faults.Field first)
 
 -- the block and the part, which is 0 in version 1
 unfoldable pub place_at : Version → List ℕ → Result Place PointFault

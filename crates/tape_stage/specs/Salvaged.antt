@@ -39,8 +39,7 @@ RemainsNone bytes = (g : ℕ) (point : Point) (broken : Option ℕ) (parts : Lis
 abbrev pub RemainsOnce : List ℕ → Type 0
 RemainsOnce bytes = (g h : ℕ) (point next : Point) (broken other : Option ℕ)
     (parts more : List Portion) → Remains bytes g point broken parts
-    → Remains bytes h next other more
-    → (g ≡ h) × (point ≡ next) × (broken ≡ other) × (parts ≡ more)
+    → Remains bytes h next other more → (g ≡ h) × (point ≡ next) × (broken ≡ other) × (parts ≡ more)
 
 -- on any disk: a walk found all frames within a limit, or ended at an offset within the limit and
 -- the staged weight

@@ -6,9 +6,8 @@ use Rattle.tape_core.specs.Point.{Point}
 
 -- the bytes represent at most one generation, checkpoint and list of parts
 abbrev pub StandsOnce : List ℕ → Type 0
-StandsOnce bytes = (g h : ℕ) (point next : Point) (parts more : List Portion)
-    → Staged bytes g point parts → Staged bytes h next more → (g ≡ h) × (point ≡ next)
-    × (parts ≡ more)
+StandsOnce bytes = (g h : ℕ) (point next : Point) (parts more : List Portion) → Staged bytes g point
+    parts → Staged bytes h next more → (g ≡ h) × (point ≡ next) × (parts ≡ more)
 
 -- the bytes represent one of two checkpoints and its parts, under some generation
 abbrev pub StandsForOne : Point → List Portion → Point → List Portion → List ℕ → Type 0
@@ -17,9 +16,8 @@ StandsForOne point parts next more bytes = ((g : ℕ) × Staged bytes g point pa
 
 -- reading such bytes gives one of the two checkpoints, with its parts
 abbrev pub ReadsOneOf : List ℕ → Type 0
-ReadsOneOf bytes = (point next : Point) (parts more : List Portion)
-    → StandsForOne point parts next more bytes
-    → (g : ℕ) (read : Point) (there : List Portion) → Staged bytes g read there
+ReadsOneOf bytes = (point next : Point) (parts more : List Portion) → StandsForOne point parts next
+    more bytes → (g : ℕ) (read : Point) (there : List Portion) → Staged bytes g read there
     → ((read ≡ point) × (there ≡ parts)) ⊎ ((read ≡ next) × (there ≡ more))
 
 -- if a named slot of the bytes represents a checkpoint and its parts, so do the bytes

@@ -25,9 +25,8 @@ pub record IsStaged {D : Type 0} (disk : Ghosts D) (at : D) (in_second : Bool) (
 
 abbrev pub IsStage : {D : Type 0} {disk : Ghosts D} → Stage D disk → List Portion → List Portion
     → Type 0
-IsStage {D} {disk} stage acked parts =
-    IsStaged disk stage.disk stage.in_second stage.generation stage.acknowledged
-    stage.other_open stage.weight stage.failed acked parts
+IsStage {D} {disk} stage acked parts = IsStaged disk stage.disk stage.in_second stage.generation
+    stage.acknowledged stage.other_open stage.weight stage.failed acked parts
 
 -- The parts have frames on an honest disk, unless it failed while a checkpoint was being saved; and
 -- the acknowledged parts are ready, unless the stage failed.
@@ -42,9 +41,8 @@ pub record AreHeld {D : Type 0} (disk : Ghosts D) (at : D) (in_second : Bool) (g
 
 -- the stage contains the given parts
 abbrev pub Holds : {D : Type 0} {disk : Ghosts D} → Stage D disk → List Portion → Type 0
-Holds {D} {disk} stage parts =
-    AreHeld disk stage.disk stage.in_second stage.generation stage.acknowledged
-    stage.other_open stage.weight stage.failed stage.pending parts
+Holds {D} {disk} stage parts = AreHeld disk stage.disk stage.in_second stage.generation
+    stage.acknowledged stage.other_open stage.weight stage.failed stage.pending parts
 
 -- the given parts are still to come
 abbrev pub IsAhead : {D : Type 0} {disk : Ghosts D} → Stage D disk → List Portion → Type 0

@@ -41,11 +41,10 @@ tail_width Two = 3
 
 -- the pieces from the state, which are the same in both versions except for the spaces at the end
 abbrev pub rest_pieces : Version → Fields → List Piece
-rest_pieces version f =
-    chars 1 (state_letter f.flags.done ∷ []) ∷ chars 1 (flag_digit f.flags.begun ∷ [])
-    ∷ chars 1 (flag_digit f.flags.known ∷ []) ∷ chars 1 (format_letter f.form.format ∷ [])
-    ∷ number 5 f.form.rec_len ∷ number 2 f.form.offset ∷ chars 17 f.form.file_id
-    ∷ number 15 f.staged ∷ spaces (tail_width version) ∷ []
+rest_pieces version f = chars 1 (state_letter f.flags.done ∷ []) ∷ chars 1
+    (flag_digit f.flags.begun ∷ []) ∷ chars 1 (flag_digit f.flags.known ∷ []) ∷ chars 1
+    (format_letter f.form.format ∷ []) ∷ number 5 f.form.rec_len ∷ number 2 f.form.offset
+    ∷ chars 17 f.form.file_id ∷ number 15 f.staged ∷ spaces (tail_width version) ∷ []
 
 -- the whole text
 abbrev pub pieces : Version → Fields → List Piece

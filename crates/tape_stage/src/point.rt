@@ -2,17 +2,15 @@
 
 pub mod text;
 
-ghost use Rattle.std.specs.Prelude.{◌≡◌, IfOk, Ok, ◌<◌, true, is_some, IfSome};
+ghost use Rattle.std.specs.Prelude.{◌≡◌, IfOk, Ok, ◌<◌, is_some, IfSome};
 ghost use Rattle.tape_set.specs.Position.{sect_of};
-ghost use Rattle.tape_core.specs.Point.{Point};
-ghost use Rattle.tape_core.specs.Known.{PositionFits};
-ghost use Rattle.tape_stage.specs.Reading.{reading};
+ghost use Rattle.tape_core.specs.{Point.Point, Known.PositionFits};
 ghost use Rattle.tape_stage.specs.Text.{IsPointText, Fit, IsWritable, KnownFits};
-ghost use Rattle.tape_stage.specs.declared.point.Version.{Version};
-ghost use Rattle.tape_stage.specs.declared.point.Version.TheVariants.{Two};
 ghost use Rattle.tape_stage.specs.Fields.{fields_of, flags_of, form_of, place_of, known_by};
 ghost use Rattle.tape_stage.specs.Fields.{point_by, position_by};
 ghost use Rattle.tape_stage.specs.Range.{form_agrees, is_blank, is_right, place_agrees};
+ghost use Rattle.tape_stage.specs.{Reading.reading, declared.point.Version.Version};
+ghost use Rattle.tape_stage.specs.declared.point.Version.TheVariants.{Two};
 
 use crate::point::text::{PointFault, fields_text, text_at};
 use tape_core::{Checkpoint, Known};
@@ -156,31 +154,21 @@ fn form_of(known: &Option<Known>) -> Form
     }
 }
 
-/// Returns the number of the section.
-fn sect_of(position: Position) -> u64
+/// Returns the number of the section, and the numbers of the block and the part.
+fn place_of(position: Position) -> (u64, Place)
     requires { PositionFits position }
-    ensures value { result ≡ sect_of position }
-    ensures fits { result < 10000 }
+    ensures sect { result.0 ≡ sect_of position }
+    ensures place { result.1 ≡ place_of position }
+    ensures fits { result.0 < 10000 }
+    ensures block { result.1.block < 10000000000 }
+    ensures part { result.1.part < 100000 }
 {
     match position {
-        Position::Awaits { sect, .. } => u64::from(sect),
-        Position::Finished => 0,
-    }
-}
-
-/// Returns the numbers of the block and the part.
-fn place_of(position: Position) -> Place
-    requires { PositionFits position }
-    ensures value { result ≡ place_of position }
-    ensures block { result.block < 10000000000 }
-    ensures part { result.part < 100000 }
-{
-    match position {
-        Position::Awaits { block, part, .. } => Place {
-            block: u64::from(block),
-            part: u64::from(part),
-        },
-        Position::Finished => Place { block: 0, part: 0 },
+        Position::Awaits { sect, block, part } => {
+            let (block, part) = (u64::from(block), u64::from(part));
+            (u64::from(sect), Place { block, part })
+        }
+        Position::Finished => (0, Place { block: 0, part: 0 }),
     }
 }
 
@@ -190,11 +178,12 @@ pub(crate) fn fields_of(point: &Checkpoint) -> Fields
     ensures fit { Fit Two result }
     ensures writable { IsWritable Two point.now }
 {
+    let (sect, place) = place_of(point.position);
     Fields {
         set_id: point.set_id,
         file: u64::from(point.file),
-        sect: sect_of(point.position),
-        place: place_of(point.position),
+        sect,
+        place,
         flags: flags_of(point.position, point.begun, &point.known),
         form: form_of(&point.known),
         staged: point.staged,
@@ -204,37 +193,28 @@ pub(crate) fn fields_of(point: &Checkpoint) -> Fields
 /// The greatest number of a block.
 const MOST_BLOCKS: u64 = 4_294_967_295;
 
-/// Returns whether the section, the block and the part are possible in the state.
-fn place_agrees(fields: &Fields) -> bool
-    ensures { result ≡ place_agrees fields.now }
+/// Returns the position in the given fields, or `None` if the section, the block and the part are
+/// not possible in the state.
+fn position_by(fields: &Fields) -> Option<Position>
+    requires { Fit Two fields.now }
+    ensures agrees { is_some result ≡ place_agrees fields.now }
+    ensures value { IfSome result (λ position. position ≡ position_by fields.now) }
 {
+    let place = fields.place;
     if fields.flags.done {
-        return fields.sect == 0 && fields.place.block == 0 && fields.place.part == 0;
+        if fields.sect == 0 && place.block == 0 && place.part == 0 {
+            return Some(Position::Finished);
+        }
+        return None;
     }
-    fields.place.block <= MOST_BLOCKS
-}
-
-/// Returns whether the fields of the file's form are empty.
-fn is_blank(form: &Form) -> bool
-    ensures { result ≡ is_blank form.now }
-{
-    form.rec_len == 0 && form.offset == 0 && form.file_id.bytes() == SPACES.as_slice()
-}
-
-/// Returns the position in the given fields.
-fn position_by(fields: &Fields) -> Position
-    requires agrees { place_agrees fields.now ≡ true }
-    requires fits { Fit Two fields.now }
-    ensures { result ≡ position_by fields.now }
-{
-    if fields.flags.done {
-        return Position::Finished;
+    if place.block > MOST_BLOCKS {
+        return None;
     }
-    Position::Awaits {
+    Some(Position::Awaits {
         sect: fields.sect as u16,
-        block: fields.place.block as u32,
-        part: fields.place.part as u32,
-    }
+        block: place.block as u32,
+        part: place.part as u32,
+    })
 }
 
 /// Returns the form in the given fields, or `Some(None)` if no form is given, or `None` if the
@@ -246,7 +226,8 @@ fn known_by(form: &Form, known: bool) -> Option<Option<Known>>
     ensures value { IfSome result (λ told. told ≡ known_by form.now) }
 {
     let Some(format) = form.format else {
-        if known || !is_blank(form) {
+        let is_blank = form.rec_len == 0 && form.offset == 0;
+        if known || !is_blank || form.file_id.bytes() != SPACES.as_slice() {
             return None;
         }
         return Some(None);
@@ -266,13 +247,8 @@ pub(crate) fn checkpoint_of(fields: &Fields) -> Option<Checkpoint>
     ensures right { is_some result ≡ is_right fields.now }
     ensures value { IfSome result (λ c. c ≡ point_by fields.now) }
 {
-    if !place_agrees(fields) {
-        return None;
-    }
-    let Some(known) = known_by(&fields.form, fields.flags.known) else {
-        return None;
-    };
-    let position = position_by(fields);
+    let position = position_by(fields)?;
+    let known = known_by(&fields.form, fields.flags.known)?;
     let begun = fields.flags.begun;
     Checkpoint::from_parts(
         fields.set_id,

@@ -27,10 +27,8 @@ pub mod saving;
 
 ghost use Rattle.std.specs.Prelude.{◌≡◌, ◌+◌, ◌≤◌, false, true, length, None};
 ghost use Rattle.tape_core.specs.Known.{most_staged};
-ghost use Rattle.tape_stage.specs.Faults.{number};
 ghost use Rattle.tape_stage.specs.declared.stage.StageFault.TheVariants.{Device, OutOfMemory};
-ghost use Rattle.tape_stage.specs.Parts.{longest_part};
-ghost use Rattle.tape_stage.specs.Body.{most_generation};
+ghost use Rattle.tape_stage.specs.{Faults.number, Parts.longest_part, Body.most_generation};
 
 use crate::disk::{Disk, DiskFault};
 use std::alloc::AllocError;

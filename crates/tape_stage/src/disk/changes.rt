@@ -1,6 +1,6 @@
 //! The effects of calls on the contents of an in-memory disk.
-ghost use Rattle.std.specs.Prelude.{◌≡◌, ◌≤◌, ◌+◌, ◌-◌, [], ◌∷◌, ◌++◌, length, take, drop};
-ghost use Rattle.std.specs.Prelude.{replicate, true, false, OnOk, OnErr, IfOk};
+ghost use Rattle.std.specs.Prelude.{◌≡◌, ◌≤◌, ◌+◌, ◌-◌, [], ◌++◌, length, take, drop, replicate};
+ghost use Rattle.std.specs.Prelude.{true, false, OnOk, OnErr, IfOk};
 ghost use Rattle.tape_stage.specs.Same.{SameContent, DidCall};
 
 use crate::disk::content::{Call, Content};

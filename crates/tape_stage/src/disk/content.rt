@@ -1,5 +1,4 @@
 //! The contents of an in-memory disk, with a record of its calls.
-ghost use Rattle.std.specs.Prelude.{◌≡◌};
 ghost use Rattle.tape_stage.specs.Calls.{kept_or, IsRight, right_one_way};
 
 use std::alloc::Global;

@@ -1,6 +1,6 @@
 //! A disk over a file.
 
-ghost use Rattle.std.specs.Prelude.{◌≡◌, ◌+◌, ◌≤◌, [], false, length, max, true, IfOk, IfSome, Ok};
+ghost use Rattle.std.specs.Prelude.{◌≡◌, ◌+◌, [], false, length, max, true, IfOk, IfSome, Ok};
 ghost use Rattle.std.specs.Prelude.{OnErr, OnOk, ◌⊎◌, IfErr};
 ghost use Rattle.tape_core.specs.Weight.{Rose};
 

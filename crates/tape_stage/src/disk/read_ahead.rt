@@ -1,6 +1,6 @@
 //! Read-ahead for disks.
-ghost use Rattle.std.specs.Prelude.{◌≡◌, ◌+◌, ◌≤◌, ◌<◌, ◌^◌, length, take, slice_range};
-ghost use Rattle.std.specs.Prelude.{OnOk, OnErr, IfOk, List, ℕ};
+ghost use Rattle.std.specs.Prelude.{◌≡◌, ◌+◌, ◌≤◌, ◌<◌, ◌^◌, length, take, slice_range, OnOk};
+ghost use Rattle.std.specs.Prelude.{OnErr};
 ghost use Rattle.tape_core.specs.Weight.{Rose};
 ghost use Rattle.tape_stage.specs.OnlyReading.{Looks};
 
@@ -147,6 +147,7 @@ impl<D: Disk> ReadAhead<D> {
     }
 }
 
+#[tactic(auto, using(crate::proofs::Caused::caused_on))]
 impl<D: Disk> Disk for ReadAhead<D> {
     ghost is_honest = { λ h. D.is_honest h.disk };
 

@@ -2,14 +2,12 @@
 
 ghost use Rattle.std.specs.Prelude.{◌≡◌, ◌≤◌, length, ◌<◌, ◌+◌, ◌-◌, ◌++◌, if◌then◌else◌};
 ghost use Rattle.arrayvec.specs.ArrayVec.{array_vec_len};
-ghost use Rattle.tape_label.specs.Positions.{positions};
-ghost use Rattle.tape_label.specs.Written.{text_of, HaveWidths};
+ghost use Rattle.tape_label.specs.{Positions.positions, Written.text_of, Written.HaveWidths};
 ghost use Rattle.tape_stage.specs.Reading.{version_by, state_position, fields_at, text_at};
-ghost use Rattle.tape_stage.specs.Reading.{place_at, flags_at, form_at, staged_at};
-ghost use Rattle.tape_stage.specs.Reading.{number_at, flag_at, format_at, tail_at};
-ghost use Rattle.tape_stage.specs.PointFaults.{number};
+ghost use Rattle.tape_stage.specs.Reading.{place_at, flags_at, form_at, number_at, flag_at};
+ghost use Rattle.tape_stage.specs.Reading.{format_at, tail_at};
 ghost use Rattle.tape_stage.specs.Text.{format_letter, Fit, pieces};
-ghost use Rattle.tape_stage.specs.declared.point.Version.TheVariants.{Two};
+ghost use Rattle.tape_stage.specs.{PointFaults.number, declared.point.Version.TheVariants.Two};
 
 use crate::point::{Fields, Flags, Form, Place, Version};
 use arrayvec::ArrayVec;
@@ -146,7 +144,7 @@ fn state_position(version: Version) -> u8
 }
 
 /// Reads all fields after the version.
-#[tactic(auto, unfolding(crate::specs::Reading::fields_at))]
+#[tactic(auto, unfolding(crate::specs::Reading::fields_at, crate::specs::Reading::staged_at))]
 fn fields_at(version: Version, text: &[u8]) -> Result<Fields, PointFault>
     requires { length text.now ≡ 80 }
     ensures { result ≡ fields_at version text.now }
@@ -157,7 +155,9 @@ fn fields_at(version: Version, text: &[u8]) -> Result<Fields, PointFault>
     let state = state_position(version);
     let flags = flags_at(text, state)?;
     let form = form_at(text, state + 3)?;
-    let staged = staged_at(text, state + 28)?;
+    let weight = state + 28;
+    let staged = number_at(text, weight, weight + 14)?;
+    tail_at(text, weight + 15)?;
     Ok(Fields {
         set_id: field_at(text, 6),
         file,
@@ -233,18 +233,6 @@ pub(crate) fn form_at(text: &[u8], first: u8) -> Result<Form, PointFault>
         offset,
         file_id: field_at(text, first + 8),
     })
-}
-
-/// Reads the staged weight, and spaces to the end.
-#[tactic(auto, unfolding(crate::specs::Reading::staged_at))]
-pub(crate) fn staged_at(text: &[u8], first: u8) -> Result<u64, PointFault>
-    requires size { length text.now ≡ 80 }
-    requires first { (54 ≤ first) × (first ≤ 63) }
-    ensures { result ≡ staged_at text.now first }
-{
-    let staged = number_at(text, first, first + 14)?;
-    tail_at(text, first + 15)?;
-    Ok(staged)
 }
 
 /// Appends `piece`, which must fit.

@@ -1,18 +1,16 @@
 //! Opens and creates stages on disks.
 
-ghost use Rattle.std.specs.Prelude.{◌≡◌, ◌+◌, ◌≤◌, ◌∷◌, ◌++◌, [], ℕ, List, length, false};
-ghost use Rattle.std.specs.Prelude.{take, max, IfOk, IfErr, OnOk, OnErr, ◌<◌, ◌^◌, IfSome};
+ghost use Rattle.std.specs.Prelude.{◌≡◌, ◌+◌, ◌≤◌, [], ℕ, List, length, false, take, max, IfOk};
+ghost use Rattle.std.specs.Prelude.{IfErr, OnOk, OnErr, ◌<◌, ◌^◌};
 ghost use Rattle.tape_blocks.specs.Block.{Portion};
 ghost use Rattle.tape_core.specs.Point.{Point};
-ghost use Rattle.tape_core.specs.Known.{most_staged};
 ghost use Rattle.tape_stage.specs.Disk.{Holds as HoldsBytes, Torn, CutShort};
 ghost use Rattle.tape_stage.specs.Moments.{After, EndsSynced, IsDurable, Passes};
 ghost use Rattle.tape_stage.specs.Staged.{Staged, Ready, new_slots};
-ghost use Rattle.tape_stage.specs.Faults.{IsNotDevice};
 ghost use Rattle.tape_stage.specs.Stages.{IsStage, OpensOver, Holds, Survives, Returns};
 ghost use Rattle.tape_stage.specs.Stages.{EndsFinding, RefusesCreating, RefusesOpening};
-ghost use Rattle.tape_stage.specs.Body.{body_text, FitBody, most_generation, body_of};
-ghost use Rattle.tape_stage.specs.Parts.{longest_part};
+ghost use Rattle.tape_stage.specs.Body.{body_text, FitBody};
+ghost use Rattle.tape_stage.specs.{Faults.IsNotDevice, Parts.longest_part};
 
 use crate::disk::{Disk, DiskFault};
 use crate::point::text::{put, whole};

@@ -1,17 +1,13 @@
 //! Finds a stage on a disk.
 
-ghost use Rattle.std.specs.Prelude.{◌≡◌, ◌≤◌, ◌==◌, ◌⊎◌, length, OnOk};
-ghost use Rattle.std.specs.Prelude.{IfOk, IfErr, IfSome, MatchOption, None, Some, false};
-ghost use Rattle.std.specs.Prelude.{true, not};
+ghost use Rattle.std.specs.Prelude.{◌≡◌, ◌≤◌, ◌==◌, length, OnOk, IfOk, IfErr, IfSome, MatchOption};
+ghost use Rattle.std.specs.Prelude.{None, Some, false, true, not};
 ghost use Rattle.tape_core.specs.Known.{most_staged};
-ghost use Rattle.tape_stage.specs.Moments.{IsDurable};
 ghost use Rattle.tape_stage.specs.Staged.{read_slot, slot_at, Loses};
-ghost use Rattle.tape_stage.specs.Found.{IsFound};
 ghost use Rattle.tape_stage.specs.Salvaged.{RemainsNone, WalkedIn, WalkedOver};
-ghost use Rattle.tape_stage.specs.Stages.{EndsFinding};
 ghost use Rattle.tape_stage.specs.Faults.{SaysNone, OnBadFrame};
-ghost use Rattle.tape_stage.specs.OnlyReading.{OnlyReads};
-ghost use Rattle.tape_stage.specs.Body.{most_generation};
+ghost use Rattle.tape_stage.specs.{Moments.IsDurable, Found.IsFound, Stages.EndsFinding};
+ghost use Rattle.tape_stage.specs.{OnlyReading.OnlyReads, Body.most_generation};
 
 use crate::disk::Disk;
 use crate::point::read_point;

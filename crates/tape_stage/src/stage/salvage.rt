@@ -1,11 +1,9 @@
 //! Opening a stage, intact or damaged, for reading only.
 
 ghost use Rattle.std.specs.Prelude.{◌≡◌, ◌≤◌, ℕ, List, length, IfOk, IfErr, IfSome, true};
-ghost use Rattle.tape_blocks.specs.Block.{Portion};
-ghost use Rattle.tape_blocks.specs.Spans.{join};
-ghost use Rattle.tape_stage.specs.OnlyReading.{OnlyReads};
-ghost use Rattle.tape_stage.specs.Salvaged.{Remains, standing};
-ghost use Rattle.tape_stage.specs.Stages.{Holds, RefusesReading};
+ghost use Rattle.tape_blocks.specs.{Block.Portion, Spans.join};
+ghost use Rattle.tape_stage.specs.{OnlyReading.OnlyReads, Salvaged.Remains, Salvaged.standing};
+ghost use Rattle.tape_stage.specs.{Stages.Holds, Stages.RefusesReading};
 
 use crate::disk::Disk;
 use crate::stage::open_disk::{Refused, buffer_of};

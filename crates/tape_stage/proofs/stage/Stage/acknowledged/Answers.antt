@@ -6,6 +6,5 @@ returns-clause-stands g c honest acked parts is bytes left =
     let s = c.args.self.now in
     let seen = g.D.Disk.seen s.disk in
     let may_leave = g.D.Disk.may_leave s.disk in
-    let each = ready_each s.in_second s.generation s.acknowledged acked s.other_open seen may_leave
-    bytes is.ready left in
-    staged_named s.in_second s.generation s.acknowledged acked bytes each.0
+    let each = ready_each _ _ _ _ _ _ _ bytes is.ready left in
+    staged_named _ _ _ _ _ each.0

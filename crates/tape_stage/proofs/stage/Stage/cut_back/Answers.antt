@@ -11,13 +11,11 @@ returns-then-self-staged-clause-ok g c honest =
       acked,
       holds acked parts front is (subst (λ (p : Point). IsFront p.staged front parts)
           (sym c.point.view_is) of),
-    ))
-    (c.cut_parts.ensures.ok honest)
+    )) (c.cut_parts.ensures.ok honest)
 
 pub returns-clause-ok : goal.returns-clause-ok
-returns-clause-ok g c honest =
-    on_ok c.restart.result (λ holds acked parts front is of. (front, holds acked parts front is of))
-    (c.restart.ensures.ok honest)
+returns-clause-ok g c honest = on_ok c.restart.result (λ holds acked parts front is of.
+    (front, holds acked parts front is of)) (c.restart.ensures.ok honest)
 
 -- cutting parts off fails by the disk alone
 not_full : (result : Result (Unit {0}) StageFault) → IfErr result (λ fault. fault ≡ Device)
@@ -29,5 +27,4 @@ not_full (Err fault) h full =
     absurd (cc device)
 
 pub returns-then-self-staged-clause-full : goal.returns-then-self-staged-clause-full
-returns-then-self-staged-clause-full g c full = absurd (not_full c.cut_parts.result
-    c.cut_parts.ensures.device full)
+returns-then-self-staged-clause-full g c full = absurd (not_full _ c.cut_parts.ensures.device full)

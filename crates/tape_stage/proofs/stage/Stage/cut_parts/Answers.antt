@@ -8,8 +8,7 @@ pub returns-in-Ok-clause-ok : goal.returns-in-Ok-clause-ok
 returns-in-Ok-clause-ok g c honest acked parts front is of =
     let s = c.args.self.now in
     let old = g.D.Disk.seen s.disk in
-    let holding = front_holding s.weight c.args.staged parts front old c.requires.there of
-    is.holds in
+    let holding = front_holding _ _ _ _ _ c.requires.there of is.holds in
     let n = 256 + c.args.staged in
     let new = g.D.Disk.seen c.cut.new.self in
     let cut : new ≡ take n old = c.in-Ok.ensures.cut honest in
@@ -21,8 +20,7 @@ returns-in-Ok-clause-ok g c honest acked parts front is of =
       ready = still_ready _ _ _ _ _ n _ _ _ _ (omega (arith, c.requires.behind)) is.ready same
           (omega (arith, long)) (λ x left. let from = c.cut.ensures.crash honest x left in
           (from.0, from.1, from.2.front));
-      holds = alike_holding n c.args.staged front old new (omega arith) same (omega (arith, long))
-          holding;
+      holds = alike_holding n _ _ _ new (omega arith) same (omega (arith, long)) holding;
       behind = c.requires.behind;
     }
 

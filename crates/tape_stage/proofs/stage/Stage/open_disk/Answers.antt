@@ -18,11 +18,10 @@ pub returns-in-Err-clause-refused : goal.returns-in-Err-clause-refused
 returns-in-Err-clause-refused g c =
     let l = c.in-Err.ensures in
     let old = g.D.Disk.seen c.args.disk in
-    read_refuses g.D.Disk _ _ c.look.ensures.reads c.in-Err.fault
+    read_refuses _ _ _ c.look.ensures.reads c.in-Err.fault
     (λ h says. none_staged old (l.none h says))
-    (λ h. no_frame_says old c.in-Err.fault (l.none h) l.no_frame)
-    (λ e. l.ends.not_full (ap Err e)) (λ e. l.ends.not_failed (ap Err e))
-    (λ e. l.ends.cause (ap Err e))
+    (λ h. no_frame_says old c.in-Err.fault (l.none h) l.no_frame) (λ e. l.ends.not_full (ap Err e))
+    (λ e. l.ends.not_failed (ap Err e)) (λ e. l.ends.cause (ap Err e))
 
 -- ---- a frame is damaged
 
@@ -36,25 +35,21 @@ returns-in-Some-clause-refused g c =
     × Remains old found.generation found.point (Some place) parts = λ h.
     let framed = l.framed h in (
       framed.0,
-      found_remains found (Some place) framed.0 old (l.found h)
+      found_remains _ _ _ _ (l.found h)
           (subst (λ (b : Option ℕ). FramedTo found.point.staged b framed.0 old) c.in-Some.is
           framed.1),
     ) in
-    read_refuses g.D.Disk _ _ c.look.ensures.reads (BadFrame place)
-    (λ h says. broken_none old found.generation found.point place (remains h).0 (remains h).1)
-    (λ h. broken_bad old found.generation found.point place (remains h).0 (remains h).1)
-    (λ e. let no : BadFrame place ≡ Full = e in cc)
+    read_refuses _ _ _ c.look.ensures.reads (BadFrame place)
+    (λ h says. broken_none _ _ _ place _ (remains h).1)
+    (λ h. broken_bad _ _ _ place _ (remains h).1) (λ e. let no : BadFrame place ≡ Full = e in cc)
     (λ e. let no : BadFrame place ≡ Failed = e in cc)
     (λ e. absurd (let no : BadFrame place ≡ Device = e in cc))
 
 -- ---- the bytes after the stage are removed
 
 whole : (g : Over) (c : After-cut_kept g) (h : g.D.Disk.is_honest c.args.disk)
-    → Holding c.in-Ok.looked.0.point.staged (c.in-Ok.ensures.framed h).0
-    (g.D.Disk.seen c.args.disk)
-whole g c h = whole_framed c.in-Ok.looked.0.point.staged c.in-Ok.looked.1.broken
-    (c.in-Ok.ensures.framed h).0 (g.D.Disk.seen c.args.disk) c.in_default.is
-    (c.in-Ok.ensures.framed h).1
+    → Holding c.in-Ok.looked.0.point.staged (c.in-Ok.ensures.framed h).0 (g.D.Disk.seen c.args.disk)
+whole g c h = whole_framed _ _ _ _ c.in_default.is (c.in-Ok.ensures.framed h).1
 
 passes : (g : Over) (c : After-cut_kept g) → g.D.Disk.is_honest c.args.disk
     → OpensOver g.D.Disk c.args.disk c.cut_kept.new.disk
@@ -65,8 +60,7 @@ passes g c h =
     (c.cut_kept.ensures.any_moment (l.ends.honest h) (l.durable h))
 
 opened : (g : Over) (c : In-Ok-cut_kept g) (h : g.D.Disk.is_honest c.args.disk)
-    → Holding c.in-Ok.looked.0.point.staged (c.in-Ok.ensures.framed h).0
-    (g.D.Disk.seen c.args.disk)
+    → Holding c.in-Ok.looked.0.point.staged (c.in-Ok.ensures.framed h).0 (g.D.Disk.seen c.args.disk)
     → IsOpened g.D.Disk c.in-Ok.looked.0 c.args.disk c.cut_kept.new.disk
 opened g c h holding =
     let l = c.in-Ok.ensures in
@@ -91,9 +85,8 @@ returns-in_default-cut_kept-clause-refused g c =
       kept = λ h. cut_stopped g.D.Disk _ _ _ c.look.ensures.reads h found (l.found h) _
           c.staged.ensures.value (c.in_default-cut_kept.ensures.partly (l.ends.honest h));
       untouched = λ h calm. absurd calm;
-      foreign = λ h none.
-          absurd (none found.generation found.point (l.framed h).0 (found_read found
-          (l.framed h).0 (g.D.Disk.seen c.args.disk) (l.found h) (whole g at h)));
+      foreign = λ h none. absurd (none found.generation found.point (l.framed h).0
+          (found_read _ _ _ (l.found h) (whole g at h)));
       same_length = λ calm. absurd calm;
     }
 
@@ -125,11 +118,9 @@ returns-clause-resumes g c h =
       found.generation,
       is.parts,
       is.read,
-      opened_holds disk found.in_second found.generation found.point found.other_open
-          c.staged-2.result is.parts c.staged-2.ensures.value
+      opened_holds disk _ _ _ _ _ _ c.staged-2.ensures.value
           (c.in-Ok-cut_kept.ensures.synced.honest (c.in-Ok.ensures.ends.honest h)) is.ready,
-      ready_returns (g.D.Disk.seen disk) (g.D.Disk.may_leave disk) found.in_second
-          found.generation found.point found.other_open is.parts is.ready,
+      ready_returns _ _ _ _ _ _ _ is.ready,
     )
 
 pub returns-clause-survives : goal.returns-clause-survives
@@ -137,5 +128,4 @@ returns-clause-survives g c h =
     let found = c.in-Ok.looked.0 in
     let at = goal.at.returns-clause-survives g c in
     let is = opened g at.In-Ok-cut_kept h (whole g at.After-cut_kept h) in
-    ready_survives (g.D.Disk.seen c.cut_kept.new.disk) (g.D.Disk.may_leave c.cut_kept.new.disk)
-    found.in_second found.generation found.point found.other_open is.parts is.ready
+    ready_survives _ _ _ _ _ _ _ is.ready

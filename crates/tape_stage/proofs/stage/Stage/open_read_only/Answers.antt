@@ -24,17 +24,16 @@ returns-clause-remains g c h =
     let new = g.D.Disk.seen c.look.new.disk in
     let weight : c.standing.result ≡ standing found.point.staged walked.broken =
     c.standing.ensures ∙ ap (λ (n : ℕ). standing n walked.broken) c.staged.ensures.value in
-    let holds : Holding c.standing.result framed.0 new =
-    subst (λ (w : ℕ). Holding w framed.0 new) (sym weight)
-    (subst (Holding (standing found.point.staged walked.broken) framed.0)
+    let holds : Holding c.standing.result framed.0 new = subst (λ (w : ℕ). Holding w framed.0 new)
+    (sym weight) (subst (Holding (standing found.point.staged walked.broken) framed.0)
     (sym (c.look.ensures.reads.same h)) framed.1.holds) in (
       found.generation,
       framed.0,
-      found_remains found walked.broken framed.0 (g.D.Disk.seen c.args.disk) (l.found h) framed.1,
+      found_remains _ _ _ _ (l.found h) framed.1,
       record {
         honest = λ none. l.ends.honest h;
         framed = holds;
-        weighs = holding_weighs c.standing.result framed.0 new holds;
+        weighs = holding_weighs _ _ _ holds;
         ready = λ alive. absurd (let no : true ≡ false = alive in cc);
       },
       framed.2,

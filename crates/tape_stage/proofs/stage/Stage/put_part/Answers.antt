@@ -17,20 +17,18 @@ returns-in-Ok-clause-ok g c honest acked parts is =
       ready = still_ready _ _ _ _ _ (256 + s.weight) _ _ _ _ (omega (arith, is.behind)) is.ready
           put.front (omega (arith, put.long))
           (λ x left. (c.write_frame.ensures.any_moment honest).now x left);
-      holds = put_holding _ _ parts (view c.args.part) _ _ refl c.requires is.holds put;
+      holds = put_holding _ _ _ _ _ _ refl c.requires is.holds put;
       behind = omega (arith, is.behind);
     }
 
 pub returns-in-Ok-clause-any_moment : goal.returns-in-Ok-clause-any_moment
 returns-in-Ok-clause-any_moment g c honest acked parts is =
     let s = c.args.self.now in
-    weaken g.D.Disk _ _ _ _
-    (λ x of. front_staged _ _ _ _ _ (256 + s.weight) _ _ x (omega (arith, is.behind)) is.ready of)
-    (c.write_frame.ensures.any_moment honest)
+    weaken g.D.Disk _ _ _ _ (λ x of. front_staged _ _ _ _ _ (256 + s.weight) _ _ x
+    (omega (arith, is.behind)) is.ready of) (c.write_frame.ensures.any_moment honest)
 
 pub returns-in-Err-clause-any_moment : goal.returns-in-Err-clause-any_moment
 returns-in-Err-clause-any_moment g c honest acked parts is =
     let s = c.args.self.now in
-    weaken g.D.Disk _ _ _ _
-    (λ x of. front_staged _ _ _ _ _ (256 + s.weight) _ _ x (omega (arith, is.behind)) is.ready of)
-    (c.write_frame.ensures.any_moment honest)
+    weaken g.D.Disk _ _ _ _ (λ x of. front_staged _ _ _ _ _ (256 + s.weight) _ _ x
+    (omega (arith, is.behind)) is.ready of) (c.write_frame.ensures.any_moment honest)

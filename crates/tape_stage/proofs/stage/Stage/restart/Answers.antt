@@ -7,11 +7,9 @@ use Rattle.tape_stage.proofs.{Passing.weaken, Passing.follow, Results.on_ok}
 use Rattle.tape_stage.proofs.stage.Stage.restart.Goals as goal
 
 pub returns-in-Ok-clause-ok : goal.returns-in-Ok-clause-ok
-returns-in-Ok-clause-ok g c honest =
-    on_ok c.cut_parts.result
-    (λ cut acked parts front is of.
-    cut front parts front (c.in-Ok.ensures.ok honest acked parts front is of)
-    (subst (λ (p : Point). IsFront p.staged front parts) (sym c.point.view_is) of))
+returns-in-Ok-clause-ok g c honest = on_ok c.cut_parts.result
+    (λ cut acked parts front is of. cut front parts front (c.in-Ok.ensures.ok honest acked parts
+    front is of) (subst (λ (p : Point). IsFront p.staged front parts) (sym c.point.view_is) of))
     (c.cut_parts.ensures.ok (c.in-Ok.ensures.ends.honest honest))
 
 pub returns-in-Ok-clause-any_moment : goal.returns-in-Ok-clause-any_moment
@@ -26,9 +24,8 @@ returns-in-Ok-clause-any_moment g c honest acked parts front is of =
 
 -- a cut that failed after the checkpoint was acknowledged
 cut_refused : {A D : Type 0} {disk : Ghosts D} (r : Result A StageFault)
-    (old mid new : Stage D disk)
-    → old.failed ≡ false → mid.weight ≡ old.weight → IfErr r (λ fault. fault ≡ Device)
-    → IfErr r (HasRefused mid new) → IfErr r (HasRefused old new)
+    (old mid new : Stage D disk) → old.failed ≡ false → mid.weight ≡ old.weight → IfErr r
+    (λ fault. fault ≡ Device) → IfErr r (HasRefused mid new) → IfErr r (HasRefused old new)
 cut_refused (Ok done) old mid new alive same is refused = tt
 cut_refused (Err fault) old mid new alive same is refused =
     let was = rw is at refused in rw is (alive, was.1, was.2 ∙ same)

@@ -16,7 +16,7 @@ pub returns-in-Ok-clause-ok : goal.returns-in-Ok-clause-ok
 returns-in-Ok-clause-ok g c honest acked parts front is of =
     let s = c.args.self.now in
     let next = c.in-Ok.ensures.done honest s.generation s.acknowledged acked front refl is.ready
-    (front_holding s.weight _ parts front _ c.requires of is.holds) in
+    (front_holding _ _ _ _ _ c.requires of is.holds) in
     record {
       alive = is.alive;
       ready = record {
@@ -33,10 +33,10 @@ pub returns-in-Ok-clause-any_moment : goal.returns-in-Ok-clause-any_moment
 returns-in-Ok-clause-any_moment g c honest acked parts front is of =
     let s = c.args.self.now in
     c.replace_slot.ensures.any_moment honest s.generation s.acknowledged acked front refl is.ready
-    (front_holding s.weight _ parts front _ c.requires of is.holds)
+    (front_holding _ _ _ _ _ c.requires of is.holds)
 
 pub returns-in-Err-clause-any_moment : goal.returns-in-Err-clause-any_moment
 returns-in-Err-clause-any_moment g c honest acked parts front is of =
     let s = c.args.self.now in
     c.replace_slot.ensures.any_moment honest s.generation s.acknowledged acked front refl is.ready
-    (front_holding s.weight _ parts front _ c.requires of is.holds)
+    (front_holding _ _ _ _ _ c.requires of is.holds)

@@ -65,10 +65,10 @@ loop-place-preserved g c =
           (i.honest.onward h)))) (rw c.in-Some.is at c.in_ok-span.ensures.short) w.0 in
           let count : c.if-not-leaves.records ≡ length (join (w.0.parts ++ part ∷ [])).records =
           elim c.if-not-leaves.branch [
-            | then-not-leaves b ↦ b.records-is ∙ counted_ends w.0.parts part
-                c.loop-place.records (sym c.leaves.ensures ∙ b.if-not-leaves.true) w.1
-            | else-not-leaves b ↦ b.records-is ∙ counted_goes_on w.0.parts part
-                c.loop-place.records (sym c.leaves.ensures ∙ b.if-not-leaves.false) w.1
+            | then-not-leaves b ↦ b.records-is
+                ∙ counted_ends w.0.parts part _ (sym c.leaves.ensures ∙ b.if-not-leaves.true) w.1
+            | else-not-leaves b ↦ b.records-is ∙ counted_goes_on w.0.parts part _
+                (sym c.leaves.ensures ∙ b.if-not-leaves.false) w.1
           ] in
           (more.0, count ∙ ap (λ (ps : List Portion). length (join ps).records) (sym more.1));
     }
@@ -76,15 +76,14 @@ loop-place-preserved g c =
 pub returns-in_default-clause-framed : goal.returns-in_default-clause-framed
 returns-in_default-clause-framed g c h =
     let i = c.loop-place.invariant in
-    framed_broken c.args.staged c.loop-place.place c.min-limit.result c.loop-place.records _
-    (limit_at g (goal.at.returns-in_default-clause-framed g c).After-min-limit h) i.high
-    (omega arith) (i.walked h).0 (i.walked h).1
-    (subst (NoFrameAt c.loop-place.place c.min-limit.result) (i.seen h)
-    (c.in_ok-span.ensures.none (i.honest.onward h) c.in_default.is))
+    framed_broken c.args.staged c.loop-place.place _ _ _ (limit_at g
+    (goal.at.returns-in_default-clause-framed g c).After-min-limit h) i.high (omega arith)
+    (i.walked h).0 (i.walked h).1 (subst (NoFrameAt c.loop-place.place c.min-limit.result)
+    (i.seen h) (c.in_ok-span.ensures.none (i.honest.onward h) c.in_default.is))
 
 pub returns-clause-framed : goal.returns-clause-framed
 returns-clause-framed g c h =
     let i = c.loop-place.invariant in
     let limit = limit_at g (goal.at.returns-clause-framed g c).After-min-limit h in
-    framed_whole c.args.staged c.loop-place.place c.loop-place.records _
+    framed_whole c.args.staged _ _ _
     (omega (arith, i.high, limit)) (omega (arith, i.high, limit)) (i.walked h).0 (i.walked h).1

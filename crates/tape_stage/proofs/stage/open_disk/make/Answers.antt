@@ -6,13 +6,11 @@ use Rattle.tape_stage.specs.Staged.{new_slots}
 use Rattle.tape_stage.proofs.stage.open_disk.make.Goals as goal
 
 slots_size : (point : Point) → FitBody 1 point → length (new_slots point) ≡ 256
-slots_size point fit =
-    omega (
-      arith,
-      length-append (body_text 1 point) (67 ∷ blank),
-      length-body 1 point
-          fit,
-    )
+slots_size point fit = omega (
+  arith,
+  length-append (body_text 1 point) (67 ∷ blank),
+  length-body _ _ fit,
+)
 
 pub returns-clause-made : goal.returns-clause-made
 returns-clause-made g c honest =
@@ -22,20 +20,18 @@ returns-clause-made g c honest =
     let h1 = c.in_ok-write_kept.ensures.synced.honest honest in
     let empty : length s0 ≡ 0 =
     omega (arith, g.met.D.Disk.long_as_seen c.args.disk.now honest, c.requires.empty) in
-    let first : Holds s0 0 (new_slots c.args.point) s1 =
-    subst (λ (b : List ℕ). Holds s0 0 b s1) c.new_slots.ensures.text
-    (c.in_ok-write_kept.ensures.written honest) in
-    made_ready c.args.point s0 s1 s2 (g.D.Disk.may_leave c.write_kept-2.new.disk) c.requires.none
+    let first : Holds s0 0 (new_slots c.args.point) s1 = subst (λ (b : List ℕ). Holds s0 0 b s1)
+    c.new_slots.ensures.text (c.in_ok-write_kept.ensures.written honest) in
+    made_ready _ s0 s1 s2 (g.D.Disk.may_leave c.write_kept-2.new.disk) c.requires.none
     c.new_slots.ensures.fit empty first
     (c.in_ok-write_kept-2.ensures.written h1) (c.in_ok-write_kept-2.ensures.synced.durable h1)
 
 pub returns-clause-long : goal.returns-clause-long
-returns-clause-long g c =
-    omega (
-      arith,
-      ap length c.new_slots.ensures.text,
-      slots_size c.args.point c.new_slots.ensures.fit,
-      c.requires.empty,
-      c.in_ok-write_kept.ensures.long,
-      c.in_ok-write_kept-2.ensures.long,
-    )
+returns-clause-long g c = omega (
+  arith,
+  ap length c.new_slots.ensures.text,
+  slots_size _ c.new_slots.ensures.fit,
+  c.requires.empty,
+  c.in_ok-write_kept.ensures.long,
+  c.in_ok-write_kept-2.ensures.long,
+)

@@ -9,9 +9,8 @@ returns-clause-torn g c honest =
     let mid = g.D.Disk.seen c.write_at.new.self in
     let bytes = c.args.bytes.now in
     subst (λ (l : List ℕ). Torn c.args.place (length bytes) old l)
-    (sym (c.sync.ensures.same (c.write_at.ensures.honest.onward honest)))
-    (holds_torn c.args.place bytes old mid
-    (omega (arith, g.met.D.Disk.long_as_seen c.args.disk.now honest, c.requires))
+    (sym (c.sync.ensures.same (c.write_at.ensures.honest.onward honest))) (holds_torn c.args.place
+    bytes old mid (omega (arith, g.met.D.Disk.long_as_seen c.args.disk.now honest, c.requires))
     (c.in_ok-write_at.ensures.written honest))
 
 pub returns-clause-synced : goal.returns-clause-synced

@@ -13,8 +13,7 @@ read_at g c honest =
     ∙ ap (take 256) (c.len.ensures.same honest1 ∙ c.sync.ensures.same honest))
 
 pub returns-clause-found : goal.returns-clause-found
-returns-clause-found g c honest =
-    found_alike c.in-Some.found _ _
+returns-clause-found g c honest = found_alike _ _ _
     (sym (read_at g (goal.at.returns-clause-found g c).In_ok-read honest)) c.in-Some.ensures.found
 
 pub returns-in_default-clause-none : goal.returns-in_default-clause-none

@@ -16,11 +16,13 @@ returns-clause-written g c honest =
     let is : head ≡ indicator c.args.part.span ∷ to_be_bytes w32 (length c.args.part.bytes.now) =
     c.copy_from_slice.ensures.after ∙ c.header.ensures in
     let same : bytes ≡ c.args.part.bytes.now = c.copy_from_slice-2.ensures.after in
-    on_ok c.write_at.result
-    (λ holds. one_write c.args.place (view c.args.part) _ _ _
-    (take-put_mid 5 _ (head ++ rest) bytes _ (omega (arith, ap length same))
-    (omega (arith, ap length is, length-append head rest))
-    ∙ ap (λ l. l ++ bytes) (take_at head rest 5 (ap length is))
+    on_ok c.write_at.result (λ holds. one_write c.args.place (view c.args.part) _ _ _
+    (take-put_mid 5 _ (head ++ rest) bytes _ (omega (arith, ap length same)) (omega (
+      arith,
+      ap
+          length is,
+      length-append head rest,
+    )) ∙ ap (λ l. l ++ bytes) (take_at head rest 5 (ap length is))
     ∙ ap (λ l. head ++ l) same ∙ ap (λ l. l ++ c.args.part.bytes.now) is)
     (omega (arith, g.met.D.Disk.long_as_seen c.args.disk.now honest, c.requires.there)) holds)
     (c.write_at.ensures.written honest)
@@ -39,7 +41,6 @@ torn_either (Err e) place bytes old new le written partly = partly
 
 pub returns-clause-kept : goal.returns-clause-kept
 returns-clause-kept g c honest =
-    torn_keeps c.args.place _ c.args.place _ _ (omega arith)
-    (torn_either c.write_at.result c.args.place _ _ _
+    torn_keeps _ _ c.args.place _ _ (omega arith) (torn_either c.write_at.result c.args.place _ _ _
     (omega (arith, g.met.D.Disk.long_as_seen c.args.disk.now honest, c.requires.there))
     (c.write_at.ensures.written honest) (c.write_at.ensures.partly honest))

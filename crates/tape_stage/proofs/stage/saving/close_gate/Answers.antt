@@ -6,11 +6,9 @@ use Rattle.tape_stage.proofs.Keeps.{frames_same}
 use Rattle.tape_stage.proofs.stage.saving.close_gate.Goals as goal
 
 pub returns-then-is_open-clause-closed : goal.returns-then-is_open-clause-closed
-returns-then-is_open-clause-closed g c honest =
-    on_ok c.write_kept.result
+returns-then-is_open-clause-closed g c honest = on_ok c.write_kept.result
     (λ holds g' point parts ready. closed_done _ _ _ _ _ _ _ (rw c.if-is_open.true at ready)
-    (rw c.gate_place.ensures at holds))
-    (c.write_kept.ensures.written honest)
+    (rw c.gate_place.ensures at holds)) (c.write_kept.ensures.written honest)
 
 pub returns-then-is_open-clause-frames : goal.returns-then-is_open-clause-frames
 returns-then-is_open-clause-frames g c honest =
@@ -24,7 +22,7 @@ returns-then-is_open-clause-any_moment g c honest g' point parts ready =
     let old = g.D.Disk.seen c.args.disk.now in
     let left = g.D.Disk.may_leave c.args.disk.now in
     weaken g.D.Disk _ _ _ _
-    (λ x after. ready_after c.args.in_second g' point parts old left x
+    (λ x after. ready_after _ _ _ _ _ _ x
     (subst (λ (b : Bool). Ready c.args.in_second g' point parts b old left) c.if-is_open.true ready)
     (subst (λ (p : ℕ). After (Torn p 1) left x) c.gate_place.ensures after))
     (c.write_kept.ensures.any_moment honest)

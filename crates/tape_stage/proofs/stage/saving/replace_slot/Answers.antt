@@ -23,17 +23,14 @@ frames g c honest = frames_then _ _ _ (c.close_gate.ensures.frames honest)
     (c.write_kept.ensures.torn (c.in_ok-close_gate.ensures.synced.honest honest))))
 
 -- a crash until then leaves the current generation
-filling : (g : Over) (c : After-write_kept g) → g.D.Disk.is_honest c.args.disk.now
-    → (n : ℕ) (point : Point) (parts : List Portion)
-    → Ready c.args.in_second n point parts c.args.is_open (g.D.Disk.seen c.args.disk.now)
-    (g.D.Disk.may_leave c.args.disk.now)
-    → Passes g.D.Disk c.args.disk.now c.write_kept.new.disk
-    (StagedIn c.args.in_second n point parts)
+filling : (g : Over) (c : After-write_kept g) → g.D.Disk.is_honest c.args.disk.now → (n : ℕ)
+    (point : Point) (parts : List Portion) → Ready c.args.in_second n point parts c.args.is_open
+    (g.D.Disk.seen c.args.disk.now) (g.D.Disk.may_leave c.args.disk.now) → Passes g.D.Disk
+    c.args.disk.now c.write_kept.new.disk (StagedIn c.args.in_second n point parts)
 filling g c honest n point parts ready =
     let first = c.in_ok-close_gate.ensures in
     follow g.D.Disk _ _ _ _ (c.close_gate.ensures.any_moment honest n point parts ready)
-    (weaken g.D.Disk _ _ _ _
-    (λ x after. filled_after c.args.in_second n point parts c.body_bytes-body.result _ _ x
+    (weaken g.D.Disk _ _ _ _ (λ x after. filled_after _ _ _ _ c.body_bytes-body.result _ _ x
     (size g c) (first.closed honest n point parts ready) (first.synced.durable honest)
     (rw c.gate_place.ensures at after))
     (c.write_kept.ensures.any_moment (first.synced.honest honest)))
@@ -41,12 +38,11 @@ filling g c honest n point parts ready =
 -- the slot was filled
 filled : (g : Over) (c : In_ok-write_kept g) → g.D.Disk.is_honest c.args.disk.now
     → KeepsFrames (g.D.Disk.seen c.args.disk.now) (g.D.Disk.seen c.write_kept.new.disk)
-    → (n : ℕ) (point : Point) (parts more : List Portion) → n + 1 ≡ c.args.generation
-    → Ready c.args.in_second n point parts c.args.is_open (g.D.Disk.seen c.args.disk.now)
-    (g.D.Disk.may_leave c.args.disk.now)
+    → (n : ℕ) (point : Point) (parts more : List Portion)
+    → n + 1 ≡ c.args.generation → Ready c.args.in_second n point parts c.args.is_open
+    (g.D.Disk.seen c.args.disk.now) (g.D.Disk.may_leave c.args.disk.now)
     → Holding c.args.next.staged more (g.D.Disk.seen c.args.disk.now)
-    → IsFilled c.args.in_second n point c.args.next parts more
-    (g.D.Disk.seen c.write_kept.new.disk)
+    → IsFilled c.args.in_second n point c.args.next parts more (g.D.Disk.seen c.write_kept.new.disk)
 filled g c honest kept n point parts more next_is ready holding =
     let first = c.in_ok-close_gate.ensures in
     let honest1 = first.synced.honest honest in
@@ -82,32 +78,26 @@ returns-in_err-write_kept-clause-frames g c honest =
 pub returns-clause-done : goal.returns-clause-done
 returns-clause-done g c honest =
     let at = goal.at.returns-clause-done g c in
-    on_ok c.write_kept-2.result
-    (λ holds n point parts more next_is ready holding.
+    on_ok c.write_kept-2.result (λ holds n point parts more next_is ready holding.
     rw next_is at (opened_done _ _ _ _ _ _ _ _ (rw (← next_is) at c.body_bytes-body.ensures.fit)
-    (filled g at.In_ok-write_kept honest (frames g at.After-write_kept honest) n point parts more
-    next_is ready holding)
-    (rw c.gate_place-2.ensures at holds)))
-    (c.write_kept-2.ensures.written (c.in_ok-write_kept.ensures.synced.honest
-    (c.in_ok-close_gate.ensures.synced.honest honest)))
+    (filled g at.In_ok-write_kept honest (frames g at.After-write_kept honest) _ _ _ _ next_is ready
+    holding) (rw c.gate_place-2.ensures at holds))) (c.write_kept-2.ensures.written
+    (c.in_ok-write_kept.ensures.synced.honest (c.in_ok-close_gate.ensures.synced.honest honest)))
 
 pub returns-clause-any_moment : goal.returns-clause-any_moment
 returns-clause-any_moment g c honest n point parts more next_is ready holding =
     let at = goal.at.returns-clause-any_moment g c in
     let honest1 = c.in_ok-close_gate.ensures.synced.honest honest in
-    follow g.D.Disk _ _ _ _
-    (weaken g.D.Disk _ _ _ _ (λ x old. inl old)
-    (filling g at.After-write_kept honest n point parts ready))
-    (weaken g.D.Disk _ _ _ _
+    follow g.D.Disk _ _ _ _ (weaken g.D.Disk _ _ _ _ (λ x old. inl old)
+    (filling g at.After-write_kept honest n point parts ready)) (weaken g.D.Disk _ _ _ _
     (λ x after. opened_after _ _ _ _ _ _ _ _ x (rw (← next_is) at c.body_bytes-body.ensures.fit)
-    (filled g at.In_ok-write_kept honest (frames g at.After-write_kept honest) n point parts more
+    (filled g at.In_ok-write_kept honest (frames g at.After-write_kept honest) _ _ _ _
     next_is ready holding)
     (c.in_ok-write_kept.ensures.synced.durable honest1) (rw c.gate_place-2.ensures at after))
     (c.write_kept-2.ensures.any_moment (c.in_ok-write_kept.ensures.synced.honest honest1)))
 
 pub returns-clause-frames : goal.returns-clause-frames
 returns-clause-frames g c honest =
-    frames_then _ _ _
-    (frames g (goal.at.returns-clause-frames g c).After-write_kept honest)
+    frames_then _ _ _ (frames g (goal.at.returns-clause-frames g c).After-write_kept honest)
     (torn_gate_frames _ _ _ (rw c.gate_place-2.ensures at (c.write_kept-2.ensures.torn
     (c.in_ok-write_kept.ensures.synced.honest (c.in_ok-close_gate.ensures.synced.honest honest)))))

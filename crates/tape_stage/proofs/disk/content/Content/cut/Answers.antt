@@ -17,8 +17,7 @@ invariant_of-self-2 c =
     (c.deref-3.ensures.value ∙ o) ∙ ap (λ (l : List ℕ). l ++ replicate
     (length k.worst.items - c.args.len) 255) w in
     record {
-      right = right_more k.changed k.first.items k.worst.items c.extend_from_slice.new.self.items
-          k.bytes.items c.in_ok-next.next.items k.calls.items c.push.new.self.items (Cut c.args.len)
+      right = right_more _ k.first.items k.worst.items _ _ _ _ _ (Cut c.args.len)
           c.in_ok-keep_first.ensures.ok k.right
           (omega (arith, ap length c.keep_first.ensures.same.bytes)) c.in_ok-push.ensures.items
           (search rules) worst;

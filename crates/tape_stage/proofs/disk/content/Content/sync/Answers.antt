@@ -7,7 +7,6 @@ pub invariant_of-self-2 : goal.invariant_of-self-2
 invariant_of-self-2 c =
     let k = c.keep_first.new.self in
     record {
-      right = right_more k.changed k.first.items k.worst.items c.in_ok-worst.worst.items
-          k.bytes.items k.bytes.items k.calls.items c.push.new.self.items Sync
+      right = right_more _ k.first.items k.worst.items _ _ _ _ _ Sync
           c.in_ok-keep_first.ensures.ok k.right tt c.in_ok-push.ensures.items refl (search rules);
     }

@@ -10,26 +10,23 @@ chosen changed is worst bytes same = ap (λ (b : Bool). kept_or b worst bytes) s
 pub returns-then-content-clause-possible : goal.returns-then-content-clause-possible
 returns-then-content-clause-possible c =
     let d = c.args.self.content in
-    subst (λ (b : List ℕ). memory_leaves c.args.self b)
-    (chosen d.changed true d.worst.items d.bytes.items c.if-content.true ∙ sym
-    c.from_bytes.ensures.bytes) (worst_left_now d)
+    subst (λ (b : List ℕ). memory_leaves c.args.self b) (chosen _ _ d.worst.items d.bytes.items
+    c.if-content.true ∙ sym c.from_bytes.ensures.bytes) (worst_left_now d)
 
 pub returns-else-content-clause-possible : goal.returns-else-content-clause-possible
 returns-else-content-clause-possible c =
     let d = c.args.self.content in
-    subst (λ (b : List ℕ). memory_leaves c.args.self b)
-    (chosen d.changed false d.worst.items d.bytes.items c.if-content.false ∙ sym
-    c.from_bytes-else-content.ensures.bytes) (worst_left_now d)
+    subst (λ (b : List ℕ). memory_leaves c.args.self b) (chosen _ _ d.worst.items d.bytes.items
+    c.if-content.false ∙ sym c.from_bytes-else-content.ensures.bytes) (worst_left_now d)
 
 pub returns-then-content-clause-worst : goal.returns-then-content-clause-worst
 returns-then-content-clause-worst c =
     let d = c.args.self.content in
-    c.from_bytes.ensures.bytes ∙ sym (chosen d.changed true d.worst.items d.bytes.items
+    c.from_bytes.ensures.bytes ∙ sym (chosen _ _ d.worst.items d.bytes.items
     c.if-content.true) ∙ sym d.right.worst_is
 
 pub returns-else-content-clause-worst : goal.returns-else-content-clause-worst
 returns-else-content-clause-worst c =
     let d = c.args.self.content in
     c.from_bytes-else-content.ensures.bytes
-    ∙ sym (chosen d.changed false d.worst.items d.bytes.items
-    c.if-content.false) ∙ sym d.right.worst_is
+    ∙ sym (chosen _ _ d.worst.items d.bytes.items c.if-content.false) ∙ sym d.right.worst_is

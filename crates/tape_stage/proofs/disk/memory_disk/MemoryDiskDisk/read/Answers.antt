@@ -3,7 +3,7 @@ use Rattle.tape_stage.proofs.Did.{did_elapses, did_left}
 use Rattle.tape_stage.proofs.disk.memory_disk.MemoryDiskDisk.read.Goals as goal
 
 pub returns-in-Ok-clause-crash : goal.returns-in-Ok-clause-crash
-returns-in-Ok-clause-crash c _ = did_left _ _ _ Look c.count.ensures.content c.in-Ok.ensures.ok
+returns-in-Ok-clause-crash c _ = did_left _ _ _ _ c.count.ensures.content c.in-Ok.ensures.ok
 
 pub returns-in-Ok-clause-time : goal.returns-in-Ok-clause-time
-returns-in-Ok-clause-time c _ = did_elapses _ _ _ Look c.count.ensures.content c.in-Ok.ensures.ok
+returns-in-Ok-clause-time c _ = did_elapses _ _ _ _ c.count.ensures.content c.in-Ok.ensures.ok

@@ -3,11 +3,10 @@ use Rattle.tape_stage.proofs.Did.{did_elapses, did_left, synced_same}
 use Rattle.tape_stage.proofs.disk.memory_disk.MemoryDiskDisk.sync.Goals as goal
 
 pub returns-in-Ok-clause-crash : goal.returns-in-Ok-clause-crash
-returns-in-Ok-clause-crash c _ =
-    synced_same _ _ _ c.count.ensures.content c.in-Ok.ensures.ok
+returns-in-Ok-clause-crash c _ = synced_same _ _ _ c.count.ensures.content c.in-Ok.ensures.ok
 
 pub returns-in-Ok-clause-time : goal.returns-in-Ok-clause-time
-returns-in-Ok-clause-time c _ = did_elapses _ _ _ Sync c.count.ensures.content c.in-Ok.ensures.ok
+returns-in-Ok-clause-time c _ = did_elapses _ _ _ _ c.count.ensures.content c.in-Ok.ensures.ok
 
 pub returns-in-Ok-clause-durable : goal.returns-in-Ok-clause-durable
-returns-in-Ok-clause-durable c _ = did_left _ _ _ Sync c.count.ensures.content c.in-Ok.ensures.ok
+returns-in-Ok-clause-durable c _ = did_left _ _ _ _ c.count.ensures.content c.in-Ok.ensures.ok

@@ -18,17 +18,14 @@ rest_long start place held = length-take-le (length held - (place - start))
 part_is : (seen items back out : List ℕ) (start held place n : ℕ) → held ≤ length items
     → back ≡ items → take (start + held - start) (drop start seen) ≡ take held items
     → start ≤ place → place - start ≤ length (take held back)
-    → n ≤ length (rest_at start place (take held back))
-    → out ≡ take n (rest_at start place (take held back))
-    → out ≡ take (place + n - place) (drop place seen)
+    → n ≤ length (rest_at start place (take held back)) → out ≡ take n
+    (rest_at start place (take held back)) → out ≡ take (place + n - place) (drop place seen)
 part_is seen items back out start held place n fits value right from inside few is =
     let same : take held back ≡ take held items = ap (take held) value in
-    let long : length (take held back) ≡ held =
-    ap length same ∙ length-take-le held items fits in
-    slice_of_slice seen (take held back) out start place n
+    let long : length (take held back) ≡ held = ap length same ∙ length-take-le held items fits in
+    slice_of_slice seen _ _ start place n
     (subst (λ k. take (start + k - start) (drop start seen) ≡ take held back) (sym long)
-    (right ∙ sym same)) from inside
-    (omega (arith, few, rest_long start place (take held back))) is
+    (right ∙ sym same)) from inside (omega (arith, few, rest_long start place (take held back))) is
 
 pub returns-then-buf-rest-clause-bytes : goal.returns-then-buf-rest-clause-bytes
 returns-then-buf-rest-clause-bytes g c honest =
@@ -39,11 +36,9 @@ returns-then-buf-rest-clause-bytes g c honest =
     let asked : length c.args.buf.now ≤ length rest = c.if-buf-rest.true in
     let all : n ≡ length c.args.buf.now = ap length c.copy_from_slice.ensures.after
     ∙ length-take-le (length c.args.buf.now) rest asked in
-    take_all n out (omega arith)
-    ∙ part_is (g.D.Disk.seen h.disk) h.bytes.items c.deref.result.now out h.start h.held
-    c.args.place n h.fits c.deref.ensures.value (h.right honest) c.if-place-self.false
-    c.if-place-self-2.false (omega (arith, all, asked))
-    (c.copy_from_slice.ensures.after ∙ ap (λ k. take k rest) (sym all))
+    take_all n out (omega arith) ∙ part_is (g.D.Disk.seen h.disk) _ _ _ h.start h.held c.args.place
+    n h.fits c.deref.ensures.value (h.right honest) c.if-place-self.false c.if-place-self-2.false
+    (omega (arith, all, asked)) (c.copy_from_slice.ensures.after ∙ ap (λ k. take k rest) (sym all))
 
 pub returns-clause-bytes : goal.returns-clause-bytes
 returns-clause-bytes g c honest =
@@ -54,7 +49,6 @@ returns-clause-bytes g c honest =
     let out : List ℕ = c.copy_from_slice-2.new.self in
     let is : out ≡ rest = c.copy_from_slice-2.ensures.after in
     subst (λ k. take k (out ++ drop n c.args.buf.now) ≡ out) (ap length is)
-    (take-append_seam out (drop n c.args.buf.now))
-    ∙ part_is (g.D.Disk.seen h.disk) h.bytes.items c.deref.result.now out h.start h.held
-    c.args.place n h.fits c.deref.ensures.value (h.right honest) c.if-place-self.false
+    (take-append_seam out (drop n c.args.buf.now)) ∙ part_is (g.D.Disk.seen h.disk) _ _ _ h.start
+    h.held c.args.place n h.fits c.deref.ensures.value (h.right honest) c.if-place-self.false
     c.if-place-self-2.false (omega arith) (is ∙ sym (take_all n rest (omega arith)))

@@ -16,6 +16,6 @@ returns-in-Ok-clause-bytes g c honest =
     drop_all (length buf - n) (drop n buf) (omega (arith, length-drop n buf)) in
     ap (λ l. take n buf ++ (c.look.new.buf ++ l)) post
     ∙ ap (λ l. take n buf ++ l) (append-nil c.look.new.buf)
-    ∙ slices_join (g.D.Disk.seen c.args.self.now.disk) (take n buf) c.look.new.buf c.args.place n m
-    (length c.args.buf.now) (omega (arith, size, given.same_size, given.few)) (given.bytes honest)
+    ∙ slices_join (g.D.Disk.seen c.args.self.now.disk) _ _ c.args.place n m _
+    (omega (arith, size, given.same_size, given.few)) (given.bytes honest)
     (c.in-Ok.ensures.bytes honest)

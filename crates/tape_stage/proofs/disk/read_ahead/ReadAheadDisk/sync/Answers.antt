@@ -1,11 +1,4 @@
-use Rattle.tape_stage.proofs.Caused.{caused_on}
 use Rattle.tape_stage.proofs.disk.read_ahead.ReadAheadDisk.sync.Goals as goal
-
-pub invariant_of-self-clause-caused : goal.invariant_of-self-clause-caused
-invariant_of-self-clause-caused g c =
-    let h = c.args.self.now in
-    let done = c.sync.ensures in
-    caused_on c.sync.result h.failed _ _ h.small h.caused done.cause done.calm
 
 pub invariant_of-self-clause-right : goal.invariant_of-self-clause-right
 invariant_of-self-clause-right g c now =

@@ -7,8 +7,7 @@ use Rattle.tape_stage.proofs.disk.write_behind.WriteBehind.pass_on.Goals as goal
 pub returns-then-is_empty-clause-stays : goal.returns-then-is_empty-clause-stays
 returns-then-is_empty-clause-stays g c honest x left =
     let h = c.args.self.now in
-    let none : h.bytes.items ≡ [] =
-    nil_from_length h.bytes.items (grind (arith, common_steps)) in
+    let none : h.bytes.items ≡ [] = nil_from_length h.bytes.items (grind (arith, common_steps)) in
     none_left _ _ _ x (left_none _ _ _ x none left)
 
 pub returns-clause-stays : goal.returns-clause-stays
@@ -23,8 +22,7 @@ returns-then-is_empty-clause-looks g c = record {
   crash = search rules;
   time = λ honest.
       let h = c.args.self.now in
-      let none : h.bytes.items ≡ [] =
-      nil_from_length h.bytes.items (grind (arith, common_steps)) in
+      let none : h.bytes.items ≡ [] = nil_from_length h.bytes.items (grind (arith, common_steps)) in
       idle_elapses _ _ _ _ _ _ none;
   honest = search rules;
 }
@@ -52,7 +50,7 @@ returns-in_err-write_at-clause-looks g c = record {
       let (e, first, second) = c.write_at.ensures.crash honest left.0 left.1 in (
         e,
         first,
-        torn_both _ _ e left.0 x (rw same at second) left.2,
+        torn_both _ _ _ _ _ (rw same at second) left.2,
       );
   time = λ honest. failed_elapses _ _ _ _ _ _ _ _ (c.write_at.ensures.stays honest)
       (c.write_at.ensures.time honest);

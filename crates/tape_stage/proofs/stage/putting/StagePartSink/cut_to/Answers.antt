@@ -14,7 +14,7 @@ front_of staged front rest weighs = record { rest = rest; whole = refl; weighs =
 pub returns-in-Ok-clause-ok : goal.returns-in-Ok-clause-ok
 returns-in-Ok-clause-ok g c front rest holds weighs =
     let parts = front ++ rest in
-    let of = front_of c.args.point.now.staged front rest weighs in
+    let of = front_of _ front rest weighs in
     let e = c.in-Ok.ensures in
     let honest = holds.honest (c.args.self.now.settled (c.args.self.now.usable e.ends.was_alive)) in
     let was = holds.ready e.ends.was_alive in
@@ -24,7 +24,7 @@ returns-in-Ok-clause-ok g c front rest holds weighs =
 pub returns-in-Ok-clause-crash : goal.returns-in-Ok-clause-crash
 returns-in-Ok-clause-crash g c front rest holds weighs =
     let parts = front ++ rest in
-    let of = front_of c.args.point.now.staged front rest weighs in
+    let of = front_of _ front rest weighs in
     let s = c.args.self.now in
     let e = c.in-Ok.ensures in
     let honest = holds.honest (s.settled (s.usable e.ends.was_alive)) in
@@ -35,7 +35,7 @@ returns-in-Ok-clause-crash g c front rest holds weighs =
 pub returns-in-Err-clause-crash : goal.returns-in-Err-clause-crash
 returns-in-Err-clause-crash g c front rest holds weighs =
     let parts = front ++ rest in
-    let of = front_of c.args.point.now.staged front rest weighs in
+    let of = front_of _ front rest weighs in
     let s = c.args.self.now in
     let e = c.in-Err.ensures in
     adds_refused s c.cut_back.new.self (IsThis c.args.point.now front) c.in-Err.fault
@@ -43,12 +43,10 @@ returns-in-Err-clause-crash g c front rest holds weighs =
     let honest = holds.honest (s.settled (s.usable alive)) in
     let was = holds.ready alive in
     adds_this s c.cut_back.new.self was.0 parts front c.args.point.now
-    (g.met.D.Disk.seen_now s.disk honest) was.1
-    (e.any_moment honest was.0 parts front was.1 of))
+    (g.met.D.Disk.seen_now s.disk honest) was.1 (e.any_moment honest was.0 parts front was.1 of))
 
 pub returns-in-Err-clause-why : goal.returns-in-Err-clause-why
 returns-in-Err-clause-why g c =
     let e = c.in-Err.ensures in
-    change_refused c.args.self.now c.cut_back.new.self _ c.in-Err.fault c.sink_fault.result
-    c.sink_fault.ensures e.ends.refused (λ device. e.ends.cause (ap Err device))
-    (λ full. inr (e.full (ap Err full)))
+    change_refused c.args.self.now c.cut_back.new.self _ c.in-Err.fault _ c.sink_fault.ensures
+    e.ends.refused (λ device. e.ends.cause (ap Err device)) (λ full. inr (e.full (ap Err full)))

@@ -31,8 +31,7 @@ returns-in-Err-clause-same g c parts holds =
     let e = c.in-Err.ensures in
     refused_holds s c.save.new.self parts c.in-Err.fault e.ends.refused
     (λ device none honest. absurd (saved_none (e.pending (ap Err device)) none))
-    (λ honest framed. frames_holding s.weight parts (g.D.Disk.seen s.disk)
-    (g.D.Disk.seen c.save.new.self.disk) (e.frames honest) framed) holds
+    (λ honest framed. frames_holding _ _ _ _ (e.frames honest) framed) holds
 
 pub returns-in-Ok-clause-kept : goal.returns-in-Ok-clause-kept
 returns-in-Ok-clause-kept g c parts holds =
@@ -42,9 +41,8 @@ returns-in-Ok-clause-kept g c parts holds =
     let was = holds.ready e.ends.was_alive in
     let only : (back : Point) (there : List Portion) → Returns new back there
     → (back ≡ c.args.point.now) × (there ≡ parts) =
-    λ back there r. returned_kept new parts c.args.point.now back there
-    (e.ok honest was.0 parts parts was.1 (all_of _ parts (c.requires ∙ holds.weighs)))
-    e.acknowledged r in (
+    λ back there r. returned_kept new parts _ back there (e.ok honest was.0 parts
+    parts was.1 (all_of _ parts (c.requires ∙ holds.weighs))) e.acknowledged r in (
       only,
       λ back there r. only back there
           (returned_now new (e.ends.honest honest) (g.met.D.Disk.only_now new.disk) back there r),
@@ -75,6 +73,5 @@ returns-in-Err-clause-crash g c parts holds =
 pub returns-in-Err-clause-why : goal.returns-in-Err-clause-why
 returns-in-Err-clause-why g c =
     let e = c.in-Err.ensures in
-    change_refused c.args.self.now c.save.new.self _ c.in-Err.fault c.sink_fault.result
-    c.sink_fault.ensures e.ends.refused (λ device. e.ends.cause (ap Err device))
-    (λ full. inr (e.full (ap Err full)))
+    change_refused c.args.self.now c.save.new.self _ c.in-Err.fault _ c.sink_fault.ensures
+    e.ends.refused (λ device. e.ends.cause (ap Err device)) (λ full. inr (e.full (ap Err full)))

@@ -17,8 +17,7 @@ returns-in-Err-clause-err g c parts holds =
     let s = c.args.self.now in
     let e = c.in-Err.ensures in
     refused_holds s c.put_part.new.self parts c.in-Err.fault e.ends.refused (λ _ _. e.honest.onward)
-    (λ honest framed. kept_front_holding s.weight parts (g.D.Disk.seen s.disk)
-    (g.D.Disk.seen c.put_part.new.self.disk) (e.kept honest) framed) holds
+    (λ honest framed. kept_front_holding _ _ _ _ (e.kept honest) framed) holds
 
 pub returns-in-Ok-clause-crash : goal.returns-in-Ok-clause-crash
 returns-in-Ok-clause-crash g c parts holds =
@@ -33,8 +32,7 @@ pub returns-in-Err-clause-crash : goal.returns-in-Err-clause-crash
 returns-in-Err-clause-crash g c parts holds =
     let s = c.args.self.now in
     let e = c.in-Err.ensures in
-    adds_refused s c.put_part.new.self (λ back there. ⊥) c.in-Err.fault e.ends.refused
-    (λ alive.
+    adds_refused s c.put_part.new.self (λ back there. ⊥) c.in-Err.fault e.ends.refused (λ alive.
     let honest = holds.honest (s.settled (s.usable alive)) in
     let was = holds.ready alive in
     adds_nothing s c.put_part.new.self was.0 parts (g.met.D.Disk.seen_now s.disk honest) was.1
@@ -43,6 +41,6 @@ returns-in-Err-clause-crash g c parts holds =
 pub returns-in-Err-clause-why : goal.returns-in-Err-clause-why
 returns-in-Err-clause-why g c =
     let e = c.in-Err.ensures in
-    change_refused c.args.self.now c.put_part.new.self _ c.in-Err.fault c.sink_fault.result
+    change_refused c.args.self.now c.put_part.new.self _ c.in-Err.fault _
     c.sink_fault.ensures e.ends.refused (λ device. e.ends.cause (ap Err device))
     (λ full. inl (omega (arith, c.requires, (e.full (ap Err full)).1)))

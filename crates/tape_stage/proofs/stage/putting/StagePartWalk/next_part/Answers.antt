@@ -18,8 +18,7 @@ returns-then-self g c =
           crash = λ parts holds. only_same _ _;
           same_weight = refl;
           gives = λ parts is.
-              let none = nothing_ahead (256 + s.walked) (256 + s.weight) bytes parts
-              (omega (arith, c.if-self.true)) is.1 in
+              let none = nothing_ahead _ _ _ _ (omega (arith, c.if-self.true)) is.1 in
               (none.0, (is.0, none.1));
           lends = tt;
           counts = refl;
@@ -37,25 +36,21 @@ returns-in-Ok g c =
     let calm = s.settled c.if-not-self.false in
     let old = g.D.Disk.seen s.disk in
     let new = g.D.Disk.seen d in
-    let same : c.deref.result.now ≡ c.read_frame.new.buffer =
-    c.deref.ensures.value ∙ with_items_is s.buffer c.read_frame.new.buffer
-    (omega (arith, c.read_frame.auto.buffer)) in
+    let same : c.deref.result.now ≡ c.read_frame.new.buffer = c.deref.ensures.value
+    ∙ with_items_is s.buffer c.read_frame.new.buffer (omega (arith, c.read_frame.auto.buffer)) in
     let long : length (take c.in-Ok.size c.read_frame.new.buffer) ≡ c.in-Ok.size =
     length-take-le c.in-Ok.size c.read_frame.new.buffer e.sized in (
       (
         refl,
         λ _. tt,
         rw same record {
-          kept = λ parts holds. read_held s.disk d s.in_second s.generation s.acknowledged
-              s.other_open s.weight s.failed s.pending parts (e.honest (holds.honest calm))
+          kept = λ parts holds. read_held _ d _ _ _ _ _ _ _ _ (e.honest (holds.honest calm))
               (e.reads.same (holds.honest calm)) (e.reads.any_moment (holds.honest calm)).now holds;
-          crash = λ parts holds. adds_read s d (e.reads.any_moment (holds.honest calm));
+          crash = λ parts holds. adds_read s _ (e.reads.any_moment (holds.honest calm));
           same_weight = refl;
           gives = λ parts is.
-              let next = given s.walked (256 + s.weight) c.in-Ok.size old new c.in-Ok.span
-              (take c.in-Ok.size c.read_frame.new.buffer) parts
-              (omega (arith, c.if-self.false)) (e.found (is.0 calm)) long
-              (e.reads.same (is.0 calm)) is.1 in
+              let next = given s.walked _ _ _ _ _ _ _ (omega (arith, c.if-self.false))
+              (e.found (is.0 calm)) long (e.reads.same (is.0 calm)) is.1 in
               (next.0, next.1, (λ none. e.honest (is.0 none), next.2));
           lends = (omega (arith, long, e.short), omega (arith, c.if-self.false, e.ends));
           counts = refl;
@@ -75,10 +70,9 @@ returns-in-Err g c =
         refl,
         λ _. tt,
         record {
-          kept = λ parts holds. read_held s.disk d s.in_second s.generation s.acknowledged
-              s.other_open s.weight s.failed s.pending parts (e.honest (holds.honest calm))
+          kept = λ parts holds. read_held _ d _ _ _ _ _ _ _ _ (e.honest (holds.honest calm))
               (e.reads.same (holds.honest calm)) (e.reads.any_moment (holds.honest calm)).now holds;
-          crash = λ parts holds. adds_read s d (e.reads.any_moment (holds.honest calm));
+          crash = λ parts holds. adds_read s _ (e.reads.any_moment (holds.honest calm));
           same_weight = refl;
           gives = λ parts is. (
             λ none. e.honest (is.0 none),
