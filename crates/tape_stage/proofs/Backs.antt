@@ -1,6 +1,5 @@
 -- The remains of a stage after a crash.
-use Rattle.std.proofs.Common.{◌≡◌, ◌⊎◌, inl, inr, ℕ, ◌+◌, ◌≤◌, Bool, false, not, List, sym, ◌∙◌}
-use Rattle.std.proofs.Common.{subst}
+use Rattle.std.proofs.Common.{◌≡◌, ◌⊎◌, inl, inr, ℕ, ◌+◌, ◌≤◌, Bool, false, List, sym, ◌∙◌, subst}
 use Rattle.tape_stage.specs.Staged.{Staged, StagedIn, IsEither, Ready}
 use Rattle.tape_stage.specs.Stages.{IsStage, Returns, Survives, Returned, Survived, HasRefused}
 use Rattle.tape_stage.specs.Stages.{crashes_of}

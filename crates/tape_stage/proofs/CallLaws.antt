@@ -1,12 +1,16 @@
 -- One more call.
 use Rattle.std.proofs.Common.{◌≡◌, ◌⊎◌, inl, inr, ℕ, zero, suc, ◌+◌, ◌≤◌, List, [], ◌∷◌, ◌++◌}
 use Rattle.std.proofs.Common.{length, take, drop, refl, sym, ◌∙◌, subst, arith, length-append}
-use Rattle.std.proofs.Common.{replicate, if◌then◌else◌, Bool, true, false, ap}
+use Rattle.std.proofs.Common.{replicate, if◌then◌else◌, Bool, true, false, ap, Vec}
 use Rattle.std.proofs.lemmas.List.{length-replicate}
 use Rattle.tape_stage.specs.Calls.{after, left_after, seen_by, left_by, since_by, IsImage, WasImage}
 use Rattle.tape_stage.specs.Calls.{Fits, AllFit, worst_after, worst_by, worst_longer, kept_or}
-use Rattle.tape_stage.specs.Calls.{IsRight}
-use Rattle.tape_stage.specs.{Disk.Elapses, declared.disk.content.Call.Call}
+use Rattle.tape_stage.specs.Calls.{IsRight, seen_image, worst_image}
+use Rattle.tape_stage.specs.Disk.{Elapses, Torn}
+use Rattle.tape_stage.specs.declared.disk.content.Call.TheVariants.{Write, Sync}
+use Rattle.tape_stage.specs.Memory.{first_of, DidCall}
+use Rattle.tape_stage.specs.{declared.disk.content.Call.Call, declared.disk.content.Content.Content}
+use Rattle.std.specs.declared.alloc.Global.{Global}
 
 pub seen_more : (seen : List ℕ) (calls : List Call) (call : Call)
     → seen_by seen (calls ++ call ∷ []) ≡ after (seen_by seen calls) call
@@ -146,3 +150,59 @@ right_if true first worst bytes calls calls' call same same_worst fits right c =
     right_looked _ _ _ _ _ call same same_worst fits right c
 right_if false first worst bytes calls calls' call same same_worst fits right c =
     subst (λ (l : List Call). IsRight first worst bytes l) (sym c) right
+
+abbrev Leaves : Content → List ℕ → Type 0
+Leaves content = IsImage (first_of content) content.calls.items
+
+pub did_elapses : (old mid new : Content) (call : Call) → mid ≡ old → DidCall call mid new
+    → Elapses (length old.calls.items) (length new.calls.items)
+    (WasImage (first_of old) old.calls.items) (WasImage (first_of new) new.calls.items) (Leaves new)
+did_elapses old mid new call is before =
+    let did = subst (λ (o : Content). DidCall call o new) is before in
+    let P : List ℕ → List Call → Type 0 = λ f calls. Elapses (length old.calls.items) (length calls)
+    (WasImage (first_of old) old.calls.items) (WasImage f calls) (IsImage f calls) in
+    subst (λ (f : List ℕ). P f new.calls.items) (sym did.first)
+    (subst (λ (calls : List Call). P (first_of old) calls) (sym did.calls)
+    (elapses_more (first_of old) old.calls.items call))
+
+pub did_left : (old mid new : Content) (call : Call) → mid ≡ old → DidCall call mid new
+    → (c : List ℕ) → Leaves new c → left_after old.bytes.items (Leaves old) call c
+did_left old mid new call is before c now =
+    let did = subst (λ (o : Content). DidCall call o new) is before in
+    let P : List ℕ → List Call → Type 0 = λ f calls. IsImage f calls c in
+    image_back (first_of old) _ old.calls.items call c old.right.seen
+    (subst (λ (calls : List Call). P (first_of old) calls) did.calls
+    (subst (λ (f : List ℕ). P f new.calls.items) did.first now))
+
+pub synced_same : (old mid new : Content) → mid ≡ old → DidCall Sync mid new → (c : List ℕ)
+    → Leaves new c → Leaves old c
+synced_same old mid new is did c now =
+    subst (λ (b : List ℕ). Leaves old b) (sym (did_left _ _ _ _ is did c now))
+    (seen_image (first_of old) _ old.calls.items old.right.fit old.right.seen)
+
+pub written_left : (old mid new : Content) (place : ℕ) (copy : Vec ℕ Global) (bytes : List ℕ)
+    → mid ≡ old → copy.items ≡ bytes → DidCall (Write place copy) mid new
+    → (c : List ℕ) → Leaves new c → (d : List ℕ) × Leaves old d × Torn place (length bytes) d c
+written_left old mid new place copy bytes is same did c now =
+    let from = did_left _ _ _ _ is did c now in
+    (from.0, from.1, subst (λ (b : List ℕ). Torn place (length b) from.0 c) same from.2)
+
+pub worst_left_now : (content : Content)
+    → Leaves content (kept_or content.changed content.worst.items content.bytes.items)
+worst_left_now content =
+    worst_image (first_of content) _ content.calls.items content.right.fit content.right.worst_is
+
+pub did_open : (old mid new : Content) (call : Call) → mid ≡ old → DidCall call mid new
+    → (c : List ℕ) → left_after old.bytes.items (Leaves old) call c → Leaves new c
+did_open old mid new call is before c from =
+    let did = subst (λ (o : Content). DidCall call o new) is before in
+    let P : List ℕ → List Call → Type 0 = λ f calls. IsImage f calls c in
+    subst (λ (f : List ℕ). P f new.calls.items) (sym did.first)
+    (subst (λ (calls : List Call). P (first_of old) calls) (sym did.calls)
+    (image_more (first_of old) _ old.calls.items call c old.right.seen from))
+
+pub written_open : (old mid new : Content) (place : ℕ) (copy : Vec ℕ Global) (bytes : List ℕ)
+    → mid ≡ old → copy.items ≡ bytes → DidCall (Write place copy) mid new
+    → (d c : List ℕ) → Leaves old d → Torn place (length bytes) d c → Leaves new c
+written_open old mid new place copy bytes is same did d c left torn = did_open _ _ _ _ is did c
+    (d, left, subst (λ (b : List ℕ). Torn place (length b) d c) (sym same) torn)

@@ -1,12 +1,15 @@
 -- Proofs of the examples for disks and stages.
 use Rattle.std.proofs.Common.{◌≡◌, ◌⊎◌, ◌∙◌, List, ℕ, [], ◌∷◌, refl, inl, inr, arith, get_or, ap}
-use Rattle.std.proofs.Common.{take, subst, Some, Ok}
+use Rattle.std.proofs.Common.{take, subst, Some, Ok, true, false}
 use Rattle.tape_blocks.specs.{declared.parts.Part.Part, Block.Portion, Parts.view}
+use Rattle.tape_stage.specs.Calls.{IsImage, WasImage, kept_or}
+use Rattle.tape_stage.specs.Cases.{CasesOfCrashes, CasesOfMoments, CasesOfFiles, CasesOfStages}
+use Rattle.tape_stage.specs.Cases.{CasesOfFaults}
+use Rattle.tape_stage.specs.CasesOfSalvage.{CasesOfSalvage, cut_frame, frame_and_none}
 use Rattle.tape_stage.specs.{declared.disk.Disk.Ghosts, declared.stage.Stage.Stage, Reads.StageGave}
-use Rattle.tape_stage.specs.{Stages.IsAhead, Body.body_text, Calls.IsImage, Calls.WasImage}
-use Rattle.tape_stage.specs.{Calls.kept_or, Disk.Torn, Frames.NoFrameAt, Memory.first_of}
-use Rattle.tape_stage.specs.{Staged.HoldsNone, Cases.CasesOfCrashes, Cases.CasesOfMoments}
-use Rattle.tape_stage.specs.{Cases.CasesOfFiles, Cases.CasesOfStages, Cases.CasesOfFaults}
+use Rattle.tape_stage.specs.{Stages.IsAhead, Body.body_text, Disk.Torn, Frames.NoFrameAt}
+use Rattle.tape_stage.specs.{Memory.first_of, Staged.HoldsNone, CasesOfLaws.CasesOfLaws}
+use Rattle.tape_stage.proofs.Once.{staged_remains}
 use Rattle.tape_blocks.specs.declared.parts.Span.TheVariants as spans
 
 pub cases_of_crashes : CasesOfCrashes
@@ -201,4 +204,65 @@ cases_of_faults = record {
   is_no_device = (tt, tt, tt);
   is_device = λ h. h;
   of_its_place = λ place n h. h;
+}
+
+pub cases_of_laws : CasesOfLaws
+cases_of_laws = record {
+  of_either = λ point next parts more bytes is. is;
+  by_either = λ point next parts more bytes is. is;
+  once = λ bytes g h point next parts more law one two. law g h point next parts more one two;
+  one_of = λ bytes g h point next read parts more there law stands is.
+      law point next parts more (inr (g, stands)) h read there is;
+  named = λ bytes g point parts law is. law true g point parts is;
+  either = λ bytes point next parts more law is. law false 3 point next parts more is;
+  text_of_one = λ bytes v w a b law one two. law bytes v w a b one two;
+  one_text = λ version a b c law one two. law version a b c one two;
+  both_texts = λ c law point known set_id file_id block part.
+      law c point known set_id file_id block part;
+}
+
+no_byte : NoFrameAt 256 261 cut_frame
+no_byte span [] is = absurd (let e : 1 ≡ 0 = ap (λ l. get_or l 4 0) is.header in cc e)
+no_byte span (b ∷ content) is = omega (arith, is.room)
+
+no_second_digit : NoFrameAt 262 268 frame_and_none
+no_second_digit spans.Whole content is =
+    absurd (let e : 52 ≡ 48 = ap (λ l. get_or l 0 0) is.header in omega (arith, e))
+no_second_digit spans.First content is =
+    absurd (let e : 52 ≡ 49 = ap (λ l. get_or l 0 0) is.header in omega (arith, e))
+no_second_digit spans.Middle content is =
+    absurd (let e : 52 ≡ 50 = ap (λ l. get_or l 0 0) is.header in omega (arith, e))
+no_second_digit spans.Last content is =
+    absurd (let e : 52 ≡ 51 = ap (λ l. get_or l 0 0) is.header in omega (arith, e))
+
+pub cases_of_salvage : CasesOfSalvage
+cases_of_salvage = record {
+  cut_off = record {
+    holds = record { long = omega arith; frames_are = refl; short = tt };
+    breaks = record { low = omega arith; high = omega arith; none = no_byte };
+  };
+  not_whole = λ parts framed. omega (arith, framed.holds.long);
+  one_remains = record {
+    holds = record { long = omega arith; frames_are = refl; short = (omega arith, tt) };
+    breaks = record { low = omega arith; high = omega arith; none = no_second_digit };
+  };
+  no_break = record {
+    holds = record { long = omega arith; frames_are = refl; short = (omega arith, tt) };
+    breaks = tt;
+  };
+  not_broken = λ parts framed. omega (arith, framed.breaks.high);
+  all_remains = staged_remains;
+  all_staged = λ bytes n point parts r. record { slot = r.slot; parts_are = r.framed.holds };
+  before_break = λ bytes n point place parts r. (
+    r.slot,
+    r.framed.breaks.low,
+    r.framed.breaks.high,
+    r.framed.holds.frames_are,
+    r.framed.breaks.none,
+  );
+  none_remains = λ bytes n point broken parts none r. none n point broken parts r;
+  none_said = λ bytes says. says;
+  bad_said = λ bytes place says. says;
+  once = λ bytes n m point next broken other parts more law one two.
+      law n m point next broken other parts more one two;
 }

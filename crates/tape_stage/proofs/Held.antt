@@ -11,7 +11,7 @@ use Rattle.tape_stage.specs.{declared.stage.Stage.Stage, declared.stage.StageFau
 use Rattle.tape_blocks.specs.Block.{Portion}
 use Rattle.tape_core.specs.{Stands.weight_of, Weight.Rose, declared.sink.SinkFault.SinkFault}
 use Rattle.tape_core.specs.Point.{Point}
-use Rattle.tape_stage.proofs.FrameLaws.{length-frames}
+use Rattle.tape_stage.proofs.Giving.{length-frames}
 use Rattle.tape_core.specs.declared.sink.SinkFault.TheVariants as sink
 
 -- the weight of framed parts is the length of their frames

@@ -220,48 +220,26 @@ left_more leaves p bytes more c left =
     (subst (λ (n : ℕ). Torn p n left.0 c) (length-append bytes more) left.2) in
     (e, (left.0, left.1, first), second)
 
--- the same state under other names
-pub same_left : {D : Type 0} (leaves : D → List ℕ → Type 0) (a b : D) (s t : ℕ) (x y c : List ℕ)
-    → a ≡ b → s ≡ t → x ≡ y → LeftTorn (leaves a) s x c → LeftTorn (leaves b) t y c
-same_left leaves a b s t x y c disk start bytes left = (
-  left.0,
-  subst (λ (d : _). leaves d left.0) disk left.1,
-  subst (λ (l : List ℕ). Torn t (length l) left.0 c) bytes
-      (subst (λ (n : ℕ). Torn n (length x) left.0 c) start left.2),
-)
-
 -- bytes were appended to the buffer
-module _ {D : Type 0} (leaves : D → List ℕ → Type 0) (a b : D) (s t place : ℕ)
-    (x y more : List ℕ) (disk : b ≡ a) (start : t ≡ s) (bytes : y ≡ x ++ more)
-    (end : s + length x ≡ place) where
-  pub added_follows : Follows (Torn place (length more)) (LeftTorn (leaves a) s x)
-      (LeftTorn (leaves b) t y)
+module _ (leaves : List ℕ → Type 0) (p place : ℕ) (bytes more : List ℕ)
+    (end : p + length bytes ≡ place) where
+  pub added_follows : Follows (Torn place (length more)) (LeftTorn leaves p bytes)
+      (LeftTorn leaves p (bytes ++ more))
   added_follows c left =
-      let (e, first, second) = left_more (leaves a) s x more c
-      (same_left leaves _ _ _ _ _ _ c disk start bytes left) in
+      let (e, first, second) = left_more leaves p bytes more c left in
       (e, first, subst (λ (n : ℕ). Torn n (length more) e c) end second)
 
-  pub added_allows : Allows (Torn place (length more)) (LeftTorn (leaves a) s x)
-      (LeftTorn (leaves b) t y)
-  added_allows d c left torn =
-      same_left leaves _ _ _ _ _ _ c (sym disk) (sym start) (sym bytes)
-      (more_open (leaves a) s x more _ _ left
-      (subst (λ (n : ℕ). Torn n (length more) d c) (sym end) torn))
-
-  pub added_stays : NoMore (LeftTorn (leaves b) t y) (LeftTorn (leaves a) s x)
-  added_stays c left = added_allows c c left (torn_same place (length more) c)
+  pub added_allows : Allows (Torn place (length more)) (LeftTorn leaves p bytes)
+      (LeftTorn leaves p (bytes ++ more))
+  added_allows d c left torn = more_open leaves p bytes more _ _ left
+      (subst (λ (n : ℕ). Torn n (length more) d c) (sym end) torn)
 
 -- the buffer was written, and then bytes were buffered
-module _ {D : Type 0} (leaves : D → List ℕ → Type 0) (a b : D) (old : List ℕ → Type 0)
-    (s t place : ℕ) (x y bytes : List ℕ) (none : x ≡ []) (disk : b ≡ a) (start : t ≡ place)
-    (held : y ≡ x ++ bytes) (stays : NoMore (LeftTorn (leaves a) s x) old) where
-  pub begun_allows : Allows (Torn place (length bytes)) old (LeftTorn (leaves b) t y)
-  begun_allows d c left torn = same_left leaves _ _ _ _ _ _ c (sym disk) (sym start)
-      (sym (held ∙ ap (λ (l : List ℕ). l ++ bytes) none))
-      (d, left_none (leaves a) s _ d none (stays d left), torn)
-
-  pub begun_stays : NoMore (LeftTorn (leaves b) t y) old
-  begun_stays c left = begun_allows c c left (torn_same place (length bytes) c)
+pub begun_allows : (leaves old : List ℕ → Type 0) (p place : ℕ) (none bytes : List ℕ) → none ≡ []
+    → NoMore (LeftTorn leaves p none) old
+    → Allows (Torn place (length bytes)) old (LeftTorn leaves place bytes)
+begun_allows leaves old p place none bytes is stays d c left torn =
+    (d, left_none leaves p _ d is (stays d left), torn)
 
 -- a write that is torn twice
 pub torn_both : (p n : ℕ) (d e c : List ℕ) → Torn p n d e → Torn p n e c → Torn p n d c
@@ -271,19 +249,6 @@ torn_both p n d e c first second = record {
   no_shorter = omega (arith, first.no_shorter, second.no_shorter);
   no_longer = omega (arith, first.no_longer, second.no_longer);
 }
-
-pub same_elapses : {D : Type 0} (moment : D → ℕ) (left_since : D → ℕ → List ℕ → Type 0)
-    (may_leave : D → List ℕ → Type 0) (m0 : ℕ) (past0 : ℕ → List ℕ → Type 0) (a b : D) (s t : ℕ)
-    (x y : List ℕ) → b ≡ a → t ≡ s → y ≡ x → Elapses m0 (moment a) past0
-    (LeftSince (left_since a) (may_leave a) s x) (LeftTorn (may_leave a) s x) → Elapses m0
-    (moment b) past0 (LeftSince (left_since b) (may_leave b) t y) (LeftTorn (may_leave b) t y)
-same_elapses moment left_since may_leave m0 past0 a b s t x y disk start bytes time =
-    subst (λ (d : _). Elapses m0 (moment d) past0 (LeftSince (left_since d) (may_leave d) t y)
-    (LeftTorn (may_leave d) t y)) (sym disk)
-    (subst (λ (n : ℕ). Elapses m0 (moment a) past0 (LeftSince (left_since a) (may_leave a) n y)
-    (LeftTorn (may_leave a) n y)) (sym start)
-    (subst (λ (l : List ℕ). Elapses m0 (moment a) past0 (LeftSince (left_since a) (may_leave a) s l)
-    (LeftTorn (may_leave a) s l)) (sym bytes) time))
 
 -- ---- bytes that were read ahead
 

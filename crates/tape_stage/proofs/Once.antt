@@ -1,5 +1,5 @@
 -- A stage file has at most one meaning.
-use Rattle.std.proofs.Common.{◌≡◌, inl, inr, ℕ, not, ◌+◌, ◌-◌, ◌≤◌, ◌<◌, min, List, [], ◌∷◌, length}
+use Rattle.std.proofs.Common.{◌≡◌, inl, inr, ℕ, ◌+◌, ◌-◌, ◌≤◌, ◌<◌, min, List, [], ◌∷◌, length}
 use Rattle.std.proofs.Common.{Some, refl, sym, ap, ◌∙◌, subst, arith, Option, None, IfSome}
 use Rattle.tape_blocks.specs.{declared.parts.Span.Span, Block.Portion}
 use Rattle.tape_stage.specs.Frames.{AheadIn, IsFrameAt, NoFrameAt}

@@ -13,8 +13,8 @@ use Rattle.tape_set.specs.Lawful.{FileForm, most_blocks}
 use Rattle.tape_core.specs.{Known.IsForm, Known.PositionFits, Known.is_finished, Point.Point}
 use Rattle.tape_core.specs.{Range.length_in_range, Range.form_in_range, Range.in_range}
 use Rattle.tape_core.proofs.Ranges.{ranged, in_range_is}
-use Rattle.tape_stage.specs.Fields.{place_of, form_of, fields_of, position_by, form_as, known_as}
-use Rattle.tape_stage.specs.Fields.{known_by, point_by}
+use Rattle.tape_stage.specs.Fields.{place_of, form_of, fields_of, form_as, known_as, known_by}
+use Rattle.tape_stage.specs.Fields.{point_by}
 use Rattle.tape_stage.specs.Range.{place_agrees, is_blank, form_agrees, is_right}
 use Rattle.tape_stage.specs.Text.{FitsVersion, Fit, KnownFits, IsWritable}
 use Rattle.tape_stage.specs.{declared.point.Place.Place, declared.point.Version.Version}

@@ -13,10 +13,11 @@ use Rattle.tape_stage.specs.{declared.point.Version.Version, declared.point.Vers
 use Rattle.tape_stage.specs.{declared.point.Version.TheVariants.Two, declared.point.Fields.Fields}
 use Rattle.tape_stage.specs.{Fields.form_of, Fields.fields_of, Fields.point_by, Range.is_right}
 use Rattle.tape_stage.specs.{Reading.text_at, Reading.right_point, Reading.reading}
+use Rattle.tape_stage.specs.{Laws.IsTextOfOne, Laws.IsTextOnce, Laws.HasBothTexts}
 use Rattle.tape_stage.proofs.TextLaws.{Reads, text_found, text_again, reads_stand, stands_read}
-use Rattle.tape_stage.proofs.TextLaws.{reads_fit}
+use Rattle.tape_stage.proofs.TextLaws.{reads_fit, stood}
 use Rattle.tape_stage.proofs.PointFields.{point_again, point_right, fields_again, right_writable}
-use Rattle.tape_stage.proofs.{Stood.stood, Steps.bind_ok, Steps.passed}
+use Rattle.tape_stage.proofs.Steps.{bind_ok, passed, ok_is}
 use Rattle.tape_stage.specs.declared.point.text.PointFault.TheVariants as faults
 
 -- ---- the text of a checkpoint is read as that checkpoint
@@ -111,3 +112,40 @@ found_of (Err fault) text e = tt
 -- a checkpoint's text has 80 characters
 pub text_size : (v : Version) (c : Point) (text : List ℕ) → IsPointText v text c → length text ≡ 80
 text_size v c text is = (text_found text v (fields_of c) (point_read _ _ _ is)).size
+
+first_same : (v w : Version) (f g : Fields) (r : Result (Version × Fields) PointFault)
+    → r ≡ Ok (v, f) → r ≡ Ok (w, g) → v ≡ w
+first_same v w f g r x y =
+    let same : (v, f) ≡ (w, g) = ok_is (v, f) (w, g) (sym x ∙ y) in
+    ap (λ (p : Version × Fields). p.0) same
+
+pub text_of_one : IsTextOfOne
+text_of_one bytes v w a b first second = (
+  first_same v w (fields_of a) (fields_of b) _ (point_read _ _ _ first) (point_read _ _ _ second),
+  ok_is a b (sym (reads_only _ _ _ first) ∙ reads_only _ _ _ second),
+)
+
+pub text_once : IsTextOnce
+text_once version a b c first second = (first.text ∙ sym second.text, text_size _ _ _ first)
+
+pub both_texts : HasBothTexts
+both_texts c right known set_id file_id block part = (
+  text_of (pieces One (fields_of c)),
+  text_of (pieces Two (fields_of c)),
+  record {
+    writable = record { right = right; known = known; fits = (omega (arith, block), part) };
+    set_id = set_id;
+    file_id = file_id;
+    text = refl;
+  },
+  record {
+    writable = record {
+      right = right;
+      known = known;
+      fits = (omega (arith, block), omega (arith, part));
+    };
+    set_id = set_id;
+    file_id = file_id;
+    text = refl;
+  },
+)

@@ -1,8 +1,8 @@
 -- A text that is read is that of its fields, and the text written for fields is read back.
 use Rattle.std.proofs.Common.{◌≡◌, ℕ, ◌+◌, ◌-◌, ◌++◌, Bool, true, false, cond, eqb, List, [], ◌∷◌}
-use Rattle.std.proofs.Common.{length, get_or, take, drop, replicate, Result, Ok, Err, refl, sym}
-use Rattle.std.proofs.Common.{subst, ap, ◌∙◌, arith, codes}
-use Rattle.std.proofs.lemmas.List.{take_all, length-drop}
+use Rattle.std.proofs.Common.{length, get_or, take, drop, Result, Ok, Err, refl, sym, subst, ap}
+use Rattle.std.proofs.Common.{◌∙◌, arith, codes}
+use Rattle.std.proofs.lemmas.List.{take_all, length-drop, drop_all, drop-drop, take-append-drop}
 use Rattle.std.proofs.{lemmas.Bool.eqb-true, lemmas.Slice.Eq.bytes_eq-Decides}
 use Rattle.std.specs.Str.{bytes_eq}
 use Rattle.tape_label.proofs.{Pieces.StandAt, Steps.character_found, Steps.character_is}
@@ -13,7 +13,16 @@ use Rattle.tape_stage.specs.declared.point.text.PointFault.{PointFault}
 use Rattle.tape_stage.specs.{declared.point.Version.Version, declared.point.Fields.Fields}
 use Rattle.tape_stage.proofs.Steps.{HasDigits, bind_ok, done, ok_is}
 use Rattle.tape_stage.proofs.FieldLaws.{HasFields, fields_found, fields_again}
+use Rattle.tape_label.specs.Written.{Piece, text_of}
 use Rattle.tape_stage.specs.declared.point.text.PointFault.TheVariants as faults
+
+pub stood : (i : ℕ) (ps : List Piece) (text : List ℕ) → StandAt i ps text → drop i text ≡ text_of ps
+stood i [] text s = drop_all i text (omega (arith, s))
+stood i (p ∷ ps) text s =
+    let rest : drop p.width (drop i text) ≡ text_of ps = drop-drop p.width i text
+    ∙ ap (λ (k : ℕ). drop k text) (omega arith) ∙ stood (i + p.width) ps text s.1 in
+    sym (take-append-drop p.width (drop i text)) ∙ ap (λ (l : List ℕ). l ++ drop p.width
+    (drop i text)) s.0 ∙ ap (λ (l : List ℕ). p.text ++ l) rest
 
 -- the text has the given fields in the given version
 pub record Reads (version : Version) (f : Fields) (text : List ℕ) : Type 0 where

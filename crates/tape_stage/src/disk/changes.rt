@@ -1,7 +1,7 @@
 //! The effects of calls on the contents of an in-memory disk.
 ghost use Rattle.std.specs.Prelude.{◌≡◌, ◌≤◌, ◌+◌, ◌-◌, [], ◌++◌, length, take, drop, replicate};
 ghost use Rattle.std.specs.Prelude.{true, false, OnOk, OnErr, IfOk};
-ghost use Rattle.tape_stage.specs.Same.{SameContent, DidCall};
+ghost use Rattle.tape_stage.specs.Memory.{SameContent, DidCall};
 
 use crate::disk::content::{Call, Content};
 use std::alloc::{AllocError, Global};

@@ -1,6 +1,6 @@
 use Rattle.tape_stage.proofs.Examples.{cases_of_crashes, cases_of_moments, cases_of_files}
 use Rattle.tape_stage.proofs.Examples.{cases_of_stages, cases_of_faults}
-use Rattle.tape_stage.proofs.{ExamplesOfLaws.cases_of_laws, ExamplesOfSalvage.cases_of_salvage}
+use Rattle.tape_stage.proofs.{Examples.cases_of_laws, Examples.cases_of_salvage}
 use Rattle.tape_stage.proofs.laws.cases.Goals as goal
 
 pub returns-clause-crashes : goal.returns-clause-crashes

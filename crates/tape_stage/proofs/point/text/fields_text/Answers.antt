@@ -1,6 +1,10 @@
-use Rattle.std.proofs.Common.{[], ◌∷◌, append-nil, codes, sym, ◌∙◌, refl}
-use Rattle.tape_stage.proofs.Assembled.{back}
+use Rattle.std.proofs.Common.{◌≡◌, ℕ, List, ◌++◌, ap, append_assoc, [], append-nil, sym, ◌∙◌, refl}
 use Rattle.tape_stage.proofs.point.text.fields_text.Goals as goal
+
+-- one more piece at the end of the first part
+back : (x y p q rest all : List ℕ) → all ≡ y ++ rest → y ≡ x ++ p → p ≡ q → all ≡ x ++ (q ++ rest)
+back x y p q rest all e i s =
+    e ∙ ap (λ (l : List ℕ). l ++ rest) (i ∙ ap (λ (l : List ℕ). x ++ l) s) ∙ append_assoc x q rest
 
 pub returns-clause-text : goal.returns-clause-text
 returns-clause-text c =

@@ -1,4 +1,4 @@
-use Rattle.std.proofs.Common.{[], false, Err, ap, subst, sym}
+use Rattle.std.proofs.Common.{Err, ap, subst, sym}
 use Rattle.tape_stage.specs.{Faults.IsNotDevice, Stages.RefusesCreating}
 use Rattle.tape_stage.proofs.Backs.{ready_survives, ready_returns}
 use Rattle.tape_stage.proofs.stage.Stage.create.Goals as goal

@@ -1,7 +1,7 @@
 use Rattle.std.proofs.Common.{◌≡◌, ◌+◌, length, take, ◌∙◌, ap, arith}
 use Rattle.std.proofs.lemmas.List.{take-take, length-take-le}
-use Rattle.tape_stage.proofs.Stays.{front_staged, still_ready}
-use Rattle.tape_stage.proofs.{Passing.stands, Tears.alike_holding, FrameLaws.front_holding}
+use Rattle.tape_stage.proofs.Keeps.{front_staged, still_ready}
+use Rattle.tape_stage.proofs.{Passing.stands, Tears.alike_holding, Giving.front_holding}
 use Rattle.tape_stage.proofs.stage.Stage.cut_parts.Goals as goal
 
 pub returns-in-Ok-clause-ok : goal.returns-in-Ok-clause-ok

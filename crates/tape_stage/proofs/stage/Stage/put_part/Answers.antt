@@ -1,7 +1,6 @@
 use Rattle.std.proofs.Common.{◌+◌, refl, arith}
-use Rattle.tape_blocks.specs.Parts.{view}
 use Rattle.tape_stage.proofs.{Passing.weaken, Passing.nothing, SlotSteps.ready_each}
-use Rattle.tape_stage.proofs.{FrameLaws.put_holding, Stays.front_staged, Stays.still_ready}
+use Rattle.tape_stage.proofs.{Giving.put_holding, Keeps.front_staged, Keeps.still_ready}
 use Rattle.tape_stage.proofs.stage.Stage.put_part.Goals as goal
 
 pub returns-then-size-self-clause-any_moment : goal.returns-then-size-self-clause-any_moment

@@ -1,6 +1,6 @@
 use Rattle.std.proofs.Common.{inl, ◌+◌, take, refl, ap}
-use Rattle.tape_stage.proofs.{FrameLaws.front_holding, Passing.nothing, SlotSteps.ready_each}
-use Rattle.tape_stage.proofs.{Stays.gate_test, Keeps.frames_holding}
+use Rattle.tape_stage.proofs.{Giving.front_holding, Passing.nothing, SlotSteps.ready_each}
+use Rattle.tape_stage.proofs.{Keeps.gate_test, Keeps.frames_holding}
 use Rattle.tape_stage.proofs.stage.Stage.save.Goals as goal
 
 pub returns-then-self-clause-any_moment : goal.returns-then-self-clause-any_moment

@@ -3,7 +3,7 @@ use Rattle.std.proofs.Common.{subst, ◌∙◌, arith}
 use Rattle.tape_blocks.specs.{Block.Portion, Spans.join}
 use Rattle.tape_stage.specs.Frames.{NoFrameAt}
 use Rattle.tape_stage.proofs.Passing.{follow, stands, weaken}
-use Rattle.tape_stage.proofs.Walks.{counted_ends, counted_goes_on, walked_more}
+use Rattle.tape_stage.proofs.Remaining.{counted_ends, counted_goes_on, walked_more}
 use Rattle.tape_stage.proofs.Remaining.{framed_whole, framed_broken}
 use Rattle.tape_stage.proofs.stage.frames.walk.Given.{Over}
 use Rattle.tape_stage.proofs.stage.frames.walk.Goals.{After-min-limit, then-not-leaves}

@@ -1,6 +1,6 @@
 use Rattle.std.proofs.Common.{◌≡◌, ℕ, List, ◌∷◌, length, ap, subst, arith, length-append}
 use Rattle.tape_core.specs.Point.{Point}
-use Rattle.tape_stage.proofs.{Bodies.length-body, Makes.made_ready}
+use Rattle.tape_stage.proofs.{Bodies.length-body, Bodies.made_ready}
 use Rattle.tape_stage.specs.{Disk.Holds, Body.body_text, Body.FitBody, Staged.blank}
 use Rattle.tape_stage.specs.Staged.{new_slots}
 use Rattle.tape_stage.proofs.stage.open_disk.make.Goals as goal

@@ -4,7 +4,7 @@ use Rattle.std.proofs.{lemmas.List.take_at, lemmas.Slice.take-put_mid}
 use Rattle.std.specs.Int.{to_be_bytes}
 use Rattle.tape_blocks.specs.{Block.indicator, Parts.view}
 use Rattle.tape_stage.specs.Disk.{Holds, Torn}
-use Rattle.tape_stage.proofs.{FrameLaws.one_write, Keeps.torn_keeps, Passing.stands, Results.on_ok}
+use Rattle.tape_stage.proofs.{Giving.one_write, Keeps.torn_keeps, Passing.stands, Results.on_ok}
 use Rattle.tape_stage.proofs.Torn.{holds_torn}
 use Rattle.tape_stage.proofs.stage.putting.write_frame.Goals as goal
 
@@ -19,8 +19,7 @@ returns-clause-written g c honest =
     on_ok c.write_at.result (λ holds. one_write c.args.place (view c.args.part) _ _ _
     (take-put_mid 5 _ (head ++ rest) bytes _ (omega (arith, ap length same)) (omega (
       arith,
-      ap
-          length is,
+      ap length is,
       length-append head rest,
     )) ∙ ap (λ l. l ++ bytes) (take_at head rest 5 (ap length is))
     ∙ ap (λ l. head ++ l) same ∙ ap (λ l. l ++ c.args.part.bytes.now) is)

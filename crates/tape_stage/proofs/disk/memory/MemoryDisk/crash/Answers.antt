@@ -1,6 +1,6 @@
-use Rattle.std.proofs.Common.{◌≡◌, Bool, true, false, List, ℕ, subst, sym, ◌∙◌, ap}
+use Rattle.std.proofs.Common.{◌≡◌, Bool, List, ℕ, subst, sym, ◌∙◌, ap}
 use Rattle.tape_stage.specs.{Calls.kept_or, Memory.memory_leaves}
-use Rattle.tape_stage.proofs.Did.{worst_left_now}
+use Rattle.tape_stage.proofs.CallLaws.{worst_left_now}
 use Rattle.tape_stage.proofs.disk.memory.MemoryDisk.crash.Goals as goal
 
 chosen : (changed is : Bool) (worst bytes : List ℕ) → changed ≡ is → kept_or changed worst bytes

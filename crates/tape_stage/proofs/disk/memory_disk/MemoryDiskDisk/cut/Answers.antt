@@ -1,5 +1,4 @@
-use Rattle.tape_stage.specs.declared.disk.content.Call.TheVariants.{Cut}
-use Rattle.tape_stage.proofs.Did.{did_elapses, did_left}
+use Rattle.tape_stage.proofs.CallLaws.{did_elapses, did_left}
 use Rattle.tape_stage.proofs.disk.memory_disk.MemoryDiskDisk.cut.Goals as goal
 
 pub returns-in-Ok-clause-crash : goal.returns-in-Ok-clause-crash

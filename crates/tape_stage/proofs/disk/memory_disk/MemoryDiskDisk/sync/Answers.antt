@@ -1,5 +1,4 @@
-use Rattle.tape_stage.specs.declared.disk.content.Call.TheVariants.{Sync}
-use Rattle.tape_stage.proofs.Did.{did_elapses, did_left, synced_same}
+use Rattle.tape_stage.proofs.CallLaws.{did_elapses, did_left, synced_same}
 use Rattle.tape_stage.proofs.disk.memory_disk.MemoryDiskDisk.sync.Goals as goal
 
 pub returns-in-Ok-clause-crash : goal.returns-in-Ok-clause-crash

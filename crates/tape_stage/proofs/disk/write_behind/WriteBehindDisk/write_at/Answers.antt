@@ -1,8 +1,8 @@
 use Rattle.std.proofs.Common.{◌≡◌, ◌+◌, length, arith}
 use Rattle.tape_stage.specs.Holding.{torn_same}
 use Rattle.tape_stage.proofs.HoldingLaws.{then_elapses, then_stays, then_allows, holds_more}
-use Rattle.tape_stage.proofs.HoldingLaws.{same_elapses, more_elapses, added_follows, added_stays}
-use Rattle.tape_stage.proofs.HoldingLaws.{added_allows, begun_stays, begun_allows}
+use Rattle.tape_stage.proofs.HoldingLaws.{more_elapses, more_stays, added_follows}
+use Rattle.tape_stage.proofs.HoldingLaws.{added_allows, begun_allows}
 use Rattle.tape_stage.proofs.Results.{on_ok}
 use Rattle.tape_stage.proofs.disk.write_behind.WriteBehindDisk.write_at.Goals as goal
 
@@ -20,29 +20,24 @@ returns-then-fits-clause-written g c honest =
 pub returns-then-fits-clause-crash : goal.returns-then-fits-clause-crash
 returns-then-fits-clause-crash g c honest =
     let added = c.add.ensures in
-    let end : c.args.self.now.start + length c.args.self.now.bytes.items ≡ c.args.place =
-    omega arith in
-    added_follows g.D.Disk.may_leave _ _ _ _ _ _ _ _ added.disk added.start added.bytes end
+    rw (added.disk, added.start, added.bytes) (added_follows (g.D.Disk.may_leave _) _ _ _
+    c.args.bytes.now (omega arith))
 
 pub returns-then-fits-clause-stays : goal.returns-then-fits-clause-stays
 returns-then-fits-clause-stays g c honest =
     let added = c.add.ensures in
-    let end : c.args.self.now.start + length c.args.self.now.bytes.items ≡ c.args.place =
-    omega arith in
-    added_stays g.D.Disk.may_leave _ _ _ _ _ _ _ _ added.disk added.start added.bytes end
+    rw (added.disk, added.start, added.bytes) (more_stays (g.D.Disk.may_leave _) _ _ _)
 
 pub returns-then-fits-clause-any : goal.returns-then-fits-clause-any
 returns-then-fits-clause-any g c honest =
     let added = c.add.ensures in
-    let end : c.args.self.now.start + length c.args.self.now.bytes.items ≡ c.args.place =
-    omega arith in
-    added_allows g.D.Disk.may_leave _ _ _ _ _ _ _ _ added.disk added.start added.bytes end
+    rw (added.disk, added.start, added.bytes) (added_allows (g.D.Disk.may_leave _) _ _ _
+    c.args.bytes.now (omega arith))
 
 pub returns-then-fits-clause-time : goal.returns-then-fits-clause-time
 returns-then-fits-clause-time g c honest =
     let added = c.add.ensures in
-    same_elapses g.D.Disk.moment g.D.Disk.left_since g.D.Disk.may_leave _ _ _ _ _ _ _ _ added.disk
-    added.start added.bytes (more_elapses _ _ _ _ _ c.args.bytes.now)
+    rw (added.disk, added.start, added.bytes) (more_elapses _ _ _ _ _ c.args.bytes.now)
 
 -- ---- the buffer written, and then bytes buffered
 
@@ -54,18 +49,19 @@ returns-in_err-pass_on-clause-crash g c honest x left = (
 )
 
 pub returns-clause-stays : goal.returns-clause-stays
-returns-clause-stays g c honest =
+returns-clause-stays g c honest x left =
     let passed = c.in_ok-pass_on.ensures in
     let added = c.add-2.ensures in
-    begun_stays g.D.Disk.may_leave _ _ _ _ _ _ _ _ _ passed.empty added.disk added.start
-    added.bytes (passed.stays honest)
+    rw (added.disk, added.start, added.bytes, passed.empty)
+    (begun_allows _ _ _ _ _ _ passed.empty (passed.stays honest) x x left
+    (torn_same c.args.place (length c.args.bytes.now) x))
 
 pub returns-clause-any : goal.returns-clause-any
 returns-clause-any g c honest =
     let passed = c.in_ok-pass_on.ensures in
     let added = c.add-2.ensures in
-    begun_allows g.D.Disk.may_leave _ _ _ _ _ _ _ _ _ passed.empty added.disk added.start
-    added.bytes (passed.stays honest)
+    rw (added.disk, added.start, added.bytes, passed.empty)
+    (begun_allows _ _ _ _ _ _ passed.empty (passed.stays honest))
 
 -- ---- the buffer written, and then more bytes than fit in it
 
