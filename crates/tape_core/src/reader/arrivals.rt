@@ -321,6 +321,7 @@ fn differs(a: bool, b: bool) -> bool
 /// Returns whether `block`, already checked, differs from the block whose first `part` parts were
 /// delivered: it has no further part, or a record is unfinished after them although `begun` is
 /// false, or the converse.
+#[inline(always)]
 pub(crate) fn other_front(known: &Known, part: u32, begun: bool, block: &[u8]) -> bool
     requires { (before : Bool) × (end : Bool)
         × (judged known.now.format known.now.rec_len known.now.offset before block.now ≡ Ok end) }
