@@ -1,30 +1,25 @@
 //! Reads a reel into a sink, and returns the outcome.
 
 ghost use Rattle.std.specs.Prelude.{◌≡◌, is_some, true, false, ◌+◌, ◌++◌, ◌<◌, ◌≤◌, List, Some};
-ghost use Rattle.std.specs.Prelude.{None, OnOk, OnErr, IfOk, IfSome, IfNone, length, ◌∷◌, [], Bool};
-ghost use Rattle.std.specs.Prelude.{drop, IfErr};
+ghost use Rattle.std.specs.Prelude.{None, OnOk, OnErr, IfOk, IfErr, IfSome, length, drop, Bool};
 ghost use Rattle.tape_image.specs.Reader.{going, seen, IfKnown};
-ghost use Rattle.tape_image.specs.Tape.{block, TapeItem};
+ghost use Rattle.tape_image.specs.Tape.{block};
 ghost use Rattle.tape_blocks.specs.Block.{Portion, Holds};
 ghost use Rattle.tape_blocks.specs.Spans.{InOrder};
 ghost use Rattle.tape_blocks.specs.Packing.{longest_block};
 ghost use Rattle.tape_set.specs.Lawful.{FileForm};
 ghost use Rattle.tape_set.specs.Position.{part_of};
-ghost use Rattle.tape_core.specs.Follows.{IsFinal};
 ghost use Rattle.tape_core.specs.Known.{is_finished};
 ghost use Rattle.tape_core.specs.Place.{rest_of, place_of};
 ghost use Rattle.tape_core.specs.Arrive.{arrival};
-ghost use Rattle.tape_core.specs.Table.{step_of, saved};
+ghost use Rattle.tape_core.specs.Table.{saved};
 ghost use Rattle.tape_core.specs.Weight.{IsFront};
 ghost use Rattle.tape_run.specs.Crash.{BringsNoMore};
-ghost use Rattle.tape_run.specs.ByTable.{parts_of_arrival, StopsInside};
 ghost use Rattle.tape_run.specs.Given.{is_device};
-ghost use Rattle.tape_run.specs.Puts.{IsSized, IsChecked, refused_point, PutUpTo, PutsFew};
-ghost use Rattle.tape_run.specs.Reels.{ReadsReel, ReadsToBlock, IsDelivery, StopsAt, GoesOn};
-ghost use Rattle.tape_run.specs.Reels.{delivered_by};
+ghost use Rattle.tape_run.specs.Puts.{IsChecked, refused_point, PutUpTo, PutsFew};
+ghost use Rattle.tape_run.specs.Reels.{ReadsReel, ReadsToBlock, StopsAt};
 ghost use Rattle.tape_run.specs.Steps.{IsRefused};
-ghost use Rattle.tape_run.specs.Taking.{TakesItem, RefusesItem, ReadsImage, RefusesImage};
-ghost use Rattle.tape_run.specs.Taking.{CutsTable, came_of, fault_of};
+ghost use Rattle.tape_run.specs.Taking.{ReadsImage, RefusesImage, CutsTable, came_of, fault_of};
 
 use std::io::Read;
 use tape_blocks::{Parts, Shape};
@@ -148,21 +143,6 @@ fn event_of<'a>(told: Result<Option<Item<'a>>, ImageFault>) -> (Event<'a>, Optio
     }
 }
 
-/// Returns how many blocks an answer delivers, or `None` if it ends the reading.
-#[inline(always)]
-fn delivered(answer: Answer) -> Option<u32>
-    ensures on { IfSome result (λ _. GoesOn answer) }
-    ensures count { IfSome result (λ more. more ≡ delivered_by (answer ∷ [])) }
-    ensures few { IfSome result (λ more. more ≤ 1) }
-    ensures last { IfNone result (IsFinal answer) }
-{
-    match answer {
-        Answer::Passed => Some(0),
-        Answer::Deliver => Some(1),
-        _ => None,
-    }
-}
-
 /// Returns the number of the expected part.
 fn part_of(position: Position) -> u32
     ensures { result ≡ part_of position }
@@ -198,47 +178,6 @@ fn go_back(core: &mut ReaderCore, before: &Checkpoint, refused: &Refused)
 }
 
 impl<S: PartSink> ReelReader<S> {
-    /// Processes one event: passes it to the core, and puts the parts that this delivers. If a part
-    /// is refused, the core's position becomes that part.
-    #[inline(always)]
-    fn take(&mut self, event: Event<'_>) -> Result<Answer, SinkFault>
-        requires sized { IsSized (arrival event) }
-        ensures file { self.new.core.file ≡ self.old.core.file }
-        ensures set_id { self.new.core.set_id ≡ self.old.core.set_id }
-        ensures table { IfOk result (λ answer.
-            (answer, self.new.core) ≡ step_of self.old.core (arrival event.entry)) }
-        ensures complete { IfOk result (λ answer. answer ≡ Answer.Complete
-            → self.new.core.position ≡ Position.Finished) }
-        ensures finished { IfOk result (λ answer.
-            self.new.core.position ≡ Position.Finished → answer ≡ Answer.Complete) }
-        ensures left { IfOk result (λ answer. arrival event.entry ≡ None
-            → (rest_of self.new.core ≡ rest_of self.old.core) × IsFinal answer) }
-        ensures delivery { OnErr result
-            (IsDelivery self.old.core (arrival event.entry) self.new.core) }
-        ensures ok { IfOk result (λ answer. (held : List Portion) → S.holds self.old.sink held
-            → (now : List Portion) × S.holds self.new.sink now × IsFront held now
-            × (now ≡ held ++ parts_of_arrival self.old.core (arrival event.entry))
-            × TakesItem (arrival event.entry) answer self.old.core self.new.core held now) }
-        ensures err { OnErr result ((held : List Portion) → S.holds self.old.sink held
-            → (now : List Portion) × S.holds self.new.sink now × IsFront held now
-            × ((item : TapeItem) → arrival event.entry ≡ Some item
-            → StopsInside self.old.core (rest_of self.new.core) item held now)
-            × RefusesItem (arrival event.entry) self.old.core self.new.core held now) }
-        ensures cause { IfErr result (λ fault. IsRefused S.refusals S.refuses_change
-            self.old.sink fault self.new.sink) }
-        ensures calm { OnOk result (S.refusals self.new.sink ≡ S.refusals self.old.sink) }
-        ensures crash { BringsNoMore S.PartSink self.old.sink self.new.sink }
-    {
-        let before = self.core.save(0);
-        let answer = self.core.step(event);
-        if let Answer::Deliver = answer {
-            if let Event::Block(block) = event {
-                self.put_block(&before, block)?;
-            }
-        }
-        Ok(answer)
-    }
-
     /// Puts the parts of the block that the core has just delivered, from the expected one on.
     #[inline(always)]
     fn put_block(&mut self, before: &Checkpoint, content: &[u8]) -> Result<(), SinkFault>
@@ -311,12 +250,19 @@ impl<S: PartSink> ReelReader<S> {
     {
         let mut blocks = 0u32;
         'items: loop {
+            let before = self.core.save(0);
             let (event, fault) = event_of(image.next());
-            let answer = self.take(event)?;
-            let Some(more) = delivered(answer) else {
-                return Ok(ReelAnswer::new(answer, fault, blocks));
-            };
-            blocks += more;
+            match self.core.step(event) {
+                Answer::Passed => continue 'items,
+                Answer::Deliver => {
+                    let Event::Block(block) = event else {
+                        unreachable!()
+                    };
+                    self.put_block(&before, block)?;
+                    blocks += 1;
+                }
+                answer => return Ok(ReelAnswer::new(answer, fault, blocks)),
+            }
         }
     }
 }
