@@ -13,7 +13,6 @@ use Rattle.tape_run.specs.OutSinks.{HasTaken, TellsAlways}
 use Rattle.tape_run.specs.ReelLine.{reel_lines}
 use Rattle.tape_run.specs.Reeling.{answer_of}
 use Rattle.tape_run.proofs.Causes.{not_rose}
-use Rattle.tape_run.proofs.extract.count_records.Reads as count_records
 use Rattle.tape_run.proofs.extract.write_file.Reads as write_file
 use Rattle.tape_run.proofs.extract.now.extract_streaming.Reads as streaming
 use Rattle.tape_run.proofs.extract.out_sink.OutSink.finish.Reads as finish
@@ -86,12 +85,15 @@ rollback_swaps_the_fault S LS g d κs a s l only = elim (l.refuses.1) [
   | inr other ↦ absurd (cc other.0)
 ]
 
--- walk_swaps_the_fault: records are not counted because memory ran out
-walk_swaps_the_fault : (S : _) (L : _) (g : _) (d : _) (g' : _) (d' : _) (κs : _) (a : _) (s : _)
-    → count_records.Learnt-named S L g d g' d' κs a (Err sink.OutOfMemory) s
+-- walk_swaps_the_fault: records are not written because memory ran out
+walk_swaps_the_fault : (S : _) (W : _) (LS : _) (LW : _) (g : _) (d : _) (g' : _) (d' : _) (h : _)
+    (e : _) (κs : _) (a : _) (s : _)
+    → write_file.Learnt-named S W LS LW g d g' d' h e κs a (Err (Run (Sink sink.OutOfMemory))) s
     → OnlyDevice g.refuses → ⊥
-walk_swaps_the_fault S L g d g' d' κs a s l only =
-    let r = l.cause in absurd (cc (only r.mid sink.OutOfMemory s.0.now r.why))
+walk_swaps_the_fault S W LS LW g d g' d' h e κs a s l only = elim (l.cause) [
+  | inl r ↦ absurd (cc (only r.mid sink.OutOfMemory s.0.now r.why))
+  | inr other ↦ absurd (cc other.0)
+]
 
 -- streaming_is_full_at_once: the images are not read because the sink is full, but it refused no
 -- call

@@ -14,14 +14,14 @@ use Rattle.tape_blocks.specs.declared.parts.Form.{Form}
 use Rattle.tape_run.specs.RecordText.{record_end, records_text, part_text}
 use Rattle.tape_run.specs.OutSinks.{begun_text, text_so_far, with_end, TellsAlways, HasTaken}
 
-records_text-append : (form : Form) (xs ys : List (List ℕ))
+pub records_text-append : (form : Form) (xs ys : List (List ℕ))
     → records_text form (xs ++ ys) ≡ records_text form xs ++ records_text form ys
 records_text-append form [] ys = refl
 records_text-append form (x ∷ xs) ys =
     ap (λ t. (x ++ record_end form) ++ t) (records_text-append form xs ys)
     ∙ sym (append_assoc (x ++ record_end form) (records_text form xs) (records_text form ys))
 
-content_is : (begun : Option (List ℕ)) (bytes : List ℕ)
+pub content_is : (begun : Option (List ℕ)) (bytes : List ℕ)
     → content_after begun bytes ≡ begun_text begun ++ bytes
 content_is None bytes = refl
 content_is (Some front) bytes = refl

@@ -1,7 +1,9 @@
--- The parts before the first one that leaves its record unfinished, found during a walk.
-use Rattle.std.proofs.Common.{Ok, ◌≡◌, ℕ, ◌+◌, ◌-◌, ◌<◌, ◌≤◌, Bool, true, false, List, [], ◌∷◌}
-use Rattle.std.proofs.Common.{◌++◌, length, Option, Some, None, refl, sym, ap, subst, ◌∙◌, arith}
-use Rattle.std.proofs.Common.{append_assoc, append-nil, drop, length-append, if◌then◌else◌}
+-- The records before the first part that leaves its record unfinished, written while all records
+-- are counted.
+use Rattle.std.proofs.Common.{Ok, ◌≡◌, ℕ, zero, suc, ◌+◌, ◌≤◌, Bool, true, false, List, [], ◌∷◌}
+use Rattle.std.proofs.Common.{◌++◌, length, take, drop, Option, Some, None, refl, sym, ap, subst}
+use Rattle.std.proofs.Common.{◌∙◌, arith, append-nil, if◌then◌else◌}
+use Rattle.std.proofs.lemmas.List.{take-append-drop}
 use Rattle.std.specs.Io.KnownBytes.{Appends}
 use Rattle.std.proofs.KnownBytes.{Appends-nil, Appends-trans}
 use Rattle.tape_blocks.specs.{Block.Portion, Parts.view}
@@ -9,193 +11,171 @@ use Rattle.tape_blocks.specs.Spans.{leaves, with_record, join_after, join}
 use Rattle.tape_blocks.specs.declared.parts.{Form.Form, Part.Part}
 use Rattle.tape_core.specs.{Walks.GivesPart, Stands.weight_of}
 use Rattle.tape_image.specs.Written.{AppendsFront}
-use Rattle.tape_run.specs.RecordText.{record_end, records_text, output_of, part_text}
-use Rattle.tape_run.specs.RecordFront.{EachEnds, WritesFront}
 use Rattle.tape_image.proofs.Pieces.{front_more, front_behind}
-use Rattle.tape_run.proofs.Streams.{with_end, ends, count_ends, ends_few}
+use Rattle.tape_run.specs.RecordText.{record_end, records_text, output_of, part_text}
+use Rattle.tape_run.specs.OutSinks.{with_end}
+use Rattle.tape_run.proofs.{OutSinks.records_text-append, Streams.ends, Streams.count_ends}
+use Rattle.tape_run.proofs.{Streams.ends_few, Streams.ends_next}
 
--- ---- the text written for such parts
+-- The text of the records is that of the first ones, followed by that of the others.
+split : (form : Form) (n : ℕ) (rs : List (List ℕ))
+    → records_text form (take n rs) ++ records_text form (drop n rs) ≡ records_text form rs
+split form n rs = sym (records_text-append form (take n rs) (drop n rs))
+    ∙ ap (records_text form) (take-append-drop n rs)
 
-one_text : (form : Form) (p : Portion) (ps : List Portion) → leaves p.span ≡ false
-    → output_of form (p ∷ ps) ≡ part_text form p ++ output_of form ps
-one_text form p ps e =
-    ap (λ b. records_text form (if b then join_after (Some p.bytes) ps else with_record p.bytes
-    (join_after None ps)).records) e
-    ∙ ap (λ b. (p.bytes ++ (if b then [] else record_end form)) ++ output_of form ps) (sym e)
+-- The first records were written, and then the others, or a prefix of their text.
+pub both_written : (form : Form) (n : ℕ) (old mid new : Option (List ℕ)) (rs : List (List ℕ))
+    → Appends old mid (records_text form (take n rs))
+    → Appends mid new (records_text form (drop n rs)) → Appends old new (records_text form rs)
+both_written form n old mid new rs a b = subst (Appends old new) (split form n rs)
+    (Appends-trans old mid new _ (records_text form (drop n rs)) a b)
 
-pub front_text : (form : Form) (first rest : List Portion) → EachEnds first
-    → output_of form (first ++ rest) ≡ output_of form first ++ output_of form rest
-front_text form [] rest each = refl
-front_text form (p ∷ ps) rest (e, each) =
-    one_text form _ (ps ++ rest) e ∙ ap (λ t. part_text form p ++ t) (front_text form ps rest each)
-    ∙ sym (append_assoc (part_text form p) (output_of form ps) (output_of form rest)) ∙ ap
-    (λ t. t ++ output_of form rest) (sym (one_text form _ ps e))
+pub rest_failed : (form : Form) (n : ℕ) (old mid new : Option (List ℕ)) (rs : List (List ℕ))
+    → Appends old mid (records_text form (take n rs))
+    → AppendsFront mid new (records_text form (drop n rs))
+    → AppendsFront old new (records_text form rs)
+rest_failed form n old mid new rs a b =
+    subst (AppendsFront old new) (split form n rs) (front_behind old mid new _ _ a b)
 
-front_ends : (first rest : List Portion) → EachEnds first
-    → ends (first ++ rest) ≡ length first + ends rest
-front_ends [] rest each = omega arith
-front_ends (p ∷ ps) rest (e, each) =
-    let more = front_ends ps rest each in
-    ap (λ b. with_end b (ends (ps ++ rest))) e ∙ omega (arith, more)
+-- a part that ends its record, which has no other part
+one_record : (p : Portion) (ps : List Portion) → leaves p.span ≡ false
+    → (join (p ∷ ps)).records ≡ p.bytes ∷ (join ps).records
+one_record p ps e = ap (λ b. (if b then join_after (Some p.bytes) ps
+    else with_record p.bytes (join_after None ps)).records) e
 
--- This many records precede the rest.
-pub front_records : (first rest : List Portion) → EachEnds first
-    → length (join (first ++ rest)).records ≡ length first + length (join rest).records
-front_records first rest each =
-    let all = count_ends None (first ++ rest) in
-    let few = count_ends None rest in
-    let sum = front_ends first rest each in
-    omega (arith, all, few, sum)
+one_text : (form : Form) (p : Portion) → leaves p.span ≡ false
+    → part_text form p ≡ p.bytes ++ record_end form
+one_text form p e = ap (λ b. p.bytes ++ (if b then [] else record_end form)) e
 
-each_with : (first : List Portion) (p : Portion) → EachEnds first → leaves p.span ≡ false
-    → EachEnds (first ++ p ∷ [])
-each_with [] p each e = (e, tt)
-each_with (q ∷ ps) p (was, each) e = (was, each_with ps p each e)
+next_record : (xs : List (List ℕ)) (n : ℕ) (x : List ℕ) (ys : List (List ℕ))
+    → drop n xs ≡ x ∷ ys → (take (suc n) xs ≡ take n xs ++ x ∷ []) × (drop (suc n) xs ≡ ys)
+next_record [] zero x ys e = absurd (cc e)
+next_record [] (suc n) x ys e = absurd (cc e)
+next_record (y ∷ xs) zero x ys e = (ap (take 1) e, ap (drop 1) e)
+next_record (y ∷ xs) (suc n) x ys e =
+    let (first, rest) = next_record xs n x ys e in (ap (λ l. y ∷ l) first, rest)
 
--- ---- a walk that writes the parts
+-- ---- the walk
 
--- The first parts, each of which ends a record, were written, and the others are still to come.
-pub record Fronts (form : Form) (ahead : List Portion → Type 0) (count : ℕ)
+-- The first records were written, and all that end before the parts still to come were counted. If
+-- each part so far is a record, these are the same ones.
+pub record Fronts (form : Form) (ahead : List Portion → Type 0) (all : Bool) (written count : ℕ)
     (old new : Option (List ℕ)) (parts : List Portion) : Type 0 where
-  pub first : List Portion
   pub rest : List Portion
-  pub are : parts ≡ first ++ rest
   pub is_ahead : ahead rest
-  pub each : EachEnds first
-  pub counted : length first ≡ count
-  pub wrote : Appends old new (output_of form first)
-  pub few : length first + ends rest ≤ 999999999999999
+  pub counted : count + ends rest ≡ ends parts
+  pub few : ends parts ≤ 999999999999999
+  pub wrote : Appends old new (records_text form (take written (join parts).records))
+  pub each : all ≡ true
+      → (written ≡ count) × (drop count (join parts).records ≡ (join rest).records)
 
 pub front_starts : (form : Form) (ahead : List Portion → Type 0) (old : Option (List ℕ))
     (parts : List Portion) (weight : ℕ) → ahead parts → weight ≡ weight_of parts
-    → weight ≤ 999999999999999 → Fronts form ahead 0 old old parts
+    → weight ≤ 999999999999999 → Fronts form ahead true 0 0 old old parts
 front_starts form ahead old parts weight is e limit =
     let few = ends_few parts in
     record {
-      first = [];
       rest = parts;
-      are = refl;
       is_ahead = is;
-      each = tt;
-      counted = refl;
-      wrote = Appends-nil old;
+      counted = omega arith;
       few = omega (arith, few, e, limit);
+      wrote = Appends-nil old;
+      each = λ all. (refl, refl);
     }
 
-pub front_goes_on : (form : Form) (ahead after : List Portion → Type 0) (count next : ℕ)
-    (old mid new : Option (List ℕ)) (parts : List Portion) (part : Part)
-    → Fronts form ahead count old mid parts
+-- a part that is not written, after which no record is
+pub front_counts : (form : Form) (ahead after : List Portion → Type 0) (all : Bool)
+    (written count next : ℕ) (old new : Option (List ℕ)) (parts : List Portion) (part : Part)
+    → Fronts form ahead all written count old new parts
+    → ((xs : List Portion) → ahead xs → GivesPart (Ok (Some part)) xs after)
+    → (count ≤ 999999999999999 → next ≡ with_end (leaves part.span) count) → (still : Bool)
+    → still ≡ false → Fronts form after still written next old new parts
+front_counts form ahead after all written count next old new parts part f gives counts still e =
+    let (rest, is, there) = gives f.rest f.is_ahead in
+    let counted = f.counted in
+    let few = f.few in
+    record {
+      rest = rest;
+      is_ahead = there;
+      counted = ap (λ n. n + ends rest) (counts (omega (arith, counted, few)))
+          ∙ ends_next (leaves part.span) count (ends rest) (ends parts)
+          (ap (λ xs. count + ends xs) (sym is) ∙ f.counted);
+      few = f.few;
+      wrote = f.wrote;
+      each = λ is. absurd (let never : true ≡ false = sym is ∙ e in cc never);
+    }
+
+pub front_writes : (form : Form) (ahead after : List Portion → Type 0) (all : Bool)
+    (written count next : ℕ) (old mid new : Option (List ℕ)) (parts : List Portion) (part : Part)
+    → Fronts form ahead all written count old mid parts → all ≡ true
     → ((xs : List Portion) → ahead xs → GivesPart (Ok (Some part)) xs after)
     → leaves part.span ≡ false → Appends mid new (part_text form (view part))
-    → (count ≤ 999999999999999 → next ≡ count + 1) → Fronts form after next old new parts
-front_goes_on form ahead after count next old mid new parts part f gives e wrote counts =
+    → (count ≤ 999999999999999 → next ≡ count + 1) → Fronts form after all next next old new parts
+front_writes form ahead after all written count next old mid new parts part f so gives e wrote
+    counts =
     let (rest, is, there) = gives f.rest f.is_ahead in
     let p = view part in
-    let one : output_of form (p ∷ []) ≡ part_text form p =
-    one_text form p [] e ∙ append-nil (part_text form p) in
-    let more : ends f.rest ≡ ends rest + 1 =
-    ap ends is ∙ ap (λ b. with_end b (ends rest)) e in
-    let few = f.few in
-    let long : length (f.first ++ p ∷ []) ≡ length f.first + 1 =
-    omega (arith, length-append f.first (p ∷ [])) in
+    let rs = (join parts).records in
     let counted = f.counted in
+    let few = f.few in
+    let more : next ≡ suc count =
+    let n = counts (omega (arith, counted, few)) in omega (arith, n) in
+    let (same, others) = f.each so in
+    let (first, left) = next_record rs count p.bytes (join rest).records
+    (others ∙ ap (λ ps. (join ps).records) is ∙ one_record p rest e) in
+    let ended : count + ends (p ∷ rest) ≡ ends parts =
+    ap (λ xs. count + ends xs) (sym is) ∙ f.counted in
     record {
-      first = f.first ++ p ∷ [];
       rest = rest;
-      are = f.are ∙ ap (λ t. f.first ++ t) is ∙ sym (append_assoc f.first (p ∷ []) rest);
       is_ahead = there;
-      each = each_with f.first p f.each e;
-      counted = long ∙ sym (counts (omega (arith, few, more, counted))
-          ∙ ap (λ n. n + 1) (sym counted));
-      wrote = subst (Appends old new) (ap (λ t. output_of form f.first ++ t) (sym one)
-          ∙ sym (front_text form f.first (p ∷ []) f.each))
-          (Appends-trans old mid new (output_of form f.first) (part_text form p) f.wrote wrote);
-      few = omega (arith, few, more, long);
+      counted = ap (λ n. n + ends rest) (more ∙ omega arith)
+          ∙ ends_next false count (ends rest) (ends parts)
+          (ap (λ b. count + with_end b (ends rest)) (sym e) ∙ ended);
+      few = f.few;
+      wrote = subst (Appends old new) (ap (λ n. records_text form (take n rs) ++ part_text form p)
+          same ∙ ap (λ t. records_text form (take count rs) ++ t)
+          (one_text form p e ∙ sym (append-nil (p.bytes ++ record_end form)))
+          ∙ sym (records_text-append form (take count rs) (p.bytes ∷ []))
+          ∙ ap (records_text form) (sym first ∙ ap (λ n. take n rs) (sym more)))
+          (Appends-trans old mid new _ (part_text form p) f.wrote wrote);
+      each = λ all. (refl, ap (λ n. drop n rs) more ∙ left);
     }
 
-pub front_failed : (form : Form) (ahead after : List Portion → Type 0) (count : ℕ)
-    (old mid new : Option (List ℕ)) (parts : List Portion) (part : Part)
-    → Fronts form ahead count old mid parts
+pub front_failed : (form : Form) (ahead after : List Portion → Type 0) (all : Bool)
+    (written count : ℕ) (old mid new : Option (List ℕ)) (parts : List Portion) (part : Part)
+    → Fronts form ahead all written count old mid parts → all ≡ true
     → ((xs : List Portion) → ahead xs → GivesPart (Ok (Some part)) xs after)
     → leaves part.span ≡ false → AppendsFront mid new (part_text form (view part))
     → AppendsFront old new (output_of form parts)
-front_failed form ahead after count old mid new parts part f gives e wrote =
+front_failed form ahead after all written count old mid new parts part f so gives e wrote =
     let (rest, is, there) = gives f.rest f.is_ahead in
     let p = view part in
-    subst (AppendsFront old new) (sym (ap (output_of form) (f.are ∙ ap (λ t. f.first ++ t) is)
-    ∙ front_text form _ (p ∷ rest) f.each ∙ ap (λ t. output_of form f.first ++ t)
-    (one_text form _ rest e))) (front_behind _ _ _ _ _ f.wrote
-    (front_more _ _ _ (output_of form rest) wrote))
+    let (same, others) = f.each so in
+    rest_failed form written old mid new (join parts).records f.wrote
+    (subst (AppendsFront mid new) (ap (λ t. t ++ output_of form rest) (one_text form p e)
+    ∙ ap (records_text form) (sym (ap (λ n. drop n (join parts).records) same ∙ others
+    ∙ ap (λ ps. (join ps).records) is ∙ one_record p rest e)))
+    (front_more mid new (part_text form p) (output_of form rest) wrote))
 
 -- the walk was refused
-pub front_refused : (form : Form) (ahead : List Portion → Type 0) (count : ℕ)
-    (old new : Option (List ℕ)) (parts : List Portion) → Fronts form ahead count old new parts
+pub front_refused : (form : Form) (ahead : List Portion → Type 0) (all : Bool) (written count : ℕ)
+    (old new : Option (List ℕ)) (parts : List Portion)
+    → Fronts form ahead all written count old new parts
     → AppendsFront old new (output_of form parts)
-front_refused form ahead count old new parts f = (
-  output_of form f.first,
-  output_of form f.rest,
+front_refused form ahead all written count old new parts f = (
+  records_text form (take written (join parts).records),
+  records_text form (drop written (join parts).records),
   f.wrote,
-  ap (output_of form) f.are ∙ front_text form f.first f.rest f.each,
+  sym (split form written (join parts).records),
 )
 
--- they are all
-pub front_all : (form : Form) (count : ℕ) (old new : Option (List ℕ)) (parts : List Portion)
-    → WritesFront form count true old new parts
-    → (count ≡ length (join parts).records) × Appends old new (output_of form parts)
-front_all form count old new parts f =
-    let none : f.rest ≡ [] = f.none refl in
-    let sum = front_records f.first f.rest f.each in
-    let counted = f.counted in
-    let all = ap (λ ps. length (join ps).records) f.are in
-    let empty : length (join f.rest).records ≡ 0 = ap (λ ps. length (join ps).records) none in (
-      omega (arith, sum, counted, all, empty),
-      subst (Appends old new) (sym (append-nil (output_of form f.first))
-          ∙ ap (λ ps. output_of form f.first ++ output_of form ps) (sym none)
-          ∙ sym (front_text form f.first f.rest f.each) ∙ ap (output_of form) (sym f.are)) f.wrote,
-    )
-
--- and then the rest of the text was written, or a prefix of it
-pub rest_written : (form : Form) (count records : ℕ) (all : Bool) (old mid new : Option (List ℕ))
-    (parts : List Portion) (f : WritesFront form count all old mid parts)
-    → (records ≡ length (join (f.first ++ f.rest)).records)
-    × Appends mid new (output_of form f.rest)
-    → (records ≡ length (join parts).records) × Appends old new (output_of form parts)
-rest_written form count records all old mid new parts f (counted, wrote) = (
-  counted ∙ ap (λ ps. length (join ps).records) (sym f.are),
-  subst (Appends old new) (sym (front_text form _ f.rest f.each) ∙ ap (output_of form) (sym f.are))
-      (Appends-trans old mid new (output_of form f.first) (output_of form f.rest) f.wrote wrote),
-)
-
-pub rest_failed : (form : Form) (count : ℕ) (all : Bool) (old mid new : Option (List ℕ))
-    (parts : List Portion) (f : WritesFront form count all old mid parts)
-    → AppendsFront mid new (output_of form f.rest) → AppendsFront old new (output_of form parts)
-rest_failed form count all old mid new parts f wrote =
-    subst (AppendsFront old new) (sym (front_text form _ f.rest f.each) ∙ ap (output_of form)
-    (sym f.are)) (front_behind _ _ _ _ _ f.wrote wrote)
-
--- ---- a walk that skips the parts
-
--- Some of the parts are still to be skipped, followed by the others.
-pub record Passes (ahead : List Portion → Type 0) (left : ℕ) (rest : List Portion) : Type 0 where
-  pub before : List Portion
-  pub is_ahead : ahead (before ++ rest)
-  pub counted : length before ≡ left
-
-passed : (ahead after : List Portion → Type 0) (left next : ℕ) (rest : List Portion)
-    (given : Option Part) (before : List Portion) → length before ≡ left → 0 < left
-    → next ≡ left - 1 → GivesPart (Ok given) (before ++ rest) after → Passes after next rest
-passed ahead after left next rest given [] long some e gives = absurd (omega (arith, long, some))
-passed ahead after left next rest None (p ∷ ps) long some e (none, there) =
-    absurd (let n : length (p ∷ (ps ++ rest)) ≡ 0 = ap length none in omega (arith, n))
-passed ahead after left next rest (Some part) (p ∷ ps) long some e (others, is, there) =
-    record {
-      before = ps;
-      is_ahead = subst after (sym (ap (drop 1) is)) there;
-      counted = omega (arith, long, some, e);
-    }
-
-pub pass_goes_on : (ahead after : List Portion → Type 0) (left next : ℕ) (rest : List Portion)
-    (given : Option Part) → Passes ahead left rest → 0 < left → next ≡ left - 1
-    → ((xs : List Portion) → ahead xs → GivesPart (Ok given) xs after) → Passes after next rest
-pass_goes_on ahead after left next rest given p some e gives =
-    passed ahead _ _ _ _ _ _ p.counted some e (gives (p.before ++ rest) p.is_ahead)
+pub front_ended : (form : Form) (ahead after : List Portion → Type 0) (all : Bool)
+    (written count : ℕ) (old new : Option (List ℕ)) (parts : List Portion)
+    → Fronts form ahead all written count old new parts
+    → ((xs : List Portion) → ahead xs → GivesPart (Ok None) xs after)
+    → (count ≡ length (join parts).records)
+    × Appends old new (records_text form (take written (join parts).records))
+front_ended form ahead after all written count old new parts f gives =
+    let (none, there) = gives f.rest f.is_ahead in
+    let sum : count + 0 ≡ ends parts = ap (λ xs. count + ends xs) (sym none) ∙ f.counted in
+    let whole = count_ends None parts in (omega (arith, sum, whole), f.wrote)

@@ -1,21 +1,19 @@
 -- The text of records, written part by part.
 use Rattle.std.proofs.lemmas.List.{nil_from_length}
-use Rattle.std.proofs.Common.{append-nil, Ok, ◌≡◌, ℕ, zero, suc, ◌+◌, ◌<◌, ◌≤◌, Bool, true, false}
-use Rattle.std.proofs.Common.{List, [], ◌∷◌, ◌++◌, length, Option, Some, None, refl, sym, ap, subst}
-use Rattle.std.proofs.Common.{◌∙◌, arith, append_assoc, if◌then◌else◌}
+use Rattle.std.proofs.Common.{append-nil, Ok, ◌≡◌, ℕ, zero, suc, ◌+◌, ◌-◌, ◌<◌, ◌≤◌, Bool, true}
+use Rattle.std.proofs.Common.{false, List, [], ◌∷◌, ◌++◌, length, drop, Option, Some, None, refl}
+use Rattle.std.proofs.Common.{sym, ap, subst, ◌∙◌, arith, append_assoc, if◌then◌else◌}
 use Rattle.std.specs.Io.KnownBytes.{Appends}
 use Rattle.std.proofs.KnownBytes.{Appends-nil, Appends-trans}
 use Rattle.tape_image.specs.Written.{AppendsFront}
+use Rattle.tape_image.proofs.Pieces.{front_more, front_behind}
 use Rattle.tape_blocks.specs.{Block.Portion, Parts.view}
 use Rattle.tape_blocks.specs.Spans.{leaves, content_after, with_record, join_after, join}
 use Rattle.tape_core.specs.{Stands.weight_of, Walks.GivesPart}
 use Rattle.tape_blocks.specs.declared.parts.{Part.Part, Form.Form}
 use Rattle.tape_run.specs.RecordText.{record_end, records_text, output_of, part_text}
-
--- one more record, if a part ends it
-abbrev pub with_end : Bool → ℕ → ℕ
-with_end true n = n
-with_end false n = n + 1
+use Rattle.tape_run.specs.OutSinks.{begun_text, with_end}
+use Rattle.tape_run.proofs.{OutSinks.content_is}
 
 -- the number of parts that end a record
 abbrev pub ends : List Portion → ℕ
@@ -48,11 +46,6 @@ abbrev pub stream : Form → List Portion → List ℕ
 stream form [] = []
 stream form (p ∷ ps) = still (some_left (ends (p ∷ ps))) (part_text form p ++ stream form ps)
 
--- the unfinished record has been written
-abbrev pub behind : Option (List ℕ) → List ℕ
-behind None = []
-behind (Some front) = front
-
 none_end : (begun : Option (List ℕ)) (ps : List Portion) → ends ps ≡ 0
     → (join_after begun ps).records ≡ []
 none_end begun ps e = nil_from_length (join_after begun ps).records (count_ends begun ps ∙ e)
@@ -69,15 +62,10 @@ pub stream_some : (form : Form) (p : Portion) (ps : List Portion) → 0 < ends (
     → stream form (p ∷ ps) ≡ part_text form p ++ stream form ps
 stream_some form p ps h = still_some (ends (p ∷ ps)) (part_text form p ++ stream form ps) h
 
-content_is : (begun : Option (List ℕ)) (bytes : List ℕ)
-    → content_after begun bytes ≡ behind begun ++ bytes
-content_is None bytes = refl
-content_is (Some front) bytes = refl
-
 -- a property of any number of ended records except 0
 abbrev pub IsStreamed : Form → List Portion → Type 0
 IsStreamed form ps = (begun : Option (List ℕ)) → 0 < ends ps
-    → behind begun ++ stream form ps ≡ records_text form (join_after begun ps).records
+    → begun_text begun ++ stream form ps ≡ records_text form (join_after begun ps).records
 
 tail_by : (form : Form) (ps : List Portion) (n : ℕ) → ends ps ≡ n → IsStreamed form ps
     → stream form ps ≡ records_text form (join_after None ps).records
@@ -87,25 +75,25 @@ tail_by form ps (suc n) e all = all None (omega (arith, e))
 
 by_part : (form : Form) (b : Bool) (begun : Option (List ℕ)) (bytes : List ℕ) (ps : List Portion)
     → 0 < with_end b (ends ps) → IsStreamed form ps
-    → behind begun ++ ((bytes ++ (if b then [] else record_end form)) ++ stream form ps)
+    → begun_text begun ++ ((bytes ++ (if b then [] else record_end form)) ++ stream form ps)
     ≡ records_text form (if b then join_after (Some (content_after begun bytes)) ps else with_record
     (content_after begun bytes) (join_after None ps)).records
 by_part form true begun bytes ps h all =
     let content = content_is begun bytes in
-    ap (λ t. behind begun ++ (t ++ stream form ps)) (append-nil bytes)
-    ∙ sym (append_assoc (behind begun) bytes (stream form ps))
+    ap (λ t. begun_text begun ++ (t ++ stream form ps)) (append-nil bytes)
+    ∙ sym (append_assoc (begun_text begun) bytes (stream form ps))
     ∙ ap (λ t. t ++ stream form ps) (sym content) ∙ all (Some (content_after begun bytes)) h
 by_part form false begun bytes ps h all =
     let end = record_end form in
     let rest = records_text form (join_after None ps).records in
-    ap (λ t. behind begun ++ ((bytes ++ end) ++ t)) (tail_by form ps (ends ps) refl all)
-    ∙ sym (append_assoc (behind begun) (bytes ++ end) rest)
-    ∙ ap (λ t. t ++ rest) (sym (append_assoc (behind begun) bytes end)
+    ap (λ t. begun_text begun ++ ((bytes ++ end) ++ t)) (tail_by form ps (ends ps) refl all)
+    ∙ sym (append_assoc (begun_text begun) (bytes ++ end) rest)
+    ∙ ap (λ t. t ++ rest) (sym (append_assoc (begun_text begun) bytes end)
     ∙ ap (λ t. t ++ end) (sym (content_is begun bytes)))
 
 streamed : (form : Form) (ps : List Portion) → IsStreamed form ps
 streamed form [] begun h = absurd (omega arith)
-streamed form (p ∷ ps) begun h = ap (λ t. behind begun ++ t) (stream_some form p ps h)
+streamed form (p ∷ ps) begun h = ap (λ t. begun_text begun ++ t) (stream_some form p ps h)
     ∙ by_part form (leaves p.span) begun p.bytes ps h (streamed form ps)
 
 -- The records are written part by part, without an unfinished one.
@@ -123,113 +111,191 @@ ends_few (p ∷ ps) =
     let less = ends_by (leaves p.span) (ends ps) (weight_of ps) (ends_few ps) in
     omega (arith, less)
 
--- ---- counting
+-- ---- the records behind the first ones
 
--- This many records end before the parts that are still to come.
-pub record Counted (ahead : List Portion → Type 0) (count : ℕ) (parts : List Portion) : Type 0 where
+-- the text of the parts behind those that end this many records
+abbrev pub stream_from : ℕ → Form → List Portion → List ℕ
+stream_from zero form ps = stream form ps
+stream_from (suc n) form [] = []
+stream_from (suc n) form (p ∷ ps) = stream_from (if leaves p.span then suc n else n) form ps
+
+from_by : (form : Form) (b : Bool) (n : ℕ) (content : List ℕ) (ps : List Portion)
+    → ((m : ℕ) (begun : Option (List ℕ)) → stream_from (suc m) form ps
+    ≡ records_text form (drop (suc m) (join_after begun ps).records))
+    → stream_from (if b then suc n else n) form ps
+    ≡ records_text form (drop (suc n) (if b then join_after (Some content) ps
+    else with_record content (join_after None ps)).records)
+from_by form true n content ps same = same n (Some content)
+from_by form false zero content ps same = output_is form ps
+from_by form false (suc n) content ps same = same n None
+
+from_some : (form : Form) (ps : List Portion) (n : ℕ) (begun : Option (List ℕ))
+    → stream_from (suc n) form ps
+    ≡ records_text form (drop (suc n) (join_after begun ps).records)
+from_some form [] n begun = refl
+from_some form (p ∷ ps) n begun =
+    from_by form (leaves p.span) n (content_after begun p.bytes) ps (λ m b. from_some form ps m b)
+
+from_is : (form : Form) (n : ℕ) (ps : List Portion)
+    → stream_from n form ps ≡ records_text form (drop n (join ps).records)
+from_is form zero ps = output_is form ps
+from_is form (suc n) ps = from_some form ps n None
+
+drop_none : (n : ℕ) (xs : List (List ℕ)) → xs ≡ [] → drop n xs ≡ []
+drop_none zero xs e = e
+drop_none (suc n) xs e = ap (drop (suc n)) e
+
+from_none : (form : Form) (n : ℕ) (ps : List Portion) → ends ps ≡ 0 → stream_from n form ps ≡ []
+from_none form n ps e = from_is form n ps
+    ∙ ap (records_text form) (drop_none n (join ps).records (none_end None ps e))
+
+-- The records before the parts still to come ended. What was written of those behind the first
+-- `from`, followed by the text still to be written, is their text.
+pub record Streams (form : Form) (ahead : List Portion → Type 0) (from ended : ℕ)
+    (old new : Option (List ℕ)) (parts : List Portion) : Type 0 where
   pub rest : List Portion
   pub is_ahead : ahead rest
-  pub counted : count + ends rest ≡ ends parts
-  pub few : ends parts ≤ 999999999999999
+  pub counted : ended + ends rest ≡ ends parts
+  pub done : List ℕ
+  pub wrote : Appends old new done
+  pub text : done ++ stream_from (from - ended) form rest
+      ≡ records_text form (drop from (join parts).records)
 
-pub count_starts : (ahead : List Portion → Type 0) (parts : List Portion) (weight : ℕ) → ahead parts
-    → weight ≡ weight_of parts → weight ≤ 999999999999999 → Counted ahead 0 parts
-count_starts ahead parts weight is e limit =
-    let few = ends_few parts in
+pub stream_starts : (form : Form) (ahead : List Portion → Type 0) (from : ℕ)
+    (old : Option (List ℕ)) (parts : List Portion) → ahead parts
+    → Streams form ahead from 0 old old parts
+stream_starts form ahead from old parts is =
     record {
       rest = parts;
       is_ahead = is;
       counted = omega arith;
-      few = omega (arith, few, e, limit);
-    }
-
-pub count_ended : (ahead after : List Portion → Type 0) (count : ℕ) (parts : List Portion)
-    → Counted ahead count parts
-    → ((xs : List Portion) → ahead xs → GivesPart (Ok None) xs after)
-    → count ≡ length (join parts).records
-count_ended ahead after count parts c gives =
-    let (none, there) = gives c.rest c.is_ahead in
-    let sum : count + 0 ≡ ends parts = ap (λ xs. count + ends xs) (sym none) ∙ c.counted in
-    let all = count_ends None parts in
-    omega (arith, sum, all)
-
--- ---- writing
-
--- The records that end before the parts still to come have been written, with the bytes of the next
--- record so far; the last value counts the records that are left.
-pub record Streams (form : Form) (ahead : List Portion → Type 0)
-    (left : ℕ) (old new : Option (List ℕ)) (parts : List Portion) : Type 0 where
-  pub rest : List Portion
-  pub is_ahead : ahead rest
-  pub counted : left ≡ ends rest
-  pub done : List ℕ
-  pub wrote : Appends old new done
-  pub text : done ++ stream form rest ≡ output_of form parts
-
-pub stream_starts : (form : Form) (ahead : List Portion → Type 0)
-    (records : ℕ) (old : Option (List ℕ)) (parts : List Portion)
-    → records ≡ length (join parts).records → ahead parts → Streams form ahead records old old parts
-stream_starts form ahead records old parts e is =
-    record {
-      rest = parts;
-      is_ahead = is;
-      counted = e ∙ count_ends None parts;
       done = [];
       wrote = Appends-nil old;
-      text = output_is form parts;
+      text = let none : from - 0 ≡ from = omega arith in
+          ap (λ n. stream_from n form parts) none ∙ from_is form from parts;
     }
 
-left_by : (b : Bool) (left next n : ℕ) → left ≡ with_end b n → with_end b next ≡ left → next ≡ n
-left_by true left next n h e = omega (arith, h, e)
-left_by false left next n h e = omega (arith, h, e)
+-- one more part of those records that were passed
+skipped : (form : Form) (b : Bool) (k from ended : ℕ) (p : Portion) (ps : List Portion)
+    → leaves p.span ≡ b → from - ended ≡ suc k
+    → stream_from (from - ended) form (p ∷ ps) ≡ stream_from (from - with_end b ended) form ps
+skipped form true k from ended p ps e n = ap (λ m. stream_from m form (p ∷ ps)) n
+    ∙ ap (λ b. stream_from (if b then suc k else k) form ps) e
+    ∙ ap (λ m. stream_from m form ps) (sym n)
+skipped form false k from ended p ps e n = ap (λ m. stream_from m form (p ∷ ps)) n
+    ∙ ap (λ b. stream_from (if b then suc k else k) form ps) e
+    ∙ ap (λ m. stream_from m form ps) (omega (arith, n))
 
-pub stream_goes_on : (form : Form) (ahead after : List Portion → Type 0)
-    (left next : ℕ) (old mid new : Option (List ℕ)) (parts : List Portion) (part : Part)
-    → Streams form ahead left old mid parts → 0 < left
+pub ends_next : (b : Bool) (ended n all : ℕ) → ended + with_end b n ≡ all
+    → with_end b ended + n ≡ all
+ends_next true ended n all e = e
+ends_next false ended n all e = omega (arith, e)
+
+pub stream_skips : (form : Form) (ahead after : List Portion → Type 0) (from ended next : ℕ)
+    (old new : Option (List ℕ)) (parts : List Portion) (part : Part)
+    → Streams form ahead from ended old new parts → ended < from
     → ((xs : List Portion) → ahead xs → GivesPart (Ok (Some part)) xs after)
-    → Appends mid new (part_text form (view part)) → with_end (leaves part.span) next ≡ left
-    → Streams form after next old new parts
-stream_goes_on form ahead after left next old mid new parts part s some gives wrote e =
+    → next ≡ with_end (leaves part.span) ended → Streams form after from next old new parts
+stream_skips form ahead after from ended next old new parts part s less gives e =
     let (rest, is, there) = gives s.rest s.is_ahead in
-    let count : left ≡ with_end (leaves part.span) (ends rest) = s.counted ∙ ap ends is in
-    let more : 0 < ends (view part ∷ rest) = omega (arith, count, some) in
-    let next_text : stream form s.rest ≡ part_text form (view part) ++ stream form rest =
-    ap (stream form) is ∙ stream_some form (view part) rest more in
+    let p = view part in
     record {
       rest = rest;
       is_ahead = there;
-      counted = left_by (leaves part.span) left next (ends rest) count e;
-      done = s.done ++ part_text form (view part);
-      wrote = Appends-trans old mid new s.done (part_text form (view part)) s.wrote wrote;
-      text = append_assoc s.done (part_text form (view part)) (stream form rest)
-          ∙ ap (λ t. s.done ++ t) (sym next_text) ∙ s.text;
+      counted = ap (λ n. n + ends rest) e
+          ∙ ends_next (leaves part.span) ended (ends rest) (ends parts)
+          (ap (λ xs. ended + ends xs) (sym is) ∙ s.counted);
+      done = s.done;
+      wrote = s.wrote;
+      text = ap (λ n. s.done ++ stream_from (from - n) form rest) e
+          ∙ ap (λ t. s.done ++ t) (sym (skipped form (leaves part.span) (from - ended - 1) from
+          ended p rest refl (omega (arith, less)))
+          ∙ ap (stream_from (from - ended) form) (sym is)) ∙ s.text;
     }
 
-pub stream_ended : (form : Form) (ahead : List Portion → Type 0)
-    (left : ℕ) (old new : Option (List ℕ)) (parts : List Portion)
-    → Streams form ahead left old new parts → left ≡ 0 → Appends old new (output_of form parts)
-stream_ended form ahead left old new parts s e =
-    let none : stream form s.rest ≡ [] = stream_none form s.rest (sym s.counted ∙ e) in
+-- the text of the next part, and of those behind it
+next_text : (form : Form) (from ended : ℕ) (p : Portion) (ps : List Portion) → from ≤ ended
+    → 0 < ends (p ∷ ps)
+    → stream_from (from - ended) form (p ∷ ps) ≡ part_text form p ++ stream form ps
+next_text form from ended p ps le some =
+    let none : from - ended ≡ 0 = omega (arith, le) in
+    ap (λ n. stream_from n form (p ∷ ps)) none ∙ stream_some form p ps some
+
+ends_most : (b : Bool) (ended : ℕ) → ended ≤ with_end b ended
+ends_most true ended = omega arith
+ends_most false ended = omega arith
+
+pub stream_writes : (form : Form) (ahead after : List Portion → Type 0)
+    (from ended next records : ℕ) (old mid new : Option (List ℕ)) (parts : List Portion)
+    (part : Part)
+    → Streams form ahead from ended old mid parts → from ≤ ended → ended < records
+    → records ≡ length (join parts).records
+    → ((xs : List Portion) → ahead xs → GivesPart (Ok (Some part)) xs after)
+    → Appends mid new (part_text form (view part)) → next ≡ with_end (leaves part.span) ended
+    → Streams form after from next old new parts
+stream_writes form ahead after from ended next records old mid new parts part s le less e gives
+    wrote n =
+    let (rest, is, there) = gives s.rest s.is_ahead in
+    let p = view part in
+    let all = count_ends None parts in
+    let counted : ended + ends (p ∷ rest) ≡ ends parts =
+    ap (λ xs. ended + ends xs) (sym is) ∙ s.counted in
+    let some : 0 < ends (p ∷ rest) = omega (arith, counted, less, e, all) in
+    let most = ends_most (leaves part.span) ended in
+    let none : from - next ≡ 0 = omega (arith, le, most, n) in
+    record {
+      rest = rest;
+      is_ahead = there;
+      counted = ap (λ m. m + ends rest) n
+          ∙ ends_next (leaves part.span) ended (ends rest) (ends parts) counted;
+      done = s.done ++ part_text form p;
+      wrote = Appends-trans old mid new s.done (part_text form p) s.wrote wrote;
+      text = append_assoc s.done (part_text form p) _
+          ∙ ap (λ n. s.done ++ (part_text form p ++ stream_from n form rest)) none
+          ∙ ap (λ t. s.done ++ t) (sym (ap (stream_from (from - ended) form) is
+          ∙ next_text form from ended p rest le some)) ∙ s.text;
+    }
+
+pub stream_ended : (form : Form) (ahead : List Portion → Type 0) (from ended records : ℕ)
+    (old new : Option (List ℕ)) (parts : List Portion)
+    → Streams form ahead from ended old new parts → records ≤ ended
+    → records ≡ length (join parts).records
+    → Appends old new (records_text form (drop from (join parts).records))
+stream_ended form ahead from ended records old new parts s le e =
+    let all = count_ends None parts in
+    let counted = s.counted in
+    let none : stream_from (from - ended) form s.rest ≡ [] =
+    from_none form (from - ended) s.rest (omega (arith, counted, le, e, all)) in
     subst (Appends old new)
     (sym (append-nil s.done) ∙ ap (λ t. s.done ++ t) (sym none) ∙ s.text) s.wrote
 
-pub stream_failed : (form : Form) (ahead after : List Portion → Type 0)
-    (left : ℕ) (old mid new : Option (List ℕ)) (parts : List Portion) (part : Part)
-    → Streams form ahead left old mid parts → 0 < left
+pub stream_failed : (form : Form) (ahead after : List Portion → Type 0) (from ended records : ℕ)
+    (old mid new : Option (List ℕ)) (parts : List Portion) (part : Part)
+    → Streams form ahead from ended old mid parts → from ≤ ended → ended < records
+    → records ≡ length (join parts).records
     → ((xs : List Portion) → ahead xs → GivesPart (Ok (Some part)) xs after)
     → AppendsFront mid new (part_text form (view part))
-    → AppendsFront old new (output_of form parts)
-stream_failed form ahead after left old mid new parts part s some gives wrote =
+    → AppendsFront old new (records_text form (drop from (join parts).records))
+stream_failed form ahead after from ended records old mid new parts part s le less e gives wrote =
     let (rest, is, there) = gives s.rest s.is_ahead in
-    let count : left ≡ with_end (leaves part.span) (ends rest) = s.counted ∙ ap ends is in
-    let more : 0 < ends (view part ∷ rest) = omega (arith, count, some) in
-    let next_text : stream form s.rest ≡ part_text form (view part) ++ stream form rest =
-    ap (stream form) is ∙ stream_some form (view part) rest more in
-    let (front, back, appends, all) = wrote in (
-      s.done ++ front,
-      back ++ stream form rest,
-      Appends-trans old mid new s.done front s.wrote appends,
-      sym s.text ∙ ap (λ t. s.done ++ t) (next_text ∙ ap (λ t. t ++ stream form rest) all
-          ∙ append_assoc front back (stream form rest))
-          ∙ sym (append_assoc s.done front (back ++ stream form rest)),
-    )
+    let p = view part in
+    let all = count_ends None parts in
+    let counted : ended + ends (p ∷ rest) ≡ ends parts =
+    ap (λ xs. ended + ends xs) (sym is) ∙ s.counted in
+    let some : 0 < ends (p ∷ rest) = omega (arith, counted, less, e, all) in
+    subst (AppendsFront old new) (ap (λ t. s.done ++ t)
+    (sym (ap (stream_from (from - ended) form) is ∙ next_text form from ended p rest le some))
+    ∙ s.text) (front_behind old mid new s.done _ s.wrote
+    (front_more mid new (part_text form p) (stream form rest) wrote))
+
+-- parts are missing
+pub stream_short : (form : Form) (ahead after : List Portion → Type 0) (from ended records : ℕ)
+    (old new : Option (List ℕ)) (parts : List Portion)
+    → Streams form ahead from ended old new parts → ended < records
+    → records ≡ length (join parts).records
+    → ((xs : List Portion) → ahead xs → GivesPart (Ok None) xs after) → ⊥
+stream_short form ahead after from ended records old new parts s less e gives =
+    let (none, there) = gives s.rest s.is_ahead in
+    let counted : ended + 0 ≡ ends parts = ap (λ xs. ended + ends xs) (sym none) ∙ s.counted in
+    let all = count_ends None parts in
+    absurd (omega (arith, counted, less, e, all))

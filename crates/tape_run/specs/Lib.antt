@@ -83,7 +83,6 @@ pub mod UnpackLaws
 -- Recovered files, and reports of that: definitions to trust, in reading order.
 pub mod ReelLine
 pub mod RecordText
-pub mod RecordFront
 pub mod OutSinks
 pub mod Causes
 pub mod Reeling

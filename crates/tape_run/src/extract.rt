@@ -9,11 +9,10 @@ mod located;
 mod now;
 mod out_sink;
 
-ghost use Rattle.std.specs.Prelude.{◌≡◌, ◌≢◌, None, List, OnOk, IfOk, OnErr, IfErr, length};
+ghost use Rattle.std.specs.Prelude.{◌≡◌, ◌≢◌, None, List, OnOk, IfOk, OnErr, IfErr};
 ghost use Rattle.std.specs.Io.KnownBytes.{Appends};
 ghost use Rattle.tape_blocks.specs.Block.{Portion};
 ghost use Rattle.tape_blocks.specs.Parts.{view};
-ghost use Rattle.tape_blocks.specs.Spans.{join};
 ghost use Rattle.tape_run.specs.Causes.{WritingFails, ExtractFails, RefusesAny, IsCalm};
 ghost use Rattle.tape_run.specs.Crash.{IsWalked, BringsNoMore};
 ghost use Rattle.tape_image.specs.Written.{AppendsFront};
@@ -21,14 +20,13 @@ ghost use Rattle.tape_run.specs.Extracting.{Extracts, Stops, EndsFile, StopsAtEn
 ghost use Rattle.tape_run.specs.RecordText.{output_of, record_end, part_text};
 ghost use Rattle.tape_run.specs.Reeling.{goes_back};
 ghost use Rattle.tape_run.specs.ReelLine.{last_line};
-ghost use Rattle.tape_run.specs.Steps.{IsRefused};
 
 use crate::extract::images::ImageSource;
 use crate::fault::{EngineFault, RunFault, WriteFailed};
 use crate::session::Session;
 use crate::text::{flush, write_text};
 pub use again::extract_in_passes;
-use front::write_parts;
+use front::{write_front, write_rest};
 use images::read_images;
 pub use line::{ReelLine, ReportLine, last_line};
 pub use located::{Mounted, extract_located};
@@ -160,82 +158,10 @@ pub fn write_file<S: PartWalk, W: Write>(
     ensures cause { IfErr result (WritingFails S.holds S.refusals S.refuses sink.old sink.new) }
     ensures calm { OnOk result (S.refusals sink.new ≡ S.refusals sink.old) }
 {
-    let records = write_parts(sink, form, out)?;
+    let front = write_front(sink, form, out)?;
+    write_rest(sink, front, form, out)?;
     flush(out)?;
-    Ok(records)
-}
-
-/// Returns the number of records into which the parts of the sink join, without an unfinished one.
-///
-/// # Errors
-///
-/// Returns the refusal of the sink's device.
-pub fn count_records<S: PartWalk>(sink: &mut S) -> Result<u64, SinkFault>
-    ensures count { IfOk result (λ count. (parts : List Portion) → S.holds sink.old parts
-        → count ≡ length (join parts).records) }
-    ensures kept { (parts : List Portion) → S.holds sink.old parts → S.holds sink.new parts }
-    ensures crash { BringsNoMore S.PartSink sink.old sink.new }
-    ensures cause { IfErr result (λ fault.
-        IsRefused S.refusals S.refuses sink.old fault sink.new) }
-    ensures calm { OnOk result (S.refusals sink.new ≡ S.refusals sink.old) }
-{
-    // A sink's weight is limited, so the count below stays far from the maximum of u64.
-    let _weight = sink.weight();
-    sink.rewind();
-    let mut count = 0u64;
-    'parts: loop {
-        match sink.next_part() {
-            Ok(Some(part)) => {
-                if !part.span.leaves() {
-                    count = count.saturating_add(1);
-                }
-            }
-            Ok(None) => return Ok(count),
-            Err(fault) => return Err(fault),
-        }
-    }
-}
-
-/// Writes the first `records` records into which the remaining parts join, up to the last part that
-/// ends a record, without an unfinished one.
-///
-/// # Errors
-///
-/// Returns `Run(Sink)` with the refusal of the sink's device, or `Failed` if it returns fewer
-/// records than when they were counted; `WriteFailed`. The text written so far is a prefix of the
-/// text of the records.
-pub fn write_records<S: PartWalk, W: Write>(
-    sink: &mut S,
-    records: u64,
-    form: Form,
-    out: &mut W,
-) -> Result<(), EngineFault>
-    ensures ok { OnOk result ((parts : List Portion) → S.ahead sink.old parts
-        → records ≡ length (join parts).records
-        → Appends (W.contents out.old) (W.contents out.new) (output_of form parts)) }
-    ensures err { OnErr result ((parts : List Portion) → S.ahead sink.old parts
-        → records ≡ length (join parts).records
-        → AppendsFront (W.contents out.old) (W.contents out.new) (output_of form parts)) }
-    ensures kept { (parts : List Portion) → S.holds sink.old parts → S.holds sink.new parts }
-    ensures crash { BringsNoMore S.PartSink sink.old sink.new }
-    ensures cause { IfErr result (λ fault. WritingFails (λ s parts. S.ahead s parts
-        × (records ≡ length (join parts).records)) S.refusals S.refuses sink.old sink.new fault) }
-    ensures calm { OnOk result (S.refusals sink.new ≡ S.refusals sink.old) }
-{
-    let mut left = records;
-    'parts: while left > 0 {
-        match sink.next_part() {
-            Ok(Some(part)) => {
-                write_part(out, part, form)?;
-                if !part.span.leaves() {
-                    left -= 1;
-                }
-            }
-            Ok(None) => return Err(walk_fault(SinkFault::Failed)),
-            Err(fault) => return Err(walk_fault(fault)),
-        }
-    }
-    Ok(())
+    Ok(front.records)
 }
 
 /// Returns the fault of a walk over a sink.

@@ -11,7 +11,7 @@ use Rattle.tape_run.specs.declared.fault.{EngineFault.TheVariants.Run, RunFault.
 use Rattle.tape_run.specs.Causes.{ExtractFails, RefusesAny}
 use Rattle.tape_run.proofs.extract.extract_to.Reads as extract_to
 use Rattle.tape_run.proofs.extract.line.last_line.Reads as last_line
-use Rattle.tape_run.proofs.extract.write_records.Reads as write_records
+use Rattle.tape_run.proofs.extract.write_file.Reads as write_file
 
 -- the first part of a record that does not end
 abbrev begun : List Portion
@@ -35,15 +35,15 @@ full_told_at_once S R L W P LS LR LL LW LP g d g' d' h e m n w f p i j κs a s l
 
 -- begun_rest_written: an unfinished record is written
 begun_rest_written : (S : _) (W : _) (LS : _) (LW : _) (g : _) (d : _) (g' : _) (d' : _) (h : _)
-    (e : _) (κs : _) (a : _) (s : _)
-    → write_records.Learnt-named S W LS LW g d g' d' h e κs a (Ok tt) s
-    → g.ahead a.0.now begun → a.1.0 ≡ 0 → a.1.1.0 ≡ Lines
-    → h.contents a.1.1.1.0.now ≡ Some [] → h.contents s.1.1.1.0.now ≡ Some (codes "AB") → ⊥
-begun_rest_written S W LS LW g d g' d' h e κs a s l ahead none form old new =
-    let r : Appends (Some []) (Some (codes "AB")) (output_of a.1.1.0 begun)
-    = subst (λ v. Appends (Some []) v (output_of a.1.1.0 begun)) new
-    (subst (λ v. Appends v (h.contents s.1.1.1.0.now) (output_of a.1.1.0 begun)) old
-    (l.ok begun ahead none)) in
+    (e : _) (κs : _) (a : _) (n : _) (s : _)
+    → write_file.Learnt-named S W LS LW g d g' d' h e κs a (Ok n) s
+    → g'.holds a.0.now begun → a.1.0 ≡ Lines
+    → h.contents a.1.1.0.now ≡ Some [] → h.contents s.1.1.0.now ≡ Some (codes "AB") → ⊥
+begun_rest_written S W LS LW g d g' d' h e κs a n s l holds form old new =
+    let r : Appends (Some []) (Some (codes "AB")) (output_of a.1.0 begun)
+    = subst (λ v. Appends (Some []) v (output_of a.1.0 begun)) new
+    (subst (λ v. Appends v (h.contents s.1.1.0.now) (output_of a.1.0 begun)) old
+    (l.ok begun holds).1) in
     absurd (let n : 2 ≡ 0 = ap length (r ∙ ap (λ v. output_of v begun) form) in omega arith)
 
 -- awaits_without_the_part: three parts of block 2 were delivered, but the last line does not say so

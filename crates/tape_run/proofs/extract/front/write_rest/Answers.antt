@@ -1,46 +1,119 @@
-use Rattle.std.proofs.Common.{◌≡◌, ◌∙◌, length, arith, List, ℕ, ◌++◌, ◌-◌}
-use Rattle.tape_blocks.specs.{Block.Portion, Spans.join}
-use Rattle.tape_run.specs.RecordFront.{EachEnds}
-use Rattle.tape_run.proofs.{Causes.fails_behind, Ended.told_err, RecordFronts.front_records}
+use Rattle.std.proofs.Common.{rules, ◌≡◌, ◌<◌, ◌≤◌, Ok, true, false, ap, sym, subst, ◌∙◌, arith}
+use Rattle.std.proofs.Common.{inr, refl}
+use Rattle.tape_blocks.specs.Spans.{leaves}
+use Rattle.tape_core.specs.Walks.{GivesPart}
 use Rattle.tape_image.proofs.Pieces.{on_err}
+use Rattle.tape_run.specs.OutSinks.{with_end}
+use Rattle.tape_run.proofs.Streams.{stream_starts, stream_skips, stream_writes, stream_failed}
+use Rattle.tape_run.proofs.Streams.{stream_ended, stream_short}
+use Rattle.tape_run.proofs.Walked.{walk_on}
 use Rattle.tape_run.proofs.extract.front.write_rest.Goals as goal
+use Rattle.tape_run.proofs.extract.front.write_rest.Goals.{else-ended-front}
+use Rattle.tape_run.proofs.extract.front.write_rest.Goals.{then-ended-front+in_ok-write_part-in-Ok-Some}
 
--- the number of records left after those that were skipped
-left_is : (all passed left : ℕ) (first rest : List Portion)
-    → all ≡ length (join (first ++ rest)).records → length first ≡ passed → EachEnds first
-    → left ≡ all - passed → left ≡ length (join rest).records
-left_is all passed left first rest counted long each e =
-    let sum = front_records first rest each in
-    omega (arith, counted, long, e, sum)
-
-pub returns-in_err-write_records-clause-err : goal.returns-in_err-write_records-clause-err
-returns-in_err-write_records-clause-err g c =
-    on_err c.from_residual.result _
-    (λ first rest was long each. c.in_err-write_records.ensures.err rest
-    (c.in-Ok-pass_parts.ensures.ok first rest (c.count_records.ensures.kept _ was) long)
-    (left_is c.in-Ok.records c.args.passed _ first rest (c.in-Ok.ensures.count _ was) long each
-    c.saturating_sub.ensures))
-
-pub returns-clause-ok : goal.returns-clause-ok
-returns-clause-ok g c = λ first rest was long each. (
-  c.in-Ok.ensures.count _ was,
-  c.in_ok-write_records.ensures.ok rest
-      (c.in-Ok-pass_parts.ensures.ok first rest (c.count_records.ensures.kept _ was) long)
-      (left_is c.in-Ok.records c.args.passed _ first rest (c.in-Ok.ensures.count _ was) long each
-      c.saturating_sub.ensures),
+pub parts-init : goal.parts-init
+parts-init g c = (
+  record {
+    calm = c.rewind.ensures.calm;
+    kept = c.rewind.ensures.keeps;
+    crash = λ parts was. c.rewind.ensures.crash;
+  },
+  λ parts was e. stream_starts _ _ _ _ parts (c.rewind.ensures.all parts was),
 )
 
-pub returns-in_err-write_records-clause-cause : goal.returns-in_err-write_records-clause-cause
-returns-in_err-write_records-clause-cause g c =
-    told_err _ _ _ c.from_residual.ensures.1 (fails_behind (λ s rest. (first : List Portion)
-    × g.S.PartSink.holds s (first ++ rest) × (length first ≡ c.args.passed) × EachEnds first) (λ s
-    parts. g.S.PartWalk.ahead s parts × (c.saturating_sub.result ≡ length (join parts).records)) _
-    g.S.PartWalk.refuses _ _ _ _ (c.in-Ok-pass_parts.ensures.calm ∙ c.in-Ok.ensures.calm) (λ rest
-    (first, was, long, each). (
-      rest,
-      (
-        c.in-Ok-pass_parts.ensures.ok first rest (c.count_records.ensures.kept _ was) long,
-        left_is c.in-Ok.records c.args.passed _ first rest (c.in-Ok.ensures.count _ was) long each
-            c.saturating_sub.ensures,
-      ),
-    )) c.in_err-write_records.ensures.cause)
+pub returns-in_err-write_part-in-Ok-Some-clause-err :
+    goal.returns-in_err-write_part-in-Ok-Some-clause-err
+returns-in_err-write_part-in-Ok-Some-clause-err g c =
+    let next = c.next_part.follows.lender-at-none in
+    let more : c.parts.ended < c.args.front.records = omega (arith, c.parts-test.true) in
+    let le : c.args.front.written ≤ c.parts.ended = omega (arith, c.if-ended-front.true) in
+    on_err c.from_residual.result _
+    (λ parts was e. stream_failed c.args.form (g.S.PartWalk.ahead c.parts.sink) (g.S.PartWalk.ahead
+    next) c.args.front.written c.parts.ended c.args.front.records _ _ _ parts c.in-Ok-Some.part
+    (c.parts.invariant.1 parts was e) le more e
+    (λ xs is. subst (λ r. GivesPart r xs (g.S.PartWalk.ahead next)) (c.in-Ok-Some.is
+    ∙ ap Ok c.in-Ok-Some.field-0-is) (c.next_part.follows.holds-at-none.gives xs is))
+    c.in_err-write_part-in-Ok-Some.ensures.err)
+
+pub parts-preserved-then-not-leaves : goal.parts-preserved-then-not-leaves
+parts-preserved-then-not-leaves g c =
+    let next = c.next_part.follows.lender-at-none in
+    let more : c.parts.ended < c.args.front.records = omega (arith, c.parts-test.true) in
+    let ends : leaves c.in-Ok-Some.part.span ≡ false =
+    search (rules, c.leaves-leaves.ensures, c.if-not-leaves.true) in
+    let on = walk_on _ _ _ _ _ (c.in-Ok-Some.is ∙ ap Ok c.in-Ok-Some.field-0-is)
+    c.parts.invariant.0 c.next_part.follows.holds-at-none in
+    elim c.if-ended-front.branch [
+      | then-ended-front+in_ok-write_part-in-Ok-Some w ↦ rw (w.sink-is, w.out-is) (
+        on,
+        λ parts was e. stream_writes c.args.form (g.S.PartWalk.ahead c.parts.sink)
+            (g.S.PartWalk.ahead next) c.args.front.written c.parts.ended _ c.args.front.records
+            _ _ _ parts c.in-Ok-Some.part (c.parts.invariant.1 parts was e)
+            (omega (arith, w.if-ended-front.true)) more e
+            (λ xs is. subst (λ r. GivesPart r xs (g.S.PartWalk.ahead next)) (c.in-Ok-Some.is
+            ∙ ap Ok c.in-Ok-Some.field-0-is) (c.next_part.follows.holds-at-none.gives xs is))
+            w.in_ok-write_part-in-Ok-Some.ensures.ok
+            (ap (λ b. with_end b c.parts.ended) (sym ends)),
+      )
+      | else-ended-front w ↦ rw (w.sink-is, w.out-is) (
+        on,
+        λ parts was e. stream_skips c.args.form (g.S.PartWalk.ahead c.parts.sink)
+            (g.S.PartWalk.ahead next) c.args.front.written c.parts.ended _ _ _ parts
+            c.in-Ok-Some.part (c.parts.invariant.1 parts was e)
+            (omega (arith, w.if-ended-front.false))
+            (λ xs is. subst (λ r. GivesPart r xs (g.S.PartWalk.ahead next)) (c.in-Ok-Some.is
+            ∙ ap Ok c.in-Ok-Some.field-0-is) (c.next_part.follows.holds-at-none.gives xs is))
+            (ap (λ b. with_end b c.parts.ended) (sym ends)),
+      )
+    ]
+
+pub parts-preserved : goal.parts-preserved
+parts-preserved g c =
+    let next = c.next_part.follows.lender-at-none in
+    let more : c.parts.ended < c.args.front.records = omega (arith, c.parts-test.true) in
+    let goes : leaves c.in-Ok-Some.part.span ≡ true =
+    search (rules, c.leaves-leaves.ensures, c.if-not-leaves.false) in
+    let on = walk_on _ _ _ _ _ (c.in-Ok-Some.is ∙ ap Ok c.in-Ok-Some.field-0-is)
+    c.parts.invariant.0 c.next_part.follows.holds-at-none in
+    elim c.if-ended-front.branch [
+      | then-ended-front+in_ok-write_part-in-Ok-Some w ↦ rw (w.sink-is, w.out-is) (
+        on,
+        λ parts was e. stream_writes c.args.form (g.S.PartWalk.ahead c.parts.sink)
+            (g.S.PartWalk.ahead next) c.args.front.written c.parts.ended _ c.args.front.records
+            _ _ _ parts c.in-Ok-Some.part (c.parts.invariant.1 parts was e)
+            (omega (arith, w.if-ended-front.true)) more e
+            (λ xs is. subst (λ r. GivesPart r xs (g.S.PartWalk.ahead next)) (c.in-Ok-Some.is
+            ∙ ap Ok c.in-Ok-Some.field-0-is) (c.next_part.follows.holds-at-none.gives xs is))
+            w.in_ok-write_part-in-Ok-Some.ensures.ok
+            (ap (λ b. with_end b c.parts.ended) (sym goes)),
+      )
+      | else-ended-front w ↦ rw (w.sink-is, w.out-is) (
+        on,
+        λ parts was e. stream_skips c.args.form (g.S.PartWalk.ahead c.parts.sink)
+            (g.S.PartWalk.ahead next) c.args.front.written c.parts.ended _ _ _ parts
+            c.in-Ok-Some.part (c.parts.invariant.1 parts was e)
+            (omega (arith, w.if-ended-front.false))
+            (λ xs is. subst (λ r. GivesPart r xs (g.S.PartWalk.ahead next)) (c.in-Ok-Some.is
+            ∙ ap Ok c.in-Ok-Some.field-0-is) (c.next_part.follows.holds-at-none.gives xs is))
+            (ap (λ b. with_end b c.parts.ended) (sym goes)),
+      )
+    ]
+
+pub returns-in-Ok-None-clause-cause : goal.returns-in-Ok-None-clause-cause
+returns-in-Ok-None-clause-cause g c =
+    let next = c.next_part.follows.lender-at-none in
+    let more : c.parts.ended < c.args.front.records = omega (arith, c.parts-test.true) in
+    rw c.walk_fault.ensures (inr (
+      refl,
+      λ parts (was, e). stream_short c.args.form
+          (g.S.PartWalk.ahead c.parts.sink) (g.S.PartWalk.ahead next) c.args.front.written
+          c.parts.ended
+          c.args.front.records _ _ parts (c.parts.invariant.1 parts was e) more e
+          (λ xs is. subst (λ r. GivesPart r xs (g.S.PartWalk.ahead next)) (c.in-Ok-None.is
+          ∙ ap Ok c.in-Ok-None.field-0-is) (c.next_part.follows.holds-at-none.gives xs is)),
+    ))
+
+pub returns-clause-ok : goal.returns-clause-ok
+returns-clause-ok g c = λ parts was e. stream_ended c.args.form _ c.args.front.written c.parts.ended
+    c.args.front.records _ _ parts (c.parts.invariant.1 parts was e)
+    (omega (arith, c.parts-test.false)) e
