@@ -2,6 +2,7 @@
 use Rattle.std.proofs.Common.{◌≡◌, ℕ, zero, suc, ◌+◌, ◌<◌, ◌≤◌, Bool, true, false, List, [], ◌∷◌}
 use Rattle.std.proofs.Common.{◌++◌, length, map, Option, Some, None, refl, sym, ap, subst, ◌∙◌}
 use Rattle.std.proofs.Common.{arith, IsSome, replicate, min, unwrap_or}
+use Rattle.std.proofs.lemmas.List.{length-replicate}
 use Rattle.tape_blocks.specs.Spans.{join}
 use Rattle.tape_image.specs.Tape.{TapeItem}
 use Rattle.tape_set.specs.declared.position.Position.TheVariants.{Finished}
@@ -42,16 +43,12 @@ all_good : (xs : List TapeItem) → xs ≡ as_read xs (replicate (length xs) tru
 all_good [] = refl
 all_good (x ∷ xs) = ap (λ z. x ∷ z) (all_good xs)
 
-so_many : {A : Type 0} (n : ℕ) (x : A) → length (replicate n x) ≡ n
-so_many zero x = refl
-so_many (suc n) x = ap (λ m. suc m) (so_many n x)
-
 whole_copy : (set : FileSet) (k : ℕ) → k < length set.volumes
     → IsCopy set (items set (k + 1)) (whole_reading set (k + 1))
 whole_copy set k h = record {
   is_reading = record {
     volume = some_volume set.volumes (k + 1) (omega arith) (omega (arith, h));
-    within = omega (arith, so_many (length (items set (k + 1))) true);
+    within = omega (arith, length-replicate (length (items set (k + 1))) true);
   };
   more = [];
   whole = all_good (items set (k + 1));

@@ -3,7 +3,9 @@
 use Rattle.std.proofs.Common.{◌≡◌, ◌<◌, ℕ, suc, ◌+◌, ◌-◌, List, [], ◌∷◌, ◌++◌, length, take}
 use Rattle.std.specs.Prelude.{◌≢◌, ◌⊎◌}
 use Rattle.std.proofs.Common.{Bool, true, false, Result, Ok, Err, OnOk, IfErr}
+use Rattle.std.specs.Prelude.{is_some}
 use Rattle.std.proofs.Common.{refl, sym, ap, inl, inr, subst, ◌∙◌, arith}
+use Rattle.std.proofs.lemmas.Result.{IfErr-weaker}
 use Rattle.tape_blocks.specs.Block.{Portion}
 use Rattle.tape_core.specs.Weight.{Rose}
 use Rattle.tape_run.specs.declared.extract.out_sink.OutSink.{OutSink}
@@ -23,7 +25,7 @@ use Rattle.tape_run.specs.Causes.{WritingFails, EndingFails, ExtractFails, Readi
 use Rattle.tape_run.specs.Causes.{RefusesAny, IsCalm}
 use Rattle.tape_run.specs.Crash.{IsWalked}
 use Rattle.tape_run.specs.Seen.{seen, IsKept, IfSeen, IsSeen}
-use Rattle.tape_run.specs.Steps.{IsRefused, Refuses, RefusesRestart, Saved, WentBack}
+use Rattle.tape_run.specs.Steps.{IsRefused, Refuses, Saved, WentBack}
 use Rattle.tape_run.specs.SessionState.{SessionState}
 
 -- no call was refused before
@@ -119,22 +121,6 @@ step_fails g back TooFewReels old new h = absurd h
 step_fails g back OutOfMemory old new h = ap (λ s. g.refusals s.sink) h
 step_fails g back OtherFile old new h = absurd h
 
-none_there : (notes : List Point) → length notes ≡ 0 → notes ≡ []
-none_there [] e = refl
-none_there (c ∷ notes) e = absurd (omega (arith, e))
-
--- the session did not roll back to its last checkpoint
-pub back_fails : {S : Type 0} (g : Ghosts S) (n : ℕ) (fault : RunFault) (old new : SessionState S)
-    → n ≡ length old.notes - 1 → RefusesRestart g n fault old new
-    → ReadingFails g true (Run fault) old new
-back_fails g n (Sink cause) old new last (same, inl r) = inl r
-back_fails g n (Sink cause) old new last (same, inr (is, calm, none)) = inr (is, none)
-back_fails g n NoSuchPoint old new last (few, same) =
-    (refl, none_there old.notes (omega (arith, last, few)))
-back_fails g n TooFewReels old new last h = absurd h
-back_fails g n OutOfMemory old new last h = absurd h
-back_fails g n OtherFile old new last h = absurd h
-
 -- after one more checkpoint there is one
 no_longer_none : (notes : List Point) (point : Point) → notes ++ point ∷ [] ≡ [] → notes ≡ []
 no_longer_none [] point e = refl
@@ -205,18 +191,13 @@ writing_fails g walk back (Run OutOfMemory) old new h = absurd h
 writing_fails g walk back (Run OtherFile) old new h = absurd h
 writing_fails g walk back WriteFailed old new h = h
 
-pub if_err_then : {A B : Type 0} (r : Result A B) (P Q : B → Type 0) → ((e : B) → P e → Q e)
-    → IfErr r P → IfErr r Q
-if_err_then (Ok x) P Q f h = tt
-if_err_then (Err e) P Q f h = f e h
-
 -- the file was not written after the images were read
 pub file_fails : {S A : Type 0} (g : Ghosts S) (walk : S → SinkFault → S → Type 0) (back : Bool)
     (old mid new : SessionState S) (r : Result A EngineFault) → IsCalm g old mid
     → IfErr r (WritingFails g.holds g.refusals walk mid.sink new.sink)
     → IfErr r (λ fault. ExtractFails g (RefusesAny g walk) back fault old new)
 file_fails g walk back old mid new r calm h =
-    if_err_then r _ _ (λ fault w. then_fails g (RefusesAny g walk) back fault old mid new calm
+    IfErr-weaker r _ _ (λ fault w. then_fails g (RefusesAny g walk) back fault old mid new calm
     (writing_fails g walk back fault mid new w)) h
 
 -- the images were not read
@@ -263,16 +244,6 @@ ended_for holds refusals refuses old mid new form (Run fault) calm done ends =
     inr (subst (λ (s : SessionState (OutSink _)). (s.core.position ≡ Finished)
     × EndingFails s.sink.begun s.sink.form form (Run fault)) (sym same) (done, fails))
 ended_for holds refusals refuses old mid new form WriteFailed calm done ends = inl calm
-
-pub on_pair : {B : Type 0} (r : Result (Unit {0}) B) (P Q : Type 0) → OnOk r P → OnOk r Q
-    → OnOk r (P × Q)
-on_pair (Ok x) P Q p q = (p, q)
-on_pair (Err e) P Q p q = tt
-
-pub on_both : {B : Type 0} (r : Result (Unit {0}) B) (P Q R : Type 0) → (P → Q → R) → OnOk r P
-    → OnOk r Q → OnOk r R
-on_both (Ok x) P Q R f p q = f p q
-on_both (Err e) P Q R f p q = tt
 
 -- ---- counts
 

@@ -1,6 +1,6 @@
 -- The state that a crash leaves is valid.
-use Rattle.std.proofs.Common.{Bool, ◌≡◌, ◌⊎◌, ℕ, List, [], ◌∷◌, ◌++◌, Option, Some, Result, Ok, Err}
-use Rattle.std.proofs.Common.{OnOk, length, map, refl, sym, ap, subst, ◌∙◌, inl, inr, slice_get}
+use Rattle.std.proofs.Common.{Bool, ◌≡◌, ◌⊎◌, ℕ, List, [], ◌∷◌, ◌++◌, Option, Some}
+use Rattle.std.proofs.Common.{length, map, refl, sym, ap, subst, ◌∙◌, inl, inr, slice_get}
 use Rattle.std.proofs.lemmas.Option.{slice_get-map}
 use Rattle.tape_blocks.specs.Block.{Portion}
 use Rattle.tape_set.specs.{Layout.FileSet, Lawful.IsLawful, Before.before}
@@ -210,7 +210,3 @@ goes_on set c ps s new steps bytes left hs l st r h hist =
           ∙ ap (λ (z : Course). course set c.file z hs) from) ∙ ran.reached,
       ran.session.at.all ∙ ap (λ (f : ℕ). before set f new.place.position) (ran.same_file ∙ file),
     )
-
-pub on_ok : {B : Type 0} (r : Result (Unit {0}) B) (P Q : Type 0) → (P → Q) → OnOk r P → OnOk r Q
-on_ok (Ok x) P Q f h = f h
-on_ok (Err e) P Q f h = tt

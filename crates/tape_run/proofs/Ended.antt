@@ -1,8 +1,8 @@
 -- A run that ended with a fault is where its earlier steps lead, or at a part that was refused.
-use Rattle.std.proofs.Common.{Bool, ◌≡◌, ℕ, suc, ◌≤◌, List, [], ◌∷◌, length, map, take, drop}
+use Rattle.std.proofs.Common.{Bool, ◌≡◌, ℕ, ◌≤◌, List, [], ◌∷◌, length, map, take, drop}
 use Rattle.std.proofs.Common.{Option, Some, Result, Ok, Err, refl, sym, ap, subst, ◌∙◌, arith}
 use Rattle.std.proofs.Common.{IfErr, IsErrAnd}
-use Rattle.std.proofs.lemmas.List.{drop-map}
+use Rattle.std.proofs.lemmas.List.{drop-map, length-map}
 use Rattle.tape_image.specs.{Tape.TapeItem, Begins.Stop, Begins.Begins}
 use Rattle.tape_set.specs.{Layout.FileSet, Lawful.IsLawful}
 use Rattle.tape_set.specs.declared.position.Position.{Position}
@@ -21,11 +21,6 @@ use Rattle.tape_run.specs.Lead.{Lead, AreNoted, StandsThere, StopsBy}
 use Rattle.tape_run.proofs.{Notes.notes_grow, Headline.headline, Lead.noted_grow}
 
 -- ---- results
-
-pub if_err : {B : Type 0} (r : Result (Unit {0}) B) (P Q : B → Type 0) → ((e : B) → P e → Q e)
-    → IfErr r P → IfErr r Q
-if_err (Ok x) P Q f h = tt
-if_err (Err e) P Q f h = f e h
 
 pub told_err : {A B : Type 0} (r : Result A B) (e : B) (P : B → Type 0) → IsErrAnd r (λ x. x ≡ e)
     → P e → IfErr r P
@@ -88,16 +83,12 @@ save_stops set old mid new hs bs TooFewReels h r = absurd h
 save_stops set old mid new hs bs OutOfMemory h r = same_there set old mid new hs h r
 save_stops set old mid new hs bs OtherFile h r = absurd h
 
-so_many : (notes : List Point) → length (map (λ (c : Point). c.position) notes) ≡ length notes
-so_many [] = refl
-so_many (c ∷ cs) = ap suc (so_many cs)
-
 noted_positions : (set : FileSet) (old mid : Seen) (hs : List MountEvent) (n : ℕ)
     → length mid.notes ≤ n → Ran set old hs mid
     → length (course set old.place.file (course_of old) hs).notes ≤ n
 noted_positions set old mid hs n le r =
     let e = ap (λ (z : Course). length z.notes) r.reached in
-    let m = so_many mid.notes in
+    let m = length-map mid.notes (λ (c : Point). c.position) in
     omega (arith, le, e, m)
 
 restart_stops : (set : FileSet) (old mid new : Seen) (hs : List MountEvent)

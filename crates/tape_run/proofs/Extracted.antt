@@ -2,7 +2,7 @@
 use Rattle.std.proofs.Common.{◌≡◌, ◌≢◌, Bool, ℕ, ◌⊎◌, List, [], Option, append-nil}
 use Rattle.std.proofs.Common.{None, refl, sym, ap, subst, ◌∙◌, inl, inr, false}
 use Rattle.std.specs.Io.KnownBytes.{Appends}
-use Rattle.std.proofs.KnownBytes.{Appends-trans, Appends-nil}
+use Rattle.std.proofs.KnownBytes.{Appends-trans}
 use Rattle.tape_blocks.specs.Block.{Portion}
 use Rattle.tape_set.specs.declared.position.Position.{Position}
 use Rattle.tape_set.specs.declared.position.Position.TheVariants.{Awaits, Finished}
@@ -187,15 +187,6 @@ ends_in_part g session form contents out written said says want records fault li
       tells = tells;
       is_written = wrote;
     }
-
--- no more was written
-pub nothing_more : (old : Option (List ℕ)) (text : List ℕ) → AppendsFront old old text
-nothing_more old text = ([], text, Appends-nil old, refl)
-
--- all of the text was written
-pub all_of_it : (old new : Option (List ℕ)) (text : List ℕ) → Appends old new text
-    → AppendsFront old new text
-all_of_it old new text wrote = (text, [], wrote, sym (append-nil text))
 
 pub none_finished : (file : ℕ) (p : Position) → None ≡ want_at file p → p ≡ Finished
 none_finished file (Awaits sect block part) e = absurd (cc)

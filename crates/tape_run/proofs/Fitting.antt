@@ -1,13 +1,9 @@
 -- Faults, and prefixes of texts, in the forms that occur in answers.
-use Rattle.std.proofs.Common.{◌≡◌, ℕ, Bool, true, false, List, [], Option, Result, Ok, Err, OnErr}
+use Rattle.std.proofs.Common.{◌≡◌, ℕ, Bool, true, false, List, [], Option}
 use Rattle.std.proofs.Common.{Some, None, refl, sym, ◌∙◌, append-nil, if◌then◌else◌}
 use Rattle.std.specs.Io.KnownBytes.{Appends, Keeps}
 use Rattle.std.proofs.KnownBytes.{Appends-nil}
 use Rattle.tape_image.specs.Written.{AppendsFront}
-
-pub on_err_map : {T E : Type 0} (r : Result T E) (P Q : Type 0) → (P → Q) → OnErr r P → OnErr r Q
-on_err_map (Ok x) P Q f h = tt
-on_err_map (Err e) P Q f h = f h
 
 -- the text after a part that ends its record
 pub end_behind : (b : Bool) (end : List ℕ) → b ≡ false → (if b then [] else end) ≡ end
@@ -22,11 +18,20 @@ kept (Some xs) None new bytes a b = absurd a
 kept (Some xs) (Some ys) None bytes a b = absurd b
 kept (Some xs) (Some ys) (Some zs) bytes a b = b ∙ a
 
+-- nothing was written
+pub no_text : (w : Option (List ℕ)) (all : List ℕ) → AppendsFront w w all
+no_text w all = ([], all, Appends-nil w, refl)
+
+-- all of a text
+pub whole_text : (old new : Option (List ℕ)) (a : List ℕ) → Appends old new a
+    → AppendsFront old new a
+whole_text old new a wrote = (a, [], wrote, sym (append-nil a))
+
 -- exactly the text was written
 pub whole_front : (old mid new : Option (List ℕ)) (text : List ℕ) → Appends old mid text
     → Keeps mid new → AppendsFront old new text
 whole_front old mid new text wrote keeps =
-    (text, [], kept old mid new text wrote keeps, sym (append-nil text))
+    whole_text old new text (kept old mid new text wrote keeps)
 
 -- no more was written
 pub no_front : (mid new : Option (List ℕ)) → Keeps mid new → AppendsFront mid new []

@@ -1,8 +1,9 @@
 -- A run is where its history leads.
-use Rattle.std.proofs.Common.{◌≡◌, ℕ, zero, suc, ◌+◌, ◌<◌, Bool, true, false, List, [], ◌∷◌, length}
+use Rattle.std.proofs.Common.{◌≡◌, ℕ, ◌+◌, ◌<◌, Bool, true, false, List, [], ◌∷◌, length}
 use Rattle.std.proofs.Common.{map, take, Option, Some, refl, sym, ap, subst, ◌∙◌, arith}
 use Rattle.std.proofs.Common.{length-append, slice_get}
 use Rattle.std.proofs.lemmas.{List.map-append, List.take-map, Option.slice_get-map}
+use Rattle.std.proofs.lemmas.List.{length-take-le}
 use Rattle.tape_set.specs.{Layout.FileSet, Lawful.IsLawful}
 use Rattle.tape_set.specs.declared.position.Position.{Position}
 use Rattle.tape_core.specs.{Point.Point, State.State, Stands.Stands, Stands.weight_of, Table.saved}
@@ -162,12 +163,7 @@ save_then old mid new steps given v rest set (x ∷ hs) l (e, h) s =
 
 pub took_so_many : {A : Type 0} (n : ℕ) (xs : List A) → n < length xs
     → length (take (n + 1) xs) ≡ n + 1
-took_so_many n [] h = absurd (omega (arith, h))
-took_so_many zero (x ∷ xs) h = refl
-took_so_many (suc n) (x ∷ xs) h =
-    let less : n < length xs = omega (arith, h) in
-    let more : suc n + 1 ≡ suc (n + 1) = omega arith in
-    rw more (let e = took_so_many n xs less in omega (arith, e))
+took_so_many n xs h = length-take-le (n + 1) xs (omega (arith, h))
 
 restart_then : (old mid new : Seen) (n : ℕ) (steps : List Step) (given : List (List ℕ))
     → WentBack n old mid

@@ -14,11 +14,7 @@ use Rattle.tape_run.specs.Crash.{IsHere, IsNoteOf, IsLast, IsHeld, BringsLast, K
 use Rattle.tape_run.specs.Crash.{LeavesStep, LeavesSaved, IsWalked}
 use Rattle.tape_run.specs.Reeling.{IsKeptFor}
 use Rattle.tape_run.specs.Seen.{Seen, seen, IsKept}
-use Rattle.tape_run.specs.Steps.{SaveFails}
 use Rattle.tape_run.specs.SessionState.{SessionState}
-use Rattle.tape_run.specs.declared.fault.RunFault.{RunFault}
-use Rattle.tape_run.specs.declared.fault.RunFault.TheVariants.{Sink, NoSuchPoint, TooFewReels}
-use Rattle.tape_run.specs.declared.fault.RunFault.TheVariants.{OutOfMemory, OtherFile}
 use Rattle.tape_run.proofs.Crashes.{only_nothing}
 use Rattle.tape_run.proofs.Notes.{front_self, front_trans, same_front}
 use Rattle.tape_run.proofs.Sessions.{kept_at}
@@ -36,15 +32,6 @@ nothing_left g goes a b held adds =
 pub same_left : {S : Type 0} (g : Ghosts S) (goes : Bool) (a : SessionState S) (held : List Portion)
     → LeavesStep g goes a held a
 same_left g goes a held = only_same _ (g.crashes a.sink)
-
-save_stays : (fault : RunFault) (old new : Seen) → SaveFails fault old new
-    → (new.place ≡ old.place) × (new.parts ≡ old.parts)
-save_stays (Sink cause) old new h = (h.place, h.parts)
-save_stays NoSuchPoint old new h = absurd h
-save_stays TooFewReels old new h = absurd h
-save_stays OutOfMemory old new h =
-    (ap (λ (s : Seen). s.place) h, ap (λ (s : Seen). s.parts) h)
-save_stays OtherFile old new h = absurd h
 
 -- a checkpoint of the session's position was made, or was to be made
 pub stays_left : {S : Type 0} (g : Ghosts S) (goes : Bool) (a b : SessionState S)
@@ -65,15 +52,6 @@ stays_left {S} g goes a b held now has (place, parts) =
           is ∙ ap (λ z. saved z (weight_of held)) (sym place)
               ∙ ap (λ l. saved (rest_of b.core) (weight_of l)) (sym all),
         )
-
--- no checkpoint was made of the session's position
-pub save_left : {S : Type 0} (g : Ghosts S) (goes : Bool) (a b : SessionState S)
-    (held now : List Portion) (fault : RunFault) → g.holds b.sink now
-    → SaveFails fault (seen g a held) (seen g b now)
-    → AddsOnly (IsHere (seen g a held)) (g.crashes a.sink) (g.crashes b.sink)
-    → LeavesStep g goes a held b
-save_left g goes a b held now fault has fails =
-    stays_left g goes a b held now has (save_stays fault (seen g a held) (seen g b now) fails)
 
 -- the last checkpoint of a session, if there is one
 pub last_of : (notes : List Point) (n : ℕ) (c : Point) → n ≡ length notes - 1

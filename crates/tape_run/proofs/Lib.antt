@@ -112,7 +112,6 @@ mod SalvageChoice
 mod SalvageImages
 mod SalvageOne
 mod SalvageTaking
-mod SalvageFronts
 mod SalvageBegun
 mod SalvageShelf
 mod SalvageRest

@@ -1,12 +1,12 @@
 -- The lines, sets and missing sections of a catalogue, index by index.
 use Rattle.std.proofs.Common.{◌≡◌, ℕ, zero, suc, ◌+◌, ◌-◌, ◌<◌, ◌≤◌, Bool, true, false, List, []}
-use Rattle.std.proofs.Common.{◌∷◌, ◌++◌, length, map, take, drop, slice_get, Some, refl, sym, ap}
+use Rattle.std.proofs.Common.{◌∷◌, ◌++◌, map, take, drop, slice_get, Some, refl, sym, ap}
 use Rattle.std.proofs.Common.{◌∙◌, arith, append_assoc}
 use Rattle.std.specs.Map.{lookup}
 use Rattle.std.specs.Str.{bytes_eq}
 use Rattle.std.proofs.Math.Seq.{take-suc}
 use Rattle.std.proofs.lemmas.Option.{slice_get_within, get_or_from_slice_get}
-use Rattle.std.proofs.lemmas.List.{map-append, drop_more, drop_all}
+use Rattle.std.proofs.lemmas.List.{map-append, drop_more}
 use Rattle.indexmap.specs.IndexMap.{insert_entry}
 use Rattle.tape_run.specs.declared.section.SectionLine.{SectionLine}
 use Rattle.tape_run.specs.Passing.{Told}
@@ -86,15 +86,6 @@ all_files c [] = refl
 all_files c (x ∷ sets) =
     let same : x.1 - 0 ≡ x.1 = omega arith in
     ap (λ n. file_lacks c x.0 1 n ++ set_lacks c sets) same
-
--- a search begins
-pub lacks_first : (c : List Told) (sets : List SetFiles) → lacks_from c sets 0 0 ≡ set_lacks c sets
-lacks_first c sets = all_files c sets
-
--- and ends
-pub lacks_end : (c : List Told) (sets : List SetFiles) (i file : ℕ) → length sets ≤ i
-    → lacks_from c sets i file ≡ []
-lacks_end c sets i file behind = ap (lacks_after c file) (drop_all i sets behind)
 
 -- all files of a set were searched
 pub set_done : (c : List Told) (sets : List SetFiles) (i file : ℕ) (x : SetFiles)

@@ -4,6 +4,7 @@ use Rattle.std.proofs.Common.{◌≡◌, ◌≢◌, ℕ, ◌+◌, ◌-◌, ◌<�
 use Rattle.std.proofs.Common.{Option, Some, None, refl, sym, ap, subst, ◌∙◌, length-append, arith}
 use Rattle.std.specs.Prelude.{slice_get}
 use Rattle.std.proofs.lemmas.Option.{slice_get_past}
+use Rattle.std.proofs.lemmas.List.{take_all, take_at}
 use Rattle.tape_image.specs.Tape.{TapeItem}
 use Rattle.tape_image.specs.Reader.{Status, going, ended, failed}
 use Rattle.tape_run.specs.declared.merge.reading.Reading.{Reading}
@@ -13,7 +14,6 @@ use Rattle.tape_run.specs.MergeSteps.{HasTaken, HaveTaken, AllStopped, AreUpTo, 
 use Rattle.tape_run.proofs.MergeReadings.{reads_self, reads_front, reads_trans, are_better}
 use Rattle.tape_run.proofs.MergePlaces.{best_better, reads_best, best_least}
 use Rattle.tape_run.proofs.MergeTaken.{has_given, has_stopped, stopped_off, get_front, get_last}
-use Rattle.tape_run.proofs.MergeTaken.{take_past, take_last}
 use Rattle.tape_run.proofs.MergeVerdicts.{none_yet, Keeps, judges, judges_stop, agreed_alone}
 use Rattle.tape_run.proofs.MergeVerdicts.{later_other, SeenAs, seen_item, seen_none}
 use Rattle.tape_run.proofs.MergeFirsts.{ComparesIf}
@@ -96,7 +96,7 @@ one_best f o n r m best now others h at within reads least (gives x on given com
       before = λ j lt. get_front r x j (omega (arith, e, lt));
       here = subst (λ t. SeenAs n.verdict t) (sym (get_last r x (length m) e))
           (seen_item n.verdict x best now compares);
-      front = take_last r x (length m) e;
+      front = take_at r (x ∷ []) (length m) e;
       item = subst (λ t. ComparesIf n.verdict t best now None None)
           (sym (get_last r x (length m) e)) compares;
       judged = λ end beside keeps. judges n.verdict n.image.status r x best now None None end
@@ -119,7 +119,7 @@ one_best f o n r m best now others h at within reads least (stops off how counts
       before = λ j lt. refl;
       here = subst (λ t. SeenAs n.verdict t) (sym (slice_get_past r (length m) within))
           (seen_none n.verdict n.image.status how);
-      front = take_past r (length m) within;
+      front = take_all (length m) r within;
       item = subst (λ t. ComparesIf n.verdict t best now None None)
           (sym (slice_get_past r (length m) within)) (same, left);
       judged = λ end beside keeps. judges_stop n.verdict n.image.status r end beside how;

@@ -4,16 +4,16 @@ use Rattle.std.proofs.Common.{Option, Some, None, refl, sym, ap, subst, map, ◌
 use Rattle.std.proofs.Common.{length-append, arith}
 use Rattle.std.specs.Prelude.{slice_get}
 use Rattle.std.proofs.lemmas.Option.{slice_get_past}
+use Rattle.std.proofs.lemmas.List.{take_all, take_at}
 use Rattle.tape_image.specs.Tape.{TapeItem}
 use Rattle.tape_image.specs.Reader.{going}
-use Rattle.tape_run.specs.declared.merge.reading.Reading.{Reading}
+use Rattle.tape_run.specs.declared.merge.reading.{Reading.Reading, Verdict.Verdict}
 use Rattle.tape_run.specs.Merging.{IsReadFrom, AreReadFrom}
 use Rattle.tape_run.specs.MergeSteps.{best_items, Asked, gives, stops, AskedAll, column, HasTaken}
-use Rattle.tape_run.specs.MergeSteps.{HaveTaken, AreUpTo, Judges, AreJudged}
+use Rattle.tape_run.specs.MergeSteps.{HaveTaken, AreUpTo, Judges, AreJudged, Compares, agrees}
 use Rattle.tape_run.proofs.MergeReadings.{reads_front, are_better}
 use Rattle.tape_run.proofs.MergePlaces.{best_differs}
-use Rattle.tape_run.proofs.MergeTaken.{has_given, has_stopped, stopped_off, get_last, take_past}
-use Rattle.tape_run.proofs.MergeTaken.{take_last}
+use Rattle.tape_run.proofs.MergeTaken.{has_given, has_stopped, stopped_off, get_last}
 use Rattle.tape_run.proofs.MergeVerdicts.{IsOther, none_yet, Keeps, judges, judges_stop}
 use Rattle.tape_run.proofs.MergeVerdicts.{second_alone, all_keep, next_other}
 use Rattle.tape_run.proofs.MergeAsking.{within_up, one_best}
@@ -31,6 +31,15 @@ record HasMore {R : Type 0} (f n : Reading R) (r : List TapeItem) (k : ℕ)
   pub item : ComparesIf n.verdict (slice_get reading k) best now other beside
   pub judged : (end last : Option TapeItem) → Keeps now end beside last
       → Judges n.verdict n.image.status reading end last
+  pub differs : other ≡ None → beside ≢ None → (m tape : List TapeItem) → k ≡ length m
+      → IsReadFrom (m ++ best_items best) tape → IsReadFrom reading tape → ⊥
+
+-- an item that is the second one does not agree with the best
+second_differs : (v : Verdict) (x : TapeItem) (best now other beside : Option TapeItem)
+    → Compares v x best now other beside → other ≡ None → beside ≢ None → agrees best x → ⊥
+second_differs v x best now other None compares none some = absurd (some refl)
+second_differs v x best now other (Some y) compares none some =
+    second_alone v x best now y (subst (λ o. Compares v x best now o (Some y)) none compares)
 
 has_more : {R : Type 0} (f o n : Reading R) (r : List TapeItem) (k : ℕ)
     (best now other beside : Option TapeItem) → HasTaken f o r
@@ -46,11 +55,13 @@ has_more f o n r k best now other beside h at within is_other
       at = λ _. long;
       short = λ off. absurd (off given.goes_on);
       of_all = λ t reads. reads_front r (x ∷ []) t reads;
-      front = take_last r x k e;
+      front = take_at r (x ∷ []) k e;
       item = subst (λ t. ComparesIf n.verdict t best now other beside) (sym (get_last r x k e))
           compares;
       judged = λ end last keeps. judges n.verdict n.image.status r x best now other beside end
           last given.goes_on compares is_other keeps;
+      differs = λ none some m tape same. best_differs m r tape best x
+          (second_differs n.verdict x best now other beside compares none some) (e ∙ same);
     }
 has_more f o n r k best now other beside h at within is_other (stops off how counts same left) =
     record {
@@ -59,10 +70,11 @@ has_more f o n r k best now other beside h at within is_other (stops off how cou
       at = λ on. absurd (stopped_off o.image n.image off on);
       short = λ _. omega (arith, within);
       of_all = λ t reads. reads;
-      front = take_past r k within;
+      front = take_all k r within;
       item = subst (λ t. ComparesIf n.verdict t best now other beside)
           (sym (slice_get_past r k within)) (same, left);
       judged = λ end last keeps. judges_stop n.verdict n.image.status r end last how;
+      differs = λ none some. absurd (some (left ∙ none));
     }
 
 -- so have readings
@@ -123,46 +135,6 @@ pub record HaveDiffered {R : Type 0} (firsts nows : List (Reading R)) (rs : List
   pub judged : AreJudged nows readings end last
   pub differ : (tape : List TapeItem) → others tape → AreReadFrom readings tape → ⊥
 
-one_differs : {R : Type 0} (f o n : Reading R) (firsts olds nows : List (Reading R))
-    (r : List TapeItem) (rs : List (List TapeItem)) (m : List TapeItem)
-    (best mid now : Option TapeItem) (y : TapeItem) (beside : Option TapeItem)
-    (others : List TapeItem → Type 0) → HasTaken f o r → HaveTaken firsts olds rs
-    → (o.image.status ≡ going → length r ≡ length m) → AreUpTo (length m) olds rs
-    → ((tape : List TapeItem) → others tape → AreReadFrom (r ∷ rs) tape
-    → IsReadFrom (m ++ best_items best) tape)
-    → Asked o n best mid None (Some y) → AskedAll olds nows mid now (Some y) beside
-    → HaveDiffered (f ∷ firsts) (n ∷ nows) (r ∷ rs) (length m) best now beside others
-one_differs f o n firsts olds nows r rs m best mid now y beside others h hs at up least
-    (gives x on given compares counts) rest =
-    let more = have_more firsts olds nows rs (length m) mid now (Some y) beside hs up
-    (next_other o n best mid None (Some y) none_yet (gives x on given compares counts)) rest in
-    let e : length r ≡ length m = at on in
-    let long : length (r ++ x ∷ []) ≡ length m + 1 =
-    length-append r (x ∷ []) ∙ ap (λ k. k + 1) e in
-    record {
-      readings = (r ++ x ∷ []) ∷ more.readings;
-      have = (has_given f o n r x h on given counts, more.have);
-      at = (λ _. long, λ off. absurd (off given.goes_on), more.at);
-      front = cc (take_last r x (length m) e, more.front);
-      compared = (
-        mid,
-        Some y,
-        subst (λ t. ComparesIf n.verdict t best mid None (Some y))
-            (sym (get_last r x (length m) e)) compares,
-        more.compared,
-      );
-      judged = (
-        judges n.verdict n.image.status r x best mid None (Some y) now beside given.goes_on
-            compares none_yet (all_keep olds nows mid now (Some y) beside rest),
-        more.judged,
-      );
-      differ = λ tape k reads. best_differs m r tape best x
-          (second_alone n.verdict x best mid y compares) e
-          (least tape k (reads_front r (x ∷ []) tape reads.0, more.of_all tape reads.1)) reads.0;
-    }
-one_differs f o n firsts olds nows r rs m best mid now y beside others h hs at up least
-    (stops off how counts same left) rest = absurd (cc left)
-
 -- not all agreed
 pub all_differ : {R : Type 0} (firsts olds nows : List (Reading R)) (rs : List (List TapeItem))
     (m : List TapeItem) (best now beside : Option TapeItem) (others : List TapeItem → Type 0)
@@ -179,8 +151,23 @@ all_differ [] [] (n ∷ nows) [] m best now beside others h at reads least asked
 all_differ (f ∷ firsts) (o ∷ olds) [] (r ∷ rs) m best now beside others h at reads least asked
     not_so = absurd asked
 all_differ (f ∷ firsts) (o ∷ olds) (n ∷ nows) (r ∷ rs) m best now beside others h at reads least
-    (mid, Some y, one, rest) not_so = one_differs f o n firsts olds nows r rs m best mid now y
-    beside others h.0 h.1 at.0 at.2 least one rest
+    (mid, Some y, one, rest) not_so =
+    let first = has_more f o n r (length m) best mid None (Some y) h.0 at.0 at.1 none_yet one in
+    let more = have_more firsts olds nows rs (length m) mid now (Some y) beside h.1 at.2
+    (next_other o n best mid None (Some y) none_yet one) rest in
+    record {
+      readings = first.reading ∷ more.readings;
+      have = (first.has, more.have);
+      at = (first.at, first.short, more.at);
+      front = cc (first.front, more.front);
+      compared = (mid, Some y, first.item, more.compared);
+      judged = (
+        first.judged now beside (all_keep olds nows mid now (Some y) beside rest),
+        more.judged,
+      );
+      differ = λ tape k reads. first.differs refl (λ e. cc e) m tape refl
+          (least tape k (first.of_all tape reads.0, more.of_all tape reads.1)) reads.0;
+    }
 all_differ (f ∷ firsts) (o ∷ olds) (n ∷ nows) (r ∷ rs) m best now beside others h at reads least
     (mid, None, one, rest) not_so =
     let first = one_best f o n r m best mid (λ tape. others tape × AreReadFrom rs tape) h.0 at.0

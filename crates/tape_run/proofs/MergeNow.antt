@@ -1,7 +1,7 @@
 -- The result for the images of a source, from the result for their readings.
 use Rattle.std.proofs.Common.{◌≡◌, ◌⊎◌, ℕ, zero, suc, ◌+◌, List, [], ◌∷◌, ◌++◌, length}
-use Rattle.std.proofs.Common.{map, Option, Some, None, Result, Ok, Err, IfOk, IfErr}
-use Rattle.std.proofs.Common.{refl, sym, ap, subst, ◌∙◌, inl, inr, arith, length-append}
+use Rattle.std.proofs.Common.{map, Option, Some, Result, Ok, Err, IfOk, IfErr}
+use Rattle.std.proofs.Common.{refl, sym, subst, ◌∙◌, inl, inr, arith, length-append}
 use Rattle.std.proofs.Common.{append_assoc, append-nil}
 use Rattle.std.specs.List.{flat_map}
 use Rattle.std.specs.Io.KnownBytes.{Appends, Keeps}
@@ -20,48 +20,16 @@ use Rattle.tape_run.specs.declared.merge.now.MergeStop.{MergeStop}
 use Rattle.tape_run.specs.declared.merge.now.MergeStop.TheVariants as stops
 use Rattle.tape_run.specs.declared.merge.MergeFault.TheVariants as faults
 use Rattle.tape_run.specs.declared.merge.reading.Reading.{Reading}
-use Rattle.tape_run.specs.Reeling.{Mounting, AreMounted}
+use Rattle.tape_run.specs.Reeling.{Mounting}
 use Rattle.tape_run.specs.MergeCalls.{AreAtFront, IfImages}
 use Rattle.tape_run.specs.MergedImages.{MergesImages, FaultsImages, DifferImages}
 use Rattle.tape_run.specs.MergeLines.{lines_from, reading_line, has_line, merged_line, differ_line}
-use Rattle.tape_run.specs.MergeNow.{IsOn, MountsAll, IsMissing, EndsAs, end_bytes}
+use Rattle.tape_run.specs.MergeNow.{MountsAll, EndsAs, end_bytes}
 use Rattle.tape_run.specs.MergeNow.{FitsEnd, HoldsMerged, ComesTo, IfMounted}
 use Rattle.tape_run.specs.MergeNow.{Misses, ReportsNoImage, LeavesPlace}
 use Rattle.tape_run.specs.MergeLog.{log_head, log_rows}
-use Rattle.tape_run.proofs.Turns.{one_mounted}
 use Rattle.tape_run.proofs.Fitting.{kept}
 use Rattle.tape_run.proofs.Reporting.{front_then}
-
--- ---- mounting
-
--- the first images were opened
-pub record MountsFirst {L R : Type 0} (gives : Mounting L R) (shelf left : L) (number : ℕ)
-    (devices : List R) : Type 0 where
-  pub mounted : AreMounted gives IsOn shelf 0 devices left
-  pub many : length devices ≡ number
-
-pub mounts_more : {L R : Type 0} (gives : Mounting L R) (shelf mid next : L) (number : ℕ)
-    (devices all : List R) (image : Option R) (device : R)
-    → MountsFirst gives shelf mid number devices → gives mid number image next
-    → image ≡ Some device → all ≡ devices ++ device ∷ []
-    → MountsFirst gives shelf next (number + 1) all
-mounts_more {L} {R} gives shelf mid next number devices all image device h g is grown = record {
-  mounted = subst (λ (l : List R). AreMounted gives IsOn shelf 0 l next) (sym grown)
-      (one_mounted gives IsOn shelf 0 devices mid device image next h.mounted
-      (subst (λ n. gives mid n image next) (omega (arith, h.many)) g) is);
-  many = ap length grown ∙ omega (arith, length-append devices (device ∷ []), h.many);
-}
-
-pub is_missing : {L R : Type 0} (gives : Mounting L R) (shelf mid next : L) (number : ℕ)
-    (devices : List R) (image : Option R) → MountsFirst gives shelf mid number devices
-    → gives mid number image next → image ≡ None → IsMissing gives shelf next number
-is_missing {L} {R} gives shelf mid next number devices image h g is = record {
-  devices = devices;
-  mid = mid;
-  mounted = h.mounted;
-  before = h.many;
-  missing = subst (λ (i : Option R). gives mid number i next) is g;
-}
 
 -- ---- what was written
 
@@ -373,12 +341,6 @@ differed firsts nows old new number fault out stands names logs says faulted is 
           (faulted images front);
       lines = lines;
     }
-
-pub fits_other : (bad miscounted : ℕ) (ends : MergedEnd) (end : MergeEnd)
-    → FitsEnd bad miscounted ends end → end ≡ Differs → ⊥
-fits_other bad miscounted ends Whole h is = absurd (cc is)
-fits_other bad miscounted ends Partial h is = absurd (cc is)
-fits_other bad miscounted ends Differs h is = absurd h
 
 -- readings at the beginning of images, as a borrow of the devices and of themselves
 pub at_front : {R D : Type 0} (remaining : D → Option (List ℕ)) (devices lent : List D)

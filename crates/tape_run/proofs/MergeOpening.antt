@@ -1,10 +1,13 @@
--- Readers at the beginning of images, one for each device that an iterator yielded.
+-- Images that were opened, and readers at the beginning of images, one for each device that an
+-- iterator yielded.
 use Rattle.std.proofs.Common.{◌≡◌, ℕ, List, [], ◌∷◌, ◌++◌, length, map, Option, refl, sym, ap}
-use Rattle.std.proofs.Common.{subst, ◌∙◌, arith, append_assoc, append-nil}
-use Rattle.std.proofs.lemmas.List.{map-append}
+use Rattle.std.proofs.Common.{subst, ◌+◌, ◌∙◌, Some, arith, append_assoc, append-nil, length-append}
+use Rattle.std.proofs.lemmas.List.{map-append, nil_from_length}
 use Rattle.tape_image.specs.Reader.{going}
 use Rattle.tape_run.specs.declared.merge.reading.Reading.{Reading}
-use Rattle.tape_run.specs.MergeCalls.{AreAtFront}
+use Rattle.tape_run.specs.{MergeCalls.AreAtFront, MergeNow.IsOn}
+use Rattle.tape_run.specs.Reeling.{Mounting, AreMounted}
+use Rattle.tape_run.proofs.Turns.{one_mounted}
 
 front_more : {R : Type 0} (bs : List (Option (List ℕ))) (rs : List (Reading R))
     (b : Option (List ℕ)) (r : Reading R)
@@ -37,10 +40,6 @@ split_more {X} {D} value xs x old rest devices e is =
     ∙ append_assoc (map value xs) (value x ∷ []) rest
     ∙ ap (λ (l : List D). map value xs ++ l) (sym is) ∙ e
 
-none_left : {D : Type 0} (l : List D) → length l ≡ 0 → l ≡ []
-none_left {D} [] e = refl
-none_left {D} (x ∷ l) e = absurd (omega arith)
-
 map_twice : {X D B : Type 0} (f : D → B) (value : X → D) (xs : List X)
     → map (λ x. f (value x)) xs ≡ map f (map value xs)
 map_twice {X} {D} {B} f value [] = refl
@@ -53,6 +52,26 @@ pub all_open : {X D R : Type 0} (bytes : D → Option (List ℕ)) (value : X →
 all_open {X} {D} {R} bytes value xs rest devices rs h e none =
     let values : map value xs ≡ devices =
     sym (append-nil (map value xs)) ∙ ap (λ (l : List D). map value xs ++ l)
-    (sym (none_left rest none)) ∙ e in
+    (sym (nil_from_length rest none)) ∙ e in
     subst (λ (l : List (Option (List ℕ))). AreAtFront l rs)
     (map_twice bytes value xs ∙ ap (map bytes) values) h
+
+-- ---- mounting
+
+-- the first images were opened
+pub record MountsFirst {L R : Type 0} (gives : Mounting L R) (shelf left : L) (number : ℕ)
+    (devices : List R) : Type 0 where
+  pub mounted : AreMounted gives IsOn shelf 0 devices left
+  pub many : length devices ≡ number
+
+pub mounts_more : {L R : Type 0} (gives : Mounting L R) (shelf mid next : L) (number : ℕ)
+    (devices all : List R) (image : Option R) (device : R)
+    → MountsFirst gives shelf mid number devices → gives mid number image next
+    → image ≡ Some device → all ≡ devices ++ device ∷ []
+    → MountsFirst gives shelf next (number + 1) all
+mounts_more {L} {R} gives shelf mid next number devices all image device h g is grown = record {
+  mounted = subst (λ (l : List R). AreMounted gives IsOn shelf 0 l next) (sym grown)
+      (one_mounted gives IsOn shelf 0 devices mid device image next h.mounted
+      (subst (λ n. gives mid n image next) (omega (arith, h.many)) g) is);
+  many = ap length grown ∙ omega (arith, length-append devices (device ∷ []), h.many);
+}

@@ -4,6 +4,7 @@ use Rattle.std.proofs.Common.{Option, Some, None, refl, sym, ap, subst, ◌∙�
 use Rattle.std.proofs.Common.{append_assoc, append-nil}
 use Rattle.std.specs.Io.KnownBytes.{Appends}
 use Rattle.std.proofs.KnownBytes.{Appends-nil, Appends-trans}
+use Rattle.std.proofs.lemmas.List.{drop_all, drop_more}
 use Rattle.tape_image.specs.declared.item.Ending.{Ending}
 use Rattle.tape_image.specs.declared.item.Ending.TheVariants as endings
 use Rattle.tape_image.specs.Reader.{Status, going, ended, failed, ending_of}
@@ -18,20 +19,10 @@ use Rattle.tape_run.proofs.Reporting.{front_then}
 
 -- ---- lines
 
-pub drop_none : {A : Type 0} (xs : List A) (n : ℕ) → length xs ≤ n → drop n xs ≡ []
-drop_none [] zero le = refl
-drop_none [] (suc n) le = refl
-drop_none (x ∷ xs) zero le = absurd (omega arith)
-drop_none (x ∷ xs) (suc n) le = drop_none xs n (omega arith)
-
 pub drop_one : {A : Type 0} (xs : List A) (n : ℕ) (x : A) → n < length xs → x ≡ get_or xs n x
     → drop n xs ≡ x ∷ drop (n + 1) xs
-drop_one {A} [] n x lt is = absurd (omega arith)
-drop_one {A} (y ∷ xs) zero x lt is = ap (λ (z : A). z ∷ xs) (sym is)
-drop_one {A} (y ∷ xs) (suc n) x lt is =
-    let next : suc n + 1 ≡ suc (n + 1) = omega arith in
-    drop_one xs n x (omega arith) is
-    ∙ ap (λ (l : List A). x ∷ l) (ap (λ k. drop k (y ∷ xs)) (sym next))
+drop_one {A} xs n x lt is = drop_more xs n x lt
+    ∙ ap (λ (y : A). y ∷ drop (n + 1) xs) (sym is)
 
 -- The lines of the first readings were reported; the lines of the others complete the report.
 pub record ReportsFirst {A : Type 0} (line : ℕ → A → List ℕ) (number : ℕ) (xs : List A)
@@ -82,7 +73,7 @@ pub reports_all : {A : Type 0} (line : ℕ → A → List ℕ) (number : ℕ) (x
     → Appends old new (lines_from line 0 xs)
 reports_all {A} line number xs old new le h =
     subst (λ t. Appends old new t) (sym (h.rest
-    ∙ ap (λ (l : List A). h.done ++ lines_from line number l) (drop_none xs number le)
+    ∙ ap (λ (l : List A). h.done ++ lines_from line number l) (drop_all number xs le)
     ∙ append-nil h.done)) h.wrote
 
 -- the line about a reading, as it is built

@@ -4,6 +4,7 @@ use Rattle.std.proofs.Common.{Option, Some, refl, sym, ap, ◌∙◌, arith}
 use Rattle.std.proofs.Common.{append_assoc, append-nil, drop}
 use Rattle.std.specs.Prelude.{◌||◌, nat_lt, if◌then◌else◌, ⊤}
 use Rattle.std.specs.List.{flat_map}
+use Rattle.std.proofs.lemmas.List.{drop_all}
 use Rattle.tape_image.specs.Tape.{TapeItem}
 use Rattle.tape_run.specs.declared.merge.reading.Reading.{Reading}
 use Rattle.tape_run.specs.MergeSteps.{column, goods_in}
@@ -12,7 +13,6 @@ use Rattle.tape_run.specs.MergeLog.{has_bad, has_bad_verdict, is_logged, seen_ce
 use Rattle.tape_run.specs.MergeLog.{row_text, kind_at, log_row, log_rows, row_now}
 use Rattle.tape_run.specs.MergeLines.{lines_from}
 use Rattle.tape_run.proofs.MergeVerdicts.{SeenAs}
-use Rattle.tape_run.proofs.MergeReports.{drop_none}
 
 -- ---- one item
 
@@ -119,7 +119,7 @@ lines_flat f n (x ∷ xs) = ap (λ t. f x ++ t) (lines_flat f (n + 1) xs)
 pub flat_none : {A : Type 0} (f : A → List ℕ) (n : ℕ) (xs : List A) (text : List ℕ)
     → length xs ≤ n → text ≡ text ++ flat_map f (drop n xs)
 flat_none f n xs text le = sym (append-nil text)
-    ∙ ap (λ l. text ++ flat_map f l) (sym (drop_none xs n le))
+    ∙ ap (λ l. text ++ flat_map f l) (sym (drop_all n xs le))
 
 -- the text of the values of elements
 pub flat_values : {A B : Type 0} (f : B → List ℕ) (value : A → B) (xs : List A)

@@ -1,8 +1,7 @@
 -- A reading after one more item, or after it stopped.
-use Rattle.std.proofs.Common.{◌≡◌, ◌≢◌, ◌⊎◌, inl, inr, ℕ, ◌+◌, ◌<◌, ◌≤◌, List, [], ◌∷◌, ◌++◌}
-use Rattle.std.proofs.Common.{length, take, Some, refl, sym, ap, subst, ◌∙◌, arith, zero, suc}
+use Rattle.std.proofs.Common.{◌≡◌, ◌≢◌, ◌⊎◌, inl, inr, ℕ, ◌+◌, ◌<◌, List, [], ◌∷◌, ◌++◌}
+use Rattle.std.proofs.Common.{length, Some, refl, sym, ap, subst, ◌∙◌, arith, zero, suc}
 use Rattle.std.proofs.Common.{length-append, slice_get}
-use Rattle.std.proofs.lemmas.List.{take_at}
 use Rattle.tape_image.specs.declared.item.ImageFault.{ImageFault}
 use Rattle.tape_image.specs.{Tape.TapeItem, Reader.Reader, Reader.going, Calls.Gave}
 use Rattle.tape_image.specs.Step.{GivesItem, MeetsEnd, MeetsFault}
@@ -98,12 +97,3 @@ get_last [] x zero e = refl
 get_last [] x (suc k) e = absurd (omega (arith, e))
 get_last (y ∷ r) x zero e = absurd (omega (arith, e))
 get_last (y ∷ r) x (suc k) e = get_last r x k (omega (arith, e))
-
-pub take_past : (r : List TapeItem) (k : ℕ) → length r ≤ k → take k r ≡ r
-take_past [] zero le = refl
-take_past [] (suc k) le = refl
-take_past (x ∷ r) zero le = absurd (omega arith)
-take_past (x ∷ r) (suc k) le = ap (λ (l : List TapeItem). x ∷ l) (take_past r k (omega arith))
-
-pub take_last : (r : List TapeItem) (x : TapeItem) (k : ℕ) → length r ≡ k → take k (r ++ x ∷ []) ≡ r
-take_last r x k e = take_at r (x ∷ []) k e

@@ -2,7 +2,7 @@
 use Rattle.std.proofs.Common.{◌≡◌, ◌≢◌, ◌⊎◌, inl, inr, ℕ, zero, suc, ◌+◌, ◌<◌, ◌≤◌, Bool, cond}
 use Rattle.std.proofs.Common.{List, [], ◌∷◌, ◌++◌, length, take, drop, Option, Some, refl, sym, ap}
 use Rattle.std.proofs.Common.{subst, ◌∙◌, arith, length-append, slice_get}
-use Rattle.std.proofs.lemmas.List.{take-append-drop}
+use Rattle.std.proofs.lemmas.List.{take-append-drop, take_all}
 use Rattle.tape_blocks.specs.Block.{Portion}
 use Rattle.tape_image.specs.Tape.{TapeItem, bad}
 use Rattle.tape_set.specs.declared.position.Position.{Position}
@@ -57,12 +57,6 @@ read_at (x ∷ its) (g ∷ gs) more (suc i) h le =
       longer = rw e (ap (λ z. g ∷ z) next.longer);
       count = ap (λ n. suc n) next.count;
     }
-
-take_whole : (n : ℕ) (good : List Bool) → length good ≤ n → take n good ≡ good
-take_whole zero [] h = refl
-take_whole zero (g ∷ gs) h = absurd (omega (arith, h))
-take_whole (suc n) [] h = refl
-take_whole (suc n) (g ∷ gs) h = ap (λ (l : List Bool). g ∷ l) (take_whole n gs (omega (arith, h)))
 
 -- The item at an index, and the items after it.
 record ItemAt (xs : List TapeItem) (i : ℕ) : Type 0 where
@@ -196,8 +190,8 @@ copy_behind : (core : State) (out : Outcome) (arrived : Option TapeItem)
 copy_behind core out arrived is set p xs i r l m u lt e le =
     let at = item_at xs i lt in
     let came : arrived ≡ Some at.item = e ∙ at.there in
-    let all : take i r.good ≡ r.good = take_whole i r.good le in
-    let more : take (i + 1) r.good ≡ r.good = take_whole (i + 1) r.good (omega (arith, le)) in
+    let all : take i r.good ≡ r.good = take_all i r.good le in
+    let more : take (i + 1) r.good ≡ r.good = take_all (i + 1) r.good (omega (arith, le)) in
     let whole = m.behind (some_more (items set r.volume) r.good m.more xs i m.whole le lt) in
     let idle : Idle set p r.volume r.good core out =
     idle_reads core out arrived is set p r.volume r.good at.item l m.is_reading.volume whole.0
@@ -291,7 +285,7 @@ cut_whole set xs (reads r) m =
       ap length m.whole,
       length-append (as_read (items set r.volume) r.good) m.more,
     ) in
-    rw (take_whole (length xs) r.good le) refl
+    rw (take_all (length xs) r.good le) refl
 cut_whole set xs foreign_reel m = refl
 cut_whole set xs saves m = absurd m
 cut_whole set xs (restarts n) m = absurd m

@@ -3,7 +3,7 @@ use Rattle.std.proofs.Common.{◌≡◌, ◌≢◌, ◌⊎◌, inl, inr, ℕ, �
 use Rattle.std.proofs.Common.{◌++◌, length, drop, refl, sym, ap, subst, ◌∙◌, arith, append_assoc}
 use Rattle.std.proofs.Common.{length-append, mul-le-mul_right, add-mul, one-mul, Bool, true, false}
 use Rattle.std.proofs.Common.{◌==◌}
-use Rattle.std.proofs.lemmas.List.{drop-append-le, length-drop}
+use Rattle.std.proofs.lemmas.List.{drop-append-le, length-drop, nil_from_length}
 use Rattle.std.proofs.Math.Seq.{drop-append_seam}
 use Rattle.tape_run.specs.UnpackChoice.{Fits}
 
@@ -205,15 +205,11 @@ tried_later pattern word after from left rest bytes b is not t = record {
   rest_len = omega (arith, t.from_len, ap length is);
 }
 
-none_of : (xs : List ℕ) → length xs ≡ 0 → xs ≡ []
-none_of [] e = refl
-none_of (x ∷ xs) e = absurd (omega (arith, e))
-
 pub fits_no_more : (pattern word after from left rest : List ℕ) → length from ≡ 0
     → (Fits left rest → ⊥) → Tried pattern word after from left rest → Fits pattern word → ⊥
 fits_no_more pattern word after from left rest none not t f = elim (t.onward f) [
   | inl h ↦ not h
-  | inr l ↦ never_later after from (none_of from none) l
+  | inr l ↦ never_later after from (nil_from_length from none) l
 ]
 
 -- ---- the rest becomes shorter

@@ -4,6 +4,7 @@ use Rattle.std.proofs.Common.{refl, sym, ap, subst, ◌∙◌, arith, append-nil
 use Rattle.std.specs.Prelude.{Bool, true, false, if◌then◌else◌, nat_le}
 use Rattle.std.specs.List.{flat_map}
 use Rattle.std.specs.Fmt.{digits}
+use Rattle.std.proofs.lemmas.List.{nil_from_length}
 use Rattle.tape_image.specs.Tape.{TapeItem, block, bad, mark}
 use Rattle.tape_image.specs.Word.{block_extent}
 use Rattle.tape_image.specs.Spelling.{Spelling, IsSpelling, IsFramed, item_of, a_mark, a_gap}
@@ -42,10 +43,6 @@ texts l = flat_map (λ s. s.bytes) l
 abbrev gifts : List Spelling → List TapeItem
 gifts l = flat_map (λ s. s.given) l
 
-none_left : {A : Type 0} (xs : List A) → length xs ≡ 0 → xs ≡ []
-none_left [] e = refl
-none_left (x ∷ xs) e = absurd (omega (arith, e))
-
 -- an item is no gap
 no_gap : (g : Spelling) (gs : List Spelling) (given : List TapeItem) (i : TapeItem)
     → [] ≡ gifts (g ∷ gs) → given ≡ i ∷ [] → given ≡ g.given → ⊥
@@ -58,7 +55,7 @@ gaps_behind : (g : Spelling) (gs : List Spelling) → [] ≡ gifts (g ∷ gs) �
 gaps_behind g gs none =
     let few : length (gifts gs) ≡ 0 =
     omega (arith, ap length none, length-append g.given (gifts gs)) in
-    sym (none_left (gifts gs) few)
+    sym (nil_from_length (gifts gs) few)
 
 -- after gaps, the bytes begin with one encoding of an item
 one_behind : (fs gs : List Spelling) (s t ys zs : List ℕ) (f h : List TapeItem) (i j : TapeItem)

@@ -1,7 +1,7 @@
 -- The part of a report that has been written, and the text that comes next.
 use Rattle.std.proofs.Common.{◌≡◌, inl, inr, ℕ, ◌+◌, ◌-◌, ◌<◌, suc, Bool, List}
 use Rattle.std.proofs.Common.{[], ◌∷◌, ◌++◌, length, Option, option_map}
-use Rattle.std.proofs.Common.{Result, Ok, Err, IfOk, OnOk, OnErr, refl, sym, ap, subst, ◌∙◌}
+use Rattle.std.proofs.Common.{Result, Ok, Err, IfOk, OnOk, refl, sym, ap, subst, ◌∙◌}
 use Rattle.std.proofs.Common.{arith, append_assoc, append-nil, length-append}
 use Rattle.std.specs.List.{flat_map}
 use Rattle.std.specs.Io.KnownBytes.{Appends}
@@ -245,10 +245,6 @@ pub record TextsSoFar {X : Type 0} (f : X → List ℕ) (all rest : List X) (old
   pub whole : all ≡ done ++ rest
   pub wrote : Appends old new (flat_map f done)
 
-pub texts_start : {X : Type 0} (f : X → List ℕ) (all rest : List X) (w : Option (List ℕ))
-    → rest ≡ all → TextsSoFar f all rest w w
-texts_start f all rest w same = record { done = []; whole = sym same; wrote = Appends-nil w }
-
 one_text : {X : Type 0} (f : X → List ℕ) (done : List X) (x : X)
     → flat_map f (done ++ x ∷ []) ≡ flat_map f done ++ f x
 one_text f done x = flat_map-append f done (x ∷ [])
@@ -278,38 +274,7 @@ text_front f all rest next x text old mid new s is same part =
     (ap (flat_map f) whole ∙ flat_map-append f (s.done ++ x ∷ []) next
     ∙ ap (λ l. l ++ flat_map f next) (one_text f s.done x))
 
--- all were written
-pub texts_end : {X : Type 0} (f : X → List ℕ) (all rest : List X) (old new : Option (List ℕ))
-    → TextsSoFar f all rest old new → rest ≡ [] → Appends old new (flat_map f all)
-texts_end f all rest old new s none =
-    subst (λ l. Appends old new (flat_map f l))
-    (sym (s.whole ∙ ap (λ l. s.done ++ l) none ∙ append-nil s.done)) s.wrote
-
--- a prefix of a summary with these parts
-pub in_first : (old new : Option (List ℕ)) (a b c : List ℕ) → AppendsFront old new a
-    → AppendsFront old new (a ++ b ++ c)
-in_first old new a b c part =
-    front_then old old new [] a (b ++ c) (a ++ b ++ c) (Appends-nil old) part (append_assoc a b c)
-
-pub in_second : (old mid new : Option (List ℕ)) (a b c : List ℕ) → Appends old mid a
-    → AppendsFront mid new b → AppendsFront old new (a ++ b ++ c)
-in_second old mid new a b c wrote part = front_then old mid new a b c (a ++ b ++ c) wrote part refl
-
-pub in_third : (old first second new : Option (List ℕ)) (a b c : List ℕ) → Appends old first a
-    → Appends first second b → AppendsFront second new c → AppendsFront old new (a ++ b ++ c)
-in_third old first second new a b c one two part = front_then old second new (a ++ b) c [] (a ++ b
-    ++ c) (Appends-trans old first second a b one two) part (sym (append-nil (a ++ b ++ c)))
-
-pub if_ok : {T E : Type 0} (r : Result T E) (P Q : T → Type 0) → IfOk r P
-    → ((x : T) → P x → Q x) → IfOk r Q
-if_ok (Ok x) P Q p f = f x p
-if_ok (Err e) P Q p f = tt
-
 pub if_ok_both : {T E : Type 0} (r : Result T E) (P Q : T → Type 0) (C : Type 0) → IfOk r P
     → OnOk r C → ((x : T) → P x → C → Q x) → IfOk r Q
 if_ok_both (Ok x) P Q C h d f = f x h d
 if_ok_both (Err e) P Q C h d f = tt
-
-pub if_err : {T E : Type 0} (r : Result T E) (P Q : Type 0) → OnErr r P → (P → Q) → OnErr r Q
-if_err (Ok x) P Q p f = tt
-if_err (Err e) P Q p f = f p

@@ -7,6 +7,7 @@ use Rattle.std.specs.Io.KnownBytes.{Appends}
 use Rattle.tape_image.specs.Tape.{TapeItem}
 use Rattle.tape_image.specs.Written.{AppendsFront}
 use Rattle.tape_image.proofs.Walks.{known_start}
+use Rattle.tape_image.proofs.Pieces.{front_more, front_behind}
 use Rattle.tape_set.specs.Lawful.{FileForm}
 use Rattle.tape_run.specs.declared.salvage.Content.{Content}
 use Rattle.tape_run.specs.declared.salvage.ending.SectionEnd.{SectionEnd}
@@ -25,7 +26,7 @@ use Rattle.tape_run.specs.SalvageTaking.{Taken, MountsIf, MountsPart, IsBegun}
 use Rattle.tape_run.specs.SalvageTaking.{StopsTaking, form_for, has_form, copy_text, taken_text}
 use Rattle.tape_run.specs.SalvageTaking.{AreTaken, GoOn, after_all, all_text, last_end, last_text}
 use Rattle.tape_run.specs.SalvageTaking.{file_text, next_section, image_number, after_taken}
-use Rattle.tape_run.proofs.SalvageFronts.{no_text, in_one, in_two}
+use Rattle.tape_run.proofs.Fitting.{no_text}
 use Rattle.tape_run.proofs.SalvageTaking.{TakenSoFar}
 
 pub begins_empty : (before : Option (List ℕ)) → BeginsWith before []
@@ -42,7 +43,7 @@ pub line_begun : {W : Type 0} (contents : W → Option (List ℕ)) (before : Opt
     → (items : List TapeItem) × BeginsWith before items
     × ReportsFront contents old said says (copy_text sect c form (Some items))
 line_begun contents before c sect form old said says part =
-    ([], begins_empty before, λ start g h. in_one said says _ _ part)
+    ([], begins_empty before, λ start g h. front_more said says _ _ part)
 
 -- it was, but the data that were read again were not all reported
 pub items_begun : {W : Type 0} (contents : W → Option (List ℕ)) (before : Option (List ℕ))
@@ -64,7 +65,8 @@ items_begun contents before c sect form origin most old said one says first coun
           (subst (λ m. ReportsFront contents old one says
           (λ g. text_from key m form (start_of c) g items)
           → ReportsFront contents old said says (copy_text sect c form (Some items))) (sym count)
-          (λ r start g h. in_two said one says _ _ line (in_one one says _ _ (r start g h)))) part,
+          (λ r start g h. front_behind said one says _ _ line
+          (front_more one says _ _ (r start g h)))) part,
     )
 
 -- they were, but the end of the section was not
@@ -88,7 +90,7 @@ end_begun contents before after c sect form origin most old mid said one two say
       r.reads.walked,
       λ start g h.
           let a = r.recovers start g h in
-          in_two said one says _ _ line (in_two one two says _ _ a.1
+          front_behind said one says _ _ line (front_behind one two says _ _ a.1
           (subst (λ n. ReportsFront contents mid two says (read_again_text n c)) r.count part start
           (salvaged_from key (believed c) form (start_of c) g r.items) a.0)),
     )
@@ -114,7 +116,7 @@ module _ {W L R : Type 0} (contents : W → Option (List ℕ)) (gives : Mounting
       → ReportsFront contents old said says (taken_text content known sect t.copy t.items)
       → Begun sect shelf left old said says
   begun sect t shelf left old said says best mounts part =
-      (t ∷ [], (refl, best, mounts), λ start g h. in_one said says _ [] (part start g h))
+      (t ∷ [], (refl, best, mounts), λ start g h. front_more said says _ [] (part start g h))
 
   pub without_copy : (sect : ℕ) (shelf left : L) (old : Recovery W) (said says : Option (List ℕ))
       → IsBest (firsts sect None copies) None → left ≡ shelf
@@ -230,7 +232,8 @@ module _ {W L R : Type 0} (contents : W → Option (List ℕ)) (gives : Mounting
             let z = after_all content known s.taken g in
             subst (AppendsFront said says)
             (ap (λ m. all_text content known 1 s.taken g ++ all_text content known m next z) same
-            ∙ sym (text_join 1 s.taken next g)) (in_two said w says _ _ r.1 (part start z r.0)),
+            ∙ sym (text_join 1 s.taken next g))
+            (front_behind said w says _ _ r.1 (part start z r.0)),
       )
 
   -- after all sections that were found
@@ -265,5 +268,5 @@ module _ {W L R : Type 0} (contents : W → Option (List ℕ)) (gives : Mounting
         ++ no_section_text (next_section m) (after_all content known s.taken g))) (sym s.counted)
         (λ start g h.
         let r = s.recovers start g h in
-        in_two said w says _ _ r.1 (missed start (after_all content known s.taken g) r.0)))),
+        front_behind said w says _ _ r.1 (missed start (after_all content known s.taken g) r.0)))),
   )

@@ -4,6 +4,7 @@ use Rattle.std.proofs.Common.{◌++◌, length, Option, Some, None, refl, sym, a
 use Rattle.std.proofs.Common.{append_assoc, append-nil, if◌then◌else◌, nat_lt, min}
 use Rattle.std.specs.List.{AllByRecursion}
 use Rattle.std.proofs.lemmas.Bool.Decides.{nat_tests}
+use Rattle.std.proofs.lemmas.List.{nil_from_length}
 use Rattle.tape_image.specs.Tape.{TapeItem, block, bad, mark}
 use Rattle.tape_set.specs.Lawful.{FileForm}
 use Rattle.tape_run.specs.declared.salvage.walk.{OpenSection.OpenSection, Closing.Closing}
@@ -27,7 +28,8 @@ use Rattle.tape_run.proofs.SalvagedSoFar.{text_from-append, closings-append, rea
 use Rattle.tape_run.proofs.SalvageRest.{no_number, none_by, rest_none}
 use Rattle.tape_run.proofs.SalvageSections.{is_number, no_mark}
 use Rattle.tape_run.proofs.SalvageFresh.{Fresh, enters, not_read, starts}
-use Rattle.tape_run.proofs.SalvageGaps.{NoMark, text_data, runs}
+use Rattle.tape_run.proofs.SalvageGaps.{text_data, runs}
+use Rattle.tape_run.specs.SalvageClosed.{IsNoMark}
 
 -- ---- the items
 
@@ -41,10 +43,6 @@ module _ (key : SectionKey) where
           ≡ text_data key.sect form (read_in key s) g (data_in key most s xs)
       pub count : min (read_in key s) most + length (data_in key most s xs)
           ≡ min (read_in key (expected_after s xs)) most
-
-    none_long : (xs : List TapeItem) → length xs ≡ 0 → xs ≡ []
-    none_long [] e = refl
-    none_long (x ∷ xs) e = absurd (omega (arith, e))
 
     -- the same for one data item more at the start
     record OneMore (u v : OpenSection) (x : TapeItem) (g : Salvaged) (xs : List TapeItem) : Type 0
@@ -104,7 +102,7 @@ module _ (key : SectionKey) where
         let w = read_of v same' in
         let i = ih g in
         let c = i.count in
-        let nil : d ≡ [] = none_long d (omega (arith, c, w, more, least, fits)) in
+        let nil : d ≡ [] = nil_from_length d (omega (arith, c, w, more, least, fits)) in
         let all : datum (number_in key most (Data u)) x ++ d ≡ [] =
         ap (λ m. datum m x ++ d) num ∙ nil in
         let n = ap length all in
@@ -207,13 +205,13 @@ module _ (key : SectionKey) where
         }
 
     -- no data item is a mark
-    no_marks : (s : Expected) (xs : List TapeItem) → AllByRecursion NoMark (data_in key most s xs)
+    no_marks : (s : Expected) (xs : List TapeItem) → AllByRecursion IsNoMark (data_in key most s xs)
     no_marks s [] = tt
     no_marks s (x ∷ xs) = both (number_in key most s) x (data_in key most (step s x).0 xs)
         (no_marks (step s x).0 xs)
       where
-        both : (m : Option ℕ) (x : TapeItem) (ys : List TapeItem) → AllByRecursion NoMark ys
-            → AllByRecursion NoMark (datum m x ++ ys)
+        both : (m : Option ℕ) (x : TapeItem) (ys : List TapeItem) → AllByRecursion IsNoMark ys
+            → AllByRecursion IsNoMark (datum m x ++ ys)
         both None x ys all = all
         both (Some n) (block b) ys all = (tt, all)
         both (Some n) bad ys all = (tt, all)

@@ -1,9 +1,10 @@
 -- A file recovered from readings of volumes of a valid set.
 use Rattle.std.proofs.Common.{◌≡◌, ℕ, ◌&&◌, nat_lt, Bool, true, false, List, [], ◌∷◌, ◌++◌, Option}
 use Rattle.std.proofs.Common.{Some, refl, sym, ap, subst, ◌∙◌, arith, append-nil, append_assoc, ◌+◌}
-use Rattle.std.proofs.Common.{if◌then◌else◌, ◌||◌, is_some}
+use Rattle.std.proofs.Common.{if◌then◌else◌, is_some}
 use Rattle.std.specs.List.{AllByRecursion}
 use Rattle.std.proofs.lemmas.Bool.Decides.{nat_tests}
+use Rattle.std.proofs.lemmas.Bool.{or_parts}
 use Rattle.tape_set.specs.Lawful.{FileForm}
 use Rattle.tape_run.specs.declared.salvage.walk.{Closing.Closing, Expected.TheVariants.Outside}
 use Rattle.tape_run.specs.declared.salvage.Content.TheVariants.{Records}
@@ -29,17 +30,13 @@ use Rattle.tape_run.proofs.SalvageClosings.{volume_counted, reading_salvaged}
 abbrev pub AreRead : Blocks → Type 0
 AreRead bs = AllByRecursion (λ b. b.0 ≡ true) bs
 
-none_of : (a b : Bool) → (a || b) ≡ false → a ≡ false
-none_of true b e = e
-none_of false b e = refl
-
 missing_blocks : (form : Option FileForm) (n : ℕ) (g : Salvaged) (bs : Blocks)
     → (salvaged_blocks form n g bs).missing ≡ false → (g.missing ≡ false) × AreRead bs
 unfolding salvaged_blocks
 missing_blocks form n g [] e = (e, tt)
 missing_blocks form n g ((true, f) ∷ bs) e =
     let r = missing_blocks form (n + 1) (with_block form f.bytes g) bs e in
-    (none_of g.missing _ r.0, (refl, r.1))
+    ((or_parts g.missing _ r.0).0, (refl, r.1))
 missing_blocks form n g ((false, f) ∷ bs) e =
     let r = missing_blocks form (n + 1) (without_block n g) bs e in absurd (cc (r.0))
 
@@ -80,7 +77,7 @@ ended_adds form c closed g s bs is =
       done = end_done closed.eof t ∙ ap (λ (p : Piece). p.done) piece;
       same = λ e. ap (λ b. (with_end b t).piece) e ∙ piece;
       none = λ e. missing_blocks (Some form) 0 g bs (ap (λ (z : Salvaged). z.missing) (sym is)
-          ∙ none_of s.missing (is_some (wrong_count c)) (end_missing closed.eof t e));
+          ∙ (or_parts s.missing (is_some (wrong_count c)) (end_missing closed.eof t e)).0);
     }
 
 pub taken_adds : (set_id : List ℕ) (volumes : ℕ) (known : Option FileForm) (form : FileForm)

@@ -12,6 +12,8 @@ use Rattle.tape_run.specs.{SalvageWalk.first_of, SalvageRecords.found_fault, Sal
 use Rattle.tape_run.specs.SalvageGaps.{salvaged_data, Gap, BlockLine, a_gap, a_torn, a_refused}
 use Rattle.tape_run.specs.SalvageGaps.{block_line, block_lines, gaps_in, IsReadable, StartsReadable}
 use Rattle.tape_run.specs.SalvageGaps.{AreGaps}
+use Rattle.tape_run.proofs.SalvageComing.{not_bad}
+use Rattle.tape_run.specs.SalvageClosed.{IsNoMark}
 
 -- ---- lines
 
@@ -67,11 +69,6 @@ abbrev pub data_text : ℕ → Option FileForm → ℕ → Salvaged → List Tap
 data_text sect form n g xs end =
     let h = salvaged_data form n g xs in
     text_data sect form n g xs ++ gap_text sect h.gap end h.piece.records
-
-abbrev pub NoMark : TapeItem → Type 0
-NoMark (block b) = Unit {0}
-NoMark bad = Unit {0}
-NoMark mark = ⊥
 
 -- a gap that began at block `first` continues with these items
 abbrev InGap : Option FileForm → ℕ → Salvaged → List TapeItem → ℕ → List Gap → Type 0
@@ -170,11 +167,8 @@ pub record Runs (sect : ℕ) (form : Option FileForm) (n : ℕ) (g : Salvaged) (
   pub says : data_text sect form n g xs end ≡ block_lines sect lines
   pub gaps : GapsFrom form n g xs o (gaps_in lines)
 
-not_bad : (b : List ℕ) → IsReadable (block b)
-not_bad b e = absurd (cc e)
-
 pub runs : (sect : ℕ) (form : Option FileForm) (n : ℕ) (g : Salvaged) (xs : List TapeItem)
-    (end : ℕ) (o : Option ℕ) → AllByRecursion NoMark xs → g.gap ≡ o → IsBefore o n
+    (end : ℕ) (o : Option ℕ) → AllByRecursion IsNoMark xs → g.gap ≡ o → IsBefore o n
     → end ≡ n + length xs → Runs sect form n g xs end o
 runs sect form n g [] end None none gap before last = record {
   lines = [];

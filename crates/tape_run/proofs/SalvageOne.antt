@@ -1,5 +1,5 @@
 -- One section, recovered from its best copy.
-use Rattle.std.proofs.Common.{◌≡◌, ℕ, Bool, true, false, Result, Ok, Err, IfOk, OnOk, List, ◌++◌}
+use Rattle.std.proofs.Common.{◌≡◌, ℕ, Bool, true, false, List, ◌++◌}
 use Rattle.std.proofs.Common.{Option, Some, None, refl, sym, ap, subst, ◌∙◌, if◌then◌else◌}
 use Rattle.std.specs.Io.KnownBytes.{Appends}
 use Rattle.std.proofs.KnownBytes.{Appends-trans}
@@ -30,16 +30,6 @@ recovers_then contents old mid new said says now f g s t a b start z h =
 pub three_texts : (a b c d : Option (List ℕ)) (t u v : List ℕ) → Appends a b t → Appends b c u
     → Appends c d v → Appends a d (t ++ (u ++ v))
 three_texts a b c d t u v h i j = Appends-trans a b d t (u ++ v) h (Appends-trans b c d u v i j)
-
--- a consequence of an answer
-pub if_ok : {A E : Type 0} (r : Result A E) (P Q : A → Type 0) → ((x : A) → P x → Q x) → IfOk r P
-    → IfOk r Q
-if_ok (Ok x) P Q f h = f x h
-if_ok (Err e) P Q f h = tt
-
-pub on_ok : {A E P Q : Type 0} (r : Result A E) → (P → Q) → OnOk r P → OnOk r Q
-on_ok (Ok x) f h = f h
-on_ok (Err e) f h = tt
 
 -- a section was recovered from its copy
 pub copy_taken : {W : Type 0} (contents : W → Option (List ℕ)) (before after : Option (List ℕ))

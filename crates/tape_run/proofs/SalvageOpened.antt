@@ -17,9 +17,10 @@ use Rattle.tape_run.specs.declared.salvage.walk.Expected.TheVariants.{Trailer, T
 use Rattle.tape_run.specs.SalvageWalk.{step, section_by, begun_by, with_item, with_data}
 use Rattle.tape_run.specs.SalvageWalk.{with_unreadable, doubted, closes, closed_by, second_by}
 use Rattle.tape_run.specs.SalvageWalk.{unclosed_by, with_trailer, unnamed_after, one_read, form_by}
-use Rattle.tape_run.specs.SalvageWalk.{form_or, first_of}
+use Rattle.tape_run.specs.SalvageWalk.{form_or}
 use Rattle.tape_run.specs.SalvageWhole.{Blocks, not_read}
 use Rattle.tape_run.specs.SalvageSections.{Labels, filled_of, MayBegin, after_trailers}
+use Rattle.tape_run.proofs.SalvageComing.{some_first}
 
 -- ---- labels
 
@@ -193,10 +194,6 @@ unfolding section_after
 certain_section u [] e none = e
 certain_section u ((true, f) ∷ bs) e none = certain_section (with_data f.bytes u) bs e none
 certain_section u ((false, f) ∷ bs) e none = absurd (omega (arith, none))
-
-some_first : (o : Option ℕ) (n : ℕ) → first_of o n ≡ None → ⊥
-some_first None n e = absurd (cc e)
-some_first (Some m) n e = absurd (cc e)
 
 pub doubt_section : (u : OpenSection) (bs : Blocks) → (section_after u bs).certain ≡ None
     → (u.certain ≡ None) × (not_read bs ≡ 0)

@@ -4,6 +4,7 @@ use Rattle.std.proofs.Common.{length, map, Option, Some, refl, sym, ap, subst, �
 use Rattle.std.proofs.Common.{append_assoc, if◌then◌else◌}
 use Rattle.std.specs.{List.AllByRecursion, Str.bytes_eq}
 use Rattle.std.proofs.lemmas.Bool.Decides.{nat_tests}
+use Rattle.std.proofs.lemmas.Bool.{and_parts}
 use Rattle.tape_image.specs.Tape.{TapeItem, block, bad, mark}
 use Rattle.tape_blocks.specs.Tight.{Filled}
 use Rattle.tape_set.specs.Layout.{FileSet, Volume, Placed, Entry, a_label, a_mark, item_of, is_data}
@@ -29,14 +30,6 @@ use Rattle.tape_run.proofs.WholeVolumes.{some_of}
 abbrev read_as : List Bool → List Entry → List TapeItem
 read_as gs es = as_read (map item_of es) gs
 
-and_left : (a b : Bool) → (a && b) ≡ true → a ≡ true
-and_left true b e = refl
-and_left false b e = absurd (cc e)
-
-and_right : (a b : Bool) → (a && b) ≡ true → b ≡ true
-and_right true b e = e
-and_right false b e = absurd (cc e)
-
 -- entries in two parts
 record InTwo (gs : List Bool) (es fs : List Entry) : Type 0 where
   first : passes gs es ≡ true
@@ -52,8 +45,8 @@ in_two gs [] fs h = record { first = refl; more = gs; second = h; is = none gs }
     none (g ∷ gs) = refl
 in_two [] (e ∷ es) fs h = absurd (cc h)
 in_two (g ∷ gs) (e ∷ es) fs h =
-    let one = and_left (g || is_data e) (passes gs (es ++ fs)) h in
-    let r = in_two gs es fs (and_right (g || is_data e) (passes gs (es ++ fs)) h) in
+    let one = (and_parts (g || is_data e) (passes gs (es ++ fs)) h).0 in
+    let r = in_two gs es fs ((and_parts (g || is_data e) (passes gs (es ++ fs)) h).1) in
     record {
       first = ap (λ b. b && passes gs es) one ∙ r.first;
       more = r.more;
@@ -88,15 +81,15 @@ labels_read [] [] h = refl
 labels_read (g ∷ gs) [] h = refl
 labels_read [] (b ∷ bs) h = absurd (cc h)
 labels_read (g ∷ gs) (b ∷ bs) h =
-    let one = read_well g (and_left (g || false) (passes gs (map a_label bs)) h) in
-    let rest = labels_read gs bs (and_right (g || false) (passes gs (map a_label bs)) h) in
+    let one = read_well g ((and_parts (g || false) (passes gs (map a_label bs)) h).0) in
+    let rest = labels_read gs bs ((and_parts (g || false) (passes gs (map a_label bs)) h).1) in
     ap (λ (c : Bool). (if c then block b else bad) ∷ read_as gs (map a_label bs)) one
     ∙ ap (λ (l : List TapeItem). block b ∷ l) rest
 
 mark_read : (gs : List Bool) → passes gs (a_mark ∷ []) ≡ true → read_as gs (a_mark ∷ []) ≡ mark ∷ []
 mark_read [] h = absurd (cc h)
 mark_read (g ∷ gs) h =
-    let one = read_well g (and_left (g || false) true h) in
+    let one = read_well g ((and_parts (g || false) true h).0) in
     ap (λ (c : Bool). (if c then mark else bad) ∷ as_read [] gs) one
     ∙ ap (λ (l : List TapeItem). mark ∷ l) (none gs)
   where
@@ -117,7 +110,7 @@ blocks_read [] [] h = (refl, refl)
 blocks_read (g ∷ gs) [] h = (refl, refl)
 blocks_read [] (f ∷ fs) h = absurd (cc h)
 blocks_read (g ∷ gs) (f ∷ fs) h =
-    let r = blocks_read gs fs (and_right (g || true) (passes gs (data_group fs)) h) in (
+    let r = blocks_read gs fs ((and_parts (g || true) (passes gs (data_group fs)) h).1) in (
       ap (λ (l : List TapeItem). (if g then block f.bytes else bad) ∷ l) r.0,
       ap (λ (l : List Filled). f ∷ l) r.1,
     )

@@ -6,6 +6,7 @@ use Rattle.tape_image.specs.Written.{AppendsFront}
 use Rattle.std.specs.Prelude.{option_map}
 use Rattle.std.specs.Io.KnownBytes.{Appends, Keeps}
 use Rattle.std.proofs.KnownBytes.{Appends-trans}
+use Rattle.tape_image.proofs.Pieces.{front_more, front_behind}
 use Rattle.tape_run.specs.declared.salvage.copies.SectionCopy.{SectionCopy}
 use Rattle.tape_run.specs.declared.salvage.recovery.Recovery.{Recovery}
 use Rattle.tape_run.specs.Reeling.{Mounting}
@@ -17,7 +18,7 @@ use Rattle.tape_run.specs.SalvageTaking.{TakesFile, StopsTaking, after_file, fil
 use Rattle.tape_run.specs.SalvageChoice.{last_section, form_of_file}
 use Rattle.tape_run.specs.SalvageConflicts.{AreConflicts}
 use Rattle.tape_run.specs.Salvaging.{FindsAll, Salvages, StopsSalvage}
-use Rattle.tape_run.proofs.SalvageFronts.{in_one, in_two, whole_text}
+use Rattle.tape_run.proofs.Fitting.{whole_text}
 use Rattle.tape_run.proofs.SalvageOne.{three_texts}
 
 kept : (a b c : Option (List ℕ)) (t : List ℕ) → Appends a b t → Keeps b c → Appends a c t
@@ -145,7 +146,7 @@ module _ {L R : Type 0} (size : L → ℕ) (gives : Mounting L R)
     found = finds.text;
     finds = finds.finds;
     more = conflicts ++ lines none_salvaged;
-    wrote = in_two said found says finds.text _ finds.wrote part;
+    wrote = front_behind said found says finds.text _ finds.wrote part;
     stops = inr (inr (finds.all, conflicts, conflict, differ, lines, stops, refl));
   }
 
@@ -168,7 +169,7 @@ module _ {L R : Type 0} (size : L → ℕ) (gives : Mounting L R)
           omega arith,
           refl,
         );
-      }) (in_one found says text [] part)
+      }) (front_more found says text [] part)
 
   -- among the sections
   pub stops_recovering : {W : Type 0} (contents : W → Option (List ℕ)) (start : Start)
@@ -184,7 +185,7 @@ module _ {L R : Type 0} (size : L → ℕ) (gives : Mounting L R)
       stops_after says text conflict lines
       (subst (λ l. AreConflicts l (last_section l) text conflict) alike differ)
       (subst (λ l. StopsTaking gives remaining l task.content middle left lines) same stops)
-      (in_two found noted says text _ wrote (part start none_salvaged begins))
+      (front_behind found noted says text _ wrote (part start none_salvaged begins))
 
   -- all but the last line was reported
   pub stops_placing : {W : Type 0} (contents : W → Option (List ℕ)) (start : Start)

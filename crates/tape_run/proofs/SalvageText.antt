@@ -2,20 +2,12 @@
 use Rattle.std.proofs.Common.{◌≡◌, ℕ, Bool, true, false, List, [], ◌∷◌, ◌++◌, Option, Some, None}
 use Rattle.std.proofs.Common.{refl, sym, ap, ◌∙◌, append-nil, append_assoc, if◌then◌else◌, is_some}
 use Rattle.tape_blocks.specs.{Block.Portion, Spans.leaves, Spans.join, Spans.join_after}
-use Rattle.tape_blocks.specs.Spans.{with_record, content_after, Joined, InOrder}
+use Rattle.tape_blocks.specs.Spans.{with_record, content_after, InOrder}
 use Rattle.tape_blocks.specs.declared.parts.Form.{Form}
 use Rattle.tape_run.specs.RecordText.{record_end, records_text, output_of}
 use Rattle.tape_run.specs.{OutSinks.begun_text, SalvageRecords.parts_text}
 use Rattle.tape_run.specs.SalvageWhole.{WritesOutput}
-
--- the result of joining a list of parts, and how it is written
-abbrev text_of : Form → Joined → List ℕ
-text_of form j = records_text form j.records ++ begun_text j.rest
-
-content_is : (begun : Option (List ℕ)) (bytes : List ℕ)
-    → content_after begun bytes ≡ begun_text begun ++ bytes
-content_is None bytes = refl
-content_is (Some front) bytes = refl
+use Rattle.tape_run.proofs.OutSinks.{text_of, content_is}
 
 -- one more part before others
 text_by : (form : Form) (b : Bool) (begun : Option (List ℕ)) (bytes : List ℕ) (ps : List Portion)

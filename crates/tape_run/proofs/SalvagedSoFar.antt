@@ -5,6 +5,7 @@ use Rattle.std.proofs.Common.{append_assoc, arith, ◌+◌, ◌&&◌, Bool}
 use Rattle.std.specs.Prelude.{IfSome, if◌then◌else◌, ◌≤◌}
 use Rattle.std.specs.Io.KnownBytes.{Appends}
 use Rattle.std.proofs.KnownBytes.{Appends-nil, Appends-trans}
+use Rattle.std.proofs.lemmas.Bool.{and_parts}
 use Rattle.tape_image.specs.Tape.{TapeItem, block, bad, mark}
 use Rattle.tape_image.specs.Begins.{Walks, image_limit}
 use Rattle.tape_image.specs.Reader.{IfKnown}
@@ -24,7 +25,7 @@ use Rattle.tape_run.specs.SalvageWalk.{step, expected_after}
 use Rattle.tape_run.specs.SalvageBlocks.{Salvaged, HasSalvaged, Recovers, salvaged_at, text_at}
 use Rattle.tape_run.specs.SalvageBlocks.{ReportsFront}
 use Rattle.tape_image.specs.Written.{AppendsFront}
-use Rattle.tape_run.proofs.SalvageFronts.{in_two}
+use Rattle.tape_image.proofs.Pieces.{front_behind}
 use Rattle.tape_run.specs.SalvageImage.{is_in, read_in, number_in, salvaged_from, text_from}
 use Rattle.tape_run.specs.SalvageImage.{RecoversSection, BeginsWith, is_mark, closings}
 
@@ -161,11 +162,6 @@ still_open key origin expected items item b at none is off =
     (ap (λ s. is_in key s && is_mark item) (sym at)
     ∙ turned (is_in key expected) (is_mark item) (sym is ∙ off))
 
-both : (a b : Bool) → (a && b) ≡ true → (a ≡ true) × (b ≡ true)
-both true true e = (refl, refl)
-both true false e = absurd (cc e)
-both false b e = absurd (cc e)
-
 mark_is : (x : TapeItem) → is_mark x ≡ true → x ≡ mark
 mark_is mark e = refl
 mark_is (block b) e = absurd (cc e)
@@ -175,7 +171,7 @@ mark_is bad e = absurd (cc e)
 pub ends_at : (key : SectionKey) (s : Expected) (x : TapeItem) (b : Bool)
     → b ≡ (is_mark x && is_in key s) → b ≡ true → (is_in key s ≡ true) × (x ≡ mark)
 ends_at key s x b is on =
-    let r = both (is_mark x) (is_in key s) (sym is ∙ on) in (r.1, mark_is x r.0)
+    let r = and_parts (is_mark x) (is_in key s) (sym is ∙ on) in (r.1, mark_is x r.0)
 
 -- the items were read
 placed : (all left : Option (List ℕ)) (q : ℕ) (items : List TapeItem)
@@ -321,5 +317,5 @@ stops_at contents all left next p q origin key most form expected n item old mid
           (sym (append-nil (t n))
           ∙ ap (λ m. t m ++ []) (number ∙ ap (number_in key most) s.expects))
           ∙ sym (text_from-append key most form origin g s.items (item ∷ [])))
-          (in_two said says now _ _ one.1 (part start z one.0)),
+          (front_behind said says now _ _ one.1 (part start z one.0)),
     )

@@ -1,10 +1,11 @@
 -- The last items read, according to what is expected next: the labels of a section, its data, or
 -- its end.
-use Rattle.std.proofs.Common.{◌≡◌, ℕ, suc, Bool, true, false, List, [], ◌∷◌, ◌++◌, length, Option}
+use Rattle.std.proofs.Common.{◌≡◌, ℕ, Bool, true, false, List, [], ◌∷◌, ◌++◌, length, Option}
 use Rattle.std.proofs.Common.{Some, None, Result, Ok, Err, refl, ap, ◌∙◌, arith, append_assoc}
 use Rattle.std.proofs.Common.{append-nil, length-append, map, ◌==◌, ◌||◌, not, if◌then◌else◌}
 use Rattle.std.specs.Prelude.{⊤}
 use Rattle.std.proofs.lemmas.Bool.Decides.{nat_tests}
+use Rattle.std.proofs.lemmas.List.{length-map}
 use Rattle.tape_image.specs.Tape.{TapeItem, block, mark}
 use Rattle.tape_label.specs.declared.values.{Kind.Kind, Vol1.Vol1, Head1.Head1, Trail1.Trail1}
 use Rattle.tape_label.specs.declared.label.LabelFault.{LabelFault}
@@ -164,10 +165,6 @@ pub map_push : (xs : List (List ℕ)) (b : List ℕ)
 map_push [] b = refl
 map_push (x ∷ xs) b = ap (λ (r : List TapeItem). block x ∷ r) (map_push xs b)
 
-pub long_map : (xs : List (List ℕ)) → length (map block xs) ≡ length xs
-long_map [] = refl
-long_map (x ∷ xs) = ap suc (long_map xs)
-
 pub labelled_more : (items : List TapeItem) (met : Met) (b : List ℕ) → Labelled items met
     → Labelled (items ++ block b ∷ []) met
 labelled_more items met b h = record {
@@ -286,7 +283,7 @@ unfoldable pub shown_as : (items : List TapeItem) (met : Met) (b : List ℕ) (tr
     → (h : Filled items met (mark ∷ [])) → trail.blocks ≡ label_count met.blocks
     → h.content ≡ map block blocks → Shown (items ++ block b ∷ []) met.key (told met trail).1
 shown_as items met b trail blocks e c h count are =
-    let long : length h.content ≡ length blocks = ap length are ∙ long_map blocks in
+    let long : length h.content ≡ length blocks = ap length are ∙ length-map blocks block in
     record {
       volume = begins_more items met.volume (block b ∷ []) h.volume;
       before = h.before;

@@ -1,7 +1,7 @@
 -- Where a session is after a fault.
 use Rattle.std.proofs.Common.{◌≡◌, ◌≢◌, ℕ, Bool, List, [], ◌∷◌, Option, Some, None}
-use Rattle.std.proofs.Common.{IfSome, Result, Ok, Err, IfErr, refl, sym, ap, subst, ◌∙◌}
-use Rattle.std.proofs.Common.{inl, inr}
+use Rattle.std.proofs.Common.{IfSome, refl, sym, ap, subst, ◌∙◌}
+use Rattle.std.proofs.Common.{inr}
 use Rattle.tape_blocks.specs.Block.{Portion}
 use Rattle.tape_image.specs.Reader.{IfKnown}
 use Rattle.tape_set.specs.declared.position.Position.TheVariants.{Finished}
@@ -17,7 +17,7 @@ use Rattle.tape_run.specs.Reeling.{Opened, Follows, IsNoted, counts_differ}
 use Rattle.tape_run.specs.Reels.{Reads}
 use Rattle.tape_run.specs.Seen.{Seen, seen, IsKept, KeepsNotes}
 use Rattle.tape_run.specs.SessionState.{SessionState}
-use Rattle.tape_run.specs.Steps.{Reeled, ReelFails}
+use Rattle.tape_run.specs.Steps.{Reeled}
 use Rattle.tape_run.specs.Stopping.{IsStopped, NotNoted, ReadsOnly, StopsInReel}
 use Rattle.tape_run.specs.declared.fault.EngineFault.{EngineFault}
 use Rattle.tape_run.specs.declared.fault.RunFault.{RunFault}
@@ -58,12 +58,6 @@ pub stopped_there : {S R : Type 0} (g : Ghosts S) (remaining : R → Option (Lis
 stopped_there g remaining back a held fault has =
     (held, (λ live. has), record { place = refl; parts = refl; notes = refl; count = refl })
 
--- a reel was not read to its end
-pub reel_stops : (back : Bool) (had : Option (List ℕ)) (fault : RunFault) (old new : Seen)
-    → IfSome had (λ bytes. ReelFails bytes fault old new) → StopsInReel back had fault old new
-reel_stops back None fault old new h = tt
-reel_stops back (Some bytes) fault old new h = inl h
-
 -- a reel was read, and the step after it failed
 pub step_stops : (back : Bool) (had left : Option (List ℕ)) (answer : ReelAnswer)
     (fault : RunFault) (old mid new : Seen)
@@ -93,11 +87,6 @@ one_turn g back spares a b c o held now last waits answers reeled saved = (
   },
   (refl, refl),
 )
-
-pub fault_then : {A B : Type 0} (r : Result A B) (P Q : B → Type 0) → ((e : B) → P e → Q e)
-    → IfErr r P → IfErr r Q
-fault_then (Ok x) P Q f h = tt
-fault_then (Err e) P Q f h = f e h
 
 -- ---- a session that only read on
 

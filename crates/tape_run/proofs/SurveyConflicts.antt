@@ -20,7 +20,7 @@ use Rattle.tape_run.proofs.SurveyShown.{AllShownAs, copies_are_shown}
 
 -- ---- elements of a list
 
-in_more : {X : Type 0} (xs more : List X) (x : X) → IsIn xs x → IsIn (xs ++ more) x
+pub in_more : {X : Type 0} (xs more : List X) (x : X) → IsIn xs x → IsIn (xs ++ more) x
 in_more xs more x i = record {
   front = i.front;
   rest = i.rest ++ more;

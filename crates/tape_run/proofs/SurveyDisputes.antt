@@ -10,6 +10,7 @@ use Rattle.tape_run.specs.SurveyConflicts.{Placed, placed_in, all_placed, IsIn, 
 use Rattle.tape_run.specs.SurveyCopies.{Copy, copies_on, Noted, Held, Copied, noted_at, differs}
 use Rattle.tape_run.specs.SurveyCopies.{with_good, with_copies, disputed_by, disputed, disputed_on}
 use Rattle.tape_run.specs.SurveyRead.{Found, nothing_found, IsViewed, AreViewed}
+use Rattle.tape_run.proofs.SurveySound.{same_nat}
 
 -- ---- each copy was recorded
 
@@ -85,9 +86,6 @@ told_more : (xs : List Placed) (x : Placed) (notes : List Noted) (image : ℕ) (
 told_more xs x notes image (Some key) not (y, i, on, of, is) = (y, in_rest x y xs i, on, of, is)
 told_more xs x notes image None not all =
     λ y i on. none_more _ _ _ notes _ not all (first_or_rest _ _ _ _ _ i.stands) on
-
-same_nat : (m n : ℕ) → (m == n) ≡ true → m ≡ n
-same_nat m n e = grind (arith, nat_tests, e)
 
 other_nat : (m n : ℕ) → (m == n) ≡ false → m ≡ n → ⊥
 other_nat m n e same = absurd (let no : (m == n) ≡ true = grind (arith, nat_tests, same) in

@@ -12,6 +12,7 @@ use Rattle.tape_run.specs.{SurveyProblems.first_after, SurveyRead.Found}
 use Rattle.tape_run.specs.SurveyChain.{gap_if, link_of, is_last, sections_chain, found_chain}
 use Rattle.tape_run.specs.SurveyChain.{file_chain, files_chain, is_same, missing_if, items_to}
 use Rattle.tape_run.specs.SurveyChain.{volumes_from}
+use Rattle.tape_run.proofs.SurveyConflicts.{in_more}
 
 -- ---- lists
 
@@ -20,13 +21,6 @@ after more xs x h = record {
   front = more ++ h.front;
   rest = h.rest;
   stands = ap (λ ls. more ++ ls) h.stands ∙ sym (append_assoc more h.front (x ∷ h.rest));
-}
-
-before : {X : Type 0} (xs more : List X) (x : X) → IsIn xs x → IsIn (xs ++ more) x
-before xs more x h = record {
-  front = h.front;
-  rest = h.rest ++ more;
-  stands = ap (λ ls. ls ++ more) h.stands ∙ append_assoc h.front (x ∷ h.rest) more;
 }
 
 -- ---- sections of the chain
@@ -56,7 +50,7 @@ in_or_after : (link rest : List (Option (List ℕ))) (over : Bool) (from sect : 
     → (from + 1 ≤ sect → over ≡ false) → (from + 1 ≤ sect → IsIn rest (Some v))
     → IsIn (link ++ (if over then [] else rest)) (Some v)
 in_or_after link rest over from sect v (inl at) here on there =
-    before link (if over then [] else rest) (Some v) (here at)
+    in_more link (if over then [] else rest) (Some v) (here at)
 in_or_after link rest over from sect v (inr later) here on there =
     after link (if over then [] else rest) (Some v)
     (subst (λ (b : Bool). IsIn (if b then [] else rest) (Some v)) (sym (on later)) (there later))
@@ -120,7 +114,7 @@ from_items : (last : Option (List ℕ)) (missing : Bool) (v w : List ℕ) (more 
 from_items last missing v w more same (inl is) = inl (is ∙ same)
 from_items last missing v w more same (inr h) =
     let one : w ≡ v = cc same in
-    inr (before (items_to last missing w) more (Named v)
+    inr (in_more (items_to last missing w) more (Named v)
     (subst (λ i. IsIn (items_to last missing w) (Named i)) one h))
 
 in_volumes : (last : Option (List ℕ)) (missing : Bool) (front rest : List (Option (List ℕ)))

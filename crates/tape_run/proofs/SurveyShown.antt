@@ -3,6 +3,7 @@ use Rattle.std.proofs.Common.{◌≡◌, ℕ, Bool, true, false, List, [], ◌�
 use Rattle.std.proofs.Common.{Result, Ok, Err, refl, ap, subst, ◌∙◌, append_assoc, map, ◌||◌}
 use Rattle.std.proofs.Common.{if◌then◌else◌}
 use Rattle.std.specs.{Prelude.⊤, List.AllByRecursion}
+use Rattle.std.proofs.lemmas.Bool.{or_parts}
 use Rattle.tape_image.specs.Tape.{TapeItem, block, bad, mark}
 use Rattle.tape_label.specs.declared.values.{Kind.Kind, Vol1.Vol1, Head1.Head1, Trail1.Trail1}
 use Rattle.tape_label.specs.declared.label.LabelFault.{LabelFault}
@@ -64,10 +65,6 @@ second_as items blocks met _ h = (h, tt)
 
 -- ---- where they are
 
-or_left : (p q : Bool) → (p || q) ≡ false → p ≡ false
-or_left true q e = e
-or_left false q e = refl
-
 or_true : (p : Bool) → (p || true) ≡ false → ⊥
 or_true true e = cc e
 or_true false e = cc e
@@ -122,7 +119,7 @@ stands_as (Headers met) items mark blocks (h, same) = ((filled_first items met h
 stands_as (Data met) items (block b) blocks (h, same) = (
   (
     filled_more items met (block b) false (λ _. (b, refl)) h,
-    λ e. ap (λ (r : List TapeItem). r ++ block b ∷ []) (same (or_left met.bad false e))
+    λ e. ap (λ (r : List TapeItem). r ++ block b ∷ []) (same (or_parts met.bad false e).0)
         ∙ map_push blocks b,
   ),
   tt,

@@ -1,10 +1,11 @@
 -- If a survey reports that everything exists, it does.
 use Rattle.std.proofs.Common.{◌≡◌, ◌≢◌, ℕ, ◌+◌, Bool, true, false, List, [], ◌∷◌, ◌++◌, Option}
 use Rattle.std.proofs.Common.{Some, None, refl, sym, ap, subst, ◌∙◌, arith, append_assoc}
-use Rattle.std.proofs.Common.{append-nil, map, ◌==◌, ◌&&◌, ◌||◌, not, if◌then◌else◌, option_map}
+use Rattle.std.proofs.Common.{append-nil, map, ◌==◌, ◌&&◌, not, if◌then◌else◌, option_map}
 use Rattle.std.proofs.Common.{cond, is_some}
 use Rattle.std.specs.{List.AllByRecursion, Map.lookup}
 use Rattle.std.proofs.lemmas.Bool.Decides.{nat_tests}
+use Rattle.std.proofs.lemmas.Bool.{and_parts, or_parts}
 use Rattle.indexmap.specs.IndexMap.{insert_entry}
 use Rattle.tape_run.specs.declared.section.{Lack.Lack, SectionKey.SectionKey}
 use Rattle.tape_run.specs.declared.section.SectionState.TheVariants.{Good}
@@ -23,14 +24,6 @@ use Rattle.tape_run.specs.SurveySound.{IsWhole, Agree, IsSound}
 use Rattle.tape_run.proofs.{KeepingPlaces.one_key, StayingGood.key_again, SurveyConflicts.of_all}
 use Rattle.tape_run.proofs.SurveyShown.{good_is}
 
-and_left : (a b : Bool) → (a && b) ≡ true → a ≡ true
-and_left true b e = refl
-and_left false b e = e
-
-and_right : (a b : Bool) → (a && b) ≡ true → b ≡ true
-and_right true b e = e
-and_right false b e = absurd (cc e)
-
 -- ---- each image
 
 whole_one : (reel : Reel) (sight : Option ImageSurvey) (c d : Found) → IsViewed reel sight c d
@@ -39,7 +32,7 @@ whole_one None None c d v e =
     absurd (let no : true ≡ false = sym e ∙ ap (λ (f : Found). f.whole) v in cc no)
 whole_one (Some before) (Some sight) c d v e =
     let both : (c.whole && is_whole_sight sight) ≡ true = sym v.2 ∙ e in
-    (and_right c.whole (is_whole_sight sight) both, and_left c.whole (is_whole_sight sight) both)
+    let (first, second) = and_parts c.whole (is_whole_sight sight) both in (second, first)
 whole_one None (Some sight) c d v e = absurd v
 whole_one (Some before) None c d v e = absurd v
 
@@ -60,8 +53,8 @@ whole_all gives remaining shelf number (sight ∷ sights) c last d (image, next,
 all_are_good : (ts : List Told) → all_good ts ≡ true → AllByRecursion (λ t. t.1.state ≡ Good) ts
 all_are_good [] e = tt
 all_are_good (t ∷ ts) e = (
-  good_is t.1.state (and_left (is_good t.1.state) (all_good ts) e),
-  all_are_good ts (and_right (is_good t.1.state) (all_good ts) e),
+  good_is t.1.state (and_parts (is_good t.1.state) (all_good ts) e).0,
+  all_are_good ts (and_parts (is_good t.1.state) (all_good ts) e).1,
 )
 
 some_found : (ts : List Told) → found_all ts ≡ true → ts ≢ []
@@ -80,20 +73,12 @@ none_differs : (b : Bool) → not b ≡ true → b ≡ false
 none_differs true e = absurd (cc e)
 none_differs false e = refl
 
-or_first : (a b : Bool) → (a || b) ≡ false → a ≡ false
-or_first true b e = e
-or_first false b e = refl
-
-or_second : (a b : Bool) → (a || b) ≡ false → b ≡ false
-or_second true b e = absurd (cc e)
-or_second false b e = e
-
 one_label : (fs : List Filed) → any_differs fs ≡ false
     → AllByRecursion (λ f. f.1.differs ≡ false) fs
 one_label [] e = tt
 one_label (f ∷ fs) e = (
-  or_first f.1.differs (any_differs fs) e,
-  one_label fs (or_second f.1.differs (any_differs fs) e),
+  (or_parts f.1.differs (any_differs fs) e).0,
+  one_label fs (or_parts f.1.differs (any_differs fs) e).1,
 )
 
 -- ---- the contents of a map after an insertion
@@ -136,7 +121,7 @@ record IsNoted (es : List Noted) (x : Placed) : Type 0 where
   pub counted : note.blocks ≡ x.1.0.1.blocks
   pub digested : note.digest ≡ digest_of x.1.1
 
-same_nat : (m n : ℕ) → (m == n) ≡ true → m ≡ n
+pub same_nat : (m n : ℕ) → (m == n) ≡ true → m ≡ n
 same_nat m n e = grind (arith, nat_tests, e)
 
 never_empty : (b : Bool) (x y : Disputed) (xs ys : List Disputed)
@@ -170,9 +155,9 @@ kept_if : (n : CopyNote) (image blocks digest : ℕ) (b : Bool)
     → Kept (Some n) (if b then with_same n else with_other n image) blocks digest
 kept_if n image blocks digest true e none =
     let one : n.blocks ≡ blocks =
-    same_nat n.blocks blocks (and_left (n.blocks == blocks) (n.digest == digest) e) in
+    same_nat n.blocks blocks ((and_parts (n.blocks == blocks) (n.digest == digest) e).0) in
     let two : n.digest ≡ digest =
-    same_nat n.digest digest (and_right (n.blocks == blocks) (n.digest == digest) e) in
+    same_nat n.digest digest ((and_parts (n.blocks == blocks) (n.digest == digest) e).1) in
     record {
       counted = one;
       digested = two;
@@ -298,27 +283,22 @@ pub all_is_sound : {L R : Type 0} (gives : Mounting L R) (remaining : R → Opti
     (v : AreViewed gives remaining shelf 0 sights nothing_found last d) → is_all d ≡ true
     → IsSound gives remaining shelf last sights d v
 all_is_sound gives remaining shelf last sights d v e =
-    let one = and_right d.whole (found_all d.sections && (all_good d.sections
+    let (whole, one) = and_parts d.whole (found_all d.sections && (all_good d.sections
     && (not (any_differs d.files) && is_agreed d.copies.conflicts))) e in
-    let two = and_right (found_all d.sections) (all_good d.sections
+    let (found, two) = and_parts (found_all d.sections) (all_good d.sections
     && (not (any_differs d.files) && is_agreed d.copies.conflicts)) one in
-    let three = and_right (all_good d.sections)
+    let (good, three) = and_parts (all_good d.sections)
     (not (any_differs d.files) && is_agreed d.copies.conflicts) two in
-    let found = and_left (found_all d.sections) (all_good d.sections
-    && (not (any_differs d.files) && is_agreed d.copies.conflicts)) one in
-    let agreed = and_right (not (any_differs d.files)) (is_agreed d.copies.conflicts) three in
+    let (labels, agreed) = and_parts (not (any_differs d.files)) (is_agreed d.copies.conflicts)
+    three in
     let all = images_noted gives remaining [] shelf 0 sights nothing_found last d v (λ _. tt) agreed
     in
     record {
-      images = (whole_all gives remaining shelf 0 sights nothing_found last d v
-          (and_left d.whole (found_all d.sections && (all_good d.sections
-          && (not (any_differs d.files) && is_agreed d.copies.conflicts))) e)).0;
+      images = (whole_all gives remaining shelf 0 sights nothing_found last d v whole).0;
       found = some_found d.sections found;
-      sections = all_are_good d.sections (and_left (all_good d.sections)
-          (not (any_differs d.files) && is_agreed d.copies.conflicts) two);
+      sections = all_are_good d.sections good;
       missing = none_missing d.sections found;
-      labels = one_label d.files (none_differs (any_differs d.files)
-          (and_left (not (any_differs d.files)) (is_agreed d.copies.conflicts) three));
+      labels = one_label d.files (none_differs (any_differs d.files) labels);
       copies = λ x y i j same. agree d.copies.notes x y
           (of_all (IsNoted d.copies.notes)
           (all_placed gives remaining shelf 0 sights nothing_found last d v) x all i)

@@ -1,6 +1,7 @@
 use Rattle.std.proofs.Common.{◌≡◌, subst, rules}
+use Rattle.std.proofs.lemmas.Result.{on_err_weaker, IfOk-weaker}
 use Rattle.tape_run.specs.Checked.{TellsImages}
-use Rattle.tape_run.proofs.Reporting.{reported, reported_in_part, if_ok, if_err}
+use Rattle.tape_run.proofs.Reporting.{reported, reported_in_part}
 use Rattle.tape_run.proofs.check.check_to.Goals as goal
 
 pub returns-clause-ok : goal.returns-clause-ok
@@ -11,9 +12,10 @@ returns-clause-ok g c =
     g.R.Read.remaining c.args.images.now c.check_images.new.images e
     (g.P.Write.contents c.args.report.now) (g.P.Write.contents c.check_images.new.report)) same
     c.in_ok-check_images.ensures.ok in
-    if_ok c.summarize.result _ _ c.summarize.ensures.ok
+    IfOk-weaker c.summarize.result _ _
     (λ found h. reported g.L.ImageSource.size g.L.ImageSource.gives g.R.Read.remaining _ _ d _ _ _
     found told h.0 h.1)
+    c.summarize.ensures.ok
 
 pub returns-clause-front : goal.returns-clause-front
 returns-clause-front g c =
@@ -23,6 +25,7 @@ returns-clause-front g c =
     g.R.Read.remaining c.args.images.now c.check_images.new.images e
     (g.P.Write.contents c.args.report.now) (g.P.Write.contents c.check_images.new.report)) same
     c.in_ok-check_images.ensures.ok in
-    if_err c.summarize.result _ _ c.summarize.ensures.front
+    on_err_weaker c.summarize.result
     (λ h. reported_in_part g.L.ImageSource.size g.L.ImageSource.gives g.R.Read.remaining _ _ d _ _ _
     told h)
+    c.summarize.ensures.front

@@ -1,7 +1,8 @@
 use Rattle.std.proofs.Common.{rules, ◌≡◌, [], Some, None, refl, sym, ◌∙◌, inl, inr}
 use Rattle.tape_set.specs.Position.{want_at}
 use Rattle.tape_run.proofs.Ended.{told_err}
-use Rattle.tape_run.proofs.Extracted.{ends_in_part, nothing_more, all_of_it, none_finished}
+use Rattle.tape_run.proofs.Extracted.{ends_in_part, none_finished}
+use Rattle.tape_run.proofs.Fitting.{no_text, whole_text}
 use Rattle.tape_run.proofs.extract.end_file.Goals as goal
 
 pub returns-in_err-end_report-clause-err : goal.returns-in_err-end_report-clause-err
@@ -26,8 +27,8 @@ returns-in_err-records-clause-err g c =
     search rules in
     told_err _ _ _ c.from_residual-in_err-records.ensures.1 (ends_in_part g.S.PartSink
     c.args.session.now c.args.form g.W.Write.contents c.args.out.now c.write_file.new.out _ _ None
-    0 _ (nothing_more _ _) (λ other. refl)
-    (λ held was. inl (nothing_more _ []))
+    0 _ (no_text _ _) (λ other. refl)
+    (λ held was. inl (no_text _ []))
     (λ held was. inr (
       none_finished c.args.session.now.core.file c.args.session.now.core.position none,
       c.in_err-records.ensures.err held was,
@@ -44,7 +45,7 @@ returns-in_err-end_report-2-clause-err g c =
     (λ held was. inr (none, λ same. (c.in_ok-records.ensures.ok held was).0))
     (λ held was. inr (
       none_finished c.args.session.now.core.file c.args.session.now.core.position none,
-      all_of_it _ _ _ (c.in_ok-records.ensures.ok held was).1,
+      whole_text _ _ _ (c.in_ok-records.ensures.ok held was).1,
     )))
 
 pub returns-clause-ok : goal.returns-clause-ok

@@ -1,6 +1,4 @@
-use Rattle.std.proofs.Common.{◌≡◌}
-use Rattle.tape_run.specs.Extracting.{Extracts, Stops, EndsFile, StopsAtEnd}
-use Rattle.tape_run.proofs.StoppedThere.{fault_then}
+use Rattle.std.proofs.lemmas.Result.{IfErr-weaker}
 use Rattle.tape_run.specs.Reeling.{goes_back}
 use Rattle.tape_run.proofs.Causes.{calm_ended, file_fails, images_fail}
 use Rattle.tape_run.proofs.Ended.{told_err}
@@ -38,18 +36,7 @@ returns-clause-calm g c = calm_ended g.S.PartSink c.args.session.now c.read_imag
 
 pub returns-clause-ok : goal.returns-clause-ok
 returns-clause-ok g c =
-    if_ok_both c.end_file.result (EndsFile g.S.PartSink c.read_images.new.session c.args.form
-    (g.W.Write.contents c.args.out.now) (g.W.Write.contents c.end_file.new.out)
-    (g.P.Write.contents c.read_images.new.report) (g.P.Write.contents c.end_file.new.report))
-    (Extracts g.S.PartSink
-    g.L.ImageSource.size g.L.ImageSource.gives
-    g.R.Read.remaining c.args.session.now c.end_file.new.session c.args.images.now
-    c.read_images.new.images c.args.form
-    (g.W.Write.contents c.args.out.now) (g.W.Write.contents c.end_file.new.out)
-    (g.P.Write.contents c.args.report.now) (g.P.Write.contents c.end_file.new.report))
-    (g.S.PartSink.refusals c.end_file.new.session.sink
-    ≡ g.S.PartSink.refusals c.read_images.new.session.sink)
-    c.end_file.ensures.ok c.end_file.ensures.calm (λ want e calm.
+    if_ok_both c.end_file.result _ _ _ c.end_file.ensures.ok c.end_file.ensures.calm (λ want e calm.
     extracted g.S.PartSink g.L.ImageSource.size g.L.ImageSource.gives
     g.R.Read.remaining c.args.session.now c.read_images.new.session c.end_file.new.session _ _
     c.args.form _ _ _ _ _ want _ c.has_note-back.ensures c.in_ok-read_images.ensures.ok e
@@ -57,15 +44,7 @@ returns-clause-ok g c =
 
 pub returns-clause-err : goal.returns-clause-err
 returns-clause-err g c =
-    fault_then c.end_file.result (StopsAtEnd g.S.PartSink c.read_images.new.session
-    c.args.form g.W.Write.contents c.args.out.now c.end_file.new.out
-    (g.P.Write.contents c.read_images.new.report) (g.P.Write.contents c.end_file.new.report))
-    (Stops g.S.PartSink
-    g.L.ImageSource.size g.L.ImageSource.gives
-    g.R.Read.remaining c.args.session.now c.end_file.new.session c.args.images.now
-    c.read_images.new.images c.args.form
-    g.W.Write.contents c.args.out.now c.end_file.new.out
-    (g.P.Write.contents c.args.report.now) (g.P.Write.contents c.end_file.new.report))
+    IfErr-weaker c.end_file.result _ _
     (λ fault e. stops_at_end g.S.PartSink g.L.ImageSource.size g.L.ImageSource.gives
     g.R.Read.remaining c.args.session.now c.read_images.new.session
     c.end_file.new.session _ _ c.args.form

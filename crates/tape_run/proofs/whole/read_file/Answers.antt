@@ -1,11 +1,11 @@
 use Rattle.std.proofs.Common.{◌≡◌, [], refl, sym, ap, ◌∙◌}
+use Rattle.std.proofs.lemmas.Result.{IfErr-weaker, on_ok_weaker}
 use Rattle.tape_core.specs.{Memory.portions, Place.rest_of}
 use Rattle.tape_core.specs.declared.memory.MemorySink.{MemorySink}
-use Rattle.tape_run.proofs.{Ended.if_err, CrashRuns.on_ok}
 use Rattle.tape_run.proofs.whole.read_file.Goals as goal
 
 pub returns-clause-read : goal.returns-clause-read
-returns-clause-read g c = on_ok c.run-made.result _ _ (λ start bytes e.
+returns-clause-read g c = on_ok_weaker c.run-made.result (λ start bytes e.
     let empty : [] ≡ portions c.in_ok-session.session.sink =
     sym (ap portions c.in_ok-session.ensures.sink ∙ c.new-sink.ensures.empty) in
     let (now, has, reads) = start c.args.set_id c.args.file empty c.in_ok-session.ensures.start in
@@ -26,7 +26,7 @@ returns-clause-read g c = on_ok c.run-made.result _ _ (λ start bytes e.
     c.run-made.ensures.start
 
 pub returns-clause-cause : goal.returns-clause-cause
-returns-clause-cause g c = if_err c.run-made.result _ _ (λ end stops. (
+returns-clause-cause g c = IfErr-weaker c.run-made.result _ _ (λ end stops. (
   c.in_ok-session.session,
   ap portions c.in_ok-session.ensures.sink ∙ c.new-sink.ensures.empty,
   ap (λ (sink : MemorySink). sink.refused) c.in_ok-session.ensures.sink ∙ c.new-sink.ensures.calm,
@@ -36,12 +36,12 @@ returns-clause-cause g c = if_err c.run-made.result _ _ (λ end stops. (
 )) c.run-made.ensures.cause
 
 pub returns-clause-calm : goal.returns-clause-calm
-returns-clause-calm g c = on_ok c.run-made.result _ _ (λ calm. calm.calm
+returns-clause-calm g c = on_ok_weaker c.run-made.result (λ calm. calm.calm
     ∙ (ap (λ (sink : MemorySink). sink.refused) c.in_ok-session.ensures.sink
     ∙ c.new-sink.ensures.calm)) c.run-made.ensures.calm
 
 pub returns-clause-kept : goal.returns-clause-kept
-returns-clause-kept g c = on_ok c.run-made.result _ _ (λ calm.
+returns-clause-kept g c = on_ok_weaker c.run-made.result (λ calm.
     let empty : [] ≡ portions c.in_ok-session.session.sink =
     sym (ap portions c.in_ok-session.ensures.sink ∙ c.new-sink.ensures.empty) in
     let (now, has, kept) = calm.kept [] empty c.in_ok-session.ensures.kept in

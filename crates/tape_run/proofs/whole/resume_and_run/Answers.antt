@@ -1,6 +1,7 @@
 use Rattle.std.proofs.Common.{map, [], sym, ap, ◌∙◌, subst, arith}
+use Rattle.std.proofs.lemmas.Result.{IfErr-weaker, on_ok_weaker}
 use Rattle.tape_run.specs.{CrashRuns.LivesOn, Seen.seen}
-use Rattle.tape_run.proofs.{CrashRuns.lives_on, CrashRuns.on_ok, Ended.if_err}
+use Rattle.tape_run.proofs.{CrashRuns.lives_on}
 use Rattle.tape_run.proofs.whole.resume_and_run.Goals as goal
 
 pub returns-clause-crash : goal.returns-clause-crash
@@ -37,7 +38,7 @@ returns-clause-survives g c = λ held was.
     )
 
 pub returns-clause-delivers : goal.returns-clause-delivers
-returns-clause-delivers g c = on_ok c.run-result.result _ _ (λ run held was.
+returns-clause-delivers g c = on_ok_weaker c.run-result.result (λ run held was.
     let same = sym c.resume-session.ensures.sink in
     let first = seen g.S.PartSink c.resume-session.result held in
     let (now, has, (k, reads)) = run held (subst (λ s. g.S.PartSink.holds s held) same was)
@@ -49,7 +50,7 @@ returns-clause-delivers g c = on_ok c.run-result.result _ _ (λ run held was.
     c.run-result.ensures.headline
 
 pub returns-clause-stopped : goal.returns-clause-stopped
-returns-clause-stopped g c = if_err c.run-result.result _ _ (λ fault run held was.
+returns-clause-stopped g c = IfErr-weaker c.run-result.result _ _ (λ fault run held was.
     let same = sym c.resume-session.ensures.sink in
     let first = seen g.S.PartSink c.resume-session.result held in
     let (now, has, (k, stops)) = run held (subst (λ s. g.S.PartSink.holds s held) same was)
@@ -58,7 +59,7 @@ returns-clause-stopped g c = if_err c.run-result.result _ _ (λ fault run held w
     c.run-result.ensures.stopped
 
 pub returns-clause-cause : goal.returns-clause-cause
-returns-clause-cause g c = if_err c.run-result.result _ _ (λ end stops. (
+returns-clause-cause g c = IfErr-weaker c.run-result.result _ _ (λ end stops. (
   c.resume-session.result,
   c.resume-session.ensures.sink,
   (c.resume-session.ensures.resumed []).notes,
@@ -66,10 +67,10 @@ returns-clause-cause g c = if_err c.run-result.result _ _ (λ end stops. (
 )) c.run-result.ensures.cause
 
 pub returns-clause-kept : goal.returns-clause-kept
-returns-clause-kept g c = on_ok c.run-result.result _ _ (λ calm held was. calm.kept held
+returns-clause-kept g c = on_ok_weaker c.run-result.result (λ calm held was. calm.kept held
     (subst (λ s. g.S.PartSink.holds s held) (sym c.resume-session.ensures.sink) was)
     (c.resume-session.ensures.kept held)) c.run-result.ensures.calm
 
 pub returns-clause-calm : goal.returns-clause-calm
-returns-clause-calm g c = on_ok c.run-result.result _ _ (λ calm. calm.calm
+returns-clause-calm g c = on_ok_weaker c.run-result.result (λ calm. calm.calm
     ∙ ap g.S.PartSink.refusals c.resume-session.ensures.sink) c.run-result.ensures.calm

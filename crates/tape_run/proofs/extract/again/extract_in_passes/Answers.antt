@@ -1,8 +1,5 @@
-use Rattle.std.proofs.Common.{◌≡◌}
-use Rattle.tape_run.specs.Extracting.{EndsFile, StopsAtEnd}
-use Rattle.tape_run.specs.ExtractingAgain.{ExtractsAgain, StopsAgain}
+use Rattle.std.proofs.lemmas.Result.{IfErr-weaker}
 use Rattle.tape_run.proofs.Again.{extracted_again, stops_in_round, stops_at_end_again}
-use Rattle.tape_run.proofs.StoppedThere.{fault_then}
 use Rattle.tape_run.specs.Reeling.{goes_back}
 use Rattle.tape_run.proofs.Causes.{calm_ended, file_fails, images_fail}
 use Rattle.tape_run.proofs.Ended.{told_err}
@@ -39,18 +36,7 @@ returns-clause-calm g c = calm_ended g.S.PartSink c.args.session.now c.read_roun
 
 pub returns-clause-ok : goal.returns-clause-ok
 returns-clause-ok g c =
-    if_ok_both c.end_file.result (EndsFile g.S.PartSink c.read_rounds.new.session c.args.form
-    (g.W.Write.contents c.args.out.now) (g.W.Write.contents c.end_file.new.out)
-    (g.P.Write.contents c.read_rounds.new.report) (g.P.Write.contents c.end_file.new.report))
-    (ExtractsAgain g.S.PartSink
-    g.L.ImageSource.size g.L.ImageSource.gives
-    g.R.Read.remaining c.args.session.now c.end_file.new.session c.args.images.now
-    c.read_rounds.new.images c.args.form
-    (g.W.Write.contents c.args.out.now) (g.W.Write.contents c.end_file.new.out)
-    (g.P.Write.contents c.args.report.now) (g.P.Write.contents c.end_file.new.report))
-    (g.S.PartSink.refusals c.end_file.new.session.sink
-    ≡ g.S.PartSink.refusals c.read_rounds.new.session.sink)
-    c.end_file.ensures.ok c.end_file.ensures.calm (λ want e calm.
+    if_ok_both c.end_file.result _ _ _ c.end_file.ensures.ok c.end_file.ensures.calm (λ want e calm.
     extracted_again g.S.PartSink g.L.ImageSource.size g.L.ImageSource.gives
     g.R.Read.remaining c.args.session.now c.read_rounds.new.session c.end_file.new.session _ _
     c.args.form _ _ _ _ _ want _ c.has_note-back.ensures c.in_ok-read_rounds.ensures.ok e
@@ -58,15 +44,7 @@ returns-clause-ok g c =
 
 pub returns-clause-err : goal.returns-clause-err
 returns-clause-err g c =
-    fault_then c.end_file.result (StopsAtEnd g.S.PartSink c.read_rounds.new.session
-    c.args.form g.W.Write.contents c.args.out.now c.end_file.new.out
-    (g.P.Write.contents c.read_rounds.new.report) (g.P.Write.contents c.end_file.new.report))
-    (StopsAgain g.S.PartSink
-    g.L.ImageSource.size g.L.ImageSource.gives
-    g.R.Read.remaining c.args.session.now c.end_file.new.session c.args.images.now
-    c.read_rounds.new.images c.args.form
-    g.W.Write.contents c.args.out.now c.end_file.new.out
-    (g.P.Write.contents c.args.report.now) (g.P.Write.contents c.end_file.new.report))
+    IfErr-weaker c.end_file.result _ _
     (λ fault e. stops_at_end_again g.S.PartSink g.L.ImageSource.size
     g.L.ImageSource.gives g.R.Read.remaining c.args.session.now c.read_rounds.new.session
     c.end_file.new.session _ _ c.args.form

@@ -6,7 +6,7 @@ use Rattle.tape_image.specs.Written.{AppendsFront}
 use Rattle.tape_run.specs.ReelLine.{reel_line, reel_lines}
 use Rattle.tape_run.specs.Reeling.{answer_of, IsTurn}
 use Rattle.tape_run.specs.Seen.{seen}
-use Rattle.tape_run.proofs.Extracted.{all_of_it}
+use Rattle.tape_run.proofs.Fitting.{whole_text}
 use Rattle.tape_run.proofs.Turns.{front_behind, line_behind, one_mounted, follows_then}
 use Rattle.tape_run.proofs.Lasting.{last_same, last_then}
 use Rattle.tape_run.proofs.Causes.{calm_same, calm_then, then_fails}
@@ -27,7 +27,7 @@ returns-in_err-outcome-clause-err g c =
       are_turns = (c.loop-number.images, are, inr mounted);
       most = omega (arith, e, c.loop-number-test.true);
       fewer = λ other. omega (arith, e, c.loop-number-test.true);
-      lines = all_of_it _ _ (reel_lines (c.args.lines + 1) (map answer_of turns)) lines;
+      lines = whole_text _ _ (reel_lines (c.args.lines + 1) (map answer_of turns)) lines;
       told = λ other. lines;
       follows = λ held was kept.
           let (now, has, (still, follows, lasts)) = f held was kept in (
@@ -94,7 +94,7 @@ returns-in_default-clause-err g c =
       are_turns = (c.loop-number.images, are, inl (refl, stays));
       most = omega (arith, e, c.loop-number-test.true);
       fewer = λ other. omega (arith, e, c.loop-number-test.true);
-      lines = all_of_it _ _ (reel_lines (c.args.lines + 1) (map answer_of turns)) lines;
+      lines = whole_text _ _ (reel_lines (c.args.lines + 1) (map answer_of turns)) lines;
       told = λ other. lines;
       follows = λ held was kept.
           let (now, has, (still, follows, lasts)) = f held was kept in (

@@ -3,7 +3,8 @@ use Rattle.tape_set.specs.Position.{want_at}
 use Rattle.tape_run.specs.OutSinks.{TellsAlways}
 use Rattle.tape_run.proofs.Causes.{ended_for}
 use Rattle.tape_run.proofs.Ended.{told_err}
-use Rattle.tape_run.proofs.Extracted.{nothing_more, none_finished}
+use Rattle.tape_run.proofs.Extracted.{none_finished}
+use Rattle.tape_run.proofs.Fitting.{no_text}
 use Rattle.tape_run.proofs.Now.{extracted_now, stops_reading_now, stops_at_end_now}
 use Rattle.tape_run.proofs.StoppedThere.{session_walked}
 use Rattle.tape_run.proofs.extract.now.extract_streaming.Goals as goal
@@ -46,11 +47,11 @@ returns-in_err-records-clause-err g c =
     c.args.session.now mid c.place_output.new.self _ _ c.args.form
     (TellsAlways g.W.Write.contents)
     g.O.Place.stands c.args.out.now c.place_output.new.out _ _ _ None 0 _
-    c.place_output.ensures.same c.in_ok-read_images.ensures.ok (nothing_more _ _) (λ other. refl)
-    (λ held was. inl (nothing_more _ []))
+    c.place_output.ensures.same c.in_ok-read_images.ensures.ok (no_text _ _) (λ other. refl)
+    (λ held was. inl (no_text _ []))
     (λ held was. inr (
       none_finished mid.core.file mid.core.position none,
-      inl (c.in_err-records.ensures.err, nothing_more _ []),
+      inl (c.in_err-records.ensures.err, no_text _ []),
     )))
 
 pub returns-in_err-end_report-2-clause-err : goal.returns-in_err-end_report-2-clause-err

@@ -1,4 +1,4 @@
-use Rattle.tape_run.proofs.MergeNow.{mounts_more}
+use Rattle.tape_run.proofs.MergeOpening.{mounts_more}
 use Rattle.tape_run.proofs.merge.now.mount_all.Goals as goal
 
 pub loop-number-preserved : goal.loop-number-preserved

@@ -1,4 +1,4 @@
-use Rattle.tape_run.proofs.MergeNow.{MountsFirst}
+use Rattle.tape_run.proofs.MergeOpening.{MountsFirst}
 use Rattle.tape_run.proofs.merge.now.mount_all.Given as goal
 
 abbrev pub invariant-loop-number : goal.invariant-loop-number

@@ -1,13 +1,9 @@
-use Rattle.std.proofs.Common.{◌++◌, Ok, Err, Result, OnOk, ap, ◌∙◌, arith, refl}
+use Rattle.std.proofs.Common.{◌++◌, Ok, ap, ◌∙◌, arith, refl}
+use Rattle.std.proofs.lemmas.Result.{on_ok_weaker}
 use Rattle.tape_image.proofs.Callers.{gave, met_end, met_fault}
 use Rattle.tape_run.specs.{SalvageWalk.in_list, SalvageCopies.of_file}
 use Rattle.tape_run.proofs.SalvageSeen.{starts, one_more, at_end, at_fault}
 use Rattle.tape_run.proofs.salvage.copies.copies_in_items.Goals as goal
-
--- a consequence of the state after an Ok
-on_ok : {A E P Q : Type 0} (r : Result A E) → (P → Q) → OnOk r P → OnOk r Q
-on_ok (Ok x) f h = f h
-on_ok (Err e) f h = tt
 
 pub items-init : goal.items-init
 items-init g c = record {
@@ -38,7 +34,8 @@ returns-in-Ok-None-clause-ok g c =
     let next = c.next.follows.lender-at-none in
     let met = met_end _ _ next c.next.follows.holds-at-none c.items.invariant.on
     (c.in-Ok-None.is ∙ ap Ok c.in-Ok-None.field-0-is) in
-    on_ok c.add_copy-in-Ok-None.result (λ noted. at_end _ _ _ _ _ next.left _ next.place met.ending
+    on_ok_weaker c.add_copy-in-Ok-None.result (λ noted.
+    at_end _ _ _ _ _ next.left _ next.place met.ending
     _ _ _ _ _ c.items.invariant.so_far met.takes (noted ∙ ap (λ o. c.items.copies.items ++ of_file
     c.args.set_id.now c.args.file c.args.number (in_list c.items.read o)) c.open_section.ensures))
     c.add_copy-in-Ok-None.ensures.ok
@@ -47,7 +44,7 @@ pub returns-in-Err-clause-ok : goal.returns-in-Err-clause-ok
 returns-in-Err-clause-ok g c =
     let next = c.next.follows.lender-at-none in
     let met = met_fault _ _ next _ c.next.follows.holds-at-none c.items.invariant.on c.in-Err.is in
-    on_ok c.add_copy-in-Err.result (λ noted. at_fault _ _ _ _ _ next.left _ _ _ _ _ _ _
+    on_ok_weaker c.add_copy-in-Err.result (λ noted. at_fault _ _ _ _ _ next.left _ _ _ _ _ _ _
     c.items.invariant.so_far met.takes (noted ∙ ap (λ o. c.items.copies.items ++ of_file
     c.args.set_id.now c.args.file c.args.number (in_list c.items.read o))
     c.open_section-in-Err.ensures)) c.add_copy-in-Err.ensures.ok

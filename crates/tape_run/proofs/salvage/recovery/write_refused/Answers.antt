@@ -1,13 +1,11 @@
 use Rattle.std.proofs.Common.{◌≡◌, sym, subst, ◌∙◌}
 use Rattle.std.specs.Io.KnownBytes.{Appends}
 use Rattle.std.proofs.KnownBytes.{Appends-trans}
+use Rattle.std.proofs.lemmas.Result.{on_ok_weaker, on_err_weaker}
 use Rattle.tape_image.specs.Written.{AppendsFront}
-use Rattle.tape_image.proofs.Pieces.{on_err}
+use Rattle.tape_image.proofs.Pieces.{on_err, front_more, front_behind}
 use Rattle.tape_run.specs.SalvageLine.{refused_line}
 use Rattle.tape_run.specs.SalvageBlocks.{refused_text}
-use Rattle.tape_run.proofs.Reporting.{if_err}
-use Rattle.tape_run.proofs.SalvageFronts.{in_one, in_two}
-use Rattle.tape_run.proofs.SalvageOne.{on_ok}
 use Rattle.tape_run.proofs.salvage.recovery.write_refused.Goals as goal
 
 pub returns-in_err-write_torn-in-Some-clause-front :
@@ -16,13 +14,13 @@ returns-in_err-write_torn-in-Some-clause-front g c = on_err c.from_residual.resu
     (subst (λ f. AppendsFront (g.P.Write.contents c.args.report.now)
     (g.P.Write.contents c.write_torn.new.report) (refused_text c.args.sect c.args.number f
     c.args.begun c.args.records)) (sym c.in-Some.is)
-    (in_one _ _ _ _ c.in_err-write_torn-in-Some.ensures.front))
+    (front_more _ _ _ _ c.in_err-write_torn-in-Some.ensures.front))
 
 pub returns-in_ok-write_torn-in-Some-clause-ok : goal.returns-in_ok-write_torn-in-Some-clause-ok
 returns-in_ok-write_torn-in-Some-clause-ok g c =
     let line : c.deref.result.now ≡ refused_line c.args.sect c.args.number c.in-Some.fault
     c.args.records = c.deref.ensures.0 ∙ c.refused_line-line.ensures in
-    on_ok c.write_text.result (λ wrote.
+    on_ok_weaker c.write_text.result (λ wrote.
     subst (λ f. Appends (g.P.Write.contents c.args.report.now)
     (g.P.Write.contents c.write_text.new.writer) (refused_text c.args.sect c.args.number f
     c.args.begun c.args.records)) (sym c.in-Some.is)
@@ -35,10 +33,12 @@ pub returns-in_ok-write_torn-in-Some-clause-front :
 returns-in_ok-write_torn-in-Some-clause-front g c =
     let line : c.deref.result.now ≡ refused_line c.args.sect c.args.number c.in-Some.fault
     c.args.records = c.deref.ensures.0 ∙ c.refused_line-line.ensures in
-    if_err c.write_text.result _ _ c.write_text.ensures.err (λ part.
+    on_err_weaker c.write_text.result
+    (λ part.
     subst (λ f. AppendsFront (g.P.Write.contents c.args.report.now)
     (g.P.Write.contents c.write_text.new.writer) (refused_text c.args.sect c.args.number f
     c.args.begun c.args.records)) (sym c.in-Some.is)
-    (in_two _ _ _ _ _ c.in_ok-write_torn-in-Some.ensures.ok
+    (front_behind _ _ _ _ _ c.in_ok-write_torn-in-Some.ensures.ok
     (subst (AppendsFront (g.P.Write.contents c.write_torn.new.report)
     (g.P.Write.contents c.write_text.new.writer)) line part)))
+    c.write_text.ensures.err

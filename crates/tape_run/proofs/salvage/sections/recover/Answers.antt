@@ -1,15 +1,15 @@
 use Rattle.std.proofs.Common.{◌≡◌, None, Some, List, true, false, refl, sym, ap, subst, ◌∙◌}
 use Rattle.std.proofs.Common.{rules}
+use Rattle.std.proofs.lemmas.Result.{IfOk-weaker, on_err_weaker}
 use Rattle.tape_image.specs.Tape.{TapeItem}
 use Rattle.tape_run.specs.SalvageBlocks.{ReportsFront}
 use Rattle.tape_run.specs.SalvageImage.{BeginsWith}
 use Rattle.tape_run.specs.SalvageChoice.{IsBest, firsts}
 use Rattle.tape_run.specs.SalvageTaking.{form_for, has_form, TakesCopy, copy_text}
 use Rattle.tape_image.proofs.Pieces.{on_err}
-use Rattle.tape_run.proofs.Reporting.{if_err}
 use Rattle.tape_run.proofs.SalvageBegun.{none_begun, without_copy, without_form, without_image}
 use Rattle.tape_run.proofs.SalvageBegun.{copy_begun, none_read}
-use Rattle.tape_run.proofs.SalvageOne.{no_copy, no_form, no_image, from_copy, if_ok}
+use Rattle.tape_run.proofs.SalvageOne.{no_copy, no_form, no_image, from_copy}
 use Rattle.tape_run.proofs.salvage.sections.recover.Goals as goal
 
 pub returns-in_default-clause-ok : goal.returns-in_default-clause-ok
@@ -51,7 +51,7 @@ returns-clause-ok g c =
     ≡ true =
     sym (c.has_form.ensures ∙ ap (has_form c.args.content) c.form_for-form.ensures)
     ∙ c.if-not-has_form.false in
-    if_ok c.recover_copy.result _ _
+    IfOk-weaker c.recover_copy.result _ _
     (λ end t. from_copy g.W.Write.contents g.L.ImageSource.gives g.R.Read.remaining
     c.args.copies.now c.args.content c.args.known.now c.args.sect k c.in-Some-image.device
     _ _ _ _ _ _ end
@@ -131,7 +131,7 @@ returns-clause-front g c =
     ≡ true =
     sym (c.has_form.ensures ∙ ap (has_form c.args.content) c.form_for-form.ensures)
     ∙ c.if-not-has_form.false in
-    if_err c.recover_copy.result _ _ c.recover_copy.ensures.front
+    on_err_weaker c.recover_copy.result
     (λ part. copy_begun g.W.Write.contents g.L.ImageSource.gives
     g.R.Read.remaining c.args.copies.now c.args.content c.args.known.now c.args.sect k
     c.in-Some-image.device _ _ _ _ _
@@ -149,3 +149,4 @@ returns-clause-front g c =
     c.args.recovery.now (g.P.Write.contents c.args.report.now)
     (g.P.Write.contents c.recover_copy.new.report) (copy_text c.args.sect k f (Some items)))
     c.form_for-form.ensures part)))
+    c.recover_copy.ensures.front

@@ -2,9 +2,8 @@ use Rattle.std.proofs.Common.{◌++◌, ◌&&◌, subst}
 use Rattle.std.specs.Io.KnownBytes.{Appends}
 use Rattle.std.proofs.KnownBytes.{Appends-trans}
 use Rattle.tape_image.specs.Written.{AppendsFront}
-use Rattle.tape_image.proofs.Pieces.{on_err}
+use Rattle.tape_image.proofs.Pieces.{on_err, front_more, front_behind}
 use Rattle.tape_run.specs.SalvageBlocks.{HasSalvaged, torn_text}
-use Rattle.tape_run.proofs.SalvageFronts.{in_one, in_two}
 use Rattle.tape_run.specs.SalvageEnds.{with_count, with_end, count_text}
 use Rattle.tape_run.proofs.salvage.recovery.Recovery.end_closed.Goals as goal
 
@@ -29,7 +28,7 @@ returns-clause-ok g c =
 pub returns-in_err-take_count-clause-front : goal.returns-in_err-take_count-clause-front
 returns-in_err-take_count-clause-front g c =
     let k = c.args.copy.now in
-    on_err c.from_residual.result _ (λ start z h. in_one _ _ _ _
+    on_err c.from_residual.result _ (λ start z h. front_more _ _ _ _
     (subst (λ l. AppendsFront (g.P.Write.contents c.args.report.now)
     (g.P.Write.contents c.take_count.new.report) (count_text k.section.key.sect l
     k.section.blocks)) c.wrong_count.ensures c.in_err-take_count.ensures.front))
@@ -40,7 +39,7 @@ returns-in_err-end_record-clause-front g c =
     let label = c.wrong_count.result in
     on_err c.from_residual-in_err-end_record.result _ (λ start z h.
     let one = c.in_ok-take_count.ensures.ok start z h in
-    in_two _ _ _ _ _ (subst (λ l. Appends (g.P.Write.contents c.args.report.now)
+    front_behind _ _ _ _ _ (subst (λ l. Appends (g.P.Write.contents c.args.report.now)
     (g.P.Write.contents c.take_count.new.report) (count_text k.section.key.sect l
     k.section.blocks)) c.wrong_count.ensures one.1)
     (c.in_err-end_record.ensures.front start (with_count label z) one.0))

@@ -2,9 +2,8 @@ use Rattle.std.proofs.Common.{subst}
 use Rattle.std.specs.Io.KnownBytes.{Appends}
 use Rattle.std.proofs.KnownBytes.{Appends-trans}
 use Rattle.tape_image.specs.Written.{AppendsFront}
-use Rattle.tape_image.proofs.Pieces.{on_err}
+use Rattle.tape_image.proofs.Pieces.{on_err, front_more, front_behind}
 use Rattle.tape_run.specs.SalvageBlocks.{gap_text}
-use Rattle.tape_run.proofs.SalvageFronts.{in_one, in_two}
 use Rattle.tape_run.specs.SalvageEnds.{without_gap}
 use Rattle.tape_run.proofs.salvage.recovery.Recovery.end_section.Goals as goal
 
@@ -25,7 +24,7 @@ returns-clause-ok g c = (
 
 pub returns-in_err-end_gap-clause-front : goal.returns-in_err-end_gap-clause-front
 returns-in_err-end_gap-clause-front g c =
-    on_err c.from_residual.result _ (λ start z h. in_one _ _ _ _
+    on_err c.from_residual.result _ (λ start z h. front_more _ _ _ _
     (subst (λ n. AppendsFront (g.P.Write.contents c.args.report.now)
     (g.P.Write.contents c.end_gap.new.report)
     (gap_text c.args.copy.now.section.key.sect z.gap n z.piece.records)) c.recovered.ensures
@@ -35,7 +34,7 @@ pub returns-in_err-end_blocks-clause-front : goal.returns-in_err-end_blocks-clau
 returns-in_err-end_blocks-clause-front g c =
     on_err c.from_residual-in_err-end_blocks.result _ (λ start z h.
     let one = c.in_ok-end_gap.ensures.ok start z h in
-    in_two _ _ _ _ _ (subst (λ n. Appends (g.P.Write.contents c.args.report.now)
+    front_behind _ _ _ _ _ (subst (λ n. Appends (g.P.Write.contents c.args.report.now)
     (g.P.Write.contents c.end_gap.new.report)
     (gap_text c.args.copy.now.section.key.sect z.gap n z.piece.records)) c.recovered.ensures one.1)
     (c.in_err-end_blocks.ensures.front start (without_gap z) one.0))

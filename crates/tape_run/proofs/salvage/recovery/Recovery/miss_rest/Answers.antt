@@ -2,9 +2,8 @@ use Rattle.std.proofs.Common.{◌≡◌, ap, subst, ◌∙◌}
 use Rattle.std.specs.Io.KnownBytes.{Appends}
 use Rattle.std.proofs.KnownBytes.{Appends-trans}
 use Rattle.tape_image.specs.Written.{AppendsFront}
-use Rattle.tape_image.proofs.Pieces.{on_err}
+use Rattle.tape_image.proofs.Pieces.{on_err, front_more, front_behind}
 use Rattle.tape_run.specs.SalvageLine.{open_gap_line}
-use Rattle.tape_run.proofs.SalvageFronts.{in_one, in_two}
 use Rattle.tape_run.proofs.salvage.recovery.Recovery.miss_rest.Goals as goal
 
 pub returns-clause-ok : goal.returns-clause-ok
@@ -24,7 +23,7 @@ returns-clause-ok g c =
 
 pub returns-in_err-tear-clause-front : goal.returns-in_err-tear-clause-front
 returns-in_err-tear-clause-front g c = on_err c.from_residual.result _ (λ start z h.
-    in_one _ _ _ (open_gap_line c.args.sect c.args.first z.piece.records)
+    front_more _ _ _ (open_gap_line c.args.sect c.args.first z.piece.records)
     (c.in_err-tear.ensures.front start z h))
 
 pub returns-in_err-write_text-clause-front : goal.returns-in_err-write_text-clause-front
@@ -34,5 +33,5 @@ returns-in_err-write_text-clause-front g c =
     let line : c.deref.result.now ≡ open_gap_line c.args.sect c.args.first z.piece.records =
     c.deref.ensures.0 ∙ c.open_gap_line.ensures
     ∙ ap (open_gap_line c.args.sect c.args.first) (c.records.ensures ∙ a.0.piece.counts) in
-    in_two _ _ _ _ _ a.1 (subst (AppendsFront (g.P.Write.contents c.tear.new.report)
+    front_behind _ _ _ _ _ a.1 (subst (AppendsFront (g.P.Write.contents c.tear.new.report)
     (g.P.Write.contents c.write_text.new.writer)) line c.in_err-write_text.ensures.err))

@@ -1,13 +1,12 @@
 use Rattle.std.proofs.Common.{◌≡◌, ap, subst, ◌∙◌}
 use Rattle.tape_image.specs.Written.{AppendsFront}
-use Rattle.tape_image.proofs.Pieces.{on_err}
+use Rattle.tape_image.proofs.Pieces.{on_err, front_more, front_behind}
 use Rattle.tape_run.specs.SalvageLine.{no_section_line}
-use Rattle.tape_run.proofs.SalvageFronts.{in_one, in_two}
 use Rattle.tape_run.proofs.salvage.recovery.Recovery.miss_section.Goals as goal
 
 pub returns-in_err-tear-clause-front : goal.returns-in_err-tear-clause-front
 returns-in_err-tear-clause-front g c = on_err c.from_residual.result _ (λ start z h.
-    in_one _ _ _ (no_section_line c.args.sect z.piece.records)
+    front_more _ _ _ (no_section_line c.args.sect z.piece.records)
     (c.in_err-tear.ensures.front start z h))
 
 pub returns-in_err-write_text-clause-front : goal.returns-in_err-write_text-clause-front
@@ -17,5 +16,5 @@ returns-in_err-write_text-clause-front g c =
     let line : c.deref.result.now ≡ no_section_line c.args.sect z.piece.records = c.deref.ensures.0
     ∙ c.no_section_line.ensures
     ∙ ap (no_section_line c.args.sect) (c.records.ensures ∙ a.0.piece.counts) in
-    in_two _ _ _ _ _ a.1 (subst (AppendsFront (g.P.Write.contents c.tear.new.report)
+    front_behind _ _ _ _ _ a.1 (subst (AppendsFront (g.P.Write.contents c.tear.new.report)
     (g.P.Write.contents c.write_text.new.writer)) line c.in_err-write_text.ensures.err))
