@@ -9,12 +9,14 @@ pub mod Foreign
 pub mod Known
 pub mod Point
 pub mod Range
--- Sinks: the contracts of their calls, and the contents of the sink in memory.
+-- Sinks: the contracts of their calls, the contents of the sink in memory, and the sink that
+-- refuses one call.
 pub mod Weight
 pub mod Crash
 pub mod Walks
 pub mod Entries
 pub mod Memory
+pub mod Refusing
 -- The reading table: the effect of a step for any items.
 pub mod Arrive
 pub mod Labels

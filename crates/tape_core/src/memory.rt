@@ -5,7 +5,7 @@ ghost use Rattle.std.specs.Prelude.{take, length, slice_get, OnOk, OnErr};
 ghost use Rattle.tape_blocks.specs.Block.{Portion};
 ghost use Rattle.tape_blocks.specs.Parts.{view};
 ghost use Rattle.tape_blocks.specs.Packing.{longest_block};
-ghost use Rattle.tape_core.specs.Weight.{Rose, IsFront};
+ghost use Rattle.tape_core.specs.Weight.{Rose};
 ghost use Rattle.tape_core.specs.Known.{most_staged};
 ghost use Rattle.tape_core.specs.Stands.{weight_of};
 ghost use Rattle.tape_core.specs.Entries.{IsLaid, laid_one_way, end_from, viewed};
@@ -35,7 +35,7 @@ pub struct MemorySink {
 }
 
 impl MemorySink {
-    ghost use Rattle.tape_core.specs.Memory.{portions};
+    ghost use Rattle.tape_core.specs.Memory.{portions, IsLongestFront};
 
     /// Creates an empty sink. Does not allocate.
     pub fn new(alloc: Global) -> Self
@@ -106,12 +106,10 @@ impl MemorySink {
         5 * number as u64 + self.end_of(number) as u64
     }
 
-    /// Returns the number of leading parts whose total weight is at most `most`.
+    /// Returns the greatest number of leading parts whose total weight is at most `most`.
     fn front(&self, most: u64) -> usize
         ensures within { result ≤ length (portions self.now) }
-        ensures light { weight_of (take result (portions self.now)) ≤ most }
-        ensures front { (front : List Portion) → IsFront front (portions self.now)
-            → weight_of front ≡ most → take result (portions self.now) ≡ front }
+        ensures front { IsLongestFront most (take result (portions self.now)) (portions self.now) }
     {
         let mut number = self.count();
         while self.weight_to(number) > most {
@@ -161,7 +159,7 @@ impl PartSink for MemorySink {
     ghost use Rattle.tape_core.specs.Weight.{Rose};
     ghost use Rattle.tape_core.specs.declared.sink.SinkFault.TheVariants.{Full, OutOfMemory};
     ghost use Rattle.std.specs.Prelude.{OnOk, OnErr, IfErr, Err, Ok, ◌⊎◌};
-    ghost use Rattle.tape_core.specs.Memory.{portions};
+    ghost use Rattle.tape_core.specs.Memory.{portions, IsLongestFront};
 
     ghost holds = { λ sink parts. parts ≡ portions sink };
 
@@ -216,7 +214,8 @@ impl PartSink for MemorySink {
         ensures taken { result ≡ Ok tt }
         ensures ok { (front rest : List Portion) → front ++ rest ≡ portions self.old
             → weight_of front ≡ point.now.staged → front ≡ portions self.new }
-        ensures weight { weight_of (portions self.new) ≤ point.now.staged }
+        // A part that the weight does not cover completely is dropped.
+        ensures front { IsLongestFront point.now.staged (portions self.new) (portions self.old) }
         ensures calm { self.new.refused ≡ self.old.refused }
         ensures rewinds { self.new.given ≡ 0 }
     {

@@ -1,7 +1,15 @@
 //! A sink that refuses one call, for tests.
 
-ghost use Rattle.std.specs.Prelude.{◌≡◌, ◌↔◌, ◌<◌, ◌+◌, IsTrue};
+ghost use Rattle.std.specs.Prelude.{◌≡◌, ◌≢◌, ◌↔◌, ◌<◌, ◌≤◌, ◌+◌, ◌++◌, ◌∷◌, [], List, length};
+ghost use Rattle.std.specs.Prelude.{IsTrue, OnOk, OnErr, IfErr, Err};
 ghost use Rattle.std.specs.Bool.{OnTrue, OnFalse};
+ghost use Rattle.tape_blocks.specs.Block.{Portion};
+ghost use Rattle.tape_blocks.specs.Parts.{view};
+ghost use Rattle.tape_blocks.specs.Packing.{longest_block};
+ghost use Rattle.tape_core.specs.Crash.{AddsNothing, AddsOnly, IsThis, ThisAlone};
+ghost use Rattle.tape_core.specs.Known.{most_staged};
+ghost use Rattle.tape_core.specs.Refusing.{RefusesOne};
+ghost use Rattle.tape_core.specs.Stands.{weight_of};
 ghost use Rattle.tape_core.specs.Weight.{Rose};
 
 use crate::checkpoint::Checkpoint;
@@ -79,21 +87,77 @@ impl<S: PartSink> PartSink for Refusing<S> {
 
     ghost survived_now = { λ sink t survived. S.survived_now sink.inner t survived };
 
-    fn put(&mut self, part: Part<'_>) -> Result<(), SinkFault> {
+    fn put(&mut self, part: Part<'_>) -> Result<(), SinkFault>
+        requires { length part.bytes.now ≤ longest_block }
+        ensures one { RefusesOne SinkFault.Device self.old result self.new }
+        ensures ok { OnOk result ((parts : List Portion) → S.holds self.old.inner parts
+            → S.holds self.new.inner (parts ++ view part.entry ∷ [])) }
+        ensures err { OnErr result ((parts : List Portion) → S.holds self.old.inner parts
+            → S.holds self.new.inner parts) }
+        ensures weight { OnOk result (S.weighs self.new.inner
+            ≡ S.weighs self.old.inner + (5 + length part.entry.bytes.now)) }
+        ensures same_weight { OnErr result (S.weighs self.new.inner ≡ S.weighs self.old.inner) }
+        ensures full { result ≡ Err SinkFault.Full
+            → most_staged < S.weighs self.old.inner + (5 + length part.entry.bytes.now) }
+        ensures cause { OnErr result (Rose (S.refusals self.old.inner + self.old.refused)
+            (S.refusals self.new.inner + self.new.refused)) }
+        ensures why { IfErr result (λ fault. S.refuses_change self.old.inner fault self.new.inner
+            ⊎ ((self.old.left ≡ 0) × ((fault ≡ Device) ⊎ (fault ≡ Failed)))) }
+        ensures calm { OnOk result (S.refusals self.new.inner + self.new.refused
+            ≡ S.refusals self.old.inner + self.old.refused) }
+        ensures crash { (parts : List Portion) → S.holds self.old.inner parts
+            → AddsNothing (S.crashes self.old.inner) (S.crashes self.new.inner) }
+    {
         if self.is_refused() {
             return Err(SinkFault::Device);
         }
         self.inner.put(part)
     }
 
-    fn cut_to(&mut self, point: &Checkpoint) -> Result<(), SinkFault> {
+    fn cut_to(&mut self, point: &Checkpoint) -> Result<(), SinkFault>
+        requires { point.now.staged ≤ S.weighs self.old.inner }
+        ensures one { RefusesOne SinkFault.Failed self.old result self.new }
+        ensures weight { OnOk result (S.weighs self.new.inner ≤ point.now.staged) }
+        ensures same_weight { OnErr result (S.weighs self.new.inner ≡ S.weighs self.old.inner) }
+        ensures ok { OnOk result ((front rest : List Portion)
+            → S.holds self.old.inner (front ++ rest) → weight_of front ≡ point.now.staged
+            → S.holds self.new.inner front) }
+        ensures err { IfErr result (λ fault. fault ≢ SinkFault.Device → (parts : List Portion)
+            → S.holds self.old.inner parts → S.holds self.new.inner parts) }
+        ensures cause { OnErr result (Rose (S.refusals self.old.inner + self.old.refused)
+            (S.refusals self.new.inner + self.new.refused)) }
+        ensures why { IfErr result (λ fault. S.refuses_change self.old.inner fault self.new.inner
+            ⊎ ((self.old.left ≡ 0) × ((fault ≡ Device) ⊎ (fault ≡ Failed)))) }
+        ensures calm { OnOk result (S.refusals self.new.inner + self.new.refused
+            ≡ S.refusals self.old.inner + self.old.refused) }
+        ensures crash { (front rest : List Portion) → S.holds self.old.inner (front ++ rest)
+            → weight_of front ≡ point.now.staged → AddsOnly (IsThis point.now front)
+            (S.crashes self.old.inner) (S.crashes self.new.inner) }
+    {
         if self.is_refused() {
             return Err(SinkFault::Failed);
         }
         self.inner.cut_to(point)
     }
 
-    fn keep(&mut self, point: &Checkpoint) -> Result<(), SinkFault> {
+    fn keep(&mut self, point: &Checkpoint) -> Result<(), SinkFault>
+        requires { point.now.staged ≡ S.weighs self.old.inner }
+        ensures one { RefusesOne SinkFault.Device self.old result self.new }
+        ensures same_weight { S.weighs self.new.inner ≡ S.weighs self.old.inner }
+        ensures same { (parts : List Portion) → S.holds self.old.inner parts
+            → S.holds self.new.inner parts }
+        ensures cause { OnErr result (Rose (S.refusals self.old.inner + self.old.refused)
+            (S.refusals self.new.inner + self.new.refused)) }
+        ensures why { IfErr result (λ fault. S.refuses_change self.old.inner fault self.new.inner
+            ⊎ ((self.old.left ≡ 0) × ((fault ≡ Device) ⊎ (fault ≡ Failed)))) }
+        ensures calm { OnOk result (S.refusals self.new.inner + self.new.refused
+            ≡ S.refusals self.old.inner + self.old.refused) }
+        ensures crash { (parts : List Portion) → S.holds self.old.inner parts
+            → AddsOnly (IsThis point.now parts) (S.crashes self.old.inner)
+            (S.crashes self.new.inner) }
+        ensures kept { OnOk result ((parts : List Portion) → S.holds self.old.inner parts
+            → ThisAlone point.now parts (S.crashes self.new.inner)) }
+    {
         if self.is_refused() {
             return Err(SinkFault::Device);
         }

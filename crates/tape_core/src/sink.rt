@@ -96,6 +96,7 @@ pub trait PartSink {
             → AddsNothing (crashes self.old) (crashes self.new) };
 
     /// Keeps the leading parts up to the weight recorded in the checkpoint, and drops the rest.
+    /// Each sink says what it keeps of a part that this weight divides.
     ///
     /// # Errors
     ///

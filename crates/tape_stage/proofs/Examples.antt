@@ -161,7 +161,7 @@ part_given : {D : Type 0} (g : Ghosts D) (old new : Stage D g) (part : Part) (p 
     (parts : List Portion) → StageGave old (Ok (Some part)) new → IsAhead old (p ∷ parts)
     → (view part ≡ p) × IsAhead new parts
 part_given g old new part p parts gave ahead =
-    let (rest, split, there) = gave.gives (p ∷ parts) ahead in
+    let (rest, split, there) = gave.gave.gives (p ∷ parts) ahead in
     let same : rest ≡ parts = cc split in
     (cc split, subst (λ ps. IsAhead new ps) same there)
 
@@ -177,7 +177,7 @@ cases_of_stages g = record {
   ahead = λ stage parts h. h;
   ready = λ second n point parts other_open disk r. (r.staged, r.gate, r.alike);
   has_read = λ old new result r. (r.same_stage, r.gave);
-  gave_keeps = λ old new result parts gave held. (gave.kept parts held, gave.same_weight);
+  gave_keeps = λ old new result parts gave held. (gave.gave.kept parts held, gave.gave.same_weight);
   part_given = part_given g;
   what_is_left_returns = λ stage bytes n back there left is. (bytes, left, (n, is));
   what_returns_is_left = λ stage back there r. r;

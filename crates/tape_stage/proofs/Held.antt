@@ -1,9 +1,20 @@
 -- The contents of a stage as a sink.
 use Rattle.std.proofs.Common.{◌≡◌, ℕ, Bool, false, List, length, Option, None, drop, refl, sym, ap}
 use Rattle.std.proofs.Common.{◌∙◌, subst, arith}
+use Rattle.std.proofs.Common.{◌⊎◌, ⊎_elim, inl, inr}
+use Rattle.std.specs.Prelude.{Some, Err}
 use Rattle.std.proofs.lemmas.List.{length-take-le, length-drop}
 use Rattle.tape_stage.specs.Staged.{Holding, Ready}
 use Rattle.tape_stage.specs.Stages.{IsStage, IsStaged, AreHeld, Holds, HasRefused, RefusesChange}
+use Rattle.tape_core.specs.Weight.{Rose}
+use Rattle.tape_core.specs.declared.sink.SinkFault.{SinkFault}
+use Rattle.tape_core.specs.declared.sink.SinkFault.TheVariants as sink
+use Rattle.tape_stage.specs.Faults.{sink_fault_of}
+use Rattle.tape_stage.specs.Stages.{HasDropped}
+use Rattle.tape_stage.specs.Stages.{pending_after}
+use Rattle.tape_core.specs.Point.{Point}
+use Rattle.tape_stage.specs.declared.stage.Stage.{Stage}
+use Rattle.tape_stage.specs.declared.stage.StageFault.{StageFault}
 use Rattle.tape_stage.specs.declared.stage.StageFault.TheVariants.{NoPoint, BadFrame, Device}
 use Rattle.tape_stage.specs.declared.stage.StageFault.TheVariants.{OutOfMemory, Failed, Full}
 use Rattle.tape_stage.specs.{declared.disk.Disk.Ghosts, Faults.sink_fault_of}
@@ -90,6 +101,41 @@ module _ {D : Type 0} {disk : Ghosts D} where
   change_refused old mid new NoPoint told same is cause full = absurd is
   change_refused old mid new (BadFrame place) told same is cause full = absurd is
   change_refused old mid new OutOfMemory told same is cause full = absurd is
+
+  -- what is pending after a checkpoint was not saved
+  pub pending_is : (old mid : Stage D disk) (fault : StageFault) (told : SinkFault) (point : Point)
+      → told ≡ sink_fault_of fault → HasRefused old mid fault
+      → (fault ≡ Device → mid.pending ≡ Some point)
+      → mid.pending ≡ pending_after told point old.pending
+  pending_is old mid Device told point same is device = rw same (device refl)
+  pending_is old mid Full told point same is device =
+      rw same (ap (λ (s : Stage D disk). s.pending) is)
+  pending_is old mid Failed told point same is device =
+      rw same (ap (λ (s : Stage D disk). s.pending) is.0)
+  pending_is old mid NoPoint told point same is device = absurd is
+  pending_is old mid (BadFrame place) told point same is device = absurd is
+  pending_is old mid OutOfMemory told point same is device = absurd is
+
+  -- what is acknowledged and pending after acknowledged parts were not dropped
+  pub dropped_is : (old mid : Stage D disk) (fault : StageFault) (told : SinkFault) (point : Point)
+      → told ≡ sink_fault_of fault → HasRefused old mid fault
+      → (fault ≡ Device → (mid.acknowledged ≡ point)
+      ⊎ ((mid.acknowledged ≡ old.acknowledged) × (mid.pending ≡ Some point)))
+      → HasDropped point old (Err told) mid
+  dropped_is old mid Device told point same is device = ⊎_elim
+      (λ acknowledged. inl (same, acknowledged))
+      (λ waits. inr (waits.0, rw same waits.1)) (device refl)
+  dropped_is old mid Full told point same is device = inr (
+    ap (λ (s : Stage D disk). s.acknowledged) is,
+    rw same (ap (λ (s : Stage D disk). s.pending) is),
+  )
+  dropped_is old mid Failed told point same is device = inr (
+    ap (λ (s : Stage D disk). s.acknowledged) is.0,
+    rw same (ap (λ (s : Stage D disk). s.pending) is.0),
+  )
+  dropped_is old mid NoPoint told point same is device = absurd is
+  dropped_is old mid (BadFrame place) told point same is device = absurd is
+  dropped_is old mid OutOfMemory told point same is device = absurd is
 
   -- reading leaves the contents unchanged
   read_staged : (old new : D) (in_second : Bool) (g : ℕ) (point : Point) (other_open : Bool)

@@ -2,6 +2,8 @@
 use Rattle.std.proofs.Common.{◌≡◌, ℕ, ◌+◌, ◌≤◌, Bool, true, false, List, length, take, drop, ap}
 use Rattle.std.proofs.Common.{◌∙◌, arith, not, ◌==◌, sym}
 use Rattle.std.proofs.lemmas.List.{length-take}
+use Rattle.std.proofs.Common.{inl, inr, subst}
+use Rattle.std.proofs.lemmas.List.{take-take}
 use Rattle.tape_stage.specs.Disk.{Torn}
 use Rattle.tape_stage.specs.Staged.{slot_place, Holding, KeepsFrames, KeepsFront, gate_at, StagedIn}
 use Rattle.tape_stage.specs.Staged.{Ready, FrontOf}
@@ -9,6 +11,11 @@ use Rattle.tape_blocks.specs.Block.{Portion}
 use Rattle.tape_stage.proofs.{Torn.torn_high, Torn.torn_front, Torn.alike_less, Tears.alike_holding}
 use Rattle.tape_stage.proofs.{Tears.alike_staged, Tears.gate_alike, SlotSteps.ready_each}
 use Rattle.tape_core.specs.Point.{Point}
+use Rattle.tape_stage.specs.Staged.{slot_place, Holding, KeepsFrames, KeepsFront, StagedIn, NamedIn}
+use Rattle.tape_stage.specs.Staged.{IsEither, IsSaving, FrontOf, Loses, SameFrames}
+use Rattle.tape_stage.specs.Body.{body_of}
+use Rattle.tape_stage.proofs.Torn.{alike_piece}
+use Rattle.tape_stage.proofs.Tears.{body_alike, slot_alike}
 
 pub frames_same : (old new : List ℕ) → new ≡ old → KeepsFrames old new
 frames_same old new same = record {
@@ -53,8 +60,73 @@ torn_keeps place n m old new le torn = record {
 
 pub kept_front_holding : (weight : ℕ) (parts : List Portion) (old new : List ℕ)
     → KeepsFront (256 + weight) old new → Holding weight parts old → Holding weight parts new
-kept_front_holding weight parts old new kept holding = alike_holding (256 + weight) _ _ _ new
-    (omega arith) kept.front (omega (arith, kept.long, holding.long)) holding
+kept_front_holding weight parts old new kept holding =
+    alike_holding (256 + weight) weight parts old new (omega arith) kept.front
+    (omega (arith, kept.long, holding.long)) holding
+
+-- a slot that names a checkpoint whose parts have frames
+pub staged_named : (second : Bool) (g : ℕ) (point : Point) (parts : List Portion) (bytes : List ℕ)
+    → NamedIn second g point bytes → Holding point.staged parts bytes
+    → StagedIn second g point parts bytes
+staged_named second g point parts bytes named holding = record {
+  is_open = named.is_open;
+  body = named.body;
+  other = named.other;
+  parts_are = holding;
+}
+
+pub either_saved : (second : Bool) (g : ℕ) (point next : Point) (parts more : List Portion)
+    (old bytes : List ℕ) → Holding next.staged more old
+    → IsSaving second g point next parts (KeepsFrames old) bytes
+    → IsEither second g point next parts more bytes
+either_saved second g point next parts more old bytes holding (inl staged) = inl staged
+either_saved second g point next parts more old bytes holding (inr next_is) =
+    inr (staged_named (not second) (g + 1) next more bytes next_is.0
+    (frames_holding next.staged more old bytes next_is.1 holding))
+
+pub saving_then : (second : Bool) (g : ℕ) (point next : Point) (parts : List Portion)
+    (a b bytes : List ℕ) → KeepsFrames a b
+    → IsSaving second g point next parts (KeepsFrames b) bytes
+    → IsSaving second g point next parts (KeepsFrames a) bytes
+saving_then second g point next parts a b bytes kept (inl staged) = inl staged
+saving_then second g point next parts a b bytes kept (inr next_is) =
+    inr (next_is.0, frames_then a b bytes kept next_is.1)
+
+pub saving_front : (second : Bool) (g : ℕ) (point next : Point) (parts : List Portion) (most : ℕ)
+    (old bytes : List ℕ) → IsSaving second g point next parts (KeepsFrames old) bytes
+    → IsSaving second g point next parts (SameFrames most old) bytes
+saving_front second g point next parts most old bytes (inl staged) = inl staged
+saving_front second g point next parts most old bytes (inr next_is) =
+    inr (next_is.0, ap (take most) next_is.1.rest)
+
+-- bytes with the same prefix name the same checkpoint
+named_alike : (second : Bool) (g : ℕ) (point : Point) (n : ℕ) (old new : List ℕ) → 256 ≤ n
+    → take n new ≡ take n old → NamedIn second g point old → NamedIn second g point new
+named_alike second g point n old new le same named = record {
+  is_open = gate_alike second n old new le same ∙ named.is_open;
+  body = ap body_of (body_alike second n old new le same) ∙ named.body;
+  other = subst (Loses second g) (sym (slot_alike (not second) n old new le same)) named.other;
+}
+
+-- contents that were cut after a checkpoint was saved
+pub cut_named : (second : Bool) (g staged : ℕ) (point : Point) (old bytes : List ℕ)
+    (left : List ℕ → Type 0) → staged ≡ point.staged
+    → ((c : List ℕ) → left c → NamedIn second g point c × KeepsFrames old c)
+    → FrontOf (256 + staged) left bytes
+    → NamedIn second g point bytes × SameFrames point.staged old bytes
+cut_named second g staged point old bytes left is each of =
+    let was = each of.0 of.1 in (
+      named_alike second g point (256 + staged) of.0 bytes (omega arith) of.2 was.0,
+      alike_piece (256 + staged) 256 point.staged of.0 bytes (omega (arith, is)) of.2
+          ∙ ap (take point.staged) was.1.rest,
+    )
+
+pub frames_cut : (staged most : ℕ) (old mid new : List ℕ) → staged ≡ most → KeepsFrames old mid
+    → new ≡ take (256 + staged) mid → SameFrames most old new
+frames_cut staged most old mid new is kept cut =
+    let n = 256 + staged in
+    alike_piece n 256 most mid new (omega (arith, is))
+    (ap (take n) cut ∙ take-take n n mid (omega arith)) ∙ ap (take most) kept.rest
 
 pub gate_test : (second : Bool) (bytes : List ℕ) → gate_at second bytes ≡ 79
     → true ≡ (gate_at (not (not second)) bytes == 79)

@@ -17,6 +17,7 @@ pub mod PointFields
 pub mod PointLaws
 pub mod Refusals
 pub mod Remaining
+pub mod Resting
 pub mod Results
 pub mod SlotSteps
 pub mod Steps

@@ -1,6 +1,8 @@
 -- Consecutive calls of a disk.
 use Rattle.std.proofs.Common.{inl, inr, ⊎_elim, ℕ, List, arith}
 use Rattle.tape_stage.specs.{declared.disk.Disk.Ghosts, Disk.IsLater, Moments.Passes}
+use Rattle.std.proofs.Common.{refl}
+use Rattle.tape_stage.specs.OnlyReading.{OnlyReads}
 
 module _ {D : Type 0} (g : Ghosts D) where
   pub weaken : (old new : D) (P Q : List ℕ → Type 0) → ((c : List ℕ) → P c → Q c)
@@ -32,3 +34,11 @@ module _ {D : Type 0} (g : Ghosts D) where
   pub nothing : (a : D) (P : List ℕ → Type 0) → ((c : List ℕ) → g.may_leave a c → P c)
       → Passes g a a P
   nothing a P now = record { later = omega arith; before = λ t x le was. inl was; now = now }
+
+  pub only_reads_self : (a : D) → OnlyReads g a a
+  only_reads_self a = record {
+    same = λ honest. refl;
+    same_length = refl;
+    any_moment = λ honest. nothing a (g.may_leave a) (λ c left. left);
+    back = λ honest. honest;
+  }

@@ -9,6 +9,10 @@ pub on_ok : {A B : Type 0} (r : Result A B) {P Q : Type 0} → (P → Q) → OnO
 on_ok (Ok x) also p = also p
 on_ok (Err e) also p = tt
 
+pub ok_any : {A B : Type 0} (r : Result A B) {P : Type 0} → P → OnOk r P
+ok_any (Ok x) p = p
+ok_any (Err e) p = tt
+
 pub if_ok : {A B : Type 0} (r : Result A B) {P Q : A → Type 0} → ((x : A) → P x → Q x) → IfOk r P
     → IfOk r Q
 if_ok (Ok x) also p = also x p

@@ -7,18 +7,22 @@ use Rattle.tape_stage.specs.Staged.{StagedIn, IsClosed, IsNext, IsEither, Holdin
 use Rattle.tape_stage.specs.{Disk.Torn, Disk.Holds, Disk.Only, Body.body_of, Body.body_text}
 use Rattle.tape_stage.specs.{Body.FitBody, Moments.After}
 use Rattle.tape_blocks.specs.Block.{Portion}
+use Rattle.tape_stage.specs.Body.{body_of, body_text, FitBody}
+use Rattle.tape_stage.specs.Staged.{slot_place, gate_at, body_at, read_slot, slot_at}
+use Rattle.tape_stage.specs.Staged.{Loses, StagedIn, NamedIn, IsClosed, IsNext, IsSaving, Ready}
+use Rattle.tape_stage.specs.Staged.{KeepsFrames}
+use Rattle.tape_stage.specs.Moments.{After}
 use Rattle.tape_core.specs.Point.{Point}
 use Rattle.tape_stage.proofs.Tears.{KeptIn, torn_other, gate_alike, torn_gate_body, torn_body_gate}
 use Rattle.tape_stage.proofs.Tears.{kept_holding, alike_staged, loses_gate, closed_none, open_reads}
 use Rattle.tape_stage.proofs.Tears.{none_loses}
 use Rattle.tape_stage.proofs.{Torn.holds_torn, Torn.holds_piece, Torn.holds_byte, Bodies.body_reads}
 
--- the other slot contains the next generation after a closed gate, for parts that are on the disk
-pub record IsFilled (second : Bool) (g : ℕ) (point next : Point) (parts more : List Portion)
+-- the other slot contains the next generation after a closed gate
+pub record IsFilled (second : Bool) (g : ℕ) (point next : Point) (parts : List Portion)
     (bytes : List ℕ) : Type 0 where
   pub closed : IsClosed second g point parts bytes
   pub body : body_at (not second) bytes ≡ body_text (g + 1) next
-  pub holds : Holding next.staged more bytes
 
 -- a call that preserves a slot and the frames preserves the staged data, if the other slot remains
 -- older
@@ -74,12 +78,12 @@ next_loses true g point bytes is = subst (Loses false (g + 1)) (sym is) (omega a
 next_loses false g point bytes is = subst (Loses true (g + 1)) (sym is) (omega arith)
 
 -- 3. once the gate is open, the next generation is current
-pub opened : (second : Bool) (g : ℕ) (point next : Point) (parts more : List Portion)
+pub opened : (second : Bool) (g : ℕ) (point next : Point) (parts : List Portion)
     (old new : List ℕ) → FitBody (g + 1) next
-    → IsFilled second g point next parts more old → Torn (slot_place (not second)) 1 old new
-    → gate_at (not second) new ≡ 79 → StagedIn (not second) (g + 1) next more new
-opened second g point next parts more old new fit is torn open_now =
-    let kept = gate_kept second _ _ torn in
+    → IsFilled second g point next parts old → Torn (slot_place (not second)) 1 old new
+    → gate_at (not second) new ≡ 79 → NamedIn (not second) (g + 1) next new
+opened second g point next parts old new fit is torn open_now =
+    let kept = gate_kept second old new torn in
     let now = is.closed.staged in
     let slot : slot_at second new ≡ Some (g, point) =
     open_reads _ (body_at second new) (kept.gate ∙ now.is_open) ∙ ap body_of kept.body ∙ now.body in
@@ -87,18 +91,20 @@ opened second g point next parts more old new fit is torn open_now =
       is_open = open_now;
       body = ap body_of (torn_gate_body (not second) _ _ torn ∙ is.body) ∙ body_reads _ _ fit;
       other = next_loses second g point new slot;
-      parts_are = kept_holding _ _ _ _ _ kept is.holds;
     }
 
-pub opening : (second : Bool) (g : ℕ) (point next : Point) (parts more : List Portion)
+pub opening : (second : Bool) (g : ℕ) (point next : Point) (parts : List Portion)
     (old new : List ℕ) → FitBody (g + 1) next
-    → IsFilled second g point next parts more old → Torn (slot_place (not second)) 1 old new
-    → StagedIn second g point parts new ⊎ StagedIn (not second) (g + 1) next more new
-opening second g point next parts more old new fit is torn =
-    let kept = gate_kept second _ _ torn in
+    → IsFilled second g point next parts old → Torn (slot_place (not second)) 1 old new
+    → IsSaving second g point next parts (KeepsFrames old) new
+opening second g point next parts old new fit is torn =
+    let kept = gate_kept second old new torn in
     ⊎_elim
-    (λ yes. inr (opened second g point next parts more old new fit is torn yes.1))
-    (λ no. inl (kept_staged _ _ _ _ _ _ kept
+    (λ yes. inr (
+      opened second g point next parts old new fit is torn yes.1,
+      record { rest = kept.rest; long = kept.long },
+    ))
+    (λ no. inl (kept_staged second g point parts old new kept
     (subst (Loses second g) (sym (closed_none (gate_at (not second) new) (body_at (not second) new)
     no.1)) (none_loses second g)) is.closed.staged))
     (eqb_tells (gate_at (not second) new) 79)
@@ -184,26 +190,27 @@ filled_after second g point parts body seen may_leave c size is only (inr step) 
     (subst (λ (n : ℕ). Torn (slot_place (not second) + 1) n seen c) size torn)).staged
 
 -- the slots after the gate was opened
-pub opened_done : (second : Bool) (g : ℕ) (point next : Point) (parts more : List Portion)
-    (old new : List ℕ) → FitBody (g + 1) next → IsFilled second g point next parts more old
-    → Holds old (slot_place (not second)) (79 ∷ []) new → IsNext second (g + 1) next more new
-opened_done second g point next parts more old new fit is holds =
-    let long = place_in (not second) old (omega (arith, is.holds.long)) in
+pub opened_done : (second : Bool) (g : ℕ) (point next : Point) (parts : List Portion)
+    (old new : List ℕ) → FitBody (g + 1) next
+    → IsFilled second g point next parts old → Holds old (slot_place (not second))
+    (79 ∷ []) new → IsNext second (g + 1) next new
+opened_done second g point next parts old new fit is holds =
+    let long = place_in (not second) old (omega (arith, is.closed.staged.parts_are.long)) in
     let torn = holds_torn (slot_place (not second)) (79 ∷ []) old new (omega arith) holds in
     record {
-      staged = opened second g point next parts more old new fit is torn
+      named = opened second g point next parts old new fit is torn
           (holds_byte (slot_place (not second)) 79 old new (omega arith) holds);
       gate = (gate_kept second _ _ torn).gate ∙ is.closed.staged.is_open;
     }
 
 -- the contents that a crash may leave while the gate is opened
-pub opened_after : (second : Bool) (g : ℕ) (point next : Point) (parts more : List Portion)
+pub opened_after : (second : Bool) (g : ℕ) (point next : Point) (parts : List Portion)
     (seen : List ℕ) (may_leave : List ℕ → Type 0) (c : List ℕ) → FitBody (g + 1) next
-    → IsFilled second g point next parts more seen → Only seen may_leave
-    → After (Torn (slot_place (not second)) 1) may_leave c → IsEither second g point next parts more
-    c
-opened_after second g point next parts more seen may_leave c fit is only (inl left) =
+    → IsFilled second g point next parts seen → Only seen may_leave
+    → After (Torn (slot_place (not second)) 1) may_leave c
+    → IsSaving second g point next parts (KeepsFrames seen) c
+opened_after second g point next parts seen may_leave c fit is only (inl left) =
     inl (subst (StagedIn second g point parts) (sym (only c left)) is.closed.staged)
-opened_after second g point next parts more seen may_leave c fit is only (inr step) =
-    opening _ _ _ _ _ _ _ _ fit is
+opened_after second g point next parts seen may_leave c fit is only (inr step) =
+    opening second g point next parts seen c fit is
     (subst (λ (d : List ℕ). Torn (slot_place (not second)) 1 d c) (only step.0 step.1) step.2)

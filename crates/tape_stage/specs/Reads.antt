@@ -1,20 +1,32 @@
--- The state of a reader of parts, once its part is no longer borrowed.
+-- The state of a stage and of a reader of its parts, once a part is no longer borrowed.
 use Rattle.std.specs.Prelude.{◌≡◌, ◌-◌, [], Option, Result}
 use Rattle.std.specs.{Borrow.Fml, Borrow.RattleType, Borrow.MutBor, Io.BufRead.Rests}
 use mir.Syntax.{named}
 use Rattle.tape_stage.specs.Stages.{Holds, IsAhead, LendsNone, crashes_of}
 use Rattle.tape_stage.specs.{declared.disk.Disk.Ghosts, declared.stage.Stage.Stage}
+use Rattle.tape_core.specs.Walks.{HasGiven}
+use Rattle.tape_blocks.specs.declared.parts.Part.{Part}
+use Rattle.tape_core.specs.declared.sink.SinkFault.{SinkFault}
+use Rattle.tape_stage.specs.OnlyReading.{OnlyReads}
+use Rattle.tape_stage.specs.Stages.{SameStage}
 use Rattle.tape_stage.specs.declared.stage.part_reader.PartReader.{PartReader}
+use Rattle.tape_stage.specs.contracts.stage.Stage.{the_row as stage_row}
 use Rattle.tape_stage.specs.contracts.stage.part_reader.PartReader.{the_row}
 use Rattle.tape_core.specs.{Walks.HasGiven, declared.sink.SinkFault.SinkFault}
 use Rattle.tape_blocks.specs.declared.parts.Part.{Part}
 
--- the stage returned its next part, or refused the call
-abbrev pub StageGave : {D : Type 0} {disk : Ghosts D} → Stage D disk
-    → Result (Option Part) SinkFault → Stage D disk → Type 0
-StageGave {D} {disk} old result new = HasGiven (λ s parts. Holds s parts) (λ s. s.weight)
-    (λ s. s.refused) (λ s. crashes_of s) (λ s parts. IsAhead s parts) (λ s. s.weight - s.walked)
-    (λ s fault t. LendsNone disk s.readable s.walked s.weight s.disk fault t.disk) old result new
+-- the stage returned its next part, or refused the call; its disk was only read
+pub record StageGave {D : Type 0} {disk : Ghosts D} (old : Stage D disk)
+    (result : Result (Option Part) SinkFault) (new : Stage D disk) : Type 0 where
+  pub gave : HasGiven (λ s parts. Holds s parts) (λ s. s.weight) (λ s. s.refused)
+      (λ s. crashes_of s) (λ s parts. IsAhead s parts) (λ s. s.weight - s.walked)
+      (λ s fault t. LendsNone disk s.readable s.walked s.weight s.disk fault t.disk) old result new
+  pub same : SameStage old new
+  pub reads : OnlyReads disk old.disk new.disk
+
+abbrev pub GivesAs : (S : RattleType) (g : Ghosts S.Denot) → MutBor (Stage S.Denot g)
+    → Result (Option Part) SinkFault → Fml
+GivesAs S g stage result = Rests (stage_row S g) stage (λ new. StageGave stage.now result new)
 
 -- the reader reads the same stage, which returned its next part or refused the call
 pub record HasRead {D : Type 0} {disk : Ghosts D} (old : PartReader D disk)

@@ -71,10 +71,15 @@ pub record Ready (second : Bool) (g : ℕ) (point : Point) (parts : List Portion
   pub alike : (c : List ℕ) → may_leave c → take (256 + point.staged) c ≡ take
       (256 + point.staged) seen
 
+-- a named slot is current and has the given generation and checkpoint, whatever the frames are
+pub record NamedIn (second : Bool) (g : ℕ) (point : Point) (bytes : List ℕ) : Type 0 where
+  pub is_open : gate_at second bytes ≡ 79
+  pub body : body_of (body_at second bytes) ≡ Some (g, point)
+  pub other : Loses second g (slot_at (not second) bytes)
+
 -- the other slot is current now, and the older slot's gate is open
-pub record IsNext (second : Bool) (g : ℕ) (next : Point) (parts : List Portion)
-    (bytes : List ℕ) : Type 0 where
-  pub staged : StagedIn (not second) g next parts bytes
+pub record IsNext (second : Bool) (g : ℕ) (next : Point) (bytes : List ℕ) : Type 0 where
+  pub named : NamedIn (not second) g next bytes
   pub gate : gate_at second bytes ≡ 79
 
 -- the bytes have one generation or the next
@@ -135,3 +140,14 @@ pub record KeepsFrames (old new : List ℕ) : Type 0 where
 pub record KeepsFront (place : ℕ) (old new : List ℕ) : Type 0 where
   pub front : take place new ≡ take place old
   pub long : length old ≤ length new
+
+-- the bytes of the frames, up to the given weight, are unchanged
+abbrev pub SameFrames : ℕ → List ℕ → List ℕ → Type 0
+SameFrames weight old new = take weight (drop 256 new) ≡ take weight (drop 256 old)
+
+-- The bytes have one generation with its parts, or name the next one, and P says which frames they
+-- have.
+abbrev pub IsSaving : Bool → ℕ → Point → Point → List Portion → (List ℕ → Type 0) → List ℕ
+    → Type 0
+IsSaving second g point next parts P bytes = StagedIn second g point parts bytes
+    ⊎ (NamedIn (not second) (g + 1) next bytes × P bytes)

@@ -1,6 +1,16 @@
 -- The contents and states of a stage.
 use Rattle.std.specs.Prelude.{◌≡◌, ◌⊎◌, ℕ, ◌+◌, ◌<◌, ◌≤◌, Bool, true, false, List, Option, None}
 use Rattle.std.specs.Prelude.{Result, OnOk, IfErr, IsErrOf}
+use Rattle.std.specs.Prelude.{Some, Ok, Err}
+use Rattle.tape_stage.specs.declared.disk.Disk.{Ghosts}
+use Rattle.tape_blocks.specs.Block.{Portion}
+use Rattle.tape_core.specs.Crash.{Crashes}
+use Rattle.tape_core.specs.Known.{most_staged}
+use Rattle.tape_core.specs.Stands.{weight_of}
+use Rattle.tape_core.specs.Weight.{Rose}
+use Rattle.tape_core.specs.declared.sink.SinkFault.{SinkFault}
+use Rattle.tape_core.specs.declared.sink.SinkFault.TheVariants as sink
+use Rattle.tape_stage.specs.Body.{most_generation}
 use Rattle.tape_stage.specs.Faults.{IsNotDevice, OnBadFrame, SaysNone}
 use Rattle.tape_stage.specs.Staged.{Staged, StandsLike, Holding, HoldsNone, KeepsStaged, Ready}
 use Rattle.tape_stage.specs.declared.stage.StageFault.TheVariants.{Device, Full, Failed}
@@ -13,6 +23,14 @@ use Rattle.tape_blocks.specs.Block.{Portion}
 use Rattle.tape_core.specs.{Crash.Crashes, Known.most_staged, Stands.weight_of, Weight.Rose}
 use Rattle.tape_core.specs.{declared.sink.SinkFault.SinkFault, Point.Point}
 use Rattle.tape_core.specs.declared.sink.SinkFault.TheVariants as sink
+
+-- The state of a stage is unchanged; the position of its walk, its buffer, its count of refused
+-- calls and its disk may differ.
+abbrev pub SameStage : {D : Type 0} {disk : Ghosts D} → Stage D disk → Stage D disk → Type 0
+SameStage old new = (new.acknowledged ≡ old.acknowledged) × (new.pending ≡ old.pending)
+    × (new.weight ≡ old.weight) × (new.failed ≡ old.failed) × (new.readable ≡ old.readable)
+    × (new.generation ≡ old.generation) × (new.in_second ≡ old.in_second)
+    × (new.other_open ≡ old.other_open)
 
 -- the parts are staged, and the first of them are acknowledged
 pub record IsStaged {D : Type 0} (disk : Ghosts D) (at : D) (in_second : Bool) (generation : ℕ)
@@ -66,6 +84,22 @@ RefusesChange old sink.Failed new = old.failed ≡ true
 RefusesChange old sink.Full new = (most_staged < old.weight + (5 + longest_part))
     ⊎ (most_generation ≤ old.generation)
 RefusesChange old sink.OutOfMemory new = ⊥
+
+-- what is pending after a checkpoint was not saved: the checkpoint, if the disk failed, and
+-- otherwise what was pending before
+abbrev pub pending_after : SinkFault → Point → Option Point → Option Point
+pending_after sink.Device point old = Some point
+pending_after _ point old = old
+
+-- What is acknowledged and pending after a call that drops acknowledged parts: the checkpoint,
+-- which may only be pending if the disk failed; nothing changes if the call was refused otherwise.
+abbrev pub HasDropped : {D : Type 0} {disk : Ghosts D} → Point → Stage D disk
+    → Result (Unit {0}) SinkFault → Stage D disk → Type 0
+HasDropped point old (Ok done) new = new.acknowledged ≡ point
+HasDropped point old (Err fault) new =
+    ((fault ≡ sink.Device) × (new.acknowledged ≡ point))
+    ⊎ ((new.acknowledged ≡ old.acknowledged)
+    × (new.pending ≡ pending_after fault point old.pending))
 
 -- the state of a stage after a call was refused: failed if the disk failed, otherwise unchanged
 abbrev pub HasRefused : {D : Type 0} {disk : Ghosts D} → Stage D disk → Stage D disk → StageFault

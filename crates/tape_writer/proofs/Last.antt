@@ -4,6 +4,7 @@ use Rattle.tape_writer.proofs.Words.{append_assoc, arith, inl, inr, append-nil, 
 use Rattle.tape_writer.proofs.Words.{items_size-append, Vol1}
 use Rattle.tape_writer.specs.Tapes.{Tapes, UnderWay, Rose, Failures, Grows, WasAsked}
 use Rattle.tape_writer.specs.Lasting.{Lasting}
+use Rattle.tape_writer.specs.Lasting.{Lasts, LastsFirst}
 
 pub rose_from : (a b c : ℕ) → a ≤ b → Rose b c → Rose a c
 rose_from a b c le (inl lt) = inl (omega arith)
@@ -27,6 +28,17 @@ lasting_then H K L n m k u v w a b = record {
       };
   count = (omega (arith, a.count.0, b.count.0), omega (arith, a.count.1, b.count.1));
 }
+
+-- before the first volume: a call that leaves a size other than 0 began it
+pub first_lasts : (H : Tapes → Type 0) (u : ℕ) → LastsFirst H u → (u ≡ 0 → ⊥) → Lasts H u []
+first_lasts H u (inl none) some = absurd (some none.1)
+first_lasts H u (inr lasts) some = lasts
+
+pub lasts_then : (H K : Tapes → Type 0) (n m : Failures) (u v : ℕ) → Lasts H u []
+    → Lasting H n u K m v → Lasts K v []
+lasts_then H K n m u v x b =
+    let y = b.lasts x.more x.items x.held x.size in
+    record { more = x.more ++ y.more; items = y.items; held = y.held; size = y.size }
 
 -- an item was accepted
 pub lasting_item : (H K : Tapes → Type 0) (n m : Failures) (u v : ℕ) (x : TapeItem)

@@ -1,5 +1,5 @@
 -- Blank volumes: their labels, made from a prefix and a number, and their images.
-use Rattle.std.specs.Prelude.{◌≡◌, ◌⊎◌, ◌≤◌, ℕ, List, [], ◌∷◌, ◌++◌, length, replicate}
+use Rattle.std.specs.Prelude.{◌≡◌, ◌⊎◌, ◌≤◌, ℕ, zero, suc, List, [], ◌∷◌, ◌++◌, length, replicate}
 use Rattle.std.specs.List.{AllByRecursion}
 use Rattle.tape_label.specs.{declared.values.Vol1.Vol1, Digits.digits, Written.text_of}
 use Rattle.tape_label.specs.{Written.vol1_pieces}
@@ -26,6 +26,11 @@ blank_volume prefix n = record {
   owner = replicate 14 32;
   version = 52;
 }
+
+-- the labels of the first volumes with a prefix, as many as given
+abbrev pub blank_volumes : List ℕ → ℕ → List Vol1
+blank_volumes prefix zero = []
+blank_volumes prefix (suc n) = blank_volumes prefix n ++ blank_volume prefix (suc n) ∷ []
 
 -- the length word of a block of 80 bytes
 abbrev pub label_word : List ℕ

@@ -1,11 +1,12 @@
 -- The properties that every call preserves, whatever its result.
-use Rattle.std.specs.Prelude.{◌≡◌, ℕ, List, ◌++◌, Result, OnOk}
+use Rattle.std.specs.Prelude.{◌≡◌, ◌⊎◌, ℕ, List, [], ◌++◌, Result, OnOk}
 use Rattle.tape_image.specs.Tape.{TapeItem}
 use Rattle.tape_label.specs.declared.values.Vol1.{Vol1}
 use Rattle.tape_set.specs.Sizes.{items_size}
 use Rattle.tape_writer.specs.declared.{fault.WriteFault.WriteFault, out.TapeOut.Ghosts}
 use Rattle.tape_writer.specs.declared.{tape.Tape.Tape}
 use Rattle.tape_writer.specs.Tapes.{Tapes, UnderWay, Failures, Grows, WasAsked}
+use Rattle.tape_writer.specs.Tapes.{Ended}
 
 -- There is a current volume of the counted size, and the given volumes ended first.
 pub record Lasts (H : Tapes → Type 0) (used : ℕ) (volumes : List (List TapeItem)) : Type 0 where
@@ -13,6 +14,10 @@ pub record Lasts (H : Tapes → Type 0) (used : ℕ) (volumes : List (List TapeI
   pub items : List TapeItem
   pub held : H (UnderWay (volumes ++ more) items)
   pub size : used ≡ items_size items
+
+-- there is no volume yet and no byte was counted, or the current volume has the counted size
+abbrev pub LastsFirst : (Tapes → Type 0) → ℕ → Type 0
+LastsFirst H used = (H (Ended []) × (used ≡ 0)) ⊎ Lasts H used []
 
 -- Volumes that have ended are unchanged, the size is that of the items accepted, and no count of
 -- failures decreases.

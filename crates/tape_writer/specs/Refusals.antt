@@ -1,6 +1,6 @@
 -- The faults that the calls of a set writer return, and their causes: a fault that these
 -- definitions rule out is not returned.
-use Rattle.std.specs.Prelude.{◌≡◌, ◌<◌, ◌≤◌, ℕ, List, length}
+use Rattle.std.specs.Prelude.{◌≡◌, ◌<◌, ◌≤◌, ℕ, List, length, Option, Some, None}
 use Rattle.std.specs.List.{AllByRecursion}
 use Rattle.tape_label.specs.{declared.values.Vol1.Vol1, declared.values.Head1.Head1}
 use Rattle.tape_blocks.specs.{declared.parts.Shape.Shape, Packing.IsWritable}
@@ -13,6 +13,9 @@ use Rattle.tape_writer.specs.declared.{phase.Phase.TheVariants.Filing, course.Op
 use Rattle.tape_writer.specs.declared.{fault.WriteFault.WriteFault}
 use Rattle.tape_writer.specs.declared.{fault.WriteFault.TheVariants.Device}
 use Rattle.tape_writer.specs.declared.{fault.WriteFault.TheVariants.OutOfMemory}
+use Rattle.tape_writer.specs.declared.phase.Phase.TheVariants.{Between, Failed, Finished}
+use Rattle.tape_writer.specs.declared.fault.WriteFault.TheVariants.{FileBegun}
+use Rattle.tape_writer.specs.declared.fault.WriteFault.TheVariants as faults
 use Rattle.tape_writer.specs.Fields.{IsText, IsTextVolume, IsTextHead}
 use Rattle.tape_writer.specs.State.{HasLength}
 
@@ -20,6 +23,13 @@ use Rattle.tape_writer.specs.State.{HasLength}
 abbrev pub IsInFile : Opened → Phase → Type 0
 IsInFile file (Filing o) = o.file ≡ file
 IsInFile file _ = ⊥
+
+-- the fault with which a file is refused in the given phase, if none can begin in it
+abbrev pub closed_by : Phase → Option WriteFault
+closed_by Between = None
+closed_by (Filing o) = Some FileBegun
+closed_by Failed = Some faults.Failed
+closed_by Finished = Some faults.Finished
 
 -- why a set with the given identifier cannot be written on the given volumes
 abbrev pub IsNewFault : List ℕ → List Vol1 → WriteFault → Type 0

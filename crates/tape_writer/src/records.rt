@@ -10,7 +10,7 @@ ghost use Rattle.tape_label.specs.Widths.{IsWideVolume};
 ghost use Rattle.tape_set.specs.Tight.{least_capacity};
 ghost use Rattle.tape_writer.specs.declared.course.Course.{Course};
 ghost use Rattle.tape_writer.specs.Front.{HoldsFront, IsEndingLast, IsMidRecord};
-ghost use Rattle.tape_writer.specs.Lasting.{TapeLasts, StaysAsked};
+ghost use Rattle.tape_writer.specs.Lasting.{LastsFirst, TapeLasts, StaysAsked};
 ghost use Rattle.tape_writer.specs.Faults.{FailsWith, IsEnding, IsOfOut};
 ghost use Rattle.tape_writer.specs.Labels.{IsReady};
 ghost use Rattle.tape_writer.specs.Draft.{IsRoomy};
@@ -222,6 +222,8 @@ pub(crate) fn begin<T: TapeOut>(
         IsWaiting (T.holds tape.old.out) volumes.now capacity set_id tape.old.course told
         → IfErr result (λ _. (course : Course) × IsFiling (HoldsFront (T.holds tape.new.out))
         volumes.now capacity set_id file.now course p told [])) }
+    ensures first { tape.old.course.volume ≡ 0 → T.holds tape.old.out (Ended [])
+        → tape.old.course.used ≡ 0 → LastsFirst (T.holds tape.new.out) tape.new.course.used }
     ensures asked { StaysAsked T.TapeOut volumes.now tape.old result tape.new }
     ensures out { IfErr result IsOfOut }
     ensures lasting { TapeLasts T.TapeOut tape.old tape.new }

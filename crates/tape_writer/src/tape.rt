@@ -8,10 +8,12 @@ ghost use Rattle.tape_image.specs.Tape.{mark as mark_item};
 ghost use Rattle.tape_label.specs.Kinds.{IsSecond};
 ghost use Rattle.tape_label.specs.declared.values.Vol1.{Vol1};
 ghost use Rattle.tape_set.specs.Sizes.{item_size};
-ghost use Rattle.tape_writer.specs.Tapes.{Tapes, UnderWay, Takes, Keeps, Changes, all_volumes};
+ghost use Rattle.tape_writer.specs.Tapes.{Tapes, Ended, UnderWay, Takes, Keeps, Changes};
+ghost use Rattle.tape_writer.specs.Tapes.{all_volumes};
 ghost use Rattle.tape_writer.specs.Front.{HoldsFront};
 ghost use Rattle.tape_writer.specs.Lasting.{TapeLasts};
 ghost use Rattle.tape_writer.specs.Draft.{added_course, changed_course, changed_tapes};
+ghost use Rattle.tape_writer.specs.Lasting.{LastsFirst};
 ghost use Rattle.tape_writer.specs.Faults.{FailsWith, IsOfOut};
 ghost use Rattle.tape_writer.specs.Labels.{IsReady, header_items, trailer_items, volume_label};
 ghost use Rattle.tape_writer.specs.Labels.{second_label, second_kind, trailer_label};
@@ -190,6 +192,8 @@ impl<T: TapeOut> Tape<T> {
         ensures front { (tapes : Tapes) → T.holds self.old.out tapes
             → HoldsFront (T.holds self.new.out)
             (UnderWay (all_volumes tapes) (block_item (volume_label volume.now) ∷ [])) }
+        ensures first { T.holds self.old.out (Ended []) → self.old.course.used ≡ 0
+            → LastsFirst (T.holds self.new.out) self.new.course.used }
         ensures course { OnOk result (self.new.course
             ≡ record self.old.course { volume = self.old.course.volume + 1; used = 88 }) }
         ensures lasting { TapeLasts T.TapeOut self.old self.new }

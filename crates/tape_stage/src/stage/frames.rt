@@ -1,15 +1,16 @@
 //! Frames (the header and content of a part): walking, reading and truncating them.
 
 ghost use Rattle.std.specs.Prelude.{◌≡◌, ◌+◌, ◌≤◌, ◌<◌, ◌∷◌, List, length, OnOk};
-ghost use Rattle.std.specs.Prelude.{OnErr, IfOk, MatchOption, take, drop, IsErrOf, true, false, IfErr, IfSome, None};
-ghost use Rattle.std.specs.Prelude.{◌⊎◌};
+ghost use Rattle.std.specs.Prelude.{OnErr, IfOk, MatchOption, take, drop, IsErrOf, true, false};
+ghost use Rattle.std.specs.Prelude.{◌⊎◌, IfErr, IfSome, None};
 ghost use Rattle.std.specs.Int.{to_be_bytes};
 ghost use Rattle.std.proofs.Common.{w32};
 ghost use Rattle.tape_blocks.specs.Block.{Portion, indicator};
 ghost use Rattle.tape_core.specs.Weight.{Rose};
 ghost use Rattle.tape_core.specs.Known.{most_staged};
 ghost use Rattle.tape_stage.specs.Body.{most_generation};
-ghost use Rattle.tape_stage.specs.Staged.{IsNoHeader, StagedIn, IsEither};
+ghost use Rattle.tape_stage.specs.Staged.{IsNoHeader, StagedIn, IsEither, IsSaving};
+ghost use Rattle.tape_stage.specs.Staged.{FrontOf, SameFrames};
 ghost use Rattle.tape_stage.specs.Salvaged.{WalkedIn, WalkedOver};
 ghost use Rattle.tape_stage.specs.OnlyReading.{OnlyReads};
 ghost use Rattle.tape_stage.specs.Parts.{longest_part, IsFront};
@@ -174,6 +175,10 @@ impl<D: Disk> Stage<D> {
         ensures any_moment { D.is_honest self.old.disk → (acked parts : List Portion)
             → IsStage self.old acked parts → Passes D.Disk self.old.disk self.new.disk
             (StagedIn self.old.in_second self.old.generation self.old.acknowledged acked) }
+        ensures cut { D.is_honest self.old.disk → OnOk result
+            (D.seen self.new.disk ≡ take (256 + staged) (D.seen self.old.disk)) }
+        ensures crash { D.is_honest self.old.disk → Passes D.Disk self.old.disk self.new.disk
+            (FrontOf (256 + staged) (D.may_leave self.old.disk)) }
         ensures device { IfErr result (λ fault. fault ≡ StageFault.Device) }
         ensures weight { OnOk result (self.new.weight ≡ staged) }
         ensures acknowledged { self.new.acknowledged ≡ self.old.acknowledged }
@@ -208,13 +213,23 @@ impl<D: Disk> Stage<D> {
             → IsStage self.old acked parts → IsFront point.now.staged front parts
             → Passes D.Disk self.old.disk self.new.disk (IsEither self.old.in_second
             self.old.generation self.old.acknowledged point.now acked front) }
+        ensures any_point { D.is_honest self.old.disk → (acked parts : List Portion)
+            → IsStage self.old acked parts
+            → Passes D.Disk self.old.disk self.new.disk (IsSaving self.old.in_second
+            self.old.generation self.old.acknowledged point.now acked
+            (SameFrames point.now.staged (D.seen self.old.disk))) }
+        ensures frames { D.is_honest self.old.disk → OnOk result (SameFrames point.now.staged
+            (D.seen self.old.disk) (D.seen self.new.disk)) }
         ensures weight { OnOk result (self.new.weight ≡ point.now.staged) }
         ensures full { IsErrOf result StageFault.Full → most_generation ≤ self.old.generation }
-        ensures stays { (self.new.acknowledged ≡ self.old.acknowledged)
-            ⊎ (self.new.acknowledged ≡ point.now) }
-        ensures pending { IsErrOf result StageFault.Device
-            → (self.new.pending ≡ self.old.pending)
-            ⊎ (self.new.pending ≡ Some point.now) ⊎ (self.new.acknowledged ≡ point.now) }
+        ensures stays { self.old.acknowledged.staged ≤ point.now.staged
+            → (self.new.acknowledged ≡ self.old.acknowledged)
+            × (self.new.pending ≡ self.old.pending) }
+        ensures drops { point.now.staged < self.old.acknowledged.staged
+            → OnOk result (self.new.acknowledged ≡ point.now)
+            × (IsErrOf result StageFault.Device → (self.new.acknowledged ≡ point.now)
+            ⊎ ((self.new.acknowledged ≡ self.old.acknowledged)
+            × (self.new.pending ≡ Some point.now))) }
         ensures usable { OnOk result ((self.new.failed ≡ false)
             × (self.new.readable ≡ self.old.readable)) }
         ensures ends { EndsCall self.old result self.new }

@@ -1,7 +1,7 @@
 //! The parts of a stage, one after another.
 ghost use Rattle.std.specs.Prelude.{◌≡◌, List};
 ghost use Rattle.tape_blocks.specs.Block.{Portion};
-ghost use Rattle.tape_stage.specs.Stages.{Holds, IsAhead};
+ghost use Rattle.tape_stage.specs.Stages.{Holds, IsAhead, SameStage};
 
 use crate::disk::Disk;
 use crate::stage::Stage;
@@ -34,12 +34,9 @@ impl<D: Disk> Stage<D> {
     /// Returns a reader of the parts, starting with the first.
     pub fn parts(&mut self) -> PartReader<'_, D>
         ensures same_stage { result.stage.ghost_name ≡ self.entry.ghost_name }
-        ensures unchanged { let now = result.stage.now in let old = self.old in
-            (now.disk ≡ old.disk) × (now.weight ≡ old.weight) × (now.failed ≡ old.failed)
-            × (now.refused ≡ old.refused) × (now.acknowledged ≡ old.acknowledged)
-            × (now.pending ≡ old.pending) × (now.generation ≡ old.generation)
-            × (now.readable ≡ old.readable) × (now.in_second ≡ old.in_second)
-            × (now.other_open ≡ old.other_open) }
+        ensures unchanged { SameStage self.old result.stage.now
+            × (result.stage.now.disk ≡ self.old.disk)
+            × (result.stage.now.refused ≡ self.old.refused) }
         ensures keeps { (parts : List Portion) → Holds self.old parts
             → Holds result.stage.now parts }
         ensures all { (parts : List Portion) → Holds self.old parts

@@ -1,7 +1,7 @@
 //! A stage as a sink: appending parts, saving and walking.
 
 ghost use Rattle.std.specs.Prelude.{◌≡◌, ◌+◌, ◌≤◌, ◌<◌, ◌^◌, ◌∷◌, ◌++◌, [], List, length};
-ghost use Rattle.std.specs.Prelude.{OnOk, OnErr, IsErrOf, ◌-◌, ◌⊎◌, Err, Some, true, false};
+ghost use Rattle.std.specs.Prelude.{OnOk, OnErr, IsErrOf, ◌-◌, Err, true, false};
 ghost use Rattle.std.specs.Int.{to_be_bytes};
 ghost use Rattle.std.proofs.Common.{w32, inr};
 ghost use Rattle.tape_blocks.specs.Block.{Portion, indicator};
@@ -14,8 +14,9 @@ ghost use Rattle.std.specs.Prelude.{IfErr, ◌≢◌};
 ghost use Rattle.tape_core.specs.Known.{most_staged};
 ghost use Rattle.tape_stage.specs.Moments.{Passes};
 ghost use Rattle.tape_stage.specs.Staged.{StagedIn, IsPut, FrontOf, KeepsFront};
+ghost use Rattle.tape_stage.specs.Staged.{IsSaving, SameFrames};
 ghost use Rattle.tape_stage.specs.Stages.{IsStage, EndsCall, Holds, IsAhead, LendsNone, crashes_of};
-ghost use Rattle.tape_stage.specs.Stages.{RefusesChange};
+ghost use Rattle.tape_stage.specs.Stages.{HasDropped, RefusesChange, SameStage, pending_after};
 ghost use Rattle.tape_stage.specs.Disk.{SameFact};
 ghost use Rattle.tape_stage.specs.Parts.{longest_part};
 ghost use Rattle.tape_stage.specs.Faults.{sink_fault_of};
@@ -200,7 +201,8 @@ impl<D: Disk> PartSink for Stage<D> {
         ensures full { result ≡ Err SinkFault.Full → most_generation ≤ self.old.generation }
         ensures acknowledged { OnOk result (self.new.acknowledged ≡ point.now) }
         ensures stays { OnErr result (self.new.acknowledged ≡ self.old.acknowledged) }
-        ensures pending { result ≡ Err SinkFault.Device → self.new.pending ≡ Some point.now }
+        ensures pending { IfErr result (λ fault.
+            self.new.pending ≡ pending_after fault point.now self.old.pending) }
         ensures usable { OnOk result ((self.new.failed ≡ false)
             × (self.new.readable ≡ self.old.readable)) }
         ensures device { result ≡ Err SinkFault.Device → self.new.failed ≡ true }
@@ -217,7 +219,15 @@ impl<D: Disk> PartSink for Stage<D> {
     fn cut_to(&mut self, point: &Checkpoint) -> Result<(), SinkFault>
         requires { point.now.staged ≤ self.old.weight }
         ensures alive { OnOk result (self.old.failed ≡ false) }
-        ensures weight { OnOk result (self.new.weight ≤ point.now.staged) }
+        ensures weight { OnOk result (self.new.weight ≡ point.now.staged) }
+        // A part that the weight divides keeps its first bytes, and has no valid frame any more.
+        ensures frames { D.is_honest self.old.disk → OnOk result (SameFrames point.now.staged
+            (D.seen self.old.disk) (D.seen self.new.disk)) }
+        ensures any_point { D.is_honest self.old.disk → (acked parts : List Portion)
+            → IsStage self.old acked parts
+            → Passes D.Disk self.old.disk self.new.disk (IsSaving self.old.in_second
+            self.old.generation self.old.acknowledged point.now acked
+            (SameFrames point.now.staged (D.seen self.old.disk))) }
         ensures same_weight { OnErr result (self.new.weight ≡ self.old.weight) }
         ensures ok { OnOk result ((front rest : List Portion) → Holds self.old (front ++ rest)
             → weight_of front ≡ point.now.staged → Holds self.new front) }
@@ -231,10 +241,11 @@ impl<D: Disk> PartSink for Stage<D> {
         ensures why { IfErr result (λ fault. RefusesChange self.old fault self.new) }
         ensures full { result ≡ Err SinkFault.Full → most_generation ≤ self.old.generation }
         ensures rewinds { OnOk result (self.new.walked ≡ 0) }
-        ensures stays { (self.new.acknowledged ≡ self.old.acknowledged)
-            ⊎ (self.new.acknowledged ≡ point.now) }
-        ensures pending { result ≡ Err SinkFault.Device → (self.new.pending ≡ self.old.pending)
-            ⊎ (self.new.pending ≡ Some point.now) ⊎ (self.new.acknowledged ≡ point.now) }
+        ensures stays { self.old.acknowledged.staged ≤ point.now.staged
+            → (self.new.acknowledged ≡ self.old.acknowledged)
+            × (self.new.pending ≡ self.old.pending) }
+        ensures drops { point.now.staged < self.old.acknowledged.staged
+            → HasDropped point.now self.old result self.new }
         ensures usable { OnOk result ((self.new.failed ≡ false)
             × (self.new.readable ≡ self.old.readable)) }
         ensures device { result ≡ Err SinkFault.Device → self.new.failed ≡ true }
@@ -257,6 +268,9 @@ impl<D: Disk> PartSink for Stage<D> {
 }
 
 impl<D: Disk> PartWalk for Stage<D> {
+    ghost use Rattle.std.specs.Borrow.{sem};
+    ghost use Rattle.tape_stage.specs.Reads.{GivesAs};
+
     ghost ahead = { λ s parts. IsAhead s parts };
 
     ghost left = { λ s. s.weight - s.walked };
@@ -264,12 +278,22 @@ impl<D: Disk> PartWalk for Stage<D> {
     ghost refuses = { λ s fault t.
         LendsNone D.Disk s.readable s.walked s.weight s.disk fault t.disk };
 
-    fn rewind(&mut self) {
+    fn rewind(&mut self)
+        ensures keeps { (parts : List Portion) → Holds self.old parts → Holds self.new parts }
+        ensures all { (parts : List Portion) → Holds self.old parts → IsAhead self.new parts }
+        ensures crash { AddsNothing (crashes_of self.old) (crashes_of self.new) }
+        ensures unchanged { SameStage self.old self.new × (self.new.disk ≡ self.old.disk)
+            × (self.new.refused ≡ self.old.refused) }
+    {
+        // Nothing is read before a part is requested.
         self.walked = 0;
     }
 
     #[inline(always)]
-    fn next_part(&mut self) -> Result<Option<Part<'_>>, SinkFault> {
+    #[tactic(auto, using(crate::proofs::Passing::only_reads_self))]
+    fn next_part(&mut self) -> Result<Option<Part<'_>>, SinkFault>
+        ensures* after_borrow { sem 𝓛 (GivesAs D.row D.Disk self.entry result) }
+    {
         if !self.readable {
             self.refused = self.refused.saturating_add(1);
             return Err(SinkFault::Failed);

@@ -7,8 +7,8 @@ ghost use Rattle.tape_core.specs.Point.{Point};
 ghost use Rattle.tape_stage.specs.Body.{most_generation};
 ghost use Rattle.tape_stage.specs.Moments.{EndsSynced, Passes};
 ghost use Rattle.tape_stage.specs.Parts.{IsFront};
-ghost use Rattle.tape_stage.specs.Staged.{Holding, IsEither, KeepsFrames, Staged, slot_place};
-ghost use Rattle.tape_stage.specs.Staged.{StagedIn, IsClosed, IsNext, Ready};
+ghost use Rattle.tape_stage.specs.Staged.{IsEither, IsSaving, KeepsFrames, Staged, slot_place};
+ghost use Rattle.tape_stage.specs.Staged.{StagedIn, NamedIn, IsClosed, IsNext, Ready, SameFrames};
 ghost use Rattle.tape_stage.specs.Stages.{IsStage, EndsCall};
 
 use crate::disk::{Disk, DiskFault};
@@ -57,6 +57,16 @@ impl<D: Disk> Stage<D> {
             → IsStage self.old acked parts → IsFront point.now.staged front parts
             → Passes D.Disk self.old.disk self.new.disk (IsEither self.old.in_second
             self.old.generation self.old.acknowledged point.now acked front) }
+        // A checkpoint inside a part is saved too. The frames stay as they are, so the stage has no
+        // valid frame at that part from then on.
+        ensures any_point { D.is_honest self.old.disk → (acked parts : List Portion)
+            → IsStage self.old acked parts
+            → Passes D.Disk self.old.disk self.new.disk (IsSaving self.old.in_second
+            self.old.generation self.old.acknowledged point.now acked
+            (KeepsFrames (D.seen self.old.disk)))
+            × OnOk result ((bytes : List ℕ) → D.may_leave self.new.disk bytes
+            → NamedIn (not self.old.in_second) (self.old.generation + 1) point.now bytes
+            × KeepsFrames (D.seen self.old.disk) bytes) }
         ensures acknowledged { OnOk result (self.new.acknowledged ≡ point.now) }
         ensures stays { OnErr result (self.new.acknowledged ≡ self.old.acknowledged) }
         ensures weight { self.new.weight ≡ self.old.weight }
@@ -122,6 +132,17 @@ impl<D: Disk> Stage<D> {
             → IsStage self.old acked parts → IsFront point.now.staged front parts
             → Passes D.Disk self.old.disk self.new.disk (IsEither self.old.in_second
             self.old.generation self.old.acknowledged point.now acked front) }
+        // The same for a checkpoint inside a part, whose first bytes remain.
+        ensures any_point { D.is_honest self.old.disk → (acked parts : List Portion)
+            → IsStage self.old acked parts
+            → Passes D.Disk self.old.disk self.new.disk (IsSaving self.old.in_second
+            self.old.generation self.old.acknowledged point.now acked
+            (SameFrames point.now.staged (D.seen self.old.disk)))
+            × OnOk result ((bytes : List ℕ) → D.may_leave self.new.disk bytes
+            → NamedIn (not self.old.in_second) (self.old.generation + 1) point.now bytes
+            × SameFrames point.now.staged (D.seen self.old.disk) bytes) }
+        ensures frames { D.is_honest self.old.disk → OnOk result (SameFrames point.now.staged
+            (D.seen self.old.disk) (D.seen self.new.disk)) }
         ensures weight { OnOk result (self.new.weight ≡ point.now.staged) }
         ensures acknowledged { OnOk result (self.new.acknowledged ≡ point.now) }
         ensures stays { OnErr result ((self.new.acknowledged ≡ self.old.acknowledged)
@@ -185,16 +206,15 @@ pub(crate) fn replace_slot<D: Disk>(
     requires room { 256 ≤ D.length_of disk.old }
     requires fits { generation < 10 ^ 15 }
     ensures done { D.is_honest disk.old → OnOk result
-        ((g : ℕ) (point : Point) (parts more : List Portion) → g + 1 ≡ generation
+        ((g : ℕ) (point : Point) (parts : List Portion) → g + 1 ≡ generation
         → Ready in_second g point parts is_open (D.seen disk.old) (D.may_leave disk.old)
-        → Holding next.staged more (D.seen disk.old)
-        → IsNext in_second generation next more (D.seen disk.new)) }
+        → IsNext in_second generation next (D.seen disk.new)) }
     ensures frames { D.is_honest disk.old → KeepsFrames (D.seen disk.old) (D.seen disk.new) }
-    ensures any_moment { D.is_honest disk.old → (g : ℕ) (point : Point) (parts more : List Portion)
+    ensures any_moment { D.is_honest disk.old → (g : ℕ) (point : Point) (parts : List Portion)
         → g + 1 ≡ generation
         → Ready in_second g point parts is_open (D.seen disk.old) (D.may_leave disk.old)
-        → Holding next.staged more (D.seen disk.old)
-        → Passes D.Disk disk.old disk.new (IsEither in_second g point next parts more) }
+        → Passes D.Disk disk.old disk.new
+        (IsSaving in_second g point next parts (KeepsFrames (D.seen disk.old))) }
     ensures long { OnOk result (D.length_of disk.new ≡ D.length_of disk.old) }
     ensures synced { EndsSynced D.Disk disk.old result disk.new }
 {

@@ -1,13 +1,14 @@
 //! Writes files from inputs.
 ghost use Rattle.std.specs.Prelude.{◌≡◌, ◌<◌, ◌≤◌, ◌++◌, ◌+◌, ◌∷◌, [], List, length, map};
-ghost use Rattle.std.specs.Prelude.{◌⊎◌, OnOk, IfErr, IfSome};
+ghost use Rattle.std.specs.Prelude.{◌⊎◌, OnOk, IfErr, IfSome, Some, Ok, Err};
 ghost use Rattle.tape_image.specs.Reader.{IfKnown};
 ghost use Rattle.tape_blocks.specs.Packing.{IsWritable};
 ghost use Rattle.tape_set.specs.Tight.{least_capacity};
 ghost use Rattle.tape_writer.specs.Tapes.{Grows, Rose};
 ghost use Rattle.tape_writer.specs.Told.{Told, opened_by, with_file};
 ghost use Rattle.tape_writer.specs.State.{IsWriting, SameSet};
-ghost use Rattle.tape_writer.specs.Refusals.{IsInFile};
+ghost use Rattle.tape_writer.specs.Refusals.{IsInFile, closed_by};
+ghost use Rattle.tape_writer.specs.declared.fault.WriteFault.{WriteFault};
 ghost use Rattle.tape_writer.specs.declared.course.Opened.{Opened};
 ghost use Rattle.tape_writer.specs.declared.phase.Phase.TheVariants.{Between};
 ghost use Rattle.tape_writer.specs.Records.{records_of, to_come, left_of, longest as longest_of};
@@ -39,9 +40,9 @@ pub struct Input<R> {
 ///
 /// # Errors
 ///
-/// Returns `Write` with the writer's fault, with `RecordLength` as soon as a record is longer than
-/// the shape allows, and with `OutOfMemory` if an allocation of this function fails; `ReadFailed`
-/// if an input fails.
+/// Returns `Write` with the writer's fault (`Failed` if it failed before; then it is unchanged),
+/// with `RecordLength` as soon as a record is longer than the shape allows, and with `OutOfMemory`
+/// if an allocation of this function fails; `ReadFailed` if an input fails.
 pub fn write_files<T: TapeOut + Drop, R: Read>(
     alloc: Global,
     writer: &mut SetWriter<T>,
@@ -63,6 +64,11 @@ pub fn write_files<T: TapeOut + Drop, R: Read>(
         → (told : List Told) → IsWriting (T.holds writer.old.out) writer.old told
         → GaveUpIn (T.holds writer.new.out) writer.new writer.old.set_id told shape cut
         (map (λ f. (f.head, R.remaining f.reader)) files.old)) }
+    // A writer in which no file can begin refuses the first one. Without files nothing is done.
+    ensures closed { (fault : WriteFault) → closed_by writer.old.phase ≡ Some fault
+        → 0 < length files.old
+        → (result ≡ Err (SetFault.Write fault)) × (writer.new ≡ writer.old) }
+    ensures none { length files.old ≡ 0 → (result ≡ Ok tt) × (writer.new ≡ writer.old) }
     // If no file of the shape can be written, nothing was written.
     ensures unfit { writer.old.phase ≡ Between
         → (IsWritable shape → least_capacity shape ≤ writer.old.capacity → ⊥)
@@ -112,6 +118,8 @@ fn write_file<T: TapeOut + Drop, R: Read>(
         → (told : List Told) → IsWriting (T.holds writer.old.out) writer.old told
         → IfSome (R.remaining input.old) (λ bytes. GaveUp (T.holds writer.new.out) writer.new
         (with_file writer.old.set_id told head shape) (records_of cut bytes))) }
+    ensures closed { (fault : WriteFault) → closed_by writer.old.phase ≡ Some fault
+        → (result ≡ Err (SetFault.Write fault)) × (writer.new ≡ writer.old) }
     ensures unfit { writer.old.phase ≡ Between
         → (IsWritable shape → least_capacity shape ≤ writer.old.capacity → ⊥)
         → (writer.new ≡ writer.old) × OnOk result ⊥ }

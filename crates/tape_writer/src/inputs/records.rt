@@ -69,13 +69,15 @@ impl<R: Read + Drop> Records<R> {
     ///
     /// Returns `ReadFailed` if the reader returns an error; `TooLong` as soon as the bytes read
     /// show that the record is longer than the limit, whatever follows; `OutOfMemory`. After an
-    /// error nothing more can be read.
+    /// error `record` returns the bytes that were read of the record; a further call drops them,
+    /// and takes the bytes after them for a new record.
     pub fn next(&mut self) -> Result<bool, InputFault>
         ensures given { IfOk result (λ more.
             IfKnown (left_of R.remaining self.old) (left_of R.remaining self.new) (λ xs ys.
             to_come self.old.cut self.old.over xs
             ≡ given more self.new.content.items (to_come self.new.cut self.new.over ys))) }
         ensures end { IfOk result (λ more. more ≡ false → self.new.over ≡ true) }
+        ensures goes_on { OnErr result (self.new.over ≡ false) }
         // Even after an error, at most `limit` bytes of a record are kept.
         ensures within { length self.new.content.items ≤ self.old.limit }
         ensures long { IfErr result (λ fault. fault ≡ InputFault.TooLong

@@ -1,19 +1,20 @@
 //! Begins files.
 
 ghost use Rattle.std.specs.Prelude.{◌≡◌, ◌≢◌, ◌<◌, ◌≤◌, ◌+◌, [], List, length, OnOk};
-ghost use Rattle.std.specs.Prelude.{◌⊎◌, IfErr, Err, false};
+ghost use Rattle.std.specs.Prelude.{◌⊎◌, IfErr, Err, Some, false};
 ghost use Rattle.tape_blocks.specs.Packing.{IsWritable};
 ghost use Rattle.tape_set.specs.Tight.{least_capacity};
 ghost use Rattle.tape_writer.specs.Fields.{IsTextHead};
-ghost use Rattle.tape_writer.specs.Tapes.{Rose};
-ghost use Rattle.tape_writer.specs.Lasting.{TapeLasts};
+ghost use Rattle.tape_writer.specs.Tapes.{Ended, Rose};
+ghost use Rattle.tape_writer.specs.Lasting.{LastsFirst, TapeLasts};
 ghost use Rattle.tape_writer.specs.Faults.{FailsByDevice, IsEnding, IsOfOut};
 ghost use Rattle.tape_writer.specs.Front.{IsLeftBehind, IsLeftInside};
 ghost use Rattle.tape_writer.specs.Told.{Told, opened_by, with_file};
-ghost use Rattle.tape_writer.specs.State.{IsWriting, Leaves, Refuses, IfFiling, tape_of, HasAsked};
+ghost use Rattle.tape_writer.specs.State.{IsWriting, Leaves, Refuses, tape_of, HasAsked};
 ghost use Rattle.tape_writer.specs.State.{SameSet};
-ghost use Rattle.tape_writer.specs.Refusals.{IsBeginFault, IsInFile};
-ghost use Rattle.tape_writer.specs.declared.phase.Phase.TheVariants.{Between, Failed, Finished};
+ghost use Rattle.tape_writer.specs.Refusals.{IsBeginFault, IsInFile, closed_by};
+ghost use Rattle.tape_writer.specs.declared.phase.Phase.TheVariants.{Between};
+ghost use Rattle.tape_writer.specs.declared.fault.WriteFault.{WriteFault};
 
 use crate::course::Opened;
 use crate::fault::WriteFault;
@@ -47,12 +48,8 @@ impl<T: TapeOut + Drop> SetWriter<T> {
     #[tactic(auto, using(crate::proofs::Last::lasting_self, crate::proofs::Calls::leaves_failed))]
     pub fn begin_file(&mut self, head: Head1, shape: Shape) -> Result<(), WriteFault>
         ensures same { SameSet self.old self.new }
-        ensures failed { self.old.phase ≡ Failed
-            → Refuses self.old result self.new WriteFault.Failed }
-        ensures finished { self.old.phase ≡ Finished
-            → Refuses self.old result self.new WriteFault.Finished }
-        ensures begun { IfFiling self.old.phase
-            (λ _. Refuses self.old result self.new WriteFault.FileBegun) }
+        ensures closed { (fault : WriteFault) → closed_by self.old.phase ≡ Some fault
+            → Refuses self.old result self.new fault }
         ensures field { self.old.phase ≡ Between → (IsTextHead head → ⊥)
             → Refuses self.old result self.new WriteFault.BadField }
         ensures shape { self.old.phase ≡ Between → IsTextHead head → (IsWritable shape → ⊥)
@@ -73,6 +70,9 @@ impl<T: TapeOut + Drop> SetWriter<T> {
         ensures opened { OnOk result (IsInFile
             (opened_by self.old.set_id (length self.old.files + 1) head shape) self.new.phase) }
         ensures files { OnOk result (length self.new.files ≡ length self.old.files + 1) }
+        // Also if the first file fails, the counted size is that of the volume.
+        ensures first { self.old.course.volume ≡ 0 → T.holds self.old.out (Ended [])
+            → self.old.course.used ≡ 0 → LastsFirst (T.holds self.new.out) self.new.course.used }
         // One more file was passed, without records.
         ensures told { (told : List Told) → IsWriting (T.holds self.old.out) self.old told
             → OnOk result (IsWriting (T.holds self.new.out) self.new
@@ -120,9 +120,8 @@ impl<T: TapeOut + Drop> SetWriter<T> {
 
     /// Checks that a file with this head and shape can begin now.
     fn judge_file(&self, head: &Head1, shape: &Shape) -> Result<(), WriteFault>
-        ensures failed { self.now.phase ≡ Failed → result ≡ Err WriteFault.Failed }
-        ensures finished { self.now.phase ≡ Finished → result ≡ Err WriteFault.Finished }
-        ensures begun { IfFiling self.now.phase (λ _. result ≡ Err WriteFault.FileBegun) }
+        ensures closed { (fault : WriteFault) → closed_by self.now.phase ≡ Some fault
+            → result ≡ Err fault }
         ensures field { self.now.phase ≡ Between → (IsTextHead head.now → ⊥)
             → result ≡ Err WriteFault.BadField }
         ensures shape { self.now.phase ≡ Between → IsTextHead head.now

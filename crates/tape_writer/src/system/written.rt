@@ -1,6 +1,6 @@
 //! Writes a set to image files in a directory.
-ghost use Rattle.std.specs.Prelude.{◌≡◌, ◌≢◌};
-ghost use Rattle.tape_writer.specs.Blank.{volume_id};
+ghost use Rattle.std.specs.Prelude.{◌≡◌, ◌≢◌, IfOk};
+ghost use Rattle.tape_writer.specs.Blank.{blank_volumes, volume_id};
 ghost use Rattle.tape_writer.specs.System.{of_set};
 
 use crate::blank::{Prefix, blank_volume};
@@ -59,10 +59,12 @@ pub fn write_in_folder<R: Host, I: Read>(
 }
 
 /// Returns the volumes that a set may use.
-fn volumes_of(alloc: Global, prefix: Prefix) -> Result<Vec<Vol1>, AllocError> {
+fn volumes_of(alloc: Global, prefix: Prefix) -> Result<Vec<Vol1>, AllocError>
+    ensures { IfOk result (λ volumes. volumes.items ≡ blank_volumes prefix.characters 256) }
+{
     let mut volumes = Vec::new(alloc);
-    for number in 1..=VOLUMES {
-        volumes.push(blank_volume(prefix, number))?;
+    for before in 0..VOLUMES {
+        volumes.push(blank_volume(prefix, before + 1))?;
     }
     Ok(volumes)
 }

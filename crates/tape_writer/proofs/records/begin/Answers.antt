@@ -6,6 +6,9 @@ use Rattle.tape_writer.specs.{Inside.IsWaiting, Labels.header_items, Tapes.Ended
 use Rattle.tape_writer.proofs.records.begin.Goals.{then-tape-eq0+in_ok-begin_volume, else-tape-eq0}
 use Rattle.tape_writer.proofs.{Ends.between_first, Ends.filing_begun, Fronts.front_items}
 use Rattle.tape_writer.proofs.{Fronts.err_any, Held.got, Left.unbegun, Left.is_begun}
+use Rattle.std.proofs.Common.{◌≡◌, ap, [], inr}
+use Rattle.tape_writer.specs.{Lasting.Lasts}
+use Rattle.tape_writer.proofs.Last.{first_lasts, lasts_then}
 use Rattle.tape_writer.proofs.records.begin.Goals as goal
 
 pub returns-in_err-begin_volume-clause-front : goal.returns-in_err-begin_volume-clause-front
@@ -77,3 +80,20 @@ returns-clause-front g c = λ set_id told p s f e k.
           (Ok tt) c.requires.ready s f e (under_way g c set_id told k) c.begin_section.ensures.front
           refl,
     ))
+
+pub returns-in_err-begin_volume-clause-first : goal.returns-in_err-begin_volume-clause-first
+returns-in_err-begin_volume-clause-first g c = λ zero h none. c.begin_volume.ensures.first h none
+
+pub returns-clause-first : goal.returns-clause-first
+returns-clause-first g c = λ zero h none.
+    let IsNow : Tape _ → Type 0 = λ z. Lasts (g.T.TapeOut.holds z.out) z.course.used [] in
+    let now : IsNow c.if-tape-eq0.tape = elim c.if-tape-eq0.branch [
+      | then-tape-eq0+in_ok-begin_volume w ↦
+          let course = w.in_ok-begin_volume.ensures.course in
+          subst IsNow (sym w.tape-is) (first_lasts _ _ (w.begin_volume.ensures.first h none)
+          (λ e. omega (arith, e, ap (λ (z : Course). z.used) course)))
+      | else-tape-eq0 w ↦
+          let some : c.args.tape.now.course.volume ≡ 0 → ⊥ = search rules in
+          absurd (some zero)
+    ] in
+    inr (lasts_then _ _ _ _ _ _ now c.begin_section.ensures.lasting)

@@ -1,7 +1,20 @@
-use Rattle.std.proofs.Common.{◌≡◌, ◌<◌, ◌-◌, suc, take, subst, arith}
-use Rattle.tape_core.specs.{Stands.weight_of, Weight.IsFront, Memory.portions}
-use Rattle.tape_core.proofs.Weights.{front_of_less, front_of_all, front_has_parts}
+use Rattle.std.proofs.Common.{◌≡◌, ◌<◌, ◌-◌, suc, length, take, drop, sym, ap, arith}
+use Rattle.std.proofs.lemmas.List.{length-drop, take-append-drop}
+use Rattle.tape_core.specs.{Stands.weight_of, Memory.portions}
+use Rattle.tape_core.proofs.Weights.{weight_of-more, front_has_parts}
 use Rattle.tape_core.proofs.memory.MemorySink.front.Goals as goal
+
+pub loop-number-init : goal.loop-number-init
+loop-number-init c =
+    let all = portions c.args.self.now in (
+      omega (arith, c.count-number.ensures),
+      λ part parts is. absurd (omega (
+        arith,
+        c.count-number.ensures,
+        length-drop c.count-number.result all,
+        ap length is,
+      )),
+    )
 
 pub overflow_sub-number : goal.overflow_sub-number
 overflow_sub-number c =
@@ -19,13 +32,20 @@ loop-number-preserved c =
     let some = front_has_parts n all c.args.most more in
     let one : n ≡ suc (n - 1) = omega (arith, some) in (
       omega (arith, c.loop-number.invariant.0),
-      λ front is w. front_of_less (n - 1) front all
-          (subst (λ k. IsFront front (take k all)) one (c.loop-number.invariant.1 front is w))
-          (subst (λ k. weight_of front < weight_of (take k all)) one (omega (arith, w, more))),
+      λ part parts is. omega (
+        arith,
+        more,
+        ap (λ k. weight_of (take k all)) one,
+        weight_of-more (n - 1) all part parts is,
+      ),
     )
 
 pub returns-clause-front : goal.returns-clause-front
 returns-clause-front c =
-    λ front is w. front_of_all front (take c.loop-number.number (portions c.args.self.now))
-    (c.loop-number.invariant.1 front is w)
-    (omega (arith, w, c.loop-number-test.false, c.weight_to.ensures.value))
+    let all = portions c.args.self.now in
+    record {
+      rest = drop c.loop-number.number all;
+      whole = sym (take-append-drop c.loop-number.number all);
+      light = omega (arith, c.loop-number-test.false, c.weight_to.ensures.value);
+      next = c.loop-number.invariant.1;
+    }

@@ -1,13 +1,13 @@
-use Rattle.std.proofs.Common.{◌≡◌, ◌≤◌, List, length, take}
+use Rattle.std.proofs.Common.{◌≡◌, ◌≤◌, ◌<◌, ◌+◌, List, ◌∷◌, length, take, drop}
 use Rattle.tape_blocks.specs.Block.{Portion}
-use Rattle.tape_core.specs.{Stands.weight_of, Weight.IsFront, Memory.portions}
+use Rattle.tape_core.specs.{Stands.weight_of, Memory.portions}
 use Rattle.tape_core.proofs.memory.MemorySink.front.Given as goal
 
--- any prefix with the requested weight is a prefix of the parts up to here
+-- the parts up to here and the next one are too heavy
 abbrev pub invariant-loop-number : goal.invariant-loop-number
-invariant-loop-number l = (l.number ≤ length (portions l.self)) × ((front : List Portion)
-    → IsFront front (portions l.self) → weight_of front ≡ l.most
-    → IsFront front (take l.number (portions l.self)))
+invariant-loop-number l = (l.number ≤ length (portions l.self))
+    × ((part : Portion) (parts : List Portion) → drop l.number (portions l.self) ≡ part ∷ parts
+    → l.most < weight_of (take l.number (portions l.self)) + (5 + length part.bytes))
 
 abbrev pub decreases-loop-number : goal.decreases-loop-number
 decreases-loop-number l = l.number

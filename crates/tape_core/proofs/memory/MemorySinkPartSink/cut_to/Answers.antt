@@ -1,8 +1,9 @@
-use Rattle.std.proofs.Common.{◌≡◌, ◌≤◌, ℕ, List, take, sym, ap, ◌∙◌, subst, arith}
-use Rattle.tape_core.specs.{Stands.weight_of, Memory.portions}
+use Rattle.std.proofs.Common.{◌≡◌, ℕ, List, take, sym, ap, ◌∙◌, subst, arith}
+use Rattle.tape_core.specs.Memory.{portions, IsLongestFront}
 use Rattle.tape_core.specs.declared.{event.Entry.Entry, memory.MemorySink.MemorySink}
 use Rattle.tape_core.specs.Entries.{parts_from, end_from, IsLaid}
 use Rattle.tape_core.proofs.Laid.{parts_cut, laid_cut}
+use Rattle.tape_core.proofs.Weights.{longest_is}
 use Rattle.tape_core.proofs.memory.MemorySinkPartSink.cut_to.Goals as goal
 
 -- the parts left are the first parts
@@ -30,20 +31,24 @@ pub invariant_of-self-clause-light : goal.invariant_of-self-clause-light
 invariant_of-self-clause-light c =
     omega (arith, c.args.self.now.light, c.truncate.ensures.len, c.truncate-2.ensures.len)
 
-pub returns-clause-weight : goal.returns-clause-weight
-returns-clause-weight c =
-    let left = cut c.args.self.now c.front-number.result c.end_of-end.result
+pub returns-clause-front : goal.returns-clause-front
+returns-clause-front c =
+    let sink = c.args.self.now in
+    let n = c.front-number.result in
+    let left = cut sink n c.end_of-end.result
     c.truncate.new.self.items c.truncate-2.new.self.items c.truncate.ensures.items
     c.truncate-2.ensures.items c.end_of-end.ensures in
-    subst (λ ps. weight_of ps ≤ c.args.point.now.staged) (sym left.0)
-    (omega (arith, c.front-number.ensures.light, ap (λ z. z.staged) c.point.view_is))
+    subst (λ ps. IsLongestFront c.args.point.now.staged ps (portions sink)) (sym left.0)
+    (subst (λ k. IsLongestFront k (take n (portions sink)) (portions sink))
+    (ap (λ z. z.staged) c.point.view_is) c.front-number.ensures.front)
 
 pub returns-clause-ok : goal.returns-clause-ok
 returns-clause-ok c =
-    let left = cut c.args.self.now c.front-number.result c.end_of-end.result
+    let sink = c.args.self.now in
+    let n = c.front-number.result in
+    let left = cut sink n c.end_of-end.result
     c.truncate.new.self.items c.truncate-2.new.self.items c.truncate.ensures.items
     c.truncate-2.ensures.items c.end_of-end.ensures in
-    λ front rest e w. sym (left.0 ∙ c.front-number.ensures.front front (
-      rest,
-      sym e,
-    ) (omega (arith, w, ap (λ z. z.staged) c.point.view_is)))
+    λ front rest e w. longest_is _ (take n (portions sink)) (portions sink) front rest
+    c.front-number.ensures.front (sym e) (omega (arith, w, ap (λ z. z.staged) c.point.view_is))
+    ∙ sym left.0

@@ -1,6 +1,10 @@
 use Rattle.std.proofs.Common.{◌≡◌, inr, ℕ, false, Result, Ok, Err, IfErr, rules, subst, sym, ◌∙◌}
 use Rattle.tape_core.specs.{Weight.Rose, Point.Point}
 use Rattle.tape_stage.specs.{Parts.IsFront, declared.disk.Disk.Ghosts, declared.stage.Stage.Stage}
+use Rattle.std.proofs.Common.{ap}
+use Rattle.tape_stage.proofs.Passing.{weaken, follow}
+use Rattle.tape_stage.proofs.Keeps.{cut_named, frames_cut, saving_front}
+use Rattle.tape_stage.proofs.Results.{ok_any, on_ok}
 use Rattle.tape_stage.specs.declared.stage.StageFault.{StageFault}
 use Rattle.tape_stage.specs.{declared.stage.StageFault.TheVariants.Device, Stages.HasRefused}
 use Rattle.tape_stage.proofs.{Passing.weaken, Passing.follow, Results.on_ok}
@@ -21,6 +25,31 @@ returns-in-Ok-clause-any_moment g c honest acked parts front is of =
     inr (rw (point, c.in-Ok.ensures.generation, c.in-Ok.ensures.slot) at now))
     (c.cut_parts.ensures.any_moment (c.in-Ok.ensures.ends.honest honest) front parts
     (c.in-Ok.ensures.ok honest acked parts front is of)))
+
+pub returns-in-Ok-clause-any_point : goal.returns-in-Ok-clause-any_point
+returns-in-Ok-clause-any_point g c honest acked parts is =
+    let saved = c.in-Ok.ensures.any_point honest acked parts is in
+    let cut = c.cut_parts.ensures.crash (c.in-Ok.ensures.ends.honest honest) in
+    let staged = ap (λ (p : Point). p.staged) c.point.view_is in (
+      follow g.D.Disk _ _ _ _
+          (weaken g.D.Disk _ _ _ _ (λ x saving. saving_front _ _ _ _ _ _ _ x saving) saved.0)
+          (weaken g.D.Disk _ _ _ _
+          (λ x of. inr (cut_named _ _ _ _ _ x _ staged saved.1 of)) cut),
+      ok_any c.cut_parts.result (λ x left. cut_named _ _ _ _ _ x _ staged saved.1 (cut.now x left)),
+    )
+
+pub returns-in-Err-clause-any_point : goal.returns-in-Err-clause-any_point
+returns-in-Err-clause-any_point g c honest acked parts is = (
+  weaken g.D.Disk _ _ _ _ (λ x saving. saving_front _ _ _ _ _ _ _ x saving)
+      (c.save.ensures.any_point honest acked parts is).0,
+  tt,
+)
+
+pub returns-in-Ok-clause-frames : goal.returns-in-Ok-clause-frames
+returns-in-Ok-clause-frames g c honest = on_ok c.cut_parts.result
+    (frames_cut _ _ _ _ _ (ap (λ (p : Point). p.staged) c.point.view_is)
+    (c.save.ensures.frames honest))
+    (c.cut_parts.ensures.cut (c.in-Ok.ensures.ends.honest honest))
 
 -- a cut that failed after the checkpoint was acknowledged
 cut_refused : {A D : Type 0} {disk : Ghosts D} (r : Result A StageFault)

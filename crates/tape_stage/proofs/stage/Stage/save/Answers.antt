@@ -1,6 +1,8 @@
 use Rattle.std.proofs.Common.{inl, ◌+◌, take, refl, ap}
 use Rattle.tape_stage.proofs.{Giving.front_holding, Passing.nothing, SlotSteps.ready_each}
 use Rattle.tape_stage.proofs.{Keeps.gate_test, Keeps.frames_holding}
+use Rattle.tape_stage.proofs.Passing.{weaken}
+use Rattle.tape_stage.proofs.Keeps.{either_saved, staged_named}
 use Rattle.tape_stage.proofs.stage.Stage.save.Goals as goal
 
 pub returns-then-self-clause-any_moment : goal.returns-then-self-clause-any_moment
@@ -15,12 +17,13 @@ returns-then-self-ge-MOST_GENERATION-clause-any_moment g c honest acked parts fr
 pub returns-in-Ok-clause-ok : goal.returns-in-Ok-clause-ok
 returns-in-Ok-clause-ok g c honest acked parts front is of =
     let s = c.args.self.now in
-    let next = c.in-Ok.ensures.done honest s.generation s.acknowledged acked front refl is.ready
-    (front_holding _ _ _ _ _ c.requires of is.holds) in
+    let next = c.in-Ok.ensures.done honest s.generation s.acknowledged acked refl is.ready in
     record {
       alive = is.alive;
       ready = record {
-        staged = next.staged;
+        staged = staged_named _ _ _ front _ next.named (frames_holding _ front _ _
+            (c.replace_slot.ensures.frames honest)
+            (front_holding s.weight _ parts front _ c.requires of is.holds));
         gate = gate_test s.in_second _ next.gate;
         alike = λ x left. ap (take (256 + c.args.point.now.staged))
             (c.in-Ok.ensures.synced.durable honest x left);
@@ -32,11 +35,42 @@ returns-in-Ok-clause-ok g c honest acked parts front is of =
 pub returns-in-Ok-clause-any_moment : goal.returns-in-Ok-clause-any_moment
 returns-in-Ok-clause-any_moment g c honest acked parts front is of =
     let s = c.args.self.now in
-    c.replace_slot.ensures.any_moment honest s.generation s.acknowledged acked front refl is.ready
-    (front_holding _ _ _ _ _ c.requires of is.holds)
+    weaken g.D.Disk _ _ _ _ (λ x saving. either_saved _ _ _ _ _ front _ x
+    (front_holding s.weight _ parts front _ c.requires of is.holds) saving)
+    (c.replace_slot.ensures.any_moment honest s.generation s.acknowledged acked refl is.ready)
 
 pub returns-in-Err-clause-any_moment : goal.returns-in-Err-clause-any_moment
 returns-in-Err-clause-any_moment g c honest acked parts front is of =
     let s = c.args.self.now in
-    c.replace_slot.ensures.any_moment honest s.generation s.acknowledged acked front refl is.ready
-    (front_holding _ _ _ _ _ c.requires of is.holds)
+    weaken g.D.Disk _ _ _ _ (λ x saving. either_saved _ _ _ _ _ front _ x
+    (front_holding s.weight _ parts front _ c.requires of is.holds) saving)
+    (c.replace_slot.ensures.any_moment honest s.generation s.acknowledged acked refl is.ready)
+
+pub returns-then-self-clause-any_point : goal.returns-then-self-clause-any_point
+returns-then-self-clause-any_point g c honest acked parts is = (
+  nothing g.D.Disk _ _ (λ x left. inl (ready_each _ _ _ _ _ _ _ x is.ready left).0),
+  tt,
+)
+
+pub returns-then-self-ge-MOST_GENERATION-clause-any_point
+    : goal.returns-then-self-ge-MOST_GENERATION-clause-any_point
+returns-then-self-ge-MOST_GENERATION-clause-any_point g c honest acked parts is = (
+  nothing g.D.Disk _ _ (λ x left. inl (ready_each _ _ _ _ _ _ _ x is.ready left).0),
+  tt,
+)
+
+pub returns-in-Ok-clause-any_point : goal.returns-in-Ok-clause-any_point
+returns-in-Ok-clause-any_point g c honest acked parts is =
+    let s = c.args.self.now in
+    let next = c.in-Ok.ensures.done honest s.generation s.acknowledged acked refl is.ready in (
+      c.replace_slot.ensures.any_moment honest s.generation s.acknowledged acked refl is.ready,
+      λ x left. rw (c.in-Ok.ensures.synced.durable honest x left)
+          (next.named, c.replace_slot.ensures.frames honest),
+    )
+
+pub returns-in-Err-clause-any_point : goal.returns-in-Err-clause-any_point
+returns-in-Err-clause-any_point g c honest acked parts is =
+    let s = c.args.self.now in (
+      c.replace_slot.ensures.any_moment honest s.generation s.acknowledged acked refl is.ready,
+      tt,
+    )

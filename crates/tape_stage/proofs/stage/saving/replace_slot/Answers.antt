@@ -4,6 +4,8 @@ use Rattle.tape_core.specs.Point.{Point}
 use Rattle.tape_stage.specs.Moments.{Passes}
 use Rattle.tape_stage.specs.Staged.{Holding, KeepsFrames, Ready, StagedIn}
 use Rattle.tape_stage.proofs.Keeps.{frames_then, frames_holding, torn_body_frames, torn_gate_frames}
+use Rattle.tape_stage.proofs.Bodies.{length-body}
+use Rattle.tape_stage.proofs.Keeps.{saving_then}
 use Rattle.tape_stage.proofs.Passing.{weaken, follow}
 use Rattle.tape_stage.proofs.SlotSteps.{IsFilled, filled_done, filled_body, filled_after}
 use Rattle.tape_stage.proofs.SlotSteps.{opened_done, opened_after}
@@ -37,13 +39,11 @@ filling g c honest n point parts ready =
 
 -- the slot was filled
 filled : (g : Over) (c : In_ok-write_kept g) → g.D.Disk.is_honest c.args.disk.now
-    → KeepsFrames (g.D.Disk.seen c.args.disk.now) (g.D.Disk.seen c.write_kept.new.disk)
-    → (n : ℕ) (point : Point) (parts more : List Portion)
-    → n + 1 ≡ c.args.generation → Ready c.args.in_second n point parts c.args.is_open
-    (g.D.Disk.seen c.args.disk.now) (g.D.Disk.may_leave c.args.disk.now)
-    → Holding c.args.next.staged more (g.D.Disk.seen c.args.disk.now)
-    → IsFilled c.args.in_second n point c.args.next parts more (g.D.Disk.seen c.write_kept.new.disk)
-filled g c honest kept n point parts more next_is ready holding =
+    → (n : ℕ) (point : Point) (parts : List Portion) → n + 1 ≡ c.args.generation
+    → Ready c.args.in_second n point parts c.args.is_open (g.D.Disk.seen c.args.disk.now)
+    (g.D.Disk.may_leave c.args.disk.now)
+    → IsFilled c.args.in_second n point c.args.next parts (g.D.Disk.seen c.write_kept.new.disk)
+filled g c honest n point parts next_is ready =
     let first = c.in_ok-close_gate.ensures in
     let honest1 = first.synced.honest honest in
     let body = c.body_bytes-body.ensures in
@@ -57,16 +57,15 @@ filled g c honest kept n point parts more next_is ready holding =
         first.long,
         c.requires.room,
       )) holds ∙ body.text);
-      holds = frames_holding _ _ _ _ kept holding;
     }
 
 pub returns-in_err-close_gate-clause-any_moment : goal.returns-in_err-close_gate-clause-any_moment
-returns-in_err-close_gate-clause-any_moment g c honest n point parts more next_is ready holding =
+returns-in_err-close_gate-clause-any_moment g c honest n point parts next_is ready =
     weaken g.D.Disk _ _ _ _ (λ x old. inl old)
     (c.close_gate.ensures.any_moment honest n point parts ready)
 
 pub returns-in_err-write_kept-clause-any_moment : goal.returns-in_err-write_kept-clause-any_moment
-returns-in_err-write_kept-clause-any_moment g c honest n point parts more next_is ready holding =
+returns-in_err-write_kept-clause-any_moment g c honest n point parts next_is ready =
     weaken g.D.Disk _ _ _ _ (λ x old. inl old)
     (filling g (goal.at.returns-in_err-write_kept-clause-any_moment g c).After-write_kept honest n
     point parts ready)
@@ -78,22 +77,26 @@ returns-in_err-write_kept-clause-frames g c honest =
 pub returns-clause-done : goal.returns-clause-done
 returns-clause-done g c honest =
     let at = goal.at.returns-clause-done g c in
-    on_ok c.write_kept-2.result (λ holds n point parts more next_is ready holding.
-    rw next_is at (opened_done _ _ _ _ _ _ _ _ (rw (← next_is) at c.body_bytes-body.ensures.fit)
-    (filled g at.In_ok-write_kept honest (frames g at.After-write_kept honest) _ _ _ _ next_is ready
-    holding) (rw c.gate_place-2.ensures at holds))) (c.write_kept-2.ensures.written
-    (c.in_ok-write_kept.ensures.synced.honest (c.in_ok-close_gate.ensures.synced.honest honest)))
+    on_ok c.write_kept-2.result
+    (λ holds n point parts next_is ready.
+    rw next_is at (opened_done _ _ _ _ _ _ _ (rw (← next_is) at c.body_bytes-body.ensures.fit)
+    (filled g at.In_ok-write_kept honest n point parts next_is ready)
+    (rw c.gate_place-2.ensures at holds)))
+    (c.write_kept-2.ensures.written (c.in_ok-write_kept.ensures.synced.honest
+    (c.in_ok-close_gate.ensures.synced.honest honest)))
 
 pub returns-clause-any_moment : goal.returns-clause-any_moment
-returns-clause-any_moment g c honest n point parts more next_is ready holding =
+returns-clause-any_moment g c honest n point parts next_is ready =
     let at = goal.at.returns-clause-any_moment g c in
     let honest1 = c.in_ok-close_gate.ensures.synced.honest honest in
-    follow g.D.Disk _ _ _ _ (weaken g.D.Disk _ _ _ _ (λ x old. inl old)
-    (filling g at.After-write_kept honest n point parts ready)) (weaken g.D.Disk _ _ _ _
-    (λ x after. opened_after _ _ _ _ _ _ _ _ x (rw (← next_is) at c.body_bytes-body.ensures.fit)
-    (filled g at.In_ok-write_kept honest (frames g at.After-write_kept honest) _ _ _ _
-    next_is ready holding)
-    (c.in_ok-write_kept.ensures.synced.durable honest1) (rw c.gate_place-2.ensures at after))
+    follow g.D.Disk _ _ _ _
+    (weaken g.D.Disk _ _ _ _ (λ x old. inl old)
+    (filling g at.After-write_kept honest n point parts ready))
+    (weaken g.D.Disk _ _ _ _
+    (λ x after. saving_then _ _ _ _ _ _ _ x (frames g at.After-write_kept honest)
+    (opened_after _ _ _ _ _ _ _ x (rw (← next_is) at c.body_bytes-body.ensures.fit)
+    (filled g at.In_ok-write_kept honest n point parts next_is ready)
+    (c.in_ok-write_kept.ensures.synced.durable honest1) (rw c.gate_place-2.ensures at after)))
     (c.write_kept-2.ensures.any_moment (c.in_ok-write_kept.ensures.synced.honest honest1)))
 
 pub returns-clause-frames : goal.returns-clause-frames

@@ -2,11 +2,41 @@ use Rattle.tape_writer.proofs.Words.{◌≡◌, ◌+◌, ◌∙◌, length, inr,
 use Rattle.tape_writer.specs.declared.fault.WriteFault.TheVariants.{OutOfVolumes, OutOfMemory}
 use Rattle.tape_writer.specs.{State.IsWriting, Told.opened_by, LeftOf.GaveUp}
 use Rattle.tape_writer.proofs.{Last.rose_from, Fronts.inside_writing, Fronts.front_here}
+use Rattle.std.proofs.Common.{ℕ, Some, refl, sym}
+use Rattle.tape_label.specs.declared.values.Head1.{Head1}
+use Rattle.tape_blocks.specs.declared.parts.Shape.{Shape}
+use Rattle.tape_writer.specs.declared.phase.Phase.{Phase}
+use Rattle.tape_writer.specs.declared.phase.Phase.TheVariants.{Between, Filing, Failed, Finished}
+use Rattle.tape_writer.specs.declared.fault.WriteFault.{WriteFault}
+use Rattle.tape_writer.specs.declared.fault.WriteFault.TheVariants as faults
+use Rattle.tape_writer.specs.declared.fault.WriteFault.TheVariants.{FileBegun}
+use Rattle.tape_writer.specs.Refusals.{IsBeginFault, closed_by}
+use Rattle.tape_writer.proofs.{inputs.Putting.file_told}
+use Rattle.tape_writer.proofs.inputs.Refusing.{input_fault, end_fault}
+use Rattle.tape_writer.proofs.inputs.Putting.{file_out, end_out}
 use Rattle.tape_writer.proofs.inputs.Leaving.{begin_left, none_left, if_any, file_left, end_left}
 use Rattle.tape_writer.proofs.inputs.Leaving.{ended_left, ending_other, end_ends, of_writer}
 use Rattle.tape_writer.proofs.inputs.{Putting.file_told, Putting.end_out, Refusing.input_fault}
 use Rattle.tape_writer.proofs.inputs.{Refusing.end_fault, Filing.in_input}
 use Rattle.tape_writer.proofs.inputs.files.write_file.Goals as goal
+
+-- a file begins whether or not there is a further volume
+not_out : (phase : Phase) (fault : WriteFault) (capacity n : ℕ) (head : Head1) (shape : Shape)
+    → ((f : WriteFault) → closed_by phase ≡ Some f → fault ≡ f)
+    → (phase ≡ Between → IsBeginFault capacity n head shape fault) → fault ≡ OutOfVolumes → ⊥
+not_out Between fault capacity n head shape closed due is = rw is at (due refl)
+not_out (Filing o) fault capacity n head shape closed due is =
+    let no : FileBegun ≡ OutOfVolumes = sym (closed FileBegun refl) ∙ is in cc
+not_out Failed fault capacity n head shape closed due is =
+    let no : faults.Failed ≡ OutOfVolumes = sym (closed faults.Failed refl) ∙ is in cc
+not_out Finished fault capacity n head shape closed due is =
+    let no : faults.Finished ≡ OutOfVolumes = sym (closed faults.Finished refl) ∙ is in cc
+
+pub returns-in-Err-clause-stuck : goal.returns-in-Err-clause-stuck
+returns-in-Err-clause-stuck g c = λ e told held.
+    let fault : c.in-Err.fault ≡ OutOfVolumes = cc in
+    absurd (not_out c.args.writer.now.phase c.in-Err.fault _ _ _ _
+    (λ f is. let same = (c.in-Err.ensures.closed f is).0 in cc) c.in-Err.ensures.due fault)
 
 pub returns-in-Ok-end_file-clause-told : goal.returns-in-Ok-end_file-clause-told
 returns-in-Ok-end_file-clause-told g c told held =

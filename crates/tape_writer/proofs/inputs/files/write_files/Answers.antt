@@ -6,7 +6,19 @@ use Rattle.tape_writer.proofs.inputs.{Refusing.wrote_fault, Leaving.all_more, Pu
 use Rattle.tape_writer.proofs.inputs.{Putting.grows_then}
 use Rattle.tape_writer.specs.{LeftOf.GaveUp, LeftOf.IsLeftOf, LeftOf.IsLeftUnbegun, Told.with_file}
 use Rattle.tape_writer.specs.{Told.opened_by, Tapes.Rose, State.IsWriting, Records.records_of}
+use Rattle.std.proofs.Common.{◌≡◌, sym, ap}
+use Rattle.std.proofs.Common.{Some, length-append}
+use Rattle.tape_writer.proofs.{inputs.Leaving.wrote_left}
+use Rattle.tape_writer.specs.declared.fault.WriteFault.{WriteFault}
+use Rattle.tape_writer.specs.{State.SetState, Refusals.closed_by}
+use Rattle.tape_writer.proofs.inputs.Putting.{wrote_out}
 use Rattle.tape_writer.proofs.inputs.files.write_files.Goals as goal
+
+-- no file can begin in an unchanged writer
+still_closed : {T : Type 0} (old now : SetState T) (fault : WriteFault) → now ≡ old
+    → closed_by old.phase ≡ Some fault → closed_by now.phase ≡ Some fault
+still_closed old now fault same is =
+    subst (λ (w : SetState _). closed_by w.phase ≡ Some fault) (sym same) is
 
 pub files-init : goal.files-init
 files-init g c = record {
@@ -16,6 +28,8 @@ files-init g c = record {
   stands = λ is. (is, search rules);
   grew = grows_self _;
   begun = λ l. absurd (omega (arith, l));
+  first = λ zero. refl;
+  closed = λ fault is. refl;
   unfit = λ between unfit. (refl, refl);
   wrote = wrote_none _ _ _ _ _ _ _;
 }
@@ -34,6 +48,10 @@ files-preserved g c =
           (next.0, omega (arith, now.1, next.2));
       grew = grows_then _ _ _ c.files.invariant.grew c.in_ok-write_file.ensures.count;
       begun = λ l. next.1;
+      first = λ zero. absurd (omega (arith, zero));
+      closed = λ fault is. absurd (let e = (c.in_ok-write_file.ensures.closed fault
+          (still_closed _ _ fault (c.files.invariant.first (c.files.invariant.closed fault is))
+          is)).0 in cc);
       unfit = λ between unfit.
           let now = c.files.invariant.stands between in
           absurd (c.in_ok-write_file.ensures.unfit now.0 (λ writable room. unfit writable (subst
@@ -95,3 +113,11 @@ returns-in_err-write_file-clause-unfit g c =
     let kept = c.in_err-write_file.ensures.unfit now.0 (λ writable room. unfit writable
     (subst (λ d. least_capacity c.args.shape ≤ d) c.files.invariant.capacity room)) in
     (kept.0 ∙ (c.files.invariant.unfit between unfit).1, tt))
+
+pub returns-in_err-write_file-clause-closed : goal.returns-in_err-write_file-clause-closed
+returns-in_err-write_file-clause-closed g c =
+    let p = err_from_is_err_and c.from_residual.result c.from_residual.ensures.1 in
+    rw (p.1, p.2) (λ fault is some.
+    let first = c.files.invariant.first (c.files.invariant.closed fault is) in
+    let end = c.in_err-write_file.ensures.closed fault (still_closed _ _ fault first is) in
+    (end.0, end.1 ∙ first))

@@ -1,6 +1,8 @@
 use Rattle.tape_writer.proofs.Words.{◌≡◌, ◌<◌, ◌≤◌, ◌+◌, ◌-◌, length, IsWritable, least_capacity}
+use Rattle.std.proofs.Common.{Some}
 use Rattle.tape_writer.specs.declared.phase.Phase.TheVariants.{Between}
-use Rattle.tape_writer.specs.{State.IsWriting, Tapes.Grows}
+use Rattle.tape_writer.specs.declared.fault.WriteFault.{WriteFault}
+use Rattle.tape_writer.specs.{State.IsWriting, Refusals.closed_by, Tapes.Grows}
 use Rattle.tape_writer.proofs.inputs.Filing.{Wrote}
 use Rattle.tape_writer.proofs.inputs.files.write_files.Given as goal
 
@@ -13,6 +15,8 @@ invariant-files g l = record {
       → (l.writer.phase ≡ Between) × (length l.writer.files ≡ length l.fn.writer.files + l.at);
   grew : Grows (g.T.TapeOut.failures l.fn.writer.out) (g.T.TapeOut.failures l.writer.out);
   begun : 0 < l.at → 0 < l.writer.course.volume;
+  first : l.at ≡ 0 → l.writer ≡ l.fn.writer;
+  closed : (fault : WriteFault) → closed_by l.fn.writer.phase ≡ Some fault → l.at ≡ 0;
   unfit : l.fn.writer.phase ≡ Between
       → (IsWritable l.shape → least_capacity l.shape ≤ l.fn.writer.capacity → ⊥)
       → (l.at ≡ 0) × (l.writer ≡ l.fn.writer);

@@ -2,7 +2,7 @@ use Rattle.std.proofs.Common.{◌≡◌, ℕ, List, ◌++◌, refl, ap, inr, Err
 use Rattle.tape_blocks.specs.Block.{Portion}
 use Rattle.tape_core.specs.{Crash.IsThis, Stands.weight_of}
 use Rattle.tape_stage.specs.Parts.{IsFront}
-use Rattle.tape_stage.proofs.Held.{stage_holds, change_refused}
+use Rattle.tape_stage.proofs.Held.{stage_holds, change_refused, dropped_is}
 use Rattle.tape_stage.proofs.Backs.{adds_this, adds_refused}
 use Rattle.tape_stage.proofs.stage.putting.StagePartSink.cut_to.Goals as goal
 
@@ -48,5 +48,13 @@ returns-in-Err-clause-crash g c front rest holds weighs =
 pub returns-in-Err-clause-why : goal.returns-in-Err-clause-why
 returns-in-Err-clause-why g c =
     let e = c.in-Err.ensures in
-    change_refused c.args.self.now c.cut_back.new.self _ c.in-Err.fault _ c.sink_fault.ensures
-    e.ends.refused (λ device. e.ends.cause (ap Err device)) (λ full. inr (e.full (ap Err full)))
+    change_refused c.args.self.now c.cut_back.new.self _ c.in-Err.fault c.sink_fault.result
+    c.sink_fault.ensures e.ends.refused (λ device. e.ends.cause (ap Err device))
+    (λ full. inr (e.full (ap Err full)))
+
+pub returns-in-Err-clause-drops : goal.returns-in-Err-clause-drops
+returns-in-Err-clause-drops g c less =
+    let e = c.in-Err.ensures in
+    dropped_is c.args.self.now c.cut_back.new.self c.in-Err.fault c.sink_fault.result
+    c.args.point.now c.sink_fault.ensures e.ends.refused
+    (λ device. (e.drops less).1 (ap Err device))

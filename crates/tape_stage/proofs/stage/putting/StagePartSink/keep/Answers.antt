@@ -4,6 +4,7 @@ use Rattle.tape_blocks.specs.Block.{Portion}
 use Rattle.tape_core.specs.{Crash.IsThis, Point.Point, Stands.weight_of}
 use Rattle.tape_stage.specs.{Parts.IsFront, Stages.Returns}
 use Rattle.tape_stage.proofs.Held.{stage_holds, refused_holds, change_refused}
+use Rattle.tape_stage.proofs.Held.{pending_is}
 use Rattle.tape_stage.proofs.Keeps.{frames_holding}
 use Rattle.tape_stage.proofs.Backs.{returned_kept, returned_now, adds_this, adds_refused}
 use Rattle.tape_stage.proofs.stage.putting.StagePartSink.keep.Goals as goal
@@ -73,5 +74,12 @@ returns-in-Err-clause-crash g c parts holds =
 pub returns-in-Err-clause-why : goal.returns-in-Err-clause-why
 returns-in-Err-clause-why g c =
     let e = c.in-Err.ensures in
-    change_refused c.args.self.now c.save.new.self _ c.in-Err.fault _ c.sink_fault.ensures
-    e.ends.refused (λ device. e.ends.cause (ap Err device)) (λ full. inr (e.full (ap Err full)))
+    change_refused c.args.self.now c.save.new.self _ c.in-Err.fault c.sink_fault.result
+    c.sink_fault.ensures e.ends.refused (λ device. e.ends.cause (ap Err device))
+    (λ full. inr (e.full (ap Err full)))
+
+pub returns-in-Err-clause-pending : goal.returns-in-Err-clause-pending
+returns-in-Err-clause-pending g c =
+    let e = c.in-Err.ensures in
+    pending_is c.args.self.now c.save.new.self c.in-Err.fault c.sink_fault.result c.args.point.now
+    c.sink_fault.ensures e.ends.refused (λ device. e.pending (ap Err device))

@@ -4,6 +4,7 @@ use Rattle.tape_core.proofs.Crashes.{only_same}
 use Rattle.tape_stage.specs.Frames.{AheadIn}
 use Rattle.tape_stage.proofs.Giving.{given, lends_none, nothing_ahead}
 use Rattle.tape_stage.proofs.{Backs.adds_read, Held.read_held}
+use Rattle.tape_stage.proofs.Passing.{only_reads_self}
 use Rattle.tape_stage.proofs.stage.putting.StagePartWalk.next_part.Goals as goal
 
 pub returns-then-self : goal.returns-then-self
@@ -14,15 +15,20 @@ returns-then-self g c =
         refl,
         λ _. tt,
         record {
-          kept = λ parts holds. holds;
-          crash = λ parts holds. only_same _ _;
-          same_weight = refl;
-          gives = λ parts is.
-              let none = nothing_ahead _ _ _ _ (omega (arith, c.if-self.true)) is.1 in
-              (none.0, (is.0, none.1));
-          lends = tt;
-          counts = refl;
-          why = tt;
+          gave = record {
+            kept = λ parts holds. holds;
+            crash = λ parts holds. only_same _ _;
+            same_weight = refl;
+            gives = λ parts is.
+                let none = nothing_ahead (256 + s.walked) (256 + s.weight) bytes parts
+                (omega (arith, c.if-self.true)) is.1 in
+                (none.0, (is.0, none.1));
+            lends = tt;
+            counts = refl;
+            why = tt;
+          };
+          same = (refl, refl, refl, refl, refl, refl, refl, refl);
+          reads = only_reads_self g.D.Disk s.disk;
         },
       ),
       record { after_borrow = tt },
@@ -44,17 +50,25 @@ returns-in-Ok g c =
         refl,
         λ _. tt,
         rw same record {
-          kept = λ parts holds. read_held _ d _ _ _ _ _ _ _ _ (e.honest (holds.honest calm))
-              (e.reads.same (holds.honest calm)) (e.reads.any_moment (holds.honest calm)).now holds;
-          crash = λ parts holds. adds_read s _ (e.reads.any_moment (holds.honest calm));
-          same_weight = refl;
-          gives = λ parts is.
-              let next = given s.walked _ _ _ _ _ _ _ (omega (arith, c.if-self.false))
-              (e.found (is.0 calm)) long (e.reads.same (is.0 calm)) is.1 in
-              (next.0, next.1, (λ none. e.honest (is.0 none), next.2));
-          lends = (omega (arith, long, e.short), omega (arith, c.if-self.false, e.ends));
-          counts = refl;
-          why = tt;
+          gave = record {
+            kept = λ parts holds. read_held s.disk d s.in_second s.generation s.acknowledged
+                s.other_open s.weight s.failed s.pending parts (e.honest (holds.honest calm))
+                (e.reads.same (holds.honest calm)) (e.reads.any_moment (holds.honest calm)).now
+                holds;
+            crash = λ parts holds. adds_read s d (e.reads.any_moment (holds.honest calm));
+            same_weight = refl;
+            gives = λ parts is.
+                let next = given s.walked (256 + s.weight) c.in-Ok.size old new c.in-Ok.span
+                (take c.in-Ok.size c.read_frame.new.buffer) parts
+                (omega (arith, c.if-self.false)) (e.found (is.0 calm)) long
+                (e.reads.same (is.0 calm)) is.1 in
+                (next.0, next.1, (λ none. e.honest (is.0 none), next.2));
+            lends = (omega (arith, long, e.short), omega (arith, c.if-self.false, e.ends));
+            counts = refl;
+            why = tt;
+          };
+          same = (refl, refl, refl, refl, refl, refl, refl, refl);
+          reads = e.reads;
         },
       ),
       record { after_borrow = tt },
@@ -70,19 +84,25 @@ returns-in-Err g c =
         refl,
         λ _. tt,
         record {
-          kept = λ parts holds. read_held _ d _ _ _ _ _ _ _ _ (e.honest (holds.honest calm))
-              (e.reads.same (holds.honest calm)) (e.reads.any_moment (holds.honest calm)).now holds;
-          crash = λ parts holds. adds_read s _ (e.reads.any_moment (holds.honest calm));
-          same_weight = refl;
-          gives = λ parts is. (
-            λ none. e.honest (is.0 none),
-            subst (λ bytes. AheadIn (256 + s.walked) (256 + s.weight) bytes parts)
-                (sym (e.reads.same (is.0 calm))) is.1,
-          );
-          lends = tt;
-          counts = search rules;
-          why = lends_none g.D.Disk s.readable s.walked s.weight s.disk d c.in-Err.fault e.only
-              (λ is. e.kinds (ap Err is)) (λ honest is. e.none honest (ap Err is));
+          gave = record {
+            kept = λ parts holds. read_held s.disk d s.in_second s.generation s.acknowledged
+                s.other_open s.weight s.failed s.pending parts (e.honest (holds.honest calm))
+                (e.reads.same (holds.honest calm)) (e.reads.any_moment (holds.honest calm)).now
+                holds;
+            crash = λ parts holds. adds_read s d (e.reads.any_moment (holds.honest calm));
+            same_weight = refl;
+            gives = λ parts is. (
+              λ none. e.honest (is.0 none),
+              subst (λ bytes. AheadIn (256 + s.walked) (256 + s.weight) bytes parts)
+                  (sym (e.reads.same (is.0 calm))) is.1,
+            );
+            lends = tt;
+            counts = search rules;
+            why = lends_none g.D.Disk s.readable s.walked s.weight s.disk d c.in-Err.fault e.only
+                (λ is. e.kinds (ap Err is)) (λ honest is. e.none honest (ap Err is));
+          };
+          same = (refl, refl, refl, refl, refl, refl, refl, refl);
+          reads = e.reads;
         },
       ),
       record { after_borrow = tt },
