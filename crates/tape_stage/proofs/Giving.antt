@@ -15,7 +15,7 @@ use Rattle.tape_blocks.specs.declared.parts.Span.TheVariants.{Whole, First, Midd
 use Rattle.tape_blocks.specs.{declared.parts.Span.Span, Block.Portion, Block.indicator}
 use Rattle.tape_stage.proofs.Torn.{alike_piece, holds_torn, holds_piece}
 
-frames-append : (xs ys : List Portion) → frames (xs ++ ys) ≡ frames xs ++ frames ys
+pub frames-append : (xs ys : List Portion) → frames (xs ++ ys) ≡ frames xs ++ frames ys
 frames-append [] ys = refl
 frames-append (x ∷ xs) ys = ap (λ (l : List ℕ). frame x ++ l) (frames-append xs ys) ∙ sym
     (append_assoc (frame x) (frames xs) (frames ys))
@@ -104,7 +104,7 @@ span_again Last = refl
 head_same : (a b : ℕ) (x y : List ℕ) → a ∷ x ≡ b ∷ y → a ≡ b
 head_same a b x y e = cc
 
-size_same : (m n : ℕ) → m ≤ 99999 → n ≤ 99999 → to_be_bytes w32 m ≡ to_be_bytes w32 n → m ≡ n
+pub size_same : (m n : ℕ) → m ≤ 99999 → n ≤ 99999 → to_be_bytes w32 m ≡ to_be_bytes w32 n → m ≡ n
 size_same m n low high e = sym (from_be_bytes-to_be_bytes_4 m (omega arith)) ∙ ap
     (from_be_bytes w32) e ∙ from_be_bytes-to_be_bytes_4 n (omega arith)
 

@@ -65,10 +65,10 @@ kept_front_holding weight parts old new kept holding =
     (omega (arith, kept.long, holding.long)) holding
 
 -- a slot that names a checkpoint whose parts have frames
-pub staged_named : (second : Bool) (g : ℕ) (point : Point) (parts : List Portion) (bytes : List ℕ)
+pub named_staged : (second : Bool) (g : ℕ) (point : Point) (parts : List Portion) (bytes : List ℕ)
     → NamedIn second g point bytes → Holding point.staged parts bytes
     → StagedIn second g point parts bytes
-staged_named second g point parts bytes named holding = record {
+named_staged second g point parts bytes named holding = record {
   is_open = named.is_open;
   body = named.body;
   other = named.other;
@@ -81,7 +81,7 @@ pub either_saved : (second : Bool) (g : ℕ) (point next : Point) (parts more : 
     → IsEither second g point next parts more bytes
 either_saved second g point next parts more old bytes holding (inl staged) = inl staged
 either_saved second g point next parts more old bytes holding (inr next_is) =
-    inr (staged_named (not second) (g + 1) next more bytes next_is.0
+    inr (named_staged (not second) (g + 1) next more bytes next_is.0
     (frames_holding next.staged more old bytes next_is.1 holding))
 
 pub saving_then : (second : Bool) (g : ℕ) (point next : Point) (parts : List Portion)

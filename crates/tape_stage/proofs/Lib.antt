@@ -8,6 +8,7 @@ pub mod Finds
 pub mod Giving
 pub mod HoldingLaws
 pub mod Held
+pub mod Inside
 pub mod Keeps
 mod Mistakes
 pub mod Once

@@ -1,7 +1,9 @@
 -- Laws about the bytes of a stage: they have at most one meaning.
-use Rattle.std.specs.Prelude.{◌≡◌, ◌⊎◌, ℕ, Bool, List}
+use Rattle.std.specs.Prelude.{◌≡◌, ◌⊎◌, ◌<◌, ◌+◌, ℕ, Bool, List, ◌∷◌, ◌++◌, length}
 use Rattle.tape_blocks.specs.Block.{Portion}
-use Rattle.tape_stage.specs.Staged.{Staged, StagedIn, IsEither}
+use Rattle.tape_core.specs.Stands.{weight_of}
+use Rattle.tape_stage.specs.Found.{IsBadPlace}
+use Rattle.tape_stage.specs.Staged.{Holding, IsEither, NamedIn, SameFrames, Staged, StagedIn}
 use Rattle.tape_core.specs.Point.{Point}
 
 -- the bytes represent at most one generation, checkpoint and list of parts
@@ -29,3 +31,12 @@ NamedStands bytes = (second : Bool) (g : ℕ) (point : Point) (parts : List Port
 abbrev pub EitherStands : List ℕ → Type 0
 EitherStands bytes = (second : Bool) (g : ℕ) (point next : Point) (parts more : List Portion)
     → IsEither second g point next parts more bytes → StandsForOne point parts next more bytes
+
+-- If the slot names a checkpoint inside one of the parts of the bytes `old`, and the frames up to
+-- its weight are theirs, there is no valid frame where this part begins.
+abbrev pub BadInside : List ℕ → List ℕ → Type 0
+BadInside old bytes = (second : Bool) (g : ℕ) (point : Point) (weight : ℕ)
+    (front rest : List Portion) (part : Portion) → Holding weight (front ++ part ∷ rest) old
+    → NamedIn second g point bytes → SameFrames point.staged old bytes
+    → weight_of front < point.staged → point.staged < weight_of front + (5 + length part.bytes)
+    → IsBadPlace bytes (256 + weight_of front)

@@ -7,6 +7,7 @@ ghost use Rattle.tape_stage.specs.Laws.{HasBothTexts, IsTextOfOne, IsTextOnce};
 ghost use Rattle.tape_stage.specs.StageLaws.{EitherStands, NamedStands, ReadsOneOf, StandsOnce};
 ghost use Rattle.tape_stage.specs.{CasesOfLaws.CasesOfLaws, CasesOfSalvage.CasesOfSalvage};
 ghost use Rattle.tape_stage.specs.Salvaged.{RemainsOnce};
+ghost use Rattle.tape_stage.specs.StageLaws.{BadInside};
 
 use crate::disk::Disk;
 use crate::point::text::PointFault;
@@ -55,6 +56,12 @@ pub fn named_slots_stand()
 /// Bytes with one generation or the next represent one of the two checkpoints, with its parts.
 pub fn either_stands()
     ensures { (bytes : List ℕ) → EitherStands bytes }
+{}
+
+/// If a checkpoint inside a part was saved, opening the stage returns `BadFrame` with the offset of
+/// this part.
+pub fn points_inside_parts_are_bad()
+    ensures { (old bytes : List ℕ) → BadInside old bytes }
 {}
 
 /// Bytes that represent one of two checkpoints are read as one of them, with its parts.

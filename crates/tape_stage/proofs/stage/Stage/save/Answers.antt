@@ -3,6 +3,7 @@ use Rattle.tape_stage.proofs.{Giving.front_holding, Passing.nothing, SlotSteps.r
 use Rattle.tape_stage.proofs.{Keeps.gate_test, Keeps.frames_holding}
 use Rattle.tape_stage.proofs.Passing.{weaken}
 use Rattle.tape_stage.proofs.Keeps.{either_saved, staged_named}
+use Rattle.tape_stage.proofs.Keeps.{named_staged}
 use Rattle.tape_stage.proofs.stage.Stage.save.Goals as goal
 
 pub returns-then-self-clause-any_moment : goal.returns-then-self-clause-any_moment
@@ -21,7 +22,7 @@ returns-in-Ok-clause-ok g c honest acked parts front is of =
     record {
       alive = is.alive;
       ready = record {
-        staged = staged_named _ _ _ front _ next.named (frames_holding _ front _ _
+        staged = named_staged _ _ _ front _ next.named (frames_holding _ front _ _
             (c.replace_slot.ensures.frames honest)
             (front_holding s.weight _ parts front _ c.requires of is.holds));
         gate = gate_test s.in_second _ next.gate;
