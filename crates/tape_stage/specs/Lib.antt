@@ -30,5 +30,3 @@ pub mod StageLaws
 pub mod Cases
 pub mod CasesOfLaws
 pub mod CasesOfSalvage
-
--- definitions about private code:
