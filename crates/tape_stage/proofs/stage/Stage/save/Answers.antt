@@ -2,8 +2,7 @@ use Rattle.std.proofs.Common.{inl, ◌+◌, take, refl, ap}
 use Rattle.tape_stage.proofs.{Giving.front_holding, Passing.nothing, SlotSteps.ready_each}
 use Rattle.tape_stage.proofs.{Keeps.gate_test, Keeps.frames_holding}
 use Rattle.tape_stage.proofs.Passing.{weaken}
-use Rattle.tape_stage.proofs.Keeps.{either_saved, staged_named}
-use Rattle.tape_stage.proofs.Keeps.{named_staged}
+use Rattle.tape_stage.proofs.Keeps.{either_saved, named_staged}
 use Rattle.tape_stage.proofs.stage.Stage.save.Goals as goal
 
 pub returns-then-self-clause-any_moment : goal.returns-then-self-clause-any_moment
