@@ -1,8 +1,8 @@
 -- The weight of parts.
 use Rattle.std.proofs.Common.{◌≡◌, ◌≤◌, ◌+◌, ◌<◌, ℕ, zero, suc, List, [], ◌∷◌, ◌++◌, length, take}
-use Rattle.std.proofs.Common.{drop, refl, sym, ap, ◌∙◌, arith}
+use Rattle.std.proofs.Common.{drop, refl, sym, ap, ◌∙◌, arith, append-nil}
 use Rattle.tape_blocks.specs.Block.{Portion}
-use Rattle.tape_core.specs.{Stands.weight_of, Memory.IsLongestFront}
+use Rattle.tape_core.specs.{Stands.weight_of, Memory.IsLongestFront, Weight.IsFront}
 
 weight_more : (x : Portion) (xs : List Portion)
     → weight_of (x ∷ xs) ≡ (5 + length x.bytes) + weight_of xs
@@ -67,3 +67,14 @@ longest_is most xs ys front rest is split weighs =
         (λ part parts is. omega (arith, next part parts is, w, weight_more x xs, weight_more p ps))
         in
         ap (λ (q : Portion). q ∷ ps) (sym a) ∙ ap (λ (l : List Portion). x ∷ l) below
+
+nothing_weighs : (front r : List Portion) → weight_of r ≡ 0 → front ++ r ≡ front
+nothing_weighs front [] h = append-nil front
+nothing_weighs front (p ∷ ps) h = absurd (omega (arith, h, weight_more p ps))
+
+-- a prefix that weighs as much as all parts is all parts
+pub front_of_all : (front all : List Portion) → IsFront front all → weight_of all ≤ weight_of front
+    → all ≡ front
+front_of_all front all (r, e) less =
+    let none : weight_of r ≡ 0 = omega (arith, less, ap weight_of e, weight_of-append front r) in
+    e ∙ nothing_weighs front r none
