@@ -1,17 +1,12 @@
 -- Parts of a block that were put.
 use Rattle.std.specs.Prelude.{◌≡◌, ℕ, ◌<◌, ◌≤◌, ◌==◌, Bool, if◌then◌else◌, List, ◌++◌, length, take}
-use Rattle.std.specs.Prelude.{drop, Option, Some, None, ⊤}
+use Rattle.std.specs.Prelude.{drop, Option, Some}
 use Rattle.tape_blocks.specs.{Block.Portion, Block.Holds, Judged.begun_behind, Spans.InOrder}
-use Rattle.tape_image.specs.Tape.{TapeItem, IsTapeItem, block}
+use Rattle.tape_image.specs.Tape.{TapeItem, block}
 use Rattle.tape_set.specs.{Lawful.FileForm, Position.part_of}
 use Rattle.tape_core.specs.{Point.Point, State.State, Table.saved, Stands.inside_block}
 use Rattle.tape_core.specs.Place.{place_of}
 use Rattle.tape_run.specs.declared.reel_reader.Refused.{Refused}
-
--- an item that was read has a size that items can have
-abbrev pub IsSized : Option TapeItem → Type 0
-IsSized None = ⊤
-IsSized (Some item) = IsTapeItem item
 
 -- The block was checked: it contains parts in span order, in the known form.
 pub record IsChecked (item : Option TapeItem) (new : State) : Type 0 where
