@@ -11,9 +11,6 @@ use Rattle.tape_writer.specs.declared.fault.WriteFault.{WriteFault}
 use Rattle.tape_writer.specs.declared.fault.WriteFault.TheVariants as faults
 use Rattle.tape_writer.specs.declared.fault.WriteFault.TheVariants.{FileBegun}
 use Rattle.tape_writer.specs.Refusals.{IsBeginFault, closed_by}
-use Rattle.tape_writer.proofs.{inputs.Putting.file_told}
-use Rattle.tape_writer.proofs.inputs.Refusing.{input_fault, end_fault}
-use Rattle.tape_writer.proofs.inputs.Putting.{file_out, end_out}
 use Rattle.tape_writer.proofs.inputs.Leaving.{begin_left, none_left, if_any, file_left, end_left}
 use Rattle.tape_writer.proofs.inputs.Leaving.{ended_left, ending_other, end_ends, of_writer}
 use Rattle.tape_writer.proofs.inputs.{Putting.file_told, Putting.end_out, Refusing.input_fault}

@@ -8,10 +8,8 @@ use Rattle.tape_writer.specs.{LeftOf.GaveUp, LeftOf.IsLeftOf, LeftOf.IsLeftUnbeg
 use Rattle.tape_writer.specs.{Told.opened_by, Tapes.Rose, State.IsWriting, Records.records_of}
 use Rattle.std.proofs.Common.{◌≡◌, sym, ap}
 use Rattle.std.proofs.Common.{Some, length-append}
-use Rattle.tape_writer.proofs.{inputs.Leaving.wrote_left}
 use Rattle.tape_writer.specs.declared.fault.WriteFault.{WriteFault}
 use Rattle.tape_writer.specs.{State.SetState, Refusals.closed_by}
-use Rattle.tape_writer.proofs.inputs.Putting.{wrote_out}
 use Rattle.tape_writer.proofs.inputs.files.write_files.Goals as goal
 
 -- no file can begin in an unchanged writer
