@@ -1,6 +1,8 @@
 //! The images that arguments and lists name, opened one at a time.
 
-ghost use Rattle.std.specs.Prelude.{⊤, length, ◌≡◌, ◌++◌, map, IfOk, IfSome};
+ghost use Rattle.std.specs.Prelude.{⊤, length, ◌≡◌, ◌++◌, map, filter_map, slice_get, true};
+ghost use Rattle.std.specs.Prelude.{IfOk, IfSome};
+ghost use Rattle.tape_run.specs.ReadingOrder.{reading_order};
 ghost use Rattle.tape_tool.specs.Names.{end_byte, names_in};
 
 use crate::explain::FaultSite;
@@ -164,12 +166,16 @@ pub fn in_reading_order<'n>(
     names: &[&'n str],
     met: &FoundFiles,
     key: (Field<6>, u16),
-) -> Result<Vec<&'n str>, AllocError> {
+) -> Result<Vec<&'n str>, AllocError>
+    ensures { IfOk result (λ order. map (λ n. n.now) order.items
+        ≡ filter_map (slice_get (map (λ n. n.now) names.now))
+        (reading_order met.now.locations.entries met.now.images key.0 key.1 true)) }
+{
     let (set_id, file) = key;
     let numbers = met.reading_order(alloc, set_id, file, true)?;
     let mut order = Vec::new(alloc);
-    for number in numbers.as_slice() {
-        if let Some(name) = names.get(*number) {
+    for place in 0..numbers.len() {
+        if let Some(name) = names.get(numbers[place]) {
             order.push(*name)?;
         }
     }
