@@ -152,7 +152,8 @@ all_differ (f ∷ firsts) (o ∷ olds) [] (r ∷ rs) m best now beside others h 
     not_so = absurd asked
 all_differ (f ∷ firsts) (o ∷ olds) (n ∷ nows) (r ∷ rs) m best now beside others h at reads least
     (mid, Some y, one, rest) not_so =
-    let first = has_more f o n r (length m) best mid None (Some y) h.0 at.0 at.1 none_yet one in
+    let first = has_more f o n r (length m) best mid None (Some y) h.0 at.0
+    (within_up o.image.status r (length m) at.0 at.1) none_yet one in
     let more = have_more firsts olds nows rs (length m) mid now (Some y) beside h.1 at.2
     (next_other o n best mid None (Some y) none_yet one) rest in
     record {
