@@ -114,7 +114,7 @@ def read(*path):
 
 def words_of(name):
     """The file of the arguments of a command; those of `compare` are with `merge`'s."""
-    return os.path.join("merge" if name == "compare" else name, "words.rt")
+    return {"compare": "merge.rt", "write": os.path.join("write", "words.rt")}.get(name, name + ".rt")
 
 
 def texts():

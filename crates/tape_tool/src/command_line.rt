@@ -1,26 +1,29 @@
 //! The parser of command lines.
 
-use crate::check::words::CHECK;
-use crate::command_spec::{CommandSpec, command_of};
-use crate::extract::words::EXTRACT;
+ghost use Rattle.tape_tool.specs.Words.{IsMistake};
+
+use crate::check::CHECK;
+use crate::command_spec::{CommandSpec, check_numbers, command_of, error_of, mistake};
+use crate::extract::{EXTRACT, ExtractOrder, extract_order};
 use crate::help;
-use crate::init::words::INIT;
-use crate::list::words::LIST;
-use crate::merge::words::{COMPARE, MERGE};
-use crate::salvage::words::SALVAGE;
+use crate::images::Named;
+use crate::init::{INIT, InitOrder, init_order};
+use crate::list::{LIST, ListOrder, list_order};
+use crate::merge::{COMPARE, MERGE, MergeOrder, merge_order};
+use crate::refusal::Refusal;
+use crate::salvage::{SALVAGE, SalvageOrder, salvage_order};
 use crate::shown::Shown;
-use crate::stage::words::STAGE;
-use crate::survey::words::SURVEY;
-use crate::unpack::words::UNPACK;
-use crate::words::{Call, call_in};
-use crate::write::words::WRITE;
+use crate::stage::{STAGE, StageOrder, stage_order};
+use crate::survey::{SURVEY, SurveyOrder, survey_order};
+use crate::unpack::{UNPACK, UnpackOrder, unpack_order};
+use crate::words::{named, named_once, text_of};
+use crate::write::words::{WRITE, WriteOrder, write_order};
 use clap::error::ErrorKind;
-use clap::{Arg, ArgAction, Command, Error};
+use clap::{Arg, ArgAction, ArgMatches, Command, Error};
 use std::alloc::{AllocError, Global};
 
-/// The program and its commands. The usage line shows the name that users know, whatever the file
-/// is called.
-pub const TAPE: CommandSpec = CommandSpec {
+/// The program. The usage line shows the name that users know, whatever the file is called.
+const TAPE: CommandSpec = CommandSpec {
     name: "tape",
     called: "tape",
     about: help::ABOUT,
@@ -29,28 +32,59 @@ pub const TAPE: CommandSpec = CommandSpec {
     words: &[],
 };
 
+/// A parsed command line.
+#[derive(Drop)]
+pub struct Call<'a> {
+    pub order: Order<'a>,
+    pub name: &'a str,
+    /// Whether errors are to be explained.
+    pub explained: bool,
+}
+
+/// A command with its arguments.
+#[derive(Drop)]
+pub enum Order<'a> {
+    /// Lists the image at a path, or on standard input.
+    List(ListOrder<'a>),
+    /// Creates images of volumes without files.
+    Init(InitOrder<'a>),
+    /// Reports the sections on images.
+    Check(Named<'a>),
+    /// Describes images.
+    Survey(SurveyOrder<'a>),
+    /// Writes files to volumes.
+    Write(WriteOrder<'a>),
+    /// Recovers a file from images.
+    Extract(ExtractOrder<'a>),
+    /// Recovers every file on images.
+    Unpack(UnpackOrder<'a>),
+    /// Recovers the readable parts of a file.
+    Salvage(SalvageOrder<'a>),
+    /// Shows a stage.
+    Stage(StageOrder<'a>),
+    /// Merges readings of one tape.
+    Merge(MergeOrder<'a>),
+    /// Compares readings of one tape.
+    Compare(Named<'a>),
+}
+
 /// Returns the request in the arguments `words`, the first of which is the program's name. On
 /// error, returns a usage error or a call for help, with its text, or a refused allocation.
 pub fn call_of<'a>(alloc: Global, words: &'a [String]) -> Result<Call<'a>, Error> {
     match command(alloc)?.try_get_matches_from(words) {
         Ok(matches) => call_in(alloc, &matches),
         Err(error) if error.kind() == ErrorKind::OutOfMemory => Err(error),
-        Err(_) => Err(refused_as_shown(alloc, words)),
+        Err(_) => match refused_as_shown(alloc, words) {
+            Ok(error) => Err(error),
+            Err(error) => Err(Error::from(error)),
+        },
     }
 }
 
 /// Returns the reason why the arguments `words` are refused, in a text that contains them as they
 /// are printed. The parser refuses the printed arguments for the same reason, since none of its
 /// names has a character that is printed differently.
-fn refused_as_shown(alloc: Global, words: &[String]) -> Error {
-    match refusal_of(alloc, words) {
-        Ok(error) => error,
-        Err(error) => Error::from(error),
-    }
-}
-
-/// Does what `refused_as_shown` does, but fails if an allocation is refused.
-fn refusal_of(alloc: Global, words: &[String]) -> Result<Error, AllocError> {
+fn refused_as_shown(alloc: Global, words: &[String]) -> Result<Error, AllocError> {
     let mut shown = Vec::new(alloc);
     for word in words {
         shown.push(format!(in alloc; "{}", Shown(word.as_str()))?)?;
@@ -70,12 +104,81 @@ fn command<'a>(alloc: Global) -> Result<Command<'a>, AllocError> {
         .help(help::EXPLAIN);
     let bare = command_of(alloc, &TAPE)?.version("0.1.0");
     let mut tape = bare.subcommand_required(true).arg(explain)?;
-    let outlines = [
+    let commands = [
         &LIST, &CHECK, &SURVEY, &COMPARE, &MERGE, &EXTRACT, &UNPACK, &SALVAGE, &STAGE, &INIT,
         &WRITE,
     ];
-    for command_spec in &outlines {
+    for command_spec in &commands {
         tape = tape.subcommand(command_of(alloc, *command_spec)?)?;
     }
     Ok(tape)
+}
+
+/// Returns the request in `matches`, the parsed arguments. The parser guarantees that they name one
+/// of the commands.
+fn call_in<'a>(alloc: Global, matches: &ArgMatches<'a>) -> Result<Call<'a>, Error> {
+    let Some((name, words)) = matches.subcommand() else {
+        return Err(mistake(alloc, &TAPE, help::NO_COMMAND));
+    };
+    match name {
+        "extract" => check_numbers(alloc, &EXTRACT, words)?,
+        "salvage" => check_numbers(alloc, &SALVAGE, words)?,
+        "init" => check_numbers(alloc, &INIT, words)?,
+        "write" => check_numbers(alloc, &WRITE, words)?,
+        _ => {}
+    }
+    match order_of(alloc, name, words) {
+        Ok(order) => Ok(Call {
+            name,
+            order,
+            explained: matches.get_flag("explain"),
+        }),
+        Err(refusal) => {
+            let value = match refusal {
+                Refusal::Value(word, _) => text_of(words, word),
+                _ => "",
+            };
+            Err(error_in(alloc, name, value, refusal))
+        }
+    }
+}
+
+/// Returns the usage error of command `name` for the reason `refusal`, which may be that an
+/// argument has the value `value`.
+pub fn error_in(alloc: Global, name: &str, value: &str, refusal: Refusal) -> Error
+    ensures { IsMistake result }
+{
+    match name {
+        "list" => error_of(alloc, &LIST, value, refusal),
+        "check" => error_of(alloc, &CHECK, value, refusal),
+        "survey" => error_of(alloc, &SURVEY, value, refusal),
+        "extract" => error_of(alloc, &EXTRACT, value, refusal),
+        "unpack" => error_of(alloc, &UNPACK, value, refusal),
+        "salvage" => error_of(alloc, &SALVAGE, value, refusal),
+        "stage" => error_of(alloc, &STAGE, value, refusal),
+        "init" => error_of(alloc, &INIT, value, refusal),
+        "write" => error_of(alloc, &WRITE, value, refusal),
+        "merge" => error_of(alloc, &MERGE, value, refusal),
+        "compare" => error_of(alloc, &COMPARE, value, refusal),
+        _ => error_of(alloc, &TAPE, value, refusal),
+    }
+}
+
+/// Returns the request to command `name` in its arguments. The parser has checked that all required
+/// ones are present.
+fn order_of<'a>(alloc: Global, name: &str, words: &ArgMatches<'a>) -> Result<Order<'a>, Refusal> {
+    Ok(match name {
+        "list" => Order::List(list_order(words)?),
+        "check" => Order::Check(named_once(alloc, words, help::TOO_MANY_TO_CHECK)?),
+        "survey" => Order::Survey(survey_order(alloc, words)?),
+        "extract" => Order::Extract(extract_order(alloc, words)?),
+        "unpack" => Order::Unpack(unpack_order(alloc, words)?),
+        "salvage" => Order::Salvage(salvage_order(alloc, words)?),
+        "stage" => Order::Stage(stage_order(words)?),
+        "init" => Order::Init(init_order(words)?),
+        "write" => Order::Write(write_order(alloc, words)?),
+        "merge" => Order::Merge(merge_order(alloc, words)?),
+        "compare" => Order::Compare(named(alloc, words, help::TOO_MANY_TO_COMPARE)?),
+        _ => return Err(Refusal::Words(help::NO_COMMAND)),
+    })
 }

@@ -3,8 +3,10 @@ ghost use Rattle.std.specs.Prelude.{◌≡◌, IfOk};
 ghost use Rattle.clap.specs.Words.{kind_of};
 ghost use Rattle.tape_tool.specs.Words.{IsMistake};
 
+use crate::help;
+use crate::refusal::Refusal;
 use crate::shown::Shown;
-use clap::builder::{ValueParser, ValueRange};
+use clap::builder::ValueParser;
 use clap::error::ErrorKind;
 use clap::{Arg, ArgAction, ArgMatches, Command, Error};
 use std::alloc::{AllocError, Global};
@@ -55,7 +57,10 @@ pub fn command_of<'a>(
     alloc: Global,
     command_spec: &CommandSpec,
 ) -> Result<Command<'a>, AllocError> {
-    let mut command = bare(alloc, command_spec)?;
+    let mut command = Command::new(alloc, command_spec.name)
+        .about(command_spec.about)
+        .after_long_help(command_spec.after_help)
+        .bin_name(command_spec.called)?;
     for word in command_spec.words {
         command = command.arg(argument(alloc, word)?)?;
     }
@@ -65,91 +70,32 @@ pub fn command_of<'a>(
     }
 }
 
-/// Returns the parser's command for `command_spec`, with its texts but without arguments.
-fn bare<'a>(alloc: Global, command_spec: &CommandSpec) -> Result<Command<'a>, AllocError> {
-    Command::new(alloc, command_spec.name)
-        .about(command_spec.about)
-        .after_long_help(command_spec.after_help)
-        .bin_name(command_spec.called)
-}
-
 /// Returns the parser's argument for an argument or an option.
 fn argument<'a>(alloc: Global, word: &Word) -> Result<Arg<'a>, AllocError> {
     let Word(name, kind, help) = word;
     let arg = Arg::new(alloc, *name).help(*help);
-    match *kind {
-        Kind::Flag => Ok(arg.long(*name).action(ArgAction::SetTrue)),
+    Ok(match *kind {
+        Kind::Text | Kind::Number(_, _) => arg.required(true),
+        Kind::Texts => arg.required(true).num_args(1..),
+        Kind::AnyTexts => arg.num_args(..),
+        Kind::Flag => arg.long(*name).action(ArgAction::SetTrue),
         Kind::FlagOf(option) => {
             let flag = arg.long(*name).action(ArgAction::SetTrue);
-            flag.requires_arg(option)
+            flag.requires_arg(option)?
         }
-        kind if is_option(kind) => Ok(option_argument(arg.long(*name), kind)),
-        kind => Ok(word_argument(arg, kind)),
-    }
-}
-
-/// Returns whether an argument of this kind is an option, which has a name.
-fn is_option(kind: Kind) -> bool {
-    matches!(
-        kind,
-        Kind::TextOption(_)
-            | Kind::TextOptions(_)
-            | Kind::NumberOption(_, _)
-            | Kind::NameOption(_, _, _)
-    )
-}
-
-/// Returns `arg` as a positional argument of this kind.
-fn word_argument<'a>(arg: Arg<'a>, kind: Kind) -> Arg<'a> {
-    arg.required(!matches!(kind, Kind::AnyTexts))
-        .num_args(count_of(kind))
-        .value_parser(parser_of(kind))
-}
-
-/// Returns `long` as an option with a value of this kind.
-fn option_argument<'a>(long: Arg<'a>, kind: Kind) -> Arg<'a> {
-    let long = if let Kind::TextOptions(_) = kind {
-        long.action(ArgAction::Append)
-    } else {
-        long
-    };
-    long.value_name(value_name_of(kind))
-        .hide_possible_values(true)
-        .value_parser(parser_of(kind))
-        .default_values(defaults_of(kind))
-}
-
-/// Returns the number of values that an argument of this kind accepts.
-fn count_of(kind: Kind) -> ValueRange {
-    match kind {
-        Kind::Texts => ValueRange::from(1..),
-        Kind::AnyTexts => ValueRange::from(..),
-        _ => ValueRange::from(1),
-    }
-}
-
-/// Returns the parser of the values that are accepted.
-fn parser_of(kind: Kind) -> ValueParser<'static> {
-    match kind {
-        Kind::NameOption(_, names, _) => ValueParser::Names(names),
-        _ => ValueParser::String,
-    }
-}
-
-/// Returns the name of an option's value in help.
-fn value_name_of(kind: Kind) -> &'static str {
-    match kind {
-        Kind::TextOption(name) | Kind::TextOptions(name) | Kind::NameOption(name, _, _) => name,
-        _ => "N",
-    }
-}
-
-/// Returns the default value of an option, if it has one.
-fn defaults_of(kind: Kind) -> &'static [&'static str] {
-    match kind {
-        Kind::NumberOption(_, default) | Kind::NameOption(_, _, default) => default,
-        _ => &[],
-    }
+        Kind::TextOption(value) => arg.long(*name).value_name(value),
+        Kind::TextOptions(value) => { arg.long(*name).value_name(value).action(ArgAction::Append) }
+        Kind::NumberOption(_, default) => {
+            arg.long(*name).value_name("N").default_values(default)
+        }
+        Kind::NameOption(value, names, default) => {
+            arg.long(*name)
+                .value_name(value)
+                .hide_possible_values(true)
+                .value_parser(ValueParser::Names(names))
+                .default_values(default)
+        }
+    })
 }
 
 /// Checks that each number among the arguments `words` of a command is one, within its bounds.
@@ -164,34 +110,40 @@ pub fn check_numbers(
 ) -> Result<(), Error> {
     for word in command_spec.words {
         let Word(name, kind, _) = word;
-        if let (Some(text), Some((least, most))) = (words.get_str(*name), bounds_of(*kind)) {
-            if !is_number_within(text, least, most) {
-                let dashes = if is_option(*kind) { "--" } else { "" };
-                let text_of_bounds = format!(in alloc;
+        let (dashes, least, most) = match *kind {
+            Kind::Number(least, most) => ("", least, most),
+            Kind::NumberOption(most, _) => ("--", 0, most),
+            _ => continue,
+        };
+        if let Some(text) = words.get_str(*name) {
+            let number = text.parse::<u64>();
+            if !number.is_ok_and(|number| least <= number && number <= most) {
+                let bounds = format!(in alloc;
                     "{dashes}{name} must be a number from {least} to {most}"
                 )?;
-                return Err(wrong_value(alloc, command_spec, text, text_of_bounds.as_str()));
+                return Err(wrong_value(alloc, command_spec, text, bounds.as_str()));
             }
         }
     }
     Ok(())
 }
 
-/// Returns the least and the greatest number that an argument of this kind accepts, if its value is
-/// a number.
-fn bounds_of(kind: Kind) -> Option<(u64, u64)> {
-    match kind {
-        Kind::Number(least, most) => Some((least, most)),
-        Kind::NumberOption(most, _) => Some((0, most)),
-        _ => None,
-    }
-}
-
-/// Returns whether the text is a number in decimals between two bounds.
-fn is_number_within(text: &str, least: u64, most: u64) -> bool {
-    match text.parse::<u64>() {
-        Ok(number) => least <= number && number <= most,
-        Err(_) => false,
+/// Returns the usage error of the command for the reason `refusal`, which may be that an argument
+/// has the value `value`. If memory ran out, returns the error for that.
+pub fn error_of(alloc: Global, command_spec: &CommandSpec, value: &str, refusal: Refusal) -> Error
+    ensures { IsMistake result }
+{
+    match refusal {
+        Refusal::Words(text) => mistake(alloc, command_spec, text),
+        Refusal::Value(_, text) => wrong_value(alloc, command_spec, value, text),
+        Refusal::NoText(null, number) => {
+            let what = if null { "name" } else { "line" };
+            match format!(in alloc; "{what} {number} {}", help::NO_TEXT_IN_LIST) {
+                Ok(text) => mistake(alloc, command_spec, text.as_str()),
+                Err(_) => Error::from(AllocError),
+            }
+        }
+        Refusal::Faulted(_) => Error::from(AllocError),
     }
 }
 
@@ -208,7 +160,7 @@ pub fn mistake(alloc: Global, command_spec: &CommandSpec, text: &str) -> Error
 
 /// Returns the usage error for `value`, which is not accepted; the message shows `value` before
 /// `text`.
-pub fn wrong_value(alloc: Global, command_spec: &CommandSpec, value: &str, text: &str) -> Error
+fn wrong_value(alloc: Global, command_spec: &CommandSpec, value: &str, text: &str) -> Error
     ensures { IsMistake result }
 {
     match format!(in alloc; "invalid value \"{}\": {text}", Shown(value)) {

@@ -14,7 +14,7 @@ pub use missing::MISSING_TEXTS;
 pub use missing::explain_missing;
 pub use reason::reason_of;
 use std::{fmt, io};
-use tape_image::{ImageCause, ImageFault};
+use tape_image::ImageCause;
 use tape_run::RunFault;
 use tape_writer::Prefix;
 
@@ -98,12 +98,17 @@ pub struct Explanation<'a> {
 
 impl fmt::Display for Explanation<'_> {
     fn fmt<W: fmt::Write>(&self, f: &mut fmt::Formatter<W>) -> fmt::Result {
+        let is_image = matches!(self.fault, ToolFault::Image(_));
         let text = match self.reason {
-            Some(reason) if is_folder(self.fault, reason) => A_FOLDER,
+            Some(reason) if is_image && reason.kind() == io::ErrorKind::IsADirectory => A_FOLDER,
             _ => text_of(self.fault, self.site),
         };
         let site = site_of(self.fault, self.site);
-        if text != NO_MEMORY && is_at(self.fault, site) && site != FaultSite::Unknown {
+        let is_known = match self.fault {
+            ToolFault::Run(_) => matches!(site, FaultSite::Stage(_)),
+            _ => site != FaultSite::Unknown,
+        };
+        if text != NO_MEMORY && is_known {
             write!(f, "{site}")?;
             if let Some(reason) = self.reason {
                 write!(f, ": {reason}")?;
@@ -127,43 +132,22 @@ fn site_of<'a>(fault: ToolFault, site: FaultSite<'a>) -> FaultSite<'a> {
     }
 }
 
-/// Returns whether `fault` concerns the file at `site`.
-fn is_at(fault: ToolFault, site: FaultSite<'_>) -> bool {
-    match (fault, site) {
-        (ToolFault::Run(_), FaultSite::Stage(_)) => true,
-        (ToolFault::Run(_), _) => false,
-        _ => true,
-    }
-}
-
 /// Returns the explanation of `fault`: what happened, what was saved, and what to do next.
 pub fn text_of(fault: ToolFault, site: FaultSite<'_>) -> &'static str {
     match fault {
         ToolFault::Image(_) if matches!(site, FaultSite::New(_) | FaultSite::Lines) =>
             MERGED_TOO_LONG,
-        ToolFault::Image(fault) => image_text(fault),
+        ToolFault::Image(fault) => match fault.cause {
+            ImageCause::Truncated | ImageCause::LengthsDiffer | ImageCause::Reserved(_)
+                if fault.place == 0 => NO_IMAGE,
+            cause => nth(IMAGE, cause.number()),
+        },
         ToolFault::Label(fault) => nth(LABEL, fault.number()),
         ToolFault::Write(fault) => nth(WRITE, number_of_write(fault)),
         ToolFault::File(fault) => nth(files_at(site), number_of_file(fault)),
         ToolFault::Run(fault) => nth(RUN, fault.number()),
         ToolFault::Stage(fault) => nth(STAGE, fault.number()),
         ToolFault::StageInUse => nth(STAGE, 7),
-    }
-}
-
-/// Returns whether `fault` concerns an image that is a directory, given the system's message.
-fn is_folder(fault: ToolFault, reason: io::Error) -> bool {
-    matches!(fault, ToolFault::Image(_)) && reason.kind() == io::ErrorKind::IsADirectory
-}
-
-/// Returns the explanation of an image fault.
-fn image_text(fault: ImageFault) -> &'static str {
-    let is_first = fault.place == 0;
-    match fault.cause {
-        ImageCause::Truncated | ImageCause::LengthsDiffer | ImageCause::Reserved(_) if is_first => {
-            NO_IMAGE
-        }
-        cause => nth(IMAGE, cause.number()),
     }
 }
 

@@ -1,12 +1,273 @@
-//! The `extract` command: recovers a file of a set from image files.
+//! `extract`: recovers a file of a set from images.
 
 mod draft;
 mod out;
 mod out_file;
-mod run;
-pub mod words;
 
+use crate::command_spec::{CommandSpec, Kind, Word};
+use crate::explain::FaultSite;
+use crate::fault::{OUT_OF_MEMORY, ToolFault};
+use crate::help;
+use crate::host::{Host, Progress};
+use crate::images::{Image, Images, Named, in_reading_order, names_of};
+use crate::program::{End, end_of, extract_end};
+use crate::refusal::Refusal;
+use crate::staging::session_in;
+use crate::words::{FORMS, form_of, named, number_of, out_of, set_id_of, text_of};
+use clap::ArgMatches;
 pub use draft::{Draft, DraftFile, OutName};
+use out::way_of;
 pub use out::{Way, way_to_out};
-pub use out_file::OutFile;
-pub use run::{HELD, are_files, draft_of, extract, extract_whole, gather};
+pub use out_file::Output;
+use std::alloc::Global;
+use std::io::{BufWriter, Write};
+use std::{fs, io};
+use tape_blocks::Form;
+use tape_core::{MemorySink, PartWalk, SinkFault};
+use tape_label::Field;
+use tape_run::{
+    EngineFault, Locations, Mounted, OutSink, RunFault, Session, extract_in_passes,
+    extract_located, extract_streaming, extract_to, find_files, last_line, write_text,
+};
+use tape_set::Want;
+
+/// The maximum number of output bytes that are buffered.
+pub const HELD: usize = 65_536;
+
+/// The request to `extract`: a file of a set, to be recovered from images in their order.
+#[derive(Drop)]
+pub struct ExtractOrder<'a> {
+    pub task: Task<'a>,
+    pub images: Named<'a>,
+}
+
+/// The file of a set to recover, and how to recover it.
+#[derive(Clone, Copy)]
+pub struct Task<'a> {
+    pub set_id: Field<6>,
+    pub file: u16,
+    pub out: &'a str,
+    pub form: Form,
+    /// The path of the stage, where recovered data is saved.
+    pub stage: Option<&'a str>,
+    /// Whether the images are read again until a pass recovers nothing.
+    pub again: bool,
+}
+
+/// The `extract` command and its arguments.
+pub const EXTRACT: CommandSpec = CommandSpec {
+    name: "extract",
+    called: "tape extract",
+    about: help::ABOUT_EXTRACT,
+    after_help: help::AFTER_EXTRACT,
+    usage: None,
+    words: &[
+        Word("SET", Kind::Text, help::SET),
+        Word("FILE", Kind::Number(1, 9_999), help::FILE),
+        Word("OUT", Kind::Text, help::OUT),
+        Word("IMAGE", Kind::AnyTexts, help::REELS),
+        Word("files-from", Kind::TextOption("LIST"), help::FROM),
+        Word("null", Kind::FlagOf("files-from"), help::NULL),
+        Word(
+            "form",
+            Kind::NameOption("FORM", FORMS, &["lines"]),
+            help::FORM_OF_OUT,
+        ),
+        Word("stage", Kind::TextOption("PATH"), help::STAGE),
+        Word("again", Kind::Flag, help::AGAIN),
+    ],
+};
+
+/// Returns the request in `matches`, the arguments of `extract`.
+pub fn extract_order<'a>(
+    alloc: Global,
+    matches: &ArgMatches<'a>,
+) -> Result<ExtractOrder<'a>, Refusal> {
+    let Some(set_id) = set_id_of(text_of(matches, "SET")) else {
+        return Err(Refusal::Value("SET", help::WRONG_SET));
+    };
+    let task = Task {
+        set_id,
+        file: number_of(matches, "FILE"),
+        out: out_of(matches, help::OUT_IS_DASH)?,
+        form: form_of(matches),
+        stage: matches.get_str("stage"),
+        again: matches.get_flag("again"),
+    };
+    let images = named(alloc, matches, help::TOO_MANY_IMAGES)?;
+    Ok(ExtractOrder { task, images })
+}
+
+/// Recovers the file that the arguments name. If `explained`, names each image on standard error
+/// before it is read. On error, `site` says where it occurred.
+pub fn extract<'a, R: Progress>(
+    rt: &R,
+    order: &ExtractOrder<'a>,
+    explained: bool,
+    site: &mut FaultSite<'a>,
+) -> Result<End, Refusal> {
+    let task = &order.task;
+    let mut text = String::new(rt.alloc());
+    let named = names_of(rt, &order.images, &mut text, site)?;
+    *site = FaultSite::Out(task.out);
+    let way = way_of(rt, order, named.as_slice())?;
+    let names = names_to_read(rt, task, named.as_slice())?;
+    let images = &mut Images::new(rt, names.as_slice());
+    if explained {
+        images.name_reels();
+    }
+    let Some(path) = task.stage else {
+        return Ok(extract_now(rt, task, images, way)?);
+    };
+    let mut session = match session_in(rt, path, task.set_id, task.file) {
+        Ok(session) => session,
+        Err(fault) => {
+            *site = FaultSite::Stage(path);
+            return Err(Refusal::from(fault));
+        }
+    };
+    let output = Output::new(rt, task.out, way)?;
+    let end = gather(rt, task, images, output, &mut io::writer(rt), &mut session);
+    if let End::Faulted(ToolFault::Run(_)) = end {
+        *site = FaultSite::Stage(path);
+    }
+    Ok(end)
+}
+
+/// Returns the names in the order in which the images are read. If they may be read again, and each
+/// is a file, they are surveyed first, and those on which a section of the file begins come first.
+fn names_to_read<'n, R: Progress>(
+    rt: &'n R,
+    task: &Task<'_>,
+    names: &'n [&'n str],
+) -> Result<Vec<&'n str>, ToolFault> {
+    if task.again && names.len() > 1 && are_files(rt, names) {
+        let met = find_files(rt.alloc(), &mut Images::new(rt, names))?;
+        return Ok(in_reading_order(rt.alloc(), names, &met, (task.set_id, task.file))?);
+    }
+    Ok(Vec::from_slice(rt.alloc(), names)?)
+}
+
+/// Returns whether each of these is a plain file, or does not exist: only these can be read twice.
+pub fn are_files<R: Host>(rt: &R, names: &[&str]) -> bool {
+    for name in names {
+        if let Ok(found) = fs::metadata(rt, *name) {
+            if !found.is_file() {
+                return false;
+            }
+        }
+    }
+    true
+}
+
+/// Recovers a file without a stage. If the images are read once, writes the records as they are
+/// read, unless the output is written in place; otherwise holds its data in memory. If the images
+/// are read repeatedly, the data of a suspect reel can be dropped again: the session has a
+/// checkpoint at its start.
+fn extract_now<R: Progress>(
+    rt: &R,
+    task: &Task<'_>,
+    images: &mut Images<'_, R>,
+    way: Way,
+) -> Result<End, ToolFault> {
+    let report = &mut io::writer(rt);
+    let sink = MemorySink::new(rt.alloc());
+    let Ok(mut session) = Session::new(rt.alloc(), task.set_id, task.file, sink) else {
+        return Ok(End::WrongWords);
+    };
+    if task.again && session.note().is_err() {
+        return Err(OUT_OF_MEMORY);
+    }
+    let output = Output::new(rt, task.out, way)?;
+    match output {
+        Output::New(draft) if !task.again => {
+            let Draft { mut name, file } = draft;
+            let end = match session_into(rt.alloc(), task, file) {
+                Ok(mut session) => end_as_written(extract_streaming(
+                    &mut session,
+                    images,
+                    task.form,
+                    &mut name,
+                    report,
+                )),
+                Err(end) => end,
+            };
+            Ok(name.ended(end))
+        }
+        output => Ok(gather(rt, task, images, output, report, &mut session)),
+    }
+}
+
+/// Returns a session whose records are written to `file`.
+fn session_into<F: Write + Drop>(
+    alloc: Global,
+    task: &Task<'_>,
+    file: F,
+) -> Result<Session<OutSink<BufWriter<F>>>, End> {
+    let Ok(out) = BufWriter::with_capacity(alloc, HELD, file) else {
+        return Err(End::Faulted(OUT_OF_MEMORY));
+    };
+    match Session::new(alloc, task.set_id, task.file, OutSink::new(out, task.form)) {
+        Ok(session) => Ok(session),
+        Err(_) => Err(End::WrongWords),
+    }
+}
+
+/// Returns how the run ends: a part that could not be stored is a record that could not be written.
+fn end_as_written(answer: Result<Option<Want>, EngineFault>) -> End {
+    match answer {
+        Err(EngineFault::Run(RunFault::Sink(SinkFault::Device))) => {
+            extract_end(Err(EngineFault::WriteFailed))
+        }
+        answer => extract_end(answer),
+    }
+}
+
+/// Reads the images into the session, and writes the recovered file to `output` if it is complete.
+pub fn gather<R: Progress, S: PartWalk + Drop, P: Write>(
+    rt: &R,
+    task: &Task<'_>,
+    images: &mut Images<'_, R>,
+    output: Output<'_, R>,
+    report: &mut P,
+    session: &mut Session<S>,
+) -> End {
+    let mut output = output;
+    if let Ok(mut out) = BufWriter::with_capacity(rt.alloc(), HELD, &mut output) {
+        let answer = if task.again {
+            extract_in_passes(session, images, task.form, &mut out, report)
+        } else {
+            extract_to(session, images, task.form, &mut out, report)
+        };
+        return out.get_mut().ended(extract_end(answer));
+    }
+    output.ended(End::Faulted(OUT_OF_MEMORY))
+}
+
+/// Recovers a file from the images that contain its sections, and prints the last line if it is
+/// complete. The last image stays open, so that the next file can continue there.
+pub fn extract_whole<'a, R: Progress, P: Write>(
+    rt: &'a R,
+    task: &Task<'a>,
+    images: &mut Images<'_, R>,
+    mounted: &mut Option<Mounted<Image<R>>>,
+    locations: &Locations,
+    report: &mut P,
+) -> Result<End, ToolFault> {
+    let Draft { mut name, file } = Draft::over(rt, task.out, None)?;
+    let end = match session_into(rt.alloc(), task, file) {
+        Ok(mut session) => {
+            let session = &mut session;
+            match extract_located(session, images, mounted, locations, task.form, &mut name) {
+                Ok(Some(records)) => {
+                    let told = write_text(report, last_line(None, records).as_bytes());
+                    end_of(told.map_err(|fault| ToolFault::from(fault)))
+                }
+                Ok(None) => End::Incomplete,
+                Err(fault) => end_as_written(Err(fault)),
+            }
+        }
+        Err(end) => end,
+    };
+    Ok(name.ended(end))
+}

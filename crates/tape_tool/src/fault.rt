@@ -3,7 +3,7 @@ ghost use Rattle.std.specs.Prelude.{◌≡◌};
 ghost use Rattle.tape_writer.specs.declared.system.fault.FileFault.TheVariants as files;
 ghost use Rattle.tape_tool.specs.Fault.{file_number, write_number, of_system, of_engine, of_list};
 ghost use Rattle.tape_tool.specs.Fault.{no_memory};
-ghost use Rattle.tape_tool.specs.declared.fault.ToolFault.TheVariants.{Image, File};
+ghost use Rattle.tape_tool.specs.declared.fault.ToolFault.TheVariants.{File, Run};
 
 use std::alloc::AllocError;
 use tape_image::ImageFault;
@@ -68,19 +68,19 @@ pub enum ToolFault {
 /// The fault if memory runs out, also for the arguments of the command line.
 pub const OUT_OF_MEMORY: ToolFault = ToolFault::Run(RunFault::OutOfMemory);
 
-impl From<ImageFault> for ToolFault {
-    ghost from_gives = { λ fault e. e ≡ Image fault };
-
-    fn from(fault: ImageFault) -> ToolFault {
-        ToolFault::Image(fault)
-    }
-}
-
 impl From<FileFault> for ToolFault {
     ghost from_gives = { λ fault e. e ≡ File fault };
 
     fn from(fault: FileFault) -> ToolFault {
         ToolFault::File(fault)
+    }
+}
+
+impl From<RunFault> for ToolFault {
+    ghost from_gives = { λ fault e. e ≡ Run fault };
+
+    fn from(fault: RunFault) -> ToolFault {
+        ToolFault::Run(fault)
     }
 }
 

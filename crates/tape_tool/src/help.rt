@@ -8,32 +8,14 @@ mod survey;
 mod unpack;
 mod volumes;
 
-pub use extract::{
-    ABOUT_EXTRACT, AFTER_EXTRACT, AGAIN, FILE, FORM_OF_OUT, OUT, OUT_IS_DASH, OUT_IS_IMAGE,
-    OUT_IS_LIST, OUT_IS_STAGE, REELS, SET, STAGE, TOO_MANY_IMAGES, WRONG_SET,
-};
-pub use lists::{
-    EMPTY_LIST, FROM, INPUT_TWICE, NO_IMAGE, NO_TEXT_IN_LIST, NUL_IN_LINES, NULL, ODD_LINES,
-    TOO_MANY_TO_CHECK, TOO_MANY_TO_SURVEY,
-};
-pub use merge::{
-    ABOUT_COMPARE, ABOUT_MERGE, AFTER_COMPARE, AFTER_MERGE, LOG, LOG_IS_DASH, MERGED_OUT,
-    MERGED_OUT_IS_DASH, ONE_READING, READINGS, TOO_MANY_TO_COMPARE, TOO_MANY_TO_MERGE,
-};
-pub use salvage::{
-    ABOUT_SALVAGE, AFTER_SALVAGE, FORM_OF_SALVAGED, OUT_OF_SALVAGE, TOO_MANY_TO_SALVAGE,
-};
-pub use stage::{ABOUT_STAGE, AFTER_STAGE, DAMAGED, ONE_OUT, OUT_OF_STAGE, STAGE_READ};
-pub use survey::{ABOUT_SURVEY, AFTER_SURVEY, ROWS, SHELF};
-pub use unpack::{
-    ABOUT_UNPACK, AFTER_UNPACK, DIR_IS_NO_FOLDER, FILES_TO_UNPACK, FOLDER_OF_FILES, FORM_OF_FILES,
-    LIST_ONLY, SALVAGE_FILES, SET_TO_UNPACK, TOO_MANY_TO_UNPACK,
-};
-pub use volumes::{
-    ABOUT_INIT, ABOUT_WRITE, AFTER_INIT, AFTER_WRITE, BLOCK, CAPACITY, COUNT, FILES, FOLDER, FORM,
-    FORMAT, INPUT_IS_IMAGE, NO_FOLDER, NO_PATH, NO_RECORD, OFFSET, PAD_FULL, PREFIX, RAW_COUNTED,
-    RECORD, RECORD_WANTED, WRONG_CAPACITY, WRONG_PREFIX,
-};
+pub use extract::*;
+pub use lists::*;
+pub use merge::*;
+pub use salvage::*;
+pub use stage::*;
+pub use survey::*;
+pub use unpack::*;
+pub use volumes::*;
 
 /// The error if no command is named. The parser reports this itself.
 pub const NO_COMMAND: &str = "name a command, for example 'tape list'";

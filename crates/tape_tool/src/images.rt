@@ -6,16 +6,15 @@ ghost use Rattle.tape_run.specs.ReadingOrder.{reading_order};
 ghost use Rattle.tape_tool.specs.Names.{end_byte, names_in};
 
 use crate::explain::FaultSite;
-use crate::fault::{FileFault, OUT_OF_MEMORY};
+use crate::fault::FileFault;
 use crate::help;
 use crate::host::{Host, Progress};
 use crate::read_ahead::ReadAhead;
-use crate::refusal::{Refusal, refused};
+use crate::refusal::{Refusal, open};
 use crate::shown::Shown;
 use std::alloc::{AllocError, Global};
 use std::fs::File;
 use std::io::{ErrorKind, Read};
-use std::rt::Runtime;
 use std::{fmt, io};
 use tape_label::Field;
 use tape_run::{FoundFiles, ImageSource, is_passed};
@@ -46,7 +45,7 @@ pub struct List<'a> {
 /// Returns `Faulted` with `NotOpened` or `ReadFailed` if the list could not be read to its end, or
 /// with `OutOfMemory`; `NoText` if it is not UTF-8; `Words` if a line contains a NUL, or if no
 /// image is named.
-pub fn names_of<'t, 'a: 't, R: Runtime + AllocGlobal>(
+pub fn names_of<'t, 'a: 't, R: Host>(
     rt: &R,
     named: &Named<'a>,
     text: &'t mut String,
@@ -58,48 +57,40 @@ pub fn names_of<'t, 'a: 't, R: Runtime + AllocGlobal>(
         *text = read_list(rt, list)?;
         null = list.null;
     }
-    match all_names(rt.alloc(), named.words.as_slice(), text.as_str(), null) {
-        Ok(names) if names.is_empty() && named.list.is_none() => {
-            Err(Refusal::Words(help::NO_IMAGE))
-        }
-        Ok(names) if names.is_empty() => Err(Refusal::Words(help::EMPTY_LIST)),
-        Ok(names) => Ok(names),
-        Err(_) => Err(no_memory()),
+    let names = all_names(rt.alloc(), named.words.as_slice(), text.as_str(), null)?;
+    if names.is_empty() {
+        return Err(Refusal::Words(match named.list {
+            None => help::NO_IMAGE,
+            Some(_) => help::EMPTY_LIST,
+        }));
     }
+    Ok(names)
 }
 
 /// Returns the text of a list.
-fn read_list<R: Runtime + AllocGlobal>(rt: &R, list: List<'_>) -> Result<String, Refusal> {
-    match String::from_utf8(bytes_of(rt, list)?) {
+fn read_list<R: Host>(rt: &R, list: List<'_>) -> Result<String, Refusal> {
+    let bytes = match list.file {
+        None => read_all(rt.alloc(), &mut rt.reader())?,
+        Some(path) => read_all(rt.alloc(), &mut open(rt, path)?)?,
+    };
+    let text = match String::from_utf8(bytes) {
+        Ok(text) => text,
         Err(error) => {
             let place = error.utf8_error().valid_up_to();
-            Err(Refusal::NoText(list.null, number_at(error.as_bytes(), list.null, place)))
+            let number = number_at(error.as_bytes(), list.null, place);
+            return Err(Refusal::NoText(list.null, number));
         }
-        // No file name contains a NUL.
-        Ok(text) if !list.null && text.as_str().contains('\0') => {
-            Err(Refusal::Words(help::NUL_IN_LINES))
-        }
-        Ok(text) if !list.null && is_of_windows(text.as_str()) => {
-            Err(Refusal::Words(help::ODD_LINES))
-        }
-        Ok(text) => Ok(text),
-    }
-}
-
-/// Returns whether a list of lines begins with a byte order mark, or one of its lines ends with a
-/// carriage return.
-fn is_of_windows(text: &str) -> bool {
-    text.starts_with('\u{FEFF}') || text.contains("\r\n") || text.ends_with('\r')
-}
-
-/// Returns the bytes of a list.
-fn bytes_of<R: Runtime + AllocGlobal>(rt: &R, list: List<'_>) -> Result<Vec<u8>, Refusal> {
-    let Some(path) = list.file else {
-        return read_all(rt.alloc(), &mut rt.reader());
     };
-    match File::open(rt, path) {
-        Ok(mut file) => read_all(rt.alloc(), &mut file),
-        Err(_) => Err(refused(FileFault::NotOpened)),
+    let lines = text.as_str();
+    if list.null {
+        Ok(text)
+    } else if lines.contains('\0') {
+        // No file name contains a NUL.
+        Err(Refusal::Words(help::NUL_IN_LINES))
+    } else if lines.starts_with('\u{FEFF}') || lines.contains("\r\n") || lines.ends_with('\r') {
+        Err(Refusal::Words(help::ODD_LINES))
+    } else {
+        Ok(text)
     }
 }
 
@@ -111,21 +102,19 @@ fn read_all<D: Read>(alloc: Global, device: &mut D) -> Result<Vec<u8>, Refusal>
     let mut bytes = Vec::new(alloc);
     match device.read_to_end(&mut bytes) {
         Ok(_) => Ok(bytes),
-        Err(error) if error.kind() == ErrorKind::OutOfMemory => Err(no_memory()),
-        Err(_) => Err(refused(FileFault::ReadFailed)),
+        Err(error) if error.kind() == ErrorKind::OutOfMemory => Err(Refusal::from(AllocError)),
+        Err(_) => Err(Refusal::from(FileFault::ReadFailed)),
     }
 }
 
 /// Returns the number, counted from 1, of the name at offset `place` of `list`; empty names count.
 fn number_at(list: &[u8], null: bool, place: usize) -> usize {
     let end = end_of(null);
-    let mut number = 1usize;
-    for byte in list.iter().take(place) {
-        if char::from(*byte) == end {
-            number = number.saturating_add(1);
-        }
-    }
-    number
+    let before = list.iter().take(place);
+    before
+        .filter(|byte| char::from(**byte) == end)
+        .count()
+        .saturating_add(1)
 }
 
 /// Returns the names in the arguments `words`, followed by those in `text`, the contents of a list.
@@ -152,11 +141,6 @@ fn end_of(null: bool) -> char
     ensures { result ≡ end_byte null }
 {
     if null { '\0' } else { '\n' }
-}
-
-/// Returns the fault of an allocation that was refused.
-fn no_memory() -> Refusal {
-    Refusal::Faulted(OUT_OF_MEMORY)
 }
 
 /// Returns the names in the order in which the images of file `key` are read
@@ -328,11 +312,10 @@ impl<'a, R: Progress> Images<'a, R> {
     /// Creates the source of the images named `names`, which begin with the arguments `named`. The
     /// first `-` among the arguments means standard input; in a list it is the name of a file.
     pub fn or_input(rt: &'a R, names: &'a [&'a str], named: &Named<'_>) -> Images<'a, R> {
+        let input = named.words.iter().position(|word| *word == "-");
         Images {
-            rt,
-            names,
-            input: named.words.iter().position(|word| *word == "-"),
-            reels: None,
+            input,
+            ..Images::new(rt, names)
         }
     }
 }

@@ -1,5 +1,63 @@
-//! `init`: creates images of volumes without files.
-mod run;
-pub mod words;
+//! `init`: creates images of volumes without files, in a directory.
 
-pub use run::init;
+use crate::command_spec::{CommandSpec, Kind, Word};
+use crate::explain::FaultSite;
+use crate::fault::ToolFault;
+use crate::help;
+use crate::host::Host;
+use crate::refusal::Refusal;
+use crate::words::{folder_of, number_of, prefix_of};
+use clap::ArgMatches;
+use std::io;
+use tape_run::{flush, write_text};
+use tape_writer::Prefix;
+use tape_writer::system::{image_path, make_image};
+
+/// The request to `init`: the directory, the prefix and the number of volumes to create.
+#[derive(Clone, Copy)]
+pub struct InitOrder<'a> {
+    pub folder: &'a str,
+    pub prefix: Prefix,
+    pub count: u16,
+}
+
+/// The `init` command and its arguments.
+pub const INIT: CommandSpec = CommandSpec {
+    name: "init",
+    called: "tape init",
+    about: help::ABOUT_INIT,
+    after_help: help::AFTER_INIT,
+    usage: None,
+    words: &[
+        Word("DIR", Kind::Text, help::FOLDER),
+        Word("PRE", Kind::Text, help::PREFIX),
+        Word("COUNT", Kind::Number(1, 999), help::COUNT),
+    ],
+};
+
+/// Returns the request in `matches`, the arguments of `init`.
+pub fn init_order<'a>(matches: &ArgMatches<'a>) -> Result<InitOrder<'a>, Refusal> {
+    Ok(InitOrder {
+        folder: folder_of(matches)?,
+        prefix: prefix_of(matches)?,
+        count: number_of(matches, "COUNT"),
+    })
+}
+
+/// Creates the images one by one, and prints their number. On error, `site` says where it occurred.
+pub fn init<'a, R: Host>(
+    rt: &R,
+    order: &InitOrder<'a>,
+    site: &mut FaultSite<'a>,
+) -> Result<(), ToolFault> {
+    for number in 1..=order.count {
+        *site = FaultSite::Volume(order.folder, order.prefix, number);
+        let path = image_path(rt.alloc(), order.folder, order.prefix, number)?;
+        make_image(rt, path.as_str(), order.prefix, number)?;
+    }
+    *site = FaultSite::Lines;
+    let line = format!(in rt.alloc(); "INIT {}\n", order.count)?;
+    let out = &mut io::writer(rt);
+    write_text(out, line.as_bytes())?;
+    Ok(flush(out)?)
+}

@@ -1,5 +1,82 @@
 //! `list`: the items of an image.
-mod run;
-pub mod words;
 
-pub use run::list;
+use crate::command_spec::{CommandSpec, Kind, Word};
+use crate::explain::FaultSite;
+use crate::fault::{FileFault, ToolFault};
+use crate::help;
+use crate::host::Progress;
+use crate::images::{ImageBytes, image_of};
+use crate::program::{End, end_of};
+use crate::refusal::{Refusal, open};
+use crate::words::at_most_one;
+use clap::ArgMatches;
+use std::io;
+use std::io::BufWriter;
+use tape_image::{ImageCause, ImageFault};
+use tape_run::{list_places_to, list_to};
+
+/// The request to `list`: an image at a path, or standard input.
+#[derive(Clone, Copy)]
+pub struct ListOrder<'a> {
+    pub image: Option<&'a str>,
+    /// Whether the offset and the size of each item are printed.
+    pub offsets: bool,
+}
+
+/// The `list` command and its arguments. It accepts any number of images, so that the error for a
+/// second one can suggest a loop.
+pub const LIST: CommandSpec = CommandSpec {
+    name: "list",
+    called: "tape list",
+    about: help::ABOUT_LIST,
+    after_help: help::AFTER_LIST,
+    usage: Some("tape list [--offsets] [IMAGE]"),
+    words: &[
+        Word("IMAGE", Kind::AnyTexts, help::IMAGE),
+        Word("offsets", Kind::Flag, help::OFFSETS),
+    ],
+};
+
+/// Returns the request in `matches`, the arguments of `list`.
+pub fn list_order<'a>(matches: &ArgMatches<'a>) -> Result<ListOrder<'a>, Refusal> {
+    Ok(ListOrder {
+        image: at_most_one(matches, "IMAGE", help::DASH, help::ONE_IMAGE)?,
+        offsets: matches.get_flag("offsets"),
+    })
+}
+
+/// The fault if a buffer cannot be allocated.
+const NO_MEMORY: ToolFault = ToolFault::Image(ImageFault {
+    place: 0,
+    cause: ImageCause::OutOfMemory,
+});
+
+/// Lists the image at the path in `order`, or the one on standard input, on standard output. On
+/// error, `site` says where it occurred.
+pub fn list<'a, R: Progress>(rt: &R, order: ListOrder<'a>, site: &mut FaultSite<'a>) -> End {
+    *site = match order.image {
+        None => FaultSite::Stdin,
+        Some(path) => FaultSite::Image(path),
+    };
+    let listed = list_image(rt, order);
+    if let Err(ToolFault::File(FileFault::WriteFailed)) = listed {
+        *site = FaultSite::Lines;
+    }
+    end_of(listed)
+}
+
+/// Lists an image. The image and standard output are buffered.
+fn list_image<R: Progress>(rt: &R, order: ListOrder<'_>) -> Result<(), ToolFault> {
+    let bytes = match order.image {
+        None => ImageBytes::Input(rt.reader()),
+        Some(path) => ImageBytes::Named(open(rt, path)?),
+    };
+    let mut image = image_of(rt, 0, 1, bytes).map_err(|_| NO_MEMORY)?;
+    let mut writer = BufWriter::new(rt.alloc(), io::writer(rt)).map_err(|_| NO_MEMORY)?;
+    let listed = if order.offsets {
+        list_places_to(rt.alloc(), &mut image, &mut writer)
+    } else {
+        list_to(rt.alloc(), &mut image, &mut writer)
+    };
+    Ok(listed?)
+}

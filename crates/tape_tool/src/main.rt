@@ -3,15 +3,17 @@
 
 // A run, from its arguments to its exit status.
 mod program;
-mod words;
 
 // The report on how a run ends.
 mod diagnostics;
 mod fault;
 
-// The texts of the program.
+// The arguments.
 mod command_line;
 mod command_spec;
+mod words;
+
+// The texts of the program.
 mod explain;
 mod help;
 

@@ -1,5 +1,213 @@
 //! `merge` and `compare`: several readings of one tape.
-mod run;
-pub mod words;
 
-pub use run::{compare, merge};
+use crate::command_spec::{CommandSpec, Kind, Word};
+use crate::explain::FaultSite;
+use crate::extract::{Draft, DraftFile, HELD, OutName};
+use crate::fault::{FileFault, OUT_OF_MEMORY, ToolFault};
+use crate::help;
+use crate::host::{Host, Progress};
+use crate::images::{Images, Named, names_of};
+use crate::program::End;
+use crate::refusal::Refusal;
+use crate::words::{named, out_of};
+use clap::ArgMatches;
+use std::alloc::Global;
+use std::io;
+use std::io::{BufWriter, Sink, Write};
+use tape_image::{ImageCause, ImageFault};
+use tape_run::{MergeEnd, MergeStop, Place, WriteFailed, merge_now};
+
+/// The request to `merge`: the readings to merge, and the files to create.
+#[derive(Drop)]
+pub struct MergeOrder<'a> {
+    /// The image that is created.
+    pub out: &'a str,
+    /// The path of the log to be created.
+    pub log: Option<&'a str>,
+    pub images: Named<'a>,
+}
+
+/// The `merge` command and its arguments.
+pub const MERGE: CommandSpec = CommandSpec {
+    name: "merge",
+    called: "tape merge",
+    about: help::ABOUT_MERGE,
+    after_help: help::AFTER_MERGE,
+    usage: None,
+    words: &[
+        Word("OUT", Kind::Text, help::MERGED_OUT),
+        Word("log", Kind::TextOption("LOG"), help::LOG),
+        Word("IMAGE", Kind::AnyTexts, help::READINGS),
+        Word("files-from", Kind::TextOption("LIST"), help::FROM),
+        Word("null", Kind::FlagOf("files-from"), help::NULL),
+    ],
+};
+
+/// The `compare` command and its arguments.
+pub const COMPARE: CommandSpec = CommandSpec {
+    name: "compare",
+    called: "tape compare",
+    about: help::ABOUT_COMPARE,
+    after_help: help::AFTER_COMPARE,
+    usage: None,
+    words: &[
+        Word("IMAGE", Kind::AnyTexts, help::READINGS),
+        Word("files-from", Kind::TextOption("LIST"), help::FROM),
+        Word("null", Kind::FlagOf("files-from"), help::NULL),
+    ],
+};
+
+/// Returns the request in `matches`, the arguments of `merge`.
+pub fn merge_order<'a>(alloc: Global, matches: &ArgMatches<'a>) -> Result<MergeOrder<'a>, Refusal> {
+    let out = out_of(matches, help::MERGED_OUT_IS_DASH)?;
+    let log = matches.get_str("log");
+    if let Some("-") = log {
+        return Err(Refusal::Words(help::LOG_IS_DASH));
+    }
+    let images = named(alloc, matches, help::TOO_MANY_TO_MERGE)?;
+    Ok(MergeOrder { out, log, images })
+}
+
+/// Merges the readings named in the arguments into a new image, and creates its log if one is
+/// requested. On error, `site` says where it occurred.
+pub fn merge<'a, R: Progress>(
+    rt: &R,
+    order: &MergeOrder<'a>,
+    site: &mut FaultSite<'a>,
+) -> Result<End, Refusal> {
+    let mut text = String::new(rt.alloc());
+    let names = readings_of(rt, &order.images, &mut text, site)?;
+    let names = names.as_slice();
+    *site = FaultSite::New(order.out);
+    let Draft { mut name, file } = Draft::new(rt, order.out)?;
+    let end = match (BufWriter::with_capacity(rt.alloc(), HELD, file), order.log) {
+        (Ok(out), None) => {
+            let rows = &mut io::sink();
+            merge_files(rt, &order.images, names, out, &mut name, rows, None, site)
+        }
+        (Ok(out), Some(log)) => merge_logged(rt, order, log, names, out, &mut name, site),
+        (Err(_), _) => End::Faulted(OUT_OF_MEMORY),
+    };
+    Ok(name.ended(end))
+}
+
+/// Merges the images named `names`, and creates the log. The log gets its name before the merged
+/// image does, and loses it again if the merged image cannot get its own.
+fn merge_logged<'a, R: Progress>(
+    rt: &R,
+    order: &MergeOrder<'a>,
+    log: &'a str,
+    names: &[&str],
+    out: BufWriter<DraftFile>,
+    name: &mut OutName<'_, R>,
+    site: &mut FaultSite<'a>,
+) -> End {
+    *site = FaultSite::Log(log);
+    let mut draft = match Draft::new(rt, log) {
+        Ok(draft) => draft,
+        Err(fault) => return End::Faulted(fault),
+    };
+    *site = FaultSite::New(order.out);
+    let end = match BufWriter::with_capacity(rt.alloc(), HELD, &mut draft) {
+        Ok(mut rows) => {
+            merge_files(
+                rt,
+                &order.images,
+                names,
+                out,
+                name,
+                &mut rows,
+                Some(log),
+                site,
+            )
+        }
+        Err(_) => End::Faulted(OUT_OF_MEMORY),
+    };
+    if !name.has_taken() {
+        draft.name.give_back();
+    }
+    draft.name.ended(end)
+}
+
+/// Compares the readings named in the arguments. On error, `site` says where it occurred.
+pub fn compare<'a, R: Progress>(
+    rt: &R,
+    named: &Named<'a>,
+    site: &mut FaultSite<'a>,
+) -> Result<End, Refusal> {
+    let mut text = String::new(rt.alloc());
+    let names = readings_of(rt, named, &mut text, site)?;
+    *site = FaultSite::Lines;
+    let (names, rows) = (names.as_slice(), &mut io::sink());
+    Ok(merge_files(rt, named, names, io::sink(), &mut Nowhere, rows, None, site))
+}
+
+/// A destination of the merged image that discards it, for `compare`.
+#[derive(Drop)]
+struct Nowhere;
+
+impl Place<Sink> for Nowhere {
+    ghost use Rattle.std.specs.Prelude.{None};
+
+    ghost stands = { λ _. None };
+
+    fn place(&mut self, _out: Sink) -> Result<(), WriteFailed> {
+        Ok(())
+    }
+}
+
+/// Returns the names of the readings, at least two.
+fn readings_of<'t, 'a: 't, R: Host>(
+    rt: &R,
+    named: &Named<'a>,
+    text: &'t mut String,
+    site: &mut FaultSite<'a>,
+) -> Result<Vec<&'t str>, Refusal> {
+    match names_of(rt, named, text, site) {
+        Ok(names) if names.len() < 2 => Err(Refusal::Words(help::ONE_READING)),
+        answer => answer,
+    }
+}
+
+/// Merges the images named `names`, and writes the rows of the log. If the error is in an image or
+/// the log, `site` says in which.
+fn merge_files<'a, R: Progress, W: Write + Drop, O: Place<W>, G: Write>(
+    rt: &R,
+    named: &Named<'a>,
+    names: &[&str],
+    out: W,
+    place: &mut O,
+    rows: &mut G,
+    log: Option<&'a str>,
+    site: &mut FaultSite<'a>,
+) -> End {
+    let (images, report) = (&mut Images::new(rt, names), &mut io::writer(rt));
+    let stop = match merge_now(rt.alloc(), images, names, out, place, rows, report) {
+        Ok(MergeEnd::Whole) => return End::Done,
+        Ok(MergeEnd::Partial | MergeEnd::Differs) => return End::Incomplete,
+        Err(stop) => stop,
+    };
+    End::Faulted(match stop {
+        MergeStop::NotOpened(number) => {
+            *site = match named.words.get(number) {
+                Some(name) => FaultSite::Image(*name),
+                None => FaultSite::Listed(
+                    number.saturating_sub(named.words.len()).saturating_add(1),
+                ),
+            };
+            ToolFault::File(FileFault::NotOpened)
+        }
+        MergeStop::TooLong(place) => ToolFault::Image(ImageFault {
+            place,
+            cause: ImageCause::TooLong,
+        }),
+        MergeStop::OutOfMemory => OUT_OF_MEMORY,
+        MergeStop::WriteFailed => ToolFault::File(FileFault::WriteFailed),
+        MergeStop::LogFailed => {
+            if let Some(path) = log {
+                *site = FaultSite::Log(path);
+            }
+            ToolFault::File(FileFault::WriteFailed)
+        }
+    })
+}

@@ -3,13 +3,11 @@
 ghost use Rattle.std.specs.Prelude.{◌≡◌, ◌≢◌, Bool, IfErr};
 ghost use Rattle.clap.specs.Words.{kind_of};
 ghost use Rattle.tape_tool.specs.Ends.{exit_status, no_words_end, words_end, IsRefusalEnd};
-ghost use Rattle.tape_tool.specs.Ends.{IsWrongWords, end_of, help_end, check_end, extract_end};
+ghost use Rattle.tape_tool.specs.Ends.{end_of, help_end, check_end, extract_end};
 ghost use Rattle.tape_tool.specs.Ends.{stage_end};
-ghost use Rattle.tape_tool.specs.Fault.{no_memory};
 
 use crate::check::check;
-use crate::command_line::call_of;
-use crate::command_spec::{CommandSpec, mistake};
+use crate::command_line::{Order, call_of, error_in};
 use crate::diagnostics::FaultLine;
 use crate::explain::{Explanation, FaultSite, explain_missing, reason_of};
 use crate::extract::extract;
@@ -23,14 +21,13 @@ use crate::odd_word::odd_word;
 use crate::refusal::Refusal;
 use crate::salvage::salvage;
 use crate::screen::{Line, Screen};
-use crate::stage::{StageEnding, stage};
+use crate::stage::ending::StageEnding;
+use crate::stage::stage;
 use crate::streams::keep_numbers;
 use crate::survey::survey;
 use crate::unpack::unpack;
-use crate::words::{Call, Order};
 use crate::write::run::write;
 use clap::error::ErrorKind;
-use std::alloc::AllocError;
 use std::cell::Cell;
 use std::{env, io};
 use tape_run::EngineFault;
@@ -191,7 +188,10 @@ fn words_of<R: Host>(rt: &R) -> Result<Vec<String>, End>
     ensures { IfErr result (λ end. end ≢ End.Done) }
 {
     match env::args(rt) {
-        Ok(words) => kept(words.collect(rt.alloc())),
+        Ok(words) => match words.collect(rt.alloc()) {
+            Ok(words) => Ok(words),
+            Err(_) => Err(End::Faulted(OUT_OF_MEMORY)),
+        },
         Err(error) => {
             let end = without_words(rt, error.kind());
             if end == End::WrongWords {
@@ -202,16 +202,6 @@ fn words_of<R: Host>(rt: &R) -> Result<Vec<String>, End>
             }
             Err(end)
         }
-    }
-}
-
-/// Returns the arguments. If there was no memory for them, returns how the run ends.
-fn kept(words: Result<Vec<String>, AllocError>) -> Result<Vec<String>, End>
-    ensures { IfErr result (λ end. end ≡ End.Faulted no_memory) }
-{
-    match words {
-        Ok(words) => Ok(words),
-        Err(_) => Err(End::Faulted(OUT_OF_MEMORY)),
     }
 }
 
@@ -236,7 +226,7 @@ pub fn without_words<R: Eprint>(rt: &R, kind: io::ErrorKind) -> End
 
 /// Executes a command line, whose first argument is the program's name.
 pub fn perform<'a, R: Progress>(rt: &R, words: &'a [String]) -> Outcome<'a> {
-    let mut call = match call_of(rt.alloc(), words) {
+    let call = match call_of(rt.alloc(), words) {
         Ok(call) => call,
         Err(error) => {
             return Outcome {
@@ -245,15 +235,18 @@ pub fn perform<'a, R: Progress>(rt: &R, words: &'a [String]) -> Outcome<'a> {
             };
         }
     };
-    call.explained = call.explained || is_asked(rt);
+    let explained = call.explained || is_asked(rt);
     let mut site = FaultSite::Unknown;
-    let end = obey(rt, &call, &mut site);
-    if call.explained && end == End::Incomplete {
+    let end = match obey(rt, &call.order, explained, &mut site) {
+        Ok(end) => end,
+        Err(refusal) => end_refused(rt, call.name, refusal),
+    };
+    if explained && end == End::Incomplete {
         explain_missing(rt, &call.order);
     }
     Outcome {
         end,
-        explained: call.explained.then_some(site),
+        explained: explained.then_some(site),
     }
 }
 
@@ -265,15 +258,20 @@ fn is_asked<R: Host>(rt: &R) -> bool {
     }
 }
 
-/// Executes the command in `call`. On error, `site` says where it occurred.
-fn obey<'a, R: Progress>(rt: &R, call: &Call<'a>, site: &mut FaultSite<'a>) -> End {
-    match &call.order {
-        Order::List(order) => list(rt, *order, site),
-        Order::Init(order) => init(rt, order, site),
+/// Executes a command. On error, `site` says where it occurred.
+fn obey<'a, R: Progress>(
+    rt: &R,
+    order: &Order<'a>,
+    explained: bool,
+    site: &mut FaultSite<'a>,
+) -> Result<End, Refusal> {
+    match order {
+        Order::List(order) => Ok(list(rt, *order, site)),
+        Order::Init(order) => Ok(end_of(init(rt, order, site))),
         Order::Check(named) => check(rt, named, site),
         Order::Survey(order) => survey(rt, order, site),
         Order::Write(order) => write(rt, order, site),
-        Order::Extract(order) => extract(rt, order, call.explained, site),
+        Order::Extract(order) => extract(rt, order, explained, site),
         Order::Unpack(order) => unpack(rt, order, site),
         Order::Salvage(order) => salvage(rt, order, site),
         Order::Stage(order) => stage(rt, order, site),
@@ -293,32 +291,14 @@ pub fn refuse<R: Print + Eprint>(rt: &R, error: &clap::Error) -> End
     words_end(kind, printed)
 }
 
-/// Ends a run whose command is refused for the reason `refusal`.
-pub fn end_refused<R>(rt: &R, command_spec: &CommandSpec, refusal: Refusal) -> End
+/// Ends a run whose command `name` is refused for the reason `refusal`.
+fn end_refused<R>(rt: &R, name: &str, refusal: Refusal) -> End
 where
     R: Print + Eprint + AllocGlobal,
     ensures { IsRefusalEnd refusal result }
 {
     match refusal {
         Refusal::Faulted(fault) => End::Faulted(fault),
-        Refusal::Words(text) => refuse_words(rt, command_spec, text),
-        Refusal::NoText(null, number) => {
-            let what = if null { "name" } else { "line" };
-            match format!(in rt.alloc(); "{what} {number} {}", help::NO_TEXT_IN_LIST) {
-                Ok(text) => refuse_words(rt, command_spec, text.as_str()),
-                Err(_) => End::Faulted(OUT_OF_MEMORY),
-            }
-        }
+        _ => refuse(rt, &error_in(rt.alloc(), name, "", refusal)),
     }
-}
-
-/// Reports a usage error that was found after parsing.
-fn refuse_words<R: Print + Eprint + AllocGlobal>(
-    rt: &R,
-    command_spec: &CommandSpec,
-    text: &str,
-) -> End
-    ensures { IsWrongWords result }
-{
-    refuse(rt, &mistake(rt.alloc(), command_spec, text))
 }

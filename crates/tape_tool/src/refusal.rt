@@ -2,17 +2,21 @@
 //! files that do not exist. Also the identity of the files found under these names.
 ghost use Rattle.std.specs.Prelude.{◌≡◌, ◌⊎◌, None, Some, Ok, Err, IfErr, IsOk};
 
-use crate::fault::{FileFault, ToolFault};
+use crate::fault::{FileFault, OUT_OF_MEMORY, ToolFault};
+use crate::host::Host;
+use std::alloc::AllocError;
 use std::fs;
-use std::fs::{Files, Metadata};
+use std::fs::{File, Files, Metadata};
 use std::os::unix::fs::MetadataExt;
 use tape_writer::system::found;
 
-/// The reason why files may not be used as the arguments request.
+/// The reason why a command is not started.
 #[derive(Clone, Copy)]
 pub enum Refusal {
-    /// The arguments would destroy a file, or name nothing that exists.
+    /// The arguments exclude each other, would destroy a file, or name nothing that exists.
     Words(&'static str),
+    /// The value of the argument with this name is not accepted. The text says which values are.
+    Value(&'static str, &'static str),
     /// A name in a list is not text. Contains whether names end with a NUL, and the number of the
     /// name, counted from 1.
     NoText(bool, usize),
@@ -20,21 +24,36 @@ pub enum Refusal {
     Faulted(ToolFault),
 }
 
-/// Returns the refusal for a fault of a file.
-pub fn refused(fault: FileFault) -> Refusal {
-    Refusal::Faulted(ToolFault::File(fault))
+impl From<ToolFault> for Refusal {
+    fn from(fault: ToolFault) -> Refusal {
+        Refusal::Faulted(fault)
+    }
+}
+
+impl From<FileFault> for Refusal {
+    fn from(fault: FileFault) -> Refusal {
+        Refusal::Faulted(ToolFault::File(fault))
+    }
+}
+
+impl From<AllocError> for Refusal {
+    fn from(_error: AllocError) -> Refusal {
+        Refusal::Faulted(OUT_OF_MEMORY)
+    }
 }
 
 /// Returns the file to which `path` leads, if any.
 ///
 /// # Errors
 ///
-/// Returns `Faulted` with `NotOpened` if the lookup failed: the file may exist.
-pub fn look<R: Files>(files: &R, path: &str) -> Result<Option<Metadata>, Refusal> {
-    match found(fs::metadata(files, path)) {
-        Ok(there) => Ok(there),
-        Err(fault) => Err(refused(fault)),
-    }
+/// Returns `NotOpened` if the lookup failed: the file may exist.
+pub fn look<R: Files>(files: &R, path: &str) -> Result<Option<Metadata>, FileFault> {
+    found(fs::metadata(files, path))
+}
+
+/// Opens the file at `path` for reading.
+pub fn open<R: Host>(rt: &R, path: &str) -> Result<File, FileFault> {
+    File::open(rt, path).map_err(|_| FileFault::NotOpened)
 }
 
 /// Returns whether `one` and `other` are the same file, whatever names or links led to them. On a

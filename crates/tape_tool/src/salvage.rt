@@ -1,6 +1,102 @@
 //! `salvage`: recovers the readable parts of a file that no image has completely.
 
-mod run;
-pub mod words;
+use crate::command_spec::{CommandSpec, Kind, Word};
+use crate::explain::FaultSite;
+use crate::extract::{Draft, HELD};
+use crate::fault::OUT_OF_MEMORY;
+use crate::help;
+use crate::host::Progress;
+use crate::images::{Images, Named, names_of};
+use crate::program::{End, check_end};
+use crate::refusal::Refusal;
+use crate::words::{form_of, named, number_of, out_of, set_id_of, text_of};
+use clap::ArgMatches;
+use std::alloc::Global;
+use std::io;
+use std::io::BufWriter;
+use tape_blocks::Form;
+use tape_run::{Content, SalvageTask, salvage_to};
 
-pub use run::salvage;
+/// The request to `salvage`: the file to recover, the images and the output.
+#[derive(Drop)]
+pub struct SalvageOrder<'a> {
+    pub task: SalvageTask,
+    pub out: &'a str,
+    pub images: Named<'a>,
+}
+
+/// The values of `--form`.
+const FORMS_OF_SALVAGE: &[&str] = &["lines", "raw", "blocks"];
+
+/// The `salvage` command and its arguments.
+pub const SALVAGE: CommandSpec = CommandSpec {
+    name: "salvage",
+    called: "tape salvage",
+    about: help::ABOUT_SALVAGE,
+    after_help: help::AFTER_SALVAGE,
+    usage: None,
+    words: &[
+        Word("SET", Kind::Text, help::SET),
+        Word("FILE", Kind::Number(1, 9_999), help::FILE),
+        Word("OUT", Kind::Text, help::OUT_OF_SALVAGE),
+        Word("IMAGE", Kind::AnyTexts, help::SHELF),
+        Word("files-from", Kind::TextOption("LIST"), help::FROM),
+        Word("null", Kind::FlagOf("files-from"), help::NULL),
+        Word(
+            "form",
+            Kind::NameOption("FORM", FORMS_OF_SALVAGE, &["lines"]),
+            help::FORM_OF_SALVAGED,
+        ),
+    ],
+};
+
+/// Returns the request in `matches`, the arguments of `salvage`.
+pub fn salvage_order<'a>(
+    alloc: Global,
+    matches: &ArgMatches<'a>,
+) -> Result<SalvageOrder<'a>, Refusal> {
+    let Some(set_id) = set_id_of(text_of(matches, "SET")) else {
+        return Err(Refusal::Value("SET", help::WRONG_SET));
+    };
+    let out = out_of(matches, help::OUT_IS_DASH)?;
+    // Blocks are written without terminators.
+    let (content, form) = match matches.get_str("form") {
+        Some("blocks") => (Content::Blocks, Form::Raw),
+        _ => (Content::Records, form_of(matches)),
+    };
+    let task = SalvageTask {
+        set_id,
+        file: number_of(matches, "FILE"),
+        content,
+        form,
+    };
+    let images = named(alloc, matches, help::TOO_MANY_TO_SALVAGE)?;
+    Ok(SalvageOrder { task, out, images })
+}
+
+/// Recovers the readable parts of the file that the arguments name. An existing output is never
+/// overwritten: it may contain more of the file than can be read now. On error, `site` says where
+/// it occurred.
+pub fn salvage<'a, R: Progress>(
+    rt: &R,
+    order: &SalvageOrder<'a>,
+    site: &mut FaultSite<'a>,
+) -> Result<End, Refusal> {
+    let mut text = String::new(rt.alloc());
+    let names = names_of(rt, &order.images, &mut text, site)?;
+    *site = FaultSite::Out(order.out);
+    let Draft { mut name, file } = Draft::new(rt, order.out)?;
+    let images = &mut Images::new(rt, names.as_slice());
+    let end = match BufWriter::with_capacity(rt.alloc(), HELD, file) {
+        Ok(out) => check_end(salvage_to(
+            rt.alloc(),
+            &order.task,
+            images,
+            out,
+            &mut name,
+            &mut io::writer(rt),
+        )),
+        Err(_) => End::Faulted(OUT_OF_MEMORY),
+    };
+    Ok(name.ended(end))
+}

@@ -255,11 +255,13 @@ pub fn session_in<R: Host>(
     set_id: Field<6>,
     file: u16,
 ) -> Result<FileSession, ToolFault> {
-    let kept = locked_file(rt, path)?;
-    let disk = match buffered_file(rt.alloc(), kept) {
-        Ok(disk) => disk,
-        Err(fault) => return Err(ToolFault::Stage(fault)),
+    let mut options = OpenOptions::new();
+    options.read(true).write(true).create(true);
+    let Ok(kept) = options.open(rt, path) else {
+        return Err(ToolFault::File(FileFault::NotOpened));
     };
+    locked_stage(kept.try_lock())?;
+    let disk = buffered_file(rt.alloc(), kept).map_err(|fault| ToolFault::Stage(fault))?;
     // A new stage is lost if its name is, so the directory is synced.
     if sync_folder_of(rt, path).is_err() {
         return Err(ToolFault::Stage(StageFault::Device));
@@ -267,24 +269,14 @@ pub fn session_in<R: Host>(
     match open_or_make(rt.alloc(), disk, set_id, file) {
         Ok(mut session) => {
             // Takes the checkpoint to which the session returns after a reel with a wrong count.
-            if let Err(fault) = session.note() {
-                return Err(ToolFault::Run(fault));
-            }
+            session.note()?;
             Ok(session)
         }
-        Err(refused) => Err(tool_fault(refused.fault)),
+        Err(refused) => Err(match refused.fault {
+            StagingFault::Stage(fault) => ToolFault::Stage(fault),
+            StagingFault::OtherFile => ToolFault::Run(RunFault::OtherFile),
+        }),
     }
-}
-
-/// Opens the file at `path`, creates it if it does not exist, and locks it.
-fn locked_file<R: Host>(rt: &R, path: &str) -> Result<File, ToolFault> {
-    let mut options = OpenOptions::new();
-    options.read(true).write(true).create(true);
-    let Ok(file) = options.open(rt, path) else {
-        return Err(ToolFault::File(FileFault::NotOpened));
-    };
-    locked_stage(file.try_lock())?;
-    Ok(file)
 }
 
 /// Returns whether a run may use a stage, given the result of locking it. On a file system without
@@ -296,13 +288,5 @@ pub fn locked_stage(attempt: Result<(), TryLockError>) -> Result<(), ToolFault>
         Ok(()) => Ok(()),
         Err(LockFault::InUse) => Err(ToolFault::StageInUse),
         Err(LockFault::Failed) => Err(ToolFault::File(FileFault::NotOpened)),
-    }
-}
-
-/// Returns the program's fault for `fault`.
-fn tool_fault(fault: StagingFault) -> ToolFault {
-    match fault {
-        StagingFault::Stage(fault) => ToolFault::Stage(fault),
-        StagingFault::OtherFile => ToolFault::Run(RunFault::OtherFile),
     }
 }

@@ -1,5 +1,75 @@
 //! `survey`: describes images.
-mod run;
-pub mod words;
 
-pub use run::survey;
+use crate::command_spec::{CommandSpec, Kind, Word};
+use crate::explain::FaultSite;
+use crate::help;
+use crate::host::Progress;
+use crate::images::{Images, Named, names_of};
+use crate::program::{End, check_end};
+use crate::refusal::Refusal;
+use crate::words::named_once;
+use clap::ArgMatches;
+use std::alloc::{AllocError, Global};
+use std::io;
+use std::io::BufWriter;
+use tape_run::{Wording, survey_to};
+
+/// The request to `survey`: the images, and how to print their descriptions.
+#[derive(Drop)]
+pub struct SurveyOrder<'a> {
+    pub images: Named<'a>,
+    pub wording: Wording,
+}
+
+/// The `survey` command and its arguments.
+pub const SURVEY: CommandSpec = CommandSpec {
+    name: "survey",
+    called: "tape survey",
+    about: help::ABOUT_SURVEY,
+    after_help: help::AFTER_SURVEY,
+    usage: None,
+    words: &[
+        Word("IMAGE", Kind::AnyTexts, help::IMAGES),
+        Word("files-from", Kind::TextOption("LIST"), help::FROM),
+        Word("null", Kind::FlagOf("files-from"), help::NULL),
+        Word("tsv", Kind::Flag, help::ROWS),
+    ],
+};
+
+/// Returns the request in `matches`, the arguments of `survey`.
+pub fn survey_order<'a>(
+    alloc: Global,
+    matches: &ArgMatches<'a>,
+) -> Result<SurveyOrder<'a>, Refusal> {
+    let wording = if matches.get_flag("tsv") {
+        Wording::Rows
+    } else {
+        Wording::Words
+    };
+    Ok(SurveyOrder {
+        images: named_once(alloc, matches, help::TOO_MANY_TO_SURVEY)?,
+        wording,
+    })
+}
+
+/// Describes the images that the arguments name, on standard output. On error, `site` says where it
+/// occurred.
+pub fn survey<'a, R: Progress>(
+    rt: &R,
+    order: &SurveyOrder<'a>,
+    site: &mut FaultSite<'a>,
+) -> Result<End, Refusal> {
+    let mut text = String::new(rt.alloc());
+    let names = names_of(rt, &order.images, &mut text, site)?;
+    *site = FaultSite::Lines;
+    let mut report = BufWriter::new(rt.alloc(), io::writer(rt)).map_err(|_| AllocError)?;
+    let images = &mut Images::or_input(rt, names.as_slice(), &order.images);
+    let surveyed = survey_to(
+        rt.alloc(),
+        images,
+        names.as_slice(),
+        order.wording,
+        &mut report,
+    );
+    Ok(check_end(surveyed))
+}

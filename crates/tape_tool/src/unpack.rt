@@ -1,9 +1,77 @@
 //! `unpack`: recovers every file of every set on images into a directory.
 pub mod last_line;
-mod paths;
 mod report;
 mod run;
 mod salvaged;
-pub mod words;
 
+use crate::command_spec::{CommandSpec, Kind, Word};
+use crate::help;
+use crate::images::Named;
+use crate::refusal::Refusal;
+use crate::words::{FORMS, folder_of, form_of, named, set_id_of};
+use clap::ArgMatches;
 pub use run::unpack;
+use std::alloc::Global;
+use tape_blocks::Form;
+
+/// The request to `unpack`: the images, and the directory for their files.
+#[derive(Drop)]
+pub struct UnpackOrder<'a> {
+    pub folder: &'a str,
+    pub images: Named<'a>,
+    pub form: Form,
+    /// Only files of this set.
+    pub set: Option<&'a str>,
+    /// Only files that one of these numbers and names means, if there are any.
+    pub files: Vec<&'a str>,
+    /// Whether nothing is recovered, and what would be is printed.
+    pub list: bool,
+    pub salvage: bool,
+}
+
+/// The `unpack` command and its arguments.
+pub const UNPACK: CommandSpec = CommandSpec {
+    name: "unpack",
+    called: "tape unpack",
+    about: help::ABOUT_UNPACK,
+    after_help: help::AFTER_UNPACK,
+    usage: None,
+    words: &[
+        Word("DIR", Kind::Text, help::FOLDER_OF_FILES),
+        Word("IMAGE", Kind::AnyTexts, help::SHELF),
+        Word("files-from", Kind::TextOption("LIST"), help::FROM),
+        Word("null", Kind::FlagOf("files-from"), help::NULL),
+        Word(
+            "form",
+            Kind::NameOption("FORM", FORMS, &["lines"]),
+            help::FORM_OF_FILES,
+        ),
+        Word("set", Kind::TextOption("SET"), help::SET_TO_UNPACK),
+        Word("file", Kind::TextOptions("N|NAME"), help::FILES_TO_UNPACK),
+        Word("list", Kind::Flag, help::LIST_ONLY),
+        Word("salvage", Kind::Flag, help::SALVAGE_FILES),
+    ],
+};
+
+/// Returns the request in `matches`, the arguments of `unpack`.
+pub fn unpack_order<'a>(
+    alloc: Global,
+    matches: &ArgMatches<'a>,
+) -> Result<UnpackOrder<'a>, Refusal> {
+    let folder = folder_of(matches)?;
+    let set = matches.get_str("set");
+    if let Some(name) = set
+        && set_id_of(name).is_none()
+    {
+        return Err(Refusal::Value("set", help::WRONG_SET));
+    }
+    Ok(UnpackOrder {
+        folder,
+        images: named(alloc, matches, help::TOO_MANY_TO_UNPACK)?,
+        form: form_of(matches),
+        set,
+        files: Vec::from_slice(alloc, matches.get_strs("file").unwrap_or(&[]))?,
+        list: matches.get_flag("list"),
+        salvage: matches.get_flag("salvage"),
+    })
+}

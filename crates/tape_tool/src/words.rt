@@ -1,23 +1,16 @@
-//! The commands, and the arguments that several of them share.
+//! The arguments that several commands share.
 
-use crate::check::words::check_order;
-use crate::command_line::TAPE;
-use crate::command_spec::{CommandSpec, mistake};
-use crate::extract::words::extract_order;
-pub use crate::extract::words::{EXTRACT, Extract, Task, set_id_of};
+ghost use Rattle.std.specs.Prelude.{◌≡◌, IfSome, IfNone, IsSome};
+ghost use Rattle.tape_tool.specs.Words.{IsNoSet, padded_set};
+
 use crate::help;
 use crate::images::{List, Named};
-use crate::init::words::{Init, init_order};
-use crate::list::words::{Listing, list_order};
-use crate::merge::words::{Merge, compare_order, merge_order};
-use crate::salvage::words::{SalvageOrder, salvage_order};
-use crate::stage::words::{StageOrder, stage_order};
-use crate::survey::words::{Survey, survey_order};
-use crate::unpack::words::{Unpack, unpack_order};
-use crate::write::words::{WriteOrder, write_order};
-use clap::{ArgMatches, Error};
+use crate::refusal::Refusal;
+use clap::ArgMatches;
 use std::alloc::Global;
 use tape_blocks::Form;
+use tape_label::Field;
+use tape_writer::Prefix;
 
 /// The maximum number of images in the arguments of a run.
 const MOST_IMAGES: usize = 256;
@@ -43,32 +36,68 @@ pub fn form_of(matches: &ArgMatches<'_>) -> Form {
     }
 }
 
-/// Returns the only text, if there is one. Several texts are a usage error with the message `more`,
-/// and `-` is one with the message `dash`.
-pub fn at_most_one<'a>(
-    texts: &[&'a str],
-    dash: &'static str,
-    more: &'static str,
-) -> Result<Option<&'a str>, &'static str> {
-    match texts {
-        [] => Ok(None),
-        ["-"] => Err(dash),
-        [one] => Ok(Some(*one)),
-        _ => Err(more),
+/// Returns the directory DIR.
+pub fn folder_of<'a>(matches: &ArgMatches<'a>) -> Result<&'a str, Refusal> {
+    match text_of(matches, "DIR") {
+        "" => Err(Refusal::Words(help::NO_FOLDER)),
+        folder => Ok(folder),
     }
 }
 
-/// Returns the source of image names: arguments, or a list. If there are too many arguments, the
-/// error has the message `too_many`.
+/// Returns the prefix PRE.
+pub fn prefix_of<'a>(matches: &ArgMatches<'a>) -> Result<Prefix, Refusal> {
+    Prefix::new(text_of(matches, "PRE")).ok_or(Refusal::Value("PRE", help::WRONG_PREFIX))
+}
+
+/// Returns the file OUT. It cannot be standard output, which is refused with the message `dash`.
+pub fn out_of<'a>(matches: &ArgMatches<'a>, dash: &'static str) -> Result<&'a str, Refusal> {
+    match text_of(matches, "OUT") {
+        "-" => Err(Refusal::Words(dash)),
+        out => Ok(out),
+    }
+}
+
+/// Returns the set identifier `text`, padded with spaces, if it has 1 to 6 bytes.
+pub fn set_id_of(text: &str) -> Option<Field<6>>
+    ensures some { IfSome result (λ id. id ≡ padded_set text.now) }
+    ensures given { IsSome result → IsNoSet text.now → ⊥ }
+    ensures none { IfNone result (IsNoSet text.now) }
+{
+    let bytes = text.as_bytes();
+    if bytes.is_empty() || bytes.len() > 6 {
+        return None;
+    }
+    let mut padded = [b' '; 6];
+    padded[..bytes.len()].copy_from_slice(bytes);
+    Some(Field::of_bytes(padded))
+}
+
+/// Returns the only value of argument `name`, if it has one. Several values are refused with the
+/// message `more`, and `-` with the message `dash`.
+pub fn at_most_one<'a>(
+    matches: &ArgMatches<'a>,
+    name: &str,
+    dash: &'static str,
+    more: &'static str,
+) -> Result<Option<&'a str>, Refusal> {
+    match matches.get_strs(name).unwrap_or(&[]) {
+        [] => Ok(None),
+        ["-"] => Err(Refusal::Words(dash)),
+        [one] => Ok(Some(*one)),
+        _ => Err(Refusal::Words(more)),
+    }
+}
+
+/// Returns the source of image names: arguments, or a list. Too many arguments are refused with the
+/// message `too_many`.
 pub fn named<'a>(
     alloc: Global,
     matches: &ArgMatches<'a>,
-    command_spec: &CommandSpec,
-    too_many: &str,
-) -> Result<Named<'a>, Error> {
+    too_many: &'static str,
+) -> Result<Named<'a>, Refusal> {
     let words = matches.get_strs("IMAGE").unwrap_or(&[]);
     if words.len() > MOST_IMAGES {
-        return Err(mistake(alloc, command_spec, too_many));
+        return Err(Refusal::Words(too_many));
     }
     let list = match matches.get_str("files-from") {
         None => None,
@@ -88,79 +117,13 @@ pub fn named<'a>(
 pub fn named_once<'a>(
     alloc: Global,
     matches: &ArgMatches<'a>,
-    command_spec: &CommandSpec,
-    too_many: &str,
-) -> Result<Named<'a>, Error> {
+    too_many: &'static str,
+) -> Result<Named<'a>, Refusal> {
     let words = matches.get_strs("IMAGE").unwrap_or(&[]);
     let dashes = words.iter().filter(|word| **word == "-").count();
     let free = usize::from(matches.get_str("files-from") != Some("-"));
     if dashes > free {
-        return Err(mistake(alloc, command_spec, help::INPUT_TWICE));
+        return Err(Refusal::Words(help::INPUT_TWICE));
     }
-    named(alloc, matches, command_spec, too_many)
-}
-
-/// A parsed command line.
-#[derive(Drop)]
-pub struct Call<'a> {
-    pub order: Order<'a>,
-    /// Whether errors are to be explained.
-    pub explained: bool,
-}
-
-/// A command with its arguments.
-#[derive(Drop)]
-pub enum Order<'a> {
-    /// Lists the image at a path, or on standard input.
-    List(Listing<'a>),
-    /// Creates images of volumes without files.
-    Init(Init<'a>),
-    /// Reports the sections on images.
-    Check(Named<'a>),
-    /// Describes images.
-    Survey(Survey<'a>),
-    /// Writes files to volumes.
-    Write(WriteOrder<'a>),
-    /// Recovers a file from images.
-    Extract(Extract<'a>),
-    /// Recovers every file on images.
-    Unpack(Unpack<'a>),
-    /// Recovers the readable parts of a file.
-    Salvage(SalvageOrder<'a>),
-    /// Shows a stage.
-    Stage(StageOrder<'a>),
-    /// Merges readings of one tape.
-    Merge(Merge<'a>),
-    /// Compares readings of one tape.
-    Compare(Named<'a>),
-}
-
-/// Returns the request in `matches`, the parsed arguments. The parser guarantees that they name one
-/// of the commands.
-pub fn call_in<'a>(alloc: Global, matches: &ArgMatches<'a>) -> Result<Call<'a>, Error> {
-    let Some((name, words)) = matches.subcommand() else {
-        return Err(mistake(alloc, &TAPE, help::NO_COMMAND));
-    };
-    Ok(Call {
-        order: order_of(alloc, name, words)?,
-        explained: matches.get_flag("explain"),
-    })
-}
-
-/// Returns the request to command `name` in its arguments.
-fn order_of<'a>(alloc: Global, name: &str, words: &ArgMatches<'a>) -> Result<Order<'a>, Error> {
-    match name {
-        "list" => list_order(alloc, words),
-        "check" => check_order(alloc, words),
-        "survey" => survey_order(alloc, words),
-        "extract" => extract_order(alloc, words),
-        "unpack" => unpack_order(alloc, words),
-        "salvage" => salvage_order(alloc, words),
-        "stage" => stage_order(alloc, words),
-        "init" => init_order(alloc, words),
-        "write" => write_order(alloc, words),
-        "merge" => merge_order(alloc, words),
-        "compare" => compare_order(alloc, words),
-        _ => Err(mistake(alloc, &TAPE, help::NO_COMMAND)),
-    }
+    named(alloc, matches, too_many)
 }

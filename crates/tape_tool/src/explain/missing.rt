@@ -1,10 +1,11 @@
 //! What is missing when a command ends with exit status 3, and where to look for it.
 use super::{FaultSite, NEVER};
+use crate::command_line::Order;
 use crate::extract::are_files;
 use crate::host::Progress;
 use crate::images::{Images, names_of};
-use crate::unpack::words::Unpack;
-use crate::words::{Order, set_id_of};
+use crate::unpack::UnpackOrder;
+use crate::words::set_id_of;
 use std::alloc::{AllocError, Global};
 use tape_label::Field;
 use tape_run::{FoundFiles, SectionKey, SetFile, find_files, means, name_text, volume_of};
@@ -23,10 +24,10 @@ pub fn explain_missing<R: Progress>(rt: &R, order: &Order<'_>) {
 /// The explanation by what the images of the command contain, which are read again. `None` if a
 /// command has none, or if they cannot be read twice.
 fn text_by_images<R: Progress>(rt: &R, order: &Order<'_>) -> Option<String> {
-    let named = match order {
-        Order::Extract(order) => &order.images,
-        Order::Salvage(order) => &order.images,
-        Order::Unpack(order) => &order.images,
+    let (named, key) = match order {
+        Order::Extract(order) => (&order.images, Some((order.task.set_id, order.task.file))),
+        Order::Salvage(order) => (&order.images, Some((order.task.set_id, order.task.file))),
+        Order::Unpack(order) => (&order.images, None),
         _ => return None,
     };
     if let Some(list) = named.list {
@@ -35,19 +36,14 @@ fn text_by_images<R: Progress>(rt: &R, order: &Order<'_>) -> Option<String> {
     let mut list = String::new(rt.alloc());
     let mut site = FaultSite::Unknown;
     let names = names_of(rt, named, &mut list, &mut site).ok()?;
-    if !are_files(rt, names.as_slice()) {
+    let names = names.as_slice();
+    if !are_files(rt, names) {
         return None;
     }
-    let met = find_files(rt.alloc(), &mut Images::new(rt, names.as_slice())).ok()?;
-    let names = names.as_slice();
-    match order {
-        Order::Extract(order) => {
-            file_text(rt.alloc(), names, &met, order.task.set_id, order.task.file)
-        }
-        Order::Salvage(order) => {
-            file_text(rt.alloc(), names, &met, order.task.set_id, order.task.file)
-        }
-        Order::Unpack(order) => choice_text(rt.alloc(), order, met.files.as_slice()),
+    let met = find_files(rt.alloc(), &mut Images::new(rt, names)).ok()?;
+    match (order, key) {
+        (_, Some((set_id, file))) => file_text(rt.alloc(), names, &met, set_id, file),
+        (Order::Unpack(order), None) => choice_text(rt.alloc(), order, met.files.as_slice()),
         _ => None,
     }
 }
@@ -175,7 +171,7 @@ fn image_of(
 }
 
 /// What was chosen to be unpacked and not found, or `None` if something else is missing.
-fn choice_text(alloc: Global, order: &Unpack<'_>, files: &[SetFile]) -> Option<String> {
+fn choice_text(alloc: Global, order: &UnpackOrder<'_>, files: &[SetFile]) -> Option<String> {
     let set_id = order.set.and_then(set_id_of);
     if let Some(set_id) = set_id {
         if !files.iter().any(|file| file.set_id == set_id) {
@@ -203,47 +199,41 @@ fn shown(alloc: Global, field: &Field<6>) -> Result<String, AllocError> {
 
 /// The first sets that were found, each once.
 fn sets_of(alloc: Global, files: &[SetFile]) -> Result<String, AllocError> {
-    let mut text = String::new(alloc);
+    let (mut text, mut count) = (String::new(alloc), 0);
     let mut before: Option<Field<6>> = None;
-    let mut count = 0usize;
     for file in files {
-        if before == Some(file.set_id) {
-            continue;
+        if before != Some(file.set_id) {
+            before = Some(file.set_id);
+            list(&mut text, &mut count, shown(alloc, &file.set_id)?.as_str())?;
         }
-        before = Some(file.set_id);
-        count = count.saturating_add(1);
-        if count > MOST {
-            text.push_str(", ..")?;
-            return Ok(text);
-        }
-        if count > 1 {
-            text.push_str(", ")?;
-        }
-        text.push_str(shown(alloc, &file.set_id)?.as_str())?;
     }
     Ok(text)
 }
 
 /// The numbers of the first files of a set that were found.
 fn numbers_of(alloc: Global, set_id: Field<6>, files: &[SetFile]) -> Result<String, AllocError> {
-    let mut text = String::new(alloc);
-    let mut count = 0usize;
+    let (mut text, mut count) = (String::new(alloc), 0);
     for file in files {
-        if file.set_id != set_id {
-            continue;
+        if file.set_id == set_id {
+            let number = format!(in alloc; "{}", file.file)?;
+            list(&mut text, &mut count, number.as_str())?;
         }
-        count = count.saturating_add(1);
-        if count > MOST {
-            text.push_str(", ..")?;
-            return Ok(text);
-        }
-        if count > 1 {
-            text.push_str(", ")?;
-        }
-        let number = file.file;
-        text.push_str(format!(in alloc; "{number}")?.as_str())?;
     }
     Ok(text)
+}
+
+/// Appends `name` to a list in which there are `count` names. A list with the maximum number of
+/// them gets an ellipsis once, and then nothing more.
+fn list(text: &mut String, count: &mut usize, name: &str) -> Result<(), AllocError> {
+    let before = *count;
+    *count = before.saturating_add(1);
+    if before > MOST {
+        return Ok(());
+    }
+    if before > 0 {
+        text.push_str(", ")?;
+    }
+    text.push_str(if before < MOST { name } else { ".." })
 }
 
 /// The explanation that holds whatever the images contain.

@@ -22,23 +22,18 @@ pub fn reason_of<R: Runtime>(rt: &R, fault: ToolFault, site: FaultSite<'_>) -> O
             rt, path,
         ),
         FaultSite::Input(word) => unread(rt, split(word).1),
-        FaultSite::Out(path) | FaultSite::New(path) | FaultSite::Log(path) => not_there(
-            rt,
-            folder_of(path),
-        ),
-        FaultSite::Folder(path) | FaultSite::Images(path) | FaultSite::Volume(path, _, _) =>
-            not_there(rt, path),
+        FaultSite::Out(path) | FaultSite::New(path) | FaultSite::Log(path) => {
+            fs::metadata(rt, folder_of(path)).err()
+        }
+        FaultSite::Folder(path) | FaultSite::Images(path) | FaultSite::Volume(path, _, _) => {
+            fs::metadata(rt, path).err()
+        }
         FaultSite::Unknown
         | FaultSite::Lines
         | FaultSite::Stdin
         | FaultSite::List(None)
         | FaultSite::Listed(_) => None,
     }
-}
-
-/// Returns the error with which looking up `path` fails, if any.
-fn not_there<R: Runtime>(rt: &R, path: &str) -> Option<io::Error> {
-    fs::metadata(rt, path).err()
 }
 
 /// Returns the error with which reading the file at `path` fails, if any. A pipe or a device is not

@@ -3,7 +3,7 @@
 ghost use Rattle.std.specs.Prelude.{◌≡◌, None, Bool};
 ghost use Rattle.tape_tool.specs.Guards.{is_written_in_place};
 
-use crate::fault::{FileFault, OUT_OF_MEMORY, ToolFault};
+use crate::fault::{FileFault, ToolFault};
 use crate::host::Host;
 use crate::left::remove;
 use crate::program::End;
@@ -61,25 +61,7 @@ pub struct OutName<'a, R: Host> {
     is_taken: bool,
 }
 
-impl<'a, R: Host> OutName<'a, R> {
-    fn new(
-        rt: &'a R,
-        draft: String,
-        name: &'a str,
-        lock: File,
-        before: Option<FileId>,
-    ) -> OutName<'a, R> {
-        OutName {
-            rt,
-            draft,
-            name,
-            lock,
-            before,
-            is_draft: true,
-            is_taken: false,
-        }
-    }
-
+impl<R: Host> OutName<'_, R> {
     /// Gives the draft the owner and the permissions of the file that it will replace, as far as
     /// the user may do that. Set-user-ID and set-group-ID permissions are not copied, since the
     /// contents are different.
@@ -93,7 +75,9 @@ impl<'a, R: Host> OutName<'a, R> {
     /// Gives the draft the output's name, and syncs the directory.
     fn take(&mut self, file: &File) -> io::Result<()> {
         file.sync_all()?;
-        match way_to_take(self.before, self.now()) {
+        let now = found(fs::symlink_metadata(self.rt, self.name));
+        let now = now.map(|there| there.map(|there| FileId::of(&there)));
+        match way_to_take(self.before, now) {
             Ok(Taking::New) => self.take_new()?,
             Ok(Taking::Over) => {
                 self.rt.rename(self.draft.as_str(), self.name)?;
@@ -105,14 +89,6 @@ impl<'a, R: Host> OutName<'a, R> {
             }
         }
         sync_folder_of(self.rt, self.name)
-    }
-
-    /// Returns the file that has the output's name now, if any.
-    fn now(&self) -> Result<Option<FileId>, FileFault> {
-        match found(fs::symlink_metadata(self.rt, self.name))? {
-            Some(there) => Ok(Some(FileId::of(&there))),
-            None => Ok(None),
-        }
     }
 
     /// Gives the draft the output's name if no file has that name: the draft gets it as a second
@@ -181,10 +157,7 @@ impl<R: Host> Place<BufWriter<DraftFile>> for OutName<'_, R> {
         let Ok(draft) = out.into_inner() else {
             return Err(WriteFailed);
         };
-        match self.take(&draft.file) {
-            Ok(()) => Ok(()),
-            Err(_) => Err(WriteFailed),
-        }
+        self.take(&draft.file).map_err(|_| WriteFailed)
     }
 }
 
@@ -199,6 +172,31 @@ pub struct Draft<'a, R: Host> {
 const MOST_DRAFTS: u16 = 9_999;
 
 impl<'a, R: Host> Draft<'a, R> {
+    /// Creates a draft of the file `name`, which must not exist.
+    ///
+    /// # Errors
+    ///
+    /// Returns `Exists` if it does; the other errors are those of `over`.
+    pub fn new(rt: &'a R, name: &'a str) -> Result<Draft<'a, R>, ToolFault> {
+        match found(fs::symlink_metadata(rt, name))? {
+            Some(_) => Err(ToolFault::File(FileFault::Exists)),
+            None => Draft::over(rt, name, None),
+        }
+    }
+
+    /// Creates a draft of the file `name`, which is never written in place. It replaces `before`.
+    ///
+    /// # Errors
+    ///
+    /// Returns `NotOpened` if no draft can be created, or `OUT_OF_MEMORY`.
+    pub fn over(
+        rt: &'a R,
+        name: &'a str,
+        before: Option<FileId>,
+    ) -> Result<Draft<'a, R>, ToolFault> {
+        Draft::make(rt, name, before)?.ok_or(ToolFault::File(FileFault::NotOpened))
+    }
+
     /// Creates a draft in the output's directory, with the owner and the permissions of the file
     /// that it will replace. Returns `None` if the output may be written in place.
     ///
@@ -206,22 +204,27 @@ impl<'a, R: Host> Draft<'a, R> {
     ///
     /// Returns `File` with `NotOpened` if no draft can be created, or `OUT_OF_MEMORY`.
     pub fn make(
-        alloc: Global,
         rt: &'a R,
         name: &'a str,
         before: Option<FileId>,
     ) -> Result<Option<Draft<'a, R>>, ToolFault> {
         for number in 1..=MOST_DRAFTS {
-            let Ok(draft) = draft_name(alloc, name, number) else {
-                return Err(OUT_OF_MEMORY);
-            };
+            let draft = draft_name(rt.alloc(), name, number)?;
             match make_new(rt, draft.as_str()) {
                 Ok(Some(file)) => {
                     let Ok(lock) = file.try_clone() else {
                         remove(rt, draft.as_str());
                         break;
                     };
-                    let mut name = OutName::new(rt, draft, name, lock, before);
+                    let mut name = OutName {
+                        rt,
+                        draft,
+                        name,
+                        lock,
+                        before,
+                        is_draft: true,
+                        is_taken: false,
+                    };
                     if before.is_some() && name.keep_rights(&file).is_err() {
                         name.clear();
                         break;
@@ -271,18 +274,14 @@ fn make_new<R: Host>(rt: &R, path: &str) -> Result<Option<File>, ErrorKind> {
     } else if !remove_left(rt, path) {
         return Ok(None);
     }
-    match File::create_new(rt, path) {
-        Ok(file) => lock_new(rt, path, file),
-        Err(error) if error.kind() == ErrorKind::AlreadyExists => Ok(None),
-        Err(error) => Err(error.kind()),
-    }
-}
-
-/// Locks a file that was just created. Returns `None` if another run took it for a leftover file,
-/// which that run then removes.
-fn lock_new<R: Host>(rt: &R, path: &str, file: File) -> Result<Option<File>, ErrorKind> {
+    let file = match File::create_new(rt, path) {
+        Ok(file) => file,
+        Err(error) if error.kind() == ErrorKind::AlreadyExists => return Ok(None),
+        Err(error) => return Err(error.kind()),
+    };
     match locked(file.try_lock()) {
         Ok(()) if has_name(rt, &file, path) => Ok(Some(file)),
+        // Another run took it for a leftover file, which that run then removes.
         Ok(()) | Err(LockFault::InUse) => Ok(None),
         Err(LockFault::Failed) => {
             remove(rt, path);

@@ -1,14 +1,14 @@
 //! Checks of the output of `extract`: whether it may be written, and how.
 
-use crate::extract::words::Extract;
-use crate::fault::{FileFault, OUT_OF_MEMORY};
+use crate::extract::ExtractOrder;
+use crate::fault::FileFault;
 use crate::help;
-use crate::refusal::{FileId, Refusal, look, refused, same_file};
-use std::alloc::Global;
+use crate::host::Host;
+use crate::refusal::{FileId, Refusal, look, open, same_file};
+use std::alloc::{AllocError, Global};
 use std::fs;
-use std::fs::{File, Metadata};
+use std::fs::Metadata;
 use std::io::Read;
-use std::rt::Runtime;
 use tape_image::{Ending, ImageCause, ImageFault, ImageReader, fill};
 use tape_writer::system::{folder_of, found, name_in_folder};
 
@@ -34,20 +34,8 @@ const FRONT: usize = 148;
 pub enum Way {
     /// The output is written to a new file, which gets the output's name when it is complete.
     Renamed(Option<FileId>),
-    /// The output has a name that does not exist yet: it is written to a new file, never in place.
-    New,
     /// The output is written in place, since its name is that of a pipe, a device or a link.
     InPlace(Option<FileId>),
-}
-
-impl Way {
-    /// Returns the file found under the name before, if any.
-    pub fn before(&self) -> Option<FileId> {
-        match self {
-            Way::Renamed(before) | Way::InPlace(before) => *before,
-            Way::New => None,
-        }
-    }
 }
 
 /// Returns how the output of `order` is to be written if the images are named `images`; see
@@ -57,18 +45,10 @@ impl Way {
 ///
 /// The errors are those of `way_to_out`, and `Words` if the output is the list, even if the list is
 /// standard input.
-pub fn way_of<R: Runtime + AllocGlobal>(
-    rt: &R,
-    order: &Extract<'_>,
-    images: &[&str],
-) -> Result<Way, Refusal> {
+pub fn way_of<R: Host>(rt: &R, order: &ExtractOrder<'_>, images: &[&str]) -> Result<Way, Refusal> {
     if let (Some(list), Some(there)) = (order.images.list, look(rt, order.task.out)?) {
-        differs(
-            rt,
-            &there,
-            list.file.unwrap_or(STANDARD_INPUT),
-            help::OUT_IS_LIST,
-        )?;
+        let path = list.file.unwrap_or(STANDARD_INPUT);
+        differs(rt, &there, path, help::OUT_IS_LIST)?;
     }
     way_to_out(rt, order.task.out, order.task.stage, images)
 }
@@ -85,40 +65,39 @@ const STANDARD_INPUT: &str = "/dev/stdin";
 /// images: the same file, whatever name or link leads to it. Returns `Faulted` with `Exists` if it
 /// might be a tape: it is not empty, and is named `.tap`, begins like an image, or is compressed,
 /// an archive or a stage; with `NotOpened` or `ReadFailed` if that cannot be determined.
-pub fn way_to_out<R: Runtime + AllocGlobal>(
+pub fn way_to_out<R: Host>(
     rt: &R,
     out: &str,
     stage: Option<&str>,
     images: &[&str],
 ) -> Result<Way, Refusal> {
-    let Some(there) = look(rt, out)? else {
-        return way_to_new(rt, out, stage);
-    };
-    if let Some(stage) = stage {
-        differs(rt, &there, stage, help::OUT_IS_STAGE)?;
-    }
-    for image in images {
-        differs(rt, &there, *image, help::OUT_IS_IMAGE)?;
-    }
-    if there.is_file() && there.len() > 0 {
-        keeps_no_tape(rt, out)?;
-    }
-    way_to(rt, out, Some(FileId::of(&there)))
-}
-
-/// Returns how to write to `out`, a name that does not exist or a link whose target does not exist.
-/// A stage is created before the output is.
-fn way_to_new<R: Runtime>(rt: &R, out: &str, stage: Option<&str>) -> Result<Way, Refusal> {
-    if let Some(stage) = stage {
+    let mut before = None;
+    if let Some(there) = look(rt, out)? {
+        if let Some(stage) = stage {
+            differs(rt, &there, stage, help::OUT_IS_STAGE)?;
+        }
+        for image in images {
+            differs(rt, &there, *image, help::OUT_IS_IMAGE)?;
+        }
+        if there.is_file() && there.len() > 0 && may_keep_a_tape(rt, out)? {
+            return Err(Refusal::from(FileFault::Exists));
+        }
+        before = Some(FileId::of(&there));
+    } else if let Some(stage) = stage {
+        // A stage is created before the output is.
         if is_one_name(rt, out, stage)? {
             return Err(Refusal::Words(help::OUT_IS_STAGE));
         }
     }
-    way_to(rt, out, None)
+    // A missing file can be created, and a link is followed.
+    match found(fs::symlink_metadata(rt, out))? {
+        Some(named) if !named.is_file() => Ok(Way::InPlace(before)),
+        _ => Ok(Way::Renamed(before)),
+    }
 }
 
 /// Returns whether the paths `one` and `other` name the same entry of the same directory.
-fn is_one_name<R: Runtime>(rt: &R, one: &str, other: &str) -> Result<bool, Refusal> {
+fn is_one_name<R: Host>(rt: &R, one: &str, other: &str) -> Result<bool, FileFault> {
     if one == other {
         return Ok(true);
     }
@@ -131,18 +110,8 @@ fn is_one_name<R: Runtime>(rt: &R, one: &str, other: &str) -> Result<bool, Refus
     }
 }
 
-/// Returns how to write to the file at `path`. A missing file can be created, and a link is
-/// followed.
-fn way_to<R: Runtime>(rt: &R, path: &str, before: Option<FileId>) -> Result<Way, Refusal> {
-    match found(fs::symlink_metadata(rt, path)) {
-        Ok(Some(there)) if !there.is_file() => Ok(Way::InPlace(before)),
-        Ok(_) => Ok(Way::Renamed(before)),
-        Err(fault) => Err(refused(fault)),
-    }
-}
-
 /// Refuses with the message `text` if `path` leads to the file with metadata `there`.
-fn differs<R: Runtime>(
+fn differs<R: Host>(
     rt: &R,
     there: &Metadata,
     path: &str,
@@ -154,19 +123,24 @@ fn differs<R: Runtime>(
     }
 }
 
-/// Refuses the file at `path` if it might be a tape.
-fn keeps_no_tape<R: Runtime + AllocGlobal>(rt: &R, path: &str) -> Result<(), Refusal> {
-    let Ok(mut file) = File::open(rt, path) else {
-        return Err(refused(FileFault::NotOpened));
-    };
+/// Returns whether the file at `path` might be a tape.
+fn may_keep_a_tape<R: Host>(rt: &R, path: &str) -> Result<bool, Refusal> {
+    let mut file = open(rt, path)?;
     let mut front = [0; FRONT];
     let Ok(count) = fill(&mut file, &mut front) else {
-        return Err(refused(FileFault::ReadFailed));
+        return Err(Refusal::from(FileFault::ReadFailed));
     };
     if is_named_image(path) || begins_as_kept(&front[..count]) {
-        return Err(refused(FileFault::Exists));
+        return Ok(true);
     }
-    holds_no_image(rt, path)
+    match begins_as_image(rt.alloc(), &mut open(rt, path)?) {
+        Ok(begins) => Ok(begins),
+        Err(fault) => match fault.cause {
+            ImageCause::Device => Err(Refusal::from(FileFault::ReadFailed)),
+            ImageCause::OutOfMemory => Err(Refusal::from(AllocError)),
+            _ => Ok(false),
+        },
+    }
 }
 
 /// Returns whether `path` ends in `.tap`, in upper or lower case.
@@ -183,43 +157,10 @@ fn begins_as_kept(front: &[u8]) -> bool {
         .is_some_and(|there| there.starts_with(*bytes)))
 }
 
-/// Refuses the file at `path` if it begins like an image.
-fn holds_no_image<R: Runtime + AllocGlobal>(rt: &R, path: &str) -> Result<(), Refusal> {
-    let Ok(mut file) = File::open(rt, path) else {
-        return Err(refused(FileFault::NotOpened));
-    };
-    match begins_as_image(rt.alloc(), &mut file) {
-        Ok(false) => Ok(()),
-        Ok(true) => Err(refused(FileFault::Exists)),
-        Err(ImageCause::OutOfMemory) => Err(Refusal::Faulted(OUT_OF_MEMORY)),
-        Err(_) => Err(refused(FileFault::ReadFailed)),
-    }
-}
-
 /// Returns whether the first item of the image on `device`, or its end-of-medium marker, is
 /// complete.
-///
-/// # Errors
-///
-/// Returns `Device` or `OutOfMemory` if this cannot be determined.
-fn begins_as_image<R: Read>(alloc: Global, device: &mut R) -> Result<bool, ImageCause> {
-    let mut image = match ImageReader::new(alloc, device) {
-        Ok(image) => image,
-        Err(fault) => return Err(fault.cause),
-    };
-    let whole = image.next().map(|item| item.is_some());
-    match whole {
-        Ok(true) => Ok(true),
-        Ok(false) => Ok(image.ending() == Some(Ending::Marked)),
-        Err(fault) => unseen(fault),
-    }
-}
-
-/// Returns `false`, since a file with `fault` at its beginning is not an image, or an error if the
-/// file could not be read.
-fn unseen(fault: ImageFault) -> Result<bool, ImageCause> {
-    match fault.cause {
-        ImageCause::Device | ImageCause::OutOfMemory => Err(fault.cause),
-        _ => Ok(false),
-    }
+fn begins_as_image<R: Read>(alloc: Global, device: &mut R) -> Result<bool, ImageFault> {
+    let mut image = ImageReader::new(alloc, device)?;
+    let has_item = image.next()?.is_some();
+    Ok(has_item || image.ending() == Some(Ending::Marked))
 }

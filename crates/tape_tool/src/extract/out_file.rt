@@ -1,10 +1,71 @@
-//! The file that records are written to, in place.
-use crate::fault::FileFault;
+//! The files that records are written to.
+use super::draft::Draft;
+use super::out::Way;
+use crate::fault::{FileFault, ToolFault};
 use crate::host::Host;
+use crate::program::End;
 use crate::refusal::FileId;
 use std::fs::{File, OpenOptions};
-use std::io::{Error, ErrorKind, Result, Write};
+use std::io;
+use std::io::{Error, ErrorKind, Write};
 use tape_writer::system::is_unable;
+
+/// The file that the records of an output are written to.
+#[derive(Drop)]
+pub enum Output<'a, R: Host> {
+    /// A new file, which gets the output's name when it is flushed.
+    New(Draft<'a, R>),
+    /// The output itself, because of its kind, or because its directory accepts no new files.
+    InPlace(OutFile<'a, R>),
+}
+
+impl<'a, R: Host> Output<'a, R> {
+    /// Returns the file to write the output at `path` to.
+    pub fn new(rt: &'a R, path: &'a str, way: Way) -> Result<Output<'a, R>, ToolFault> {
+        let before = match way {
+            Way::InPlace(before) => before,
+            Way::Renamed(before) => match Draft::make(rt, path, before)? {
+                Some(draft) => return Ok(Output::New(draft)),
+                None => before,
+            },
+        };
+        Ok(Output::InPlace(OutFile {
+            rt,
+            path,
+            before,
+            file: None,
+            refused: None,
+        }))
+    }
+
+    /// Ends a run with `end`, or with the reason why the output could not be created. Removes a
+    /// draft that did not get the output's name.
+    pub fn ended(&mut self, end: End) -> End {
+        match self {
+            Output::New(draft) => draft.name.ended(end),
+            Output::InPlace(file) => match file.refused {
+                Some(fault) => End::Faulted(ToolFault::File(fault)),
+                None => end,
+            },
+        }
+    }
+}
+
+impl<R: Host> Write for Output<'_, R> {
+    fn write(&mut self, buf: &[u8]) -> io::Result<usize> {
+        match self {
+            Output::New(draft) => draft.write(buf),
+            Output::InPlace(file) => file.write(buf),
+        }
+    }
+
+    fn flush(&mut self) -> io::Result<()> {
+        match self {
+            Output::New(draft) => draft.flush(),
+            Output::InPlace(file) => file.flush(),
+        }
+    }
+}
 
 /// A file that is created, or truncated, when something is first written to it or it is flushed.
 #[derive(Drop)]
@@ -17,47 +78,22 @@ pub struct OutFile<'a, R: Host> {
     refused: Option<FileFault>,
 }
 
-impl<'a, R: Host> OutFile<'a, R> {
-    /// Returns a writer to the file at `path`, which is neither opened nor changed yet.
-    pub fn new(rt: &'a R, path: &'a str, before: Option<FileId>) -> OutFile<'a, R> {
-        OutFile {
-            rt,
-            path,
-            before,
-            file: None,
-            refused: None,
-        }
-    }
-
-    /// Returns the reason why the file could not be created, if it could not.
-    pub fn refused(&self) -> Option<FileFault> {
-        self.refused
-    }
-
-    /// Creates the file, unless that was attempted before. A failed attempt is not repeated: a
-    /// buffer that is dropped flushes its contents once more.
-    fn make(&mut self) -> Result<()> {
-        if self.refused.is_some() {
-            return Err(Error::from(ErrorKind::Other));
-        }
-        if self.file.is_some() {
-            return Ok(());
-        }
-        match self.open() {
-            Ok(file) => {
-                self.file = Some(file);
-                Ok(())
-            }
-            Err(fault) => {
-                self.refused = Some(fault);
-                Err(Error::from(ErrorKind::Other))
+impl<R: Host> OutFile<'_, R> {
+    /// Returns the file, which is created unless that was attempted before. A failed attempt is not
+    /// repeated: a buffer that is dropped flushes its contents once more.
+    fn made(&mut self) -> io::Result<&mut File> {
+        if self.file.is_none() && self.refused.is_none() {
+            match self.open() {
+                Ok(file) => self.file = Some(file),
+                Err(fault) => self.refused = Some(fault),
             }
         }
+        self.file.as_mut().ok_or(Error::from(ErrorKind::Other))
     }
 
     /// Opens the file that was found, or creates one, and truncates it. Leaves any other file that
     /// has appeared since then unchanged.
-    fn open(&self) -> std::result::Result<File, FileFault> {
+    fn open(&self) -> Result<File, FileFault> {
         let mut options = OpenOptions::new();
         options.write(true).create(self.before.is_none());
         let Ok(file) = options.open(self.rt, self.path) else {
@@ -82,23 +118,15 @@ impl<'a, R: Host> OutFile<'a, R> {
 }
 
 impl<R: Host> Write for OutFile<'_, R> {
-    fn write(&mut self, buf: &[u8]) -> Result<usize> {
-        self.make()?;
-        match &mut self.file {
-            Some(file) => file.write(buf),
-            None => Err(Error::from(ErrorKind::Other)),
-        }
+    fn write(&mut self, buf: &[u8]) -> io::Result<usize> {
+        self.made()?.write(buf)
     }
 
     /// Syncs the written bytes. Files that are not on a disk do not support this call.
-    fn flush(&mut self) -> Result<()> {
-        self.make()?;
-        match &self.file {
-            Some(file) => match file.sync_all() {
-                Err(error) if is_unable(error.kind()) => Ok(()),
-                done => done,
-            },
-            None => Err(Error::from(ErrorKind::Other)),
+    fn flush(&mut self) -> io::Result<()> {
+        match self.made()?.sync_all() {
+            Err(error) if is_unable(error.kind()) => Ok(()),
+            done => done,
         }
     }
 }

@@ -2,10 +2,9 @@
 use super::calls::{Step, each_ends, ends, put, take_all, with_images};
 use super::volumes::{first_of_two, second_of_two};
 use super::words::words_of;
-use crate::command_line::call_of;
+use crate::command_line::{Order, call_of};
 use crate::fault::{FileFault, ToolFault};
 use crate::program::End;
-use crate::words::Order;
 use std::test::Fail;
 
 const LINES: &[(&str, End)] = &[

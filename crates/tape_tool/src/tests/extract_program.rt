@@ -1,11 +1,10 @@
 //! Tests of `extract`: arguments, files, exit statuses.
 use super::calls::{Step, each_is_wrong, ends, take_all, with_images};
 use super::words::words_of;
-use crate::command_line::call_of;
-use crate::extract::words::Extract;
+use crate::command_line::{Order, call_of};
+use crate::extract::ExtractOrder;
 use crate::fault::{FileFault, ToolFault};
 use crate::program::{End, extract_end};
-use crate::words::Order;
 use std::test::Fail;
 use tape_blocks::Form;
 use tape_core::SinkFault;
@@ -228,7 +227,7 @@ const WRONG: &[&str] = &[
 ];
 
 /// Returns whether `order` is the request of `extract AB 9999 out.txt a.tap b.tap`.
-fn is_order(order: &Extract<'_>) -> bool {
+fn is_order(order: &ExtractOrder<'_>) -> bool {
     let task = &order.task;
     task.set_id.bytes() == b"AB    ".as_slice()
         && task.file == 9999

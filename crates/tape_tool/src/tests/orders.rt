@@ -1,15 +1,15 @@
 //! Tests of complete requests: what the program understands from a command line.
 use super::words::words_of;
-use crate::command_line::call_of;
+use crate::command_line::{Order, call_of};
+use crate::extract::{ExtractOrder, Task};
 use crate::images::Named;
-use crate::init::words::Init;
-use crate::list::words::Listing;
-use crate::merge::words::Merge;
-use crate::salvage::words::SalvageOrder;
-use crate::stage::words::StageOrder;
-use crate::survey::words::Survey;
-use crate::unpack::words::Unpack;
-use crate::words::{Extract, Order, Task};
+use crate::init::InitOrder;
+use crate::list::ListOrder;
+use crate::merge::MergeOrder;
+use crate::salvage::SalvageOrder;
+use crate::stage::StageOrder;
+use crate::survey::SurveyOrder;
+use crate::unpack::UnpackOrder;
 use crate::write::words::WriteOrder;
 use std::alloc::{AllocError, Global};
 use std::fmt;
@@ -167,7 +167,7 @@ fn form_name(form: Form) -> &'static str {
 }
 
 /// Returns a request to `extract` as text.
-fn extract_text(alloc: Global, order: &Extract<'_>) -> Result<String, AllocError> {
+fn extract_text(alloc: Global, order: &ExtractOrder<'_>) -> Result<String, AllocError> {
     let Task {
         set_id,
         file,
@@ -187,7 +187,7 @@ fn extract_text(alloc: Global, order: &Extract<'_>) -> Result<String, AllocError
 }
 
 /// Returns a request to `unpack` as text.
-fn unpack_text(alloc: Global, order: &Unpack<'_>) -> Result<String, AllocError> {
+fn unpack_text(alloc: Global, order: &UnpackOrder<'_>) -> Result<String, AllocError> {
     format!(in alloc;
         "unpack {} {} list={} salvage={}{}{}{}",
         order.folder,
@@ -248,11 +248,11 @@ fn write_text(alloc: Global, order: &WriteOrder<'_>) -> Result<String, AllocErro
 /// Returns a request as text.
 fn text_of(alloc: Global, order: &Order<'_>) -> Result<String, AllocError> {
     match order {
-        Order::List(Listing { image, offsets }) => {
+        Order::List(ListOrder { image, offsets }) => {
             format!(in alloc; "list offsets={offsets}{}", Part(" image=", *image))
         }
         Order::Check(images) => format!(in alloc; "check{}", Images(images)),
-        Order::Survey(Survey { images, wording }) => match wording {
+        Order::Survey(SurveyOrder { images, wording }) => match wording {
             Wording::Words => format!(in alloc; "survey words{}", Images(images)),
             Wording::Rows => format!(in alloc; "survey rows{}", Images(images)),
         },
@@ -274,7 +274,7 @@ fn text_of(alloc: Global, order: &Order<'_>) -> Result<String, AllocError> {
             )
         }
         Order::Init(
-            Init {
+            InitOrder {
                 folder,
                 prefix,
                 count,
@@ -286,7 +286,7 @@ fn text_of(alloc: Global, order: &Order<'_>) -> Result<String, AllocError> {
             )
         }
         Order::Write(order) => write_text(alloc, order),
-        Order::Merge(Merge { out, log, images }) => {
+        Order::Merge(MergeOrder { out, log, images }) => {
             format!(in alloc; "merge {out}{}{}", Part(" log=", *log), Images(images))
         }
         Order::Compare(images) => format!(in alloc; "compare{}", Images(images)),

@@ -3,7 +3,7 @@ use super::calls::{Step, take_all};
 use super::volumes::damaged;
 use crate::fault::{FileFault, ToolFault};
 use crate::program::{End, stage_end};
-use crate::stage::StageEnding;
+use crate::stage::ending::StageEnding;
 use crate::stage::show::show_stage;
 use crate::staging::open_session;
 use std::alloc::{AllocError, Global};

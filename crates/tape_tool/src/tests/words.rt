@@ -1,6 +1,5 @@
 //! Tests of command lines.
-use crate::command_line::call_of;
-use crate::words::Order;
+use crate::command_line::{Order, call_of};
 use crate::write::words::WriteOrder;
 use std::alloc::{AllocError, Global};
 use std::process::Abort;

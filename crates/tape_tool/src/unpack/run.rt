@@ -1,23 +1,23 @@
-//! The `unpack` command: recovers files from image files into a directory.
+//! Recovers files from images into a directory.
 
+use super::UnpackOrder;
 use super::last_line::LastLine;
-use super::paths::{Paths, paths_of};
 use super::report::{
     Ended, Lines, after_word, end_report, listed, report_gap, tell, tell_failed, tell_more,
 };
 use super::salvaged::Salvaged;
-use super::words::{UNPACK, Unpack};
 use crate::explain::FaultSite;
-use crate::extract::words::{Task, set_id_of};
-use crate::extract::{Way, extract_whole, gather};
+use crate::extract::{Draft, Output, Task, extract_whole, gather};
 use crate::fault::{FileFault, OUT_OF_MEMORY, ToolFault};
 use crate::help;
 use crate::host::{Host, Progress};
 use crate::images::{Image, Images, names_from, names_of};
 use crate::left::remove;
-use crate::program::{End, check_end, end_refused};
-use crate::refusal::{Refusal, refused};
+use crate::program::{End, check_end};
+use crate::refusal::Refusal;
 use crate::staging::session_in;
+use crate::words::set_id_of;
+use std::alloc::{AllocError, Global};
 use std::io::{BufWriter, Write};
 use std::{fs, io};
 use tape_run::{
@@ -25,9 +25,6 @@ use tape_run::{
     file_name, find_files, flush, set_of,
 };
 use tape_writer::system::found;
-
-/// The maximum number of bytes of the report that are buffered.
-const LINES: usize = 8_192;
 
 /// The source of the files: the images by their names, what was found on them, and the image that
 /// stays open from file to file.
@@ -38,43 +35,43 @@ struct Source<'n, D> {
     mounted: Option<Mounted<D>>,
 }
 
-/// Recovers every file on the images that the arguments name. On error, `site` says where it
-/// occurred.
-pub fn unpack<'a, R: Progress>(rt: &R, order: &Unpack<'a>, site: &mut FaultSite<'a>) -> End {
-    let mut text = String::new(rt.alloc());
-    match names_of(rt, &order.images, &mut text, site) {
-        Ok(names) => {
-            *site = FaultSite::Folder(order.folder);
-            unpack_images(rt, order, names.as_slice())
-        }
-        Err(refusal) => end_refused(rt, &UNPACK, refusal),
-    }
+/// The paths of an unpacked file and of its stage.
+#[derive(Drop)]
+struct Paths {
+    out: String,
+    stage: String,
 }
 
-/// Recovers every file on the images named `names`.
-fn unpack_images<R: Progress>(rt: &R, order: &Unpack<'_>, names: &[&str]) -> End {
-    if let Err(refusal) = is_folder(rt, order.folder) {
-        return end_refused(rt, &UNPACK, refusal);
-    }
-    let Ok(out) = BufWriter::with_capacity(rt.alloc(), LINES, io::writer(rt)) else {
-        return End::Faulted(OUT_OF_MEMORY);
-    };
+/// Recovers every file on the images that the arguments name. On error, `site` says where it
+/// occurred.
+pub fn unpack<'a, R: Progress>(
+    rt: &R,
+    order: &UnpackOrder<'a>,
+    site: &mut FaultSite<'a>,
+) -> Result<End, Refusal> {
+    let mut text = String::new(rt.alloc());
+    let names = names_of(rt, &order.images, &mut text, site)?;
+    let names = names.as_slice();
+    *site = FaultSite::Folder(order.folder);
+    is_folder(rt, order.folder)?;
+    let out = BufWriter::new(rt.alloc(), io::writer(rt)).map_err(|_| AllocError)?;
     let mut lines = Lines {
+        alloc: rt.alloc(),
         out,
         tally: Tally::new(),
     };
     let met = match find_files(rt.alloc(), &mut Images::new(rt, names)) {
         Ok(met) => met,
-        Err(fault) => return End::Faulted(ToolFault::Run(fault)),
+        Err(fault) => return Err(Refusal::Faulted(ToolFault::Run(fault))),
     };
     let end = match unpack_all(rt, order, names, &met, &mut lines) {
         Ok(end) => end,
         Err(fault) => End::Faulted(fault),
     };
-    match (end, flush(&mut lines.out)) {
+    Ok(match (end, flush(&mut lines.out)) {
         (End::Done | End::Incomplete, Err(fault)) => End::Faulted(ToolFault::from(fault)),
         (end, _) => end,
-    }
+    })
 }
 
 /// Refuses `path` if it is not a directory. If it is an image, DIR was forgotten.
@@ -82,7 +79,7 @@ fn is_folder<R: Host>(rt: &R, path: &str) -> Result<(), Refusal> {
     match fs::metadata(rt, path) {
         Ok(found) if found.is_dir() => Ok(()),
         Ok(_) => Err(Refusal::Words(help::DIR_IS_NO_FOLDER)),
-        Err(_) => Err(refused(FileFault::NotOpened)),
+        Err(_) => Err(Refusal::from(FileFault::NotOpened)),
     }
 }
 
@@ -90,7 +87,7 @@ fn is_folder<R: Host>(rt: &R, path: &str) -> Result<(), Refusal> {
 /// a file fails, the others are still tried: the run ends with the first such fault.
 fn unpack_all<'n, R: Progress, P: Write>(
     rt: &R,
-    order: &'n Unpack<'n>,
+    order: &'n UnpackOrder<'n>,
     names: &'n [&'n str],
     met: &'n FoundFiles,
     lines: &mut Lines<P>,
@@ -117,14 +114,14 @@ fn unpack_all<'n, R: Progress, P: Write>(
         }
         before = Some((file.set_id, file.file));
     }
-    let found = end_report(rt, order, &choice, names, met, lines)?;
+    let found = end_report(order, &choice, names, met, lines)?;
     Ok(failed.unwrap_or(check_end(Ok(all && found))))
 }
 
 /// Unpacks `file` if it is chosen, or only looks what would become of it, and prints the outcome.
 fn unpack_file<R: Progress, P: Write>(
     rt: &R,
-    order: &Unpack<'_>,
+    order: &UnpackOrder<'_>,
     choice: &FileChoice<'_>,
     shelf: &mut Source<'_, Image<R>>,
     file: &SetFile,
@@ -135,7 +132,6 @@ fn unpack_file<R: Progress, P: Write>(
     }
     if file.differs {
         return tell(
-            rt,
             file,
             UnpackOutcome::Conflict,
             b"",
@@ -145,14 +141,26 @@ fn unpack_file<R: Progress, P: Write>(
         );
     }
     let name = file_name(&file.set_id, file.file, &file.file_id);
-    let paths = paths_of(rt.alloc(), order.folder, &name)?;
-    unpack_to(rt, order, shelf, file, &paths, lines)
+    let paths = &paths_of(rt.alloc(), order.folder, &name)?;
+    unpack_to(rt, order, shelf, file, paths, lines)
+}
+
+/// Returns the paths of the file named `name` in directory `folder`.
+fn paths_of(alloc: Global, folder: &str, name: &[u8]) -> Result<Paths, AllocError> {
+    let end = if folder.ends_with('/') { "" } else { "/" };
+    let mut out = format!(in alloc; "{folder}{end}")?;
+    // The bytes of a name are ASCII.
+    for byte in name {
+        out.push(char::from(*byte))?;
+    }
+    let stage = format!(in alloc; "{out}.stage")?;
+    Ok(Paths { out, stage })
 }
 
 /// Unpacks a file to `paths`, unless a file with its name exists.
 fn unpack_to<R: Progress, P: Write>(
     rt: &R,
-    order: &Unpack<'_>,
+    order: &UnpackOrder<'_>,
     shelf: &mut Source<'_, Image<R>>,
     file: &SetFile,
     paths: &Paths,
@@ -161,7 +169,7 @@ fn unpack_to<R: Progress, P: Write>(
     let (out, stage) = (paths.out.as_str(), paths.stage.as_str());
     let mut last = LastLine::new();
     let done = if order.list {
-        listed(rt, file, paths, &mut last)
+        listed(rt, file, out, &mut last)
     } else {
         unpacked(rt, order, shelf, file, paths, &mut last)
     };
@@ -173,9 +181,9 @@ fn unpack_to<R: Progress, P: Write>(
         // It existed before, or was created meanwhile.
         (Err(ToolFault::File(FileFault::Exists)), _) => (UnpackOutcome::Exists, out, End::Done),
         (Err(OUT_OF_MEMORY), _) => return Err(OUT_OF_MEMORY),
-        (Err(fault), _) => return tell_failed(rt, file, out, fault, lines),
+        (Err(fault), _) => return tell_failed(file, out, fault, lines),
     };
-    let end = tell(rt, file, outcome, after_word(last.text()), path, end, lines)?;
+    let end = tell(file, outcome, after_word(last.text()), path, end, lines)?;
     if order.salvage && outcome == UnpackOutcome::Awaits {
         return salvage_file(rt, order, shelf, file, out, end, lines);
     }
@@ -186,7 +194,7 @@ fn unpack_to<R: Progress, P: Write>(
 /// the file then contains all that the stage had.
 fn unpacked<R: Progress>(
     rt: &R,
-    order: &Unpack<'_>,
+    order: &UnpackOrder<'_>,
     shelf: &mut Source<'_, Image<R>>,
     file: &SetFile,
     paths: &Paths,
@@ -201,7 +209,7 @@ fn unpacked<R: Progress>(
         Some(there) if !there.is_file() => return Err(ToolFault::File(FileFault::NotOpened)),
         there => there.is_some(),
     };
-    match recover(rt, order, shelf, file, paths, is_staged, last) {
+    match recover(rt, order, shelf, file, paths, is_staged, last)? {
         End::Faulted(fault) => Err(fault),
         end => {
             if end == End::Done {
@@ -219,7 +227,7 @@ fn unpacked<R: Progress>(
 /// about them. Reads the images that may have blocks of its set.
 fn salvage_file<R: Progress, P: Write>(
     rt: &R,
-    order: &Unpack<'_>,
+    order: &UnpackOrder<'_>,
     shelf: &Source<'_, Image<R>>,
     file: &SetFile,
     out: &str,
@@ -240,30 +248,18 @@ fn salvage_file<R: Progress, P: Write>(
         form: order.form,
     };
     let mut last = LastLine::new();
-    match salvaged.write(rt, &task, names.as_slice(), &mut last) {
-        End::Faulted(ToolFault::File(FileFault::Exists)) => {
-            tell_more(
-                rt,
-                file,
-                UnpackOutcome::Exists,
-                b"",
-                salvaged.path(),
-                end,
-                lines,
-            )
-        }
-        End::Faulted(OUT_OF_MEMORY) => Err(OUT_OF_MEMORY),
-        End::Faulted(fault) => tell_failed(rt, file, salvaged.path(), fault, lines),
-        _ => {
-            let outcome = if last.text().starts_with(b"COMPLETE") {
-                UnpackOutcome::Complete
-            } else {
-                UnpackOutcome::Salvaged
-            };
-            let details = after_word(last.text());
-            tell_more(rt, file, outcome, details, salvaged.path(), end, lines)
-        }
-    }
+    let outcome = match salvaged.write(rt, &task, names.as_slice(), &mut last) {
+        Err(ToolFault::File(FileFault::Exists)) => UnpackOutcome::Exists,
+        Err(OUT_OF_MEMORY) => return Err(OUT_OF_MEMORY),
+        Err(fault) => return tell_failed(file, salvaged.path(), fault, lines),
+        Ok(()) if last.text().starts_with(b"COMPLETE") => UnpackOutcome::Complete,
+        Ok(()) => UnpackOutcome::Salvaged,
+    };
+    let details = match outcome {
+        UnpackOutcome::Exists => b"",
+        _ => after_word(last.text()),
+    };
+    tell_more(file, outcome, details, salvaged.path(), end, lines)
 }
 
 /// Recovers a file. If all its sections are intact, reads the images that have them once. Any other
@@ -271,13 +267,13 @@ fn salvage_file<R: Progress, P: Write>(
 /// remembers the last line of either.
 fn recover<R: Progress>(
     rt: &R,
-    order: &Unpack<'_>,
+    order: &UnpackOrder<'_>,
     shelf: &mut Source<'_, Image<R>>,
     file: &SetFile,
     paths: &Paths,
     is_staged: bool,
     last: &mut LastLine,
-) -> End {
+) -> Result<End, ToolFault> {
     let at_once = Task {
         set_id: file.set_id,
         file: file.file,
@@ -290,8 +286,8 @@ fn recover<R: Progress>(
         let images = &mut Images::new(rt, shelf.names);
         let locations = &shelf.met.locations;
         let end = extract_whole(rt, &at_once, images, &mut shelf.mounted, locations, last);
-        if end != End::Incomplete {
-            if end != End::Done {
+        if end != Ok(End::Incomplete) {
+            if end != Ok(End::Done) {
                 // Nothing is proved about an image at which a fault occurred.
                 shelf.mounted = None;
             }
@@ -306,24 +302,19 @@ fn recover<R: Progress>(
 }
 
 /// Recovers a file on the stage at `path` from the images that may have its missing parts.
-fn recover_on<R: Progress>(
-    rt: &R,
+fn recover_on<'a, R: Progress>(
+    rt: &'a R,
     shelf: &Source<'_, Image<R>>,
-    task: &Task<'_>,
+    task: &Task<'a>,
     path: &str,
     last: &mut LastLine,
-) -> End {
-    let mut session = match session_in(rt, path, task.set_id, task.file) {
-        Ok(session) => session,
-        Err(fault) => return End::Faulted(fault),
-    };
+) -> Result<End, ToolFault> {
+    let mut session = session_in(rt, path, task.set_id, task.file)?;
     let names = match session.want() {
-        Some(want) => names_from(rt.alloc(), shelf.names, shelf.met, task.set_id, want),
-        None => Ok(Vec::new(rt.alloc())),
-    };
-    let Ok(names) = names else {
-        return End::Faulted(OUT_OF_MEMORY);
+        Some(want) => names_from(rt.alloc(), shelf.names, shelf.met, task.set_id, want)?,
+        None => Vec::new(rt.alloc()),
     };
     let images = &mut Images::new(rt, names.as_slice());
-    gather(rt, task, images, Way::New, last, &mut session)
+    let output = Output::New(Draft::over(rt, task.out, None)?);
+    Ok(gather(rt, task, images, output, last, &mut session))
 }

@@ -6,12 +6,12 @@ ghost use Rattle.std.specs.Prelude.{None};
 
 use super::last_line::LastLine;
 use crate::extract::{Draft, DraftFile, HELD};
-use crate::fault::{FileFault, OUT_OF_MEMORY, ToolFault};
+use crate::fault::{FileFault, ToolFault};
 use crate::host::{Host, Progress};
 use crate::images::Images;
 use crate::left::remove;
-use crate::program::End;
-use crate::refusal::FileId;
+use crate::program::{End, end_of};
+use crate::refusal::{FileId, open};
 use hex::encode;
 use sha2::{Digest, Sha256};
 use std::alloc::{AllocError, Global};
@@ -55,14 +55,11 @@ struct Summed {
 impl Summed {
     /// Creates a buffered writer to `file`, which also computes the checksum of the bytes.
     fn new(alloc: Global, file: DraftFile) -> Result<Summed, ToolFault> {
-        match BufWriter::with_capacity(alloc, HELD, file) {
-            Ok(out) => Ok(Summed {
-                out,
-                sum: Sha256::new(),
-                last: LastLine::new(),
-            }),
-            Err(_) => Err(OUT_OF_MEMORY),
-        }
+        Ok(Summed {
+            out: BufWriter::with_capacity(alloc, HELD, file).map_err(|_| AllocError)?,
+            sum: Sha256::new(),
+            last: LastLine::new(),
+        })
     }
 }
 
@@ -109,43 +106,46 @@ impl Salvaged {
     }
 
     /// Writes the readable records of a file on the images named `names`; `last` remembers the last
-    /// line of `salvage`. Ends with `Exists` if one of the paths has a file other than those that
-    /// an earlier run wrote, unchanged.
+    /// line of `salvage`.
+    ///
+    /// # Errors
+    ///
+    /// Returns `Exists` if one of the paths has a file other than those that an earlier run wrote,
+    /// unchanged; otherwise the fault of creating or writing a file.
     pub fn write<R: Progress>(
         &self,
         rt: &R,
         task: &SalvageTask,
         names: &[&str],
         last: &mut LastLine,
-    ) -> End {
-        let (records, report) = match self.earlier(rt) {
-            Ok(Earlier::Nothing) => (None, None),
-            Ok(Earlier::Own(records, report)) => (Some(records), Some(report)),
-            Ok(Earlier::Other) => return End::Faulted(ToolFault::File(FileFault::Exists)),
-            Err(fault) => return End::Faulted(fault),
+    ) -> Result<(), ToolFault> {
+        let (records, report) = match self.earlier(rt)? {
+            Earlier::Nothing => (None, None),
+            Earlier::Own(records, report) => (Some(records), Some(report)),
+            Earlier::Other => return Err(ToolFault::File(FileFault::Exists)),
         };
-        let Draft { mut name, file } = match draft(rt, self.records.as_str(), records) {
-            Ok(draft) => draft,
-            Err(fault) => return End::Faulted(fault),
-        };
-        let end = match draft(rt, self.report.as_str(), report) {
-            Ok(
-                Draft {
+        let Draft { mut name, file } = Draft::over(rt, self.records.as_str(), records)?;
+        let end = match Draft::over(rt, self.report.as_str(), report) {
+            Ok(draft) => {
+                let Draft {
                     name: mut of_report,
                     file: lines,
-                },
-            ) => {
+                } = draft;
                 let end = match written(rt, task, names, file, lines, last) {
-                    Ok((records, report)) => end_placed(
-                        of_report.place(report).and_then(|()| name.place(records)),
-                    ),
+                    Ok((records, report)) => {
+                        let placed = of_report.place(report).and_then(|()| name.place(records));
+                        end_of(placed.map_err(|fault| ToolFault::from(fault)))
+                    }
                     Err(fault) => End::Faulted(fault),
                 };
                 of_report.ended(end)
             }
             Err(fault) => End::Faulted(fault),
         };
-        name.ended(end)
+        match name.ended(end) {
+            End::Faulted(fault) => Err(fault),
+            _ => Ok(()),
+        }
     }
 
     /// Removes the files that an earlier run wrote, unless they have changed since then.
@@ -179,25 +179,14 @@ impl Salvaged {
         let Some(lines) = report.checked_sub(SUMS as u64) else {
             return Ok(false);
         };
-        let mut file = opened(rt, self.report.as_str())?;
+        let mut file = open(rt, self.report.as_str())?;
         let of_lines = sum_of(&mut file, lines)?;
         let mut last = [0; SUMS];
-        read_all(&mut file, &mut last)?;
-        let of_records = sum_of(&mut opened(rt, self.records.as_str())?, records)?;
+        file.read_exact(&mut last)
+            .map_err(|_| FileFault::ReadFailed)?;
+        let of_records = sum_of(&mut open(rt, self.records.as_str())?, records)?;
         let line = sums_line(rt.alloc(), &of_records, &of_lines)?;
         Ok(last.as_slice() == line.as_bytes())
-    }
-}
-
-/// Creates a draft of the file at `path`, which is never written in place.
-fn draft<'a, R: Host>(
-    rt: &'a R,
-    path: &'a str,
-    before: Option<FileId>,
-) -> Result<Draft<'a, R>, ToolFault> {
-    match Draft::make(rt.alloc(), rt, path, before)? {
-        Some(draft) => Ok(draft),
-        None => Err(ToolFault::File(FileFault::NotOpened)),
     }
 }
 
@@ -235,15 +224,6 @@ fn written<R: Progress>(
     Ok((records.out, out))
 }
 
-/// Returns how unpacking an incomplete file ends, given whether its records and their report got
-/// their names.
-fn end_placed(placed: Result<(), WriteFailed>) -> End {
-    match placed {
-        Ok(()) => End::Incomplete,
-        Err(fault) => End::Faulted(ToolFault::from(fault)),
-    }
-}
-
 /// Returns the line of the report that names an image: `FROM`, its number from 1, and its name.
 fn image_line(alloc: Global, number: usize, name: &str) -> Result<Vec<u8>, AllocError> {
     let front = format!(in alloc; "FROM {} ", number.saturating_add(1))?;
@@ -260,30 +240,15 @@ fn sums_line(alloc: Global, records: &[u8; 32], lines: &[u8; 32]) -> Result<Stri
     format!(in alloc; "SUMS {records} {lines}\n")
 }
 
-/// Opens a file of an earlier run.
-fn opened<R: Host>(rt: &R, path: &str) -> Result<File, ToolFault> {
-    match File::open(rt, path) {
-        Ok(file) => Ok(file),
-        Err(_) => Err(ToolFault::File(FileFault::NotOpened)),
-    }
-}
-
-/// Fills `buffer` with the next bytes of `file`.
-fn read_all(file: &mut File, buffer: &mut [u8]) -> Result<(), ToolFault> {
-    match file.read_exact(buffer) {
-        Ok(()) => Ok(()),
-        Err(_) => Err(ToolFault::File(FileFault::ReadFailed)),
-    }
-}
-
 /// Returns the SHA-256 checksum of the next `length` bytes of `file`.
-fn sum_of(file: &mut File, length: u64) -> Result<[u8; 32], ToolFault> {
+fn sum_of(file: &mut File, length: u64) -> Result<[u8; 32], FileFault> {
     let mut sum = Sha256::new();
     let mut buffer = [0; PIECE];
     let mut left = length;
     for _ in 0..length.div_ceil(PIECE as u64) {
         let room = left.min(PIECE as u64) as usize;
-        read_all(file, &mut buffer[..room])?;
+        file.read_exact(&mut buffer[..room])
+            .map_err(|_| FileFault::ReadFailed)?;
         sum.update(&buffer[..room]);
         left = left.saturating_sub(PIECE as u64);
     }

@@ -6,11 +6,12 @@ ghost use Rattle.tape_tool.specs.Writing.{record_length, IsNoShape, plain_head};
 
 use super::guard::look_ahead;
 use super::report::say;
-use super::words::{WRITE, WriteOrder};
+use super::words::WriteOrder;
 use crate::explain::FaultSite;
 use crate::fault::ToolFault;
 use crate::host::Host;
-use crate::program::{End, end_of, end_refused};
+use crate::program::{End, end_of};
+use crate::refusal::Refusal;
 use std::io;
 use std::rt::Runtime;
 use tape_blocks::Shape;
@@ -20,12 +21,14 @@ use tape_writer::{Input, WriteFault};
 
 /// Writes files to volumes, unless that would destroy a file. On error, `site` says where it
 /// occurred.
-pub fn write<'a, R: Host>(rt: &R, order: &WriteOrder<'a>, site: &mut FaultSite<'a>) -> End {
+pub fn write<'a, R: Host>(
+    rt: &R,
+    order: &WriteOrder<'a>,
+    site: &mut FaultSite<'a>,
+) -> Result<End, Refusal> {
     *site = FaultSite::Images(order.folder);
-    match look_ahead(rt, order) {
-        Ok(()) => end_of(write_set(rt, order, site)),
-        Err(refusal) => end_refused(rt, &WRITE, refusal),
-    }
+    look_ahead(rt, order)?;
+    Ok(end_of(write_set(rt, order, site)))
 }
 
 /// Writes the files to volumes, and reports the volumes. One input and one image are open at a
@@ -38,32 +41,22 @@ fn write_set<'a, R: Host>(
     order: &WriteOrder<'a>,
     site: &mut FaultSite<'a>,
 ) -> Result<(), ToolFault> {
-    let plan = plan_of(order)?;
-    check_ids(order, site)?;
-    let mut files = find_inputs(rt, order, site)?;
-    *site = FaultSite::Images(order.folder);
-    write_files(rt, &plan, files.as_mut_slice())
-}
-
-/// Writes the files to volumes, and reports the volumes.
-fn write_files<R: Host>(
-    rt: &R,
-    plan: &FolderPlan<'_>,
-    files: &mut [Input<InputFile<'_, R>>],
-) -> Result<(), ToolFault> {
-    let ended = write_in_folder(rt, plan, files)?;
-    Ok(say(&mut io::writer(rt), files.len() as u64, ended.as_slice())?)
-}
-
-/// Returns the directory and the volumes to which the set is to be written.
-fn plan_of<'a>(order: &WriteOrder<'a>) -> Result<FolderPlan<'a>, ToolFault> {
-    Ok(FolderPlan {
+    let plan = FolderPlan {
         folder: order.folder,
         prefix: order.prefix,
         capacity: order.capacity,
         shape: shape_of(order)?,
         form: order.form,
-    })
+    };
+    // None of the heads is stored, since there may be thousands.
+    for word in order.files.as_slice() {
+        *site = FaultSite::Input(*word);
+        head_for(word)?;
+    }
+    let mut files = find_inputs(rt, order, site)?;
+    *site = FaultSite::Images(order.folder);
+    let ended = write_in_folder(rt, &plan, files.as_mut_slice())?;
+    Ok(say(&mut io::writer(rt), files.len() as u64, ended.as_slice())?)
 }
 
 /// Returns the shape of all files. An impossible shape is reported as a fault of the writer.
@@ -108,15 +101,6 @@ fn record_length(order: &WriteOrder<'_>) -> u32
             .min(9_999),
         _ => 0,
     }
-}
-
-/// Checks the identifiers of all files. None of them is stored, since there may be thousands.
-fn check_ids<'a>(order: &WriteOrder<'a>, site: &mut FaultSite<'a>) -> Result<(), ToolFault> {
-    for word in order.files.as_slice() {
-        *site = FaultSite::Input(*word);
-        head_for(word)?;
-    }
-    Ok(())
 }
 
 /// Returns the head of the file that argument `word` names.
@@ -164,22 +148,14 @@ fn find_inputs<'r, 'a: 'r, R: Runtime + AllocGlobal>(
     let mut inputs = Vec::new(rt.alloc());
     for word in order.files.as_slice() {
         *site = FaultSite::Input(*word);
-        if inputs.push(input_of(rt, *word)?).is_err() {
+        let (_, path) = split(*word);
+        let input = Input {
+            head: head_for(*word)?,
+            reader: InputFile::find(rt, path)?,
+        };
+        if inputs.push(input).is_err() {
             return Err(ToolFault::Write(WriteFault::OutOfMemory));
         }
     }
     Ok(inputs)
-}
-
-/// Returns the input that argument `word` names.
-fn input_of<'a, R: Runtime>(
-    rt: &'a R,
-    word: &'a str,
-) -> Result<Input<InputFile<'a, R>>, ToolFault> {
-    let head = head_for(word)?;
-    let (_, path) = split(word);
-    Ok(Input {
-        head,
-        reader: InputFile::find(rt, path)?,
-    })
 }

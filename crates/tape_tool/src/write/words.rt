@@ -3,10 +3,11 @@
 ghost use Rattle.std.specs.Prelude.{◌≡◌, ◌↔◌, ◌⊎◌, ◌++◌, ℕ, List, [], codes, IfSome, IfNone};
 ghost use Rattle.tape_tool.specs.Words.{IsAtOdds, IsSize, IsUnit, EndsInLetter};
 
-use crate::command_spec::{CommandSpec, Kind, Word, check_numbers, mistake, wrong_value};
+use crate::command_spec::{CommandSpec, Kind, Word};
 use crate::help;
-use crate::words::{FORMS, Order, form_of, text_of};
-use clap::{ArgMatches, Error};
+use crate::refusal::Refusal;
+use crate::words::{FORMS, form_of, prefix_of, text_of};
+use clap::ArgMatches;
 use std::alloc::Global;
 use tape_blocks::Form;
 use tape_label::Format;
@@ -63,21 +64,15 @@ pub const WRITE: CommandSpec = CommandSpec {
     ],
 };
 
-/// Returns the request in `matches`, the arguments of `write`. The parser has checked that all
-/// required ones are present.
-pub fn write_order<'a>(alloc: Global, matches: &ArgMatches<'a>) -> Result<Order<'a>, Error> {
-    check_numbers(alloc, &WRITE, matches)?;
-    let name = text_of(matches, "PRE");
-    let Some(prefix) = Prefix::new(name) else {
-        return Err(wrong_value(alloc, &WRITE, name, help::WRONG_PREFIX));
-    };
-    let size = text_of(matches, "CAPACITY");
-    let Some(capacity) = size_of(size) else {
-        return Err(wrong_value(alloc, &WRITE, size, help::WRONG_CAPACITY));
+/// Returns the request in `matches`, the arguments of `write`.
+pub fn write_order<'a>(alloc: Global, matches: &ArgMatches<'a>) -> Result<WriteOrder<'a>, Refusal> {
+    let prefix = prefix_of(matches)?;
+    let Some(capacity) = size_of(text_of(matches, "CAPACITY")) else {
+        return Err(Refusal::Value("CAPACITY", help::WRONG_CAPACITY));
     };
     let files = matches.get_strs("ID=PATH").unwrap_or(&[]);
     if !files.iter().all(|file| file.contains('=')) {
-        return Err(mistake(alloc, &WRITE, help::NO_PATH));
+        return Err(Refusal::Words(help::NO_PATH));
     }
     let order = WriteOrder {
         folder: text_of(matches, "DIR"),
@@ -92,8 +87,8 @@ pub fn write_order<'a>(alloc: Global, matches: &ArgMatches<'a>) -> Result<Order<
         form: form_of(matches),
     };
     match wrong(&order) {
-        Some(text) => Err(mistake(alloc, &WRITE, text)),
-        None => Ok(Order::Write(order)),
+        Some(text) => Err(Refusal::Words(text)),
+        None => Ok(order),
     }
 }
 
