@@ -1,10 +1,33 @@
-//! Runs of the program with a command line: how they end, and the files before and after them. The
-//! tests share a directory, so each file has a name of its own.
+//! Scripts: runs of the program with a command line, and the files before and after them. The tests
+//! share a directory, so each file has a name of its own.
+//!
+//! Each line of a script is a step, after any spaces. FILE is a path, and TEXT the rest of the
+//! line, in which a backslash and two hexadecimal digits represent a byte. A line that begins with
+//! `#` is a comment.
+//!
+//! - `N: LINE` runs the program with the arguments LINE, and checks that it ends with status N, or
+//!   with the fault N, as the line about the fault names it.
+//! - `$ LINE` runs it in a fake system. The next lines are its results: `> TEXT` a line of output,
+//!   or `> ..` any output, `! TEXT` a line of errors, `[N]` the exit status if it is not 0, and
+//!   `? FILE ..` the files that it opens, each with `?` if that fails. Without a line `?` they are
+//!   not compared.
+//! - `folder FILE`, `put FILE TEXT`, `fill FILE COUNT TEXT`, `link FILE TARGET` and
+//!   `name FILE OTHER` create a directory, a file, a file of so many copies of the text, a link and
+//!   a second name. `remove FILE` removes a file, if it exists; `allow FILE MODE` sets its
+//!   permissions.
+//! - `worked FILE`, or `worked FILE LENGTH`, creates the example image, or its first bytes,
+//!   `damaged FILE BLOCK` an image with an unreadable block, `lost FILE` one without its second
+//!   block, `first FILE` and `second FILE` the volumes of the example file on two, and
+//!   `records FILE` its records.
+//! - `has FILE TEXT`, `at FILE OFFSET TEXT`, `length FILE COUNT`, `is_worked FILE`, `missing FILE`
+//!   and `allowed FILE MODE` check the contents of a file, the bytes at an offset, the length, that
+//!   it is the example image or does not exist, and its permissions.
 
-use super::image::payroll;
-use super::volumes::{damaged, lost, worked};
+use super::fake_system::{Odd, called_oddly};
+use super::image::{Image, payroll};
+use super::volumes::{damaged, first_of_two, lost, second_of_two, worked};
 use super::words::words_of;
-use crate::fault::ToolFault;
+use crate::diagnostics::FaultLine;
 use crate::host::Progress;
 use crate::program::{End, perform};
 use std::alloc::{AllocError, Global};
@@ -13,8 +36,6 @@ use std::fs::{File, Permissions};
 use std::io::Write;
 use std::os::unix;
 use std::os::unix::fs::PermissionsExt;
-use std::process::Abort;
-use std::rt::Runtime;
 use std::test::Fail;
 
 /// The system itself shows nothing.
@@ -23,204 +44,216 @@ impl Progress for HostRuntime {
 }
 
 /// Runs the program with the arguments in `line`, and returns how it ends.
-pub fn end_of<H: Progress>(rt: &H, line: &str) -> Result<End, Fail> {
+pub fn end_of(rt: &HostRuntime, line: &str) -> Result<End, Fail> {
     let words = words_of(rt.alloc(), line)?;
     Ok(perform(rt, words.as_slice()).end)
 }
 
-/// Fails unless the run with the arguments in `line` ends with `wanted`.
-pub fn ends<H: Progress + Abort>(rt: &H, line: &str, wanted: End) -> Result<(), Fail> {
-    let end = end_of(rt, line)?;
-    assert!(rt; end == wanted, "{line}: {end:?}");
-    Ok(())
+/// A run in the fake system, and its expected results.
+#[derive(Drop)]
+struct Run<'a> {
+    line: &'a str,
+    status: &'a str,
+    out: String,
+    told: String,
+    opened: Option<&'a str>,
+    has_any_output: bool,
 }
 
-/// Fails unless the run with the arguments in `line` ends with `fault`.
-fn fails<H: Progress + Abort>(rt: &H, line: &str, fault: ToolFault) -> Result<(), Fail> {
-    ends(rt, line, End::Faulted(fault))
-}
-
-/// Fails unless each run ends as its row says.
-pub fn each_ends<H: Progress + Abort>(rt: &H, cases: &[(&str, End)]) -> Result<(), Fail> {
-    for (line, wanted) in cases {
-        ends(rt, line, *wanted)?;
-    }
-    Ok(())
-}
-
-/// Fails unless each run ends with the fault in its row.
-pub fn each_fails<H: Progress + Abort>(rt: &H, cases: &[(&str, ToolFault)]) -> Result<(), Fail> {
-    for (line, fault) in cases {
-        fails(rt, line, *fault)?;
-    }
-    Ok(())
-}
-
-/// Fails unless each of `lines`, which name no existing file, is a usage error.
-pub fn each_is_wrong<H: Progress + Abort>(rt: &H, lines: &[&str]) -> Result<(), Fail> {
-    for line in lines {
-        ends(rt, line, End::WrongWords)?;
-    }
-    Ok(())
-}
-
-/// A step of a test: an action and its expected result.
-#[derive(Clone, Copy)]
-pub enum Step<'a> {
-    /// Runs the program with a line, which ends as specified.
-    Ends(&'a str, End),
-    /// Runs the program with a line, which ends with this fault.
-    Fails(&'a str, ToolFault),
-    /// Creates a directory.
-    Folder(&'a str),
-    /// Creates a file with the given bytes.
-    Put(&'a str, &'a [u8]),
-    /// Creates a file with the example image, or with its first bytes.
-    PutWorked(&'a str, usize),
-    /// Creates a file with a volume that has one unreadable block.
-    PutDamaged(&'a str, usize),
-    /// Creates a file with the example volume without its second block.
-    PutLost(&'a str),
-    /// Creates a file with the records of the example volume.
-    PutRecords(&'a str),
-    /// Creates a link to a path.
-    Link(&'a str, &'a str),
-    /// Makes a second name for a file.
-    Name(&'a str, &'a str),
-    /// Removes the file, if it exists.
-    Remove(&'a str),
-    /// Checks that the file contains exactly these bytes.
-    Holds(&'a str, &'a [u8]),
-    /// Checks that the file is the example image.
-    IsWorked(&'a str),
-    /// Checks that the file has this length.
-    HasLength(&'a str, usize),
-    /// Checks that the file contains this text at an offset.
-    HasText(&'a str, usize, &'a [u8]),
-    /// Checks that the file does not exist.
-    IsMissing(&'a str),
-    /// Sets the permissions of the file.
-    Allow(&'a str, u32),
-    /// Checks that the file has these permissions.
-    IsAllowed(&'a str, u32),
-}
-
-/// Executes `steps` in order, and fails unless each has its expected result.
-pub fn take_all<H: Progress + Abort>(rt: &H, steps: &[Step<'_>]) -> Result<(), Fail> {
-    for (number, step) in steps.iter().enumerate() {
-        assert!(rt; take(rt, step)?, "the step behind {number} others");
-    }
-    Ok(())
-}
-
-/// Executes the steps of each of `scripts`, and fails unless each step has its expected result. The
-/// message names the script.
-pub fn follow_all<H: Progress + Abort>(
-    rt: &H,
-    scripts: &[(&str, &[Step<'_>])],
-) -> Result<(), Fail> {
-    for (name, steps) in scripts {
-        for (number, step) in steps.iter().enumerate() {
-            assert!(rt; take(rt, step)?, "{name}: the step behind {number} others");
+impl<'a> Run<'a> {
+    fn new(alloc: Global, line: &'a str) -> Run<'a> {
+        Run {
+            line,
+            status: "[0]",
+            out: String::new(alloc),
+            told: String::new(alloc),
+            opened: None,
+            has_any_output: false,
         }
     }
-    Ok(())
+
+    /// Adds the expected result in a line of the script. Returns false if the line is another step.
+    fn expect(&mut self, word: &'a str, text: &'a str) -> Result<bool, AllocError> {
+        match word {
+            ">" if text == ".." => self.has_any_output = true,
+            ">" => push_line(&mut self.out, text)?,
+            "!" => push_line(&mut self.told, text)?,
+            "?" => self.opened = Some(text),
+            word if word.starts_with('[') => self.status = word,
+            _ => return Ok(false),
+        }
+        Ok(true)
+    }
+
+    /// Runs the program on a system with the peculiarity `odd`, and fails unless it has the
+    /// expected results.
+    fn check(&self, rt: &HostRuntime, odd: Odd<'_>) -> Result<(), Fail> {
+        let seen = called_oddly(rt, self.line, odd)?;
+        let status = format!(in rt.alloc(); "[{}]", seen.status)?;
+        let has_output = self.has_any_output || seen.out.as_str() == self.out.as_str();
+        let is_opened = self
+            .opened
+            .is_none_or(|paths| seen.opened.as_str().trim_end() == paths);
+        if status.as_str() == self.status
+            && has_output
+            && seen.told.as_str() == self.told.as_str()
+            && is_opened
+        {
+            return Ok(());
+        }
+        Err(Fail::from(format!(in rt.alloc();
+            "{}: {status}\n{}{}{}",
+            self.line, seen.out, seen.told, seen.opened
+        )?))
+    }
 }
 
-/// Executes a step, and returns whether it had its expected result.
-fn take<H: Progress>(rt: &H, step: &Step<'_>) -> Result<bool, Fail> {
-    match *step {
-        Step::Ends(line, wanted) => Ok(end_of(rt, line)? == wanted),
-        Step::Fails(line, fault) => Ok(end_of(rt, line)? == End::Faulted(fault)),
-        Step::Folder(path) => Ok(fs::create_dir(rt, path).is_ok()),
-        Step::Put(path, bytes) => put(rt, path, bytes),
-        Step::PutWorked(path, length) => put_worked(rt, path, length),
-        Step::PutDamaged(path, bad) => put_damaged(rt, path, bad),
-        Step::PutLost(path) => put(rt, path, lost(rt.alloc())?.bytes.as_slice()),
-        Step::PutRecords(path) => put_records(rt, path),
-        Step::Link(name, path) => Ok(unix::fs::symlink(rt, path, name).is_ok()),
-        Step::Name(name, path) => Ok(fs::hard_link(rt, path, name).is_ok()),
-        Step::Remove(path) => Ok(remove(rt, path)),
-        Step::Holds(path, bytes) => holds(rt, path, bytes),
-        Step::IsWorked(path) => is_worked(rt, path),
-        Step::HasLength(path, length) => has_length(rt, path, length),
-        Step::HasText(path, place, text) => has_text(rt, path, place, text),
-        Step::IsMissing(path) => Ok(is_missing(rt, path)),
-        Step::Allow(path, mode) => {
-            Ok(fs::set_permissions(rt, path, Permissions::from_mode(mode)).is_ok())
+fn push_line(page: &mut String, text: &str) -> Result<(), AllocError> {
+    page.push_str(text)?;
+    page.push('\n')
+}
+
+/// Executes the steps of `script` in order, and fails unless each has its expected result.
+pub fn follow(rt: &HostRuntime, script: &str) -> Result<(), Fail> {
+    follow_oddly(rt, script, Odd::Nothing)
+}
+
+/// The same, on a fake system with the peculiarity `odd`.
+pub fn follow_oddly(rt: &HostRuntime, script: &str, odd: Odd<'_>) -> Result<(), Fail> {
+    let mut run: Option<Run<'_>> = None;
+    for line in script.lines() {
+        let line = line.trim_start();
+        let (word, rest) = line.split_once(' ').unwrap_or((line, ""));
+        if let Some(run) = &mut run {
+            if run.expect(word, rest)? {
+                continue;
+            }
+            run.check(rt, odd)?;
         }
-        Step::IsAllowed(path, mode) => {
-            Ok(fs::metadata(rt, path)?.permissions().mode() & 0o7777 == mode)
+        run = None;
+        match word {
+            "" | "#" => {}
+            "$" => run = Some(Run::new(rt.alloc(), rest)),
+            _ if take(rt, line, word, rest)? => {}
+            _ => return Err(Fail::from(line.to_string(rt.alloc())?)),
         }
     }
+    match &run {
+        Some(run) => run.check(rt, odd),
+        None => Ok(()),
+    }
+}
+
+/// Executes the step `line`, which consists of `word` and `rest`. Returns whether it had its
+/// expected result.
+fn take(rt: &HostRuntime, line: &str, word: &str, rest: &str) -> Result<bool, Fail> {
+    let alloc = rt.alloc();
+    let (path, text) = rest.split_once(' ').unwrap_or((rest, ""));
+    let number = text.parse::<usize>().unwrap_or(usize::MAX);
+    match word {
+        "folder" => Ok(fs::create_dir(rt, path).is_ok()),
+        "put" => put(rt, path, bytes_of(alloc, text)?.as_slice()),
+        "fill" => fill(rt, path, text),
+        "link" => Ok(unix::fs::symlink(rt, text, path).is_ok()),
+        "name" => Ok(fs::hard_link(rt, text, path).is_ok()),
+        "remove" => {
+            let _ = fs::remove_file(rt, path);
+            Ok(true)
+        }
+        "allow" => Ok(fs::set_permissions(rt, path, mode_of(text)).is_ok()),
+        "worked" => put_image(rt, path, &worked(alloc)?.cut(number)),
+        "damaged" => put_image(rt, path, &damaged(alloc, number)?),
+        "lost" => put_image(rt, path, &lost(alloc)?),
+        "first" => put_image(rt, path, &first_of_two(alloc)?),
+        "second" => put_image(rt, path, &second_of_two(alloc)?),
+        "records" => put(rt, path, payroll(alloc, b"")?.as_slice()),
+        "has" => holds(rt, path, bytes_of(alloc, text)?.as_slice()),
+        "at" => has_text(rt, path, text),
+        "length" => Ok(fs::read(rt, path)?.len() == number),
+        "is_worked" => holds(rt, path, worked(alloc)?.bytes.as_slice()),
+        "missing" => Ok(fs::read(rt, path).is_err()),
+        "allowed" => {
+            let mode = fs::metadata(rt, path)?.permissions().mode() & 0o7777;
+            Ok(mode == mode_of(text).mode())
+        }
+        _ => ends(rt, line),
+    }
+}
+
+/// Runs the program as in `line`, and returns whether it ends as the line says.
+fn ends(rt: &HostRuntime, line: &str) -> Result<bool, Fail> {
+    let Some((wanted, words)) = line.split_once(": ") else {
+        return Err(Fail::from("a step that is none"));
+    };
+    let end = end_of(rt, words)?;
+    let told = match end {
+        End::Faulted(fault) => format!(in rt.alloc(); "{}", FaultLine(fault))?,
+        end => format!(in rt.alloc(); "tape: {}\n", end.status())?,
+    };
+    Ok(told.as_str() == format!(in rt.alloc(); "tape: {wanted}\n")?.as_str())
+}
+
+/// Returns `text` with the bytes that it represents.
+fn bytes_of(alloc: Global, text: &str) -> Result<Vec<u8>, Fail> {
+    let mut bytes = Vec::new(alloc);
+    for (number, part) in text.split('\\').enumerate() {
+        let mut part = part;
+        if let (Some(digits), Some(rest)) = (part.get(..2), part.get(2..))
+            && number > 0
+        {
+            bytes.extend_from_slice(hex::decode(alloc, digits)?.as_slice())?;
+            part = rest;
+        }
+        bytes.extend_from_slice(part.as_bytes())?;
+    }
+    Ok(bytes)
+}
+
+/// Returns permissions in octal digits.
+fn mode_of(text: &str) -> Permissions {
+    Permissions::from_mode(u32::from_str_radix(text, 8).unwrap_or(0))
 }
 
 /// Creates a file with contents `bytes`.
-pub fn put<H: Runtime>(rt: &H, path: &str, bytes: &[u8]) -> Result<bool, Fail> {
+pub fn put(rt: &HostRuntime, path: &str, bytes: &[u8]) -> Result<bool, Fail> {
     let mut file = File::create(rt, path)?;
     file.write_all(bytes)?;
     Ok(true)
 }
 
-fn put_worked<H: Runtime + AllocGlobal>(rt: &H, path: &str, length: usize) -> Result<bool, Fail> {
-    let image = worked(rt.alloc())?.cut(length);
+/// Creates a file with so many copies of a text as `text` says.
+fn fill(rt: &HostRuntime, path: &str, text: &str) -> Result<bool, Fail> {
+    let (count, piece) = text.split_once(' ').unwrap_or((text, ""));
+    let piece = bytes_of(rt.alloc(), piece)?;
+    let mut bytes = Vec::new(rt.alloc());
+    for _ in 0..count.parse::<u32>().unwrap_or(0) {
+        bytes.extend_from_slice(piece.as_slice())?;
+    }
+    put(rt, path, bytes.as_slice())
+}
+
+fn put_image(rt: &HostRuntime, path: &str, image: &Image) -> Result<bool, Fail> {
     put(rt, path, image.bytes.as_slice())
-}
-
-fn put_damaged<H: Runtime + AllocGlobal>(rt: &H, path: &str, bad: usize) -> Result<bool, Fail> {
-    let image = damaged(rt.alloc(), bad)?;
-    put(rt, path, image.bytes.as_slice())
-}
-
-fn put_records<H: Runtime + AllocGlobal>(rt: &H, path: &str) -> Result<bool, Fail> {
-    let records = payroll(rt.alloc(), b"")?;
-    put(rt, path, records.as_slice())
-}
-
-fn remove<H: Runtime>(rt: &H, path: &str) -> bool {
-    let _ = fs::remove_file(rt, path);
-    true
 }
 
 /// Returns whether the contents of the file at `path` are exactly `bytes`.
-pub fn holds<H: Runtime + AllocGlobal>(rt: &H, path: &str, bytes: &[u8]) -> Result<bool, Fail> {
-    let found = fs::read(rt, path)?;
-    Ok(found.as_slice() == bytes)
+pub fn holds(rt: &HostRuntime, path: &str, bytes: &[u8]) -> Result<bool, Fail> {
+    Ok(fs::read(rt, path)?.as_slice() == bytes)
 }
 
-fn is_worked<H: Runtime + AllocGlobal>(rt: &H, path: &str) -> Result<bool, Fail> {
-    let image = worked(rt.alloc())?;
-    holds(rt, path, image.bytes.as_slice())
-}
-
-/// Returns whether the file at `path` has length `length`.
-fn has_length<H: Runtime + AllocGlobal>(rt: &H, path: &str, length: usize) -> Result<bool, Fail> {
-    let found = fs::read(rt, path)?;
-    Ok(found.len() == length)
-}
-
-/// Returns whether the file at `path` contains `text` at offset `place`.
-fn has_text<H: Runtime + AllocGlobal>(
-    rt: &H,
-    path: &str,
-    place: usize,
-    text: &[u8],
-) -> Result<bool, Fail> {
-    let found = fs::read(rt, path)?;
-    Ok(stands(found.as_slice(), place, text))
+/// Returns whether the file at `path` contains a text at an offset, as `text` says.
+fn has_text(rt: &HostRuntime, path: &str, text: &str) -> Result<bool, Fail> {
+    let (place, text) = text.split_once(' ').unwrap_or((text, ""));
+    let place = place.parse::<usize>().unwrap_or(usize::MAX);
+    let text = bytes_of(rt.alloc(), text)?;
+    Ok(stands(fs::read(rt, path)?.as_slice(), place, text.as_slice()))
 }
 
 /// Returns whether `bytes` contain `text` at offset `place`.
 pub fn stands(bytes: &[u8], place: usize, text: &[u8]) -> bool {
-    match bytes.get(place..) {
-        Some(rest) => rest.starts_with(text),
-        None => false,
-    }
-}
-
-/// Returns whether there is no file at `path`.
-fn is_missing<H: Runtime + AllocGlobal>(rt: &H, path: &str) -> bool {
-    fs::read(rt, path).is_err()
+    bytes
+        .get(place..)
+        .is_some_and(|rest| rest.starts_with(text))
 }
 
 /// Returns `line` followed by the names of `count` images that do not exist.

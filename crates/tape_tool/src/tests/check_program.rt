@@ -1,72 +1,46 @@
 //! Tests of `check` and `survey`.
-use super::calls::{Step, each_ends, ends, put, take_all, with_images};
-use super::volumes::{first_of_two, second_of_two};
+use super::calls::{end_of, follow, with_images};
 use super::words::words_of;
 use crate::command_line::{Order, call_of};
-use crate::fault::{FileFault, ToolFault};
 use crate::program::End;
 use std::test::Fail;
 
-const LINES: &[(&str, End)] = &[
-    ("check check1.tap check2.tap", End::Done),
-    ("check check2.tap lost.tap -- check1.tap", End::Done),
-    ("check check1.tap", End::Incomplete),
-    ("check lost.tap", End::Incomplete),
-    ("check .", End::Incomplete),
-    ("check", End::WrongWords),
-    ("check --all", End::WrongWords),
-    ("check --help", End::Done),
-    ("survey check2.tap check1.tap", End::Done),
-    ("survey check2.tap lost.tap check1.tap", End::Incomplete),
-    ("survey check1.tap", End::Incomplete),
-    ("survey", End::WrongWords),
-    ("survey --help", End::Done),
-];
-
-/// The last line of a list counts even without a line feed, and an empty line is ignored.
-const LISTS: &[Step<'_>] = &[
-    Step::Put("check.names", b"check1.tap\n\ncheck2.tap"),
-    Step::Put("check.nulls", b"check2.tap\0"),
-    Step::Put("empty.names", b"\n\n"),
-    Step::Put("no_text.names", b"check1.tap\n\xff\n"),
-    Step::Ends("check --files-from check.names", End::Done),
-    Step::Ends(
-        "check check1.tap --null --files-from check.nulls",
-        End::Done,
-    ),
-    Step::Ends("check --files-from check.nulls --null", End::Incomplete),
-    Step::Ends("check check1.tap --files-from empty.names", End::Incomplete),
-    Step::Ends("check --files-from empty.names", End::WrongWords),
-    Step::Ends("check check1.tap --files-from check.nulls", End::WrongWords),
-    Step::Ends(
-        "check check1.tap --files-from no_text.names",
-        End::WrongWords,
-    ),
-    Step::Ends("check check1.tap --null", End::WrongWords),
-    Step::Fails(
-        "check check1.tap --files-from lost.names",
-        ToolFault::File(FileFault::NotOpened),
-    ),
-    Step::Fails(
-        "check check1.tap --files-from .",
-        ToolFault::File(FileFault::ReadFailed),
-    ),
-];
+const CHECKS: &str = "
+    first check1.tap
+    second check2.tap
+    0: check check1.tap check2.tap
+    0: check check2.tap lost.tap -- check1.tap
+    3: check check1.tap
+    3: check lost.tap
+    3: check .
+    2: check
+    2: check --all
+    0: check --help
+    0: survey check2.tap check1.tap
+    3: survey check2.tap lost.tap check1.tap
+    3: survey check1.tap
+    2: survey
+    0: survey --help
+    # The last line of a list counts even without a line feed, and an empty line is ignored.
+    put check.names check1.tap\\0A\\0Acheck2.tap
+    put check.nulls check2.tap\\00
+    put empty.names \\0A\\0A
+    put no_text.names check1.tap\\0A\\FF\\0A
+    0: check --files-from check.names
+    0: check check1.tap --null --files-from check.nulls
+    3: check --files-from check.nulls --null
+    3: check check1.tap --files-from empty.names
+    2: check --files-from empty.names
+    2: check check1.tap --files-from check.nulls
+    2: check check1.tap --files-from no_text.names
+    2: check check1.tap --null
+    file fault 2: check check1.tap --files-from lost.names
+    file fault 3: check check1.tap --files-from .
+";
 
 #[test]
 fn files(rt: HostRuntime) -> Result<(), Fail> {
-    put(
-        &rt,
-        "check1.tap",
-        first_of_two(rt.alloc())?.bytes.as_slice(),
-    )?;
-    put(
-        &rt,
-        "check2.tap",
-        second_of_two(rt.alloc())?.bytes.as_slice(),
-    )?;
-    each_ends(&rt, LINES)?;
-    take_all(&rt, LISTS)
+    follow(&rt, CHECKS)
 }
 
 #[test]
@@ -77,11 +51,7 @@ fn at_most_256_images(rt: HostRuntime) -> Result<(), Fail> {
         Order::Check(named) => assert_eq!(rt; named.words.len(), 256),
         _ => return Err(Fail::from("an order to check")),
     }
-    Ok(())
-}
-
-#[test]
-fn not_257_images(rt: HostRuntime) -> Result<(), Fail> {
     let line = with_images(rt.alloc(), "check", 257)?;
-    ends(&rt, line.as_str(), End::WrongWords)
+    assert!(rt; end_of(&rt, line.as_str())? == End::WrongWords);
+    Ok(())
 }

@@ -1,8 +1,6 @@
 //! Tests of the explanations that `--explain` prints after the line of a fault.
 
-use super::calls::{Step, put, take_all};
-use super::fake_system::called;
-use super::volumes::{first_of_two, second_of_two};
+use super::calls::follow;
 use super::words::words_of;
 use crate::explain::{Explanation, FaultSite, MISSING_TEXTS, TEXTS};
 use crate::fault::{FileFault, ToolFault};
@@ -36,13 +34,13 @@ fn texts_fit_on_a_screen(rt: HostRuntime) {
     }
 }
 
-const MADE: &[Step<'_>] = &[
-    Step::PutWorked("told.tap", 2484),
-    Step::PutWorked("told_cut.tap", 2000),
-    Step::Remove("TLD001.tap"),
-    Step::Ends("init . TLD 1", End::Done),
-    Step::Put("told.stage", b"no stage"),
-];
+const MADE: &str = "
+    worked told.tap
+    worked told_cut.tap 2000
+    remove TLD001.tap
+    0: init . TLD 1
+    put told.stage no stage
+";
 
 const TLD: Prefix = Prefix {
     characters: *b"TLD",
@@ -111,7 +109,7 @@ fn is_at<H: Progress + Abort>(rt: &H, line: &str, site: Option<FaultSite<'_>>) -
 
 #[test]
 fn faults_have_their_places(rt: HostRuntime) -> Result<(), Fail> {
-    take_all(&rt, MADE)?;
+    follow(&rt, MADE)?;
     for (line, site) in SITES {
         is_at(&rt, line, *site)?;
     }
@@ -219,78 +217,76 @@ fn faults_are_told_in_words(rt: HostRuntime) -> Result<(), Fail> {
 }
 
 /// Lines that end with status 3, and what is printed on standard error then.
-const MISSING: &[(&str, &str)] = &[
-    (
-        "extract DEF001 1 missing.txt missing1.tap --explain",
-        "  REEL 1: missing1.tap\n  No label of set DEF001 was found on these images.\n  \
-            Sets found: ABC001.\n  \
-            Give one of them as SET, or add the images of set DEF001.\n",
-    ),
-    (
-        "extract ABC001 1 missing.txt missing_noise.txt --explain",
-        "  REEL 1: missing_noise.txt\n  \
-            No file of any set was found on these images.\n  \
-            'tape survey' says what they are.\n",
-    ),
-    (
-        "extract ABC001 2 missing.txt missing1.tap --explain",
-        "  REEL 1: missing1.tap\n  \
-            No label of this file was found. Files of set ABC001 on these images:\n  \
-            1.\n  'tape survey' prints their names.\n",
-    ),
-    (
-        "extract ABC001 1 missing.txt missing1.tap --explain",
-        "  REEL 1: missing1.tap\n  Section 2 of file 1 is on no image. It follows section 1 on\n  \
-            volume ABC001, image missing1.tap.\n  \
-            Look for the reel that comes after that one.\n",
-    ),
-    (
-        "salvage ABC001 1 missing.txt missing2.tap --explain",
-        "  Section 1 of file 1 is on no image: look for the reel with its\n  \
-            beginning. 'tape survey' shows which volumes were found.\n",
-    ),
-    (
-        "extract ABC001 1 missing.txt missing2.tap missing1.tap --explain",
-        "  REEL 1: missing2.tap\n  REEL 2: missing1.tap\n  \
-            Each section of the file is complete on some image. With --again, tape reads\n  \
-            the images until they yield nothing more, and their order does not matter.\n",
-    ),
-    (
-        "unpack . missing1.tap --set DEF001 --explain",
-        "  No label of set DEF001 was found on these images.\n  \
-            Sets found: ABC001.\n  \
-            Give one of them as SET, or add the images of set DEF001.\n",
-    ),
-    (
-        "check missing1.tap --explain",
-        "  Each line LACKS names a set, a file and its first section that is complete on\n  \
-            no image: look for another copy of that section. Without such a line, no\n  \
-            section was found at all. 'tape survey' shows what the images are.\n",
-    ),
-    ("check missing1.tap", ""),
-];
+const MISSING: &str = "
+    first missing1.tap
+    second missing2.tap
+    put missing_noise.txt noise that is not an image
+    $ extract DEF001 1 missing.txt missing1.tap --explain
+    > ..
+    !   REEL 1: missing1.tap
+    !   No label of set DEF001 was found on these images.
+    !   Sets found: ABC001.
+    !   Give one of them as SET, or add the images of set DEF001.
+    [3]
+    remove missing.txt
+    $ extract ABC001 1 missing.txt missing_noise.txt --explain
+    > ..
+    !   REEL 1: missing_noise.txt
+    !   No file of any set was found on these images.
+    !   'tape survey' says what they are.
+    [3]
+    remove missing.txt
+    $ extract ABC001 2 missing.txt missing1.tap --explain
+    > ..
+    !   REEL 1: missing1.tap
+    !   No label of this file was found. Files of set ABC001 on these images:
+    !   1.
+    !   'tape survey' prints their names.
+    [3]
+    remove missing.txt
+    $ extract ABC001 1 missing.txt missing1.tap --explain
+    > ..
+    !   REEL 1: missing1.tap
+    !   Section 2 of file 1 is on no image. It follows section 1 on
+    !   volume ABC001, image missing1.tap.
+    !   Look for the reel that comes after that one.
+    [3]
+    remove missing.txt
+    $ salvage ABC001 1 missing.txt missing2.tap --explain
+    > ..
+    !   Section 1 of file 1 is on no image: look for the reel with its
+    !   beginning. 'tape survey' shows which volumes were found.
+    [3]
+    remove missing.txt
+    $ extract ABC001 1 missing.txt missing2.tap missing1.tap --explain
+    > ..
+    !   REEL 1: missing2.tap
+    !   REEL 2: missing1.tap
+    !   Each section of the file is complete on some image. With --again, tape reads
+    !   the images until they yield nothing more, and their order does not matter.
+    [3]
+    remove missing.txt
+    $ unpack . missing1.tap --set DEF001 --explain
+    > ..
+    !   No label of set DEF001 was found on these images.
+    !   Sets found: ABC001.
+    !   Give one of them as SET, or add the images of set DEF001.
+    [3]
+    remove missing.txt
+    $ check missing1.tap --explain
+    > ..
+    !   Each line LACKS names a set, a file and its first section that is complete on
+    !   no image: look for another copy of that section. Without such a line, no
+    !   section was found at all. 'tape survey' shows what the images are.
+    [3]
+    remove missing.txt
+    $ check missing1.tap
+    > ..
+    [3]
+    remove missing.txt
+";
 
 #[test]
 fn missing_parts_are_explained(rt: HostRuntime) -> Result<(), Fail> {
-    put(
-        &rt,
-        "missing1.tap",
-        first_of_two(rt.alloc())?.bytes.as_slice(),
-    )?;
-    put(
-        &rt,
-        "missing2.tap",
-        second_of_two(rt.alloc())?.bytes.as_slice(),
-    )?;
-    put(&rt, "missing_noise.txt", b"noise that is not an image")?;
-    for (line, told) in MISSING {
-        let seen = called(&rt, line, true)?;
-        assert!(rt;
-            seen.status == 3 && seen.told.as_str() == *told,
-            "{line}: {}",
-            seen.told
-        );
-        take_all(&rt, &[Step::Remove("missing.txt")])?;
-    }
-    Ok(())
+    follow(&rt, MISSING)
 }

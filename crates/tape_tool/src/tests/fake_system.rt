@@ -44,8 +44,6 @@ pub enum Odd<'a> {
 struct FakeSystem<'a> {
     rt: HostRuntime,
     words: &'a [String],
-    /// Whether standard output accepts bytes.
-    takes: bool,
     odd: Odd<'a>,
     records: &'a Records,
 }
@@ -65,7 +63,7 @@ struct Records {
 }
 
 /// The contents of a file that appears during a run.
-pub const MINE: &[u8] = b"mine";
+const MINE: &[u8] = b"mine";
 
 impl FakeSystem<'_> {
     /// Fails if the test specifies that looking up `path` fails.
@@ -206,11 +204,7 @@ impl Clock for FakeSystem<'_> {
 
 impl Print for FakeSystem<'_> {
     fn print<D: Display + Drop>(&self, value: D) -> io::Result<()> {
-        if self.takes {
-            note(&self.records.out, value)
-        } else {
-            Err(io::Error::from(ErrorKind::BrokenPipe))
-        }
+        note(&self.records.out, value)
     }
 
     fn println<D: Display + Drop>(&self, value: D) -> io::Result<()> {
@@ -277,26 +271,8 @@ pub struct Seen {
     pub opened: String,
 }
 
-impl Seen {
-    /// Returns whether the run had the results `status`, `out` and `told`. Also compares the list
-    /// of opened files if `opened` is `Some`.
-    pub fn comes_to(&self, status: u8, out: &str, told: &str, opened: Option<&str>) -> bool {
-        let is_opened = match opened {
-            Some(paths) => self.opened.as_str() == paths,
-            None => true,
-        };
-        self.status == status && self.out.as_str() == out && self.told.as_str() == told && is_opened
-    }
-}
-
-/// Runs the program with the arguments in `line`. If `takes`, standard output accepts everything,
-/// otherwise nothing.
-pub fn called(rt: &HostRuntime, line: &str, takes: bool) -> Result<Seen, Fail> {
-    called_oddly(rt, line, takes, Odd::Nothing)
-}
-
 /// Runs the program with the arguments in `line`, on a system with the peculiarity `odd`.
-pub fn called_oddly(rt: &HostRuntime, line: &str, takes: bool, odd: Odd<'_>) -> Result<Seen, Fail> {
+pub fn called_oddly(rt: &HostRuntime, line: &str, odd: Odd<'_>) -> Result<Seen, Fail> {
     let words = words_of(rt.alloc(), line)?;
     let records = Records {
         out: RefCell::new(String::new(rt.alloc())),
@@ -308,7 +284,6 @@ pub fn called_oddly(rt: &HostRuntime, line: &str, takes: bool, odd: Odd<'_>) -> 
     let system = FakeSystem {
         rt: *rt,
         words: words.as_slice(),
-        takes,
         odd,
         records: &records,
     };

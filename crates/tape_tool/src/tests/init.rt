@@ -1,7 +1,5 @@
 //! Tests of `init`. Each test has a prefix of its own.
-use super::calls::{Step, each_ends, follow_all};
-use crate::fault::{FileFault, ToolFault};
-use crate::program::End;
+use super::calls::{follow, holds};
 use std::test::Fail;
 
 /// The first volume without files: its label, two tape marks and the end-of-medium marker.
@@ -9,50 +7,35 @@ const BLANK: &[u8] = b"\
     P\0\0\0VOL1ABC001                                                                     4P\0\0\0\
     \0\0\0\0\0\0\0\0\xFF\xFF\xFF\xFF";
 
-const TWO: &[Step<'_>] = &[
-    Step::Ends("init . ABC 2", End::Done),
-    Step::Holds("./ABC001.tap", BLANK),
-    Step::HasLength("./ABC002.tap", 100),
-    Step::HasText("./ABC002.tap", 8, b"ABC002"),
-    Step::Ends("list ABC002.tap", End::Done),
-];
-
-/// No existing file is changed, and volumes that were created before the error remain.
-const OLD: &[Step<'_>] = &[
-    Step::Put("OLD002.tap", b"kept"),
-    Step::Fails("init . OLD 3", ToolFault::File(FileFault::Exists)),
-    Step::Holds("OLD002.tap", b"kept"),
-    Step::HasLength("OLD001.tap", 100),
-    Step::IsMissing("OLD003.tap"),
-    Step::Fails("init . OLD 1", ToolFault::File(FileFault::Exists)),
-];
-
-const SCRIPTS: &[(&str, &[Step<'_>])] = &[("two volumes", TWO), ("a file that is there", OLD)];
+const MADE: &str = "
+    0: init . ABC 2
+    length ./ABC002.tap 100
+    at ./ABC002.tap 8 ABC002
+    0: list ABC002.tap
+    # No existing file is changed, and volumes that were created before the error remain.
+    put OLD002.tap kept
+    file fault 1: init . OLD 3
+    has OLD002.tap kept
+    length OLD001.tap 100
+    missing OLD003.tap
+    file fault 1: init . OLD 1
+    2: init
+    2: init . ABC
+    2: init . ABC 0
+    2: init . ABC 1000
+    2: init . ABC 99999999999999999999
+    2: init . ABC -1
+    2: init . ABC one
+    2: init . abc 1
+    2: init . ABCD 1
+    2: init . ABC 1 2
+    file fault 2: init missing ABC 1
+    0: init --help
+";
 
 #[test]
 fn volumes_are_made(rt: HostRuntime) -> Result<(), Fail> {
-    follow_all(&rt, SCRIPTS)
-}
-
-const REFUSALS: &[(&str, End)] = &[
-    ("init", End::WrongWords),
-    ("init . ABC", End::WrongWords),
-    ("init . ABC 0", End::WrongWords),
-    ("init . ABC 1000", End::WrongWords),
-    ("init . ABC 99999999999999999999", End::WrongWords),
-    ("init . ABC -1", End::WrongWords),
-    ("init . ABC one", End::WrongWords),
-    ("init . abc 1", End::WrongWords),
-    ("init . ABCD 1", End::WrongWords),
-    ("init . ABC 1 2", End::WrongWords),
-    (
-        "init missing ABC 1",
-        End::Faulted(ToolFault::File(FileFault::NotOpened)),
-    ),
-    ("init --help", End::Done),
-];
-
-#[test]
-fn refusals(rt: HostRuntime) -> Result<(), Fail> {
-    each_ends(&rt, REFUSALS)
+    follow(&rt, MADE)?;
+    assert!(rt; holds(&rt, "./ABC001.tap", BLANK)?);
+    Ok(())
 }

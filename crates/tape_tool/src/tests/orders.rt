@@ -19,88 +19,71 @@ use tape_label::{Field, Format};
 use tape_run::{Content, SalvageTask, Wording};
 use tape_writer::blank_volume;
 
-/// Command lines, and their requests as `text_of` prints them.
-const REQUESTS: &[(&str, &str)] = &[
-    ("list", "list offsets=false"),
-    ("list a.tap", "list offsets=false image=a.tap"),
-    ("list --offsets a.tap", "list offsets=true image=a.tap"),
-    ("list -- -odd.tap", "list offsets=false image=-odd.tap"),
-    ("check a.tap b.tap", "check a.tap b.tap"),
-    ("check a.tap --files-from l", "check a.tap lines of l"),
-    ("check --files-from l --null", "check nulls of l"),
-    ("check --files-from -", "check lines"),
-    ("check -", "check -"),
-    ("survey a.tap b.tap", "survey words a.tap b.tap"),
-    ("survey --tsv a.tap", "survey rows a.tap"),
-    (
-        "survey --files-from - --null -- -a",
-        "survey words -a nulls",
-    ),
-    (
-        "extract ABC001 2 out a.tap b.tap",
-        "extract ABC001 2 out lines once a.tap b.tap",
-    ),
-    (
-        "extract AB 9999 out --again --stage kept --form raw --files-from l",
-        "extract AB     9999 out raw again stage=kept lines of l",
-    ),
-    (
-        "extract ABC001 1 out --form lines --null --files-from l a",
-        "extract ABC001 1 out lines once a nulls of l",
-    ),
-    (
-        "unpack dir a.tap b.tap",
-        "unpack dir lines list=false salvage=false a.tap b.tap",
-    ),
-    (
-        "unpack dir a --form raw --set ABC001 --file 3 --file P* --list",
-        "unpack dir raw list=true salvage=false set=ABC001 file=3 file=P* a",
-    ),
-    (
-        "unpack dir --salvage --files-from l",
-        "unpack dir lines list=false salvage=true lines of l",
-    ),
-    (
-        "salvage ABC001 2 out a.tap",
-        "salvage ABC001 2 out records lines a.tap",
-    ),
-    (
-        "salvage ABC001 1 out --form raw a",
-        "salvage ABC001 1 out records raw a",
-    ),
-    (
-        "salvage ABC001 1 out --form blocks a b",
-        "salvage ABC001 1 out blocks raw a b",
-    ),
-    ("stage kept", "stage kept lines damaged=false"),
-    (
-        "stage kept out --form raw --damaged",
-        "stage kept raw damaged=true out=out",
-    ),
-    ("init dir ABC 12", "init dir ABC001 12"),
-    (
-        "write dir ABC 9K A=a B=b",
-        "write dir ABC001 9216 D 2048 offset=0 full=false lines A=a B=b",
-    ),
-    (
-        "write dir X1Z 100000 A=a --format F --record 80 --block 8000 --offset 4 --pad-full",
-        "write dir X1Z001 100000 F 8000 offset=4 full=true lines record=80 A=a",
-    ),
-    (
-        "write dir ABC 9000 A=a --format S --form raw --block +512 --offset 010",
-        "write dir ABC001 9000 S 512 offset=10 full=false raw A=a",
-    ),
-    (
-        "write dir ABC 9000 A=a --record +80",
-        "write dir ABC001 9000 D 2048 offset=0 full=false lines record=80 A=a",
-    ),
-    ("merge out a.tap b.tap", "merge out a.tap b.tap"),
-    (
-        "merge out --log kept a --files-from l",
-        "merge out log=kept a lines of l",
-    ),
-    ("compare a.tap b.tap", "compare a.tap b.tap"),
-];
+/// Command lines, each before its request as `text_of` prints it.
+const REQUESTS: &str = "
+    list
+    => list offsets=false
+    list a.tap
+    => list offsets=false image=a.tap
+    list --offsets a.tap
+    => list offsets=true image=a.tap
+    list -- -odd.tap
+    => list offsets=false image=-odd.tap
+    check a.tap b.tap
+    => check a.tap b.tap
+    check a.tap --files-from l
+    => check a.tap lines of l
+    check --files-from l --null
+    => check nulls of l
+    check --files-from -
+    => check lines
+    check -
+    => check -
+    survey a.tap b.tap
+    => survey words a.tap b.tap
+    survey --tsv a.tap
+    => survey rows a.tap
+    survey --files-from - --null -- -a
+    => survey words -a nulls
+    extract ABC001 2 out a.tap b.tap
+    => extract ABC001 2 out lines once a.tap b.tap
+    extract AB 9999 out --again --stage kept --form raw --files-from l
+    => extract AB     9999 out raw again stage=kept lines of l
+    extract ABC001 1 out --form lines --null --files-from l a
+    => extract ABC001 1 out lines once a nulls of l
+    unpack dir a.tap b.tap
+    => unpack dir lines list=false salvage=false a.tap b.tap
+    unpack dir a --form raw --set ABC001 --file 3 --file P* --list
+    => unpack dir raw list=true salvage=false set=ABC001 file=3 file=P* a
+    unpack dir --salvage --files-from l
+    => unpack dir lines list=false salvage=true lines of l
+    salvage ABC001 2 out a.tap
+    => salvage ABC001 2 out records lines a.tap
+    salvage ABC001 1 out --form raw a
+    => salvage ABC001 1 out records raw a
+    salvage ABC001 1 out --form blocks a b
+    => salvage ABC001 1 out blocks raw a b
+    stage kept
+    => stage kept lines damaged=false
+    stage kept out --form raw --damaged
+    => stage kept raw damaged=true out=out
+    init dir ABC 12
+    => init dir ABC001 12
+    write dir ABC 9K A=a B=b
+    => write dir ABC001 9216 D 2048 offset=0 full=false lines A=a B=b
+    write dir X1Z 100000 A=a --format F --record 80 --block 8000 --offset 4 --pad-full
+    => write dir X1Z001 100000 F 8000 offset=4 full=true lines record=80 A=a
+    write dir ABC 9000 A=a --format S --form raw --block +512 --offset 010
+    => write dir ABC001 9000 S 512 offset=10 full=false raw A=a
+    write dir ABC 9000 A=a --record +80
+    => write dir ABC001 9000 D 2048 offset=0 full=false lines record=80 A=a
+    merge out a.tap b.tap
+    => merge out a.tap b.tap
+    merge out --log kept a --files-from l
+    => merge out log=kept a lines of l
+    compare a.tap b.tap
+    => compare a.tap b.tap
+";
 
 /// Texts, each after the first text.
 #[derive(Clone, Copy)]
@@ -295,11 +278,16 @@ fn text_of(alloc: Global, order: &Order<'_>) -> Result<String, AllocError> {
 
 #[test]
 fn requests(rt: HostRuntime) -> Result<(), Fail> {
-    for (line, wanted) in REQUESTS {
-        let words = words_of(rt.alloc(), line)?;
-        let call = call_of(rt.alloc(), words.as_slice())?;
-        let text = text_of(rt.alloc(), &call.order)?;
-        assert!(rt; text.as_str() == *wanted, "{line}: {text}");
+    let mut asked = "";
+    for line in REQUESTS.lines() {
+        let line = line.trim_start();
+        if let Some(wanted) = line.strip_prefix("=> ") {
+            let words = words_of(rt.alloc(), asked)?;
+            let call = call_of(rt.alloc(), words.as_slice())?;
+            let text = text_of(rt.alloc(), &call.order)?;
+            assert!(rt; text.as_str() == wanted, "{asked}: {text}");
+        }
+        asked = line;
     }
     Ok(())
 }

@@ -1,7 +1,7 @@
 //! Tests of the program's exit statuses and its standard error. Each test runs in an empty
 //! directory.
 
-use super::calls::{Step, each_ends, take_all};
+use super::calls::follow;
 use super::words::words_of;
 use crate::command_line::call_of;
 use crate::fault::{FileFault, OUT_OF_MEMORY, ToolFault};
@@ -17,13 +17,6 @@ use tape_image::{ImageCause, ImageFault};
 use tape_run::RunFault;
 
 const NOT_WRITTEN: End = End::Faulted(ToolFault::File(FileFault::WriteFailed));
-
-const NOT_OPENED: End = End::Faulted(ToolFault::File(FileFault::NotOpened));
-
-const NOT_READ: End = End::Faulted(ToolFault::Image(ImageFault {
-    place: 0,
-    cause: ImageCause::Device,
-}));
 
 const CUT_OFF: End = End::Faulted(ToolFault::Image(ImageFault {
     place: 1884,
@@ -88,33 +81,25 @@ impl Print for Streams {
     }
 }
 
-/// Command lines, and how they end.
-const ENDS: &[(&str, End)] = &[
-    ("list --help", End::Done),
-    ("--version", End::Done),
-    ("", End::WrongWords),
-    ("list a.tap b.tap", End::WrongWords),
-    ("list -", End::WrongWords),
-    ("lost", End::WrongWords),
-    ("list missing.tap", NOT_OPENED),
-    ("list ./-", NOT_OPENED),
-    ("list .", NOT_READ),
-];
+const ENDS: &str = "
+    # Command lines, and how they end.
+    0: list --help
+    0: --version
+    2: 
+    2: list a.tap b.tap
+    2: list -
+    2: lost
+    file fault 2: list missing.tap
+    file fault 2: list ./-
+    image fault 5 at 0: list .
+    worked reel.tap
+    0: list reel.tap
+    0: list --offsets reel.tap
+";
 
 #[test]
 fn ends(rt: HostRuntime) -> Result<(), Fail> {
-    each_ends(&rt, ENDS)
-}
-
-const LISTED: &[Step<'_>] = &[
-    Step::PutWorked("reel.tap", 2484),
-    Step::Ends("list reel.tap", End::Done),
-    Step::Ends("list --offsets reel.tap", End::Done),
-];
-
-#[test]
-fn a_file_is_listed(rt: HostRuntime) -> Result<(), Fail> {
-    take_all(&rt, LISTED)
+    follow(&rt, ENDS)
 }
 
 /// Ends of runs, each with its status and message.

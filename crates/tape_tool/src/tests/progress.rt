@@ -1,8 +1,14 @@
 //! Tests of the line that shows progress.
-use super::calls::{Step, take_all};
+use super::calls::follow;
 use super::fake_system::{Odd, called_oddly};
 use std::alloc::{AllocError, Global};
 use std::test::Fail;
+
+const MADE: &str = "
+    worked shown.tap
+    worked shown_copy.tap
+    worked shown_cut.tap 2288
+";
 
 /// The text that removes the line.
 const CLEARED: &str = "\r                                                            \r";
@@ -57,16 +63,9 @@ fn with_cleared(alloc: Global, told: &str) -> Result<String, AllocError> {
 
 #[test]
 fn progress(rt: HostRuntime) -> Result<(), Fail> {
-    take_all(
-        &rt,
-        &[
-            Step::PutWorked("shown.tap", 2484),
-            Step::PutWorked("shown_copy.tap", 2484),
-            Step::PutWorked("shown_cut.tap", 2288),
-        ],
-    )?;
+    follow(&rt, MADE)?;
     for (line, odd, status, told) in ROWS {
-        let seen = called_oddly(&rt, line, true, *odd)?;
+        let seen = called_oddly(&rt, line, *odd)?;
         let told = with_cleared(rt.alloc(), told)?;
         assert!(rt;
             seen.status == *status && seen.told.as_str() == told.as_str(),

@@ -1,232 +1,163 @@
 //! Tests of whole runs as a caller sees them: exit status, both streams, and the files that are
 //! opened.
-use super::calls::{Step, put, take_all, with_images};
-use super::fake_system::{Seen, called};
-use super::volumes::{first_of_two, second_of_two};
+use super::calls::{follow, with_images};
+use super::fake_system::{Odd, Seen, called_oddly};
 use std::test::Fail;
 
-/// A command line, the exit status, standard output, standard error, and, if they are compared, the
-/// files opened: each path, with a question mark if opening it failed.
-type Row<'a> = (&'a str, u8, &'a str, &'a str, Option<&'a str>);
-
-const MADE: &[Step<'_>] = &[
-    Step::PutWorked("seen_cut.tap", 2288),
-    Step::Put("seen_one.txt", b"AB\nCDE\n"),
-    Step::Put("seen_two.txt", b"F\n"),
-    Step::Put("seen_span.bin", &[b'9'; 290]),
-    Step::Put("seen_none.txt", b""),
-    Step::Link("seen_link.txt", "seen_behind.txt"),
-    Step::Folder("seen"),
-];
-
-const ROWS: &[Row<'_>] = &[
-    (
-        "list --offsets seen_cut.tap",
-        1,
-        "0 88 000001 VOL1 ABC001\n\
-            88 88 000002 HDR1 PAYROLL           ABC001 0001 0001\n\
-            176 88 000003 HDR2 F 00800 00080 00\n\
-            264 4 000004 MARK\n\
-            268 808 000005 BLOCK 00800\n\
-            1076 808 000006 BLOCK 00800\n",
-        "tape: image fault 1 at 1884\n",
-        Some("seen_cut.tap "),
-    ),
-    (
-        "quit",
-        2,
-        "",
-        "error: unrecognized subcommand 'quit'\n\n\
-            Usage: tape [OPTIONS] <COMMAND>\n\nFor more information, try '--help'.\n",
-        Some(""),
-    ),
-    // A list of names is enough, but something has to be named.
-    (
-        "check",
-        2,
-        "",
-        "error: name at least one image, or a list of names with --files-from\n\n\
-            Usage: tape check [OPTIONS] [IMAGE]...\n\nFor more information, try '--help'.\n",
-        Some(""),
-    ),
-    (
-        "extract ABC001 1 a.txt",
-        2,
-        "",
-        "error: name at least one image, or a list of names with --files-from\n\n\
-            Usage: tape extract [OPTIONS] <SET> <FILE> <OUT> [IMAGE]...\n\n\
-            For more information, try '--help'.\n",
-        Some(""),
-    ),
-    // Each image is opened once, in the order of the arguments.
-    (
-        "check seen2.tap lost.tap seen1.tap",
-        0,
-        "IMAGE 1 9 MARKED\nIMAGE 2 0 NOT OPENED\nIMAGE 3 12 MARKED\n\
-            SECTION ABC001 1 2 ABC002 0 GOOD\nSECTION ABC001 1 1 ABC001 3 GOOD\n\
-            ALL SECTIONS FOUND\n",
-        "",
-        Some("seen2.tap lost.tap? seen1.tap "),
-    ),
-    // Standard input is an image of one mark.
-    (
-        "check - seen2.tap",
-        3,
-        "IMAGE 1 1 MARKED\nIMAGE 2 9 MARKED\n\
-            SECTION ABC001 1 2 ABC002 0 GOOD\nLACKS ABC001 1 1\n",
-        "",
-        Some("seen2.tap "),
-    ),
-    (
-        "survey - --files-from -",
-        2,
-        "",
-        "error: standard input can be read only once: '-' is named twice.\n\
-            A file of this name is './-'\n\n\
-            Usage: tape survey [OPTIONS] [IMAGE]...\n\nFor more information, try '--help'.\n",
-        Some(""),
-    ),
-    // A missing section, and an image that does not exist.
-    (
-        "check seen1.tap lost.tap",
-        3,
-        "IMAGE 1 12 MARKED\nIMAGE 2 0 NOT OPENED\n\
-            SECTION ABC001 1 1 ABC001 3 GOOD\nLACKS ABC001 1 2\n",
-        "",
-        Some("seen1.tap lost.tap? "),
-    ),
-    (
-        "survey lost.tap seen1.tap",
-        3,
-        "lost.tap                  not opened\n\
-         seen1.tap                 ok           volume ABC001, 1 section\n\
-         Set ABC001: 0 of 1 files complete\n  \
-            Volumes: ABC001, missing (follows ABC001)\n   \
-            1 PAYROLL                        incomplete\n        \
-            section 2 missing, after volume ABC001\n\
-         2 images: 1 ok, 1 not opened\n",
-        "",
-        Some("lost.tap? seen1.tap "),
-    ),
-    // No image is opened after the one that completes the file. The directory is opened to be
-    // synced.
-    (
-        "extract ABC001 1 seen.txt lost.tap seen1.tap seen2.tap seen1.tap",
-        0,
-        "REEL 1 NOT OPENED\nREEL 2 SECTION DONE\nREEL 3 COMPLETE\nCOMPLETE 25\n",
-        "",
-        Some(".tape-1.part lost.tap? seen1.tap seen2.tap . "),
-    ),
-    // If an output cannot be created, first a new file and then writing in place are tried, each
-    // once.
-    (
-        "extract ABC001 1 missing/a.txt seen1.tap seen2.tap",
-        1,
-        "REEL 1 SECTION DONE\nREEL 2 COMPLETE\n",
-        "tape: file fault 2\n",
-        Some("missing/.tape-1.part? seen1.tap seen2.tap missing/a.txt? "),
-    ),
-    (
-        "write . SEE 100000 ONE=seen_one.txt TWO=seen_two.txt",
-        0,
-        "VOLUME SEE001 876\nFILES 2 VOLUMES 1\n",
-        "",
-        None,
-    ),
-    (
-        "unpack seen SEE001.tap",
-        0,
-        "FILE SEE001 1 COMPLETE 2 seen/SEE001.1.ONE
-\
-            FILE SEE001 2 COMPLETE 1 seen/SEE001.2.TWO
-\
-            TOTAL 2 complete 0 existing 0 incomplete 0 in conflict 0 not found 0 failed
-",
-        "",
-        None,
-    ),
-    (
-        "write . SES 1042 SPAN=seen_span.bin --format S --block 18 --form raw",
-        0,
-        "VOLUME SES001 1032\nVOLUME SES002 486\nFILES 1 VOLUMES 2\n",
-        "",
-        None,
-    ),
-    // Blocks that are longer than the buffer, on one volume of more than 100,000 bytes.
-    (
-        "write . SEL 150000 LONG=seen_long.bin --format S --block 9999 --form raw",
-        0,
-        "VOLUME SEL001 120642\nFILES 1 VOLUMES 1\n",
-        "",
-        None,
-    ),
-    (
-        "extract SEL001 1 seen_again.bin SEL001.tap --form raw",
-        0,
-        "REEL 1 COMPLETE\nCOMPLETE 1\n",
-        "",
-        None,
-    ),
-    // An image that accepts no bytes, and a file without records whose output is a link.
-    (
-        "write . FUL 100000 ONE=seen_one.txt",
-        1,
-        "",
-        "tape: file fault 4\n",
-        None,
-    ),
-    (
-        "write . SEN 100000 NOTHING=seen_none.txt",
-        0,
-        "VOLUME SEN001 460\nFILES 1 VOLUMES 1\n",
-        "",
-        None,
-    ),
-    (
-        "extract SEN001 1 seen_link.txt SEN001.tap",
-        0,
-        "REEL 1 COMPLETE\nCOMPLETE 0\n",
-        "",
-        None,
-    ),
-    ("init . SEI 11", 0, "INIT 11\n", "", None),
-    ("init . SEI 1", 1, "", "tape: file fault 1\n", None),
-    // An image that accepts no bytes is not reported as created.
-    ("init . FUL 1", 1, "", "tape: file fault 4\n", None),
-];
-
-/// The contents of the files after these runs.
-const LEFT: &[Step<'_>] = &[
-    Step::HasLength("seen.txt", 2025),
-    Step::HasLength("seen_again.bin", 120_000),
-    Step::Holds("seen_behind.txt", b""),
-    Step::HasText("SEI011.tap", 8, b"SEI011"),
-    Step::IsMissing("SEI012.tap"),
-];
+const CALLS: &str = "
+    worked seen_cut.tap 2288
+    put seen_one.txt AB\\0ACDE\\0A
+    put seen_two.txt F\\0A
+    fill seen_span.bin 290 9
+    put seen_none.txt
+    link seen_link.txt seen_behind.txt
+    folder seen
+    first seen1.tap
+    second seen2.tap
+    fill seen_long.bin 120000 9
+    $ list --offsets seen_cut.tap
+    > 0 88 000001 VOL1 ABC001
+    > 88 88 000002 HDR1 PAYROLL           ABC001 0001 0001
+    > 176 88 000003 HDR2 F 00800 00080 00
+    > 264 4 000004 MARK
+    > 268 808 000005 BLOCK 00800
+    > 1076 808 000006 BLOCK 00800
+    ! tape: image fault 1 at 1884
+    [1]
+    ? seen_cut.tap
+    $ quit
+    ! error: unrecognized subcommand 'quit'
+    !
+    ! Usage: tape [OPTIONS] <COMMAND>
+    !
+    ! For more information, try '--help'.
+    [2]
+    ?
+    # A list of names is enough, but something has to be named.
+    $ check
+    ! error: name at least one image, or a list of names with --files-from
+    !
+    ! Usage: tape check [OPTIONS] [IMAGE]...
+    !
+    ! For more information, try '--help'.
+    [2]
+    ?
+    $ extract ABC001 1 a.txt
+    ! error: name at least one image, or a list of names with --files-from
+    !
+    ! Usage: tape extract [OPTIONS] <SET> <FILE> <OUT> [IMAGE]...
+    !
+    ! For more information, try '--help'.
+    [2]
+    ?
+    # Each image is opened once, in the order of the arguments.
+    $ check seen2.tap lost.tap seen1.tap
+    > IMAGE 1 9 MARKED
+    > IMAGE 2 0 NOT OPENED
+    > IMAGE 3 12 MARKED
+    > SECTION ABC001 1 2 ABC002 0 GOOD
+    > SECTION ABC001 1 1 ABC001 3 GOOD
+    > ALL SECTIONS FOUND
+    ? seen2.tap lost.tap? seen1.tap
+    # Standard input is an image of one mark.
+    $ check - seen2.tap
+    > IMAGE 1 1 MARKED
+    > IMAGE 2 9 MARKED
+    > SECTION ABC001 1 2 ABC002 0 GOOD
+    > LACKS ABC001 1 1
+    [3]
+    ? seen2.tap
+    $ survey - --files-from -
+    ! error: standard input can be read only once: '-' is named twice.
+    ! A file of this name is './-'
+    !
+    ! Usage: tape survey [OPTIONS] [IMAGE]...
+    !
+    ! For more information, try '--help'.
+    [2]
+    ?
+    # A missing section, and an image that does not exist.
+    $ check seen1.tap lost.tap
+    > IMAGE 1 12 MARKED
+    > IMAGE 2 0 NOT OPENED
+    > SECTION ABC001 1 1 ABC001 3 GOOD
+    > LACKS ABC001 1 2
+    [3]
+    ? seen1.tap lost.tap?
+    $ survey lost.tap seen1.tap
+    > lost.tap                  not opened
+    > seen1.tap                 ok           volume ABC001, 1 section
+    > Set ABC001: 0 of 1 files complete
+    >   Volumes: ABC001, missing (follows ABC001)
+    >    1 PAYROLL                        incomplete
+    >         section 2 missing, after volume ABC001
+    > 2 images: 1 ok, 1 not opened
+    [3]
+    ? lost.tap? seen1.tap
+    # No image is opened after the one that completes the file. The directory is opened to be
+    # synced.
+    $ extract ABC001 1 seen.txt lost.tap seen1.tap seen2.tap seen1.tap
+    > REEL 1 NOT OPENED
+    > REEL 2 SECTION DONE
+    > REEL 3 COMPLETE
+    > COMPLETE 25
+    ? .tape-1.part lost.tap? seen1.tap seen2.tap .
+    # If an output cannot be created, first a new file and then writing in place are tried, each
+    # once.
+    $ extract ABC001 1 missing/a.txt seen1.tap seen2.tap
+    > REEL 1 SECTION DONE
+    > REEL 2 COMPLETE
+    ! tape: file fault 2
+    [1]
+    ? missing/.tape-1.part? seen1.tap seen2.tap missing/a.txt?
+    $ write . SEE 100000 ONE=seen_one.txt TWO=seen_two.txt
+    > VOLUME SEE001 876
+    > FILES 2 VOLUMES 1
+    $ unpack seen SEE001.tap
+    > FILE SEE001 1 COMPLETE 2 seen/SEE001.1.ONE
+    > FILE SEE001 2 COMPLETE 1 seen/SEE001.2.TWO
+    > TOTAL 2 complete 0 existing 0 incomplete 0 in conflict 0 not found 0 failed
+    $ write . SES 1042 SPAN=seen_span.bin --format S --block 18 --form raw
+    > VOLUME SES001 1032
+    > VOLUME SES002 486
+    > FILES 1 VOLUMES 2
+    # Blocks that are longer than the buffer, on one volume of more than 100,000 bytes.
+    $ write . SEL 150000 LONG=seen_long.bin --format S --block 9999 --form raw
+    > VOLUME SEL001 120642
+    > FILES 1 VOLUMES 1
+    $ extract SEL001 1 seen_again.bin SEL001.tap --form raw
+    > REEL 1 COMPLETE
+    > COMPLETE 1
+    # An image that accepts no bytes, and a file without records whose output is a link.
+    $ write . FUL 100000 ONE=seen_one.txt
+    ! tape: file fault 4
+    [1]
+    $ write . SEN 100000 NOTHING=seen_none.txt
+    > VOLUME SEN001 460
+    > FILES 1 VOLUMES 1
+    $ extract SEN001 1 seen_link.txt SEN001.tap
+    > REEL 1 COMPLETE
+    > COMPLETE 0
+    $ init . SEI 11
+    > INIT 11
+    $ init . SEI 1
+    ! tape: file fault 1
+    [1]
+    # An image that accepts no bytes is not reported as created.
+    $ init . FUL 1
+    ! tape: file fault 4
+    [1]
+    # The contents of the files after these runs.
+    length seen.txt 2025
+    length seen_again.bin 120000
+    has seen_behind.txt
+    at SEI011.tap 8 SEI011
+    missing SEI012.tap
+";
 
 #[test]
 fn whole_calls(rt: HostRuntime) -> Result<(), Fail> {
-    take_all(&rt, MADE)?;
-    put(&rt, "seen1.tap", first_of_two(rt.alloc())?.bytes.as_slice())?;
-    put(
-        &rt,
-        "seen2.tap",
-        second_of_two(rt.alloc())?.bytes.as_slice(),
-    )?;
-    let long = Vec::from_elem(rt.alloc(), b'9', 120_000)?;
-    put(&rt, "seen_long.bin", long.as_slice())?;
-    for (line, status, out, told, opened) in ROWS {
-        let seen = called(&rt, line, true)?;
-        assert!(rt;
-            seen.comes_to(*status, out, told, *opened),
-            "{line}: {}\n{}{}{}",
-            seen.status,
-            seen.out,
-            seen.told,
-            seen.opened
-        );
-    }
-    take_all(&rt, LEFT)
+    follow(&rt, CALLS)
 }
 
 /// Commands that read images: the files opened before the images, and the end of the output for 300
@@ -263,18 +194,14 @@ fn looks_for_all(seen: &Seen, first: &str, last: &str) -> bool {
 fn called_with_all(rt: &HostRuntime, line: &str) -> Result<Seen, Fail> {
     let mut line = with_images(rt.alloc(), line, 256)?;
     line.push_str(" --files-from many.names")?;
-    called(rt, line.as_str(), true)
+    called_oddly(rt, line.as_str(), Odd::Nothing)
 }
 
 /// All images are read, however many are named by arguments and a list.
 #[test]
 fn many_images(rt: HostRuntime) -> Result<(), Fail> {
-    let mut names = Vec::new(rt.alloc());
-    for _ in 0..44 {
-        names.extend_from_slice(b"lost.tap\n")?;
-    }
-    put(&rt, "many.names", names.as_slice())?;
-    take_all(&rt, &[Step::Folder("many")])?;
+    follow(&rt, "folder many")?;
+    follow(&rt, "fill many.names 44 lost.tap\\0A")?;
     for (line, first, last) in READERS {
         let seen = called_with_all(&rt, line)?;
         assert!(rt; looks_for_all(&seen, first, last), "{line}: {}", seen.out);

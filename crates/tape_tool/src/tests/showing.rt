@@ -1,7 +1,6 @@
 //! Tests of `stage`.
-use super::calls::{Step, take_all};
+use super::calls::follow;
 use super::volumes::damaged;
-use crate::fault::{FileFault, ToolFault};
 use crate::program::{End, stage_end};
 use crate::stage::ending::StageEnding;
 use crate::stage::show::show_stage;
@@ -12,7 +11,7 @@ use std::process::Abort;
 use std::test::Fail;
 use tape_blocks::Form;
 use tape_label::Field;
-use tape_stage::{MemoryDisk, StageFault};
+use tape_stage::MemoryDisk;
 
 /// Returns the stage of a volume of five blocks of records, block `bad` of which is unreadable (9
 /// means none).
@@ -117,46 +116,34 @@ fn a_stage_that_breaks_off(rt: HostRuntime) -> Result<(), Fail> {
     Ok(())
 }
 
-const MADE: &[Step<'_>] = &[
-    Step::PutDamaged("shown.tap", 3),
-    Step::Remove("shown.stage"),
-    Step::Ends(
-        "extract ABC001 1 shown.txt shown.tap --stage shown.stage",
-        End::Incomplete,
-    ),
-    Step::Ends("stage shown.stage", End::Incomplete),
-    Step::Ends("stage shown.stage shown_first.txt", End::Incomplete),
-    Step::HasLength("shown_first.txt", 1215),
-    Step::HasText("shown_first.txt", 1134, b"0015  "),
-    Step::Ends(
-        "stage shown.stage shown_raw.txt --form raw",
-        End::Incomplete,
-    ),
-    Step::HasLength("shown_raw.txt", 1200),
-    // For an intact stage, the lines are the same with and without the option.
-    Step::Ends("stage shown.stage --damaged", End::Incomplete),
-    // The stage is unchanged, and a file that might be a tape is never overwritten.
-    Step::HasLength("shown.stage", 1531),
-    Step::Ends("stage shown.stage shown.stage", End::WrongWords),
-    Step::Ends("stage shown.stage one.txt two.txt", End::WrongWords),
-    Step::Ends("stage shown.stage -", End::WrongWords),
-    Step::Fails(
-        "stage shown.stage shown.tap",
-        ToolFault::File(FileFault::Exists),
-    ),
-    Step::Fails("stage shown.tap", ToolFault::Stage(StageFault::NoPoint)),
-    Step::Fails("stage lost.stage", ToolFault::File(FileFault::NotOpened)),
-    Step::HasLength("shown.stage", 1531),
-    Step::IsMissing("lost.stage"),
-];
+const MADE: &str = "
+    damaged shown.tap 3
+    remove shown.stage
+    3: extract ABC001 1 shown.txt shown.tap --stage shown.stage
+    3: stage shown.stage
+    3: stage shown.stage shown_first.txt
+    length shown_first.txt 1215
+    at shown_first.txt 1134 0015 \\20
+    3: stage shown.stage shown_raw.txt --form raw
+    length shown_raw.txt 1200
+    # For an intact stage, the lines are the same with and without the option.
+    3: stage shown.stage --damaged
+    # The stage is unchanged, and a file that might be a tape is never overwritten.
+    length shown.stage 1531
+    2: stage shown.stage shown.stage
+    2: stage shown.stage one.txt two.txt
+    2: stage shown.stage -
+    file fault 1: stage shown.stage shown.tap
+    stage fault 1: stage shown.tap
+    file fault 2: stage lost.stage
+    length shown.stage 1531
+    missing lost.stage
+";
 
 #[test]
 fn a_stage_that_is_shown_stays(rt: HostRuntime) -> Result<(), Fail> {
-    take_all(&rt, MADE)?;
+    follow(&rt, MADE)?;
     let other = File::open(&rt, "shown.stage")?;
     other.lock()?;
-    take_all(
-        &rt,
-        &[Step::Fails("stage shown.stage", ToolFault::StageInUse)],
-    )
+    follow(&rt, "stage fault 7: stage shown.stage")
 }

@@ -1,5 +1,5 @@
 //! Tests of sessions over stages, continued from one day to the next.
-use super::calls::{Step, stands, take_all};
+use super::calls::{follow, stands};
 use super::volumes::{damaged, worked};
 use crate::staging::{StagingFault, open_session};
 use std::alloc::{AllocError, Global};
@@ -155,20 +155,20 @@ fn session_in(rt: &HostRuntime, path: &str) -> io::Result<Option<FileSession>> {
 const PATH: &str = "the_worked_volume.stage";
 
 /// A stage of the example file at its start: its length, and texts at their offsets.
-const BEGUN: &[Step<'_>] = &[
-    Step::HasLength(PATH, 256),
-    Step::HasText(PATH, 0, b"O000000000000001TPCK2ABC001"),
-    Step::HasText(PATH, 128, b"C000000000000000"),
-];
+const BEGUN: &str = "
+    length the_worked_volume.stage 256
+    at the_worked_volume.stage 0 O000000000000001TPCK2ABC001
+    at the_worked_volume.stage 128 C000000000000000
+";
 
 /// A stage of the complete example file.
-const DONE: &[Step<'_>] = &[
-    Step::HasLength(PATH, 2381),
-    Step::HasText(PATH, 0, b"O000000000000001TPCK2ABC001"),
-    Step::HasText(PATH, 128, b"O000000000000002TPCK2ABC001"),
-    // The letter D means done; the record format and the record length follow.
-    Step::HasText(PATH, 178, b"D01F00080"),
-];
+const DONE: &str = "
+    length the_worked_volume.stage 2381
+    at the_worked_volume.stage 0 O000000000000001TPCK2ABC001
+    at the_worked_volume.stage 128 O000000000000002TPCK2ABC001
+    # The letter D means done; the record format and the record length follow.
+    at the_worked_volume.stage 178 D01F00080
+";
 
 /// Returns whether the session reads the example volume and is saved.
 fn reads_worked(alloc: Global, session: &mut FileSession) -> Result<bool, AllocError> {
@@ -189,10 +189,10 @@ fn the_worked_volume_in_a_stage_file(rt: HostRuntime) -> Result<(), Fail> {
     let Some(mut session) = session_in(&rt, PATH)? else {
         return Err(Fail::from("a new stage"));
     };
-    take_all(&rt, BEGUN)?;
+    follow(&rt, BEGUN)?;
     assert!(rt; reads_worked(rt.alloc(), &mut session)?);
     drop(session);
-    take_all(&rt, DONE)?;
+    follow(&rt, DONE)?;
     // On another day, nothing more is read.
     let Some(mut session) = session_in(&rt, PATH)? else {
         return Err(Fail::from("the stage again"));
