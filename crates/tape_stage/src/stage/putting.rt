@@ -2,8 +2,7 @@
 
 ghost use Rattle.std.specs.Prelude.{◌≡◌, ◌+◌, ◌≤◌, ◌<◌, ◌^◌, ◌∷◌, ◌++◌, [], List, length};
 ghost use Rattle.std.specs.Prelude.{OnOk, OnErr, IsErrOf, ◌-◌, Err, true, false};
-ghost use Rattle.std.specs.Int.{to_be_bytes};
-ghost use Rattle.std.proofs.Common.{w32, inr};
+ghost use Rattle.std.proofs.Common.{inr};
 ghost use Rattle.tape_blocks.specs.Block.{Portion, indicator};
 ghost use Rattle.tape_blocks.specs.Parts.{view};
 ghost use Rattle.tape_core.specs.Weight.{Rose};
@@ -27,18 +26,16 @@ use crate::stage::{MOST_STAGED, Stage, StageFault};
 use tape_blocks::{Part, Span};
 use tape_core::{Checkpoint, PartSink, PartWalk, SinkFault};
 
-/// Returns the header of a part: its span, and its length in four bytes.
-fn header(span: Span, size: u32) -> [u8; 5]
-    ensures { result ≡ indicator span ∷ to_be_bytes w32 size }
+/// Returns the digit of a span.
+fn digit(span: Span) -> u8
+    ensures { result ≡ indicator span }
 {
-    let digit = match span {
+    match span {
         Span::Whole => b'0',
         Span::First => b'1',
         Span::Middle => b'2',
         Span::Last => b'3',
-    };
-    let n = size.to_be_bytes();
-    [digit, n[0], n[1], n[2], n[3]]
+    }
 }
 
 /// Writes a part's frame at offset `place`. `buffer` provides room for the frame.
@@ -63,7 +60,9 @@ fn write_frame<D: Disk>(
     ensures honest { SameFact (D.is_honest disk.old) (D.is_honest disk.new) }
 {
     let size = 5 + part.bytes.len();
-    buffer[..5].copy_from_slice(&header(part.span, part.bytes.len() as u32));
+    // The four bytes of the length, stored next to each other, are a single store.
+    buffer[1..5].copy_from_slice(&(part.bytes.len() as u32).to_be_bytes());
+    buffer[0] = digit(part.span);
     buffer[5..size].copy_from_slice(part.bytes);
     // No sync: the part counts once a checkpoint that includes it is saved, and saving begins with
     // a sync.

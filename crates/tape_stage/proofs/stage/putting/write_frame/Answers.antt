@@ -1,5 +1,5 @@
 use Rattle.std.proofs.Common.{◌≡◌, ℕ, ◌≤◌, List, ◌++◌, length, drop, Result, Ok, Err, ◌∷◌, OnOk}
-use Rattle.std.proofs.Common.{OnErr, ◌∙◌, ap, arith, w32, length-append}
+use Rattle.std.proofs.Common.{OnErr, ◌∙◌, ap, arith, w32, length-append, [], take, slice_set, refl}
 use Rattle.std.proofs.{lemmas.List.take_at, lemmas.Slice.take-put_mid}
 use Rattle.std.specs.Int.{to_be_bytes}
 use Rattle.tape_blocks.specs.{Block.indicator, Parts.view}
@@ -8,20 +8,34 @@ use Rattle.tape_stage.proofs.{Giving.one_write, Keeps.torn_keeps, Passing.stands
 use Rattle.tape_stage.proofs.Torn.{holds_torn}
 use Rattle.tape_stage.proofs.stage.putting.write_frame.Goals as goal
 
+-- the first byte is stored after those behind it
+set_first : (b n rest : List ℕ) (d : ℕ) → 1 ≤ length b
+    → slice_set (take 1 b ++ (n ++ rest)) 0 d ≡ (d ∷ n) ++ rest
+set_first [] n rest d some = absurd (omega (arith, some))
+set_first (x ∷ b) n rest d some = refl
+
 pub returns-clause-written : goal.returns-clause-written
 returns-clause-written g c honest =
-    let head : List ℕ = c.copy_from_slice.new.self in
+    let n : List ℕ = c.copy_from_slice.new.self in
+    let d = c.digit.result in
+    let head : List ℕ = d ∷ n in
     let bytes : List ℕ = c.copy_from_slice-2.new.self in
-    let rest : List ℕ = drop 5 c.args.buffer.now in
+    let rest : List ℕ = drop 4 (drop 1 c.args.buffer.now) in
+    let filled : List ℕ = slice_set (take 1 c.args.buffer.now ++ (n ++ rest)) 0 d in
+    let framed : filled ≡ head ++ rest =
+    set_first c.args.buffer.now n rest d (omega (arith, c.requires.room)) in
     let is : head ≡ indicator c.args.part.span ∷ to_be_bytes w32 (length c.args.part.bytes.now) =
-    c.copy_from_slice.ensures.after ∙ c.header.ensures in
+    ap (λ b. b ∷ n) c.digit.ensures ∙ ap (λ l. indicator c.args.part.span ∷ l)
+    (c.copy_from_slice.ensures.after ∙ c.to_be_bytes.ensures) in
     let same : bytes ≡ c.args.part.bytes.now = c.copy_from_slice-2.ensures.after in
     on_ok c.write_at.result (λ holds. one_write c.args.place (view c.args.part) _ _ _
-    (take-put_mid 5 _ (head ++ rest) bytes _ (omega (arith, ap length same)) (omega (
+    (take-put_mid 5 _ filled bytes _ (omega (arith, ap length same)) (omega (
       arith,
+      ap length framed,
       ap length is,
       length-append head rest,
-    )) ∙ ap (λ l. l ++ bytes) (take_at head rest 5 (ap length is))
+    )) ∙ ap (λ l. take 5 l ++ bytes) framed
+    ∙ ap (λ l. l ++ bytes) (take_at head rest 5 (ap length is))
     ∙ ap (λ l. head ++ l) same ∙ ap (λ l. l ++ c.args.part.bytes.now) is)
     (omega (arith, g.met.D.Disk.long_as_seen c.args.disk.now honest, c.requires.there)) holds)
     (c.write_at.ensures.written honest)
