@@ -97,6 +97,10 @@ pub fn write_rest<S: PartWalk, W: Write>(
         fault) }
     ensures calm { OnOk result (S.refusals sink.new ≡ S.refusals sink.old) }
 {
+    // Without a part that leaves its record unfinished, the first walk wrote all records.
+    if front.written >= front.records {
+        return Ok(());
+    }
     sink.rewind();
     let mut ended = 0u64;
     'parts: while ended < front.records {
