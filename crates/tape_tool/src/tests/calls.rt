@@ -91,9 +91,10 @@ impl<'a> Run<'a> {
         let seen = called_oddly(rt, self.line, odd)?;
         let status = format!(in rt.alloc(); "[{}]", seen.status)?;
         let has_output = self.has_any_output || seen.out.as_str() == self.out.as_str();
-        let is_opened = self
-            .opened
-            .is_none_or(|paths| seen.opened.as_str().trim_end() == paths);
+        let is_opened = match self.opened {
+            Some(paths) => seen.opened.as_str().trim_end() == paths,
+            None => true,
+        };
         if status.as_str() == self.status
             && has_output
             && seen.told.as_str() == self.told.as_str()

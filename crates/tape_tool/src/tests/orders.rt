@@ -278,16 +278,16 @@ fn text_of(alloc: Global, order: &Order<'_>) -> Result<String, AllocError> {
 
 #[test]
 fn requests(rt: HostRuntime) -> Result<(), Fail> {
-    let mut asked = "";
+    let mut asked = String::new(rt.alloc());
     for line in REQUESTS.lines() {
         let line = line.trim_start();
         if let Some(wanted) = line.strip_prefix("=> ") {
-            let words = words_of(rt.alloc(), asked)?;
+            let words = words_of(rt.alloc(), asked.as_str())?;
             let call = call_of(rt.alloc(), words.as_slice())?;
             let text = text_of(rt.alloc(), &call.order)?;
             assert!(rt; text.as_str() == wanted, "{asked}: {text}");
         }
-        asked = line;
+        asked = line.to_string(rt.alloc())?;
     }
     Ok(())
 }
