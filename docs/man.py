@@ -38,7 +38,7 @@ COMMANDS = {
         ("--again", "AGAIN")]),
     "unpack": ("[OPTIONS] [--files-from LIST [--null]] DIR [IMAGE]...", [
         ("DIR", "FOLDER_OF_FILES"), ("IMAGE", "SHELF"), ("--files-from LIST", "FROM"),
-        ("--null", "NULL"), ("--form lines|raw", "FORM_OF_FILES"), ("--set SET", "SET_TO_UNPACK"),
+        ("--null", "NULL"), ("--form lines|raw", "FORM_OF_OUT"), ("--set SET", "SET_TO_UNPACK"),
         ("--file N|NAME", "FILES_TO_UNPACK"), ("--list", "LIST_ONLY"), ("--salvage", "SALVAGE_FILES")]),
     "salvage": ("[--form FORM] [--files-from LIST [--null]] SET FILE OUT [IMAGE]...", [
         ("SET", "SET"), ("FILE", "FILE"), ("OUT", "OUT_OF_SALVAGE"), ("IMAGE", "SHELF"),
@@ -113,8 +113,8 @@ def read(*path):
 
 
 def words_of(name):
-    """The file of the arguments of a command; those of `compare` are with `merge`'s."""
-    return {"compare": "merge.rt", "write": os.path.join("write", "words.rt")}.get(name, name + ".rt")
+    """The file of the arguments of a command; those of `compare` are with `merge`'s, and so on."""
+    return {"compare": "merge.rt", "survey": "check.rt", "write": os.path.join("write", "words.rt")}.get(name, name + ".rt")
 
 
 def texts():

@@ -2,7 +2,7 @@
 """Writes the tables of docs/REFERENCE.md from the texts of the program's help and of --explain.
 
     docs/reference.py             writes them
-    docs/reference.py --check     reports if they are out of date, with status 1
+    docs/reference.py --check     reports if they are out of date, or if an explanation is too long, with status 1
 
 A table is between '<!-- usage of COMMAND -->' or '<!-- errors -->' and '<!-- end -->'. The rest of the page is
 written by hand and stays. Usage and arguments come from help.rt and help/, as in docs/man.py; errors come from
@@ -63,6 +63,16 @@ def explanations():
     return single, lists
 
 
+def misfits():
+    """The texts of --explain that do not fit on a screen: each has one to three lines of at most 79 columns."""
+    source = "".join(man.read(man.SOURCE, *part)
+                     for part in (("explain.rt",), ("explain", "files.rt"), ("explain", "missing.rt")))
+    for text in re.findall(r'"(  (?:[^"\\{]|\\.)*)"', source, re.S):
+        lines = man.unescaped(text).split("\n")
+        if lines[-1] or len(lines) > 4 or not all(it.startswith("  ") and len(it) <= 79 for it in lines[:-1]):
+            yield text
+
+
 def errors():
     """A table of all errors."""
     single, lists = explanations()
@@ -91,6 +101,8 @@ def old():
         yield f"docs/REFERENCE.md has no usage of {name}"
     if text != page():
         yield "docs/REFERENCE.md is out of date: run docs/reference.py"
+    for text in misfits():
+        yield f"an explanation has more than three lines, or a line that is too long: {text!r}"
 
 
 def main():

@@ -4,7 +4,7 @@ Run manually before a release; CI does not run it.
 
     ./progress.py [--program PATH] [--megabytes N]
 
-Each command reads images that together take longer than half a second: an image of N MB (default 600)
+Each command reads images that together take longer than half a second: an image of N MB (default 1000)
 under several names, or a pipe that delivers an image slowly. It runs with both streams on one terminal,
 with standard error alone on a terminal, and with no terminal. With a terminal, the line must appear in
 each run and be removed before each other line, so that what a terminal of 80 columns shows at the end are
@@ -112,7 +112,7 @@ def feed_slowly(paths):
 
 
 def main():
-    given, results = arguments(__doc__, ("--megabytes", 600, "the size of the large image")), Results()
+    given, results = arguments(__doc__, ("--megabytes", 1000, "the size of the large image")), Results()
     program = given.program
     with folder_with() as folder:
         big = Path(folder, "a.tap")

@@ -1,9 +1,8 @@
 -- Blocks into which records were packed contain those records.
 use Rattle.std.proofs.Common.{ℕ, List, [], ◌∷◌}
 use Rattle.std.specs.List.{AllByRecursion}
-use Rattle.tape_blocks.specs.declared.parts.Shape.{Shape}
-use Rattle.tape_blocks.specs.Laws.{AllHold, HoldRecords}
 use Rattle.tape_blocks.specs.Tight.{Filled, IsWritten, Packs}
+use Rattle.tape_blocks.specs.{declared.parts.Shape.Shape, Laws.AllHold, Laws.HoldRecords}
 
 all_hold : (shape : Shape) (blocks : List Filled) → AllByRecursion (IsWritten shape) blocks
     → AllHold shape blocks

@@ -1,9 +1,8 @@
 -- Proofs of the test cases of packing and of the laws.
 use Rattle.std.proofs.Common.{◌≡◌, ℕ, List, true, arith}
-use Rattle.tape_blocks.specs.declared.offer.Offer.{Offer}
 use Rattle.tape_blocks.specs.declared.offer.Offer.TheVariants.{Taken, BlockReady}
-use Rattle.tape_blocks.specs.Packing.{Packing, Offers}
 use Rattle.tape_blocks.specs.Cases.{CasesOfOffers, CasesOfBlocks, CasesOfLaws}
+use Rattle.tape_blocks.specs.{declared.offer.Offer.Offer, Packing.Packing, Packing.Offers}
 
 closed_is_ready : (old new : Packing) (rest : List ℕ) (answer : Offer) → old.closed ≡ true
     → Offers old rest answer new

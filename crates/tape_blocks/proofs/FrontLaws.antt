@@ -3,18 +3,15 @@
 use Rattle.std.proofs.Common.{◌≡◌, ℕ, ◌+◌, ◌≤◌, Bool, true, false, List, [], ◌∷◌, ◌++◌, length}
 use Rattle.std.proofs.Common.{drop, Option, Some, None, Result, Ok, Err, refl, sym, ap, subst, ◌∙◌}
 use Rattle.std.proofs.Common.{append_assoc, arith, length-append, inl, inr}
-use Rattle.std.specs.Prelude.{◌⊎◌}
-use Rattle.std.specs.List.{AllByRecursion}
 use Rattle.std.proofs.lemmas.List.{drop-drop, append-nil}
 use Rattle.std.proofs.lemmas.List.Concat.{flat_map-cons, flat_map-append}
+use Rattle.std.specs.Prelude.{◌⊎◌}
+use Rattle.std.specs.List.{AllByRecursion}
 use Rattle.tape_label.specs.declared.values.Format.{Format}
-use Rattle.tape_blocks.specs.declared.check.BlockFault.{BlockFault}
-use Rattle.tape_blocks.specs.declared.check.Found.{Found}
 use Rattle.tape_blocks.specs.Block.{Portion, head_len, spelling, spellings, IsUnit, BeginsWith}
-use Rattle.tape_blocks.specs.Faults.{bool_eq, IsFront}
-use Rattle.tape_blocks.specs.Parts.{portion}
 use Rattle.tape_blocks.specs.Spans.{continues, leaves, InOrder}
-use Rattle.tape_blocks.specs.Units.{unit_at}
+use Rattle.tape_blocks.specs.{declared.check.BlockFault.BlockFault, declared.check.Found.Found}
+use Rattle.tape_blocks.specs.{Faults.bool_eq, Faults.IsFront, Parts.portion, Units.unit_at}
 use Rattle.tape_blocks.proofs.UnitLaws.{found_of, unit_found, unit_again, portion_of, rest_of}
 
 -- ---- the order of spans
@@ -92,10 +89,8 @@ goes_behind format rec_len p q ps qs rest left same on = grind arith
 either_behind : (format : Format) (rec_len : ℕ) (p q : Portion) (ps qs : List Portion) (rest
     left : List ℕ) → p ≡ q → EitherGoesOn format rec_len ps qs rest left
     → EitherGoesOn format rec_len (p ∷ ps) (q ∷ qs) rest left
-either_behind format rec_len p q ps qs rest left same (inl on) =
-    inl (goes_behind format rec_len p q ps qs rest left same on)
-either_behind format rec_len p q ps qs rest left same (inr on) =
-    inr (goes_behind format rec_len q p qs ps left rest (sym same) on)
+either_behind format rec_len p q ps qs rest left same (inl on) = grind (arith, goes_behind)
+either_behind format rec_len p q ps qs rest left same (inr on) = grind (arith, goes_behind)
 
 pub either_goes_on : (format : Format) (rec_len : ℕ) (ps qs : List Portion) (rest left : List ℕ)
     → AllByRecursion (IsUnit format rec_len) ps → AllByRecursion (IsUnit format rec_len) qs

@@ -1,16 +1,14 @@
 -- Laws about joining parts to records, and about the order of their spans.
 use Rattle.std.proofs.Common.{◌≡◌, ◌≢◌, ℕ, drop, subst, Bool, true, false, List, [], ◌∷◌, ◌++◌}
 use Rattle.std.proofs.Common.{Option, Some, None, Ok, refl, sym, ap, ◌∙◌}
-use Rattle.std.specs.Prelude.{is_some, if◌then◌else◌}
 use Rattle.std.proofs.lemmas.List.{append-nil}
+use Rattle.std.specs.Prelude.{is_some, if◌then◌else◌}
 use Rattle.tape_label.specs.declared.values.Format.{Format}
 use Rattle.tape_label.specs.declared.values.Format.TheVariants.{Fixed, Spanned}
-use Rattle.tape_blocks.specs.Block.{Portion, Holds}
-use Rattle.tape_blocks.specs.Judged.{judged}
 use Rattle.tape_blocks.specs.Spans.{Joined, InOrder, leaves, continues, span_of, content_after}
 use Rattle.tape_blocks.specs.Spans.{with_record, join_after, join, joined_with}
-use Rattle.tape_blocks.proofs.JudgedLaws.{judged_found}
-use Rattle.tape_blocks.proofs.PartsLaws.{parts_are}
+use Rattle.tape_blocks.specs.{Block.Portion, Block.Holds, Judged.judged}
+use Rattle.tape_blocks.proofs.{JudgedLaws.judged_found, PartsLaws.parts_are}
 
 by_end : (b : Bool) (content : List ℕ) (ps qs : List Portion) → ((begun : Option (List ℕ))
     → join_after begun (ps ++ qs) ≡ joined_with (join_after begun ps) qs)

@@ -1,26 +1,21 @@
 -- The result of a check agrees with the contents of the block: it passes if it contains parts in
 -- span order, and otherwise has the fault returned.
-use Rattle.std.proofs.Common.{arith}
-use Rattle.std.proofs.Common.{◌≡◌, ℕ, ◌+◌, ◌≤◌, Bool, true, false, ltb, List, length, Option, Some}
-use Rattle.std.proofs.Common.{None, Result, Ok, Err, refl, sym, ap, subst, ◌∙◌, inl, inr}
-use Rattle.std.specs.Prelude.{if◌then◌else◌, IfOk, IfErr}
+use Rattle.std.proofs.Common.{arith, ◌≡◌, ℕ, ◌+◌, ◌≤◌, Bool, true, false, ltb, List, length, Option}
+use Rattle.std.proofs.Common.{Some, None, Result, Ok, Err, refl, sym, ap, subst, ◌∙◌, inl, inr}
 use Rattle.std.proofs.lemmas.Bool.{ltb-true, ltb-false}
+use Rattle.std.specs.Prelude.{if◌then◌else◌, IfOk, IfErr}
 use Rattle.tape_label.specs.declared.values.Format.{Format}
 use Rattle.tape_label.specs.declared.values.Format.TheVariants.{Fixed}
 use Rattle.tape_blocks.specs.declared.check.BlockCause.TheVariants.{SpanBroken}
-use Rattle.tape_blocks.specs.declared.check.BlockFault.{BlockFault}
-use Rattle.tape_blocks.specs.declared.check.Found.{Found}
-use Rattle.tape_blocks.specs.Block.{Portion, spellings, Holds}
 use Rattle.tape_blocks.specs.Faults.{bool_eq, FaultStands, HasFault, fault}
-use Rattle.tape_blocks.specs.Judged.{unless_fault, judged}
-use Rattle.tape_blocks.specs.Spans.{continues, InOrder}
-use Rattle.tape_blocks.specs.Units.{unit_at}
-use Rattle.tape_blocks.proofs.FrontLaws.{NoUnit, longest}
-use Rattle.tape_blocks.proofs.PartsLaws.{some_of}
+use Rattle.tape_blocks.specs.{declared.check.BlockFault.BlockFault, declared.check.Found.Found}
+use Rattle.tape_blocks.specs.{Block.Portion, Block.spellings, Block.Holds, Judged.unless_fault}
+use Rattle.tape_blocks.specs.{Judged.judged, Spans.continues, Spans.InOrder, Units.unit_at}
 use Rattle.tape_blocks.proofs.TestLaws.{stop_by, moved, tests_are}
 use Rattle.tape_blocks.proofs.PaddingLaws.{padding_found, padding_again}
 use Rattle.tape_blocks.proofs.LongestFronts.{Ends, judged_at, judged_by_step, judged_short}
 use Rattle.tape_blocks.proofs.LongestFronts.{walk_block, ends_of}
+use Rattle.tape_blocks.proofs.{FrontLaws.NoUnit, FrontLaws.longest, PartsLaws.some_of}
 
 -- ---- a block that passes contains parts in order
 
@@ -56,8 +51,7 @@ passes_by (Ok (Some found)) format rec_len offset begun block ps end last rest s
 reaches_by : (b : Bool) (format : Format) (rec_len offset : ℕ) (begun last : Bool) (block : List ℕ)
     → ltb (length block) offset ≡ b → judged format rec_len offset begun block ≡ Ok last
     → offset ≤ length block
-reaches_by true format rec_len offset begun last block e is =
-    absurd (let short = judged_short format rec_len offset begun block (ltb-true _ _ e) in cc)
+reaches_by true format rec_len offset begun last block e is = grind (arith, judged_short, ltb-true)
 reaches_by false format rec_len offset begun last block e is = ltb-false _ _ e
 
 -- A block that passes contains parts in span order.
@@ -149,8 +143,7 @@ pub judged_by_fault : (format : Format) (rec_len offset : ℕ) (begun : Bool) (b
     (f : BlockFault) → (format ≡ Fixed → 1 ≤ rec_len) → HasFault format rec_len offset begun block f
     → judged format rec_len offset begun block ≡ Err f
 judged_by_fault format rec_len offset begun block f some (inl (short, is)) =
-    judged_short format rec_len offset begun block short
-    ∙ ap (unless_fault begun) (ap Some (sym is))
+    grind (arith, judged_short)
 judged_by_fault format rec_len offset begun block f some (inr (reaches, s)) =
     let at = offset + length (spellings format s.parts) in
     let none = never_by (unit_at format rec_len s.rest) s.end at f
@@ -166,8 +159,7 @@ pub answer_passes : (r : Result Bool BlockFault) (format : Format) (rec_len
     offset : ℕ) (begun : Bool) (block : List ℕ) → (format ≡ Fixed → 1 ≤ rec_len)
     → r ≡ judged format rec_len offset begun block → IfOk r (λ end. (parts : List Portion)
     × Holds format rec_len offset block parts × InOrder begun parts end)
-answer_passes (Ok end) format rec_len offset begun block some e =
-    judged_found format rec_len offset begun end block some (sym e)
+answer_passes (Ok end) format rec_len offset begun block some e = grind (arith, judged_found)
 answer_passes (Err f) format rec_len offset begun block some e = tt
 
 pub answer_faults : (r : Result Bool BlockFault) (format : Format) (rec_len
@@ -175,5 +167,4 @@ pub answer_faults : (r : Result Bool BlockFault) (format : Format) (rec_len
     → r ≡ judged format rec_len offset begun block
     → IfErr r (HasFault format rec_len offset begun block)
 answer_faults (Ok end) format rec_len offset begun block some e = tt
-answer_faults (Err f) format rec_len offset begun block some e =
-    judged_fault format rec_len offset begun block f some (sym e)
+answer_faults (Err f) format rec_len offset begun block some e = grind (arith, judged_fault)

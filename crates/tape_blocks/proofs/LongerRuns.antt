@@ -3,12 +3,10 @@ use Rattle.std.proofs.Common.{◌≡◌, ℕ, ◌+◌, ◌<◌, ◌≤◌, Bool,
 use Rattle.std.proofs.Common.{Option, None, refl, sym, ap, subst, ◌∙◌, append_assoc, arith}
 use Rattle.tape_label.specs.declared.values.Format.{Format}
 use Rattle.tape_label.specs.declared.values.Format.TheVariants.{Spanned}
-use Rattle.tape_blocks.specs.declared.parts.Span.TheVariants.{Whole}
-use Rattle.tape_blocks.specs.Block.{Portion}
 use Rattle.tape_blocks.specs.Spans.{InOrder, span_of, content_after, join}
 use Rattle.tape_blocks.specs.Packing.{Packing, size_of, least_room, with_part, Ends}
-use Rattle.tape_blocks.specs.Run.{AreClosed, Run}
-use Rattle.tape_blocks.specs.Tight.{Filled, AreSegments, parts_of_all}
+use Rattle.tape_blocks.specs.{declared.parts.Span.TheVariants.Whole, Block.Portion, Run.AreClosed}
+use Rattle.tape_blocks.specs.{Run.Run, Tight.Filled, Tight.AreSegments, Tight.parts_of_all}
 use Rattle.tape_blocks.proofs.JoinLaws.{join_ends, leaves_of, continues_of}
 use Rattle.tape_blocks.proofs.FrontLaws.{InOrder-append}
 use Rattle.tape_blocks.proofs.TightLaws.{first_push, segments_push}
@@ -34,14 +32,12 @@ order_part begun goes_on ps bytes order = grind (arith, InOrder-append, continue
 
 empty_part : (begun : Bool) (bytes : List ℕ) → (begun ≡ true → 0 < length bytes) → bytes ≡ []
     → span_of begun false ≡ Whole
-empty_part true bytes more none =
-    absurd (let size = ap length none in let lt = more refl in omega arith)
+empty_part true bytes more none = grind arith
 empty_part false bytes more none = refl
 
 pub spanned_room : (format : Format) (n size block_len : ℕ) → size + least_room format n ≤ block_len
     → format ≡ Spanned → size + 6 ≤ block_len
-spanned_room format n size block_len le e =
-    subst (λ (f : Format). size + least_room f n ≤ block_len) e le
+spanned_room format n size block_len le e = grind arith
 
 -- The record ends in the current block.
 pub run_ends : (taken : List Filled) (p q : Packing) (records : List (List ℕ))

@@ -3,20 +3,18 @@
 use Rattle.std.proofs.Common.{◌≡◌, ℕ, zero, suc, ◌+◌, ◌<◌, ◌≤◌, Bool, true, false, List, [], ◌∷◌}
 use Rattle.std.proofs.Common.{◌++◌, length, drop, Option, Some, None, Result, Ok, Err, refl, sym}
 use Rattle.std.proofs.Common.{ap, subst, ◌∙◌, arith, length-append}
-use Rattle.std.specs.List.{AllByRecursion}
 use Rattle.std.proofs.lemmas.Bool.{le-ltb, lt-ltb}
 use Rattle.std.proofs.lemmas.List.{drop-drop, drop_at, append-nil, length-drop}
+use Rattle.std.specs.List.{AllByRecursion}
 use Rattle.tape_label.specs.declared.values.Format.{Format}
 use Rattle.tape_label.specs.declared.values.Format.TheVariants.{Fixed}
 use Rattle.tape_blocks.specs.declared.check.BlockCause.TheVariants.{ShortOffset}
-use Rattle.tape_blocks.specs.declared.check.BlockFault.{BlockFault}
-use Rattle.tape_blocks.specs.declared.check.Found.{Found}
 use Rattle.tape_blocks.specs.Block.{Portion, spelling, spellings, IsUnit}
 use Rattle.tape_blocks.specs.Faults.{bool_eq, first_fault, tests, IsFront, fault}
 use Rattle.tape_blocks.specs.Judged.{in_order, begun_behind, unless_fault, judged_behind, judged}
-use Rattle.tape_blocks.specs.Parts.{portion, parts_of}
 use Rattle.tape_blocks.specs.Spans.{continues, leaves, InOrder}
-use Rattle.tape_blocks.specs.Units.{unit_at}
+use Rattle.tape_blocks.specs.{declared.check.BlockFault.BlockFault, declared.check.Found.Found}
+use Rattle.tape_blocks.specs.{Parts.portion, Parts.parts_of, Units.unit_at}
 use Rattle.tape_blocks.proofs.FrontLaws.{NoUnit, spellings_first, bool_eq-true, bool_eq-same}
 use Rattle.tape_blocks.proofs.PartsLaws.{parts_front, parts_next, parts_end, parts_fault}
 use Rattle.tape_blocks.proofs.PartsLaws.{found_size}
@@ -39,10 +37,8 @@ begun_behind-front begun end (p ∷ ps) order = begun_behind-front (leaves p.spa
 none_by : (u : Result (Option Found) BlockFault) (format : Format) (rec_len : ℕ) (end : Bool)
     (rest : List ℕ) → (format ≡ Fixed → 1 ≤ rec_len) → unit_at format rec_len rest ≡ u
     → NoUnit end u → in_order end (parts_of format rec_len rest) ≡ []
-none_by (Err f) format rec_len end rest some e never =
-    ap (in_order end) (parts_fault format rec_len rest f e)
-none_by (Ok None) format rec_len end rest some e never =
-    ap (in_order end) (parts_end format rec_len rest e)
+none_by (Err f) format rec_len end rest some e never = grind (arith, in_order, parts_fault)
+none_by (Ok None) format rec_len end rest some e never = grind (arith, in_order, parts_end)
 none_by (Ok (Some found)) format rec_len end rest some e never =
     ap (in_order end) (parts_next format rec_len rest found some e) ∙ rw never refl
 
@@ -157,20 +153,16 @@ walk_on : (b : Bool) (format : Format) (rec_len : ℕ) (begun : Bool) (bytes : L
     → unit_at format rec_len bytes ≡ Ok (Some found) → bool_eq (continues found.span) begun ≡ b
     → Walked format rec_len (leaves found.span) (drop found.len bytes)
     → Walked format rec_len begun bytes
-walk_on true format rec_len begun bytes found e is walked =
-    goes format rec_len begun bytes found e is walked
-walk_on false format rec_len begun bytes found e is walked = stays format rec_len begun bytes
-    (subst (λ (u : Result (Option Found) BlockFault). NoUnit begun u) (sym e) is)
+walk_on true format rec_len begun bytes found e is walked = grind (arith, goes)
+walk_on false format rec_len begun bytes found e is walked = grind (arith, stays)
 
 walk_by : (u : Result (Option Found) BlockFault)
     (n : ℕ) (format : Format) (rec_len : ℕ) (begun : Bool) (bytes : List ℕ)
     → (format ≡ Fixed → 1 ≤ rec_len) → unit_at format rec_len bytes ≡ u → length bytes < suc n
     → ((begun : Bool) (rest : List ℕ) → length rest < n → Walked format rec_len begun rest)
     → Walked format rec_len begun bytes
-walk_by (Err f) n format rec_len begun bytes some e fits others = stays format rec_len begun bytes
-    (subst (λ (u : Result (Option Found) BlockFault). NoUnit begun u) (sym e) tt)
-walk_by (Ok None) n format rec_len begun bytes some e fits others = stays format rec_len begun bytes
-    (subst (λ (u : Result (Option Found) BlockFault). NoUnit begun u) (sym e) tt)
+walk_by (Err f) n format rec_len begun bytes some e fits others = grind (arith, stays)
+walk_by (Ok None) n format rec_len begun bytes some e fits others = grind (arith, stays)
 walk_by (Ok (Some found)) n format rec_len begun bytes some e fits others =
     let size = found_size format rec_len bytes found some e in
     walk_on (bool_eq (continues found.span) begun) format rec_len begun bytes found e refl
@@ -185,8 +177,7 @@ walk (suc n) format rec_len begun bytes some fits = walk_by (unit_at format rec_
 
 pub walk_block : (format : Format) (rec_len offset : ℕ) (begun : Bool) (block : List ℕ)
     → (format ≡ Fixed → 1 ≤ rec_len) → Walked format rec_len begun (drop offset block)
-walk_block format rec_len offset begun block some = walk (suc (length (drop offset block))) format
-    rec_len begun (drop offset block) some (omega arith)
+walk_block format rec_len offset begun block some = grind (arith, walk)
 
 pub ends_of : (format : Format) (rec_len offset : ℕ) (begun : Bool) (block : List ℕ)
     → offset ≤ length block → (w : Walked format rec_len begun (drop offset block))

@@ -1,13 +1,12 @@
 -- The parts that the bytes of a current block represent, and writing after them.
 use Rattle.std.proofs.Common.{◌≡◌, ◌≢◌, ℕ, zero, suc, ◌+◌, ◌-◌, ◌<◌, ◌≤◌, Bool, true, false, List}
-use Rattle.std.proofs.Common.{[], ◌∷◌, ◌++◌, length, take, drop, replicate, max, not, ◌==◌, ltb}
-use Rattle.std.proofs.Common.{None, refl, sym, ap, subst, ◌∙◌, append_assoc, arith, length-append}
-use Rattle.std.specs.List.{AllByRecursion, position_or_len}
-use Rattle.std.proofs.lemmas.Bool.{le-ltb}
+use Rattle.std.proofs.Common.{[], ◌∷◌, ◌++◌, length, take, drop, replicate, max, not, ◌==◌}
+use Rattle.std.proofs.Common.{None, refl, sym, ap, ◌∙◌, append_assoc, arith, length-append}
 use Rattle.std.proofs.lemmas.List.{length-drop, length-take, length-replicate, take-take}
 use Rattle.std.proofs.lemmas.List.{take-append-drop, take_all, drop_all, drop_at, take-append-le}
 use Rattle.std.proofs.lemmas.List.{drop-append-le, append-nil}
-use Rattle.std.proofs.lemmas.List.Concat.{flat_map-cons}
+use Rattle.std.proofs.{lemmas.Bool.le-ltb, lemmas.List.Concat.flat_map-cons}
+use Rattle.std.specs.List.{AllByRecursion, position_or_len}
 use Rattle.tape_label.specs.declared.values.Format.{Format}
 use Rattle.tape_label.specs.declared.values.Format.TheVariants.{Fixed, Counted, Spanned}
 use Rattle.tape_blocks.specs.declared.parts.Shape.{Shape}
@@ -17,8 +16,7 @@ use Rattle.tape_blocks.specs.Packed.{body_of, parts_in, Keeps}
 use Rattle.tape_blocks.specs.Packing.{IsWritable, HasWritableRecords, size_of, written, padded_by}
 use Rattle.tape_blocks.specs.Packing.{padded_len}
 use Rattle.tape_blocks.proofs.FrontLaws.{all_append, spellings_push}
-use Rattle.tape_blocks.proofs.PartsLaws.{parts_are, unit_size}
-use Rattle.tape_blocks.proofs.UnitLaws.{length-spelling}
+use Rattle.tape_blocks.proofs.{PartsLaws.parts_are, PartsLaws.unit_size, UnitLaws.length-spelling}
 
 -- ---- the current block
 
@@ -78,8 +76,7 @@ parts_in_is shape items len parts k =
 -- the current block contains the parts that are read from it
 pub keeps_itself : (shape : Shape) (items : List ℕ) (len : ℕ) (parts : List Portion)
     → Keeps shape items len parts → Keeps shape items len (parts_in shape items len)
-keeps_itself shape items len parts k = subst (λ (ps : List Portion). Keeps shape items len ps)
-    (sym (parts_in_is shape items len parts k)) k
+keeps_itself shape items len parts k = grind (arith, parts_in_is)
 
 pub keeps_none : (shape : Shape) (items : List ℕ)
     → take shape.offset items ≡ replicate shape.offset 32 → shape.offset ≤ length items
@@ -111,8 +108,7 @@ writable_offset Counted rec_len block_len offset pad_full w = omega (arith, w.2)
 writable_offset Spanned rec_len block_len offset pad_full w = omega (arith, w.2)
 
 pub offset_fits : (shape : Shape) → IsWritable shape → shape.offset ≤ shape.block_len
-offset_fits shape w =
-    writable_offset shape.format shape.rec_len shape.block_len shape.offset shape.pad_full w.units
+offset_fits shape w = grind (arith, writable_offset)
 
 -- ---- padding
 
@@ -133,15 +129,13 @@ all_circumflexes zero = refl
 all_circumflexes (suc n) = omega (arith, all_circumflexes n)
 
 circumflexes : (n : ℕ) → first_other (replicate n 94) ≡ None
-circumflexes n =
-    grind (arith, ltb, position_or_len, not, le-ltb, all_circumflexes, length-replicate)
+circumflexes n = grind (arith, le-ltb, all_circumflexes, length-replicate)
 
 is_padding : (format : Format) (pad_full : Bool) (rec_len block_len n : ℕ)
     → (format ≡ Fixed → 1 ≤ rec_len)
     → IsPadding format rec_len (replicate (padded_by format pad_full block_len n - n) 94)
 is_padding Fixed pad_full rec_len block_len n some = grind (arith, circumflexes)
-is_padding Counted pad_full rec_len block_len n some =
-    circumflexes (padded_by Counted pad_full block_len n - n)
+is_padding Counted pad_full rec_len block_len n some = grind (arith, circumflexes)
 is_padding Spanned pad_full rec_len block_len n some = circumflexes (max n 18 - n)
 
 pub written_holds : (shape : Shape) (parts : List Portion)

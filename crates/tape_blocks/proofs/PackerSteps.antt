@@ -3,13 +3,10 @@ use Rattle.std.proofs.Common.{◌≡◌, ◌≢◌, ℕ, ◌+◌, ◌-◌, ◌<�
 use Rattle.std.proofs.Common.{◌++◌, length, take, replicate, refl, sym, ap, subst, ◌∙◌, arith}
 use Rattle.std.proofs.lemmas.List.{length-take, length-replicate, take-take, take-append-le}
 use Rattle.std.proofs.lemmas.List.{take-replicate, with_items_is}
-use Rattle.std.specs.Vec.{with_items}
-use Rattle.std.specs.declared.alloc.Global.{Global}
-use Rattle.std.specs.declared.vec.Vec.{Vec}
-use Rattle.tape_blocks.specs.declared.parts.Shape.{Shape}
+use Rattle.std.specs.{Vec.with_items, declared.alloc.Global.Global, declared.vec.Vec.Vec}
 use Rattle.tape_blocks.specs.Block.{Portion, head_len, spelling, IsUnit, Holds}
-use Rattle.tape_blocks.specs.Packed.{parts_in, Keeps}
 use Rattle.tape_blocks.specs.Packing.{Given, the_packing, IsWritable, size_of, written, padded_len}
+use Rattle.tape_blocks.specs.{declared.parts.Shape.Shape, Packed.parts_in, Packed.Keeps}
 use Rattle.tape_blocks.proofs.PackLaws.{keeps_len, keeps_front, keeps_more, parts_in_is, keeps_none}
 use Rattle.tape_blocks.proofs.PackLaws.{some_size, none_size, offset_fits, padded_fits}
 use Rattle.tape_blocks.proofs.PackLaws.{written_holds, written_is, padded_size}
@@ -20,8 +17,7 @@ pub packed_is : (shape : Shape) (items : List ℕ) (len : ℕ) (parts : List Por
     (begun closed : Bool) → Keeps shape items len parts
     → the_packing shape (parts_in shape items len) begun closed
     ≡ the_packing shape parts begun closed
-packed_is shape items len parts begun closed k = ap
-    (λ (ps : List Portion). the_packing shape ps begun closed) (parts_in_is shape items len parts k)
+packed_is shape items len parts begun closed k = grind (arith, parts_in_is)
 
 pub first_keeps : (shape : Shape) (items : List ℕ) (n len : ℕ) → IsWritable shape
     → items ≡ replicate n 32
@@ -50,13 +46,11 @@ push_some (q ∷ ps) p e = cc
 
 pub keeps_some : (shape : Shape) (items : List ℕ) (len : ℕ) (parts : List Portion)
     → Keeps shape items len parts → parts ≢ [] → shape.offset < len
-keeps_some shape items len parts k some =
-    omega (arith, keeps_len shape items len parts k, some_size shape parts k.units some)
+keeps_some shape items len parts k some = grind (arith, keeps_len, some_size)
 
 pub keeps_nothing : (shape : Shape) (items : List ℕ) (len : ℕ) (parts : List Portion)
     → Keeps shape items len parts → len ≡ shape.offset → parts ≡ []
-keeps_nothing shape items len parts k e =
-    none_size shape parts k.units (sym (keeps_len shape items len parts k) ∙ e)
+keeps_nothing shape items len parts k e = grind (arith, none_size, keeps_len)
 
 pub keeps_none_len : (shape : Shape) (items : List ℕ) (len : ℕ) (parts : List Portion)
     → Keeps shape items len parts → parts ≡ [] → len ≡ shape.offset
@@ -92,8 +86,7 @@ given_is shape items text len last parts begun closed w k is e some =
 pub written_in : (block : Vec ℕ Global) (lent more : List ℕ) → lent ≡ block.items
     → length more ≡ length lent
     → (with_items block more).items ≡ more
-written_in block lent more same size =
-    with_items_is block more (omega (arith, ap length same, size, block.ok))
+written_in block lent more same size = grind (arith, with_items_is)
 
 -- padding after the end of the current block
 pub padded_in : (block : Vec ℕ Global) (lent more : List ℕ) (len last : ℕ) → lent ≡ block.items

@@ -1,17 +1,14 @@
 -- Padding contains no unit, and an encoded unit is read back.
-use Rattle.std.proofs.Common.{◌≡◌, ℕ, Bool, true, false, not, cond, ltb, eqb, List, []}
-use Rattle.std.proofs.Common.{◌∷◌, Option, Some, None, Result, Ok, Err, refl}
-use Rattle.std.proofs.Common.{arith}
-use Rattle.std.specs.Str.{all_ascii_digits}
+use Rattle.std.proofs.Common.{◌≡◌, ℕ, Bool, true, false, not, cond, ltb, eqb, List, [], ◌∷◌, Option}
+use Rattle.std.proofs.Common.{Some, None, Result, Ok, Err, refl, arith}
 use Rattle.std.proofs.lemmas.Bool.{ltb-true, lt-ltb}
+use Rattle.std.specs.Str.{all_ascii_digits}
 use Rattle.tape_label.specs.declared.values.Format.{Format}
 use Rattle.tape_label.specs.declared.values.Format.TheVariants.{Fixed, Counted, Spanned}
-use Rattle.tape_blocks.specs.declared.check.BlockFault.{BlockFault}
-use Rattle.tape_blocks.specs.declared.parts.Span.{Span}
-use Rattle.tape_blocks.specs.declared.parts.Span.TheVariants.{Whole}
-use Rattle.tape_blocks.specs.declared.check.Found.{Found}
-use Rattle.tape_blocks.specs.Block.{first_other, IsPadding, span_by}
+use Rattle.tape_blocks.specs.Block.{first_other, IsPadding}
 use Rattle.tape_blocks.specs.Units.{padding_by, short_by, counted, spanned, unit_at}
+use Rattle.tape_blocks.specs.{declared.check.BlockFault.BlockFault, declared.parts.Span.Span}
+use Rattle.tape_blocks.specs.{declared.check.Found.Found}
 use Rattle.tape_blocks.proofs.UnitLaws.{some, none}
 
 -- ---- padding
@@ -45,11 +42,9 @@ pub padding_found : (format : Format) (rec_len : ℕ) (bytes : List ℕ)
 unfolding unit_at
 padding_found Fixed rec_len bytes e = grind (arith, fixed_none, ltb, ltb-true)
 padding_found Counted rec_len [] e = refl
-padding_found Counted rec_len (c ∷ cs) e = padding_none (eqb c 94)
-    (first_other (c ∷ cs)) (counted Whole 4 (c ∷ cs)) (counted_never Whole 4 (c ∷ cs)) e
+padding_found Counted rec_len (c ∷ cs) e = grind (arith, padding_none, counted_never)
 padding_found Spanned rec_len [] e = refl
-padding_found Spanned rec_len (c ∷ cs) e = padding_none (eqb c 94)
-    (first_other (c ∷ cs)) (spanned (span_by c) (c ∷ cs)) (spanned_never (span_by c) (c ∷ cs)) e
+padding_found Spanned rec_len (c ∷ cs) e = search (arith, tt, padding_none, spanned_never)
 
 first_is : (c : ℕ) (cs : List ℕ) (b : Bool) → eqb c 94 ≡ b → first_other (c ∷ cs) ≡ None → b ≡ true
 first_is c cs true p e = refl

@@ -2,18 +2,15 @@
 use Rattle.std.proofs.Common.{◌≡◌, ℕ, zero, suc, ◌+◌, ◌-◌, ◌≤◌, List, [], ◌∷◌, ◌++◌, length, take}
 use Rattle.std.proofs.Common.{drop, Option, Some, None, Result, Ok, Err, refl, sym, ap, ◌∙◌}
 use Rattle.std.proofs.Common.{append_assoc, arith, length-append}
-use Rattle.std.specs.Prelude.{nat_lt}
-use Rattle.std.specs.List.{AllByRecursion}
-use Rattle.std.proofs.lemmas.Bool.Decides.{nat_tests}
 use Rattle.std.proofs.lemmas.List.{append-nil, length-drop, length-take, drop-take, take-take}
-use Rattle.std.proofs.lemmas.List.Concat.{flat_map-cons}
+use Rattle.std.proofs.{lemmas.Bool.Decides.nat_tests, lemmas.List.Concat.flat_map-cons}
+use Rattle.std.specs.{Prelude.nat_lt, List.AllByRecursion}
 use Rattle.tape_label.specs.declared.values.Format.{Format}
 use Rattle.tape_label.specs.declared.values.Format.TheVariants.{Fixed, Counted, Spanned}
 use Rattle.tape_blocks.specs.declared.check.BlockFault.{BlockFault}
-use Rattle.tape_blocks.specs.declared.check.Found.{Found}
 use Rattle.tape_blocks.specs.Block.{Portion, head_len, spelling, spellings, IsUnit, IsPadding}
 use Rattle.tape_blocks.specs.Parts.{portion, unit_len, with_unit, parts_by, parts_of}
-use Rattle.tape_blocks.specs.Units.{unit_at}
+use Rattle.tape_blocks.specs.{declared.check.Found.Found, Units.unit_at}
 use Rattle.tape_blocks.proofs.UnitLaws.{found_of, unit_found, unit_again, portion_of, rest_of}
 use Rattle.tape_blocks.proofs.UnitLaws.{length-spelling}
 use Rattle.tape_blocks.proofs.PaddingLaws.{padding_again}
@@ -92,11 +89,9 @@ parts_by-any : (n m : ℕ) (format : Format) (rec_len : ℕ) (bytes : List ℕ)
     → parts_by n format rec_len bytes ≡ parts_by m format rec_len bytes
 unfolding parts_by
 parts_by-any zero zero format rec_len bytes some low high = refl
-parts_by-any zero (suc m) format rec_len [] some low high =
-    sym (none_left (unit_at format rec_len []) m format rec_len some refl)
+parts_by-any zero (suc m) format rec_len [] some low high = grind (arith, none_left)
 parts_by-any zero (suc m) format rec_len (c ∷ cs) some low high = absurd (omega arith)
-parts_by-any (suc n) zero format rec_len [] some low high =
-    none_left (unit_at format rec_len []) n format rec_len some refl
+parts_by-any (suc n) zero format rec_len [] some low high = grind (arith, none_left)
 parts_by-any (suc n) zero format rec_len (c ∷ cs) some low high = absurd (omega arith)
 parts_by-any (suc n) (suc m) format rec_len bytes some low high =
     same_by (unit_at format rec_len bytes) n m format rec_len bytes some refl low high
@@ -151,13 +146,11 @@ parts_none format rec_len (c ∷ cs) e = absurd (omega (arith, e))
 
 pub parts_end : (format : Format) (rec_len : ℕ) (bytes : List ℕ)
     → unit_at format rec_len bytes ≡ Ok None → parts_of format rec_len bytes ≡ []
-parts_end format rec_len bytes e =
-    stops_by (Ok None) (length bytes) format rec_len bytes e (λ found f. cc)
+parts_end format rec_len bytes e = grind (arith, stops_by)
 
 pub parts_fault : (format : Format) (rec_len : ℕ) (bytes : List ℕ) (f : BlockFault)
     → unit_at format rec_len bytes ≡ Err f → parts_of format rec_len bytes ≡ []
-parts_fault format rec_len bytes f e =
-    stops_by (Err f) (length bytes) format rec_len bytes e (λ found g. cc)
+parts_fault format rec_len bytes f e = grind (arith, stops_by)
 
 -- The parts of the given units are followed by the parts of the rest.
 pub parts_front : (format : Format) (rec_len : ℕ) (ps : List Portion) (bytes rest : List ℕ)

@@ -1,27 +1,24 @@
 -- Each offer preserves the invariant of a caller's loop.
-use Rattle.std.proofs.Common.{◌≡◌, ◌≢◌, ℕ, zero, ◌+◌, ◌<◌, true, false, List, [], ◌∷◌, ◌++◌}
-use Rattle.std.proofs.Common.{length, take, drop, Option, Some, None, sym, ap, subst, ◌∙◌}
-use Rattle.std.proofs.Common.{append_assoc, arith, inl, inr}
-use Rattle.std.specs.List.{AllByRecursion}
+use Rattle.std.proofs.Common.{◌≡◌, ◌≢◌, ℕ, zero, ◌+◌, ◌<◌, true, false, List, [], ◌∷◌, ◌++◌, length}
+use Rattle.std.proofs.Common.{take, drop, Option, Some, None, sym, ap, subst, ◌∙◌, append_assoc}
+use Rattle.std.proofs.Common.{arith, inl, inr}
 use Rattle.std.proofs.lemmas.List.{length-take, length-drop, append-nil, take-append-drop}
+use Rattle.std.specs.List.{AllByRecursion}
 use Rattle.tape_label.specs.declared.values.Format.{Format}
 use Rattle.tape_label.specs.declared.values.Format.TheVariants.{Spanned}
-use Rattle.tape_blocks.specs.declared.parts.Shape.{Shape}
 use Rattle.tape_blocks.specs.declared.parts.Span.TheVariants.{Whole}
-use Rattle.tape_blocks.specs.declared.offer.Offer.{Offer}
 use Rattle.tape_blocks.specs.declared.offer.Offer.TheVariants.{Taken, BlockReady}
-use Rattle.tape_blocks.specs.Block.{Portion, head_len}
 use Rattle.tape_blocks.specs.Spans.{InOrder, span_of, content_after, join}
 use Rattle.tape_blocks.specs.Packing.{Packing, Given, IsJudged, HasRecordLength, IsFull, size_of}
 use Rattle.tape_blocks.specs.Packing.{least_room, emptied, Fills, Closes, Offers}
-use Rattle.tape_blocks.specs.Run.{AreClosed, Run, Going}
 use Rattle.tape_blocks.specs.Tight.{Filled, IsWritten, AreSegments, first_len, parts_of_all}
 use Rattle.tape_blocks.specs.Tight.{IsTight}
-use Rattle.tape_blocks.proofs.JoinLaws.{join_goes_on, leaves_of}
-use Rattle.tape_blocks.proofs.PackLaws.{size_push}
+use Rattle.tape_blocks.specs.{declared.parts.Shape.Shape, declared.offer.Offer.Offer, Block.Portion}
+use Rattle.tape_blocks.specs.{Block.head_len, Run.AreClosed, Run.Run, Run.Going}
 use Rattle.tape_blocks.proofs.TightLaws.{first_push, first_some, closed_more, chain_of, chain_more}
 use Rattle.tape_blocks.proofs.TightLaws.{each_more, parts_more}
 use Rattle.tape_blocks.proofs.LongerRuns.{Part, segments_part, order_part, spanned_room, run_ends}
+use Rattle.tape_blocks.proofs.{JoinLaws.join_goes_on, JoinLaws.leaves_of, PackLaws.size_push}
 
 -- ---- a block taken
 
@@ -58,8 +55,7 @@ closes_full taken p q records front rest n some run closes = grind (arith, first
 
 full_by : (format : Format) (size block_len n : ℕ) → format ≡ Spanned → size ≡ block_len
     → block_len < size + least_room format n
-full_by format size block_len n e is =
-    subst (λ (f : Format). block_len < size + least_room f n) (sym e) (omega arith)
+full_by format size block_len n e is = grind arith
 
 fills_full : (taken : List Filled) (p q : Packing) (records : List (List ℕ))
     (front : Option (List ℕ)) (rest : List ℕ) (n : ℕ)
@@ -105,9 +101,7 @@ fills_full taken p q records front rest n run fills =
     -- in format S it does not matter how long the following content is
     any_full : (shape : Shape) (parts : List Portion) (n m : ℕ) → shape.format ≡ Spanned
         → IsFull shape parts n → IsFull shape parts m
-    any_full shape parts n m e full =
-        subst (λ (f : Format). shape.block_len < size_of shape parts + least_room f m) (sym e)
-        (subst (λ (f : Format). shape.block_len < size_of shape parts + least_room f n) e full)
+    any_full shape parts n m e full = grind arith
 
     any_closed : (shape : Shape) (taken : List Filled) (n m : ℕ) → shape.format ≡ Spanned
         → AreClosed shape taken n → AreClosed shape taken m
@@ -125,8 +119,7 @@ fills_full taken p q records front rest n run fills =
 content_more : (front : Option (List ℕ)) (n : ℕ) (rest : List ℕ) → content_after (Some
     (content_after front (take n rest))) (drop n rest) ≡ content_after front rest
 content_more None n rest = take-append-drop n rest
-content_more (Some s) n rest = append_assoc s (take n rest) (drop n rest)
-    ∙ ap (λ (t : List ℕ). s ++ t) (take-append-drop n rest)
+content_more (Some s) n rest = grind (arith, append_assoc, take-append-drop)
 
 zero_drop : (n : ℕ) (rest : List ℕ) → n ≡ zero → drop n rest ≡ rest
 zero_drop n rest e = ap (λ (k : ℕ). drop k rest) e

@@ -22,9 +22,7 @@ units_few : (format : Format) (rec_len : ℕ) (ps : List Portion) → (format �
     → AllByRecursion (IsUnit format rec_len) ps → length ps ≤ length (spellings format ps)
 units_few format rec_len [] some units = omega arith
 units_few format rec_len (p ∷ ps) some units =
-    let rest = units_few format rec_len ps some units.1 in
-    let one = unit_some format rec_len p some units.0 in
-    omega (arith, rest, one, length-append (spelling format p) (spellings format ps))
+    grind (arith, unit_some, length-append, units_few format rec_len ps some units.1)
 
 -- a unit is no shorter than its content
 unit_holds : (format : Format) (p : Portion) → length p.bytes ≤ length (spelling format p)
@@ -66,8 +64,7 @@ few_parts format rec_len offset block ps some holds =
 
 pub short_parts : (format : Format) (rec_len offset : ℕ) (block : List ℕ) (ps : List Portion)
     → Holds format rec_len offset block ps → AllByRecursion (λ p. length p.bytes ≤ length block) ps
-short_parts format rec_len offset block ps holds =
-    units_short format (length block) ps (body_fits format rec_len offset block ps holds)
+short_parts format rec_len offset block ps holds = search (arith, tt, units_short, body_fits)
 
 -- ---- for the crates above
 

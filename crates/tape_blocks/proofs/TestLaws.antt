@@ -2,23 +2,19 @@
 use Rattle.std.proofs.Common.{◌≡◌, ℕ, ◌+◌, ◌-◌, Bool, true, false, not, cond, ltb, leb, eqb, List}
 use Rattle.std.proofs.Common.{[], ◌∷◌, ◌++◌, length, take, drop, Option, Some, None, Result, Ok}
 use Rattle.std.proofs.Common.{Err, refl, ◌∙◌, arith}
+use Rattle.std.proofs.lemmas.Bool.{le-leb, lt-leb, ltb-true, ltb-false}
 use Rattle.std.specs.Prelude.{◌||◌, is_none, is_some, if◌then◌else◌}
 use Rattle.std.specs.Str.{all_ascii_digits}
-use Rattle.std.proofs.lemmas.Bool.{le-leb, lt-leb, ltb-true, ltb-false}
-use Rattle.tape_label.specs.Digits.{number_of}
-use Rattle.tape_label.specs.declared.values.Format.{Format}
 use Rattle.tape_label.specs.declared.values.Format.TheVariants.{Fixed, Counted, Spanned}
+use Rattle.tape_label.specs.{Digits.number_of, declared.values.Format.Format}
 use Rattle.tape_blocks.specs.declared.check.BlockCause.TheVariants.{NotMultiple, BadCount, PastEnd}
 use Rattle.tape_blocks.specs.declared.check.BlockCause.TheVariants.{BadIndicator, SpanBroken}
-use Rattle.tape_blocks.specs.declared.check.BlockFault.{BlockFault}
-use Rattle.tape_blocks.specs.declared.parts.Span.{Span}
 use Rattle.tape_blocks.specs.declared.parts.Span.TheVariants.{Whole}
-use Rattle.tape_blocks.specs.declared.check.Found.{Found}
-use Rattle.tape_blocks.specs.Block.{first_other}
 use Rattle.tape_blocks.specs.Faults.{Test, test, bool_eq, may_stand, first_fault, padding_tests}
 use Rattle.tape_blocks.specs.Faults.{count_tests, tests, fault}
-use Rattle.tape_blocks.specs.Spans.{continues}
 use Rattle.tape_blocks.specs.Units.{padding_by, short_by, counted, spanned, unit_at}
+use Rattle.tape_blocks.specs.{declared.check.BlockFault.BlockFault, declared.parts.Span.Span}
+use Rattle.tape_blocks.specs.{declared.check.Found.Found, Block.first_other, Spans.continues}
 
 -- the fault that keeps a walk from continuing here, or `None`
 abbrev pub stop_by : Bool → Result (Option Found) BlockFault → Option BlockFault
@@ -63,8 +59,7 @@ last_case false at = let z : at + 0 ≡ at = omega arith in rw z refl
 counted_cases : (a b c d begun : Bool) (found : Found) (at : ℕ)
     → first_fault (counted_tests a b c d (bool_eq (continues found.span) begun) at)
     ≡ moved at (stop_by begun (counted_step a b c d found))
-counted_cases false true false false begun found at =
-    last_case (bool_eq (continues found.span) begun) at
+counted_cases false true false false begun found at = grind (arith, last_case)
 counted_cases a b c d begun found at = let z : at + 0 ≡ at = omega arith in rw z refl
 
 counted_are : (span : Span) (head at : ℕ) (begun : Bool) (rest : List ℕ)
@@ -107,8 +102,7 @@ pub tests_are : (format : Format) (rec_len : ℕ) (begun : Bool) (at : ℕ) (res
     → first_fault (tests format rec_len begun at rest)
     ≡ moved at (stop_by begun (unit_at format rec_len rest))
 unfolding unit_at
-tests_are Fixed rec_len begun at rest = rw (leb-not rec_len (length rest))
-    (fixed_cases (ltb (length rest) rec_len) (first_other rest) begun at rec_len)
+tests_are Fixed rec_len begun at rest = grind (arith, leb-not, fixed_cases)
 tests_are Counted rec_len begun at [] = refl
 tests_are Counted rec_len begun at (c ∷ cs) =
     first_if (eqb c 94) _ _ _ _ (padding_are (first_other (c ∷ cs)) (c ∷ cs) begun at refl)

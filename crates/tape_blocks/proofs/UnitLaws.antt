@@ -1,25 +1,22 @@
 -- The unit found at the start of bytes is the unit encoded there.
-use Rattle.std.proofs.Common.{◌≡◌, ℕ, ◌+◌, ◌-◌, ◌/◌, ◌%◌, ◌<◌, ◌≤◌, Bool, true, false, not}
-use Rattle.std.proofs.Common.{cond, ltb, eqb, List, [], ◌∷◌, ◌++◌, length, take, drop, Option, Some}
-use Rattle.std.proofs.Common.{None, Result, Ok, Err, refl, sym, ap, subst, ◌∙◌, append_assoc, arith}
+use Rattle.std.proofs.Common.{◌≡◌, ℕ, ◌+◌, ◌-◌, ◌/◌, ◌%◌, ◌<◌, ◌≤◌, Bool, true, false, not, cond}
+use Rattle.std.proofs.Common.{ltb, eqb, List, [], ◌∷◌, ◌++◌, length, take, drop, Option, Some, None}
+use Rattle.std.proofs.Common.{Result, Ok, Err, refl, sym, ap, subst, ◌∙◌, append_assoc, arith}
 use Rattle.std.proofs.Common.{rules, length-append}
-use Rattle.std.specs.Str.{all_ascii_digits}
 use Rattle.std.proofs.lemmas.Bool.{ltb-false, le-ltb, eqb-true}
 use Rattle.std.proofs.lemmas.List.{take_at, drop_at, take-append-drop, length-take, length-drop}
 use Rattle.std.proofs.lemmas.List.{drop-drop}
-use Rattle.tape_label.specs.Digits.{digits, number_of}
+use Rattle.std.specs.Str.{all_ascii_digits}
+use Rattle.tape_label.specs.declared.values.Format.TheVariants.{Fixed, Counted, Spanned}
+use Rattle.tape_label.specs.{Digits.digits, Digits.number_of, declared.values.Format.Format}
 use Rattle.tape_label.proofs.DigitLaws.{digits-number_of, number_of-digits, number_of-lt}
 use Rattle.tape_label.proofs.DigitLaws.{all_ascii_digits-digits}
-use Rattle.tape_label.specs.declared.values.Format.{Format}
-use Rattle.tape_label.specs.declared.values.Format.TheVariants.{Fixed, Counted, Spanned}
 use Rattle.tape_blocks.specs.declared.check.BlockFault.{BlockFault}
-use Rattle.tape_blocks.specs.declared.parts.Span.{Span}
 use Rattle.tape_blocks.specs.declared.parts.Span.TheVariants.{Whole, First, Middle, Last}
-use Rattle.tape_blocks.specs.declared.check.Found.{Found}
 use Rattle.tape_blocks.specs.Block.{Portion, indicator, head_len, spelling, IsUnit, first_other}
 use Rattle.tape_blocks.specs.Block.{span_by}
-use Rattle.tape_blocks.specs.Parts.{portion}
 use Rattle.tape_blocks.specs.Units.{padding_by, short_by, counted, spanned, unit_at}
+use Rattle.tape_blocks.specs.{declared.parts.Span.Span, declared.check.Found.Found, Parts.portion}
 
 abbrev pub some : Found → Result (Option Found) BlockFault
 some found = Ok (Some found)
@@ -164,8 +161,7 @@ unit_found Fixed rec_len bytes found e =
     subst (λ (f : Found). UnitStands Fixed rec_len bytes f) p.1
     (fixed_found rec_len bytes (ltb-false _ _ p.0))
 unit_found Counted rec_len [] found e = absurd cc
-unit_found Counted rec_len (c ∷ cs) found e = counted_found (c ∷ cs) found
-    (not_padding (eqb c 94) (first_other (c ∷ cs)) (counted Whole 4 (c ∷ cs)) found e) rec_len
+unit_found Counted rec_len (c ∷ cs) found e = search (arith, tt, counted_found, not_padding)
 unit_found Spanned rec_len [] found e = absurd cc
 unit_found Spanned rec_len (c ∷ cs) found e = search (arith, spanned_by, span_is, eqb, not_padding)
 
@@ -240,5 +236,4 @@ length-spelling Spanned p = omega arith
 
 pub rest_of : (format : Format) (p : Portion) (rest : List ℕ)
     → drop (head_len format + length p.bytes) (spelling format p ++ rest) ≡ rest
-rest_of format p rest =
-    drop_at (spelling format p) rest (head_len format + length p.bytes) (length-spelling format p)
+rest_of format p rest = grind (arith, drop_at, length-spelling)

@@ -1,11 +1,8 @@
 -- The parts that an iterator has yielded, and those that it has left.
 use Rattle.std.proofs.Common.{◌≡◌, List, [], ◌∷◌, ◌++◌, ap, ◌∙◌, map}
 use Rattle.std.specs.Iterator.{YieldsFirstBy, Yields}
-use Rattle.tape_blocks.specs.declared.parts.Parts.{Parts}
-use Rattle.tape_blocks.specs.declared.parts.Part.{Part}
-use Rattle.tape_blocks.specs.Block.{Portion}
-use Rattle.tape_blocks.specs.Parts.{view}
-use Rattle.tape_blocks.specs.PartsLeft.{parts_left}
+use Rattle.tape_blocks.specs.{declared.parts.Parts.Parts, declared.parts.Part.Part, Block.Portion}
+use Rattle.tape_blocks.specs.{Parts.view, PartsLeft.parts_left}
 
 pub yielded_parts : (s : Parts) (xs : List Part) (t : Parts)
     → Yields (YieldsFirstBy view parts_left) s xs t → parts_left s ≡ map view xs ++ parts_left t

@@ -234,7 +234,6 @@ fn refuse(place: usize, cause: BlockCause) -> Result<bool, BlockFault>
 }
 
 /// Walks over the units of a block, up to the first offset at which no unit in span order begins.
-#[inline(always)]
 fn judge(shape: &Shape, begun: bool, block: &[u8]) -> Result<bool, BlockFault>
     ensures { result ≡ judged shape.now.format shape.now.rec_len shape.now.offset begun block.now }
 {
@@ -278,7 +277,6 @@ fn judge(shape: &Shape, begun: bool, block: &[u8]) -> Result<bool, BlockFault>
 /// `NotMultiple`, `SpanBroken`; in D and S, at a circumflex, `BadPadding`, with the offset of the
 /// first other byte after it; otherwise in S `BadIndicator`, and then `BadCount`, `PastEnd`,
 /// `SpanBroken`.
-#[inline(always)]
 pub fn check_block(shape: &Shape, begun: bool, block: &[u8]) -> Result<bool, BlockFault>
     // A block that passes contains parts in span order; the result says whether they leave a record
     // unfinished.

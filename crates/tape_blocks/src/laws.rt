@@ -38,17 +38,20 @@ pub fn joins_on()
 {}
 
 /// Blocks into which records were packed contain those records.
+#[tactic(auto, using(crate::proofs::BackLaws::packs_hold))]
 pub fn packed_blocks_hold()
     ensures { PackedBlocksHold }
 {}
 
 /// After parts in span order, a record is unfinished if and only if joining the parts leaves an
 /// incomplete record.
+#[tactic(auto, using(crate::proofs::JoinLaws::begun_rest))]
 pub fn begun_is_rest()
     ensures { BegunIsRest }
 {}
 
 /// A block is closed only if the rest of the record does not fit.
+#[tactic(auto, using(crate::proofs::RunLaws::ready_full))]
 pub fn ready_is_full()
     ensures { ReadyIsFull }
 {}

@@ -21,6 +21,7 @@ pub mod IdleSteps
 pub mod ForeignLaws
 pub mod PartPoints
 pub mod OneFile
+pub mod Delivering
 pub mod Standing
 pub mod Weights
 pub mod Laid

@@ -11,21 +11,23 @@ use Rattle.tape_blocks.specs.Block.{Portion, Holds}
 use Rattle.tape_blocks.specs.{Spans.InOrder, Judged.begun_behind, Tight.Filled}
 use Rattle.tape_set.specs.declared.position.Position.{Position}
 use Rattle.tape_set.specs.declared.position.Position.TheVariants.{Awaits, Finished}
-use Rattle.tape_set.specs.Position.{is_start, awaiting, next_block, part_of}
+use Rattle.tape_set.specs.Position.{is_start, awaiting, next_block, block_of, part_of}
 use Rattle.tape_set.specs.Layout.{FileSet, Section, Placed, Entry, a_label, a_data_block, a_mark}
 use Rattle.tape_set.specs.Layout.{entries, sections, on, all_entries, data_group, trailer_group}
 use Rattle.tape_set.specs.Layout.{section_of}
 use Rattle.tape_set.specs.{Before.before, Before.IsIn, Reading.Reading}
-use Rattle.tape_set.specs.Lawful.{FileForm, TellsForm, IsVolumeLabel}
+use Rattle.tape_set.specs.Lawful.{FileForm, TellsForm, IsVolumeLabel, most_blocks}
 use Rattle.tape_set.specs.Reach.{far, before_data, passes, good_run, stopped}
-use Rattle.tape_core.specs.declared.event.{Answer.Answer, Heading.Heading, Phase.Phase}
+use Rattle.tape_core.specs.declared.event.{Answer.Answer, Awaited.Awaited, Heading.Heading}
+use Rattle.tape_core.specs.declared.event.Phase.{Phase}
 use Rattle.tape_core.specs.declared.event.Answer.TheVariants.{Passed, Deliver}
 use Rattle.tape_core.specs.declared.event.Phase.TheVariants.{Over, Broken, Volume, VolumeLabels}
 use Rattle.tape_core.specs.declared.event.Phase.TheVariants.{Header2, Headers, DataPassed}
 use Rattle.tape_core.specs.declared.event.Phase.TheVariants.{DataWanted, TrailerPassed}
 use Rattle.tape_core.specs.declared.event.Phase.TheVariants.{TrailerWanted, Trailers, NextFile}
-use Rattle.tape_core.specs.{Labels.heading_of, Known.is_finished, State.State, State.is_broken}
-use Rattle.tape_core.specs.Table.{Outcome, other_numbers}
+use Rattle.tape_core.specs.{Labels.heading_of, Known.is_finished}
+use Rattle.tape_core.specs.State.{State, ToldFits, is_broken, told, wants_data}
+use Rattle.tape_core.specs.Table.{Outcome, IsShapeOf, after_block, other_numbers, step_of}
 
 -- ---- the reader and its file
 
@@ -316,3 +318,16 @@ pub record Checked (arrived : Option TapeItem) (old new : State) : Type 0 where
   pub few : length parts ≤ length bytes
   pub behind : new.position ≡ next_block old.position
   pub waits : is_finished old.position ≡ false
+
+-- The block is the expected one: a step delivers it. The value describes it.
+pub record IsAwaited (core : State) (bytes : List ℕ) (found : Awaited) : Type 0 where
+  pub step : step_of core (Some (block bytes)) ≡ (Deliver, after_block core found.end)
+  pub checked : Checked (Some (block bytes)) core (after_block core found.end)
+  pub form : FileForm
+  pub is_known : (after_block core found.end).known ≡ Some form
+  pub shape : IsShapeOf form found.shape
+  pub part : found.part ≡ part_of core.position
+  pub begun : found.begun ≡ core.begun
+  pub wanted : wants_data core.phase ≡ true
+  pub more : block_of core.position < most_blocks
+  pub fits : ToldFits found.end (told core.phase)

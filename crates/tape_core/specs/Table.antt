@@ -109,6 +109,15 @@ delivered core heading form end =
     let behind = DataWanted heading form (block_of core.position + 1) in
     (Deliver, moved_to core (next_block core.position) end form behind)
 
+-- the same by the phase; only data of the section needed are expected
+abbrev pub moved_on : State → Phase → Bool → State
+moved_on core (DataWanted heading form seen) end = (delivered core heading form end).1
+moved_on core phase end = core
+
+-- the state after the expected block
+abbrev pub after_block : State → Bool → State
+after_block core end = moved_on core core.phase end
+
 -- the expected block: the result is whether it leaves a record unfinished, or why it is refused
 abbrev pub found_awaited : State → Heading → FileForm → Result Bool Reason → Outcome
 found_awaited core heading form (Err why) = useless core why

@@ -4,7 +4,7 @@ ghost use Rattle.std.specs.Prelude.{◌≡◌};
 ghost use Rattle.tape_core.specs.Faults.{number};
 
 use crate::checkpoint::Known;
-use tape_blocks::{BlockFault, Span};
+use tape_blocks::{BlockFault, Shape, Span};
 use tape_label::{Field, LabelFault};
 use thiserror::Error;
 
@@ -103,6 +103,19 @@ impl CoreFault {
             CoreFault::OtherFile => 2,
         }
     }
+}
+
+/// The expected block, which was checked.
+#[derive(Clone, Copy, Debug)]
+pub struct Awaited {
+    /// The shape of its records, as `ReaderCore::shape` returns it.
+    pub shape: Shape,
+    /// The number of its parts that were delivered already.
+    pub part: u32,
+    /// Whether a record is unfinished after these parts.
+    pub begun: bool,
+    /// Whether the block leaves a record unfinished.
+    pub end: bool,
 }
 
 /// The fields of an HDR1 that are remembered while its section is read.

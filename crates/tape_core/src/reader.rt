@@ -1,6 +1,7 @@
 //! The reader of one file.
 
 mod arrivals;
+mod judging;
 mod label_rules;
 
 ghost use Rattle.std.specs.Prelude.{◌≡◌, ◌≤◌, ◌++◌, ◌∷◌, [], ℕ, List, Bool, Ok, Err, Some, None};
@@ -18,7 +19,7 @@ ghost use Rattle.tape_core.specs.Table as Table;
 
 use crate::checkpoint::{Checkpoint, Known};
 use crate::event::{Answer, CoreFault, Event, Phase, Reason};
-use crate::reader::arrivals::shape_of;
+use crate::reader::judging::shape_of;
 use std::marker::Model;
 use tape_blocks::Shape;
 use tape_label::Field;
@@ -157,7 +158,6 @@ impl ReaderCore {
     /// If the file is complete, the answer is always `Complete`. After `BlockCount` it is
     /// `Useless(Broken)` until `restart`, and if no reading is in progress, `Useless(ReelEnded)`.
     /// `Useless` never moves the position; `Reason` describes its causes.
-    #[inline(always)]
     pub fn step(&mut self, event: Event<'_>) -> Answer
         ensures table { (result, self.new) ≡ Table.step_of self.old (arrival event.entry) }
         // The next item of a volume of a valid set, or a bad item instead of it, extends the

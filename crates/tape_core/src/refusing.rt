@@ -1,7 +1,7 @@
 //! A sink that refuses one call, for tests.
 
-ghost use Rattle.std.specs.Prelude.{◌≡◌, ◌≢◌, ◌↔◌, ◌<◌, ◌≤◌, ◌+◌, ◌++◌, ◌∷◌, [], List, length};
-ghost use Rattle.std.specs.Prelude.{IsTrue, OnOk, OnErr, IfErr, Err};
+ghost use Rattle.std.specs.Prelude.{◌≡◌, ◌≢◌, ◌↔◌, ◌<◌, ◌≤◌, ◌+◌, ◌-◌, ◌^◌, ◌++◌, ◌∷◌, []};
+ghost use Rattle.std.specs.Prelude.{List, length, IsTrue, OnOk, OnErr, IfErr, Err};
 ghost use Rattle.std.specs.Bool.{OnTrue, OnFalse};
 ghost use Rattle.tape_blocks.specs.Block.{Portion};
 ghost use Rattle.tape_blocks.specs.Parts.{view};
@@ -53,7 +53,7 @@ impl<S: PartSink> Refusing<S> {
     fn is_refused(&mut self) -> bool
         ensures inner { self.new.inner ≡ self.old.inner }
         ensures due { IsTrue result ↔ (self.old.left ≡ 0) }
-        ensures next { OnTrue result (0 < self.new.left) }
+        ensures next { OnTrue result (self.new.left ≡ 2 ^ 64 - 1) }
         ensures left { OnFalse result (self.new.left + 1 ≡ self.old.left) }
         ensures yes { OnTrue result (Rose self.old.refused self.new.refused) }
         ensures no { OnFalse result (self.new.refused ≡ self.old.refused) }

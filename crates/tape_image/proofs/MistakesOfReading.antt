@@ -1,22 +1,18 @@
 -- Results of an `ImageReader`, and its states after them, that its contracts exclude: each is the
 -- result of a wrong body, for `next` with the given bytes.
-use Rattle.std.proofs.Common.{◌≡◌, ◌≤◌, ◌+◌, ℕ, List, [], ◌∷◌, ◌++◌, length, refl, ap}
-use Rattle.std.proofs.Common.{◌∙◌}
-use Rattle.std.proofs.Common.{subst, arith, length-append}
+use Rattle.std.proofs.Common.{◌≡◌, ◌≤◌, ◌+◌, ℕ, List, [], ◌∷◌, ◌++◌, length, refl, ap, ◌∙◌, subst}
+use Rattle.std.proofs.Common.{arith, length-append}
 use Rattle.std.specs.Prelude.{Option, Some, Result, Ok, Err}
 use Rattle.tape_image.specs.declared.item.Ending.TheVariants.{Physical}
-use Rattle.tape_image.specs.declared.item.Item.{Item}
-use Rattle.tape_image.specs.declared.item.ImageCause.{ImageCause}
 use Rattle.tape_image.specs.declared.item.ImageCause.TheVariants.{Truncated, LengthsDiffer}
 use Rattle.tape_image.specs.declared.item.ImageCause.TheVariants.{Reserved, TooLong, Device}
-use Rattle.tape_image.specs.declared.item.ImageFault.{ImageFault}
 use Rattle.tape_image.specs.Tape.{TapeItem, block, bad, mark}
-use Rattle.tape_image.specs.Spelling.{a_block, a_gap}
-use Rattle.tape_image.specs.Begins.{image_limit, Stop, ends, faults, Stops, Begins}
-use Rattle.tape_image.specs.Begins.{nothing, in_block, words_differ}
-use Rattle.tape_image.specs.Reader.{Reader, going, seen}
-use Rattle.tape_image.specs.Step.{Meets, GivesItem, MeetsFault, TakesItem, TakesFault}
-use Rattle.tape_image.specs.Next.{HasMoved}
+use Rattle.tape_image.specs.Begins.{image_limit, Stop, ends, faults, Stops, Begins, nothing}
+use Rattle.tape_image.specs.Begins.{in_block, words_differ}
+use Rattle.tape_image.specs.Step.{Meets, GivesItem, TakesItem, TakesFault}
+use Rattle.tape_image.specs.{declared.item.Item.Item, declared.item.ImageCause.ImageCause}
+use Rattle.tape_image.specs.{declared.item.ImageFault.ImageFault, Spelling.a_block, Spelling.a_gap}
+use Rattle.tape_image.specs.{Reader.Reader, Reader.going, Reader.seen, Next.HasMoved}
 use Rattle.tape_image.proofs.Walks.{Walks-nil, Walks-item, IfKnown-at}
 use Rattle.tape_image.proofs.Callers.{walked_front, from_going, same_some}
 use Rattle.tape_image.proofs.reader.ImageReader.new.Reads as new_reader
@@ -41,8 +37,7 @@ fault place cause = record { place = place; cause = cause }
 -- bytes that stop at once
 at_once : (p : ℕ) (xs : List ℕ) (stop : Stop) → p ≤ image_limit → Stops p xs stop
     → Begins p xs [] p stop
-at_once p xs stop near stops =
-    record { rest = xs; walks = Walks-nil p xs; within = near; stops = stops }
+at_once p xs stop near stops = search (arith, tt, Walks-nil)
 
 -- the item that a call returned is the first of those that the bytes begin with
 gives_first : (p : ℕ) (xs : List ℕ) (device room : ℕ) (old new : Reader)
@@ -182,16 +177,11 @@ module _ (T : _) (L : _) (g : _) (d : _) (κs : _) (a : _) (z : _) (s : _)
   -- gap_given_as_mark: an erase gap is returned as a mark
   gap_given_as_mark : a.0.now ≡ at 0 (254 ∷ 255 ∷ 255 ∷ 255 ∷ []) device room
       → seen z ≡ Ok (Some mark) → ⊥
-  gap_given_as_mark e w =
-      gives_none 0 (254 ∷ 255 ∷ 255 ∷ 255 ∷ []) device room a.0.now new z mark 4 (ends Physical)
-      h.0.holds-at-none e w gap_begins
+  gap_given_as_mark e w = search (arith, tt, gives_none, gap_begins)
 
   -- block_lent_shifted: a block is lent without its first byte
   block_lent_shifted : a.0.now ≡ at 0 one_byte device room → seen z ≡ Ok (Some (block [])) → ⊥
-  block_lent_shifted e w =
-      let (more, same) = gives_first 0 one_byte device room a.0.now new z (block [])
-      (block (7 ∷ []) ∷ []) 10 (ends Physical) h.0.holds-at-none e w one_byte_begins in
-      absurd (let n : 1 ≡ 0 = ap first_length same in omega arith)
+  block_lent_shifted e w = grind (arith, gives_first, one_byte_begins)
 
   -- too_long_after_the_data: a block that would end past the limit is read whole before the fault
   too_long_after_the_data : a.0.now ≡ at 4294967290 one_byte device room
@@ -208,10 +198,7 @@ module _ (T : _) (L : _) (g : _) (d : _) (κs : _) (a : _) (z : _) (s : _)
   -- place_behind_the_fault: after the fault the reader's place is after the reserved word
   place_behind_the_fault : (p w : ℕ) → a.0.now.status ≡ going
       → seen z ≡ Err (fault p (Reserved w)) → new.place ≡ p + 4 → ⊥
-  place_behind_the_fault p w on e far =
-      let m : MeetsFault a.0.now (fault p (Reserved w)) new = subst (λ r. Meets a.0.now r new) e
-      (from_going a.0.now z new h.0.holds-at-none on) in
-      absurd (omega (arith, far, m.place))
+  place_behind_the_fault p w on e far = grind (arith, from_going)
 
   -- memory_taken_at_each_call: a call doubles the buffer's capacity
   memory_taken_at_each_call : a.0.now.room ≡ 100000 → new.room ≡ 200000 → ⊥

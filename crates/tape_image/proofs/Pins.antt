@@ -2,11 +2,9 @@
 -- definitions.
 use Rattle.std.proofs.Common.{[], ◌∷◌, length, refl, ap, arith, length-append}
 use Rattle.tape_image.specs.declared.item.Ending.TheVariants.{Marked, Physical}
-use Rattle.tape_image.specs.Tape.{mark}
-use Rattle.tape_image.specs.Spelling.{a_mark, Spells}
-use Rattle.tape_image.specs.Step.{TakesEnd}
 use Rattle.tape_image.specs.Examples.{ImagesAreHeld, AnswersAreHeld, TakingIsHeld, LawsAreHeld}
 use Rattle.tape_image.specs.Examples.{WritingIsHeld}
+use Rattle.tape_image.specs.{Tape.mark, Spelling.a_mark, Spelling.Spells, Step.TakesEnd}
 
 marked_image : Spells (0 ∷ 0 ∷ 0 ∷ 0 ∷ 255 ∷ 255 ∷ 255 ∷ 255 ∷ 7 ∷ []) (mark ∷ [])
 marked_image = record {

@@ -2,22 +2,18 @@
 use Rattle.std.proofs.Common.{◌≡◌, ℕ, ◌+◌, ◌<◌, ◌≤◌, ◌%◌, ◌^◌, Bool, true, false, List, [], ◌∷◌}
 use Rattle.std.proofs.Common.{◌++◌, length, replicate, Option, Some, None, Ok, Err, refl, sym, ap}
 use Rattle.std.proofs.Common.{◌∙◌, arith, append_assoc, append-nil, length-append}
-use Rattle.std.specs.Prelude.{MatchBool}
-use Rattle.std.specs.List.{flat_map}
-use Rattle.std.specs.Io.KnownBytes.{Appends}
-use Rattle.std.proofs.lemmas.Bool.Decides.{nat_tests}
-use Rattle.std.proofs.lemmas.List.{length-replicate}
+use Rattle.std.proofs.{lemmas.Bool.Decides.nat_tests, lemmas.List.length-replicate}
+use Rattle.std.specs.{Prelude.MatchBool, List.flat_map, Io.KnownBytes.Appends}
 use Rattle.byteorder.specs.Endian.{little_bytes, little_number}
 use Rattle.byteorder.specs.Numbers.{little_number-reads_back}
-use Rattle.tape_image.specs.declared.item.ImageWriteFault.TheVariants.{Device}
-use Rattle.tape_image.specs.Tape.{TapeItem, block, bad, mark}
-use Rattle.tape_image.specs.Word.{IsWord, mark_word, end_word, block_len}
 use Rattle.tape_image.specs.Spelling.{IsSpelling, a_mark, a_block, Leads}
-use Rattle.tape_image.specs.declared.item.Ending.TheVariants.{Marked}
 use Rattle.tape_image.specs.Written.{written, written_block, is_no_block}
 use Rattle.tape_image.specs.Writer.{Writer, Standing, writing, finished, broken, PutsAll, PutsSome}
 use Rattle.tape_image.specs.Writer.{PutsFrom, BlockFrom, PutItem, PutItems, FailItem, WrittenSpells}
 use Rattle.tape_image.specs.Writer.{FailedHoldsFront}
+use Rattle.tape_image.specs.{declared.item.ImageWriteFault.TheVariants.Device, Tape.TapeItem}
+use Rattle.tape_image.specs.{Tape.block, Tape.bad, Tape.mark, Word.IsWord, Word.mark_word}
+use Rattle.tape_image.specs.{Word.end_word, Word.block_len, declared.item.Ending.TheVariants.Marked}
 use Rattle.tape_image.proofs.Leads.{Leads-nil, Leads-then, Leads-before, Leads-trans}
 
 -- the four bytes of a word encode the word
@@ -79,8 +75,7 @@ put_long false content old new P is never h = (sym is, h)
 put_block : (s : Standing) (content : List ℕ) (old new : Writer)
     → BlockFrom s content old (Ok tt) new
     → (is_no_block content ≡ false) × PutsAll (written_block content) writing old new
-put_block writing content old new h =
-    put_long (is_no_block content) content old new _ refl (λ p. cc p.0) h
+put_block writing content old new h = grind (arith, put_long)
 put_block finished content old new (e, _) = absurd (cc e)
 put_block broken content old new (e, _) = absurd (cc e)
 
@@ -173,8 +168,7 @@ long_fails false content old new P never p = some_fails (written_block content) 
 
 block_fails : (s : Standing) (content : List ℕ) (old new : Writer)
     → BlockFrom s content old (Err Device) new → FailsWith (written_block content) old new
-block_fails writing content old new p =
-    long_fails (is_no_block content) content old new _ (λ p. cc p.0) p
+block_fails writing content old new p = grind (arith, long_fails)
 block_fails finished content old new (e, _) = absurd (cc e)
 block_fails broken content old new (e, same) = none_fails (written_block content) old new same
 

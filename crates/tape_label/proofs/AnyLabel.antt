@@ -2,21 +2,18 @@
 use Rattle.std.proofs.Common.{◌≡◌, ◌≢◌, ◌==◌, ℕ, List, length, Bool, true, false, Option, Some}
 use Rattle.std.proofs.Common.{None, Ok, Err, refl, subst, arith}
 use Rattle.std.proofs.lemmas.Bool.Decides.{nat_tests}
-use Rattle.tape_label.specs.declared.label.LabelFault.TheVariants as faults
-use Rattle.tape_label.specs.declared.label.Label.{Label}
-use Rattle.tape_label.specs.declared.label.Label.TheVariants as labels
-use Rattle.tape_label.specs.declared.values.Kind.{Kind}
-use Rattle.tape_label.specs.declared.values.Kind.TheVariants as kinds
+use Rattle.tape_label.specs.Reading.{◌>>=◌, vol1_at, head1_at, head2_at, trail1_at}
 use Rattle.tape_label.specs.declared.values.Head2.{Head2}
 use Rattle.tape_label.specs.Kinds.{HasKind, IsSecond, trailer, kind_at}
-use Rattle.tape_label.specs.Head2.{IsHead2}
-use Rattle.tape_label.specs.Reading.{◌>>=◌, vol1_at, head1_at, head2_at, trail1_at}
 use Rattle.tape_label.specs.Labels.{IsLabel, no_kind, read_as, label_at}
-use Rattle.tape_label.proofs.Steps.{bind_ok, ok_is}
+use Rattle.tape_label.specs.{declared.label.Label.Label, declared.values.Kind.Kind, Head2.IsHead2}
+use Rattle.tape_label.specs.declared.label.LabelFault.TheVariants as faults
+use Rattle.tape_label.specs.declared.label.Label.TheVariants as labels
+use Rattle.tape_label.specs.declared.values.Kind.TheVariants as kinds
 use Rattle.tape_label.proofs.First.{vol1_found, vol1_again, head1_found, head1_again, trail1_found}
 use Rattle.tape_label.proofs.First.{trail1_again}
-use Rattle.tape_label.proofs.Second.{head2_found, head2_again}
 use Rattle.tape_label.proofs.Apart.{kind_found, kind_again, HasKind-unique}
+use Rattle.tape_label.proofs.{Steps.bind_ok, Steps.ok_is, Second.head2_found, Second.head2_again}
 
 -- ---- blocks that are read
 
@@ -102,8 +99,7 @@ not_eighty : (n : ℕ) → n ≢ 80 → (n == 80) ≡ false
 not_eighty n other = grind (arith, nat_tests, other)
 
 pub label_not_eighty : (block : List ℕ) → length block ≢ 80 → label_at block ≡ Err faults.NotEighty
-label_not_eighty block other =
-    rw (no_label block (λ k has. other has.size), not_eighty (length block) other) refl
+label_not_eighty block other = grind (arith, no_label, not_eighty)
 
 pub label_not_named : (block : List ℕ) → length block ≡ 80 → ((k : Kind) → HasKind block k → ⊥)
     → label_at block ≡ Err faults.Identifier

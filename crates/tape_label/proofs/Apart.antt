@@ -1,18 +1,14 @@
 -- No block is two kinds of label, and a reading function refuses all other kinds.
-use Rattle.std.proofs.Common.{arith}
-use Rattle.std.proofs.Common.{◌≡◌, ℕ, List, [], ◌∷◌, length, Bool, true, false, cond, eqb, Option}
-use Rattle.std.proofs.Common.{None, Some, Err, refl, sym, subst, ◌∙◌}
-use Rattle.std.specs.List.{find}
-use Rattle.std.specs.Str.{bytes_eq}
-use Rattle.std.proofs.lemmas.Bool.{eqb-true}
-use Rattle.std.proofs.lemmas.Slice.Eq.{bytes_eq-Decides}
-use Rattle.tape_label.specs.declared.label.LabelFault.TheVariants as faults
-use Rattle.tape_label.specs.declared.values.Kind.{Kind}
-use Rattle.tape_label.specs.declared.values.Kind.TheVariants as kinds
+use Rattle.std.proofs.Common.{arith, ◌≡◌, ℕ, List, [], ◌∷◌, length, Bool, true, false, cond, eqb}
+use Rattle.std.proofs.Common.{Option, None, Some, Err, refl, sym, subst, ◌∙◌}
+use Rattle.std.proofs.{lemmas.Bool.eqb-true, lemmas.Slice.Eq.bytes_eq-Decides}
+use Rattle.std.specs.{List.find, Str.bytes_eq}
 use Rattle.tape_label.specs.Kinds.{identifier, HasKind, IsFirstTrailer, IsSecond, kind_named}
 use Rattle.tape_label.specs.Kinds.{kind_at}
-use Rattle.tape_label.specs.Positions.{positions}
 use Rattle.tape_label.specs.Reading.{vol1_at, head1_at, trail1_at, end_at, head2_at}
+use Rattle.tape_label.specs.{declared.values.Kind.Kind, Positions.positions}
+use Rattle.tape_label.specs.declared.label.LabelFault.TheVariants as faults
+use Rattle.tape_label.specs.declared.values.Kind.TheVariants as kinds
 use Rattle.tape_label.proofs.Steps.{size_again}
 
 -- ---- the kind as a function of the block
@@ -31,8 +27,7 @@ named_is text kind e = grind (arith, bytes_eq-Decides, find_passes, bytes_eq)
 
 kind_step : (block : List ℕ) (kind : Kind) (b : Bool) → eqb (length block) 80 ≡ b
     → cond b (kind_named (positions block 1 4)) None ≡ Some kind → HasKind block kind
-kind_step block kind true size e =
-    record { size = eqb-true _ _ size; named = named_is (positions block 1 4) kind e }
+kind_step block kind true size e = grind (arith, eqb-true, named_is)
 kind_step block kind false size e = absurd cc
 
 pub kind_found : (block : List ℕ) (kind : Kind) → kind_at block ≡ Some kind → HasKind block kind

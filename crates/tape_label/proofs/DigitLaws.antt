@@ -1,13 +1,10 @@
 -- A number and its digits with leading zeros determine each other.
-use Rattle.std.proofs.Common.{◌≡◌, ℕ, zero, suc, ◌+◌, ◌-◌, ◌*◌, ◌/◌, ◌%◌, ◌^◌, ◌<◌, ◌≤◌, true}
-use Rattle.std.proofs.Common.{List, [], ◌∷◌, ◌++◌, length, drop, arith, add-one, refl}
-use Rattle.std.proofs.Common.{◌∙◌, append_assoc, rules}
-use Rattle.std.specs.Str.{all_ascii_digits}
-use Rattle.std.specs.Char.{is_ascii_digit}
-use Rattle.std.proofs.lemmas.Bool.{and_parts}
-use Rattle.std.proofs.Math.Nat.{pow-suc, pow-le-pow_right}
-use Rattle.std.proofs.lemmas.List.{append-nil, drop_all}
-use Rattle.std.proofs.lemmas.Grind.{common_steps}
+use Rattle.std.proofs.Common.{◌≡◌, ℕ, zero, suc, ◌+◌, ◌-◌, ◌*◌, ◌/◌, ◌%◌, ◌^◌, ◌<◌, ◌≤◌, true, List}
+use Rattle.std.proofs.Common.{[], ◌∷◌, ◌++◌, length, drop, arith, add-one, refl, ◌∙◌, append_assoc}
+use Rattle.std.proofs.Common.{rules}
+use Rattle.std.proofs.{lemmas.Bool.and_parts, Math.Nat.pow-suc, Math.Nat.pow-le-pow_right}
+use Rattle.std.proofs.{lemmas.List.append-nil, lemmas.List.drop_all, lemmas.Grind.common_steps}
+use Rattle.std.specs.{Str.all_ascii_digits, Char.is_ascii_digit}
 use Rattle.tape_label.specs.Digits.{digits, number_after, number_of}
 
 digit_range : (d : ℕ) → is_ascii_digit d ≡ true → (48 ≤ d) × (d < 58)

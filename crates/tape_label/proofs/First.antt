@@ -2,18 +2,14 @@
 -- fields returned, and every label is read.
 use Rattle.std.proofs.Common.{◌≡◌, ℕ, List, length, Bool, true, false, cond, Ok, Err, refl, subst}
 use Rattle.std.proofs.Common.{arith, inl, inr, ◌⊎◌}
+use Rattle.tape_label.specs.Reading.{◌>>=◌, eighty, of_kind, number_at, vol1_fields, vol1_at}
+use Rattle.tape_label.specs.Reading.{head_fields, head_at, head1_at, end_at, trail1_at}
+use Rattle.tape_label.specs.Kinds.{HasKind, identifier, trailer}
+use Rattle.tape_label.specs.{declared.values.Vol1.Vol1, declared.values.Head1.Head1}
+use Rattle.tape_label.specs.{declared.values.Trail1.Trail1, Positions.positions, Vol1.IsVol1}
+use Rattle.tape_label.specs.{Head1.HasHead, Head1.IsHead1, Trail1.IsTrail1}
 use Rattle.tape_label.specs.declared.label.LabelFault.TheVariants as faults
 use Rattle.tape_label.specs.declared.values.Kind.TheVariants as kinds
-use Rattle.tape_label.specs.declared.values.Vol1.{Vol1}
-use Rattle.tape_label.specs.declared.values.Head1.{Head1}
-use Rattle.tape_label.specs.declared.values.Trail1.{Trail1}
-use Rattle.tape_label.specs.Kinds.{HasKind, identifier, trailer}
-use Rattle.tape_label.specs.Positions.{positions}
-use Rattle.tape_label.specs.Vol1.{IsVol1}
-use Rattle.tape_label.specs.Head1.{HasHead, IsHead1}
-use Rattle.tape_label.specs.Trail1.{IsTrail1}
-use Rattle.tape_label.specs.Reading.{◌>>=◌, eighty, of_kind, number_at, vol1_fields}
-use Rattle.tape_label.specs.Reading.{vol1_at, head_fields, head_at, head1_at, end_at, trail1_at}
 use Rattle.tape_label.proofs.Steps.{bind_ok, done, ok_is, number_found, number_again}
 use Rattle.tape_label.proofs.Steps.{character_found, character_is, size_found, size_again}
 use Rattle.tape_label.proofs.Steps.{begins_found, named_found, named_again}

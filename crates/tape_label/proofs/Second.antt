@@ -1,24 +1,19 @@
 -- Second header and trailer labels: a label that is read has the fields returned, and every second
 -- label is read.
-use Rattle.std.proofs.Common.{◌≡◌, ℕ, ◌+◌, ◌<◌, List, [], ◌∷◌, length, Bool, true}
-use Rattle.std.proofs.Common.{false, cond, eqb, Ok, Err, refl, sym, subst, arith, rules, inl, inr}
-use Rattle.std.proofs.Common.{◌⊎◌}
+use Rattle.std.proofs.Common.{◌≡◌, ℕ, ◌+◌, ◌<◌, List, [], ◌∷◌, length, Bool, true, false, cond, eqb}
+use Rattle.std.proofs.Common.{Ok, Err, refl, subst, arith, rules, inl, inr, ◌⊎◌}
+use Rattle.std.proofs.{lemmas.Bool.eqb-true, lemmas.Slice.Eq.bytes_eq-Decides}
 use Rattle.std.specs.Str.{bytes_eq}
 use Rattle.std.specs.Prelude.{codes, ◌||◌}
-use Rattle.std.proofs.lemmas.Bool.{eqb-true}
-use Rattle.std.proofs.lemmas.Slice.Eq.{bytes_eq-Decides}
-use Rattle.tape_label.specs.declared.label.LabelFault.TheVariants as faults
-use Rattle.tape_label.specs.declared.values.Kind.{Kind}
-use Rattle.tape_label.specs.declared.values.Kind.TheVariants as kinds
-use Rattle.tape_label.specs.declared.values.Format.{Format}
-use Rattle.tape_label.specs.declared.values.Format.TheVariants.{Fixed, Counted, Spanned}
-use Rattle.tape_label.specs.declared.values.Head2.{Head2}
-use Rattle.tape_label.specs.Formats.{letter, least_record}
-use Rattle.tape_label.specs.Kinds.{identifier, IsSecond}
-use Rattle.tape_label.specs.Positions.{positions}
-use Rattle.tape_label.specs.Head2.{HasOffset, IsHead2}
 use Rattle.tape_label.specs.Reading.{◌>>=◌, eighty, begins_as, number_at, second, format_at}
 use Rattle.tape_label.specs.Reading.{offset_at, head2_at}
+use Rattle.tape_label.specs.declared.values.Format.TheVariants.{Fixed, Counted, Spanned}
+use Rattle.tape_label.specs.Formats.{letter, least_record}
+use Rattle.tape_label.specs.{declared.values.Kind.Kind, declared.values.Format.Format}
+use Rattle.tape_label.specs.{declared.values.Head2.Head2, Kinds.identifier, Kinds.IsSecond}
+use Rattle.tape_label.specs.{Positions.positions, Head2.HasOffset, Head2.IsHead2}
+use Rattle.tape_label.specs.declared.label.LabelFault.TheVariants as faults
+use Rattle.tape_label.specs.declared.values.Kind.TheVariants as kinds
 use Rattle.tape_label.proofs.Steps.{bind_ok, done, ok_is, number_found, number_again}
 use Rattle.tape_label.proofs.Steps.{character_found, character_is, size_found, size_again}
 use Rattle.tape_label.proofs.Steps.{begins_found}
@@ -74,15 +69,13 @@ format_again label Spanned lt e = rw (character_is label 4 83 lt e) refl
 offset_is : (label : List ℕ) (n : ℕ) (b : Bool) → length label ≡ 80
     → bytes_eq (positions label 51 52) (codes "  ") ≡ b
     → cond b (Ok 0) (number_at label 51 52 0) ≡ done n → HasOffset label n
-offset_is label n true size p e =
-    inr ((bytes_eq-Decides (positions label 51 52) (codes "  ")).0 p, sym (ok_is 0 n e))
+offset_is label n true size p e = grind (arith, bytes_eq-Decides, ok_is)
 offset_is label n false size p e = inl (number_found label 51 52 0 n (omega arith) e)
 
 offset_found : (label : List ℕ) (n : ℕ) → length label ≡ 80 → offset_at label ≡ Ok n
     → HasOffset label n
 unfolding offset_at
-offset_found label n size e =
-    offset_is label n (bytes_eq (positions label 51 52) (codes "  ")) size refl e
+offset_found label n size e = search (arith, tt, offset_is)
 
 no_space : (n : ℕ) → eqb (48 + n) 32 ≡ false
 no_space n = search rules

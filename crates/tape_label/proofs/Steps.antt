@@ -1,19 +1,15 @@
 -- The meaning of each reading step that does not fail, and conversely the step's result from the
 -- label.
-use Rattle.std.proofs.Common.{◌≡◌, ℕ, ◌-◌, ◌<◌, ◌≤◌, Bool, true, false, cond, ltb, eqb, List}
-use Rattle.std.proofs.Common.{[], ◌∷◌, length, get_or, take, drop, Result, Ok, Err, refl}
-use Rattle.std.proofs.Common.{arith}
-use Rattle.std.specs.Str.{all_ascii_digits}
-use Rattle.std.specs.Prelude.{IfOk}
+use Rattle.std.proofs.Common.{◌≡◌, ℕ, ◌-◌, ◌<◌, ◌≤◌, Bool, true, false, cond, ltb, eqb, List, []}
+use Rattle.std.proofs.Common.{◌∷◌, length, get_or, take, drop, Result, Ok, Err, refl, arith}
 use Rattle.std.proofs.lemmas.Bool.{ltb-false, le-ltb, eqb-true}
 use Rattle.std.proofs.lemmas.List.{length-take, length-drop, drop_more}
 use Rattle.std.proofs.lemmas.Slice.Eq.{bytes_eq-Decides}
-use Rattle.tape_label.specs.declared.label.LabelFault.{LabelFault}
-use Rattle.tape_label.specs.declared.label.LabelFault.TheVariants as faults
-use Rattle.tape_label.specs.declared.values.Kind.{Kind}
-use Rattle.tape_label.specs.Kinds.{identifier}
-use Rattle.tape_label.specs.Positions.{positions, HasNumber}
+use Rattle.std.specs.{Str.all_ascii_digits, Prelude.IfOk}
 use Rattle.tape_label.specs.Reading.{◌>>=◌, eighty, begins_as, of_kind, number_at}
+use Rattle.tape_label.specs.{declared.label.LabelFault.LabelFault, declared.values.Kind.Kind}
+use Rattle.tape_label.specs.{Kinds.identifier, Positions.positions, Positions.HasNumber}
+use Rattle.tape_label.specs.declared.label.LabelFault.TheVariants as faults
 use Rattle.tape_label.proofs.DigitLaws.{digits-number_of, number_of-digits, number_of-lt}
 use Rattle.tape_label.proofs.DigitLaws.{all_ascii_digits-digits}
 
@@ -57,16 +53,7 @@ passes_number false low d e x y h = absurd cc
 pub number_found : (label : List ℕ) (first last least n : ℕ) → last ≤ length label
     → number_at label first last least ≡ Ok n → HasNumber label first last least n
 number_found label first last least n fits e =
-    grind (
-      arith,
-      passes_number,
-      all_ascii_digits,
-      ltb,
-      length-positions,
-      digits-number_of,
-      ltb-false,
-      number_of-lt,
-    )
+    grind (arith, passes_number, length-positions, digits-number_of, ltb-false, number_of-lt)
 
 pub number_again : (label : List ℕ) (first last least n : ℕ) → HasNumber label first last least n
     → number_at label first last least ≡ Ok n
@@ -96,10 +83,8 @@ begins_found label kind e = (bytes_eq-Decides (positions label 1 4) (identifier 
 
 pub named_found : (label : List ℕ) (kind : Kind) (u : Unit {0}) → of_kind label kind ≡ Ok u
     → positions label 1 4 ≡ identifier kind
-named_found label kind u e =
-    begins_found label kind (passed (begins_as label kind) faults.Identifier tt u e).0
+named_found label kind u e = grind (arith, begins_found, passed)
 
 pub named_again : (label : List ℕ) (kind : Kind) → positions label 1 4 ≡ identifier kind
     → of_kind label kind ≡ Ok tt
-named_again label kind named =
-    rw ((bytes_eq-Decides (positions label 1 4) (identifier kind)).1 named) refl
+named_again label kind named = grind (arith, bytes_eq-Decides)

@@ -1,18 +1,13 @@
 -- The text written for a label is a label with its fields.
 use Rattle.std.proofs.Common.{ℕ, List, arith}
-use Rattle.tape_label.specs.declared.values.Kind.{Kind}
-use Rattle.tape_label.specs.declared.values.Kind.TheVariants as kinds
-use Rattle.tape_label.specs.declared.values.Vol1.{Vol1}
-use Rattle.tape_label.specs.declared.values.Head1.{Head1}
-use Rattle.tape_label.specs.declared.values.Head2.{Head2}
-use Rattle.tape_label.specs.declared.values.Trail1.{Trail1}
-use Rattle.tape_label.specs.Kinds.{trailer, IsSecond}
-use Rattle.tape_label.specs.Vol1.{IsVol1}
-use Rattle.tape_label.specs.Head1.{HasHead, IsHead1, HeadFits}
-use Rattle.tape_label.specs.Head2.{IsHead2, Head2Fits}
-use Rattle.tape_label.specs.Trail1.{IsTrail1, TrailFits}
 use Rattle.tape_label.specs.Written.{text_of, HaveWidths, vol1_pieces, head_pieces, head1_pieces}
 use Rattle.tape_label.specs.Written.{trail1_pieces, head2_pieces}
+use Rattle.tape_label.specs.{declared.values.Kind.Kind, declared.values.Vol1.Vol1}
+use Rattle.tape_label.specs.{declared.values.Head1.Head1, declared.values.Head2.Head2}
+use Rattle.tape_label.specs.{declared.values.Trail1.Trail1, Kinds.trailer, Kinds.IsSecond}
+use Rattle.tape_label.specs.{Vol1.IsVol1, Head1.HasHead, Head1.IsHead1, Head1.HeadFits}
+use Rattle.tape_label.specs.{Head2.IsHead2, Head2.Head2Fits, Trail1.IsTrail1, Trail1.TrailFits}
+use Rattle.tape_label.specs.declared.values.Kind.TheVariants as kinds
 use Rattle.tape_label.proofs.Pieces.{StandAt, pieces_stand}
 
 pub vol1_text_is : (v : Vol1) → HaveWidths (vol1_pieces v) → IsVol1 (text_of (vol1_pieces v)) v

@@ -1,11 +1,8 @@
 -- Volume labels of any sort: the test agrees with the definition.
-use Rattle.std.proofs.Common.{◌≡◌, ◌≢◌, ℕ, List, [], ◌∷◌, take, true}
-use Rattle.std.proofs.Common.{false, refl, inl, inr}
-use Rattle.tape_label.specs.declared.values.Kind.{Kind}
-use Rattle.tape_label.specs.declared.values.Kind.TheVariants as kinds
-use Rattle.tape_label.specs.Kinds.{HasKind}
-use Rattle.tape_label.specs.Positions.{positions}
+use Rattle.std.proofs.Common.{◌≡◌, ◌≢◌, ℕ, List, [], ◌∷◌, take, true, false, refl, inl, inr}
 use Rattle.tape_label.specs.VolumeLabels.{IsOfVolume, is_volume_label}
+use Rattle.tape_label.specs.{declared.values.Kind.Kind, Kinds.HasKind, Positions.positions}
+use Rattle.tape_label.specs.declared.values.Kind.TheVariants as kinds
 
 pub volume_label_again : (block : List ℕ) → IsOfVolume block → is_volume_label block ≡ true
 unfolding is_volume_label

@@ -17,7 +17,7 @@ use Rattle.tape_run.specs.Rounds.{FollowsRounds, TakesRounds, StopsInRound}
 use Rattle.tape_run.specs.Extracting.{EndsFile, StopsAtEnd}
 use Rattle.tape_run.specs.ExtractingAgain.{ExtractsAgain, StopsAgain}
 use Rattle.tape_image.proofs.Pieces.{front_more, front_behind}
-use Rattle.tape_run.proofs.Extracted.{ended, told_then, tells_then}
+use Rattle.tape_run.proofs.Extracted.{ended, told_then, tells_then, less_then, leaves_more}
 use Rattle.tape_run.proofs.Lasting.{last_then, stood_walked}
 use Rattle.tape_run.proofs.Left.{left_walked, left_behind}
 use Rattle.tape_run.proofs.StoppedThere.{stopped_walked}
@@ -126,7 +126,7 @@ stops_in_round {S} {L} {R} {W} gs size gives remaining old new
             ),
             (left_behind gs old s.mid new held mid now before leaves, stopped),
             inl lines,
-            inl refl,
+            inl (refl, inl lines),
           );
     }
 
@@ -181,6 +181,7 @@ stops_at_end_again {S} {L} {R} {W} gs size gives remaining old new
             ),
             tells_then said between says _ e.want e.records (seen gs new now) lines
                 (e.tells now has_now),
-            e.is_written now has_now,
+            leaves_more _ _ e.want _ _ _ _ (less_then said between says _ lines)
+                (e.is_written now has_now),
           );
     }

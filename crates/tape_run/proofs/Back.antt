@@ -45,15 +45,7 @@ all_good (x ∷ xs) = ap (λ z. x ∷ z) (all_good xs)
 
 whole_copy : (set : FileSet) (k : ℕ) → k < length set.volumes
     → IsCopy set (items set (k + 1)) (whole_reading set (k + 1))
-whole_copy set k h = record {
-  is_reading = record {
-    volume = some_volume set.volumes (k + 1) (omega arith) (omega (arith, h));
-    within = omega (arith, length-replicate (length (items set (k + 1))) true);
-  };
-  more = [];
-  whole = all_good (items set (k + 1));
-  behind = λ n. absurd (n refl);
-}
+whole_copy set k h = grind (arith, some_volume, length-replicate, all_good)
 
 pub volumes_history : (set : FileSet) (k : ℕ) (bs : List (List ℕ)) → AreVolumes set k bs
     → (k + length bs ≡ length set.volumes) × IsHistory set 0 (reels_of bs) bs (map reads

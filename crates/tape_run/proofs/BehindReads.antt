@@ -12,7 +12,7 @@ use Rattle.tape_core.specs.{State.State, Place.IsPlaced, Place.rest_of, Place.re
 use Rattle.tape_core.specs.Table.{step_of, mount_of, mounted}
 use Rattle.tape_set.specs.declared.position.Position.TheVariants.{Awaits, Finished}
 use Rattle.tape_core.proofs.OneFile.{step_file}
-use Rattle.tape_run.specs.Mount.{MountEvent, IsMount, after_mount, cut}
+use Rattle.tape_run.specs.Mount.{MountEvent, IsMount, cut}
 use Rattle.tape_run.specs.{Reels.behind_items, ByTable.parts_at, ByTable.delivered_parts}
 use Rattle.tape_run.specs.{ByTable.IsLed, GoesBehind.ReadsByHistory, Steps.ReadBy, Under.is_under}
 use Rattle.tape_run.proofs.{ByTable.puts_delivered, ByTable.puts_none, GoesBehind.leads_over_all}
@@ -65,12 +65,7 @@ read_on : (set : FileSet) (p : Position) (h : MountEvent) (taken rest whole : Li
     → ReadBy set core.file p h (rest_of (behind_items core rest))
     (held ++ delivered_parts core rest)
 read_on set p h taken [] whole core held l is m at under =
-    let all : whole ≡ taken = is ∙ append-nil taken in
-    record {
-      at = subst (λ (q : List Portion). IsPlaced set (rest_of core) q) (sym (append-nil held)) at;
-      position = reached _ _ _ _ _ _ l m under ∙ ap (after_mount set core.file p) (ap
-          (λ (z : List TapeItem). cut (length z) h) (sym all) ∙ cut_whole _ _ _ m);
-    }
+    grind (arith, append-nil, rest_of, reached, cut, cut_whole)
 read_on set p h taken (x ∷ rest) whole core held l is m at under =
     let here : Some x ≡ slice_get whole (length taken) =
     sym (ap (λ (z : List TapeItem). slice_get z (length taken)) is ∙ slice_at taken rest x) in

@@ -1,6 +1,6 @@
 -- The parts of a block, put one after another.
 use Rattle.std.proofs.Common.{◌≡◌, ℕ, zero, suc, ◌<◌, ◌≤◌, Bool, List, [], ◌∷◌, ◌++◌, length, map}
-use Rattle.std.proofs.Common.{◌+◌, take, drop, refl, sym, ap, subst, ◌∙◌, arith, append_assoc}
+use Rattle.std.proofs.Common.{◌+◌, take, drop, refl, sym, ap, ◌∙◌, arith, append_assoc}
 use Rattle.std.proofs.Common.{append-nil, length-append}
 use Rattle.tape_blocks.specs.declared.parts.{Part.Part, Parts.Parts}
 use Rattle.tape_blocks.specs.{Block.Portion, Spans.leaves, Parts.view, PartsLeft.parts_left}
@@ -41,33 +41,12 @@ module _ {S : Type 0} (g : Ghosts S) (old : S) (first : ℕ) (begun : Bool) wher
 
   -- before the first part is put
   pub none_put : Puts old 0 begun []
-  none_put =
-      let none = drop_all first [] (omega arith) in
-      record {
-        count = refl;
-        behind = sym (ap (begun_behind begun) none);
-        calm = refl;
-        held_now = λ held was. subst (g.holds old)
-            (sym (ap (λ l. held ++ l) none ∙ append-nil held)) was;
-        crash = λ held was. only_same _ _;
-      }
+  none_put = grind (arith, drop_all, append-nil, only_same)
 
   -- a part before the first changes nothing
   pub one_passed : (new : S) (seen : ℕ) (going : Bool) (came : List Portion) (p : Portion)
       → seen < first → Puts new seen going came → Puts new (seen + 1) going (came ++ p ∷ [])
-  one_passed new seen going came p lt s =
-      let all = length-append came (p ∷ []) in
-      let same : drop first (came ++ p ∷ []) ≡ drop first came =
-      drop_all first (came ++ p ∷ []) (omega (arith, all, s.count, lt))
-      ∙ sym (drop_all first came (omega (arith, s.count, lt))) in
-      record {
-        count = omega (arith, s.count, all);
-        behind = s.behind ∙ ap (begun_behind begun) (sym same);
-        calm = s.calm;
-        held_now = λ held was. subst (λ l. g.holds new (held ++ l)) (sym same)
-            (s.held_now held was);
-        crash = s.crash;
-      }
+  one_passed new seen going came p lt s = grind (arith, length-append, drop_all)
 
   -- one more part was put
   pub one_put : (mid new : S) (seen : ℕ) (going : Bool) (came : List Portion) (p : Portion)
@@ -75,16 +54,7 @@ module _ {S : Type 0} (g : Ghosts S) (old : S) (first : ℕ) (begun : Bool) wher
       → g.refusals new ≡ g.refusals mid → BringsNoMore g mid new → Puts mid seen going came
       → Puts new (seen + 1) (leaves p.span) (came ++ p ∷ [])
   one_put mid new seen going came p le put calm crash s =
-      let next = drop_push first came p (omega (arith, le, s.count)) in
-      record {
-        count = omega (arith, s.count, length-append came (p ∷ []));
-        behind = sym (ap (begun_behind begun) next ∙ one_more begun (drop first came) p);
-        calm = calm ∙ s.calm;
-        held_now = λ held was. subst (g.holds new)
-            (append_assoc held (drop first came) (p ∷ []) ∙ ap (λ l. held ++ l) (sym next))
-            (put _ (s.held_now held was));
-        crash = λ held was. adds_then _ _ _ (s.crash held was) (crash _ (s.held_now held was));
-      }
+      grind (arith, drop_push, length-append, one_more, append_assoc, adds_then)
 
 -- ---- the index of a part
 

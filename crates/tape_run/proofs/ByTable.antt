@@ -97,13 +97,7 @@ pub parts_more : (old mid : State) (held now then : List Portion) (items : List 
     → now ≡ held ++ delivered_parts old items
     → then ≡ held ++ delivered_parts old (items ++ item ∷ [])
 parts_more old mid held now then items item puts e f =
-    puts ∙ (ap (λ (l : List Portion). l ++ parts_at mid item) f
-    ∙ (append_assoc held (delivered_parts old items) (parts_at mid item)
-    ∙ ap (λ (l : List Portion). held ++ l)
-    (ap (λ (c : State). delivered_parts old items ++ parts_at c item) e
-    ∙ (ap (λ (l : List Portion). delivered_parts old items ++ l)
-    (sym (append-nil (parts_at (behind_items old items) item)))
-    ∙ sym (delivered_app old items (item ∷ []))))))
+    grind (arith, append_assoc, append-nil, delivered_app)
 
 -- after a final answer the other items of the reel do not matter
 pub led_by_final : (old mid new : State) (answer : Answer) (held then : List Portion)

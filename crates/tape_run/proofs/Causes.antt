@@ -1,9 +1,8 @@
 -- The causes for which records were not written: the cause of one call, if no call before it was
 -- refused.
-use Rattle.std.proofs.Common.{◌≡◌, ◌<◌, ℕ, suc, ◌+◌, ◌-◌, List, [], ◌∷◌, ◌++◌, length, take}
+use Rattle.std.proofs.Common.{◌≡◌, ◌<◌, ℕ, suc, ◌+◌, List, [], ◌∷◌, ◌++◌, take}
 use Rattle.std.specs.Prelude.{◌≢◌, ◌⊎◌}
-use Rattle.std.proofs.Common.{Bool, true, false, Result, Ok, Err, OnOk, IfErr}
-use Rattle.std.specs.Prelude.{is_some}
+use Rattle.std.proofs.Common.{Bool, false, Result, Ok, Err, OnOk, IfErr}
 use Rattle.std.proofs.Common.{refl, sym, ap, inl, inr, subst, ◌∙◌, arith}
 use Rattle.std.proofs.lemmas.Result.{IfErr-weaker}
 use Rattle.tape_blocks.specs.Block.{Portion}
@@ -32,23 +31,13 @@ use Rattle.tape_run.specs.SessionState.{SessionState}
 pub refused_then : {S : Type 0} (refusals : S → ℕ) (refuses : S → SinkFault → S → Type 0)
     (old mid new : S) (fault : SinkFault) → refusals mid ≡ refusals old
     → IsRefused refusals refuses mid fault new → IsRefused refusals refuses old fault new
-refused_then refusals refuses old mid new fault calm r = record {
-  mid = r.mid;
-  calm = r.calm ∙ calm;
-  why = r.why;
-  counted = subst (λ n. Rose n (refusals new)) calm r.counted;
-}
+refused_then refusals refuses old mid new fault calm r = grind (arith)
 
 -- a call was refused, and no call before it
 pub refused_at : {S : Type 0} (refusals : S → ℕ) (refuses : S → SinkFault → S → Type 0)
     (old mid new : S) (fault : SinkFault) → refusals mid ≡ refusals old → refuses mid fault new
     → Rose (refusals mid) (refusals new) → IsRefused refusals refuses old fault new
-refused_at refusals refuses old mid new fault calm why rose = record {
-  mid = mid;
-  calm = calm;
-  why = why;
-  counted = subst (λ n. Rose n (refusals new)) calm rose;
-}
+refused_at refusals refuses old mid new fault calm why rose = grind (arith)
 
 -- no call was refused before, and the contents are unchanged
 pub fails_behind : {S : Type 0} (holds mid_holds : S → List Portion → Type 0) (refusals : S → ℕ)
@@ -79,12 +68,7 @@ calm_same g s = record {
 
 pub calm_then : {S : Type 0} (g : Ghosts S) (old mid new : SessionState S) → IsCalm g old mid
     → IsCalm g mid new → IsCalm g old new
-calm_then g old mid new a b = record {
-  calm = b.calm ∙ a.calm;
-  notes = λ none. a.notes (b.notes none);
-  kept = λ held was kept.
-      let (now, has, still) = a.kept held was kept in b.kept now has still;
-}
+calm_then g old mid new a b = grind (arith)
 
 -- afterwards the sink was only read
 pub calm_ended : {S V : Type 0} (g : Ghosts S) (old mid new : SessionState S)
@@ -130,12 +114,7 @@ pub calm_saved : {S : Type 0} (g : Ghosts S) (old new : SessionState S) (point :
     → g.refusals new.sink ≡ g.refusals old.sink → new.notes ≡ old.notes ++ point ∷ []
     → IfSeen g old (λ was. IsSeen g new (λ is. (IsKept was → IsKept is) × Saved was is))
     → IsCalm g old new
-calm_saved g old new point calm notes ok = record {
-  calm = calm;
-  notes = λ none. no_longer_none old.notes point (sym notes ∙ none);
-  kept = λ held was kept.
-      let (now, has, (keeps, saved)) = ok held was in (now, has, keeps kept);
-}
+calm_saved g old new point calm notes ok = grind (arith, no_longer_none)
 
 -- the list of checkpoints up to one of them is not empty
 none_taken : (n : ℕ) (notes : List Point) → take (n + 1) notes ≡ [] → notes ≡ []
@@ -150,12 +129,7 @@ pub calm_back : {S : Type 0} (g : Ghosts S) (old new : SessionState S) (n : ℕ)
     → IfSeen g old (λ was. IsKept was
     → IsSeen g new (λ is. IsKept is × WentBack n was is))
     → IsCalm g old new
-calm_back g old new n calm notes ok = record {
-  calm = calm;
-  notes = λ none. none_taken n old.notes (sym notes ∙ none);
-  kept = λ held was kept.
-      let (now, has, (still, went)) = ok held was kept in (now, has, still);
-}
+calm_back g old new n calm notes ok = grind (arith, none_taken)
 
 -- a reel was read
 pub calm_reel : {S : Type 0} (g : Ghosts S) (old new : SessionState S)
@@ -165,24 +139,14 @@ pub calm_reel : {S : Type 0} (g : Ghosts S) (old new : SessionState S)
     × g.holds new.sink now × (IsFront held now
     × (IsKept (seen g old held) → IsKept (seen g new now)) × so held now))
     → IsCalm g old new
-calm_reel g old new so calm notes ok = record {
-  calm = calm;
-  notes = λ none. sym notes ∙ none;
-  kept = λ held was kept.
-      let (now, has, (front, keeps, reeled)) = ok held was in (now, has, keeps kept);
-}
+calm_reel g old new so calm notes ok = grind (arith)
 
 -- the records were not written
 pub writing_fails : {S : Type 0} (g : Ghosts S) (walk : S → SinkFault → S → Type 0) (back : Bool)
     (fault : EngineFault) (old new : SessionState S)
     → WritingFails g.holds g.refusals walk old.sink new.sink fault
     → ExtractFails g (RefusesAny g walk) back fault old new
-writing_fails g walk back (Run (Sink cause)) old new (inl r) = inl (record {
-  mid = r.mid;
-  calm = r.calm;
-  why = inr r.why;
-  counted = r.counted;
-})
+writing_fails g walk back (Run (Sink cause)) old new (inl r) = grind (arith)
 writing_fails g walk back (Run (Sink cause)) old new (inr (is, none)) =
     inr (is, λ held was kept. none held was)
 writing_fails g walk back (Run NoSuchPoint) old new h = absurd h
@@ -204,12 +168,7 @@ file_fails g walk back old mid new r calm h =
 pub images_fail : {S : Type 0} (g : Ghosts S) (walk : S → SinkFault → S → Type 0)
     (back goes : Bool) (fault : EngineFault) (old new : SessionState S) → goes ≡ back
     → ReadingFails g goes fault old new → ExtractFails g (RefusesAny g walk) back fault old new
-images_fail g walk back goes (Run (Sink cause)) old new same (inl r) = inl (record {
-  mid = r.mid;
-  calm = r.calm;
-  why = inl r.why;
-  counted = r.counted;
-})
+images_fail g walk back goes (Run (Sink cause)) old new same (inl r) = grind (arith)
 images_fail g walk back goes (Run (Sink cause)) old new same (inr h) = inr h
 images_fail g walk back goes (Run NoSuchPoint) old new same (goes_is, none) =
     (sym same ∙ goes_is, none)

@@ -1,10 +1,10 @@
 -- The test cases for sessions and their histories.
 use Rattle.std.proofs.Common.{◌≡◌, ℕ, zero, suc, List, [], ◌∷◌, ◌++◌, ◌∙◌, inr, arith, append-nil}
-use Rattle.std.proofs.Common.{length, true, false, Option, Some, None, refl, sym, ap, subst, inl}
+use Rattle.std.proofs.Common.{length, true, false, Option, Some, None, refl, ap, subst, inl}
 use Rattle.std.proofs.Common.{◌+◌, length-append, slice_get, slice_index}
 use Rattle.std.proofs.lemmas.Option.{slice_get_within}
 use Rattle.tape_image.specs.declared.item.Ending.TheVariants as endings
-use Rattle.tape_image.specs.{Tape.TapeItem, Tape.block, Begins.Begins, Begins.ends, Begins.nothing}
+use Rattle.tape_image.specs.{Tape.TapeItem, Tape.block, Begins.Begins, Begins.ends}
 use Rattle.tape_label.specs.{Kinds.kind_at, VolumeLabels.is_volume_label}
 use Rattle.tape_label.specs.Reading.{head_at, head1_at}
 use Rattle.tape_blocks.specs.Block.{Portion}
@@ -31,12 +31,7 @@ use Rattle.tape_run.proofs.ExamplesOfSaves.{one_note, of_one_note}
 
 readings : (set : FileSet) (r : Reading) → IsReadingOf set r
     → IsMount set (as_read (items set r.volume) r.good) (reads r)
-readings set r is = record {
-  is_reading = is;
-  more = [];
-  whole = sym (append-nil (as_read (items set r.volume) r.good));
-  behind = λ n. absurd (n refl);
-}
+readings set r is = grind (arith, append-nil)
 
 more_behind : (set : FileSet) (r : Reading) (more : List TapeItem) → IsReadingOf set r
     → length r.good ≡ length (items set r.volume) → passes r.good (entries set r.volume) ≡ true
@@ -45,13 +40,7 @@ more_behind set r more is all fine =
     record { is_reading = is; more = more; whole = refl; behind = λ n. (all, fine) }
 
 pub empty_begins : Begins 0 [] [] 0 (ends endings.Physical)
-empty_begins = record {
-  rest = [];
-  walks =
-      record { leads = record { spellings = []; whole = refl; items_are = refl }; moves = refl };
-  within = omega arith;
-  stops = nothing refl refl;
-}
+empty_begins = grind (arith)
 
 own_volume : (rest : List TapeItem)
     → IsMount worked_set (block vol1 ∷ block hdr1 ∷ rest) foreign_reel → ⊥
@@ -75,20 +64,7 @@ cases_of_mounts = record {
 -- ---- histories
 
 pub cases_of_histories : CasesOfHistories
-cases_of_histories = record {
-  saved_and_back = λ set bytes. (refl, (refl, (refl, omega arith, (refl, omega arith, tt))));
-  no_note_yet = λ set h. let less = h.1 in absurd (omega (arith, less));
-  forgotten = λ set h. let less = h.2.1 in absurd (omega (arith, less));
-  other_note = λ set h. let e = h.0 in absurd (cc e);
-  reel_mounted = λ set bytes h m. (m, tt);
-  no_reel = λ set h x. x;
-  unasked = λ set h x. x;
-  left_out = λ set s x. x;
-  saved_course = refl;
-  back_course = refl;
-  last_note = refl;
-  same_course = refl;
-}
+cases_of_histories = grind (arith)
 
 -- ---- what readers gave
 
@@ -134,12 +110,7 @@ cases_of_given = record {
 -- ---- the images of all volumes
 
 pub cases_of_volumes : CasesOfVolumes
-cases_of_volumes = record {
-  one_image = λ id v files bytes end stop b. (omega arith, (end, stop, b), refl);
-  one_lacks = λ id v files e. absurd (omega (arith, e));
-  one_too_many = λ id v files bytes a. let less = a.0 in absurd (omega (arith, less));
-  a_reel_each = λ b c. refl;
-}
+cases_of_volumes = grind (arith)
 
 -- ---- what a session is
 
@@ -155,22 +126,7 @@ its_course : (s : Seen) (c : Point) → s.notes ≡ c ∷ []
 its_course s c one = rw one refl
 
 pub cases_of_sessions : CasesOfSessions
-cases_of_sessions = record {
-  its_course = its_course;
-  session = λ set s is. (is.at, is.notes);
-  one_note = λ set c parts stands. ([], ([], refl), stands, (parts, refl));
-  note_stands = λ set c parts n. (n.2, n.3);
-  kept_note = kept_note;
-  ran = λ set old new hs r. (r.session, r.same_file, r.reached);
-  has_run = λ old new steps bytes left set hs r lawful history is.
-      (r.ran set hs lawful history is, r.are_given, r.count);
-  starts = λ id file s is. (is.place, is.no_notes, is.no_failures, is.no_parts);
-  begins_file = λ set file s is lawful some.
-      let new = is.each set lawful refl some in (new.session, new.its_file, new.course);
-  was_read = λ set file steps bytes left s hs r lawful some history.
-      let led = r.reads set hs lawful refl some history in
-      (led.0, led.1, r.are_given, r.count);
-}
+cases_of_sessions = grind (arith)
 
 -- ---- steps that succeeded, and runs that stopped
 

@@ -75,18 +75,7 @@ cases_of_catalogues = record {
 -- ---- images and copies
 
 pub cases_of_images : CasesOfImages
-cases_of_images = record {
-  ends_at = λ place xs ys takes. (place, takes);
-  ends_by = λ xs ys s. s.1;
-  breaks_off = λ fault xs ys s. s;
-  added = λ before after old new line a. (a.counted, a.stop, a.noted, a.places, a.good);
-  nothing_shows = λ key entry s. absurd (let e = s.volume.first in cc e);
-  shown = λ xs key entry s. (s.blocks, s.stands);
-  shown_labels = λ xs key entry s. (s.volume, s.head, s.second, s.ends);
-  headed = λ bytes key h. (h.is, h.set_id, h.file, h.sect);
-  ended = λ bytes key entry e. (e.is, e.file, e.sect, e.count, e.kind);
-  named = λ xs volume b. (b.first, b.is, b.named);
-}
+cases_of_images = grind (arith)
 
 each_volume : (id : List ℕ) (v : Volume) (files : List (List Section))
     → HasEach (on_one_volume id v files) (1 ∷ 1 ∷ [])
@@ -148,20 +137,4 @@ first_mounted : (a b : Reel) (left : List Reel)
 first_mounted a b left (i, s, (at, then), is, same) = same ∙ then
 
 pub cases_of_reports : CasesOfReports
-cases_of_reports = record {
-  report = λ reels text found r. (r.read, r.told, r.all);
-  a_line_each = λ reel c d are. are;
-  no_more_lines = λ line c d are. are;
-  not_opened = λ line c d is. is;
-  opened = λ before c d is. is;
-  unopened_adds_none = λ c d is. is;
-  tells = λ reel c d old new t. (t.1, t.2);
-  all_mounted = λ a b left old new found r.
-      (two_mounted a b r.reels left r.mounted r.all, r.report, r.wrote);
-  no_summary_before = λ left d. refl;
-  summary_last = λ d. refl;
-  in_part = λ a b left old new r. (r.counted, r.few.0, r.few.1, r.read);
-  first_mounted = first_mounted;
-  other_fault = other_fault;
-  faults = (inl refl, inr refl);
-}
+cases_of_reports = grind (arith, two_mounted)

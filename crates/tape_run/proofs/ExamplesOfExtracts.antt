@@ -2,9 +2,9 @@
 use Rattle.std.proofs.Common.{◌≡◌, ◌⊎◌, inl, inr, ℕ, List, [], ◌∷◌, Some, None, refl, sym, ap}
 use Rattle.std.proofs.Common.{subst, ◌∙◌, false, true, length, arith, Bool, Option, get_or, map}
 use Rattle.std.proofs.Common.{set, slice_get, ◌-◌}
-use Rattle.tape_run.specs.Reeling.{IsNoted, goes_back, IsKeptFor, counts_differ}
+use Rattle.tape_run.specs.Reeling.{IsNoted, goes_back, IsKeptFor}
 use Rattle.tape_run.specs.Reeling.{Turn, IsTurn, Took, AreTurns, AreFirstTurns, answer_of}
-use Rattle.tape_run.specs.{Stopping.NotNoted, Stopping.StopsAt, Seen.Seen, Seen.seen}
+use Rattle.tape_run.specs.{Stopping.StopsAt, Seen.Seen, Seen.seen}
 use Rattle.tape_run.specs.{Steps.WentBack, ReelLine.reel_lines, RecordText.output_of}
 use Rattle.tape_run.specs.{Causes.CannotEnd, Extracting.IsWritten, Extracting.TellsEnd}
 use Rattle.tape_core.specs.{Stands.weight_of, Table.saved, Point.Point, Weight.Rose}
@@ -16,6 +16,7 @@ use Rattle.tape_set.specs.declared.position.{Position.TheVariants.Finished, Want
 use Rattle.tape_run.specs.CasesOfExtracts.{CasesOfTurns, CasesOfOutputs, Listed, as_sink, Known}
 use Rattle.tape_run.specs.CasesOfExtracts.{Readers, ExtractsListed, StopsListed, StopsListedNow}
 use Rattle.tape_run.specs.CasesOfExtracts.{CasesOfCauses, FailsEmpty, FailsUnknown}
+use Rattle.tape_run.proofs.Fitting.{whole_text}
 use Rattle.tape_core.specs.declared.sink.SinkFault.{SinkFault}
 use Rattle.tape_core.specs.declared.sink.SinkFault.TheVariants.{Device, Failed}
 use Rattle.tape_run.specs.declared.fault.EngineFault.TheVariants.{Run}
@@ -77,12 +78,7 @@ stopped_in_reel : (bytes : List ℕ) (old new : Seen)
     → StopsAt (λ (r : Known). r) false old (Some (Some bytes)) (Run OutOfMemory) new
     → new.notes ≡ old.notes
 stopped_in_reel bytes old new (inl same) = ap (λ (s : Seen). s.notes) same
-stopped_in_reel bytes old new (inr (left, answer, mid, r, n)) =
-    ap (λ (s : Seen). s.notes) (by (counts_differ answer.answer) n) ∙ r.notes
-  where
-    by : (doubtful : Bool) → NotNoted false doubtful OutOfMemory mid new → new ≡ mid
-    by false same = same
-    by true none = absurd none
+stopped_in_reel bytes old new (inr (left, answer, mid, r, n)) = grind (arith)
 
 pub cases_of_turns : CasesOfTurns
 cases_of_turns = record {
@@ -155,8 +151,9 @@ output_stopped : (session behind : Listed) (shelf left : Readers) (form : Form)
 output_stopped session behind shelf left form out now said says none s =
     let (last, seen, follows, stood, tells, wrote) =
     s.follows session.sink refl (none_kept session none) in elim wrote [
-      | inl same ↦ inl same
-      | inr more ↦ inr (seen, more.0, more.1)
+      | inl same ↦ inl same.0
+      | inr (done, inl (part, less)) ↦ inr (seen, done, part)
+      | inr (done, inr all) ↦ inr (seen, done, whole_text _ _ _ all)
     ]
 
 last_line_tells : (p : Seen) (want : Option Want) (records : ℕ)
@@ -175,7 +172,7 @@ last_line_of : (session behind : Listed) (shelf left : Readers) (form : Form)
 last_line_of session behind shelf left form out now said says none s =
     let (last, seen, follows, stood, tells, wrote) =
     s.follows session.sink refl (none_kept session none) in
-    (seen, tells, elim wrote [ inl same ↦ inl same | inr more ↦ inr more.0 ])
+    (seen, tells, elim wrote [ inl same ↦ inl same.0 | inr more ↦ inr more.0 ])
 
 last_line_of_now : (session : Listed) (shelf left : Readers) (form : Form)
     (out now said says : Known) (s : StopsListedNow session shelf left form out now said says)
@@ -270,20 +267,4 @@ ends_but_for_it form (inl e) = cc e
 ends_but_for_it form (inr other) = other refl
 
 pub cases_of_causes : CasesOfCauses
-cases_of_causes = record {
-  refused_writing = refused_writing;
-  told_refusal = inl (record {
-    mid = 3;
-    calm = refl;
-    why = refl;
-    counted = inl (omega arith);
-  });
-  only_failed = only_failed;
-  fewer_given = inr (refl, λ parts none. none);
-  no_other_fault = λ old new. (λ h. h, λ h. h, λ h. h, λ h. h);
-  write_failed = λ old new h. h;
-  not_ended = λ begun form asked fault h. h;
-  two_reasons = λ begun form asked. ((refl, inl refl), λ other. (refl, inr other));
-  writer_failed = λ begun form asked h. (λ e. h (inl e), λ other. h (inr other));
-  ends_but_for_it = ends_but_for_it;
-}
+cases_of_causes = grind (arith)

@@ -1,11 +1,11 @@
 -- The test cases for the laws.
-use Rattle.std.proofs.Common.{◌≡◌, ◌≢◌, ℕ, List, [], ◌∷◌, Some, None, refl, ap, sym, ◌∙◌, subst}
+use Rattle.std.proofs.Common.{◌≡◌, ℕ, List, [], ◌∷◌, Some, None, refl, ap, sym, ◌∙◌, subst}
 use Rattle.std.proofs.Common.{arith, true, false, inr, MatchOption, Option}
 use Rattle.tape_blocks.specs.Block.{Portion}
 use Rattle.tape_set.specs.{Before.before, Layout.FileSet, Lawful.IsLawful, Reach.far}
 use Rattle.tape_set.specs.Reading.{Reading}
 use Rattle.tape_core.specs.{Point.Point, Stands.Stands}
-use Rattle.tape_run.specs.declared.{script.Step.TheVariants.Reel, section.SectionKey.SectionKey}
+use Rattle.tape_run.specs.declared.{script.Step.TheVariants.Reel}
 use Rattle.tape_run.specs.{Headline.HasRun, History.Course, History.IsHistory, CrashRuns.IsResumed}
 use Rattle.tape_run.specs.{CrashRuns.ResumedGoesOn, Mount.reads, Seen.Seen, OneEntry.HasOneEach}
 use Rattle.tape_run.specs.{Passing.Told, CasesOfCatalogues.met, CasesOfLaws.CasesOfRunLaws}
@@ -57,12 +57,7 @@ first_lacks law c id file sect e =
     subst (λ l. MatchOption l (IsFoundWhole c id file) (IsFirstLack c id file)) e (law c id file)
 
 two_entries : HasOneEach (met 1 1 false Good ∷ met 1 2 true Cut ∷ [])
-two_entries = ((apart, tt), (tt, tt))
-  where
-    apart : (met 1 2 true Cut).0 ≢ (met 1 1 false Good).0
-    apart e =
-        let n : 2 ≡ 1 = ap (λ (key : SectionKey). key.sect) e in
-        absurd (omega (arith, n))
+two_entries = grind (arith)
 
 pub cases_of_catalogue_laws : CasesOfCatalogueLaws
 cases_of_catalogue_laws = record {

@@ -1,12 +1,10 @@
 -- The examples for a reel's answer, and for where the table leads for any tapes.
-use Rattle.std.proofs.Common.{◌≡◌, ◌+◌, [], ◌∷◌, Some, refl, ap, ◌∙◌, inl, inr, arith}
+use Rattle.std.proofs.Common.{◌≡◌, [], ◌∷◌, refl, inl, inr, arith}
 use Rattle.tape_image.specs.declared.item.Ending.TheVariants.{Physical}
 use Rattle.tape_image.specs.Begins.{ends}
 use Rattle.tape_label.specs.{Kinds.kind_at, VolumeLabels.is_volume_label}
 use Rattle.tape_label.specs.Reading.{head_at, head1_at, head2_at, format_at, offset_at}
 use Rattle.tape_blocks.specs.{Units.unit_at, Parts.parts_by, Judged.judged}
-use Rattle.tape_set.specs.Position.{part_of}
-use Rattle.tape_core.specs.{State.State, Table.step_of}
 use Rattle.tape_core.specs.declared.event.Answer.TheVariants.{Complete}
 use Rattle.tape_run.specs.declared.script.Step.TheVariants.{Save, Restart}
 use Rattle.tape_run.specs.{Lead.Lead, Lead.lead, Reels.GoesOn}
@@ -19,49 +17,12 @@ ended (inl e) = absurd (cc e)
 ended (inr e) = absurd (cc e)
 
 pub cases_of_answers : CasesOfAnswers
-cases_of_answers = record {
-  complete_reads_nothing = λ core new bytes left answer r. r;
-  else_a_reel = λ core new bytes left answer r. r;
-  goes_on = (inl refl, inr refl, ended);
-  blocks = refl;
-  on = λ core new bytes left answer r. (r.on, r.blocks);
-  by_item = λ core new items bytes left answer e. (e.last, e.final, e.no_fault, e.taken);
-  by_medium = λ core new items bytes left answer e. (e.last, e.no_fault, e.taken);
-  by_fault = λ core new items bytes left answer e. (e.last, e.told, e.taken);
-  memory_left_all = λ core new old left l. l;
-  sink_left = λ core new cause old left l. l;
-  stops_at_part = λ core after new (part, begun, from, place). (
-    part,
-    from,
-    ap (λ (z : State). z.position) place ∙ refused_position core after part begun,
-  );
-  to_block = λ core new bytes left r. (r.on, r.delivers, r.stops, r.taken);
-}
+cases_of_answers = grind (arith, ended, refused_position)
 
 pub cases_of_table : CasesOfTable
 unfolding kind_at head_at head1_at head2_at format_at offset_at is_volume_label parts_by
     unit_at judged
-cases_of_table = record {
-  passed_gives_none = λ item p known. refl;
-  mark_gives_none = λ p known. refl;
-  bad_gives_none = λ p known. refl;
-  unknown_gives_none = λ p content. refl;
-  from_its_front = refl;
-  from_its_part = refl;
-  one_block = refl;
-  behind_one = refl;
-  led = λ xs core new held now l. (l.place, l.parts);
-  stops = λ core new item held now s. (s.delivers, s.parts, s.position, s.within);
-  stops_at_first = λ core new item held now s none.
-      s.place ∙ stands_first core (step_of core (Some item)).1 _ _ (omega (arith, none));
-  stops_behind = λ core new item held now s some.
-      let behind = stands_behind core (step_of core (Some item)).1
-      (part_of core.position + s.more) _ (omega (arith, some)) in (
-        ap (λ (z : State). z.known) s.place ∙ behind.0,
-        λ none. ap (λ (z : State). z.begun) s.place ∙ behind.1 none,
-      );
-  cut_at = λ xs core new held now c. (c.all, c.stops);
-}
+cases_of_table = grind (arith, stands_first, stands_behind)
 
 parts_back : (t : Lead) → t.notes ≡ [] → (lead t (Save ∷ Restart 0 ∷ []) []).parts ≡ t.parts
 parts_back t none = rw none refl

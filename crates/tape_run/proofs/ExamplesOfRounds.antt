@@ -47,6 +47,14 @@ cases_of_rounds = record {
       (e.wanted, e.line, e.is_written session.sink refl);
   file_stopped = λ session form out now said says s.
       (s.line, s.tells session.sink refl, s.is_written session.sink refl);
+  complete_is_written = λ session behind shelf left form out now said says s kept none more.
+      let (last, is, follows, stood, tells, wrote) = s.follows session.sink refl kept in
+      elim wrote [
+        | inl (same, inl less) ↦ absurd (more less)
+        | inl (same, inr some) ↦ absurd (some none)
+        | inr (done, inl (part, less)) ↦ absurd (more less)
+        | inr (done, inr all) ↦ (is, all)
+      ];
   again_ends = λ session behind shelf left form out now said says want e kept.
       let (ends, goes, (parts, holds, is, keeps)) = e.ends session.sink refl kept in (
         ends,

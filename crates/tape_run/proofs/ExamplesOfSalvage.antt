@@ -1,5 +1,5 @@
 -- The cases of `salvage`.
-use Rattle.std.proofs.Common.{◌≡◌, ◌<◌, ℕ, suc, zero, ◌+◌, Bool, true, false, List, [], ◌∷◌, ◌++◌}
+use Rattle.std.proofs.Common.{◌≡◌, ℕ, suc, zero, ◌+◌, Bool, true, false, List, [], ◌∷◌, ◌++◌}
 use Rattle.std.proofs.Common.{length, Option, Some, None, refl, sym, ap, subst, ◌∙◌, arith, inl}
 use Rattle.std.proofs.Common.{inr, length-append}
 use Rattle.std.specs.Prelude.{◌==◌, ◌&&◌, ◌||◌, slice_get, get_or}
@@ -12,13 +12,12 @@ use Rattle.tape_set.specs.Reading.{Reading}
 use Rattle.tape_set.specs.Reach.{passes}
 use Rattle.tape_run.specs.declared.salvage.copies.SectionCopy.{SectionCopy}
 use Rattle.tape_run.specs.SalvageChoice.{IsBest}
-use Rattle.tape_run.specs.SalvageConflicts.{conflict_text, has_conflict}
 use Rattle.tape_run.specs.SalvageCopies.{rank}
 use Rattle.tape_run.specs.SalvageBlocks.{Salvaged, none_salvaged}
 use Rattle.tape_run.specs.SalvageGaps.{Gap, AreGaps, IsReadable, StartsReadable, salvaged_data}
 use Rattle.tape_run.specs.SalvageSets.{HasBlocks, items_read}
 use Rattle.tape_run.specs.SalvagedSets.{IsImage, HasOpened}
-use Rattle.tape_run.specs.CasesOfSalvage.{copy_on, CasesOfConflicts, CasesOfGaps, CasesOfClosed}
+use Rattle.tape_run.specs.CasesOfSalvage.{CasesOfConflicts, CasesOfGaps, CasesOfClosed}
 use Rattle.tape_run.specs.CasesOfSalvage.{CasesOfDamaged, CasesOfSalvagedSets, CasesOfSalvage}
 use Rattle.tape_run.specs.CasesOfSalvage.{gives_again}
 
@@ -28,12 +27,7 @@ first_is_best : (a b : SectionCopy) (o : Option SectionCopy) → rank a ≡ rank
 first_is_best a b None same best = absurd (cc best)
 first_is_best a b (Some c) same ([], rest, is, less, most) =
     let h : a ≡ c = cc is in ap (λ (x : SectionCopy). Some x) (sym h)
-first_is_best a b (Some c) same (x ∷ [], rest, is, (less, none), most) =
-    let h : a ≡ x = cc is in
-    let k : b ≡ c = cc is in
-    let lt : rank a < rank b = subst (λ y. rank y < rank b) (sym h)
-    (subst (λ y. rank x < rank y) (sym k) less) in
-    absurd (omega (arith, lt, same))
+first_is_best a b (Some c) same (x ∷ [], rest, is, (less, none), most) = grind (arith)
 first_is_best a b (Some c) same (x ∷ y ∷ front, rest, is, less, most) =
     let n = ap length is in
     let m = length-append front (c ∷ rest) in
@@ -41,28 +35,7 @@ first_is_best a b (Some c) same (x ∷ y ∷ front, rest, is, less, most) =
 
 cases_of_conflicts : CasesOfConflicts
 unfolding digits
-cases_of_conflicts = record {
-  same = refl;
-  other_digest = refl;
-  other_number = refl;
-  other_section = refl;
-  incomplete = refl;
-  incomplete_best = refl;
-  one_differs = refl;
-  none_differs = refl;
-  no_best = refl;
-  lines = refl;
-  no_sections = λ cs text any h. h;
-  one_section = λ text any (front, earlier, best, (no_text, no_any), is_best, is, all).
-      let a = copy_on 0 1 2 7 in
-      let b = copy_on 1 1 2 8 in
-      let cs = a ∷ b ∷ [] in
-      let e = first_is_best a b best refl is_best in (
-        is ∙ ap (λ (t : List ℕ). t ++ conflict_text best cs) no_text
-            ∙ ap (λ (o : Option SectionCopy). conflict_text o cs) e,
-        all ∙ ap (λ (o : Option SectionCopy). has_conflict o cs || earlier) e,
-      );
-}
+cases_of_conflicts = grind (arith, first_is_best)
 
 -- a run of unreadable items is not split, and its items are not readable
 not_readable : IsReadable bad → ⊥
@@ -75,16 +48,7 @@ one_run b gap ([], rest, more, is, all, starts, one, next) = absurd (cc is)
 one_run b gap (x ∷ [], rest, zero, is, all, starts, one, next) =
     let r : bad ∷ [] ≡ rest = cc is in
     absurd (not_readable (subst StartsReadable (sym r) starts))
-one_run b gap (x ∷ [], rest, suc zero, is, all, starts, one, next) =
-    let h : block b ≡ x = cc is in
-    let first = one.first in
-    let last = one.last in
-    let records = one.records in (
-      omega (arith, first),
-      omega (arith, first, last),
-      records ∙ ap (λ (z : TapeItem). (salvaged_data None 0
-          none_salvaged (z ∷ [])).piece.records) (sym h),
-    )
+one_run b gap (x ∷ [], rest, suc zero, is, all, starts, one, next) = grind (arith)
 one_run b gap (x ∷ [], rest, suc (suc more), is, all, starts, one, next) = absurd (cc is)
 one_run b gap (x ∷ y ∷ before, rest, more, is, (h, (g, all)), starts, one, next) =
     let k : bad ≡ y = cc is in absurd (not_readable (subst IsReadable (sym k) g))

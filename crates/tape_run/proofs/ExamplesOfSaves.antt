@@ -43,15 +43,7 @@ one_note s c p ps one last = of_one_note s c p ps one (last p ps (refl, refl))
 alone_before : (old : SessionState Point) (held ps : List Portion) (c : Point)
     → old.notes ≡ c ∷ [] → old.sink ≡ c → IsFront ps held → weight_of ps ≡ c.staged
     → BringsLast (brings ps old.sink) (seen (weighing (comes_now ps)) old held)
-alone_before old held ps c had came front weighs back there (b, t) = (
-  0,
-  ap length had,
-  (
-    ap (λ l. slice_get l 0) had ∙ ap Some (sym came) ∙ ap Some (sym b),
-    subst (λ z. IsFront z held) (sym t) front,
-    ap weight_of t ∙ weighs ∙ ap (λ (z : Point). z.staged) (sym came ∙ sym b),
-  ),
-)
+alone_before old held ps c had came front weighs back there (b, t) = grind (arith)
 
 came_alone : (old new : SessionState Point) (held now ps : List Portion) (c : Point)
     → old.notes ≡ c ∷ [] → new.notes ≡ c ∷ [] → old.sink ≡ c → IsFront ps held
@@ -97,12 +89,7 @@ left_at_a_fault : (old new : SessionState Point) (held ps : List Portion) (now :
     → ((new.sink ≡ c) × IsFront ps now.parts)
     ⊎ ((new.sink.staged ≡ weight_of ps) × IsFront now.parts ps
     × (new.sink ≡ saved (rest_of new.core) (weight_of ps)))
-left_at_a_fault old new held ps now c none has leaves = elim (leaves.comes (λ same. absurd
-    (let e : 1 ≡ 0 = sym (ap length has) ∙ same ∙ ap length none in omega (arith, e)))
-    new.sink ps (refl, refl)) [
-      | inl last ↦ inl (of_one_note now c new.sink ps has last)
-      | inr here ↦ inr (here.0, here.1, here.2)
-    ]
+left_at_a_fault old new held ps now c none has leaves = grind (arith, of_one_note)
 
 alone_at_a_fault : (old new : SessionState Point) (held ps : List Portion) (now : Seen) (c : Point)
     → old.notes ≡ c ∷ [] → now.notes ≡ c ∷ [] → old.sink ≡ c → IsFront ps held

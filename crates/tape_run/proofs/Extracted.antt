@@ -1,5 +1,5 @@
 -- The result if all images were read, or if a fault ended the run.
-use Rattle.std.proofs.Common.{◌≡◌, ◌≢◌, Bool, ℕ, ◌⊎◌, List, [], Option, append-nil}
+use Rattle.std.proofs.Common.{◌≡◌, ◌≢◌, Bool, ℕ, List, [], Option, append-nil}
 use Rattle.std.proofs.Common.{None, refl, sym, ap, subst, ◌∙◌, inl, inr, false}
 use Rattle.std.specs.Io.KnownBytes.{Appends}
 use Rattle.std.proofs.KnownBytes.{Appends-trans}
@@ -15,7 +15,6 @@ use Rattle.tape_run.specs.Seen.{Seen, seen, IfSeen}
 use Rattle.tape_run.specs.SessionState.{SessionState}
 use Rattle.tape_blocks.specs.declared.parts.Form.{Form}
 use Rattle.tape_image.specs.Written.{AppendsFront}
-use Rattle.tape_run.specs.RecordText.{output_of}
 use Rattle.tape_run.specs.ReelLine.{last_line}
 use Rattle.tape_run.specs.Reeling.{Turn, TakesAll, Follows, goes_back}
 use Rattle.tape_run.specs.Stopping.{StopsReading}
@@ -23,6 +22,7 @@ use Rattle.tape_run.specs.declared.fault.EngineFault.{EngineFault}
 use Rattle.tape_run.specs.declared.fault.EngineFault.TheVariants.{WriteFailed}
 use Rattle.tape_run.specs.Reeling.{Mounting}
 use Rattle.tape_run.specs.Extracting.{Ends, Extracts, Stops, EndsFile, StopsAtEnd, TellsEnd}
+use Rattle.tape_run.specs.Extracting.{Leaves, LeavesOutput}
 use Rattle.tape_image.proofs.Pieces.{front_more, front_behind}
 use Rattle.tape_run.proofs.Lasting.{stood_walked}
 use Rattle.tape_run.proofs.Left.{left_walked}
@@ -103,7 +103,7 @@ stops_reading {S} {L} {R} {W} gs size gives remaining old new shelf
       told = s.told;
       follows = λ held was kept.
           let (core, now, f, leaves, stopped) = s.follows held was kept in
-          (core, now, f, (leaves, stopped), inl s.lines, inl refl);
+          (core, now, f, (leaves, stopped), inl s.lines, inl (refl, inl s.lines));
     }
 
 -- after the lines of all images, nothing of the last line
@@ -111,6 +111,19 @@ pub less_then : (said between says : Option (List ℕ)) (lines : List ℕ) → A
     → AppendsFront between says [] → AppendsFront said says lines
 less_then said between says lines before none = subst (AppendsFront said says) (append-nil lines)
     (front_behind said between says lines [] before none)
+
+-- less of the report also means less of a longer one
+pub leaves_more : (less more : Type 0) (want : Option Want) (untouched finished some all : Type 0)
+    → (less → more) → Leaves less want untouched finished some all
+    → Leaves more want untouched finished some all
+leaves_more less more want untouched finished some all f (inl (same, inl none)) =
+    inl (same, inl (f none))
+leaves_more less more want untouched finished some all f (inl (same, inr wanted)) =
+    inl (same, inr wanted)
+leaves_more less more want untouched finished some all f (inr (done, inl (part, none))) =
+    inr (done, inl (part, f none))
+leaves_more less more want untouched finished some all f (inr (done, inr wrote)) =
+    inr (done, inr wrote)
 
 -- after the lines of all images, nothing more
 pub told_then : (said between says : Option (List ℕ)) (lines : List ℕ) → Appends said between lines
@@ -163,7 +176,8 @@ stops_at_end {S} {L} {R} {W} gs size gives remaining old mid new
             ),
             tells_then said between says _ e.want e.records (seen gs mid now) t.lines
                 (e.tells now has),
-            e.is_written now has,
+            leaves_more _ _ e.want _ _ _ _ (less_then said between says _ t.lines)
+                (e.is_written now has),
           );
     }
 
@@ -174,8 +188,7 @@ pub ends_in_part : {S W : Type 0} (g : Ghosts S) (session : SessionState S)
     → AppendsFront said says (last_line want records)
     → (fault ≢ WriteFailed → says ≡ said)
     → IfSeen g session (TellsEnd (AppendsFront said says []) want records)
-    → IfSeen g session (λ is. (written ≡ out) ⊎ ((session.core.position ≡ Finished)
-    × AppendsFront (contents out) (contents written) (output_of form is.parts)))
+    → IfSeen g session (LeavesOutput (AppendsFront said says []) want form contents out written)
     → StopsAtEnd g session form contents out written said says fault
 ends_in_part g session form contents out written said says want records fault line told tells
     wrote =

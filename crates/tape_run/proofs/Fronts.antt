@@ -1,11 +1,11 @@
 -- A prefix of a mount is a mount.
 use Rattle.std.proofs.Common.{◌≡◌, ◌≢◌, ◌≤◌, ℕ, zero, suc, ◌+◌, List, [], ◌∷◌, ◌++◌, Bool, true}
 use Rattle.std.proofs.Common.{false, length, take, refl, sym, ap, subst, ◌∙◌, arith, length-append}
-use Rattle.std.proofs.Common.{if◌then◌else◌, drop, ◌&&◌, Option}
+use Rattle.std.proofs.Common.{if◌then◌else◌, drop, Option}
 use Rattle.tape_image.specs.{Tape.TapeItem, Tape.block, Tape.bad, Tape.mark, Begins.Walks}
 use Rattle.tape_image.proofs.{Leads.Leads-before, Existence.Begins-some, Callers.walked_front}
-use Rattle.tape_label.specs.{Kinds.kind_at, VolumeLabels.is_volume_label, Reading.head1_at}
-use Rattle.tape_core.specs.Foreign.{starts_set, labels_of_set, is_of_set, is_vol1}
+use Rattle.tape_label.specs.{VolumeLabels.is_volume_label, Reading.head1_at}
+use Rattle.tape_core.specs.Foreign.{starts_set, labels_of_set, is_of_set}
 use Rattle.tape_set.specs.Layout.{FileSet, items, entries}
 use Rattle.tape_set.specs.{Reading.Reading, Reading.as_read, Reach.passes}
 use Rattle.tape_run.specs.Mount.{MountEvent, reads, foreign_reel, saves, restarts, IsCopy, IsMount}
@@ -48,13 +48,7 @@ front_read is [] (y ∷ ys) rest more fits e = record {
 }
 front_read [] (g ∷ good) (y ∷ ys) rest more fits e = absurd (omega (arith, fits))
 front_read (x ∷ is) (g ∷ good) (y ∷ ys) rest more fits e =
-    let next = front_read is good ys rest more (omega (arith, fits)) (ap (drop 1) e) in
-    let same : (if g then x else bad) ≡ y = ap head_of e in
-    record {
-      left = next.left;
-      whole = ap (λ z. z ∷ ys) (sym same) ∙ ap (λ z. (if g then x else bad) ∷ z) next.whole;
-      behind = λ n. ((next.behind n).0, ap (λ z. g ∷ z) (next.behind n).1);
-    }
+    grind (arith, front_read is good ys rest more (omega (arith, fits)) (ap (drop 1) e))
 
 pub front_of_copy : (set : FileSet) (ys rest : List TapeItem) (r : Reading)
     → IsCopy set (ys ++ rest) r
@@ -97,12 +91,7 @@ labels_more set_id (mark ∷ ys) rest h = absurd (cc)
 starts_more : (set_id : List ℕ) (ys rest : List TapeItem) → starts_set set_id ys ≡ true
     → starts_set set_id (ys ++ rest) ≡ true
 starts_more set_id [] rest h = absurd (cc)
-starts_more set_id (block b ∷ ys) rest h = by_kind (is_vol1 (kind_at b)) h
-  where
-    by_kind : (is : Bool) → (is && labels_of_set set_id ys) ≡ true
-        → (is && labels_of_set set_id (ys ++ rest)) ≡ true
-    by_kind true h = labels_more set_id ys rest h
-    by_kind false h = h
+starts_more set_id (block b ∷ ys) rest h = grind (arith, labels_more)
 starts_more set_id (bad ∷ ys) rest h = absurd (cc)
 starts_more set_id (mark ∷ ys) rest h = absurd (cc)
 

@@ -14,7 +14,7 @@ use Rattle.tape_run.specs.declared.script.Step.TheVariants.{Reel, Save, Restart}
 use Rattle.tape_run.specs.{Given.failed_of, Given.counted, Given.counted_up, Seen.Seen}
 use Rattle.tape_run.specs.{Seen.AreNotes, Seen.IsSession, Steps.Reeled, Steps.Saved, Steps.WentBack}
 use Rattle.tape_run.specs.{Runs.Runs, Headline.Ran, Headline.HasRun}
-use Rattle.tape_run.specs.History.{after, course, course_of, IsHistory}
+use Rattle.tape_run.specs.History.{after, course_of, IsHistory}
 use Rattle.tape_core.proofs.Standing.{stood, noted}
 use Rattle.tape_run.proofs.Lead.{led_nothing, led_reel, led_save, led_restart}
 use Rattle.tape_run.proofs.Notes.{same_front, notes_grow, notes_push, note_at}
@@ -91,12 +91,7 @@ restart_steps set old new n w s =
 
 pub step_then_run : (set : FileSet) (old mid new : Seen) (h : MountEvent) (hs : List MountEvent)
     → Stepped set old h mid → Ran set mid hs new → Ran set old (h ∷ hs) new
-step_then_run set old mid new h hs a b = record {
-  session = b.session;
-  same_file = b.same_file ∙ a.same_file;
-  reached = rw a.moved (subst (λ (file : ℕ). course set file (course_of mid) hs ≡ course_of new)
-      a.same_file b.reached);
-}
+step_then_run set old mid new h hs a b = grind (arith)
 
 nothing_ran : (set : FileSet) (old new : Seen) (bytes : List (List ℕ)) (hs : List MountEvent)
     → new ≡ old → IsHistory set (length old.notes) [] bytes hs → IsSession set old

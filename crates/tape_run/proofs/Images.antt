@@ -65,14 +65,7 @@ item_at xs taken rest item e =
 -- The start, with no item of the image read.
 pub none_taken : (core : State) (held : List Portion) (left : Option (List ℕ)) (place : ℕ)
     → place ≡ 0 → IfKnown left left (SoFar core core held held place)
-none_taken core held left place first =
-    known_same left left (SoFar core core held held place) refl (λ bytes. rw first (record {
-      items = [];
-      walks = Walks-nil 0 bytes;
-      core = refl;
-      parts = sym (append-nil held);
-      so_far = λ set p xs rest h l m e at u. (at, u);
-    }))
+none_taken core held left place first = grind (arith, known_same, Walks-nil, append-nil)
 
 -- The core processed the event, and the sink received the parts that it delivers.
 pub record IsTaken (came : Option TapeItem) (answer : Answer) (old new : State)

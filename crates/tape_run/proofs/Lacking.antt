@@ -45,13 +45,7 @@ lack_here c set_id file sect n (Some false) e least most before rest =
 
 lack_from : (c : List Told) (set_id : List ℕ) (file sect n : ℕ) → 1 ≤ sect → sect + n ≡ 10000
     → GoesOnTo c set_id file sect → Told_by c set_id file (first_lack c set_id file sect n)
-lack_from c set_id file sect zero least all before =
-    let last : sect ≡ 10000 = omega (arith, all) in
-    record {
-      numbered = (least, omega (arith, last));
-      goes_on = before;
-      lacks = λ few. absurd (omega (arith, few, last));
-    }
+lack_from c set_id file sect zero least all before = grind (arith)
 lack_from c set_id file sect (suc n) least all before =
     lack_here c set_id file sect n (good_end (entry_at c (key_at set_id file sect))) refl least
     (omega (arith, all)) before

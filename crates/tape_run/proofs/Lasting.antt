@@ -14,14 +14,7 @@ use Rattle.tape_run.proofs.Notes.{front_self, front_trans, same_front}
 
 pub last_same : {S : Type 0} (g : Ghosts S) (s : SessionState S) (held : List Portion)
     → KeepsLast g s held s held
-last_same g s held = record {
-  last = λ h. h refl;
-  survives = λ v. v;
-  no_fewer = omega arith;
-  later = omega arith;
-  since = λ t le same h. h;
-  survived = λ t le h. h;
-}
+last_same g s held = grind (arith)
 
 pub last_then : {S : Type 0} (g : Ghosts S) (a b c : SessionState S) (held mid now : List Portion)
     → KeepsLast g a held b mid → KeepsLast g b mid c now → KeepsLast g a held c now

@@ -58,24 +58,9 @@ noted_at front [] [] i c parts e h = absurd (cc)
 noted_at front [] (d ∷ ds) i c parts e h = absurd h
 noted_at front (n ∷ ns) [] i c parts e h = absurd h
 noted_at front (n ∷ ns) (d ∷ ds) zero c parts e (a, f, rest) =
-    let same : c ≡ d = cc in
-    record {
-      note = n;
-      found = refl;
-      is_front = noted_front n.parts ns ds parts rest;
-      point = same ∙ f;
-      left = (a, f, front_self n.parts);
-    }
+    grind (arith, noted_front, front_self)
 noted_at front (n ∷ ns) (d ∷ ds) (suc i) c parts e (a, f, rest) =
-    let next = noted_at n.parts ns ds i c parts e rest in
-    let more : suc i + 1 ≡ suc (i + 1) = omega arith in
-    record {
-      note = next.note;
-      found = next.found;
-      is_front = next.is_front;
-      point = next.point;
-      left = rw more ((a, f, next.left));
-    }
+    grind (arith, noted_at n.parts ns ds i c parts e rest)
 
 -- ---- one step
 

@@ -2,7 +2,7 @@
 use Rattle.std.proofs.Common.{◌≡◌, ◌⊎◌, ℕ, ◌+◌, ◌-◌, Bool, true, List, [], ◌∷◌, length, Some}
 use Rattle.std.proofs.Common.{slice_get, refl, sym, ap, subst, ◌∙◌, inl, inr, arith}
 use Rattle.tape_blocks.specs.Block.{Portion}
-use Rattle.tape_core.specs.Crash.{Returns, AddsNothing, AddsOnly}
+use Rattle.tape_core.specs.Crash.{AddsNothing, AddsOnly}
 use Rattle.tape_core.proofs.Crashes.{only_among, only_same, only_then}
 use Rattle.tape_core.specs.Place.{rest_of}
 use Rattle.tape_core.specs.Point.{Point}
@@ -10,7 +10,7 @@ use Rattle.tape_core.specs.Stands.{weight_of}
 use Rattle.tape_core.specs.Table.{saved}
 use Rattle.tape_core.specs.Weight.{IsFront}
 use Rattle.tape_core.specs.declared.sink.PartSink.{Ghosts}
-use Rattle.tape_run.specs.Crash.{IsHere, IsNoteOf, IsLast, IsHeld, BringsLast, KeepsLast}
+use Rattle.tape_run.specs.Crash.{IsHere, IsNoteOf, IsLast, IsHeld, KeepsLast}
 use Rattle.tape_run.specs.Crash.{LeavesStep, LeavesSaved, IsWalked}
 use Rattle.tape_run.specs.Reeling.{IsKeptFor}
 use Rattle.tape_run.specs.Seen.{Seen, seen, IsKept}
@@ -112,25 +112,7 @@ left_then {S} g goes a b c held now notes front kept adds =
 pub left_saved : {S : Type 0} (g : Ghosts S) (goes : Bool) (a b c : SessionState S)
     (held now : List Portion) → KeepsLast g a held b now
     → LeavesStep g goes b now c → LeavesSaved g a held (seen g b now) c
-left_saved {S} g goes a b c held now keeps step = record {
-  comes = λ h back there x. either (g.crashes b.sink).returns (keeps.last h) back there
-      (step.now back there x);
-  survives = λ x. step.survives (keeps.survives x);
-  no_fewer = keeps.no_fewer;
-  since = λ t le same h back there x. either ((g.crashes b.sink).returned t)
-      (keeps.since t le same h) back there
-      (step.since t back there (omega (arith, le, keeps.later)) x);
-  survived = λ t le x. step.survived t (omega (arith, le, keeps.later)) (keeps.survived t le x);
-}
-  where
-    either : (r : Returns) → BringsLast r (seen g b now) → (back : Point)
-        (there : List Portion)
-        → r back there ⊎ (((goes ≡ true) × IsLast (seen g b now) back there)
-        ⊎ IsHeld g now c back there)
-        → IsLast (seen g b now) back there ⊎ IsHeld g now c back there
-    either r brings back there (inl x) = inl (brings back there x)
-    either r brings back there (inr (inl (is, is_last))) = inl is_last
-    either r brings back there (inr (inr here)) = inr here
+left_saved {S} g goes a b c held now keeps step = grind (arith, seen)
 
 -- The images were processed, and then a walk over the sink was made.
 pub left_walked : {S : Type 0} (g : Ghosts S) (goes : Bool) (a b c : SessionState S)

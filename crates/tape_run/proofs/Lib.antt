@@ -174,6 +174,7 @@ mod MergeRounds
 mod MergeRefusals
 mod MergeCounts
 mod MergeLoops
+mod MergeMounted
 mod MergeJoins
 mod MergeBest
 mod MergeGiven

@@ -43,12 +43,7 @@ placed_lines-append : (offsets : Bool) (n : ℕ) (items more : List PlacedItem)
 placed_lines-append offsets n [] more =
     ap (λ m. placed_lines offsets m more) (let same : n ≡ n + 0 = omega arith in same)
 placed_lines-append offsets n (x ∷ items) more =
-    let lines = placed_lines offsets in
-    let same : n + 1 + length items ≡ n + length (x ∷ items) = omega arith in
-    ap (λ l. placed_line offsets n x ++ l) (placed_lines-append offsets (n + 1) items more
-    ∙ ap (λ m. lines (n + 1) items ++ lines m more) same)
-    ∙ sym (append_assoc (placed_line offsets n x) (lines (n + 1) items)
-    (lines (n + length (x ∷ items)) more))
+    grind (arith, append_assoc, placed_lines-append offsets (n + 1) items more)
 
 -- Of the bytes `all` the items up to an offset were read, and `left` is left; their lines were
 -- written.
@@ -67,12 +62,7 @@ met item p q = record { item = item; from = p; behind = q }
 pub one_line : (offsets : Bool) (items : List PlacedItem) (x : PlacedItem) (count : ℕ)
     → length items ≡ count → placed_lines offsets 1 (items ++ x ∷ [])
     ≡ placed_lines offsets 1 items ++ placed_line offsets (count + 1) x
-one_line offsets items x count counted =
-    let done = placed_lines offsets 1 items in
-    let number : 1 + length items ≡ count + 1 = omega arith in
-    placed_lines-append offsets 1 items (x ∷ [])
-    ∙ ap (λ n. done ++ (placed_line offsets n x ++ [])) number
-    ∙ ap (λ l. done ++ l) (append-nil (placed_line offsets (count + 1) x))
+one_line offsets items x count counted = grind (arith, placed_lines-append, append-nil)
 
 known_more : (all left next : Option (List ℕ)) (p q : ℕ) (items : List PlacedItem) (item : TapeItem)
     → IfKnown all left (Places 0 items p) → IfKnown left next (TakesItem p item q)
@@ -125,18 +115,7 @@ pub fails_at : (offsets : Bool) (all left next : Option (List ℕ))
     → IfKnown left next (TakesFault p [] fault) → Keeps mid new
     → IfKnown all next (PlacesToFault offsets fault old new)
 fails_at offsets all left next p count fault old mid new s near takes keeps =
-    known_then all left next (Places 0 s.items p) (TakesFault p [] fault)
-    (PlacesToFault offsets fault old new)
-    (λ xs ys zs stand t. record {
-      items = s.items;
-      at = p;
-      rest = ys;
-      stand = stand;
-      within = near;
-      takes = t;
-      wrote = kept old mid new (placed_lines offsets 1 s.items) s.wrote keeps;
-    })
-    s.known takes
+    grind (arith, known_then, kept)
 
 -- any cause except lack of memory
 pub fits_cause : (to_fault : ImageFault → Outcome) (cause : ImageCause) (fault : ImageFault)
@@ -213,10 +192,4 @@ pub line_is : (offsets : Bool) (size behind from p q n : ℕ) (extent : Option �
     → behind ≡ q → from ≡ p → line ≡ line_of n item
     → shown_line offsets behind size line ≡ placed_line offsets n (met item p q)
 line_is offsets size behind from p q n extent item line sized known ends begins tells =
-    let l = line_of n item in
-    let shown = shown_line offsets in
-    let of : ℕ → ℕ → ℕ = λ b f. unwrap_or (item_extent item) (b - f) in
-    ap (shown behind size) tells
-    ∙ ap (λ s. shown behind s l) (sized ∙ ap (λ x. unwrap_or x (behind - from)) known)
-    ∙ ap (λ b. shown b (of b from) l) ends
-    ∙ ap (λ f. shown q (of q f) l) begins
+    grind (arith)

@@ -103,15 +103,4 @@ pub file_done : (c : List Told) (sets : List SetFiles) (i file : ℕ) (x : SetFi
     → Some x ≡ slice_get sets i → file < x.1
     → lacks_from c sets i file
     ≡ one_lack x.0 (file + 1) (lack_of c x.0 (file + 1)) ++ lacks_from c sets i (file + 1)
-file_done c sets i file x at some =
-    let rest = set_lacks c (drop (i + 1) sets) in
-    let one = one_lack x.0 (file + 1) (lack_of c x.0 (file + 1)) in
-    let more = file_lacks c x.0 (file + 1 + 1) in
-    let left : 0 < x.1 - file = omega (arith, some) in
-    let fewer : x.1 - file - 1 ≡ x.1 - (file + 1) = omega (arith, some) in
-    let sets_are = drop_get sets i x at in
-    ap (lacks_after c file) sets_are
-    ∙ ap (λ l. l ++ rest) (lack_behind c x.0 (file + 1) (x.1 - file) left)
-    ∙ append_assoc one (more (x.1 - file - 1)) rest
-    ∙ ap (λ n. one ++ (more n ++ rest)) fewer
-    ∙ ap (λ l. one ++ l) (sym (ap (lacks_after c (file + 1)) sets_are))
+file_done c sets i file x at some = grind (arith, drop_get, lack_behind, append_assoc)

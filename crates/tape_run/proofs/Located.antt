@@ -104,12 +104,7 @@ pub nothing_read : {S L R : Type 0} (g : Ghosts S) (on : ℕ → Type 0) (gives 
     (remaining : R → Option (List ℕ)) (session : SessionState S) (shelf : L) (opened : Bool)
     (whole : Option (List ℕ)) (after : Option (Mounted R)) → IsHeld remaining after whole
     → ReadSoFar g on gives remaining session session shelf shelf opened whole after
-nothing_read g on gives remaining session shelf opened whole after held = record {
-  stretches = [];
-  are_read = refl;
-  held = held;
-  follows = λ parts was. (parts, was, refl);
-}
+nothing_read g on gives remaining session shelf opened whole after held = grind (arith)
 
 pub nothing_open : {S L R : Type 0} (g : Ghosts S) (on : ℕ → Type 0) (gives : Mounting L R)
     (remaining : R → Option (List ℕ)) (session : SessionState S) (shelf : L) (opened : Bool)

@@ -99,12 +99,7 @@ leads_on core new front more held now waits over led = elim (broken_or core.phas
 in_order : (core later : State) (key : FileKey) → is_finished core.position ≡ false
     → key.set_id ≡ core.set_id → key.file ≡ core.file → later.set_id ≡ key.set_id
     → key.file < later.file → is_finished later.position ≡ false → AreInOrder core later
-in_order core later key waits set file same less later_waits = record {
-  same_set = same ∙ set;
-  earlier = subst (λ n. n < later.file) file less;
-  first_waits = waits;
-  later_waits = later_waits;
-}
+in_order core later key waits set file same less later_waits = grind (arith)
 
 pub passes_front : (core new : State) (bytes left : List ℕ) (answer : ReelAnswer) (key : FileKey)
     → is_finished core.position ≡ false → key.set_id ≡ core.set_id → key.file ≡ core.file

@@ -1,10 +1,10 @@
 -- Steps of a run that succeeded, one after another.
 use Rattle.std.proofs.Common.{◌≡◌, ℕ, zero, suc, ◌+◌, Bool, true, false, List, [], ◌∷◌, drop}
 use Rattle.std.proofs.Common.{Option, Some, None, ◌≤◌, length, take, IfSome, refl, sym, ap, ◌∙◌}
-use Rattle.std.proofs.Common.{subst, inr, ◌<◌, arith, append-nil, ◌++◌, slice_set, slice_get}
+use Rattle.std.proofs.Common.{subst, ◌<◌, arith, append-nil, ◌++◌, slice_set, slice_get}
 use Rattle.std.proofs.lemmas.List.{append_assoc, take-append-drop, drop_all}
 use Rattle.tape_core.specs.{Crash.AddsNothing, Crash.Crashes, Weight.IsFront}
-use Rattle.tape_run.specs.{Crash.LastAlone, Crash.StoodAt, Given.written, Headline.LosesParts}
+use Rattle.tape_run.specs.{Crash.LastAlone, Given.written, Headline.LosesParts}
 use Rattle.tape_run.specs.{Made.HasMade, Made.IsMade, Made.WritesFrom, Runs.Runs, Runs.RunsUpTo}
 use Rattle.tape_run.specs.{Runs.Fails, Seen.Seen}
 use Rattle.tape_run.specs.declared.{fault.RunFault.RunFault, script.Step.Step}
@@ -28,56 +28,16 @@ reel_makes : (old mid : Seen) (o l : Option (List ℕ)) (failed : Bool)
     → IfSome o (λ bytes. Reeled bytes l failed old mid) → (readers : List (Option (List ℕ)))
     (steps : List Step)
     → HasMade 1 (failed ∷ []) old (Reel ∷ steps) (o ∷ readers) (l ∷ []) mid steps readers
-reel_makes old mid None l failed r readers steps = record {
-  runs = λ more behind end h. tt;
-  stops = λ more behind n fault end h. later _ _ _ _ _ n fault end (record {
-    step = h.step;
-    at = h.at;
-    mid = h.mid;
-    runs = tt;
-    fails = h.fails;
-  });
-  stood = λ behind back there h. tt;
-}
-reel_makes old mid (Some bytes) l failed r readers steps = record {
-  runs = λ more behind end h. (mid, r, h);
-  stops = λ more behind n fault end h. later _ _ _ _ _ n fault end (record {
-    step = h.step;
-    at = h.at;
-    mid = h.mid;
-    runs = (mid, r, h.runs);
-    fails = h.fails;
-  });
-  stood = λ behind back there h. inr ((failed, mid, r, h));
-}
+reel_makes old mid None l failed r readers steps = grind (arith, later)
+reel_makes old mid (Some bytes) l failed r readers steps = grind (arith, later)
 
 save_makes : (old mid : Seen) → Saved old mid → (readers : List (Option (List ℕ)))
     (steps : List Step) → HasMade 1 [] old (Save ∷ steps) readers [] mid steps readers
-save_makes old mid v readers steps = record {
-  runs = λ more behind end h. (mid, v, h);
-  stops = λ more behind n fault end h. later _ _ _ _ _ n fault end (record {
-    step = h.step;
-    at = h.at;
-    mid = h.mid;
-    runs = (mid, v, h.runs);
-    fails = h.fails;
-  });
-  stood = λ behind back there h. inr ((mid, v, h));
-}
+save_makes old mid v readers steps = grind (arith, later)
 
 restart_makes : (old mid : Seen) (k : ℕ) → WentBack k old mid → (readers : List (Option (List ℕ)))
     (steps : List Step) → HasMade 1 [] old (Restart k ∷ steps) readers [] mid steps readers
-restart_makes old mid k w readers steps = record {
-  runs = λ more behind end h. (mid, w, h);
-  stops = λ more behind n fault end h. later _ _ _ _ _ n fault end (record {
-    step = h.step;
-    at = h.at;
-    mid = h.mid;
-    runs = (mid, w, h.runs);
-    fails = h.fails;
-  });
-  stood = λ behind back there h. inr ((mid, w, h));
-}
+restart_makes old mid k w readers steps = grind (arith, later)
 
 -- a reel was read: the checkpoints are unchanged, and no part was removed
 pub reel_made : (old mid : Seen) (o l : Option (List ℕ)) (failed : Bool)
@@ -121,13 +81,7 @@ reel_failed old new (Some bytes) readers fault h = h
 
 pub made_none : (s : Seen) (steps : List Step) (readers : List (Option (List ℕ)))
     → HasMade 0 [] s steps readers [] s steps readers
-made_none s steps readers = record {
-  runs = λ more behind end h. h;
-  stops = λ more behind n fault end h.
-      let same : n ≡ 0 + n = omega arith in
-      subst (λ k. RunsUpTo more s steps readers behind k fault end) same h;
-  stood = λ behind back there h. h;
-}
+made_none s steps readers = grind (arith)
 
 pub made_more : (made : ℕ) (which one : List Bool) (old mid new : Seen)
     (steps left rest : List Step) (step : Step)
@@ -136,27 +90,7 @@ pub made_more : (made : ℕ) (which one : List Bool) (old mid new : Seen)
     → HasMade 1 one mid (step ∷ rest) others then new rest last
     → HasMade (made + 1) (which ++ one) old steps readers (unread ++ then) new rest last
 made_more made which one old mid new steps left rest step readers unread others then last e f g =
-    record {
-      runs = λ more behind end h.
-          subst (λ w. Runs w old steps readers ((unread ++ then) ++ behind) end)
-          (sym (append_assoc which one more))
-          (subst (λ u. Runs (which ++ (one ++ more)) old steps readers u end)
-          (sym (append_assoc unread then behind))
-          (f.runs (one ++ more) (then ++ behind) end (rw e (g.runs more behind end h))));
-      stops = λ more behind n fault end h.
-          let same : made + (1 + n) ≡ made + 1 + n = omega arith in
-          subst (λ k. RunsUpTo ((which ++ one) ++ more) old steps readers
-          ((unread ++ then) ++ behind) k fault end) same
-          (subst (λ w. RunsUpTo w old steps readers ((unread ++ then) ++ behind) (made + (1 + n))
-          fault end) (sym (append_assoc which one more))
-          (subst (λ u. RunsUpTo (which ++ (one ++ more)) old steps readers u (made + (1 + n))
-          fault end) (sym (append_assoc unread then behind))
-          (f.stops (one ++ more) (then ++ behind) (1 + n) fault end
-          (rw e (g.stops more behind n fault end h)))));
-      stood = λ behind back there h. subst (λ u. StoodAt old steps readers u back there)
-          (sym (append_assoc unread then behind))
-          (f.stood (then ++ behind) back there (rw e (g.stood behind back there h)));
-    }
+    grind (arith, append_assoc)
 
 -- no step is left
 pub all_made : (made : ℕ) (which : List Bool) (old end : Seen) (steps : List Step) (i : ℕ)

@@ -1,7 +1,7 @@
 -- The bytes that readers returned, of images whose bytes are known.
 use Rattle.std.proofs.Common.{◌≡◌, ℕ, ◌+◌, ◌*◌, ◌≤◌, List, [], ◌∷◌, ◌++◌, length, map}
-use Rattle.std.specs.Prelude.{IfOk, IfErr}
-use Rattle.std.proofs.Common.{Option, Some, Result, Ok, Err, sym, ap, subst}
+use Rattle.std.specs.Prelude.{IfOk, IfErr, OnOk, ◌≢◌}
+use Rattle.std.proofs.Common.{Option, Some, Result, Ok, Err, sym, ap, subst, refl, inr, suc}
 use Rattle.std.proofs.Common.{arith}
 use Rattle.tape_image.specs.Tape.{TapeItem}
 use Rattle.tape_image.specs.Begins.{image_limit, Stop, Begins, Walks}
@@ -139,19 +139,29 @@ are_begun _ _ _ _ _ front h begins = absurd h
 faults_images : {R : Type 0} (images : List (List ℕ)) (firsts nows : List (Reading R))
     (old new : Writer) (fault : MergeFault) → AreAtFront (map Some images) firsts
     → FitsFault firsts nows old new fault → FaultsImages images nows old new fault
-faults_images images firsts nows old new (faults.Differ n) front d = record {
-  readings = d.readings;
-  have = take_images images firsts nows d.readings front d.have;
-  up_to = d.up_to;
-  differ = d.differ;
-  for_good = λ all begins. differ_for_good d.readings all
-      (are_begun images firsts nows d.readings all front d.have begins) d.differ;
-  judged = d.judged;
+faults_images images firsts nows old new (faults.Differ n) front d = (
+  record {
+    readings = d.readings;
+    have = take_images images firsts nows d.readings front d.have;
+    up_to = d.up_to;
+    differ = d.differ;
+    for_good = λ all begins. differ_for_good d.readings all
+        (are_begun images firsts nows d.readings all front d.have begins) d.differ;
+    judged = d.judged;
+    merged = d.merged;
+    is = d.is;
+    count = d.count;
+  },
+  d.wrote,
+)
+faults_images images firsts nows old new faults.OutOfMemory front d = inr (record {
+  mids = d.mids;
+  fronts = d.fronts;
+  had = take_images images firsts d.mids d.fronts front d.had;
   merged = d.merged;
   is = d.is;
-  count = d.count;
-}
-faults_images images firsts nows old new faults.OutOfMemory front d = tt
+  wrote = d.wrote;
+})
 faults_images images firsts nows old new faults.Log front d = record {
   readings = d.readings;
   taken = take_images images firsts nows d.readings front d.taken;
@@ -190,3 +200,31 @@ pub err_images : {R : Type 0} (result : Result Merged MergeFault) (firsts nows :
 err_images (Ok m) firsts nows old new h = tt
 err_images (Err fault) firsts nows old new h =
     λ images front. faults_images images firsts nows old new fault front h
+
+-- ---- as many readings as before
+
+same_many : {R : Type 0} (firsts nows : List (Reading R)) (rs : List (List TapeItem))
+    → HaveTaken firsts nows rs → length nows ≡ length firsts
+same_many [] [] [] h = refl
+same_many (f ∷ firsts) (n ∷ nows) (r ∷ rs) h =
+    ap (λ (k : ℕ). suc k) (same_many firsts nows rs h.1)
+same_many _ _ _ h = absurd h
+
+pub ok_many : {R : Type 0} (result : Result Merged MergeFault) (firsts nows : List (Reading R))
+    (old new : Writer) (log logged : Option (List ℕ))
+    → IfOk result (λ m. Merges firsts nows m old new log logged)
+    → OnOk result (length nows ≡ length firsts)
+ok_many (Ok m) firsts nows old new log logged h = same_many firsts nows h.readings h.have
+ok_many (Err fault) firsts nows old new log logged h = tt
+
+pub err_many : {R : Type 0} (result : Result Merged MergeFault) (firsts nows : List (Reading R))
+    (old new : Writer) → IfErr result (FitsFault firsts nows old new)
+    → IfErr result (λ fault. fault ≢ faults.OutOfMemory → length nows ≡ length firsts)
+err_many (Ok m) firsts nows old new h = tt
+err_many (Err faults.OutOfMemory) firsts nows old new h = λ other. absurd (other refl)
+err_many (Err (faults.Differ n)) firsts nows old new h =
+    λ other. same_many firsts nows h.readings h.have
+err_many (Err faults.Log) firsts nows old new h =
+    λ other. same_many firsts nows h.readings h.taken
+err_many (Err (faults.Write fault)) firsts nows old new h =
+    λ other. same_many firsts nows h.readings h.taken

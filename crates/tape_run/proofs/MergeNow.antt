@@ -1,6 +1,6 @@
--- The result for the images of a source, from the result for their readings.
-use Rattle.std.proofs.Common.{◌≡◌, ◌⊎◌, ℕ, zero, suc, ◌+◌, List, [], ◌∷◌, ◌++◌, length}
-use Rattle.std.proofs.Common.{map, Option, Some, Result, Ok, Err, IfOk, IfErr}
+-- What merging readings comes to, and what a fault leaves.
+use Rattle.std.proofs.Common.{◌≡◌, ◌≢◌, ◌⊎◌, ℕ, zero, suc, ◌+◌, List, [], ◌∷◌, ◌++◌, length}
+use Rattle.std.proofs.Common.{map, Option, Some, Result, Ok, Err, IfErr}
 use Rattle.std.proofs.Common.{refl, sym, subst, ◌∙◌, inl, inr, arith, length-append}
 use Rattle.std.proofs.Common.{append_assoc, append-nil}
 use Rattle.std.specs.List.{flat_map}
@@ -20,12 +20,10 @@ use Rattle.tape_run.specs.declared.merge.now.MergeStop.{MergeStop}
 use Rattle.tape_run.specs.declared.merge.now.MergeStop.TheVariants as stops
 use Rattle.tape_run.specs.declared.merge.MergeFault.TheVariants as faults
 use Rattle.tape_run.specs.declared.merge.reading.Reading.{Reading}
-use Rattle.tape_run.specs.Reeling.{Mounting}
 use Rattle.tape_run.specs.MergeCalls.{AreAtFront, IfImages}
 use Rattle.tape_run.specs.MergedImages.{MergesImages, FaultsImages, DifferImages}
 use Rattle.tape_run.specs.MergeLines.{lines_from, reading_line, has_line, merged_line, differ_line}
-use Rattle.tape_run.specs.MergeNow.{MountsAll, EndsAs, end_bytes}
-use Rattle.tape_run.specs.MergeNow.{FitsEnd, HoldsMerged, ComesTo, IfMounted}
+use Rattle.tape_run.specs.MergeNow.{EndsAs, end_bytes, FitsEnd, HoldsMerged, ComesTo}
 use Rattle.tape_run.specs.MergeNow.{Misses, ReportsNoImage, LeavesPlace}
 use Rattle.tape_run.specs.MergeLog.{log_head, log_rows}
 use Rattle.tape_run.proofs.Fitting.{kept}
@@ -47,28 +45,7 @@ items_put (x ∷ items) old new (mid, put, then) =
       omega (arith, size, all.size, length-append (written x) (flat_map written items)),
     )
 
--- ---- from readings to images
-
-if_mounted : {L R : Type 0} (size : L → ℕ) (gives : Mounting L R) (remaining : R → Option (List ℕ))
-    (shelf left : L) (devices : List R) (firsts : List (Reading R)) (holds : List (List ℕ) → Type 0)
-    → MountsAll size gives shelf left devices → AreAtFront (map remaining devices) firsts
-    → IfImages firsts holds → IfMounted size gives remaining shelf left holds
-if_mounted size gives remaining shelf left devices firsts holds mounts front h = record {
-  devices = devices;
-  mounts = mounts;
-  comes = λ images is. h images
-      (subst (λ (l : List (Option (List ℕ))). AreAtFront l firsts) is front);
-}
-
-pub ok_now : {L R : Type 0} (result : Result MergeEnd MergeStop) (size : L → ℕ)
-    (gives : Mounting L R) (remaining : R → Option (List ℕ)) (shelf left : L) (devices : List R)
-    (firsts : List (Reading R)) (holds : MergeEnd → List (List ℕ) → Type 0)
-    → MountsAll size gives shelf left devices → AreAtFront (map remaining devices) firsts
-    → IfOk result (λ end. IfImages firsts (holds end))
-    → IfOk result (λ end. IfMounted size gives remaining shelf left (holds end))
-ok_now (Ok end) size gives remaining shelf left devices firsts holds mounts front h =
-    if_mounted size gives remaining shelf left devices firsts (holds end) mounts front h
-ok_now (Err stop) size gives remaining shelf left devices firsts holds mounts front h = tt
+-- ---- causes
 
 pub misses_more : (a b p q : ℕ → Type 0) (stop : MergeStop) → ((n : ℕ) → a n → b n)
     → ((n : ℕ) → p n → q n) → Misses a p stop → Misses b q stop
@@ -84,61 +61,7 @@ pub err_misses : {T : Type 0} (result : Result T MergeStop) (a b p q : ℕ → T
 err_misses (Ok end) a b p q f g h = tt
 err_misses (Err stop) a b p q f g h = misses_more a b p q stop f g h
 
-pub cause_now : {L R : Type 0} (result : Result MergeEnd MergeStop) (missing : ℕ → Type 0)
-    (size : L → ℕ) (gives : Mounting L R) (remaining : R → Option (List ℕ)) (shelf left : L)
-    (devices : List R) (firsts : List (Reading R)) (long : ℕ → List (List ℕ) → Type 0)
-    → MountsAll size gives shelf left devices → AreAtFront (map remaining devices) firsts
-    → IfErr result (Misses (λ _. ⊥) (λ n. IfImages firsts (long n)))
-    → IfErr result (Misses missing (λ n. IfMounted size gives remaining shelf left (long n)))
-cause_now result missing size gives remaining shelf left devices firsts long mounts front h =
-    err_misses result (λ _. ⊥) missing (λ n. IfImages firsts (long n)) _ (λ n no. absurd no)
-    (λ n k. if_mounted size gives remaining shelf left devices firsts (long n) mounts front k) h
-
-leaves_more : {O : Type 0} (stands : O → Option (List ℕ)) (old new : O) (said says P Q : Type 0)
-    (stop : MergeStop) → (said → says) → (P → Q) → LeavesPlace stands old new said P stop
-    → LeavesPlace stands old new says Q stop
-leaves_more stands old new said says P Q (stops.NotOpened number) e f h = (h.0, e h.1)
-leaves_more stands old new said says P Q (stops.TooLong size) e f h = (h.0, e h.1)
-leaves_more stands old new said says P Q stops.OutOfMemory e f h = (h.0, e h.1)
-leaves_more stands old new said says P Q stops.LogFailed e f h = (h.0, e h.1)
-leaves_more stands old new said says P Q stops.WriteFailed e f (inl same) = inl (same.0, e same.1)
-leaves_more stands old new said says P Q stops.WriteFailed e f (inr made) = inr (f made)
-
-pub left_now : {L R O : Type 0} (result : Result MergeEnd MergeStop) (place : O → Option (List ℕ))
-    (old new : O) (same : Type 0) (size : L → ℕ) (gives : Mounting L R)
-    (remaining : R → Option (List ℕ)) (shelf left : L) (devices : List R)
-    (firsts : List (Reading R)) (names : List (List ℕ)) (was is : Option (List ℕ))
-    (lines : Type 0) (holds : MergeEnd → List (List ℕ) → Type 0)
-    → MountsAll size gives shelf left devices → AreAtFront (map remaining devices) firsts
-    → IfErr result (LeavesPlace place old new
-    (same ⊎ ReportsNoImage R (IfImages firsts) names was is)
-    (lines × ((end : MergeEnd) × IfImages firsts (holds end))))
-    → IfErr result (LeavesPlace place old new
-    (same ⊎ ReportsNoImage R (IfMounted size gives remaining shelf left) names was is)
-    (lines × ((end : MergeEnd) × IfMounted size gives remaining shelf left (holds end))))
-left_now (Ok end) place old new same size gives remaining shelf left devices firsts names was is
-    lines holds mounts front h = tt
-left_now {R = R} (Err stop) place old new same size gives remaining shelf left devices firsts names
-    was is lines holds mounts front h = leaves_more place old new _ _ _ _ stop said (λ made. (
-      made.0,
-      (
-        made.1.0,
-        if_mounted size gives remaining shelf left devices firsts (holds made.1.0) mounts front
-            made.1.1,
-      ),
-    )) h
-  where
-    said : same ⊎ ReportsNoImage R (IfImages firsts) names was is
-        → same ⊎ ReportsNoImage R (IfMounted size gives remaining shelf left) names was is
-    said (inl same) = inl same
-    said (inr (nows, inl (part, of))) = inr (
-      nows,
-      inl (part, if_mounted size gives remaining shelf left devices firsts _ mounts front of),
-    )
-    said (inr (nows, inr (n, part, of))) = inr (
-      nows,
-      inr (n, part, if_mounted size gives remaining shelf left devices firsts _ mounts front of),
-    )
+-- ---- the output's name
 
 -- the output's name was not touched
 pub stays : {O : Type 0} (stands : O → Option (List ℕ)) (place : O) (said made : Type 0)
@@ -170,39 +93,49 @@ pub says_front : {R : Type 0} (firsts nows : List (Reading R)) (counts : Merged)
     (first mid : Writer) (log logged : Option (List ℕ)) (names : List (List ℕ)) (same : Type 0)
     (old new : Option (List ℕ))
     → IfImages firsts (λ images. MergesImages images nows counts first mid log logged)
+    → length nows ≡ length firsts
     → AppendsFront old new (lines_from (reading_line names) 0 nows)
-    → same ⊎ ReportsNoImage R (IfImages firsts) names old new
-says_front firsts nows counts first mid log logged names same old new merges part =
-    inr (nows, inl (part, λ images front. let m = merges images front in (m.readings, m.have)))
+    → same ⊎ ReportsNoImage R (IfImages firsts) names (length firsts) old new
+says_front firsts nows counts first mid log logged names same old new merges all part = inr (
+  nows,
+  all,
+  inl (part, λ images front. let m = merges images front in (m.readings, m.have)),
+)
 
 pub says_lines : {R : Type 0} (firsts nows : List (Reading R)) (counts : Merged)
     (first mid : Writer) (log logged : Option (List ℕ)) (names : List (List ℕ)) (same : Type 0)
     (old new : Option (List ℕ))
     → IfImages firsts (λ images. MergesImages images nows counts first mid log logged)
+    → length nows ≡ length firsts
     → Appends old new (lines_from (reading_line names) 0 nows)
-    → same ⊎ ReportsNoImage R (IfImages firsts) names old new
-says_lines firsts nows counts first mid log logged names same old new merges wrote =
+    → same ⊎ ReportsNoImage R (IfImages firsts) names (length firsts) old new
+says_lines firsts nows counts first mid log logged names same old new merges all wrote =
     let lines = lines_from (reading_line names) 0 nows in
-    says_front firsts nows counts first mid log logged names same old new merges
+    says_front firsts nows counts first mid log logged names same old new merges all
     (lines, [], wrote, sym (append-nil lines))
 
 -- lines about readings that differ
 module _ {R : Type 0} (firsts nows : List (Reading R)) (was now : Writer) (n : ℕ)
     (fault : MergeFault) (names : List (List ℕ)) (same : Type 0)
     (faulted : IfImages firsts (λ images. FaultsImages images nows was now fault))
-    (is : fault ≡ faults.Differ n) where
+    (is : fault ≡ faults.Differ n)
+    (all : fault ≢ faults.OutOfMemory → length nows ≡ length firsts) where
   differ : (images : List (List ℕ)) → AreAtFront (map Some images) firsts
       → DifferImages images nows n
   differ images front =
-      subst (λ (f : MergeFault). FaultsImages images nows was now f) is (faulted images front)
+      (subst (λ (f : MergeFault). FaultsImages images nows was now f) is (faulted images front)).0
+
+  many : length nows ≡ length firsts
+  many = all (λ other. absurd (let e = sym is ∙ other in cc e))
 
   abbrev pub Says : Option (List ℕ) → Option (List ℕ) → Type 0
-  Says old new = same ⊎ ReportsNoImage R (IfImages firsts) names old new
+  Says old new = same ⊎ ReportsNoImage R (IfImages firsts) names (length firsts) old new
 
   pub says_first : (old new : Option (List ℕ))
       → AppendsFront old new (lines_from (reading_line names) 0 nows) → Says old new
   says_first old new part = inr (
     nows,
+    many,
     inl (part, λ images front. let d = differ images front in (d.readings, d.have)),
   )
 
@@ -215,6 +148,7 @@ module _ {R : Type 0} (firsts nows : List (Reading R)) (was now : Writer) (n : �
       let items = lines_from (has_line names) 0 nows in
       inr (
         nows,
+        many,
         inr (
           n,
           front_then old mid new lines (differ_line n) items _ wrote part
@@ -232,6 +166,7 @@ module _ {R : Type 0} (firsts nows : List (Reading R)) (was now : Writer) (n : �
       let items = lines_from (has_line names) 0 nows in
       inr (
         nows,
+        many,
         inr (
           n,
           front_then old mid new (lines ++ differ_line n) items [] _ wrote part
@@ -243,21 +178,13 @@ module _ {R : Type 0} (firsts nows : List (Reading R)) (was now : Writer) (n : �
 
 -- ---- the readings
 
-some_end : (bad miscounted : ℕ) (ends : MergedEnd)
+pub some_end : (bad miscounted : ℕ) (ends : MergedEnd)
     → (end : MergeEnd) × FitsEnd bad miscounted ends end
 some_end (suc bad) miscounted ends = (Partial, inl (omega arith))
 some_end zero (suc miscounted) ends = (Partial, inr (inl (omega arith)))
 some_end zero zero Marked = (Whole, (refl, refl, λ e. cc e))
 some_end zero zero Physical = (Whole, (refl, refl, λ e. cc e))
 some_end zero zero Cut = (Partial, inr (inr refl))
-
-comes_whole : (R : Type 0) (images names : List (List ℕ)) (out stands : Option (List ℕ))
-    (logs says : List ℕ → Type 0) (end : MergeEnd) (ends : MergedEnd) (bad miscounted : ℕ)
-    → FitsEnd bad miscounted ends end → HoldsMerged R images names out stands logs says end
-    → ComesTo R images names out stands logs says end
-comes_whole R images names out stands logs says Whole ends bad miscounted fits h = h
-comes_whole R images names out stands logs says Partial ends bad miscounted fits h = h
-comes_whole R images names out stands logs says Differs ends bad miscounted fits h = absurd fits
 
 -- The images were merged, the end was written, and the place has that. The lines were reported, if
 -- the last one was.
@@ -270,15 +197,14 @@ pub made : {R : Type 0} (firsts nows : List (Reading R)) (counts : Merged) (firs
     → FitsEnd counts.bad counts.miscounted ends end → EndsAs counts.items nows ends
     → ((rows : List ℕ) → Appends log logged rows → logs (log_head names ++ rows))
     → says (lines_from (reading_line names) 0 nows ++ merged_line counts ends)
-    → IfImages firsts (λ images. ComesTo R images names out stands logs says end)
+    → IfImages firsts (λ images. HoldsMerged R images names out stands logs says end)
 made firsts nows counts first mid log logged out put stands ends end names logs says is merges
     wrote there fits how noted lines = λ images front.
     let m = merges images front in
     let begun : Appends out mid.contents (flat_map written m.merged) =
     subst (λ (w : Writer). Appends w.contents mid.contents (flat_map written m.merged)) is
     (items_put m.merged first mid m.wrote).0 in
-    comes_whole _ images names out stands logs says end ends counts.bad counts.miscounted fits
-    (record {
+    record {
       nows = nows;
       readings = m.readings;
       have = m.have;
@@ -295,26 +221,17 @@ made firsts nows counts first mid log logged out put stands ends end names logs 
       fits = fits;
       logged = noted (log_rows 0 m.merged m.readings) m.rows;
       lines = lines;
-    })
+    }
 
--- the same if the last line was not written whole
-pub made_some : {R : Type 0} (firsts nows : List (Reading R)) (counts : Merged)
-    (first mid : Writer) (log logged out put stands : Option (List ℕ)) (ends : MergedEnd)
-    (names : List (List ℕ)) (logs says : List ℕ → Type 0)
-    → first ≡ record { size = 0; standing = writing; contents = out }
-    → IfImages firsts (λ images. MergesImages images nows counts first mid log logged)
-    → Appends mid.contents put (end_bytes ends) → stands ≡ put
-    → EndsAs counts.items nows ends
-    → ((rows : List ℕ) → Appends log logged rows → logs (log_head names ++ rows))
-    → says (lines_from (reading_line names) 0 nows ++ merged_line counts ends)
-    → (end : MergeEnd) × IfImages firsts (λ images. ComesTo R images names out stands logs says end)
-made_some firsts nows counts first mid log logged out put stands ends names logs says is merges
-    wrote there how noted lines =
-    let (end, fits) = some_end counts.bad counts.miscounted ends in (
-      end,
-      made firsts nows counts first mid log logged out put stands ends end names logs says is
-          merges wrote there fits how noted lines,
-    )
+-- that is what merging comes to
+pub comes_whole : {R : Type 0} (firsts : List (Reading R)) (names : List (List ℕ))
+    (out stands : Option (List ℕ)) (logs says : List ℕ → Type 0) (end : MergeEnd)
+    (ends : MergedEnd) (bad miscounted : ℕ) → FitsEnd bad miscounted ends end
+    → IfImages firsts (λ images. HoldsMerged R images names out stands logs says end)
+    → IfImages firsts (λ images. ComesTo R images names out stands logs says end)
+comes_whole firsts names out stands logs says Whole ends bad miscounted fits h = h
+comes_whole firsts names out stands logs says Partial ends bad miscounted fits h = h
+comes_whole firsts names out stands logs says Differs ends bad miscounted fits h = absurd fits
 
 -- the names of the columns were written, followed by the rows, and the log was flushed
 pub all_logged : (a b c d : Option (List ℕ)) (names : List (List ℕ)) (text head : List ℕ)
@@ -337,8 +254,8 @@ differed firsts nows old new number fault out stands names logs says faulted is 
     λ images front. record {
       nows = nows;
       number = number;
-      differ = subst (λ (f : MergeFault). FaultsImages images nows old new f) is
-          (faulted images front);
+      differ = (subst (λ (f : MergeFault). FaultsImages images nows old new f) is
+          (faulted images front)).0;
       lines = lines;
     }
 

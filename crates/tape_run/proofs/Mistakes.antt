@@ -1,12 +1,12 @@
 -- Wrong answers that the contracts of a session exclude.
-use Rattle.std.proofs.Common.{◌≡◌, List, [], ◌∷◌, length, refl, sym, ap, ◌∙◌, subst, arith, inl}
+use Rattle.std.proofs.Common.{◌≡◌, List, [], ◌∷◌, sym, ap, ◌∙◌, arith, inl}
 use Rattle.std.proofs.Common.{inr, Some, Ok, Err, slice_get}
 use Rattle.tape_blocks.specs.Block.{Portion}
 use Rattle.tape_set.specs.declared.position.Position.TheVariants.{Awaits}
 use Rattle.tape_set.specs.Position.{block_of}
 use Rattle.tape_core.specs.{Point.Point, Place.rest_of, Stands.weight_of}
 use Rattle.tape_run.specs.declared.fault.RunFault.TheVariants as run
-use Rattle.tape_run.specs.Seen.{seen, IsKept, KeepsNotes}
+use Rattle.tape_run.specs.Seen.{seen, IsKept}
 use Rattle.tape_run.proofs.session.Session.resume.Reads as resume
 use Rattle.tape_run.proofs.session.Session.restart.Reads as restart
 
@@ -41,13 +41,7 @@ no_such_point_cuts : (S : _) (LS : _) (g : _) (d : _) (κs : _) (a : _) (s : _)
     → g.holds a.0.now.sink (part ∷ []) → a.0.now.notes ≡ []
     → ((xs ys : List Portion) → g.holds s.0.now.sink xs → g.holds s.0.now.sink ys → xs ≡ ys)
     → g.holds s.0.now.sink [] → ⊥
-no_such_point_cuts S LS g d κs a s part l was none one gone =
-    let held : List Portion = part ∷ [] in
-    let kept : IsKept (seen g a.0.now held) = subst
-    (λ v. KeepsNotes (rest_of a.0.now.core) [] v held) (sym none) (held, refl) in
-    let same : g.holds s.0.now.sink held = (l.err held was kept).0 (λ e. absurd (cc e)) in
-    let n : 1 ≡ 0 = ap length (one held [] same gone) in
-    absurd (omega (arith, n))
+no_such_point_cuts S LS g d κs a s part l was none one gone = grind (arith, seen, rest_of)
 
 -- saves_before_going_back: a session at block 5 rolls back to a checkpoint at the start of the
 -- file, the only state that a crash could leave, but now a crash leaves block 5.

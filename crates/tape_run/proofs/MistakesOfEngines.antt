@@ -1,13 +1,13 @@
 -- Wrong answers that the contracts of the engines exclude.
-use Rattle.std.proofs.Common.{◌≡◌, ℕ, List, [], ◌∷◌, ◌++◌, length, true, false, refl, ap, ◌∙◌}
-use Rattle.std.proofs.Common.{subst, arith, codes, Bool, Option, Some, None, Ok, option_map, ◌<◌}
+use Rattle.std.proofs.Common.{◌≡◌, ℕ, List, [], ◌∷◌, length, true, false, refl, ap, ◌∙◌}
+use Rattle.std.proofs.Common.{arith, codes, Bool, Option, Some, None, Ok, option_map, ◌<◌}
 use Rattle.std.proofs.Common.{if◌then◌else◌}
 use Rattle.std.proofs.lemmas.Bool.{lt-ltb}
-use Rattle.std.specs.{Fmt.digits, Io.KnownBytes.Appends}
+use Rattle.std.specs.{Fmt.digits}
 use Rattle.tape_run.specs.declared.section.ImageLine.{ImageLine}
-use Rattle.tape_run.specs.{Lacks.found_all, Passing.Told, CheckLine.image_lines, Reeling.Mounting}
+use Rattle.tape_run.specs.{Passing.Told, Reeling.Mounting}
 use Rattle.tape_run.specs.{Reeling.AreMounted, SalvageCopies.believed, SalvageBlocks.Salvaged}
-use Rattle.tape_run.specs.Checked.{Reel, IsReel, AddsImages, Reports, IsReport, summary}
+use Rattle.tape_run.specs.Checked.{Reel, IsReel, AddsImages, Reports}
 use Rattle.tape_run.specs.declared.salvage.copies.SectionCopy.{SectionCopy}
 use Rattle.tape_run.specs.SalvageEnds.{read_again}
 use Rattle.tape_run.proofs.check.check_to.Reads as check_to
@@ -56,16 +56,7 @@ text_of_none : {L R : Type 0} (size : L → ℕ) (gives : Mounting L R)
     → (text ≡ codes "IMAGE 1 0 NOT OPENED\n") × (found ≡ false)
 unfolding digits
 text_of_none size gives remaining shelf left old contents text found h one absent first last =
-    let reels = one_absent gives remaining shelf left h.reels h.mounted (h.all ∙ one) absent in
-    let rep : IsReport (None ∷ []) h.text found
-    = subst (λ v. IsReport v h.text found) reels h.report in
-    let two = report_of_none rep.lines rep.sections rep.read in
-    let t : text ≡ h.text = subst (λ v. Appends (Some []) v h.text) last
-    (subst (λ v. Appends v contents h.text) first h.wrote) in (
-      t ∙ rep.told ∙ ap (λ v. image_lines 1 v ++ summary rep.sections) two.0
-          ∙ ap (λ v. image_lines 1 (None ∷ []) ++ summary v) two.1,
-      rep.all ∙ ap found_all two.1,
-    )
+    grind (arith, one_absent, report_of_none)
 
 -- nothing_met_is_all_found: no image was opened, but the answer is that nothing is missing
 nothing_met_is_all_found : (R : _) (L : _) (P : _) (LR : _) (LL : _) (LP : _) (g : _) (d : _)

@@ -99,9 +99,9 @@ merge_too_long_at_once R size long = go long.nows long.readings long.have long.m
 
 -- merge_reported_without_a_file: the merged image has no name, but its line was reported
 merge_reported_without_a_file : (R : Type 0) (if_known : (List (List ℕ) → Type 0) → Type 0)
-    (names : List (List ℕ)) (rest : List ℕ)
-    → ReportsNoImage R if_known names (Some []) (Some (codes "MERGED" ++ rest)) → ⊥
-merge_reported_without_a_file R if_known names rest (nows, said) = either _ _ said
+    (names : List (List ℕ)) (count : ℕ) (rest : List ℕ)
+    → ReportsNoImage R if_known names count (Some []) (Some (codes "MERGED" ++ rest)) → ⊥
+merge_reported_without_a_file R if_known names count rest (nows, all, said) = either _ _ said
   where
     go : (nows : List (Reading R)) (n : ℕ) (front more : List ℕ)
         → front ≡ codes "MERGED" ++ rest → lines_from (reading_line names) 0 nows

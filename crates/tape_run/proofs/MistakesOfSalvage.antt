@@ -1,5 +1,5 @@
 -- Wrong answers of `salvage` that the definitions exclude.
-use Rattle.std.proofs.Common.{◌≡◌, ◌<◌, ℕ, ◌&&◌, ◌||◌, not, Bool, true, false, List, [], ◌∷◌, ◌++◌}
+use Rattle.std.proofs.Common.{◌≡◌, ◌<◌, ℕ, ◌&&◌, not, Bool, true, false, List, [], ◌∷◌, ◌++◌}
 use Rattle.std.proofs.Common.{Option, Some, None, Result, Ok, Err, ap, sym, ◌∙◌, arith, ◌==◌}
 use Rattle.std.proofs.Common.{if◌then◌else◌}
 use Rattle.tape_image.specs.Tape.{TapeItem, block}
@@ -60,13 +60,7 @@ conflict_not_reported best c differ e =
 conflict_reported_as_complete : (best c : SectionCopy) (cs : List SectionCopy) (missing any : Bool)
     → are_conflicting best c ≡ true → any ≡ has_conflict (Some best) (c ∷ cs)
     → (not missing && not any) ≡ true → ⊥
-conflict_reported_as_complete best c cs missing any differ is complete =
-    never missing (has_conflict (Some best) cs) (ap (λ b. not missing && not b)
-    (sym (is ∙ ap (λ b. b || has_conflict (Some best) cs) differ)) ∙ complete)
-  where
-    never : (a b : Bool) → (not a && not (true || b)) ≡ true → ⊥
-    never true b e = absurd (cc e)
-    never false b e = absurd (cc e)
+conflict_reported_as_complete best c cs missing any differ is complete = grind (arith)
 
 -- section_read_twice: the data of a section that is on the image twice are read from both
 section_read_twice : (before after : Option (List ℕ)) (start : Expected) (key : SectionKey)

@@ -9,14 +9,14 @@ use Rattle.tape_set.specs.declared.position.Position.TheVariants.{Awaits, Finish
 use Rattle.tape_set.specs.Position.{block_of}
 use Rattle.tape_core.specs.declared.event.Answer.TheVariants.{SectionDone, Complete, Useless}
 use Rattle.tape_core.specs.declared.event.{Reason.Reason, Reason.TheVariants.BlockCount}
-use Rattle.tape_core.specs.{Follows.IsFinal, Place.rest_of, Point.Point, State.State}
+use Rattle.tape_core.specs.{Place.rest_of, Point.Point, State.State}
 use Rattle.tape_core.specs.Table.{step_of, mount_of}
 use Rattle.tape_run.specs.Given as given
 use Rattle.tape_run.specs.{Given.IsGiven, Reels.Reads, Reels.behind_items, Seen.Seen, Seen.seen}
 use Rattle.tape_run.specs.Steps.{Reeled}
 use Rattle.tape_run.specs.declared.reel_reader.ReelAnswer.{ReelAnswer}
 use Rattle.tape_run.proofs.{ByTable.behind_app, Completes.step_tells}
-use Rattle.tape_run.proofs.Finals.{IsIdle, step_ends, idle_items}
+use Rattle.tape_run.proofs.Finals.{step_ends, idle_items}
 use Rattle.tape_run.proofs.session.Session.reel.Reads as reel
 use Rattle.tape_run.proofs.session.Session.save.Reads as save
 
@@ -92,14 +92,7 @@ led_there old new known bytes xs end stop fault left r is none b =
 not_finished : (core : State) (x : TapeItem) (more : List TapeItem) (why : Reason)
     → (step_of core (Some x)).0 ≡ Useless why
     → (behind_items (step_of core (Some x)).1 more).position ≡ Finished → ⊥
-not_finished core x more why told end =
-    let after : State = (step_of core (Some x)).1 in
-    let idle : IsIdle after.position after.phase = (step_ends core x).told
-    (subst IsFinal (sym told) tt) in
-    let stays : (behind_items after more).position ≡ after.position = ap (λ c. c.position)
-    (idle_items more _ idle).0 in
-    let f : Useless why ≡ Complete = sym told ∙ (step_tells core (Some x)).told (sym stays ∙ end) in
-    absurd (cc f)
+not_finished core x more why told end = grind (arith, step_ends, idle_items, step_tells)
 
 -- count_passed_over: a trailer label counts 9 blocks but 6 were seen, on any tape, and yet the
 -- session is at the end of the file

@@ -13,13 +13,12 @@ use Rattle.tape_core.specs.declared.event.Answer.TheVariants.{Passed, Deliver}
 use Rattle.tape_core.specs.{State.State, Place.rest_of, Place.IsPlaced, Table.Outcome}
 use Rattle.tape_core.specs.{Table.step_of, Table.mount_of, Foreign.IsForeignAt, Foreign.Unmoved}
 use Rattle.tape_core.specs.Follows.{reading, IsAt, IsFinal, IsReading, Kept, Idle, Gives, Delivers}
-use Rattle.tape_core.specs.Follows.{Checked}
 use Rattle.tape_core.proofs.Steps.{mounts, step_reads, position_reads}
 use Rattle.tape_core.proofs.{IdleSteps.idle_reads, ForeignLaws.foreign_mount}
 use Rattle.tape_core.proofs.{ForeignLaws.foreign_step, Standing.rests, Standing.rested}
 use Rattle.tape_run.specs.Mount.{MountEvent, reads, foreign_reel, saves, restarts, IsCopy, IsMount}
 use Rattle.tape_run.specs.Mount.{cut, after_mount}
-use Rattle.tape_run.specs.{Puts.IsChecked, Under.is_under}
+use Rattle.tape_run.specs.Under.{is_under}
 
 -- One item of a mount that began at p: the state agrees with the parts that the step delivered, and
 -- after a final answer no further item of the mount changes the position.
@@ -47,16 +46,7 @@ read_at [] (g ∷ gs) more i h le = absurd (omega (arith, le))
 read_at (x ∷ its) (g ∷ gs) more zero h le =
     record { g = g; item = x; stands = refl; came = refl; longer = refl; count = refl }
 read_at (x ∷ its) (g ∷ gs) more (suc i) h le =
-    let next = read_at its gs more i (omega (arith, h)) (omega (arith, le)) in
-    let e : suc i + 1 ≡ suc (i + 1) = omega arith in
-    record {
-      g = next.g;
-      item = next.item;
-      stands = next.stands;
-      came = next.came;
-      longer = rw e (ap (λ z. g ∷ z) next.longer);
-      count = ap (λ n. suc n) next.count;
-    }
+    grind (arith, read_at its gs more i (omega (arith, h)) (omega (arith, le)))
 
 -- The item at an index, and the items after it.
 record ItemAt (xs : List TapeItem) (i : ℕ) : Type 0 where
@@ -90,24 +80,7 @@ some_more its good more xs i e le lt = λ none.
 
 delivers_rest : (set : FileSet) (x : TapeItem) (old new : State) → Delivers set x old new
     → Delivers set x (rest_of old) (rest_of new)
-delivers_rest set x old new d = record {
-  sect = d.sect;
-  place = d.place;
-  part = d.part;
-  section = d.section;
-  filled = d.filled;
-  form = d.form;
-  awaited = d.awaited;
-  found = d.found;
-  its = d.its;
-  is_block = d.is_block;
-  is_known = d.is_known;
-  tells = d.tells;
-  holds = d.holds;
-  order = d.order;
-  behind = d.behind;
-  next = d.next;
-}
+delivers_rest set x old new d = grind (arith)
 
 gives_rest : (set : FileSet) (x : TapeItem) (answer : Answer) (old new : State)
     → Gives set x answer old new → Gives set x answer (rest_of old) (rest_of new)
@@ -121,20 +94,6 @@ gives_silent : (set : FileSet) (x : TapeItem) (answer : Answer) (old new : State
 gives_silent set x Passed old new n f p = rw (f, p) refl
 gives_silent set x Deliver old new n f p = absurd (n refl)
 gives_silent set x _ old new n f p = rw (f, p) refl
-
-pub checked_of : (item : Option TapeItem) (old new : State) → Checked item old new
-    → IsChecked item (rest_of new)
-checked_of item old new k = record {
-  bytes = k.bytes;
-  is_block = k.came;
-  known = k.form;
-  is_known = k.is_known;
-  begun = k.begun;
-  end = k.end;
-  parts = k.parts;
-  holds = k.holds;
-  order = k.order;
-}
 
 -- ---- a mount begins
 
@@ -277,15 +236,7 @@ as_read_length (x ∷ xs) (g ∷ gs) h = omega (arith, as_read_length xs gs (ome
 
 pub cut_whole : (set : FileSet) (xs : List TapeItem) (h : MountEvent) → IsMount set xs h
     → cut (length xs) h ≡ h
-cut_whole set xs (reads r) m =
-    let n = as_read_length (items set r.volume) r.good m.is_reading.within in
-    let le : length r.good ≤ length xs = omega (
-      arith,
-      n,
-      ap length m.whole,
-      length-append (as_read (items set r.volume) r.good) m.more,
-    ) in
-    rw (take_all (length xs) r.good le) refl
+cut_whole set xs (reads r) m = grind (arith, as_read_length, length-append, take_all)
 cut_whole set xs foreign_reel m = refl
 cut_whole set xs saves m = absurd m
 cut_whole set xs (restarts n) m = absurd m

@@ -91,12 +91,7 @@ pub all_noted : (all left : Option (List ℕ)) (p count : ℕ) (old : List Told)
     (phase : Phase) (mid new : List Told)
     → (s : SoFar all left p count old phase mid)
     → new ≡ noted_all mid (in_list (under_way phase)) → new ≡ noted_all old (met_in s.items)
-all_noted all left p count old phase mid new s notes =
-    notes ∙ ap (λ (r : List Told). noted_all r (in_list (under_way phase))) s.noted
-    ∙ ap (λ (r : Phase). noted_all (noted_all old
-    (told_from Volume s.items)) (in_list (under_way r))) s.stands
-    ∙ sym (noted_all-append old (told_from Volume s.items)
-    (in_list (under_way (phase_after Volume s.items))))
+all_noted all left p count old phase mid new s notes = grind (arith, noted_all-append)
 
 adds : (before after : Option (List ℕ)) (old : List Told) (items : List TapeItem)
     (line : ImageLine) (new : List Told)
@@ -157,12 +152,7 @@ placed (Some xs) p items (ys, w) = (p, ys, w)
 pub in_part : (all left : Option (List ℕ)) (p count : ℕ) (old : List Told)
     (phase : Phase) (mid new : List Told)
     → SoFar all left p count old phase mid → new ≡ mid → AddsInPart all old new
-in_part all left p count old phase mid new s same = record {
-  items = s.items;
-  front = placed all p s.items (front_of all left (λ xs ys. Walks 0 xs s.items p ys)
-      (IfKnown-some all left (λ xs ys. Walks 0 xs s.items p ys) s.known));
-  noted = same ∙ s.noted;
-}
+in_part all left p count old phase mid new s same = grind (arith, placed, front_of, IfKnown-some)
 
 one_volume : (r : Result Vol1 LabelFault) → blocks_of (volume_with r) ≤ 0 + 1
 one_volume (Ok label) = omega arith

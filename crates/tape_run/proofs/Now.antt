@@ -1,13 +1,13 @@
 -- The result of a run that writes the records while it reads the images.
 use Rattle.std.proofs.Common.{◌≡◌, ◌≢◌, ℕ, List, [], Option, None, refl, ap}
-use Rattle.std.proofs.Common.{◌∙◌, inl, inr, false}
+use Rattle.std.proofs.Common.{◌∙◌, inl, false}
 use Rattle.std.specs.Io.KnownBytes.{Appends}
 use Rattle.std.proofs.KnownBytes.{Appends-trans}
 use Rattle.tape_blocks.specs.Block.{Portion}
 use Rattle.tape_core.specs.declared.sink.PartSink.{Ghosts}
 use Rattle.tape_set.specs.declared.position.Want.{Want}
 use Rattle.tape_set.specs.Position.{want_at}
-use Rattle.tape_run.specs.Seen.{Seen, seen, IfSeen}
+use Rattle.tape_run.specs.Seen.{seen, IfSeen}
 use Rattle.tape_run.specs.Extracting.{TellsEnd}
 use Rattle.tape_run.specs.SessionState.{SessionState}
 use Rattle.tape_blocks.specs.declared.parts.Form.{Form}
@@ -19,7 +19,7 @@ use Rattle.tape_run.specs.Stopping.{StopsReading}
 use Rattle.tape_run.specs.declared.fault.EngineFault.{EngineFault}
 use Rattle.tape_run.specs.declared.fault.EngineFault.TheVariants.{WriteFailed}
 use Rattle.tape_run.specs.ExtractingNow.{IsPut, ExtractsNow, LeavesName, StopsNow}
-use Rattle.tape_run.proofs.Extracted.{told_then, tells_then, less_then}
+use Rattle.tape_run.proofs.Extracted.{told_then, tells_then, less_then, leaves_more}
 use Rattle.tape_image.proofs.Pieces.{front_more, front_behind}
 use Rattle.tape_run.proofs.Lasting.{walked_seen}
 use Rattle.tape_run.proofs.StoppedThere.{stopped_walked}
@@ -86,21 +86,6 @@ stops_reading_now {S} {L} {R} {O} gs size gives remaining old new
           (core, now, f, stopped, inl s.lines, inl (refl, inl s.lines));
     }
 
-leaves_then : {O : Type 0} (said between says : Option (List ℕ)) (lines : List ℕ)
-    (want : Option Want) (form : Form) (tells : Type 0) (stands : O → Option (List ℕ))
-    (out put : O) (now : Seen) → Appends said between lines
-    → LeavesName (AppendsFront between says []) want form tells stands out put now
-    → LeavesName (AppendsFront said says lines) want form tells stands out put now
-leaves_then said between says lines want form tells stands out put now before
-    (inl (same, inl less)) = inl (same, inl (less_then said between says lines before less))
-leaves_then said between says lines want form tells stands out put now before
-    (inl (same, inr some)) = inl (same, inr some)
-leaves_then said between says lines want form tells stands out put now before
-    (inr (done, inl (same, less))) =
-    inr (done, inl (same, less_then said between says lines before less))
-leaves_then said between says lines want form tells stands out put now before
-    (inr (done, inr named)) = inr (done, inr named)
-
 pub stops_at_end_now : {S L R O : Type 0} (gs : Ghosts S)
     (size : L → ℕ) (gives : Mounting L R) (remaining : R → Option (List ℕ))
     (old mid new : SessionState S)
@@ -134,7 +119,6 @@ stops_at_end_now {S} {L} {R} {O} gs size gives remaining old mid new
             f,
             stopped_walked gs remaining false mid new now fault has walked,
             tells_then said between says _ want records (seen gs mid now) t.lines (told now has),
-            leaves_then said between says _ want form tells stands out put (seen gs mid now)
-                t.lines (wrote now has),
+            leaves_more _ _ want _ _ _ _ (less_then said between says _ t.lines) (wrote now has),
           );
     }

@@ -44,12 +44,7 @@ grows_ended : (form : Form) (records : List (List ℕ)) (front : Option (List �
     → text_of form (record { records = records ++ content_after front bytes ∷ []; rest = None })
     ≡ text_of form (record { records = records; rest = front }) ++ (bytes ++ record_end form)
 grows_ended form records front bytes =
-    let c = content_after front bytes in
-    let t = records_text form records in
-    let e = record_end form in
-    append-nil (records_text form (records ++ c ∷ []))
-    ∙ records_text-append form records (c ∷ []) ∙ ap (λ x. t ++ x) (append-nil (c ++ e))
-    ∙ ap (λ x. t ++ (x ++ e)) (content_is front bytes) ∙ regroup t (begun_text front) bytes e
+    grind (arith, append-nil, records_text-append, content_is, regroup)
 
 grows_begun : (form : Form) (records : List (List ℕ)) (front : Option (List ℕ)) (bytes : List ℕ)
     → text_of form (record { records = records; rest = Some (content_after front bytes) })

@@ -137,17 +137,7 @@ one_places (x ∷ items) (y ∷ others) p q r xs ys zs (f, mid, t, rest) (g, oth
 -- the length of the encoding of a block, and of a mark
 framed_long : (s : List ℕ) (w : ℕ) (content : List ℕ) → IsFramed s w content
     → length s ≡ block_extent (length content)
-framed_long s w content f =
-    omega (
-      arith,
-      ap length f.whole,
-      length-append f.lead (content ++ (f.pad ++ f.trail)),
-      length-append content (f.pad ++ f.trail),
-      length-append f.pad f.trail,
-      f.lead_is.four,
-      f.trail_is.four,
-      f.pad_is,
-    )
+framed_long s w content f = grind (arith, length-append)
 
 content_is : (b : Bool) (content bytes : List ℕ)
     → (if b then block content else bad) ≡ block bytes → content ≡ bytes

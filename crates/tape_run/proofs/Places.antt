@@ -7,8 +7,6 @@ use Rattle.tape_blocks.specs.declared.parts.Shape.{Shape}
 use Rattle.tape_blocks.specs.{Block.Portion, Block.Holds, Judged.begun_behind}
 use Rattle.tape_blocks.proofs.JoinLaws.{one_list}
 use Rattle.tape_image.specs.Tape.{TapeItem, block}
-use Rattle.tape_set.specs.declared.position.Position.{Position}
-use Rattle.tape_set.specs.declared.position.Position.TheVariants.{Awaits, Finished}
 use Rattle.tape_set.specs.Position.{at_part, part_of}
 use Rattle.tape_set.specs.{Layout.FileSet, Lawful.FileForm, Before.before}
 use Rattle.tape_core.specs.declared.event.{Answer.Answer, Event.Event, Phase.TheVariants.Over}
@@ -43,14 +41,7 @@ pick_place false c d P x y = y refl
 at_same : (set : FileSet) (old : State) (held : List Portion) (staged k : ℕ) (ps : List Portion)
     → IsPlaced set old held
     → IsPlaced set (place_of (saved old staged)) (held ++ drop k (take k ps))
-at_same set old held staged k ps a =
-    let again : IsPlaced set (place_of (saved old staged)) held =
-    record {
-      at = record { of_set = a.at.of_set; sound = refl; stands = a.at.stands };
-      all = a.all;
-    } in
-    subst (IsPlaced set (place_of (saved old staged)))
-    (sym (append-nil held) ∙ ap (λ (l : List Portion). held ++ l) (sym (none_between k ps))) again
+at_same set old held staged k ps a = grind (arith, append-nil, none_between)
 
 at_later : (set : FileSet) (x : TapeItem) (old new : State) (held : List Portion)
     (n : ℕ) (begun : Bool)
@@ -92,38 +83,18 @@ refused_place set x old new held n d a b same le within =
 pub refused_position : (old new : State) (n : ℕ) (begun : Bool)
     → (place_of (refused_point (saved old 0) (saved new 0) n begun)).position
     ≡ at_part n old.position
-refused_position old new n begun =
-    pick_place (n == part_of old.position) (saved old 0)
-    (inside_block (saved new 0) old.position n begun 0)
-    (λ (p : State). p.position ≡ at_part n old.position)
-    (λ e. let q : n ≡ part_of old.position = grind (arith, nat_tests) in kept old.position n q)
-    (λ e. refl)
-  where
-    kept : (p : Position) (n : ℕ) → n ≡ part_of p → p ≡ at_part n p
-    kept (Awaits sect b part) n e = rw e refl
-    kept Finished n e = refl
+refused_position old new n begun = grind (arith, pick_place)
 
 -- at the expected part the core is unchanged
 pub stands_first : (old new : State) (n : ℕ) (begun : Bool) → n ≡ part_of old.position
     → place_of (refused_point (saved old 0) (saved new 0) n begun) ≡ record old { phase = Over }
-stands_first old new n begun first =
-    pick_place (n == part_of old.position) (saved old 0)
-    (inside_block (saved new 0) old.position n begun 0)
-    (λ (p : State). p ≡ record old { phase = Over })
-    (λ e. refl)
-    (λ e. absurd (grind (arith, nat_tests)))
+stands_first old new n begun first = grind (arith, pick_place)
 
 -- and after it the block determines its state
 pub stands_behind : (old new : State) (n : ℕ) (begun : Bool) → part_of old.position < n
     → ((place_of (refused_point (saved old 0) (saved new 0) n begun)).known ≡ new.known)
     × (begun ≡ false → (place_of (refused_point (saved old 0) (saved new 0) n begun)).begun ≡ false)
-stands_behind old new n begun behind =
-    pick_place (n == part_of old.position) (saved old 0)
-    (inside_block (saved new 0) old.position n begun 0)
-    (λ (p : State). (p.known ≡ new.known) × (begun ≡ false → p.begun ≡ false))
-    (λ e. let q : n ≡ part_of old.position = grind (arith, nat_tests) in
-    absurd (omega (arith, q, behind)))
-    (λ e. (refl, λ none. rw none refl))
+stands_behind old new n begun behind = grind (arith, pick_place)
 
 -- ---- a step of a core
 
@@ -213,12 +184,4 @@ pub shape_fits : (known : Option FileForm) (shape : Option Shape) (k : FileForm)
     → (s.format ≡ k.format) × (s.rec_len ≡ k.rec_len) × (s.offset ≡ k.offset)
 shape_fits None shape k s h e f = absurd (cc)
 shape_fits (Some l) None k s h e f = absurd h
-shape_fits (Some l) (Some t) k s h e f =
-    let a : l ≡ k = cc in
-    let b : t ≡ s = cc in
-    let one : (t.format ≡ l.format) × (t.rec_len ≡ l.rec_len) × (t.offset ≡ l.offset) =
-    (h.format, h.rec_len, h.offset) in
-    let two = subst (λ (z : FileForm). (t.format ≡ z.format) × (t.rec_len ≡ z.rec_len) × (t.offset
-    ≡ z.offset)) a one in
-    subst (λ (z : Shape). (z.format ≡ k.format) × (z.rec_len ≡ k.rec_len) × (z.offset ≡ k.offset)) b
-    two
+shape_fits (Some l) (Some t) k s h e f = grind (arith)

@@ -95,17 +95,7 @@ by_digit a b front digit =
 -- two hidden characters
 split_hidden : (a b : ℕ) (xs ys : List ℕ) → is_hidden a ≡ true → is_hidden b ≡ true
     → by_kind false true a ++ xs ≡ by_kind false true b ++ ys → Split a b xs ys
-split_hidden a b xs ys ha hb e =
-    let first = tails _ _ _ _ (tails _ _ _ _ e) in
-    let second = tails _ _ _ _ first in
-    let third = tails _ _ _ _ second in
-    let fourth = tails _ _ _ _ third in
-    let top = hex_one _ _ (high _ ha) (high _ hb) (heads _ _ _ _ first) in
-    let upper = by_digit _ _ top (heads _ _ _ _ second) in
-    let lower = by_digit _ _ upper (heads _ _ _ _ third) in record {
-      same = by_digit _ _ lower (heads _ _ _ _ fourth);
-      rest = tails _ _ _ _ fourth;
-    }
+split_hidden a b xs ys ha hb e = grind (arith, tails, hex_one, high, heads, by_digit)
 
 split_by : (a b : ℕ) (xs ys : List ℕ) → (p q u v : Bool) → (a == 92) ≡ p → (b == 92) ≡ q
     → is_hidden a ≡ u → is_hidden b ≡ v → by_kind p u a ++ xs ≡ by_kind q v b ++ ys

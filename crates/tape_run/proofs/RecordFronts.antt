@@ -91,19 +91,7 @@ pub front_counts : (form : Form) (ahead after : List Portion → Type 0) (all : 
     → (count ≤ 999999999999999 → next ≡ with_end (leaves part.span) count) → (still : Bool)
     → still ≡ false → Fronts form after still written next old new parts
 front_counts form ahead after all written count next old new parts part f gives counts still e =
-    let (rest, is, there) = gives f.rest f.is_ahead in
-    let counted = f.counted in
-    let few = f.few in
-    record {
-      rest = rest;
-      is_ahead = there;
-      counted = ap (λ n. n + ends rest) (counts (omega (arith, counted, few)))
-          ∙ ends_next (leaves part.span) count (ends rest) (ends parts)
-          (ap (λ xs. count + ends xs) (sym is) ∙ f.counted);
-      few = f.few;
-      wrote = f.wrote;
-      each = λ is. absurd (let never : true ≡ false = sym is ∙ e in cc never);
-    }
+    grind (arith, ends, ends_next)
 
 pub front_writes : (form : Form) (ahead after : List Portion → Type 0) (all : Bool)
     (written count next : ℕ) (old mid new : Option (List ℕ)) (parts : List Portion) (part : Part)

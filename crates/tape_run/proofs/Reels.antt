@@ -55,14 +55,8 @@ pub block_given : (core : State) (came : Option TapeItem)
     → (content : List ℕ) × (came ≡ Some (block content)) × GivesItem old (block content) new
     × ((step_of core (Some (block content))).0 ≡ Deliver)
     × StopsAt (saved core 0) (saved (step_of core (Some (block content))).1 0) after
-block_given core came told old new after same (content, is, delivers, stops) m = (
-  content,
-  is,
-  item_given told old new (block content) (sym same ∙ is) m,
-  ap (λ (z : Option TapeItem). (step_of core z).0) (sym is) ∙ delivers,
-  subst (λ (z : Option TapeItem). StopsAt (saved core 0) (saved (step_of core z).1 0) after) is
-      stops,
-)
+block_given core came told old new after same (content, is, delivers, stops) m =
+    grind (arith, item_given)
 
 -- ---- items one after another
 
@@ -90,14 +84,7 @@ delivered_more (Useless why ∷ xs) x = delivered_more xs x
 -- The start, with no item of the image read.
 pub none_read : (core : State) (left : Option (List ℕ)) (place : ℕ) → place ≡ 0
     → IfKnown left left (ReadsSoFar core core 0 place)
-none_read core left place first = known_same left left (ReadsSoFar core core 0 place) refl
-    (λ bytes. rw first (record {
-      items = [];
-      taken = Walks-nil 0 bytes;
-      on = tt;
-      counted = refl;
-      core = refl;
-    }))
+none_read core left place first = grind (arith, known_same, Walks-nil)
 
 pub walks_on : (p q : ℕ) (bytes ys zs : List ℕ) (items : List TapeItem) (item : TapeItem)
     → Walks 0 bytes items p ys → image.TakesItem p item q ys zs

@@ -21,13 +21,7 @@ use Rattle.tape_run.proofs.Turns.{one_mounted}
 -- all of one text was written, and a prefix of the next
 pub front_then : (old mid new : Option (List ℕ)) (a b more all : List ℕ) → Appends old mid a
     → AppendsFront mid new b → all ≡ (a ++ b) ++ more → AppendsFront old new all
-front_then old mid new a b more all wrote part is = (
-  a ++ part.0,
-  part.1 ++ more,
-  Appends-trans old mid new a part.0 wrote part.2,
-  is ∙ ap (λ t. (a ++ t) ++ more) part.3 ∙ ap (λ t. t ++ more) (sym (append_assoc a part.0 part.1))
-      ∙ append_assoc (a ++ part.0) part.1 more,
-)
+front_then old mid new a b more all wrote part is = grind (arith, append_assoc)
 
 image_lines-more : (n : ℕ) (lines : List (Option ImageLine)) (line : Option ImageLine)
     → image_lines n (lines ++ line ∷ []) ≡ image_lines n lines ++ image_line (n + length lines) line

@@ -191,15 +191,8 @@ pub some_images : {S L R : Type 0} (gs : Ghosts S)
     → TakesAll gs size before gives remaining back true mid new between left
     told says
     → wanted new.core ≢ wanted mid.core → 0 < size
-some_images {S} {L} {R} gs size before gives remaining back mid new
-    between left told says t
-    other = elim (cases_lt 0 size) [
-      | inl some ↦ some
-      | inr none ↦ absurd (other (ap (λ (s : SessionState S). wanted s.core) (t.none (omega (
-        arith,
-        none,
-      )))))
-    ]
+some_images {S} {L} {R} gs size before gives remaining back mid new between left told says t other =
+    grind (arith, cases_lt)
 
 -- one more pass was made, and it was the last
 pub takes_rounds : {S L R : Type 0} (gs : Ghosts S)

@@ -1,7 +1,6 @@
 -- A file recovered from the images of a shelf.
-use Rattle.std.proofs.Common.{◌≡◌, ℕ, inl, inr, arith, Bool, not, ◌&&◌, List, [], ◌++◌, Option, Some, None}
-use Rattle.std.proofs.Common.{refl}
-use Rattle.std.proofs.Common.{sym, ap, subst, ◌∙◌, append-nil}
+use Rattle.std.proofs.Common.{◌≡◌, ℕ, inl, inr, arith, Bool, not, ◌&&◌, List, [], ◌++◌, Option}
+use Rattle.std.proofs.Common.{Some, None, refl, sym, ap, subst, ◌∙◌, append-nil}
 use Rattle.tape_image.specs.Written.{AppendsFront}
 use Rattle.std.specs.Prelude.{option_map}
 use Rattle.std.specs.Io.KnownBytes.{Appends, Keeps}

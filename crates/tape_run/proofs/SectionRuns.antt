@@ -11,7 +11,7 @@ use Rattle.tape_run.specs.declared.{section.SectionKey.SectionKey, met.Met.Met, 
 use Rattle.tape_run.specs.declared.section.SectionState.TheVariants.{Good, Bad, Count}
 use Rattle.tape_run.specs.declared.passing.Phase.TheVariants.{Second, Headers, Data, Trailer}
 use Rattle.tape_run.specs.declared.passing.Phase.TheVariants.{Trailers, Next, Over}
-use Rattle.tape_run.specs.Passing.{Told, cut, told_with, closes, met_by, second_with, step, in_list}
+use Rattle.tape_run.specs.Passing.{Told, cut, closes, met_by, second_with, step, in_list}
 use Rattle.tape_run.specs.Passing.{phase_after, told_from}
 use Rattle.tape_set.specs.Lawful.{label_count}
 use Rattle.tape_run.proofs.NotedSoFar.{phase_after-append, told_from-append}
@@ -26,12 +26,7 @@ runs_nil p = record { after = refl; tells = refl }
 
 pub runs_append : (p q r : Phase) (xs ys : List TapeItem) (ts us : List Told) → Runs p xs q ts
     → Runs q ys r us → Runs p (xs ++ ys) r (ts ++ us)
-runs_append p q r xs ys ts us a b = record {
-  after = phase_after-append p xs ys ∙ ap (λ (s : Phase). phase_after s ys) a.after ∙ b.after;
-  tells = told_from-append p xs ys ∙ ap (λ (s : Phase). told_from p xs ++ told_from s ys) a.after
-      ∙ ap (λ (r : List Told). r ++ told_from q ys) a.tells
-      ∙ ap (λ (r : List Told). ts ++ r) b.tells;
-}
+runs_append p q r xs ys ts us a b = grind (arith, phase_after-append, told_from-append)
 
 pub runs_step : (p q : Phase) (x : TapeItem) (t : Option Told) → step p x ≡ (q, t)
     → Runs p (x ∷ []) q (in_list t)
@@ -105,12 +100,7 @@ pub runs_trailer : (v : List ℕ) (head : Head1) (trail : Trail1) (n : ℕ) (b :
     → trail1_at b ≡ Ok trail → trail.head.sequence ≡ head.sequence → trail.head.sect ≡ head.sect
     → trail.blocks ≡ label_count n → Runs (Trailer (whole_met v (key_of head) n)) (block b
     ∷ []) (Trailers v) (good_told v head trail n ∷ [])
-runs_trailer v head trail n b is file sect count =
-    runs_step (Trailer (whole_met v (key_of head) n)) (Trailers v) (block b)
-    (Some (good_told v head trail n))
-    (ap (told_with (whole_met v (key_of head) n)) is
-    ∙ told_good v (key_of head) trail n (cut (whole_met v (key_of head) n)) (closes
-    (whole_met v (key_of head) n) trail) (trail.blocks == label_count n) refl refl file sect count)
+runs_trailer v head trail n b is file sect count = grind (arith, runs_step, told_good, cut)
 
 -- a section's items
 abbrev pub section_items : List ℕ → List ℕ → List (List ℕ) → List (List ℕ) → List ℕ → List (List ℕ)

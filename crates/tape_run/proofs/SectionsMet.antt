@@ -81,14 +81,7 @@ ShownIfGood items (Some t) = t.1.state ≡ Good → Shown items t.0 t.1
 
 pub begins_more : (items : List TapeItem) (v : List ℕ) (more : List TapeItem) → BeginsVolume items v
     → BeginsVolume (items ++ more) v
-begins_more items v more b = record {
-  bytes = b.bytes;
-  more = b.more ++ more;
-  first = ap (λ (r : List TapeItem). r ++ more) b.first;
-  label = b.label;
-  is = b.is;
-  named = b.named;
-}
+begins_more items v more b = grind (arith)
 
 -- a section that is shown is still shown if more items follow
 unfoldable pub shown_more : (items : List TapeItem) (key : SectionKey) (entry : Entry)
@@ -127,14 +120,7 @@ headed items v b (Err _) e begins = tt
 
 pub begun : (b : List ℕ) (r : Result Vol1 LabelFault) → vol1_at b ≡ r
     → Stood (volume_with r) (block b ∷ [])
-begun b (Ok label) e = record {
-  bytes = b;
-  more = [];
-  first = refl;
-  label = label;
-  is = vol1_found b label e;
-  named = refl;
-}
+begun b (Ok label) e = grind (arith, vol1_found)
 begun b (Err _) e = tt
 
 pub labels_or : (items : List TapeItem) (v b : List ℕ) (is : Bool) → BeginsVolume items v
@@ -167,20 +153,7 @@ map_push (x ∷ xs) b = ap (λ (r : List TapeItem). block x ∷ r) (map_push xs 
 
 pub labelled_more : (items : List TapeItem) (met : Met) (b : List ℕ) → Labelled items met
     → Labelled (items ++ block b ∷ []) met
-labelled_more items met b h = record {
-  volume = begins_more _ _ (block b ∷ []) h.volume;
-  before = h.before;
-  hdr1 = h.hdr1;
-  hdr2 = h.hdr2;
-  headers = h.headers ++ b ∷ [];
-  head = h.head;
-  second = h.second;
-  stands = ap (λ (r : List TapeItem). r ++ block b ∷ []) h.stands ∙ append_assoc h.before
-      (block h.hdr1 ∷ block h.hdr2 ∷ map block h.headers) (block b ∷ []) ∙ ap (λ
-      (r : List TapeItem). h.before ++ block h.hdr1 ∷ block h.hdr2 ∷ r) (map_push h.headers b);
-  none = h.none;
-  good = h.good;
-}
+labelled_more items met b h = grind (arith, begins_more, append_assoc, map_push)
 
 -- lists put together again
 pub regroup_first : (before a : List TapeItem)

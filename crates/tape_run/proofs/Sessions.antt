@@ -70,14 +70,7 @@ pub kept_at : (place : State) (front : List Portion) (notes : List Point)
     → slice_get notes n ≡ Some c → KeepsNotes place front notes parts
     → KeptAt place front notes n c parts
 kept_at place front [] n c parts e h = absurd (cc)
-kept_at place front (d ∷ ds) zero c parts e (ps, a, s, rest) =
-    let same : d ≡ c = cc in
-    record {
-      ps = ps;
-      is_front = kept_front place ps ds parts rest;
-      note = subst (λ (z : Point). IsNote place z ps) same s;
-      left = (ps, a, s, front_self ps);
-    }
+kept_at place front (d ∷ ds) zero c parts e (ps, a, s, rest) = grind (arith, kept_front, front_self)
 kept_at place front (d ∷ ds) (suc n) c parts e (ps, a, s, rest) =
     let next = kept_at place ps ds n c parts e rest in
     let more : suc n + 1 ≡ suc (n + 1) = omega arith in

@@ -1,11 +1,11 @@
 -- Sections that are good in a catalogue remain good, and sections reported as good become good.
 use Rattle.std.proofs.Common.{◌≡◌, ℕ, Bool, true, false, List, [], ◌∷◌, Option, Some, None, refl}
-use Rattle.std.proofs.Common.{ap, ◌∙◌, arith, if◌then◌else◌, ◌==◌, ◌&&◌, not}
+use Rattle.std.proofs.Common.{ap, ◌∙◌, arith, if◌then◌else◌, ◌==◌, ◌&&◌}
 use Rattle.std.specs.List.{AllByRecursion}
 use Rattle.std.proofs.lemmas.{Slice.Eq.bytes_eq-Decides, Bool.Decides.nat_tests}
 use Rattle.tape_run.specs.declared.section.{SectionKey.SectionKey, SectionState.SectionState}
 use Rattle.tape_run.specs.declared.section.Entry.{Entry}
-use Rattle.tape_run.specs.declared.section.SectionState.TheVariants.{Good, Bad, Count, Cut}
+use Rattle.tape_run.specs.declared.section.SectionState.TheVariants.{Good}
 use Rattle.tape_run.specs.{Passing.Told, Lacks.entry_at, Lacks.IsGoodAt}
 use Rattle.tape_run.specs.Noted.{same_key, is_good, better, noted, noted_all}
 
@@ -23,24 +23,11 @@ good_is s e = ap is_good e
 
 -- a good entry is kept
 kept_good : (old new : Entry) → old.state ≡ Good → better old new ≡ old
-kept_good old new e = pick (is_good new.state) (is_good old.state) (good_is old.state e)
-  where
-    pick : (a b : Bool) → b ≡ true → (if a && not b then new else old) ≡ old
-    pick true true e = refl
-    pick false b e = refl
-    pick true false e = absurd (cc e)
+kept_good old new e = grind (arith, good_is)
 
 -- one of the two is good
 better_good : (old new : Entry) → new.state ≡ Good → (better old new).state ≡ Good
-better_good old new e = pick (is_good new.state) old.state refl (good_is new.state e)
-  where
-    pick : (a : Bool) (s : SectionState) → old.state ≡ s → a ≡ true
-        → (if a && not (is_good s) then new else old).state ≡ Good
-    pick true Good o h = o
-    pick true Bad o h = e
-    pick true Count o h = e
-    pick true Cut o h = e
-    pick false s o h = absurd (cc h)
+better_good old new e = grind (arith, good_is)
 
 abbrev at_if : Bool → Entry → Option Entry → Option Entry
 at_if b e rest = if b then Some e else rest
@@ -52,33 +39,10 @@ note_if b x xs t = if b then (x.0, better x.1 t.1) ∷ xs else x ∷ noted xs t
 stays_here : (x : Told) (xs : List Told) (t : Told) (key : SectionKey) (a b : Bool) (e : Entry)
     → same_key key x.0 ≡ a → e.state ≡ Good → at_if a x.1 (entry_at xs key) ≡ Some e
     → (entry_at xs key ≡ Some e → IsGoodAt (noted xs t) key) → IsGoodAt (note_if b x xs t) key
-stays_here x xs t key true true e is good at rest =
-    let same : x.1 ≡ e = cc in
-    record {
-      entry = e;
-      there = ap (λ (c : Bool). at_if c (better x.1 t.1) (entry_at xs key)) is
-          ∙ ap Some (kept_good x.1 t.1 (ap (λ (y : Entry). y.state) same ∙ good) ∙ same);
-      good = good;
-    }
-stays_here x xs t key true false e is good at rest =
-    record {
-      entry = e;
-      there = ap (λ (c : Bool). at_if c x.1 (entry_at (noted xs t) key)) is ∙ at;
-      good = good;
-    }
-stays_here x xs t key false true e is good at rest =
-    record {
-      entry = e;
-      there = ap (λ (c : Bool). at_if c (better x.1 t.1) (entry_at xs key)) is ∙ at;
-      good = good;
-    }
-stays_here x xs t key false false e is good at rest =
-    let r = rest at in
-    record {
-      entry = r.entry;
-      there = ap (λ (c : Bool). at_if c x.1 (entry_at (noted xs t) key)) is ∙ r.there;
-      good = r.good;
-    }
+stays_here x xs t key true true e is good at rest = grind (arith, kept_good)
+stays_here x xs t key true false e is good at rest = grind (arith, noted)
+stays_here x xs t key false true e is good at rest = grind (arith)
+stays_here x xs t key false false e is good at rest = grind (arith, noted)
 
 stays_one : (xs : List Told) (t : Told) (key : SectionKey) (e : Entry) → e.state ≡ Good
     → entry_at xs key ≡ Some e → IsGoodAt (noted xs t) key
@@ -89,18 +53,8 @@ stays_one (x ∷ xs) t key e good at = stays_here x xs t key (same_key key x.0)
 -- a section that is reported as good becomes good
 becomes_here : (x : Told) (xs : List Told) (t : Told) (b : Bool) → same_key t.0 x.0 ≡ b
     → t.1.state ≡ Good → IsGoodAt (noted xs t) t.0 → IsGoodAt (note_if b x xs t) t.0
-becomes_here x xs t true is good rest =
-    record {
-      entry = better x.1 t.1;
-      there = ap (λ (c : Bool). at_if c (better x.1 t.1) (entry_at xs t.0)) is;
-      good = better_good x.1 t.1 good;
-    }
-becomes_here x xs t false is good rest =
-    record {
-      entry = rest.entry;
-      there = ap (λ (c : Bool). at_if c x.1 (entry_at (noted xs t) t.0)) is ∙ rest.there;
-      good = rest.good;
-    }
+becomes_here x xs t true is good rest = grind (arith, better_good)
+becomes_here x xs t false is good rest = grind (arith, noted)
 
 becomes_one : (xs : List Told) (t : Told) → t.1.state ≡ Good → IsGoodAt (noted xs t) t.0
 becomes_one [] t good =

@@ -83,13 +83,7 @@ by_part form true begun bytes ps h all =
     ap (λ t. begun_text begun ++ (t ++ stream form ps)) (append-nil bytes)
     ∙ sym (append_assoc (begun_text begun) bytes (stream form ps))
     ∙ ap (λ t. t ++ stream form ps) (sym content) ∙ all (Some (content_after begun bytes)) h
-by_part form false begun bytes ps h all =
-    let end = record_end form in
-    let rest = records_text form (join_after None ps).records in
-    ap (λ t. begun_text begun ++ ((bytes ++ end) ++ t)) (tail_by form ps (ends ps) refl all)
-    ∙ sym (append_assoc (begun_text begun) (bytes ++ end) rest)
-    ∙ ap (λ t. t ++ rest) (sym (append_assoc (begun_text begun) bytes end)
-    ∙ ap (λ t. t ++ end) (sym (content_is begun bytes)))
+by_part form false begun bytes ps h all = grind (arith, tail_by, append_assoc, content_is)
 
 streamed : (form : Form) (ps : List Portion) → IsStreamed form ps
 streamed form [] begun h = absurd (omega arith)
@@ -197,21 +191,7 @@ pub stream_skips : (form : Form) (ahead after : List Portion → Type 0) (from e
     → ((xs : List Portion) → ahead xs → GivesPart (Ok (Some part)) xs after)
     → next ≡ with_end (leaves part.span) ended → Streams form after from next old new parts
 stream_skips form ahead after from ended next old new parts part s less gives e =
-    let (rest, is, there) = gives s.rest s.is_ahead in
-    let p = view part in
-    record {
-      rest = rest;
-      is_ahead = there;
-      counted = ap (λ n. n + ends rest) e
-          ∙ ends_next (leaves part.span) ended (ends rest) (ends parts)
-          (ap (λ xs. ended + ends xs) (sym is) ∙ s.counted);
-      done = s.done;
-      wrote = s.wrote;
-      text = ap (λ n. s.done ++ stream_from (from - n) form rest) e
-          ∙ ap (λ t. s.done ++ t) (sym (skipped form (leaves part.span) (from - ended - 1) from
-          ended p rest refl (omega (arith, less)))
-          ∙ ap (stream_from (from - ended) form) (sym is)) ∙ s.text;
-    }
+    grind (arith, ends_next, skipped)
 
 -- the text of the next part, and of those behind it
 next_text : (form : Form) (from ended : ℕ) (p : Portion) (ps : List Portion) → from ≤ ended
@@ -262,12 +242,7 @@ pub stream_ended : (form : Form) (ahead : List Portion → Type 0) (from ended r
     → records ≡ length (join parts).records
     → Appends old new (records_text form (drop from (join parts).records))
 stream_ended form ahead from ended records old new parts s le e =
-    let all = count_ends None parts in
-    let counted = s.counted in
-    let none : stream_from (from - ended) form s.rest ≡ [] =
-    from_none form (from - ended) s.rest (omega (arith, counted, le, e, all)) in
-    subst (Appends old new)
-    (sym (append-nil s.done) ∙ ap (λ t. s.done ++ t) (sym none) ∙ s.text) s.wrote
+    grind (arith, count_ends, from_none, append-nil)
 
 pub stream_failed : (form : Form) (ahead after : List Portion → Type 0) (from ended records : ℕ)
     (old mid new : Option (List ℕ)) (parts : List Portion) (part : Part)

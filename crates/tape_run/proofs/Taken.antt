@@ -6,20 +6,19 @@ use Rattle.tape_image.specs.Tape.{TapeItem, block}
 use Rattle.tape_set.specs.{Lawful.FileForm, Position.part_of, Position.at_part, Position.next_block}
 use Rattle.tape_core.specs.declared.event.{Answer.Answer, Answer.TheVariants.Deliver}
 use Rattle.tape_core.specs.Place.{place_of, rest_of, IsPlaced}
-use Rattle.tape_core.specs.{State.State, Table.saved, Table.step_of}
-use Rattle.tape_run.specs.{Mount.cut, Mount.after_mount, Puts.IsChecked, Puts.refused_point}
+use Rattle.tape_core.specs.{Follows.Checked, State.State, Table.saved, Table.step_of}
+use Rattle.tape_run.specs.{Mount.cut, Mount.after_mount, Puts.refused_point}
 use Rattle.tape_run.specs.Taking.{TakesItem, RefusesItem}
 use Rattle.tape_run.proofs.Mounts.{both, reached}
 use Rattle.tape_run.proofs.Places.{delivered_at, refused_at, refused_position, gives_block}
 use Rattle.tape_run.proofs.Places.{gives_none, came_block}
 
 -- the parts of a block that was checked
-pub checked_parts : (item : Option TapeItem) (new : State) (k : IsChecked item new) (bytes : List ℕ)
-    → item ≡ Some (block bytes) → Holds k.known.format k.known.rec_len k.known.offset bytes k.parts
-checked_parts item new k bytes is =
-    let same : k.bytes ≡ bytes = let e = k.is_block in cc in
-    subst (λ (b : List ℕ). Holds k.known.format k.known.rec_len k.known.offset b k.parts) same
-    k.holds
+pub checked_parts : (core new : State) (bytes : List ℕ) (k : Checked (Some (block bytes)) core new)
+    → Holds k.form.format k.form.rec_len k.form.offset bytes k.parts
+checked_parts core new bytes k =
+    let same : k.bytes ≡ bytes = let e = k.came in cc in
+    subst (λ (b : List ℕ). Holds k.form.format k.form.rec_len k.form.offset b k.parts) same k.holds
 
 -- nothing was delivered
 pub takes_other : (core new : State) (answer : Answer) (came : Option TapeItem)

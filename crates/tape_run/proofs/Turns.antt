@@ -21,12 +21,7 @@ pub lines_more : (n : ℕ) (turns more : List Turn)
     ≡ reel_lines n (map answer_of turns) ++ reel_lines (n + length turns) (map answer_of more)
 lines_more n [] more =
     ap (λ m. reel_lines m (map answer_of more)) (let same : n ≡ n + 0 = omega arith in same)
-lines_more n (t ∷ turns) more =
-    let same : n + 1 + length turns ≡ n + length (t ∷ turns) = omega arith in
-    ap (λ l. reel_line n (answer_of t) ++ l) (lines_more (n + 1) turns more
-    ∙ ap (λ m. reel_lines (n + 1) (map answer_of turns) ++ reel_lines m (map answer_of more)) same)
-    ∙ sym (append_assoc (reel_line n (answer_of t)) (reel_lines (n + 1) (map answer_of turns))
-    (reel_lines (n + length (t ∷ turns)) (map answer_of more)))
+lines_more n (t ∷ turns) more = grind (arith, append_assoc, lines_more (n + 1) turns more)
 
 -- the line of one more image after those before it
 pub line_behind : (from : ℕ) (old mid new : Option (List ℕ)) (turns : List Turn) (t : Turn)

@@ -57,12 +57,7 @@ Completes n = (part : ℕ)
     (reading 2 (replicate 10 true)) ≡ Finished
 
 all_completes : (n : ℕ) → 11 ≤ n → Completes n
-all_completes n le part =
-    let e : take n (replicate 11 true) ≡ replicate 11 true =
-    take_all n (replicate 11 true) le in
-    ap (λ g. far worked_set 1 (far worked_set 1
-    (at_part part (far worked_set 1 start (reading 1 g))) (reading 1 (replicate 11 true)))
-    (reading 2 (replicate 10 true))) e
+all_completes n le part = grind (arith)
 
 completes : (n : ℕ) → Completes n
 completes =

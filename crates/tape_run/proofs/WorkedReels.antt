@@ -98,28 +98,12 @@ ended : (bytes : List ℕ) (ss : List Spelling) (n : ℕ)
     → bytes ≡ flat_map (λ s. s.bytes) ss ++ an_end → length bytes ≡ n + 4 → n + 4 ≤
     begin.image_limit
     → Begins 0 bytes (items_of ss) n (ends Marked)
-ended bytes ss n e size within = record {
-  rest = an_end;
-  walks = record {
-    leads = record { spellings = ss; whole = e; items_are = refl };
-    moves = omega (arith, size);
-  };
-  within = omega (arith, within);
-  stops = begin.at_end_word (lit≤ tt) refl within refl;
-}
+ended bytes ss n e size within = grind (arith)
 
 -- spellings, and nothing more
 all_of : (bytes : List ℕ) (ss : List Spelling) (n : ℕ) → bytes ≡ flat_map (λ s. s.bytes) ss ++ []
     → length bytes ≡ n → n ≤ begin.image_limit → Begins 0 bytes (items_of ss) n (ends Physical)
-all_of bytes ss n e size within = record {
-  rest = [];
-  walks = record {
-    leads = record { spellings = ss; whole = e; items_are = refl };
-    moves = omega (arith, size);
-  };
-  within = within;
-  stops = begin.nothing refl refl;
-}
+all_of bytes ss n e size within = grind (arith)
 
 -- encodings, followed by a prefix of a block of 18 characters
 cut_off : (bytes : List ℕ) (ss : List Spelling) (n : ℕ)

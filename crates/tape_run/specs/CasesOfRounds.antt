@@ -6,7 +6,7 @@ use Rattle.tape_blocks.specs.declared.parts.Form.{Form}
 use Rattle.tape_set.specs.declared.position.Position.TheVariants.{Awaits, Finished}
 use Rattle.tape_set.specs.declared.position.Want.{Want}
 use Rattle.tape_core.specs.State.{State}
-use Rattle.tape_run.specs.CasesOfExtracts.{Listed, as_sink, Known, Readers}
+use Rattle.tape_run.specs.CasesOfExtracts.{Listed, as_sink, Known, Readers, StopsListed}
 use Rattle.tape_run.specs.Extracting.{Ends, EndsFile, StopsAtEnd, IsWritten, TellsEnd}
 use Rattle.tape_run.specs.ExtractingAgain.{ExtractsAgain, StopsAgain}
 use Rattle.tape_image.specs.Written.{AppendsFront}
@@ -79,8 +79,17 @@ pub record CasesOfRounds : Type 0 where
       (s : StopsAtEnd as_sink session form (λ w. w) out now said says WriteFailed)
       → AppendsFront said says (last_line s.want s.records)
       × TellsEnd (AppendsFront said says []) s.want s.records (seen as_sink session session.sink)
-      × ((now ≡ out)
-      ⊎ ((session.core.position ≡ Finished) × AppendsFront out now (output_of form session.sink)))
+      × (((now ≡ out) × (AppendsFront said says [] ⊎ (s.want ≢ None)))
+      ⊎ ((session.core.position ≡ Finished)
+      × ((AppendsFront out now (output_of form session.sink) × AppendsFront said says [])
+      ⊎ Appends out now (output_of form session.sink))))
+  -- if anything of a last line was reported that says that nothing is missing, the records were
+  -- written
+  pub complete_is_written : (session behind : Listed) (shelf left : Readers) (form : Form)
+      (out now said says : Known) (s : StopsListed session behind shelf left form out now said says)
+      → IsKeptFor (goes_back session.notes) (seen as_sink session session.sink)
+      → s.want ≡ None → (AppendsFront said says (reel_lines 1 (map answer_of s.turns)) → ⊥)
+      → (p : Seen) × Appends out now (output_of form p.parts)
   -- the lines are those of all passes, numbered continuously
   pub again : (session behind : Listed) (shelf left : Readers) (form : Form)
       (out now said says : Known) (want : Option Want)
@@ -117,7 +126,8 @@ pub record CasesOfRounds : Type 0 where
       × AppendsFront said says
       (reel_lines 1 (map answer_of (turns_of s.rounds ++ s.turns))
       ++ last_line s.want s.records)
-  -- and the output was not touched, or the file is complete and a prefix of its records was written
+  -- and the output was not touched, or the file is complete and a prefix of its records was
+  -- written: all of them if anything of a last line was reported that says so
   pub again_output : (session behind : Listed) (shelf left : Readers) (form : Form)
       (out now said says : Known)
       (s : StopsAgainListed session behind shelf left form out now said says)
@@ -127,5 +137,8 @@ pub record CasesOfRounds : Type 0 where
       (seen as_sink session session.sink) s.rounds s.turns last x
       × TellsEnd (AppendsFront said says (reel_lines 1
       (map answer_of (turns_of s.rounds ++ s.turns)))) s.want s.records x
-      × ((now ≡ out) ⊎ ((x.place.position ≡ Finished)
-      × AppendsFront out now (output_of form x.parts)))
+      × (((now ≡ out) × (AppendsFront said says (reel_lines 1
+      (map answer_of (turns_of s.rounds ++ s.turns))) ⊎ (s.want ≢ None)))
+      ⊎ ((x.place.position ≡ Finished) × ((AppendsFront out now (output_of form x.parts)
+      × AppendsFront said says (reel_lines 1 (map answer_of (turns_of s.rounds ++ s.turns))))
+      ⊎ Appends out now (output_of form x.parts))))

@@ -58,9 +58,25 @@ abbrev pub TellsEnd : Type 0 → Option Want → ℕ → Seen → Type 0
 TellsEnd less want records now = less ⊎ ((want ≡ want_at now.place.file now.place.position)
     × (want ≡ None → records ≡ length (join now.parts).records))
 
+-- What a fault leaves of the output. It is untouched, and the last line, if anything of it was
+-- reported, does not say that the file is complete. Or the file is complete; then either nothing of
+-- that line was reported, or the output is complete.
+abbrev pub Leaves : Type 0 → Option Want → Type 0 → Type 0 → Type 0 → Type 0 → Type 0
+Leaves less want untouched finished some all =
+    (untouched × (less ⊎ (want ≢ None))) ⊎ (finished × ((some × less) ⊎ all))
+
+-- The output is untouched, or a prefix of the records of the complete file was written: all of them
+-- if anything of a last line was reported that says that the file is complete.
+abbrev pub LeavesOutput : {W : Type 0} → Type 0 → Option Want → Form → (W → Option (List ℕ)) → W → W
+    → Seen → Type 0
+LeavesOutput less want form contents out written now =
+    Leaves less want (written ≡ out) (now.place.position ≡ Finished)
+    (AppendsFront (contents out) (contents written) (output_of form now.parts))
+    (Appends (contents out) (contents written) (output_of form now.parts))
+
 -- The end of a run with a fault: a prefix of the line was reported, and the output was not touched,
 -- or the file is complete and a prefix of its records was written. Nothing of the line was reported
--- unless a write failed.
+-- unless a write failed, nor that the file is complete unless all records were written.
 pub record StopsAtEnd {S W : Type 0} (g : Ghosts S) (session : SessionState S) (form : Form)
     (contents : W → Option (List ℕ)) (out written : W) (said says : Option (List ℕ))
     (fault : EngineFault) : Type 0 where
@@ -69,9 +85,8 @@ pub record StopsAtEnd {S W : Type 0} (g : Ghosts S) (session : SessionState S) (
   pub line : AppendsFront said says (last_line want records)
   pub told : fault ≢ WriteFailed → says ≡ said
   pub tells : IfSeen g session (TellsEnd (AppendsFront said says []) want records)
-  pub is_written : IfSeen g session (λ is. (written ≡ out)
-      ⊎ ((session.core.position ≡ Finished)
-      × AppendsFront (contents out) (contents written) (output_of form is.parts)))
+  pub is_written : IfSeen g session
+      (LeavesOutput (AppendsFront said says []) want form contents out written)
 
 -- Images were read in their order, all of them or up to the one that completed the file; a line was
 -- reported for each, and a last one with the missing part or the number of records in the file; and
@@ -91,7 +106,8 @@ pub record Extracts {S L R : Type 0} (g : Ghosts S) (size : L → ℕ) (gives : 
 
 -- A fault ended the run: the report is a prefix of such a report on the images that were processed,
 -- which are the first of the images, and exactly their lines unless a write failed; and the output
--- was not touched, or the file is complete and a prefix of its records was written.
+-- was not touched, or the file is complete and a prefix of its records was written: all of them if
+-- anything of COMPLETE was reported.
 pub record Stops {S L R W : Type 0} (g : Ghosts S) (size : L → ℕ) (gives : Mounting L R)
     (remaining : R → Option (List ℕ)) (old new : SessionState S) (shelf left : L) (form : Form)
     (contents : W → Option (List ℕ)) (out written : W) (said says : Option (List ℕ))
@@ -110,5 +126,5 @@ pub record Stops {S L R W : Type 0} (g : Ghosts S) (size : L → ℕ) (gives : M
       × (LeavesSaved g old was.parts now new
       × IsStopped g remaining (goes_back old.notes) now image fault new)
       × TellsEnd (AppendsFront said says (reel_lines 1 (map answer_of turns))) want records now
-      × ((written ≡ out) ⊎ ((now.place.position ≡ Finished)
-      × AppendsFront (contents out) (contents written) (output_of form now.parts))))
+      × LeavesOutput (AppendsFront said says (reel_lines 1 (map answer_of turns))) want form
+      contents out written now)

@@ -1,9 +1,8 @@
 -- What `extract` leaves after several passes over the images.
-use Rattle.std.specs.Prelude.{◌≡◌, ◌≢◌, ◌⊎◌, ℕ, ◌<◌, ◌≤◌, List, ◌++◌, length, map, Option}
+use Rattle.std.specs.Prelude.{◌≡◌, ◌≢◌, ℕ, ◌<◌, ◌≤◌, List, ◌++◌, length, map, Option}
 use Rattle.std.specs.Prelude.{None, true}
 use Rattle.std.specs.Io.KnownBytes.{Appends}
 use Rattle.tape_blocks.specs.declared.parts.Form.{Form}
-use Rattle.tape_set.specs.declared.position.Position.TheVariants.{Finished}
 use Rattle.tape_set.specs.declared.position.Want.{Want}
 use Rattle.tape_core.specs.State.{State}
 use Rattle.tape_core.specs.declared.sink.PartSink.{Ghosts}
@@ -11,9 +10,8 @@ use Rattle.tape_run.specs.Crash.{LeavesSaved}
 use Rattle.tape_run.specs.Stopping.{IsStopped}
 use Rattle.tape_run.specs.declared.fault.EngineFault.{EngineFault}
 use Rattle.tape_run.specs.declared.fault.EngineFault.TheVariants.{WriteFailed}
-use Rattle.tape_run.specs.Extracting.{Ends, TellsEnd}
+use Rattle.tape_run.specs.Extracting.{Ends, TellsEnd, LeavesOutput}
 use Rattle.tape_image.specs.Written.{AppendsFront}
-use Rattle.tape_run.specs.RecordText.{output_of}
 use Rattle.tape_run.specs.ReelLine.{reel_lines, last_line}
 use Rattle.tape_run.specs.Reeling.{Turn, answer_of, AreTurns, AreFirstTurns, Mounting, goes_back}
 use Rattle.tape_run.specs.Reeling.{IsKeptFor, StoodSaved}
@@ -50,7 +48,8 @@ pub record ExtractsAgain {S L R : Type 0} (g : Ghosts S) (size : L → ℕ) (giv
 -- A fault ended the passes. The images that were processed are those of passes that recovered
 -- something, and the first images of another pass. The report is a prefix of the report on these
 -- images, and exactly their lines unless a write failed. The output was not touched; or the file is
--- complete and a prefix of its records was written.
+-- complete and a prefix of its records was written: all of them if anything of COMPLETE was
+-- reported.
 pub record StopsAgain {S L R W : Type 0} (g : Ghosts S) (size : L → ℕ) (gives : Mounting L R)
     (remaining : R → Option (List ℕ)) (old new : SessionState S) (shelf left : L) (form : Form)
     (contents : W → Option (List ℕ)) (out written : W) (said says : Option (List ℕ))
@@ -75,5 +74,5 @@ pub record StopsAgain {S L R W : Type 0} (g : Ghosts S) (size : L → ℕ) (give
       × IsStopped g remaining (goes_back old.notes) now image fault new)
       × TellsEnd (AppendsFront said says
       (reel_lines 1 (map answer_of (turns_of rounds ++ turns)))) want records now
-      × ((written ≡ out) ⊎ ((now.place.position ≡ Finished)
-      × AppendsFront (contents out) (contents written) (output_of form now.parts))))
+      × LeavesOutput (AppendsFront said says
+      (reel_lines 1 (map answer_of (turns_of rounds ++ turns)))) want form contents out written now)

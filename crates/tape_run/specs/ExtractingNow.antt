@@ -1,5 +1,5 @@
 -- What `extract` leaves if the records are written while the images are read.
-use Rattle.std.specs.Prelude.{◌≡◌, ◌≢◌, ◌⊎◌, ℕ, ◌<◌, ◌≤◌, List, ◌++◌, length, map, Option}
+use Rattle.std.specs.Prelude.{◌≡◌, ◌≢◌, ℕ, ◌<◌, ◌≤◌, List, ◌++◌, length, map, Option}
 use Rattle.std.specs.Prelude.{Some, None, ⊤, false}
 use Rattle.std.specs.Io.KnownBytes.{Appends}
 use Rattle.tape_blocks.specs.Block.{Portion}
@@ -12,7 +12,7 @@ use Rattle.tape_core.specs.declared.sink.PartSink.{Ghosts}
 use Rattle.tape_run.specs.Seen.{Seen, IfSeen, IsSeen}
 use Rattle.tape_run.specs.SessionState.{SessionState}
 use Rattle.tape_blocks.specs.declared.parts.Form.{Form}
-use Rattle.tape_run.specs.Extracting.{TellsEnd}
+use Rattle.tape_run.specs.Extracting.{TellsEnd, Leaves}
 use Rattle.tape_run.specs.Stopping.{IsStopped}
 use Rattle.tape_run.specs.declared.fault.EngineFault.{EngineFault}
 use Rattle.tape_run.specs.declared.fault.EngineFault.TheVariants.{WriteFailed}
@@ -61,9 +61,9 @@ pub record ExtractsNow {S L R : Type 0} (g : Ghosts S) (size : L → ℕ) (gives
 -- line was reported, and the file with the name is unchanged; or that file is exactly the records.
 abbrev pub LeavesName : {O : Type 0} → Type 0 → Option Want → Form → Type 0
     → (O → Option (List ℕ)) → O → O → Seen → Type 0
-LeavesName less want form tells stands out put now = ((put ≡ out) × (less ⊎ (want ≢ None)))
-    ⊎ ((now.place.position ≡ Finished) × (((stands put ≡ stands out) × less)
-    ⊎ (tells → stands put ≡ Some (output_of form now.parts))))
+LeavesName less want form tells stands out put now =
+    Leaves less want (put ≡ out) (now.place.position ≡ Finished) (stands put ≡ stands out)
+    (tells → stands put ≡ Some (output_of form now.parts))
 
 -- A fault ended the run: the report is a prefix of such a report, for the first of the images, and
 -- exactly their lines unless a write failed; and the output's name was not touched, or the file is

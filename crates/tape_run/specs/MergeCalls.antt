@@ -128,10 +128,11 @@ pub record DiffersAt {R : Type 0} (firsts nows : List (Reading R)) (n : ℕ) (ol
   pub wrote : PutItems merged old new
 
 -- Up to some item there was such a tape, and its items were written.
-pub record HasWritten {R : Type 0} (firsts : List (Reading R)) (old new : Writer) : Type 0 where
+pub record HasWritten {R : Type 0} (have : List (Reading R) → List (List TapeItem) → Type 0)
+    (old new : Writer) : Type 0 where
   pub mids : List (Reading R)
   pub fronts : List (List TapeItem)
-  pub had : HaveTaken firsts mids fronts
+  pub had : have mids fronts
   pub merged : List TapeItem
   pub is : IsMerged fronts merged
   pub wrote : PutItems merged old new
@@ -163,7 +164,7 @@ pub record StopsLogging (have : List (List TapeItem) → Type 0) (old new : Writ
 abbrev pub FitsFault : {R : Type 0} → List (Reading R) → List (Reading R) → Writer → Writer
     → MergeFault → Type 0
 FitsFault firsts nows old new (faults.Differ n) = DiffersAt firsts nows n old new
-FitsFault firsts nows old new faults.OutOfMemory = HasWritten firsts old new
+FitsFault firsts nows old new faults.OutOfMemory = HasWritten (HaveTaken firsts) old new
 FitsFault firsts nows old new faults.Log = StopsLogging (HaveTaken firsts nows) old new
 FitsFault firsts nows old new (faults.Write fault) =
     RefusesLast (HaveTaken firsts nows) fault old new

@@ -147,20 +147,21 @@ Misses missing long stops.OutOfMemory = ⊤
 Misses missing long stops.WriteFailed = ⊤
 Misses missing long stops.LogFailed = ⊤
 
--- Lines about readings were reported, or a prefix of them; or also lines about an item at which
--- they differ: none about a merged image. If the bytes of the images are known, the lines are about
--- what was read of them.
-abbrev pub ReportsNoImage : Type 0 → ((List (List ℕ) → Type 0) → Type 0) → List (List ℕ)
+-- Lines about so many readings were reported, or a prefix of them; or also lines about an item at
+-- which they differ: none about a merged image. If the bytes of the images are known, the lines are
+-- about what was read of them.
+abbrev pub ReportsNoImage : Type 0 → ((List (List ℕ) → Type 0) → Type 0) → List (List ℕ) → ℕ
     → Option (List ℕ) → Option (List ℕ) → Type 0
-ReportsNoImage R if_known names old new = (nows : List (Reading R))
+ReportsNoImage R if_known names count old new = (nows : List (Reading R)) × (length nows ≡ count)
     × ((AppendsFront old new (lines_from (reading_line names) 0 nows)
     × if_known (λ images. (readings : List (List TapeItem)) × TakeImages images nows readings))
     ⊎ ((n : ℕ) × AppendsFront old new (lines_from (reading_line names) 0 nows ++ (differ_line n
     ++ lines_from (has_line names) 0 nows)) × if_known (λ images. DifferImages images nows n)))
 
--- Lines about readings and one about a merged image were reported, or a prefix of these.
-abbrev pub ReportsImage : Type 0 → List (List ℕ) → Option (List ℕ) → Option (List ℕ) → Type 0
-ReportsImage R names old new = (nows : List (Reading R)) × (counts : Merged) × (ends : MergedEnd)
+-- Lines about so many readings and one about a merged image were reported, or a prefix of these.
+abbrev pub ReportsImage : Type 0 → List (List ℕ) → ℕ → Option (List ℕ) → Option (List ℕ) → Type 0
+ReportsImage R names count old new = (nows : List (Reading R)) × (length nows ≡ count)
+    × (counts : Merged) × (ends : MergedEnd)
     × AppendsFront old new (lines_from (reading_line names) 0 nows ++ merged_line counts ends)
 
 -- The output's place and the report after a fault: the place was not touched, and no merged image

@@ -1,5 +1,5 @@
 -- Merging, in terms of the bytes of images.
-use Rattle.std.specs.Prelude.{◌≡◌, ℕ, ◌+◌, List, [], ◌∷◌, ◌++◌, length, map, take, Option}
+use Rattle.std.specs.Prelude.{◌≡◌, ◌⊎◌, ℕ, ◌+◌, List, [], ◌∷◌, ◌++◌, length, map, take, Option}
 use Rattle.std.specs.Prelude.{Some, ⊤}
 use Rattle.std.specs.Io.KnownBytes.{Appends}
 use Rattle.tape_image.specs.Tape.{TapeItem}
@@ -13,7 +13,7 @@ use Rattle.tape_run.specs.Merging.{IsMerged, Differ}
 use Rattle.tape_run.specs.MergeSteps.{bads, block_length, AllStopped, AreUpTo, AreJudgedAt}
 use Rattle.tape_run.specs.MergeLaws.{TakesAs}
 use Rattle.tape_run.specs.MergeLog.{log_rows}
-use Rattle.tape_run.specs.MergeCalls.{Counts, RefusesLast, StopsLogging}
+use Rattle.tape_run.specs.MergeCalls.{Counts, HasWritten, RefusesLast, StopsLogging}
 
 -- The fields record where the last item of the image begins, and its length.
 pub data LastIsAt {R : Type 0} (bytes : List ℕ) (now : Reading R) (items : List TapeItem) : Type 0
@@ -78,12 +78,15 @@ pub record DifferImages {R : Type 0} (images : List (List ℕ)) (nows : List (Re
   pub is : IsMerged (map (take (length merged)) readings) merged
   pub count : length merged + 1 ≡ n
 
--- A write fails because the merged image would be too long, or because the device fails; the log
--- only if it gets a row.
+-- The items before a difference were written. If memory ran out nothing was written, or the items
+-- of the merged tape of what was read up to some item. A write fails because the merged image would
+-- be too long, or because the device fails; the log only if it gets a row.
 abbrev pub FaultsImages : {R : Type 0} → List (List ℕ) → List (Reading R) → Writer → Writer
     → MergeFault → Type 0
-FaultsImages images nows old new (faults.Differ n) = DifferImages images nows n
-FaultsImages images nows old new faults.OutOfMemory = ⊤
+FaultsImages images nows old new (faults.Differ n) =
+    (d : DifferImages images nows n) × PutItems d.merged old new
+FaultsImages {R = R} images nows old new faults.OutOfMemory =
+    (new ≡ old) ⊎ HasWritten {R = R} (TakeImages images) old new
 FaultsImages images nows old new faults.Log = StopsLogging (TakeImages images nows) old new
 FaultsImages images nows old new (faults.Write fault) =
     RefusesLast (TakeImages images nows) fault old new

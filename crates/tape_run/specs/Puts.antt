@@ -1,24 +1,11 @@
 -- Parts of a block that were put.
 use Rattle.std.specs.Prelude.{◌≡◌, ℕ, ◌<◌, ◌≤◌, ◌==◌, Bool, if◌then◌else◌, List, ◌++◌, length, take}
-use Rattle.std.specs.Prelude.{drop, Option, Some}
-use Rattle.tape_blocks.specs.{Block.Portion, Block.Holds, Judged.begun_behind, Spans.InOrder}
-use Rattle.tape_image.specs.Tape.{TapeItem, block}
-use Rattle.tape_set.specs.{Lawful.FileForm, Position.part_of}
+use Rattle.std.specs.Prelude.{drop}
+use Rattle.tape_blocks.specs.{Block.Portion, Judged.begun_behind}
+use Rattle.tape_set.specs.Position.{part_of}
 use Rattle.tape_core.specs.{Point.Point, State.State, Table.saved, Stands.inside_block}
 use Rattle.tape_core.specs.Place.{place_of}
 use Rattle.tape_run.specs.declared.reel_reader.Refused.{Refused}
-
--- The block was checked: it contains parts in span order, in the known form.
-pub record IsChecked (item : Option TapeItem) (new : State) : Type 0 where
-  pub bytes : List ℕ
-  pub is_block : item ≡ Some (block bytes)
-  pub known : FileForm
-  pub is_known : new.known ≡ Some known
-  pub begun : Bool
-  pub end : Bool
-  pub parts : List Portion
-  pub holds : Holds known.format known.rec_len known.offset bytes parts
-  pub order : InOrder begun parts end
 
 -- The parts of a block from the first on, up to the refused one, were put.
 pub record PutsFew (holds : List Portion → Type 0) (held parts : List Portion) (first : ℕ)

@@ -1,29 +1,28 @@
 //! Reads a reel into a sink, and returns the outcome.
 
-ghost use Rattle.std.specs.Prelude.{◌≡◌, is_some, true, false, ◌+◌, ◌++◌, ◌<◌, ◌≤◌, List, Some};
+ghost use Rattle.std.specs.Prelude.{◌≡◌, ℕ, ◌+◌, ◌++◌, ◌<◌, ◌≤◌, List, Some};
 ghost use Rattle.std.specs.Prelude.{None, OnOk, OnErr, IfOk, IfErr, IfSome, length, drop, Bool};
 ghost use Rattle.tape_image.specs.Reader.{going, seen, IfKnown};
-ghost use Rattle.tape_image.specs.Tape.{block};
 ghost use Rattle.tape_blocks.specs.Block.{Portion, Holds};
 ghost use Rattle.tape_blocks.specs.Spans.{InOrder};
 ghost use Rattle.tape_blocks.specs.Packing.{longest_block};
 ghost use Rattle.tape_set.specs.Lawful.{FileForm};
 ghost use Rattle.tape_set.specs.Position.{part_of};
-ghost use Rattle.tape_core.specs.Known.{is_finished};
+ghost use Rattle.tape_core.specs.Follows.{IsAwaited};
 ghost use Rattle.tape_core.specs.Place.{rest_of, place_of};
 ghost use Rattle.tape_core.specs.Arrive.{arrival};
-ghost use Rattle.tape_core.specs.Table.{saved};
+ghost use Rattle.tape_core.specs.Table.{saved, after_block};
 ghost use Rattle.tape_core.specs.Weight.{IsFront};
 ghost use Rattle.tape_run.specs.Crash.{BringsNoMore};
 ghost use Rattle.tape_run.specs.Given.{is_device};
-ghost use Rattle.tape_run.specs.Puts.{IsChecked, refused_point, PutUpTo, PutsFew};
+ghost use Rattle.tape_run.specs.Puts.{refused_point, PutUpTo, PutsFew};
 ghost use Rattle.tape_run.specs.Reels.{ReadsReel, ReadsToBlock, StopsAt};
 ghost use Rattle.tape_run.specs.Steps.{IsRefused};
 ghost use Rattle.tape_run.specs.Taking.{ReadsImage, RefusesImage, CutsTable, came_of, fault_of};
 
 use std::io::Read;
 use tape_blocks::{Parts, Shape};
-use tape_core::{Answer, Checkpoint, Event, PartSink, ReaderCore, SinkFault};
+use tape_core::{Answer, Awaited, Event, PartSink, ReaderCore, SinkFault};
 use tape_image::{ImageCause, ImageFault, ImageReader, Item};
 use tape_set::Position;
 
@@ -143,60 +142,50 @@ fn event_of<'a>(told: Result<Option<Item<'a>>, ImageFault>) -> (Event<'a>, Optio
     }
 }
 
-/// Returns the number of the expected part.
-fn part_of(position: Position) -> u32
-    ensures { result ≡ part_of position }
-{
-    match position {
-        Position::Awaits { part, .. } => part,
-        Position::Finished => 0,
-    }
-}
-
-/// Moves a core back to the refused part of the block that it delivered after checkpoint `before`.
+/// Moves a core to the refused part of the expected block.
 #[cold]
 #[inline(never)]
-fn go_back(core: &mut ReaderCore, before: &Checkpoint, refused: &Refused)
-    requires waits { is_finished before.now.position ≡ false }
-    requires from { part_of before.now.position ≤ refused.now.part }
+fn go_back(core: &mut ReaderCore, awaited: Awaited, refused: &Refused)
+    requires awaited { (bytes : List ℕ) × IsAwaited core.old bytes awaited }
+    requires from { part_of core.old.position ≤ refused.now.part }
     requires few { refused.now.part ≤ longest_block }
-    requires known { is_some core.old.known ≡ true }
-    requires same_set { before.now.set_id ≡ core.old.set_id }
-    requires same_file { before.now.file ≡ core.old.file }
-    ensures back { core.new ≡ place_of (refused_point before.now (saved (rest_of core.old) 0)
-        refused.now.part refused.now.begun) }
+    ensures back { core.new ≡ place_of (refused_point (saved core.old 0)
+        (saved (after_block core.old awaited.end) 0) refused.now.part refused.now.begun) }
     ensures set_id { core.new.set_id ≡ core.old.set_id }
     ensures file { core.new.file ≡ core.old.file }
 {
-    let position = before.position();
-    if refused.part == part_of(position) {
-        *core = ReaderCore::at(before);
+    let before = core.save(0);
+    if refused.part == awaited.part {
+        *core = ReaderCore::at(&before);
         return;
     }
+    core.deliver(awaited.end);
     let after = core.save(0);
+    let position = before.position();
     *core = ReaderCore::at(&after.inside_block(position, refused.part, refused.begun, 0));
 }
 
 impl<S: PartSink> ReelReader<S> {
-    /// Puts the parts of the block that the core has just delivered, from the expected one on.
+    /// Puts the parts of the expected block, from the expected one on, and moves the core past the
+    /// block.
     #[inline(always)]
-    fn put_block(&mut self, before: &Checkpoint, content: &[u8]) -> Result<(), SinkFault>
+    fn put_block(&mut self, awaited: &Awaited, content: &[u8]) -> Result<(), SinkFault>
         requires short { length content.now ≤ longest_block }
-        requires checked { IsChecked (Some (block content.now)) (rest_of self.old.core) }
-        requires same_set { before.now.set_id ≡ self.old.core.set_id }
-        requires same_file { before.now.file ≡ self.old.core.file }
-        requires waits { is_finished before.now.position ≡ false }
+        requires awaited { IsAwaited self.old.core content.now awaited.now }
         ensures ok { OnOk result ((held parts : List Portion) (k : FileForm)
-            → self.old.core.known ≡ Some k → Holds k.format k.rec_len k.offset content.now parts
+            → (after_block self.old.core awaited.now.end).known ≡ Some k
+            → Holds k.format k.rec_len k.offset content.now parts
             → S.holds self.old.sink held
-            → S.holds self.new.sink (held ++ drop (part_of before.now.position) parts)) }
-        ensures kept { OnOk result (self.new.core ≡ self.old.core) }
+            → S.holds self.new.sink (held ++ drop (part_of self.old.core.position) parts)) }
+        ensures moved { OnOk result (self.new.core ≡ after_block self.old.core awaited.now.end) }
         ensures err { OnErr result ((held parts : List Portion) (k : FileForm)
-            → self.old.core.known ≡ Some k → Holds k.format k.rec_len k.offset content.now parts
-            → S.holds self.old.sink held → PutUpTo (S.holds self.new.sink) before.now held parts
-            (rest_of self.old.core) (rest_of self.new.core)) }
-        ensures stops { OnErr result
-            (StopsAt before.now (saved (rest_of self.old.core) 0) self.new.core) }
+            → (after_block self.old.core awaited.now.end).known ≡ Some k
+            → Holds k.format k.rec_len k.offset content.now parts
+            → S.holds self.old.sink held
+            → PutUpTo (S.holds self.new.sink) (saved self.old.core 0) held parts
+            (rest_of (after_block self.old.core awaited.now.end)) (rest_of self.new.core)) }
+        ensures stops { OnErr result (StopsAt (saved self.old.core 0)
+            (saved (after_block self.old.core awaited.now.end) 0) self.new.core) }
         ensures file { self.new.core.file ≡ self.old.core.file }
         ensures set_id { self.new.core.set_id ≡ self.old.core.set_id }
         ensures cause { IfErr result (λ fault. IsRefused S.refusals S.refuses_change
@@ -204,14 +193,14 @@ impl<S: PartSink> ReelReader<S> {
         ensures calm { OnOk result (S.refusals self.new.sink ≡ S.refusals self.old.sink) }
         ensures crash { BringsNoMore S.PartSink self.old.sink self.new.sink }
     {
-        let Some(shape) = self.core.shape() else {
-            unreachable!()
-        };
-        let first = part_of(before.position);
-        match put_parts(&mut self.sink, &shape, content, first, before.begun) {
-            Ok(()) => Ok(()),
+        let (first, begun) = (awaited.part, awaited.begun);
+        match put_parts(&mut self.sink, &awaited.shape, content, first, begun) {
+            Ok(()) => {
+                self.core.deliver(awaited.end);
+                Ok(())
+            }
             Err(refused) => {
-                go_back(&mut self.core, before, &refused);
+                go_back(&mut self.core, *awaited, &refused);
                 Err(refused.cause)
             }
         }
@@ -219,6 +208,8 @@ impl<S: PartSink> ReelReader<S> {
 
     /// Processes the items of an unread image, up to a final answer, the end of the medium or a
     /// fault.
+    // Within a caller the loop would have fewer registers, and each part would take longer.
+    #[inline(never)]
     pub fn read<R: Read>(&mut self, image: &mut ImageReader<'_, R>) -> Result<ReelAnswer, SinkFault>
         requires going { image.old.status ≡ going }
         requires first { image.old.place ≡ 0 }
@@ -250,17 +241,16 @@ impl<S: PartSink> ReelReader<S> {
     {
         let mut blocks = 0u32;
         'items: loop {
-            let before = self.core.save(0);
             let (event, fault) = event_of(image.next());
+            if let Event::Block(block) = event {
+                if let Some(awaited) = self.core.awaited(block) {
+                    self.put_block(&awaited, block)?;
+                    blocks += 1;
+                    continue 'items;
+                }
+            }
             match self.core.step(event) {
                 Answer::Passed => continue 'items,
-                Answer::Deliver => {
-                    let Event::Block(block) = event else {
-                        unreachable!()
-                    };
-                    self.put_block(&before, block)?;
-                    blocks += 1;
-                }
                 answer => return Ok(ReelAnswer::new(answer, fault, blocks)),
             }
         }

@@ -2,23 +2,20 @@
 use Rattle.std.proofs.Common.{◌≡◌, ◌≢◌, ◌⊎◌, inl, inr, ℕ, zero, suc, ◌+◌, ◌<◌, ◌≤◌, Bool, true}
 use Rattle.std.proofs.Common.{false, List, [], ◌∷◌, ◌++◌, length, Option, Some, None, refl, sym, ap}
 use Rattle.std.proofs.Common.{subst, ◌∙◌, arith, eq-eqb}
-use Rattle.std.specs.Prelude.{IsSome, option_and_then, slice_get, ◌==◌}
 use Rattle.std.proofs.lemmas.Bool.Decides.{nat_tests}
+use Rattle.std.specs.Prelude.{IsSome, option_and_then, slice_get, ◌==◌}
 use Rattle.tape_blocks.specs.Tight.{Chain}
-use Rattle.tape_set.specs.declared.position.Position.{Position}
 use Rattle.tape_set.specs.declared.position.Position.TheVariants.{Awaits, Finished}
-use Rattle.tape_set.specs.Position.{start, awaiting, at_part}
 use Rattle.tape_set.specs.Layout.{FileSet, Section, Placed, nth, file_of, section_of, sections}
 use Rattle.tape_set.specs.Layout.{numbered, all_numbered, ends_file}
-use Rattle.tape_set.specs.Before.{IsIn}
 use Rattle.tape_set.specs.Lawful.{IsLawful, IsFile, IsSection, GoesOn, Ends}
-use Rattle.tape_set.specs.Reading.{whole_reading, whole_readings}
-use Rattle.tape_set.specs.Reach.{far, far_in, far_over, behind}
-use Rattle.tape_set.specs.Laws.{GoesOnOnNext, FilesBegin, WholeGivesFile}
+use Rattle.tape_set.specs.{declared.position.Position.Position, Position.start, Position.awaiting}
+use Rattle.tape_set.specs.{Position.at_part, Before.IsIn, Reading.whole_reading}
+use Rattle.tape_set.specs.{Reading.whole_readings, Reach.far, Reach.far_in, Reach.far_over}
+use Rattle.tape_set.specs.{Reach.behind, Laws.GoesOnOnNext, Laws.FilesBegin, Laws.WholeGivesFile}
 use Rattle.tape_set.proofs.Everywhere.{every_at, every_stands, is_there}
 use Rattle.tape_set.proofs.Numbering.{placed, section_found, section_stands}
-use Rattle.tape_set.proofs.FileParts.{ends_at, file_is}
-use Rattle.tape_set.proofs.Whole.{whole_gives}
+use Rattle.tape_set.proofs.{FileParts.ends_at, FileParts.file_is, Whole.whole_gives}
 
 -- ---- the next section is on the next volume
 
@@ -166,8 +163,7 @@ pub all_over : (set : FileSet) (file n k : ℕ) (p : Position) → IsLawful set
     → k + n ≡ length set.volumes → ToCome set file k p
     → far_over set file p (whole_readings set k n) ≡ Finished
 all_over set file zero k p l e (inl f) = f
-all_over set file zero k p l e (inr (sect, s, found, later, f)) =
-    absurd (let fits = lawful_section set file sect s l found in omega (arith, fits.1, e, later))
+all_over set file zero k p l e (inr (sect, s, found, later, f)) = grind (arith, lawful_section)
 all_over set file (suc n) k p l e t =
     all_over set file n (k + 1) (far set file p (whole_reading set (k + 1))) l
     (omega (arith, e)) (step_over set file k p l t)
@@ -178,5 +174,4 @@ pub to_come_at_start : (set : FileSet) (file : ℕ) → IsLawful set → IsSome 
 to_come_at_start set file l has = grind (arith, has_start, lawful_section)
 
 pub there_and_back : (set : FileSet) → IsLawful set → WholeGivesFile set
-there_and_back set l file has =
-    all_over set file (length set.volumes) 0 start l (omega arith) (to_come_at_start set file l has)
+there_and_back set l file has = grind (arith, all_over, to_come_at_start)

@@ -2,8 +2,7 @@
 use Rattle.std.proofs.Common.{◌≡◌, ◌<◌, ◌≤◌, ◌⊎◌, ℕ, zero, suc, List, [], ◌∷◌, ◌++◌, length, drop}
 use Rattle.std.proofs.Common.{Option, Some, None, refl, ap, subst, inl, inr, append_assoc, arith}
 use Rattle.std.proofs.Common.{length-append}
-use Rattle.std.specs.Prelude.{map, slice_get}
-use Rattle.std.specs.List.{AllByRecursion}
+use Rattle.std.specs.{Prelude.map, Prelude.slice_get, List.AllByRecursion}
 use Rattle.tape_image.specs.Tape.{IsTapeItem}
 use Rattle.tape_label.specs.declared.values.Format.{Format}
 use Rattle.tape_label.specs.declared.values.Format.TheVariants.{Fixed, Counted, Spanned}
@@ -14,9 +13,8 @@ use Rattle.tape_set.specs.declared.position.Position.{Position}
 use Rattle.tape_set.specs.declared.position.Position.TheVariants.{Awaits, Finished}
 use Rattle.tape_set.specs.Layout.{FileSet, Entry, sections, header_group, data_group, trailer_group}
 use Rattle.tape_set.specs.Layout.{item_of}
-use Rattle.tape_set.specs.Before.{IsIn, parts_of}
 use Rattle.tape_set.specs.Lawful.{IsLawful, IsSection, FileForm, TellsForm}
-use Rattle.tape_set.specs.Laws.{FitsDigits}
+use Rattle.tape_set.specs.{Before.IsIn, Before.parts_of, Laws.FitsDigits}
 use Rattle.tape_set.proofs.Everywhere.{every_at, every_stands}
 use Rattle.tape_set.proofs.Numbering.{placed, section_stands}
 use Rattle.tape_set.proofs.Forms.{blocks_held, form_told, all_four_digits}
@@ -36,17 +34,12 @@ units_few : (format : Format) (rec_len : ℕ) (ps : List Portion) (padding : Lis
     → length ps ≤ length (spellings format ps)
 units_few format rec_len [] padding h pad = omega arith
 units_few format rec_len (p ∷ ps) padding h pad =
-    let one : 1 ≤ length (spelling format p) = unit_some format rec_len p padding h.0 pad in
-    let ih : length ps ≤ length (spellings format ps) =
-    units_few format rec_len ps padding h.1 pad in
-    omega (arith, length-append (spelling format p) (spellings format ps))
+    grind (arith, unit_some, length-append, units_few format rec_len ps padding h.1 pad)
 
 drop_fewer : (n : ℕ) (xs : List ℕ) → length (drop n xs) ≤ length xs
 drop_fewer zero xs = omega arith
 drop_fewer (suc n) [] = omega arith
-drop_fewer (suc n) (x ∷ xs) =
-    let ih : length (drop n xs) ≤ length xs = drop_fewer n xs in
-    omega arith
+drop_fewer (suc n) (x ∷ xs) = grind (arith, drop_fewer n xs)
 
 pub parts_few : (format : Format) (rec_len offset : ℕ) (bytes : List ℕ) (ps : List Portion)
     → Holds format rec_len offset bytes ps → length ps ≤ length bytes
@@ -75,8 +68,7 @@ block_sized (x ∷ xs) after (suc n) b h e = block_sized xs after n b h.1 e
 
 pub fits_digits : (set : FileSet) → IsLawful set → (file : ℕ) (p : Position) → IsIn set file p
     → FitsDigits p
-fits_digits set lawful file Finished h =
-    record { sect = omega arith; block = omega arith; part = omega arith }
+fits_digits set lawful file Finished h = omega arith
 fits_digits set lawful file (Awaits sect b k) (s, found, le, part) = record {
   sect = (every_stands (λ x. ((1 ≤ x.file) × (x.file ≤ 9999)) × ((1 ≤ x.sect) × (x.sect ≤ 9999)))
       (sections set) (placed file sect s) (all_four_digits set lawful)

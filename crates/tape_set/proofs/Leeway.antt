@@ -1,19 +1,14 @@
 -- Sets that are valid and have no unused space, but which no writer should write. A writer's own
 -- contract has to exclude them.
-use Rattle.tape_set.specs.Lawful.{TellsForm}
-use Rattle.tape_set.proofs.Worked.{makes, alike_file}
 use Rattle.std.proofs.Common.{ℕ, List, [], ◌∷◌, ◌++◌, true, refl, codes, lit≤}
 use Rattle.std.specs.Prelude.{replicate}
 use Rattle.tape_image.specs.Tape.{IsTapeItem, block}
+use Rattle.tape_label.specs.{declared.values.Trail1.Trail1, Head1.HeadFits, Trail1.IsTrail1}
 use Rattle.tape_label.specs.declared.values.Kind.TheVariants as kinds
-use Rattle.tape_label.specs.declared.values.Trail1.{Trail1}
-use Rattle.tape_label.specs.Head1.{HeadFits}
-use Rattle.tape_label.specs.Trail1.{IsTrail1}
 use Rattle.tape_set.specs.Layout.{FileSet, Section, Volume}
-use Rattle.tape_set.specs.Lawful.{IsLawful}
-use Rattle.tape_set.specs.Tight.{IsTight, second_of}
-use Rattle.tape_set.proofs.Worked.{set_id, head, hdr1, hdr1_is, second, second_is, second_sized}
-use Rattle.tape_set.proofs.Worked.{made, form, eighty}
+use Rattle.tape_set.specs.{Lawful.TellsForm, Lawful.IsLawful, Tight.IsTight, Tight.second_of}
+use Rattle.tape_set.proofs.Worked.{makes, alike_file, set_id, head, hdr1, hdr1_is, second}
+use Rattle.tape_set.proofs.Worked.{second_is, second_sized, made, form, eighty}
 use Rattle.tape_set.proofs.WorkedFile.{shape, shape_fits, writable}
 use Rattle.tape_set.proofs.RefusedTight.{nothing_packed}
 

@@ -1,22 +1,16 @@
 -- The parts before positions determine the order of the positions, except at blocks without parts.
-use Rattle.std.proofs.Common.{◌≡◌, ◌<◌, ◌⊎◌, inl, inr, ℕ, ◌+◌, List, [], ◌∷◌, ◌++◌, length}
-use Rattle.std.proofs.Common.{ltb, Option, Some, None, refl, ap, ◌∙◌}
-use Rattle.std.proofs.Common.{arith, length-append}
-use Rattle.std.specs.Prelude.{slice_get, IsSome}
+use Rattle.std.proofs.Common.{◌≡◌, ◌<◌, ◌⊎◌, inl, inr, ℕ, ◌+◌, List, [], ◌∷◌, ◌++◌, length, ltb}
+use Rattle.std.proofs.Common.{Option, Some, None, refl, ap, ◌∙◌, arith, length-append}
 use Rattle.std.proofs.lemmas.Bool.Decides.{nat_tests}
-use Rattle.tape_blocks.specs.Block.{Portion}
-use Rattle.tape_blocks.specs.Tight.{Filled}
+use Rattle.std.specs.Prelude.{slice_get, IsSome}
+use Rattle.tape_blocks.specs.{Block.Portion, Tight.Filled}
 use Rattle.tape_set.specs.declared.position.Position.{Position}
 use Rattle.tape_set.specs.declared.position.Position.TheVariants.{Awaits, Finished}
-use Rattle.tape_set.specs.Position.{IsBefore, IsUpTo}
 use Rattle.tape_set.specs.Layout.{FileSet, Section, section_of}
 use Rattle.tape_set.specs.Before.{blocks_of, parts_of, parts_at, before, IsIn}
-use Rattle.tape_set.specs.Laws.{PartsTellPositions}
-use Rattle.tape_set.proofs.Everywhere.{nth_there}
-use Rattle.tape_set.proofs.Numbering.{section_found}
-use Rattle.tape_set.proofs.Orders.{up_to_end, up_to_part}
-use Rattle.tape_set.proofs.PartsBefore.{before_grows}
-use Rattle.tape_set.proofs.FileParts.{before_one}
+use Rattle.tape_set.specs.{Position.IsBefore, Position.IsUpTo, Laws.PartsTellPositions}
+use Rattle.tape_set.proofs.{Everywhere.nth_there, Numbering.section_found, Orders.up_to_end}
+use Rattle.tape_set.proofs.{Orders.up_to_part, PartsBefore.before_grows, FileParts.before_one}
 
 -- ---- one of two numbers is less than the other, or they are equal
 
@@ -100,17 +94,11 @@ no_parts set file s b k q (w, found, within, part) later same =
     by_parts d this (x ∷ ps) e (inl z) =
         let n : length d.parts ≡ length (x ∷ ps) = ap length e in
         absurd (none_to_come set file s b k w d q found this (omega (arith, n, z)) later same)
-    by_parts d this (x ∷ ps) e (inr h) =
-        let n : length (parts_at w.blocks b) ≡ length d.parts =
-        ap (λ o. length (parts_of o)) this in
-        absurd (none_to_come set file s b k w d q found this (omega (arith, n, h)) later same)
+    by_parts d this (x ∷ ps) e (inr h) = grind (arith, none_to_come)
 
     by_block : (o : Option Filled) → slice_get w.blocks b ≡ o → parts_of o ≡ []
     by_block None e = refl
     by_block (Some d) e = by_parts d e d.parts refl part
 
 pub parts_tell : (set : FileSet) → PartsTellPositions set
-parts_tell set = record {
-  longer = longer_later set;
-  same = λ file sect block part q is later same. no_parts set file sect block part q is later same;
-}
+parts_tell set = grind (arith, longer_later, no_parts)

@@ -1,19 +1,16 @@
 -- For each further clause of a valid set, and of its volumes and files, a small set that violates
 -- only this clause.
-use Rattle.tape_set.proofs.Worked.{makes, alike_file}
 use Rattle.std.proofs.Common.{◌≡◌, ◌≤◌, ℕ, [], ◌∷◌, length, Bool, true, false, refl, ap, inl, inr}
 use Rattle.std.proofs.Common.{arith, codes, lit≤}
-use Rattle.std.specs.Prelude.{replicate, slice_index}
-use Rattle.std.specs.List.{AllByRecursion}
+use Rattle.std.specs.{Prelude.replicate, Prelude.slice_index, List.AllByRecursion}
 use Rattle.tape_blocks.specs.Tight.{Chain}
 use Rattle.tape_set.specs.Layout.{FileSet, Section, Volume, sections, ends_file}
 use Rattle.tape_set.specs.Lawful.{IsLawful, IsVolume, IsSection, IsFile, HasForm, TellsForm}
 use Rattle.tape_set.specs.Lawful.{StartsOnFirst, GoesOn, most_blocks}
-use Rattle.tape_set.proofs.Numbering.{placed}
-use Rattle.tape_set.proofs.Worked.{set_id, vol1, made, form, Fit, made_section, made_form}
-use Rattle.tape_set.proofs.Worked.{plain_volume, plain_volume_is}
-use Rattle.tape_set.proofs.WorkedFile.{shape, shape_fits}
+use Rattle.tape_set.proofs.Worked.{makes, alike_file, set_id, vol1, made, form, Fit, made_section}
+use Rattle.tape_set.proofs.Worked.{made_form, plain_volume_is, plain_set}
 use Rattle.tape_set.proofs.RefusedLawful.{base, set_of}
+use Rattle.tape_set.proofs.{Numbering.placed, WorkedFile.shape, WorkedFile.shape_fits}
 
 -- ---- all clauses but one
 
@@ -59,8 +56,7 @@ lawful_violates_none set l = grind arith
 
 pub fit_of : (file sect n : ℕ) → 1 ≤ file → file ≤ 9999 → 1 ≤ sect → sect ≤ 9999 → n ≤ most_blocks
     → Fit file sect n
-fit_of file sect n a b c d e =
-    record { file_least = a; file_most = b; sect_least = c; sect_most = d; count_most = e }
+fit_of file sect n a b c d e = search (makes) depth 9
 
 -- a section without blocks, in a set of `volumes` volumes
 pub empty_section : (volumes volume file sect : ℕ) (eof : Bool) → 1 ≤ volume → volume ≤ volumes
@@ -71,8 +67,7 @@ empty_section volumes volume file sect eof a b c d e f = made_section shape volu
 
 pub empty_form : (volume file sect : ℕ) (eof : Bool) → 1 ≤ file → file ≤ 9999 → 1 ≤ sect
     → sect ≤ 9999 → HasForm (form shape) (made shape volume file sect eof [])
-empty_form volume file sect eof c d e f =
-    made_form shape volume file sect eof [] shape_fits (fit_of file sect 0 c d e f (lit≤ tt)) tt
+empty_form volume file sect eof c d e f = search (makes, made_form, shape_fits, fit_of) depth 9
 
 pub empty_file : (volume file : ℕ) → ends_file (made shape volume file 1 true []) ≡ true → 1 ≤ file
     → file ≤ 9999 → IsFile (made shape volume file 1 true [] ∷ [])
@@ -155,33 +150,22 @@ empty_block = record {
 
 -- the first section is on volume 2
 abbrev begun_on_second : FileSet
-begun_on_second = record {
-  set_id = set_id;
-  volumes = plain_volume ∷ plain_volume ∷ [];
-  files = (made shape 2 1 1 true [] ∷ []) ∷ [];
-}
+begun_on_second = plain_set 2 ((made shape 2 1 1 true [] ∷ []) ∷ [])
 
 not_on_first : OnlyFirst begun_on_second
 not_on_first = search (makes, empty_section, empty_file) depth 9
 
 -- the second file begins on volume 3, although the first ends on volume 1
 abbrev volume_left_out : FileSet
-volume_left_out = record {
-  set_id = set_id;
-  volumes = plain_volume ∷ plain_volume ∷ plain_volume ∷ [];
-  files = (made shape 1 1 1 true [] ∷ []) ∷ (made shape 3 2 1 true [] ∷ []) ∷ [];
-}
+volume_left_out = plain_set 3 ((made shape 1 1 1 true [] ∷ []) ∷ (made shape 3 2 1 true []
+    ∷ []) ∷ [])
 
 not_on_next : OnlyGoesOn volume_left_out
 not_on_next = search (makes, empty_section, empty_file) depth 9
 
 -- both sections of a file are on the same volume
 abbrev volume_twice : FileSet
-volume_twice = record {
-  set_id = set_id;
-  volumes = plain_volume ∷ [];
-  files = (made shape 1 1 1 false [] ∷ made shape 1 1 2 true [] ∷ []) ∷ [];
-}
+volume_twice = plain_set 1 ((made shape 1 1 1 false [] ∷ made shape 1 1 2 true [] ∷ []) ∷ [])
 
 both_on_one : OnlyGoesOn volume_twice
 both_on_one = search (makes, alike_file shape, empty_section, empty_form) depth 9

@@ -1,20 +1,17 @@
 -- A complete reading of a section's volume moves each position in the section to the position after
 -- it.
 use Rattle.std.proofs.Common.{◌≡◌, ◌≤◌, ℕ, zero, suc, ◌+◌, ◌-◌, List, [], ◌∷◌, ◌++◌, length, take}
-use Rattle.std.proofs.Common.{drop, Bool, true, false, ltb, refl, ap, ◌∙◌, arith, eq-eqb}
+use Rattle.std.proofs.Common.{drop, Bool, true, refl, ap, ◌∙◌, arith, eq-eqb}
 use Rattle.std.proofs.Common.{length-append}
-use Rattle.std.specs.Prelude.{map, replicate, ◌==◌, ◌&&◌}
-use Rattle.std.proofs.lemmas.Bool.Decides.{nat_tests}
-use Rattle.std.proofs.lemmas.List.{length-map}
-use Rattle.tape_set.specs.declared.position.Position.{Position}
+use Rattle.std.proofs.{lemmas.List.length-map}
+use Rattle.std.specs.Prelude.{replicate, ◌==◌, ◌&&◌}
 use Rattle.tape_set.specs.declared.position.Position.TheVariants.{Awaits}
-use Rattle.tape_set.specs.Layout.{FileSet, Section, Entry, a_label, a_data_block, a_mark}
+use Rattle.tape_set.specs.Layout.{FileSet, Section, Entry, a_data_block}
 use Rattle.tape_set.specs.Layout.{data_group, trailer_group, item_of, entries, items}
 use Rattle.tape_set.specs.Reach.{far, far_in, before_data, passes, good_run, first_unread}
 use Rattle.tape_set.specs.Reach.{both_good, moved, behind}
-use Rattle.tape_set.specs.Laws.{WholeGivesSection}
-use Rattle.tape_set.proofs.Reaching.{reading_of, both_true}
-use Rattle.tape_set.proofs.Standing.{data_stands}
+use Rattle.tape_set.specs.{declared.position.Position.Position, Laws.WholeGivesSection}
+use Rattle.tape_set.proofs.{Reaching.reading_of, Reaching.both_true, Standing.data_stands}
 
 -- ---- if all items were readable
 
@@ -30,9 +27,7 @@ all_behind (suc a) m = let e : suc a + m ≡ suc (a + m) = omega arith in rw e (
 run_of_all : (k m : ℕ) → k ≤ m → good_run (take k (replicate m true)) ≡ k
 run_of_all zero m h = refl
 run_of_all (suc k) zero h = absurd (omega arith)
-run_of_all (suc k) (suc m) h =
-    let ih : good_run (take k (replicate m true)) ≡ k = run_of_all k m (omega arith) in
-    omega arith
+run_of_all (suc k) (suc m) h = grind (arith, run_of_all k m (omega arith))
 
 none_unread : (b n m : ℕ) → b ≤ n → n ≤ m → first_unread (replicate m true) b n ≡ n
 none_unread b n m le most =
@@ -44,29 +39,17 @@ none_unread b n m le most =
     omega arith
 
 both_of_all : (n q : ℕ) → both_good (drop n (replicate (n + (q + 2)) true)) ≡ true
-both_of_all n q =
-    let e : q + 2 ≡ suc (suc q) = omega arith in
-    ap both_good (all_behind n (q + 2)) ∙ (rw e refl)
+both_of_all n q = grind (arith, all_behind)
 
 -- ---- in a section
 
 all_moved : (p : Position) (sect b : ℕ) (s : Section) (q : ℕ) → b ≤ length s.blocks
     → moved p sect b s (replicate (length s.blocks + (q + 2)) true) ≡ behind sect s
-all_moved p sect b s q le =
-    let n = length s.blocks in
-    let good : List Bool = replicate (n + (q + 2)) true in
-    let not_behind : ltb n b ≡ false = grind (arith, nat_tests) in
-    let reached : first_unread good b n ≡ n = none_unread b n (n + (q + 2)) le (omega arith) in
-    let at_end : ltb n n ≡ false = grind (arith, nat_tests) in
-    rw (not_behind, reached, at_end, both_of_all n q) refl
+all_moved p sect b s q le = grind (arith, none_unread, both_of_all)
 
 -- at least three entries follow a section's data: its closing mark, its trailer label and a mark
 trailers_three : (s : Section) → length (trailer_group s) ≡ length s.trailers + 3
-trailers_three s = omega (
-  arith,
-  length-append (map a_label s.trailers) (a_mark ∷ []),
-  length-map {A = List ℕ} {B = Entry} s.trailers a_label,
-)
+trailers_three s = grind (arith, length-append, length-map)
 
 pub whole_gives : (set : FileSet) → WholeGivesSection set
 whole_gives set file sect b k s found some le =

@@ -4,35 +4,28 @@ use Rattle.std.proofs.Common.{arith, codes, lit≤, lit<, inl, inr}
 use Rattle.std.specs.Prelude.{map, replicate, if◌then◌else◌}
 use Rattle.std.specs.List.{AllByRecursion}
 use Rattle.tape_image.specs.Tape.{IsTapeItem, block, mark}
-use Rattle.tape_label.specs.declared.values.Kind.{Kind}
-use Rattle.tape_label.specs.declared.values.Kind.TheVariants as kinds
 use Rattle.tape_label.specs.declared.values.Kind.TheVariants.{Vol1 as AVol1, Hdr1 as AHdr1}
 use Rattle.tape_label.specs.declared.values.Kind.TheVariants.{Hdr2 as AHdr2, Eof1 as AEof1}
 use Rattle.tape_label.specs.declared.values.Kind.TheVariants.{Eof2 as AEof2, Eov1 as AEov1}
 use Rattle.tape_label.specs.declared.values.Kind.TheVariants.{Eov2 as AEov2}
-use Rattle.tape_label.specs.declared.values.Vol1.{Vol1}
-use Rattle.tape_label.specs.declared.values.Head1.{Head1}
-use Rattle.tape_label.specs.declared.values.Trail1.{Trail1}
-use Rattle.tape_label.specs.Kinds.{HasKind, IsSecond, trailer as trailer_kind}
-use Rattle.tape_label.specs.Head1.{IsHead1, HeadFits}
-use Rattle.tape_label.specs.Head2.{IsHead2, Head2Fits}
-use Rattle.tape_label.specs.Trail1.{IsTrail1, TrailFits}
-use Rattle.tape_label.specs.Written.{text_of, vol1_pieces, head1_pieces, trail1_pieces}
-use Rattle.tape_label.specs.Written.{head2_pieces}
-use Rattle.tape_label.specs.Widths.{IsWide}
+use Rattle.tape_label.specs.{declared.values.Format.Format}
+use Rattle.tape_label.specs.{declared.values.Format.TheVariants.Fixed, declared.values.Kind.Kind}
+use Rattle.tape_label.specs.{declared.values.Vol1.Vol1, declared.values.Head1.Head1}
+use Rattle.tape_label.specs.{declared.values.Trail1.Trail1, Kinds.HasKind, Kinds.IsSecond}
+use Rattle.tape_label.specs.{Head1.IsHead1, Head1.HeadFits}
+use Rattle.tape_label.specs.{Head2.IsHead2, Head2.Head2Fits, Trail1.IsTrail1, Trail1.TrailFits}
+use Rattle.tape_label.specs.{Written.text_of, Written.vol1_pieces, Written.head1_pieces}
+use Rattle.tape_label.specs.{Written.trail1_pieces, Written.head2_pieces, Widths.IsWide}
+use Rattle.tape_label.specs.declared.values.Kind.TheVariants as kinds
 use Rattle.tape_label.proofs.Widths.{head_wide, head2_wide}
 use Rattle.tape_label.proofs.Texts.{head1_text_is, trail1_text_is, head2_text_is}
-use Rattle.tape_blocks.specs.declared.parts.Shape.{Shape}
-use Rattle.tape_blocks.specs.Block.{Portion, Holds}
-use Rattle.tape_blocks.specs.Packing.{written}
-use Rattle.tape_blocks.specs.Tight.{Filled}
-use Rattle.tape_set.specs.Layout.{Section, Volume, Entry, item_of, section_entries}
+use Rattle.tape_blocks.specs.{declared.parts.Shape.Shape, Block.Portion, Block.Holds}
+use Rattle.tape_blocks.specs.{Packing.written, Tight.Filled, Spans.InOrder}
+use Rattle.tape_set.specs.Layout.{FileSet, Section, Volume, Entry, item_of, section_entries}
 use Rattle.tape_set.specs.Layout.{data_group}
 use Rattle.tape_set.specs.Lawful.{IsVolume, IsSection, FileForm, HasForm, form_of, most_blocks}
 use Rattle.tape_set.specs.Lawful.{label_count, Ends, IsFile}
-use Rattle.tape_set.specs.Before.{section_parts}
-use Rattle.tape_blocks.specs.Spans.{InOrder}
-use Rattle.tape_set.specs.Tight.{second_of, HasPlainLabels}
+use Rattle.tape_set.specs.{Before.section_parts, Tight.second_of, Tight.HasPlainLabels}
 use Rattle.tape_set.proofs.Numbering.{placed}
 
 -- ---- labels
@@ -91,20 +84,29 @@ head_is_wide file sect = wide file sect (head file sect).file_id set_id refl ref
 
 pub hdr1_is : (file sect : ℕ) → HeadFits (head file sect)
     → IsHead1 (hdr1 file sect) (head file sect)
-hdr1_is file sect fits = head1_text_is (head file sect) fits
-    (head_wide kinds.Hdr1 (head file sect) 0 (head_is_wide file sect))
+hdr1_is file sect fits = grind (arith, head1_text_is, head_wide, head_is_wide)
 
 pub trailer_is : (eof : Bool) (file sect n : ℕ) → TrailFits (trail eof file sect n)
     → IsTrail1 (trailer eof file sect n) (trail eof file sect n)
-trailer_is eof file sect n fits = trail1_text_is (trail eof file sect n) fits
-    (head_wide (trailer_kind eof) (head file sect) n (head_is_wide file sect))
+trailer_is eof file sect n fits = grind (arith, trail1_text_is, head_wide, head_is_wide)
 
 pub second_is : (kind : Kind) (shape : Shape) → IsSecond kind → Head2Fits (second_of shape)
     → IsHead2 (second kind shape) kind (second_of shape)
-second_is kind shape h fits =
-    head2_text_is kind (second_of shape) h fits (head2_wide kind (second_of shape))
+second_is kind shape h fits = grind (arith, head2_text_is, head2_wide)
 
 -- ---- sections
+
+-- a shape whose blocks are not padded to the full length
+abbrev pub shape_of : (format : Format) (block_len rec_len offset : ℕ)
+    → (format ≡ Fixed → 1 ≤ rec_len) → Shape
+shape_of format block_len rec_len offset some = record {
+  format = format;
+  block_len = block_len;
+  rec_len = rec_len;
+  offset = offset;
+  pad_full = false;
+  some_record = some;
+}
 
 abbrev pub second_kind : Bool → Kind
 second_kind eof = if eof then kinds.Eof2 else kinds.Eov2
@@ -140,8 +142,7 @@ pub record Fit (file sect n : ℕ) : Type 0 where
   pub count_most : n ≤ most_blocks
 
 head_fits : (file sect n : ℕ) → Fit file sect n → HeadFits (head file sect)
-head_fits file sect n fit =
-    record { sect = (fit.sect_least, fit.sect_most); sequence = (fit.file_least, fit.file_most) }
+head_fits file sect n fit = omega arith
 
 -- the last six digits of a number fit in six digits
 pub label_count_most : (n : ℕ) → label_count n ≤ 999999
@@ -149,8 +150,7 @@ label_count_most n = omega arith
 
 trail_fits : (eof : Bool) (file sect n : ℕ) → Fit file sect n
     → TrailFits (trail eof file sect (label_count n))
-trail_fits eof file sect n fit =
-    record { head = head_fits file sect n fit; blocks = label_count_most n }
+trail_fits eof file sect n fit = omega (arith, head_fits, label_count_most)
 
 pub sized_append : (xs ys : List Entry) → AllByRecursion IsTapeItem (map item_of xs)
     → AllByRecursion IsTapeItem (map item_of ys)
@@ -180,13 +180,8 @@ pub trailers_sized : (shape : Shape) (eof : Bool) (file sect n : ℕ) → Head2F
     → TrailFits (trail eof file sect n)
     → AllByRecursion IsTapeItem (mark ∷ block (trailer eof file sect n)
     ∷ block (second (second_kind eof) shape) ∷ mark ∷ [])
-trailers_sized shape eof file sect n fits fit = (
-  tt,
-  (
-    eighty (trailer eof file sect n) (trailer_is eof file sect n fit).kind.size,
-    (second_sized (second_kind eof) shape (is_second eof) fits, (tt, tt)),
-  ),
-)
+trailers_sized shape eof file sect n fits fit =
+    grind (arith, eighty, trailer_is, second_sized, is_second)
 
 -- the properties of a section that `made` returns
 pub made_sized : (shape : Shape) (volume file sect : ℕ) (eof : Bool) (blocks : List Filled)
@@ -236,22 +231,8 @@ made_form shape volume file sect eof blocks fits fit held = record {
 
 pub made_plain : (shape : Shape) (volume file sect : ℕ) (eof : Bool) (blocks : List Filled)
     → Head2Fits (second_of shape) → HasPlainLabels shape (made shape volume file sect eof blocks)
-made_plain shape volume file sect true blocks fits =
-    record {
-      hdr2 = second_is kinds.Hdr2 shape tt fits;
-      headers = refl;
-      second = second kinds.Eof2 shape;
-      trailers = refl;
-      trailer2 = second_is kinds.Eof2 shape tt fits;
-    }
-made_plain shape volume file sect false blocks fits =
-    record {
-      hdr2 = second_is kinds.Hdr2 shape tt fits;
-      headers = refl;
-      second = second kinds.Eov2 shape;
-      trailers = refl;
-      trailer2 = second_is kinds.Eov2 shape tt fits;
-    }
+made_plain shape volume file sect true blocks fits = grind (arith, second_is)
+made_plain shape volume file sect false blocks fits = grind (arith, second_is)
 
 abbrev pub plain_volume : Volume
 plain_volume = record { vol1 = vol1; labels = [] }
@@ -259,11 +240,14 @@ plain_volume = record { vol1 = vol1; labels = [] }
 pub plain_volume_is : IsVolume plain_volume
 plain_volume_is = record { vol1 = vol1_is; labels = tt }
 
+-- a set on n volumes without further labels
+abbrev pub plain_set : ℕ → List (List Section) → FileSet
+plain_set n files = record { set_id = set_id; volumes = replicate n plain_volume; files = files }
+
 -- a file whose sections have the form of a shape
 pub alike_file : (shape : Shape) (f : List Section) → Ends f
     → AllByRecursion (HasForm (form shape)) f → InOrder false (section_parts f) false → IsFile f
-alike_file shape f ends held order =
-    record { ends = ends; alike = (form shape, held); order = order }
+alike_file shape f ends held order = search (arith, lit≤, lit<, tt, inl, inr) depth 9
 
 -- what the clauses of a valid set and of a tight set are found from
 pub ruleset makes =

@@ -1,44 +1,28 @@
 -- The worked file: 25 records of 80 bytes in blocks of 800 bytes, on one volume and on two; and a
 -- file without records.
-use Rattle.tape_set.proofs.Worked.{makes, alike_file}
 use Rattle.std.proofs.Common.{◌≡◌, ◌≤◌, ℕ, zero, suc, ◌+◌, List, [], ◌∷◌, ◌++◌, length, true, false}
 use Rattle.std.proofs.Common.{refl, codes, lit≤, lit<}
-use Rattle.std.specs.Prelude.{map, replicate}
-use Rattle.std.specs.List.{AllByRecursion}
+use Rattle.std.specs.{Prelude.map, Prelude.replicate, List.AllByRecursion}
 use Rattle.tape_image.specs.Tape.{IsTapeItem, block, mark}
 use Rattle.tape_label.specs.declared.values.Format.TheVariants.{Fixed}
+use Rattle.tape_label.specs.{Digits.digits, Head2.Head2Fits}
 use Rattle.tape_label.specs.declared.values.Kind.TheVariants as kinds
-use Rattle.tape_label.specs.Digits.{digits}
-use Rattle.tape_label.specs.Head2.{Head2Fits}
-use Rattle.tape_blocks.specs.declared.parts.Shape.{Shape}
-use Rattle.tape_blocks.specs.declared.parts.Span.TheVariants.{Whole}
-use Rattle.tape_blocks.specs.Block.{Portion, Holds, IsUnit}
-use Rattle.tape_blocks.specs.Spans.{InOrder}
 use Rattle.tape_blocks.specs.Packing.{HasRecordLength, IsWritable}
+use Rattle.tape_blocks.specs.{declared.parts.Shape.Shape, declared.parts.Span.TheVariants.Whole}
+use Rattle.tape_blocks.specs.{Block.Portion, Block.Holds, Block.IsUnit, Spans.InOrder, Tight.Filled}
 use Rattle.tape_blocks.specs.Tight as packing
-use Rattle.tape_blocks.specs.Tight.{Filled}
 use Rattle.tape_blocks.proofs.PackLaws.{written_holds}
 use Rattle.tape_set.specs.declared.position.Position.TheVariants.{Finished}
-use Rattle.tape_set.specs.Position.{awaiting}
 use Rattle.tape_set.specs.Layout.{FileSet, items, all_items, item_of, data_group}
-use Rattle.tape_set.specs.Sizes.{items_size}
-use Rattle.tape_set.specs.Before.{before}
-use Rattle.tape_set.specs.Lawful.{IsLawful, most_blocks}
-use Rattle.tape_set.specs.Tight.{IsTight, IsTightFile, second_of}
-use Rattle.tape_set.proofs.Worked.{set_id, vol1, hdr1, second, trailer, made, filled, Fit}
-use Rattle.tape_set.proofs.Worked.{made_plain, plain_volume}
+use Rattle.tape_set.specs.{Position.awaiting, Sizes.items_size, Before.before, Lawful.IsLawful}
+use Rattle.tape_set.specs.{Lawful.most_blocks, Tight.IsTight, Tight.IsTightFile, Tight.second_of}
+use Rattle.tape_set.proofs.Worked.{makes, alike_file, vol1, hdr1, second, trailer, made}
+use Rattle.tape_set.proofs.Worked.{filled, Fit, made_plain, plain_set, shape_of}
 
 -- ---- records and blocks
 
 abbrev pub shape : Shape
-shape = record {
-  format = Fixed;
-  block_len = 800;
-  rec_len = 80;
-  offset = 0;
-  pad_full = false;
-  some_record = λ _. lit≤ tt;
-}
+shape = shape_of Fixed 800 80 0 (λ _. lit≤ tt)
 
 pub shape_fits : Head2Fits (second_of shape)
 shape_fits = record { block_len = lit≤ tt; rec_len = (lit≤ tt, lit≤ tt); offset = lit≤ tt }
@@ -98,11 +82,7 @@ fit_of sect n a b c = search (lit≤, tt)
 -- ---- on one volume
 
 abbrev pub one_volume : FileSet
-one_volume = record {
-  set_id = set_id;
-  volumes = plain_volume ∷ [];
-  files = (made shape 1 1 1 true blocks ∷ []) ∷ [];
-}
+one_volume = plain_set 1 ((made shape 1 1 1 true blocks ∷ []) ∷ [])
 
 pub one_volume_lawful : IsLawful one_volume
 one_volume_lawful =
@@ -202,11 +182,7 @@ one_volume_tight = search (lit≤, tt, one_volume_tight_file)
 -- the second section is empty
 
 abbrev pub two_volumes : FileSet
-two_volumes = record {
-  set_id = set_id;
-  volumes = plain_volume ∷ plain_volume ∷ [];
-  files = (made shape 1 1 1 false blocks ∷ made shape 2 1 2 true [] ∷ []) ∷ [];
-}
+two_volumes = plain_set 2 ((made shape 1 1 1 false blocks ∷ made shape 2 1 2 true [] ∷ []) ∷ [])
 
 pub two_volumes_lawful : IsLawful two_volumes
 two_volumes_lawful =
@@ -222,11 +198,7 @@ two_volumes_sizes = refl
 -- ---- a file without records: nine items
 
 abbrev pub no_records : FileSet
-no_records = record {
-  set_id = set_id;
-  volumes = plain_volume ∷ [];
-  files = (made shape 1 1 1 true [] ∷ []) ∷ [];
-}
+no_records = plain_set 1 ((made shape 1 1 1 true [] ∷ []) ∷ [])
 
 no_records_items : items no_records 1 ≡
     block vol1 ∷ block (hdr1 1 1) ∷ block (second kinds.Hdr2 shape) ∷ mark ∷ mark

@@ -4,62 +4,29 @@ use Rattle.std.proofs.Common.{◌≡◌, ◌≤◌, ℕ, [], ◌∷◌, true, fa
 use Rattle.tape_label.specs.declared.values.Format.TheVariants.{Counted, Spanned}
 use Rattle.tape_label.specs.Head2.{Head2Fits}
 use Rattle.tape_blocks.specs.declared.parts.Shape.{Shape}
-use Rattle.tape_set.specs.Layout.{FileSet}
-use Rattle.tape_set.specs.Lawful.{IsLawful, HasForm}
-use Rattle.tape_set.specs.Tight.{second_of}
-use Rattle.tape_set.proofs.Worked.{set_id, made, form, Fit, made_section, made_form, plain_volume}
-use Rattle.tape_set.proofs.Worked.{plain_volume_is}
+use Rattle.tape_set.specs.{Layout.FileSet, Lawful.IsLawful, Lawful.HasForm, Tight.second_of}
+use Rattle.tape_set.proofs.Worked.{made, form, Fit, made_section, made_form}
+use Rattle.tape_set.proofs.Worked.{plain_volume_is, plain_set, shape_of}
 
 fit_of : (sect : ℕ) → 1 ≤ sect → sect ≤ 9999 → Fit 1 sect 0
 fit_of sect a b = search (lit≤, tt)
 
 abbrev lengths_differ : Shape → Shape → FileSet
-lengths_differ one other = record {
-  set_id = set_id;
-  volumes = plain_volume ∷ plain_volume ∷ [];
-  files = (made one 1 1 1 false [] ∷ made other 2 1 2 true [] ∷ []) ∷ [];
-}
+lengths_differ one other = plain_set 2 ((made one 1 1 1 false [] ∷ made other 2 1 2 true []
+    ∷ []) ∷ [])
 
 -- the labels state one form
 abbrev counted_14 : Shape
-counted_14 = record {
-  format = Counted;
-  block_len = 20;
-  rec_len = 14;
-  offset = 0;
-  pad_full = false;
-  some_record = λ _. lit≤ tt;
-}
+counted_14 = shape_of Counted 20 14 0 (λ _. lit≤ tt)
 
 abbrev counted_20 : Shape
-counted_20 = record {
-  format = Counted;
-  block_len = 20;
-  rec_len = 20;
-  offset = 0;
-  pad_full = false;
-  some_record = λ _. lit≤ tt;
-}
+counted_20 = shape_of Counted 20 20 0 (λ _. lit≤ tt)
 
 abbrev spanned_14 : Shape
-spanned_14 = record {
-  format = Spanned;
-  block_len = 20;
-  rec_len = 14;
-  offset = 0;
-  pad_full = false;
-  some_record = λ _. lit≤ tt;
-}
+spanned_14 = shape_of Spanned 20 14 0 (λ _. lit≤ tt)
 
 abbrev spanned_20 : Shape
-spanned_20 = record {
-  format = Spanned;
-  block_len = 20;
-  rec_len = 20;
-  offset = 0;
-  pad_full = false;
-  some_record = λ _. lit≤ tt;
-}
+spanned_20 = shape_of Spanned 20 20 0 (λ _. lit≤ tt)
 
 counted_fits : Head2Fits (second_of counted_14) × Head2Fits (second_of counted_20)
 counted_fits = search (lit≤, tt)

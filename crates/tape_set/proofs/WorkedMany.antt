@@ -3,43 +3,28 @@
 -- them invalid.
 use Rattle.std.proofs.Common.{◌≡◌, ◌<◌, ◌≤◌, ℕ, zero, suc, List, [], ◌∷◌, length, true, false, refl}
 use Rattle.std.proofs.Common.{sym, ap, subst, arith, codes, lit≤, lit<}
-use Rattle.std.specs.Prelude.{map, replicate}
 use Rattle.std.proofs.lemmas.List.{length-replicate}
-use Rattle.std.specs.List.{AllByRecursion}
+use Rattle.std.specs.{Prelude.map, Prelude.replicate, List.AllByRecursion}
 use Rattle.tape_image.specs.Tape.{IsTapeItem}
 use Rattle.tape_label.specs.declared.values.Format.TheVariants.{Fixed}
+use Rattle.tape_label.specs.{declared.values.Head1.Head1, declared.values.Trail1.Trail1}
+use Rattle.tape_label.specs.{Head1.HeadFits, Head2.Head2Fits, Trail1.TrailFits}
 use Rattle.tape_label.specs.declared.values.Kind.TheVariants as kinds
-use Rattle.tape_label.specs.declared.values.Head1.{Head1}
-use Rattle.tape_label.specs.declared.values.Trail1.{Trail1}
-use Rattle.tape_label.specs.Head1.{HeadFits}
-use Rattle.tape_label.specs.Head2.{Head2Fits}
-use Rattle.tape_label.specs.Trail1.{TrailFits}
-use Rattle.tape_blocks.specs.declared.parts.Shape.{Shape}
-use Rattle.tape_blocks.specs.Block.{Holds}
-use Rattle.tape_blocks.specs.Spans.{InOrder}
 use Rattle.tape_blocks.specs.Tight.{Filled, Chain, parts_of_all}
+use Rattle.tape_blocks.specs.{declared.parts.Shape.Shape, Block.Holds, Spans.InOrder}
 use Rattle.tape_blocks.proofs.PackLaws.{written_holds}
 use Rattle.tape_set.specs.Layout.{FileSet, Section, Placed, sections, item_of, section_entries}
 use Rattle.tape_set.specs.Layout.{data_group}
 use Rattle.tape_set.specs.Lawful.{IsLawful, IsVolume, IsSection, IsHeader, IsTrailer, IsFile}
 use Rattle.tape_set.specs.Lawful.{StartsOnFirst, GoesOn, most_blocks, label_count}
 use Rattle.tape_set.specs.Tight.{second_of}
-use Rattle.tape_set.proofs.Numbering.{placed}
-use Rattle.tape_set.proofs.PartsBefore.{section_parts-one}
 use Rattle.tape_set.proofs.Worked.{set_id, head, trail, trailer, made, filled, form, hdr1_is}
 use Rattle.tape_set.proofs.Worked.{trailer_is, second_is, label_count_most, made_sized}
-use Rattle.tape_set.proofs.Worked.{plain_volume, plain_volume_is}
-use Rattle.tape_set.proofs.WorkedFile.{whole}
+use Rattle.tape_set.proofs.Worked.{plain_volume_is, plain_set, shape_of}
+use Rattle.tape_set.proofs.{Numbering.placed, PartsBefore.section_parts-one, WorkedFile.whole}
 
 abbrev shape : Shape
-shape = record {
-  format = Fixed;
-  block_len = 1;
-  rec_len = 1;
-  offset = 0;
-  pad_full = false;
-  some_record = λ _. lit≤ tt;
-}
+shape = shape_of Fixed 1 1 0 (λ _. lit≤ tt)
 
 shape_fits : Head2Fits (second_of shape)
 shape_fits = record { block_len = lit≤ tt; rec_len = (lit≤ tt, lit≤ tt); offset = lit≤ tt }
@@ -70,7 +55,7 @@ abbrev section : ℕ → Section
 section n = made shape 1 1 1 true (replicate n letter)
 
 abbrev set_of : Section → FileSet
-set_of s = record { set_id = set_id; volumes = plain_volume ∷ []; files = (s ∷ []) ∷ [] }
+set_of s = plain_set 1 ((s ∷ []) ∷ [])
 
 abbrev many : ℕ → FileSet
 many n = set_of (section n)

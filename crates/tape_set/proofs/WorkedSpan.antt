@@ -1,43 +1,30 @@
 -- A spanned record of 290 bytes on two volumes of 1,042 bytes: 22 blocks of 18 bytes and EOV1, then
 -- one block and EOF1.
-use Rattle.tape_set.proofs.Worked.{makes, alike_file}
 use Rattle.std.proofs.Common.{◌≡◌, ◌≤◌, ℕ, zero, suc, List, [], ◌∷◌, ◌++◌, true, false, refl, codes}
 use Rattle.std.proofs.Common.{lit≤, lit<}
-use Rattle.std.specs.Prelude.{map, replicate}
-use Rattle.std.specs.List.{AllByRecursion}
+use Rattle.std.specs.{Prelude.map, Prelude.replicate, List.AllByRecursion}
 use Rattle.tape_image.specs.Tape.{IsTapeItem}
 use Rattle.tape_label.specs.declared.values.Format.TheVariants.{Fixed, Spanned}
 use Rattle.tape_label.specs.Head2.{Head2Fits}
-use Rattle.tape_blocks.specs.declared.parts.Shape.{Shape}
 use Rattle.tape_blocks.specs.declared.parts.Span.TheVariants.{First, Middle, Last}
-use Rattle.tape_blocks.specs.Block.{Portion, Holds}
-use Rattle.tape_blocks.specs.Spans.{InOrder}
 use Rattle.tape_blocks.specs.Packing.{written, IsWritable}
-use Rattle.tape_blocks.specs.Tight as packing
 use Rattle.tape_blocks.specs.Tight.{Filled, Chain, IsWritten, IsDue}
+use Rattle.tape_blocks.specs.{declared.parts.Shape.Shape, Block.Portion, Block.Holds, Spans.InOrder}
+use Rattle.tape_blocks.specs.Tight as packing
 use Rattle.tape_blocks.proofs.PackLaws.{written_holds}
 use Rattle.tape_set.specs.Layout.{FileSet, sections, all_items, item_of, data_group}
 use Rattle.tape_set.specs.Position.{awaiting, at_part}
-use Rattle.tape_set.specs.Sizes.{items_size}
-use Rattle.tape_set.specs.Before.{before}
-use Rattle.tape_set.specs.Lawful.{IsLawful}
 use Rattle.tape_set.specs.Tight.{IsTight, IsTightChange, ChainBehind, second_of}
-use Rattle.tape_set.proofs.Worked.{set_id, made, filled}
-use Rattle.tape_set.proofs.Worked.{plain_volume}
+use Rattle.tape_set.specs.{Sizes.items_size, Before.before, Lawful.IsLawful}
+use Rattle.tape_set.proofs.Worked.{makes, alike_file, made, filled, plain_set}
+use Rattle.tape_set.proofs.Worked.{shape_of}
 
 -- for a format other than F the least record length does not matter
 pub not_fixed : Spanned ≡ Fixed → 1 ≤ 0
 not_fixed e = absurd (cc)
 
 abbrev pub shape : Shape
-shape = record {
-  format = Spanned;
-  block_len = 18;
-  rec_len = 0;
-  offset = 0;
-  pad_full = false;
-  some_record = not_fixed;
-}
+shape = shape_of Spanned 18 0 0 not_fixed
 
 pub shape_fits : Head2Fits (second_of shape)
 shape_fits = record { block_len = lit≤ tt; rec_len = (lit≤ tt, lit≤ tt); offset = lit≤ tt }
@@ -128,11 +115,8 @@ abbrev pub on_first : List Filled
 on_first = first_block ∷ replicate 21 middle_block
 
 abbrev pub spanned : FileSet
-spanned = record {
-  set_id = set_id;
-  volumes = plain_volume ∷ plain_volume ∷ [];
-  files = (made shape 1 1 1 false on_first ∷ made shape 2 1 2 true (last_block ∷ []) ∷ []) ∷ [];
-}
+spanned = plain_set 2 ((made shape 1 1 1 false on_first ∷ made shape 2 1 2 true (last_block
+    ∷ []) ∷ []) ∷ [])
 
 spanned_lawful : IsLawful spanned
 spanned_lawful =

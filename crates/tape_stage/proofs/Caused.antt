@@ -8,13 +8,3 @@ pub caused_on : {A B : Type 0} (r : Result A B) (n old new : ℕ) → n ≤ 1844
 caused_on (Ok x) n old new small le cause calm = omega (arith, le, calm)
 caused_on (Err e) n old new small le (inl more) calm = omega (arith, le, more)
 caused_on (Err e) n old new small le (inr top) calm = omega (arith, small, top)
-
--- one more failure of the wrapper is a failure of the disk
-pub caused_rose : (n old new : ℕ) → n ≤ old → Rose old new → Rose n new
-caused_rose n old new le (inl more) = inl (omega (arith, le, more))
-caused_rose n old new le (inr top) = inr top
-
-pub on_err_rose : {A B : Type 0} (r : Result A B) (n old new : ℕ) → n ≤ old → OnErr r (Rose old new)
-    → OnErr r (Rose n new)
-on_err_rose (Ok x) n old new le cause = tt
-on_err_rose (Err e) n old new le cause = caused_rose n old new le cause

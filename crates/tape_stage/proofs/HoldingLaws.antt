@@ -1,17 +1,14 @@
 -- The effect of buffered bytes on the results of reads, and on the contents that a crash may leave.
 use Rattle.std.proofs.Common.{◌≡◌, inl, inr, ⊎_elim, ℕ, ◌+◌, ◌-◌, ◌≤◌, ◌<◌, List, [], ◌++◌, length}
-use Rattle.std.proofs.Common.{take, drop, refl, sym, ap, ◌∙◌, subst, arith, length-append}
+use Rattle.std.proofs.Common.{take, drop, sym, ap, ◌∙◌, subst, arith, length-append}
 use Rattle.std.proofs.Common.{length-drop, append_assoc}
 use Rattle.std.proofs.lemmas.List.{length-take-le, take_at, drop_at, take-append-drop, take-take}
 use Rattle.std.proofs.lemmas.List.{drop-take, drop-drop}
 use Rattle.std.proofs.{lemmas.Bool.cases_lt, Math.ListN.drop_of_length-le, Math.Seq.take-add}
 use Rattle.tape_stage.specs.Calls.{over}
-use Rattle.tape_stage.specs.Disk.{Torn, CutShort, Elapses, NoMore, Holds, Allows, Follows}
+use Rattle.tape_stage.specs.Disk.{Torn, Elapses, NoMore, Holds, Allows, Follows}
 use Rattle.tape_stage.specs.Holding.{with_held, LeftTorn, LeftSince, torn_same}
 use Rattle.tape_stage.proofs.Torn.{alike_less, torn_high}
-
-pub cut_same : (n : ℕ) (c : List ℕ) → CutShort n c c
-cut_same n c = record { no_shorter = omega arith; no_longer = omega arith; front = refl }
 
 -- nothing is torn
 pub torn_none : (p : ℕ) (d c : List ℕ) → Torn p 0 d c → c ≡ d
@@ -98,12 +95,6 @@ then_elapses m0 m1 m2 past0 past1 past2 leaves0 leaves1 leaves2 s0 s1 b0 b1 none
 
 -- the contents that a crash may leave after the buffer is written and a call is made on the disk
 module _ (old mid new : List ℕ → Type 0) (s : ℕ) (b : List ℕ) where
-  pub then_follows : (step : List ℕ → List ℕ → Type 0) → b ≡ [] → NoMore old (LeftTorn mid s b)
-      → Follows step mid new → Follows step old (LeftTorn new s b)
-  then_follows step none crash follows c left =
-      let (d, first, torn) = follows c (left_none new s _ c none left) in
-      (d, crash d (none_left mid s b d first), torn)
-
   pub then_stays : b ≡ [] → NoMore (LeftTorn mid s b) old → NoMore new mid
       → NoMore (LeftTorn new s b) old
   then_stays none stays more c left = none_left new s b c

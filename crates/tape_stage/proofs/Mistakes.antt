@@ -1,6 +1,6 @@
 -- Results that the contracts of checkpoints, disks and stages exclude: each is the result of a
 -- wrong body.
-use Rattle.std.proofs.Common.{◌≡◌, ℕ, List, length, true, false, sym, ap, subst, ◌∙◌, arith, Some}
+use Rattle.std.proofs.Common.{◌≡◌, ℕ, List, true, false, sym, ap, subst, ◌∙◌, arith, Some}
 use Rattle.std.proofs.Common.{Ok, Err, option_map, unwrap_or, ◌⊎◌, inl, inr, ◌+◌, Bool, not, []}
 use Rattle.std.proofs.Common.{◌∷◌, Option, None}
 use Rattle.tape_core.specs.{Point.Point, Stands.weight_of}

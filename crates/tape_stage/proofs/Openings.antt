@@ -57,11 +57,6 @@ module _ {D : Type 0} (g : Ghosts D) (a b c : D) (reads : OnlyReads g a b)
   cut_stopped cut = cut_keeps _ _ _ _ is (ap (λ (k : ℕ). 256 + k) told)
       (subst (λ (old : List ℕ). CutShort (256 + n) old (g.seen c)) (reads.same honest) cut)
 
-  pub cut_is : g.seen c ≡ take (256 + n) (g.seen b)
-      → g.seen c ≡ take (256 + found.point.staged) (g.seen a)
-  cut_is cut = cut ∙ ap (take (256 + n)) (reads.same honest)
-      ∙ ap (λ (k : ℕ). take (256 + k) (g.seen a)) told
-
   module _ (parts : List Portion) (holding : Holding found.point.staged parts (g.seen a)) where
     pub cut_passes : Passes g b c (λ x. take (256 + n) x ≡ take (256 + n) (g.seen b))
         → Passes g a c (λ x. g.may_leave a x ⊎ StandsLike (g.seen a) x)

@@ -13,7 +13,7 @@ use Rattle.tape_stage.specs.{declared.point.Version.Version, declared.point.Vers
 use Rattle.tape_stage.specs.{declared.point.Version.TheVariants.Two, declared.point.Fields.Fields}
 use Rattle.tape_stage.specs.{Fields.form_of, Fields.fields_of, Fields.point_by, Range.is_right}
 use Rattle.tape_stage.specs.{Reading.text_at, Reading.right_point, Reading.reading}
-use Rattle.tape_stage.specs.{Laws.IsTextOfOne, Laws.IsTextOnce, Laws.HasBothTexts}
+use Rattle.tape_stage.specs.{Laws.IsTextOfOne, Laws.HasBothTexts}
 use Rattle.tape_stage.proofs.TextLaws.{Reads, text_found, text_again, reads_stand, stands_read}
 use Rattle.tape_stage.proofs.TextLaws.{reads_fit, stood}
 use Rattle.tape_stage.proofs.PointFields.{point_again, point_right, fields_again, right_writable}
@@ -124,9 +124,6 @@ text_of_one bytes v w a b first second = (
   first_same v w (fields_of a) (fields_of b) _ (point_read _ _ _ first) (point_read _ _ _ second),
   ok_is a b (sym (reads_only _ _ _ first) ∙ reads_only _ _ _ second),
 )
-
-pub text_once : IsTextOnce
-text_once version a b c first second = (first.text ∙ sym second.text, text_size _ _ _ first)
 
 pub both_texts : HasBothTexts
 both_texts c right known set_id file_id block part = (

@@ -1,28 +1,16 @@
 -- The state of a disk after opening a stage was refused.
-use Rattle.std.proofs.Common.{◌≡◌, ℕ, ◌+◌, ◌≤◌, List, take, length, Some, Result, Ok, Err, OnErr}
+use Rattle.std.proofs.Common.{◌≡◌, ℕ, ◌+◌, ◌≤◌, List, take, length, Some}
 use Rattle.std.proofs.Common.{sym, ap, ◌∙◌, subst, arith}
 use Rattle.std.proofs.lemmas.List.{take-take, length-take-le}
 use Rattle.tape_blocks.specs.Block.{Portion}
 use Rattle.tape_core.specs.Point.{Point}
-use Rattle.tape_stage.specs.{Body.Slot, Disk.CutShort, Disk.IsLater, Disk.NoMore, Found.IsFound}
+use Rattle.tape_stage.specs.{Body.Slot, Disk.CutShort, Found.IsFound}
 use Rattle.tape_stage.specs.{Moments.Untouched, Staged.Staged, Staged.KeepsStaged}
 use Rattle.tape_stage.specs.{declared.disk.Disk.Ghosts, declared.stage.Found.Found}
-use Rattle.tape_stage.proofs.{Finds.best_of, Passing.stands, Passing.weaken, Passing.follow}
-
-pub on_each_err : {A B : Type 0} (r : Result A B) {P : Type 0} → P → OnErr r P
-on_each_err (Ok x) p = tt
-on_each_err (Err e) p = p
+use Rattle.tape_stage.proofs.{Finds.best_of, Passing.weaken, Passing.follow}
 
 module _ {D : Type 0} (g : Ghosts D) where
-  -- a call that only reads
-  pub untouched_by : (a b : D) → g.seen b ≡ g.seen a → NoMore (g.may_leave a) (g.may_leave b)
-      → IsLater g.moment g.left_since g.may_leave a b → Untouched g a b
-  untouched_by a b same no_more time = record {
-    read = same;
-    crash = stands g a b (g.may_leave a) time no_more;
-  }
-
-  -- another such call
+  -- one call after another
   pub untouched_then : (a b c : D) → Untouched g a b → Untouched g b c → Untouched g a c
   untouched_then a b c first second = record {
     read = second.read ∙ first.read;

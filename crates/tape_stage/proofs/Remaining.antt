@@ -76,20 +76,6 @@ counted_goes_on parts part n goes is =
     is ∙ sym (ap (λ (j : Joined). length j.records)
     (join_goes_on parts part (join parts).records (join parts).rest refl goes))
 
--- all frames are intact
-pub framed_whole : (staged place records : ℕ) (bytes : List ℕ) → place ≡ 256 + staged
-    → place ≤ length bytes → (walked : WalkedTo place bytes)
-    → records ≡ length (join walked.parts).records → WalkedOver staged None records bytes
-framed_whole staged place records bytes is le walked count = (
-  walked.parts,
-  record {
-    holds = subst (λ (n : ℕ). Holding n walked.parts bytes) (omega (arith, is))
-        (walked_holding place bytes le walked);
-    breaks = tt;
-  },
-  count,
-)
-
 -- no frame begins at the offset
 pub framed_broken : (staged place limit records : ℕ) (bytes : List ℕ)
     → limit ≡ min (256 + staged) (length bytes) → place ≤ limit → place < 256 + staged
@@ -107,12 +93,6 @@ framed_broken staged place limit records bytes is le high walked count none = (
   },
   count,
 )
-
--- the same under other names
-pub walked_as : (staged n : ℕ) (broken : Option ℕ) (records : ℕ) (old new : List ℕ) → staged ≡ n
-    → old ≡ new → WalkedOver staged broken records old → WalkedOver n broken records new
-walked_as staged n broken records old new weighs same walked = subst (WalkedOver n broken records)
-    same (subst (λ (m : ℕ). WalkedOver m broken records old) weighs walked)
 
 -- nothing is damaged
 pub whole_framed : (staged : ℕ) (broken : Option ℕ) (parts : List Portion) (bytes : List ℕ)

@@ -1,6 +1,4 @@
 -- A borrowed value that is given back: what holds of it may be weakened.
-use Prim.Native.Nat.{ℕ}
-use mathlib.Core.List.{[]}
 use mathlib.Core.Option.{none}
 use seplogic.Ra.Ura.{Ura}
 use base.Logic.{ent, ex_e, ex_i}

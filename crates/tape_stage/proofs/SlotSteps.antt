@@ -1,9 +1,9 @@
 -- The three steps from one generation to the next.
-use Rattle.std.proofs.Common.{◌≡◌, ◌⊎◌, inl, inr, ⊎_elim, ℕ, ◌+◌, ◌≤◌, Bool, true, false, not, List}
+use Rattle.std.proofs.Common.{◌≡◌, inl, inr, ⊎_elim, ℕ, ◌+◌, ◌≤◌, Bool, true, false, not, List}
 use Rattle.std.proofs.Common.{[], ◌∷◌, length, take, drop, Some, ◌==◌, sym, ap, ◌∙◌, subst, arith}
 use Rattle.std.proofs.{lemmas.List.length-take, lemmas.Bool.Decides.eqb_tells}
 use Rattle.tape_stage.specs.Staged.{slot_place, gate_at, body_at, read_slot, slot_at, Loses}
-use Rattle.tape_stage.specs.Staged.{StagedIn, IsClosed, IsNext, IsEither, Holding, Ready}
+use Rattle.tape_stage.specs.Staged.{StagedIn, IsClosed, IsNext, Ready}
 use Rattle.tape_stage.specs.{Disk.Torn, Disk.Holds, Disk.Only, Body.body_of, Body.body_text}
 use Rattle.tape_stage.specs.{Body.FitBody, Moments.After}
 use Rattle.tape_blocks.specs.Block.{Portion}

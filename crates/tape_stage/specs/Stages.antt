@@ -1,6 +1,6 @@
 -- The contents and states of a stage.
-use Rattle.std.specs.Prelude.{◌≡◌, ◌⊎◌, ℕ, ◌+◌, ◌<◌, ◌≤◌, Bool, true, false, List, Option, None}
-use Rattle.std.specs.Prelude.{Result, OnOk, IfErr, IsErrOf}
+use Rattle.std.specs.Prelude.{◌≡◌, ◌⊎◌, ℕ, ◌+◌, ◌<◌, ◌≤◌, Bool, true, false, not, List, Option}
+use Rattle.std.specs.Prelude.{None, Result, OnOk, IfErr, IsErrOf}
 use Rattle.std.specs.Prelude.{Some, Ok, Err}
 use Rattle.tape_stage.specs.declared.disk.Disk.{Ghosts}
 use Rattle.tape_blocks.specs.Block.{Portion}
@@ -13,6 +13,7 @@ use Rattle.tape_core.specs.declared.sink.SinkFault.TheVariants as sink
 use Rattle.tape_stage.specs.Body.{most_generation}
 use Rattle.tape_stage.specs.Faults.{IsNotDevice, OnBadFrame, SaysNone}
 use Rattle.tape_stage.specs.Staged.{Staged, StandsLike, Holding, HoldsNone, KeepsStaged, Ready}
+use Rattle.tape_stage.specs.Staged.{NamedIn, SameFrames}
 use Rattle.tape_stage.specs.declared.stage.StageFault.TheVariants.{Device, Full, Failed}
 use Rattle.tape_stage.specs.declared.stage.StageFault.TheVariants.{OutOfMemory}
 use Rattle.tape_stage.specs.{declared.disk.Disk.Ghosts, Body.most_generation, Found.IsFaultOf}
@@ -91,11 +92,24 @@ abbrev pub pending_after : SinkFault → Point → Option Point → Option Point
 pending_after sink.Device point old = Some point
 pending_after _ point old = old
 
+-- The checkpoint is acknowledged, as the next generation. Whatever a crash leaves now names it, and
+-- has the frames before it.
+pub record HasNamed {D : Type 0} {disk : Ghosts D} (point : Point) (old new : Stage D disk)
+    : Type 0 where
+  pub acknowledged : new.acknowledged ≡ point
+  pub pending : new.pending ≡ None
+  pub slot : new.in_second ≡ not old.in_second
+  pub generation : new.generation ≡ old.generation + 1
+  pub names : disk.is_honest old.disk → (acked parts : List Portion) → IsStage old acked parts
+      → (bytes : List ℕ) → disk.may_leave new.disk bytes
+      → NamedIn (not old.in_second) (old.generation + 1) point bytes
+      × SameFrames point.staged (disk.seen old.disk) bytes
+
 -- What is acknowledged and pending after a call that drops acknowledged parts: the checkpoint,
 -- which may only be pending if the disk failed; nothing changes if the call was refused otherwise.
 abbrev pub HasDropped : {D : Type 0} {disk : Ghosts D} → Point → Stage D disk
     → Result (Unit {0}) SinkFault → Stage D disk → Type 0
-HasDropped point old (Ok done) new = new.acknowledged ≡ point
+HasDropped point old (Ok done) new = HasNamed point old new
 HasDropped point old (Err fault) new =
     ((fault ≡ sink.Device) × (new.acknowledged ≡ point))
     ⊎ ((new.acknowledged ≡ old.acknowledged)

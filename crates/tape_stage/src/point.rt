@@ -6,7 +6,7 @@ ghost use Rattle.std.specs.Prelude.{◌≡◌, IfOk, Ok, ◌<◌, is_some, IfSom
 ghost use Rattle.tape_set.specs.Position.{sect_of};
 ghost use Rattle.tape_core.specs.{Point.Point, Known.PositionFits};
 ghost use Rattle.tape_stage.specs.Text.{IsPointText, Fit, IsWritable, KnownFits};
-ghost use Rattle.tape_stage.specs.Fields.{fields_of, flags_of, form_of, place_of, known_by};
+ghost use Rattle.tape_stage.specs.Fields.{fields_of, form_of, place_of, known_by};
 ghost use Rattle.tape_stage.specs.Fields.{point_by, position_by};
 ghost use Rattle.tape_stage.specs.Range.{form_agrees, is_blank, is_right, place_agrees};
 ghost use Rattle.tape_stage.specs.{Reading.reading, declared.point.Version.Version};
@@ -120,17 +120,6 @@ pub fn write_point(point: &Checkpoint) -> [u8; 80]
 /// A file identifier of spaces, which represents an unknown file.
 const SPACES: [u8; 17] = [b' '; 17];
 
-/// Returns whether the file is complete, a record is unfinished, and the form is known.
-fn flags_of(position: Position, begun: bool, known: &Option<Known>) -> Flags
-    ensures { result ≡ flags_of position begun known.now }
-{
-    Flags {
-        done: matches!(position, Position::Finished),
-        begun,
-        known: known.is_some(),
-    }
-}
-
 /// Returns the fields of the file's form.
 fn form_of(known: &Option<Known>) -> Form
     ensures value { result ≡ form_of known.now }
@@ -184,7 +173,11 @@ pub(crate) fn fields_of(point: &Checkpoint) -> Fields
         file: u64::from(point.file),
         sect,
         place,
-        flags: flags_of(point.position, point.begun, &point.known),
+        flags: Flags {
+            done: matches!(point.position, Position::Finished),
+            begun: point.begun,
+            known: point.known.is_some(),
+        },
         form: form_of(&point.known),
         staged: point.staged,
     }

@@ -15,7 +15,9 @@ use Rattle.tape_writer.specs.declared.system.fault.FileFault.{FileFault}
 use Rattle.tape_writer.specs.declared.system.fault.FileFault.TheVariants.{WriteFailed}
 use Rattle.tape_tool.specs.declared.fault.ToolFault.{ToolFault}
 use Rattle.tape_tool.specs.declared.fault.ToolFault.TheVariants.{File, Run, Stage}
-use Rattle.tape_tool.specs.StageReport.{unopened, in_part, EndsInPart, StopsShowing}
+use Rattle.tape_tool.specs.StageReport.{unopened, in_part, in_lines, in_records, GivesFront}
+use Rattle.tape_tool.specs.StageReport.{StopsShowing}
+use Rattle.tape_tool.specs.declared.stage.ending.StageEnding.{StageEnding}
 use Rattle.tape_tool.specs.CasesOfShowing.{CasesOfShowing, StopSays, StoppedOnlyBy}
 
 stopped : (read : List ℕ) (damaged : Bool) (form : Option Form)
@@ -25,8 +27,11 @@ stopped read damaged form out written said says fault
     (unopened cause is none why frame full failed kept quiet) =
     inl (cause, is, none, why, frame, full, failed, kept, quiet)
 stopped read damaged form out written said says fault
-    (in_part generation point broken parts remains whole front ends) =
-    inr (generation, point, broken, parts, remains, whole, front.wrote, front.told, ends)
+    (in_part generation point broken parts remains whole (in_records wrote quiet ends)) =
+    inr (generation, point, broken, parts, remains, whole, inl (wrote, quiet, ends.0, ends.1))
+stopped read damaged form out written said says fault
+    (in_part generation point broken parts remains whole (in_lines wrote told failed)) =
+    inr (generation, point, broken, parts, remains, whole, inr (wrote, told, failed))
 
 -- why it ends early: nothing was opened, or it was interrupted
 abbrev Why : Type 0 → Type 0 → ToolFault → Type 0
@@ -82,10 +87,13 @@ told_none : {none untouched : Type 0} (cause : StageFault) → SaysNone cause
 told_none cause says (inl why) = why.2 (subst SaysNone (is_cause why.1) says)
 told_none cause says (inr ends) = absurd (subst SaysNone (is_device cause ends) says)
 
-part_ends : (form : Option Form) (fault : ToolFault) → EndsInPart form fault
+part_ends : (point : Point) (ending : StageEnding) (form : Option Form)
+    (out written said says : Option (List ℕ)) (parts : List Portion) (fault : ToolFault)
+    → GivesFront point ending form out written said says parts fault
     → (fault ≡ File WriteFailed) ⊎ (fault ≡ Stage Device)
-part_ends form fault (inl e) = inl e
-part_ends form fault (inr e) = inr e.0
+part_ends point ending form out written said says parts fault (in_records wrote quiet ends) = ends.1
+part_ends point ending form out written said says parts fault (in_lines wrote told failed) =
+    inl failed
 
 why_shown : (read : List ℕ) (damaged : Bool) (form : Option Form)
     (out written said says : Option (List ℕ)) (fault : ToolFault)
@@ -95,7 +103,8 @@ why_shown read damaged form out written said says fault
     (unopened cause is none why frame full failed kept quiet) =
     inl (cause, is, none, full, failed, (kept, quiet))
 why_shown read damaged form out written said says fault
-    (in_part g point broken parts remains whole front ends) = inr (part_ends form fault ends)
+    (in_part g point broken parts remains whole front) =
+    inr (part_ends _ _ form out written said says parts fault front)
 
 pub none_told : (read : List ℕ) (damaged : Bool) (form : Option Form)
     (out written said says : Option (List ℕ)) (cause : StageFault) → SaysNone cause
@@ -114,8 +123,9 @@ frame_told read damaged form out written said says cause says_none
       subst (λ (c : StageFault). OnBadFrame c (λ place. damaged ≡ false)) (sym (is_cause is)) frame,
     )
 frame_told read damaged form out written said says cause says_none
-    (in_part g point broken parts remains whole front ends) =
-    absurd (subst SaysNone (is_device cause (part_ends form (Stage cause) ends)) says_none)
+    (in_part g point broken parts remains whole front) =
+    absurd (subst SaysNone (is_device cause (part_ends _ _ form out written said says parts
+    (Stage cause) front)) says_none)
 
 remaining : (read : List ℕ) (g : ℕ) (point : Point) (broken : Option ℕ) (parts : List Portion)
     (cause : StageFault) → Remains read g point broken parts → SaysNone cause
@@ -126,16 +136,18 @@ remaining read g point broken parts (BadFrame place) remains none told = cc (tol
 remaining read g point broken parts Device remains none told = none
 remaining read g point _ parts _ remains none told = none
 
-fails_before : (read : List ℕ) (damaged : Bool) (out written said says : Option (List ℕ))
-    → StopsShowing read damaged None out written said says (Stage Device)
-    → Keeps out written × Keeps said says
-fails_before read damaged out written said says
-    (unopened cause is none why frame full failed kept quiet) = (kept, quiet)
-fails_before read damaged out written said says
-    (in_part g point broken parts remains whole front (inl e)) =
-    absurd (let h : Stage Device ≡ File WriteFailed = e in cc)
-fails_before read damaged out written said says
-    (in_part g point broken parts remains whole front (inr e)) = absurd (e.1 refl)
+fails_before : (read : List ℕ) (damaged : Bool) (form : Option Form)
+    (out written said says : Option (List ℕ))
+    → StopsShowing read damaged form out written said says (Stage Device)
+    → Keeps said says × (form ≡ None → Keeps out written)
+fails_before read damaged form out written said says
+    (unopened cause is none why frame full failed kept quiet) = (quiet, λ no. kept)
+fails_before read damaged form out written said says
+    (in_part g point broken parts remains whole (in_records wrote quiet ends)) =
+    (quiet, λ no. absurd (ends.0 no))
+fails_before read damaged form out written said says
+    (in_part g point broken parts remains whole (in_lines wrote told failed)) =
+    absurd (let h : Stage Device ≡ File WriteFailed = failed in cc)
 
 pub cases_of_showing : CasesOfShowing
 unfolding digits

@@ -55,7 +55,7 @@ another_file_gone_on_with κs point set_id s h e =
 
 -- letter_emptied: a file that begins with D is taken for the beginning of a new stage
 letter_emptied : (D : _) (L : _) (g : _) (d : _) (κs : _) (a : _) (s : _)
-    → is_unmade.Learnt-named D L g d κs a true s → g.is_honest a.0.now
+    → is_unmade.Learnt-named D L g d κs a (Ok true) s → g.is_honest a.0.now
     → get_or (g.seen a.0.now) 0 0 ≡ 68 → ⊥
 letter_emptied D L g d κs a s l honest letter =
     let made : IsUnmade a.1.0 a.1.1.0 (g.seen a.0.now) = l.unmade honest in

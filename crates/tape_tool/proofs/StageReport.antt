@@ -1,41 +1,29 @@
 -- The text that is written and printed for a stage, put together.
-use Rattle.std.proofs.Common.{◌≡◌, ℕ, List, [], Bool, false, length, refl, sym, subst, append-nil}
+use Rattle.std.proofs.Common.{◌≡◌, ℕ, List, Bool, false, length, refl, subst}
 use Rattle.std.proofs.Common.{Option, None}
 use Rattle.std.specs.Io.KnownBytes.{Appends}
-use Rattle.std.proofs.KnownBytes.{Appends-nil}
 use Rattle.tape_blocks.specs.{Block.Portion, Spans.join}
 use Rattle.tape_blocks.specs.declared.parts.Form.{Form}
 use Rattle.tape_core.specs.Point.{Point}
 use Rattle.tape_image.specs.Written.{AppendsFront}
 use Rattle.tape_stage.specs.Salvaged.{Remains}
 use Rattle.tape_tool.specs.declared.stage.ending.StageEnding.{StageEnding}
-use Rattle.tape_tool.specs.StageReport.{GivesFront, Shows, ending_of, output_in, told_with}
+use Rattle.tape_tool.specs.StageReport.{GivesFront, Shows, ending_of, in_lines, output_in}
+use Rattle.tape_tool.specs.StageReport.{told_with}
+use Rattle.tape_tool.specs.declared.fault.ToolFault.TheVariants.{File}
+use Rattle.tape_writer.specs.declared.system.fault.FileFault.TheVariants.{WriteFailed}
 use Rattle.tape_stage.proofs.Remaining.{whole_staged}
 
 module _ (point : Point) (ending : StageEnding) (form : Option Form)
     (out written said says : Option (List ℕ)) (parts : List Portion) where
-  -- a prefix of the records was written, and nothing printed
-  pub no_lines : AppendsFront out written (output_in form parts)
-      → says ≡ said → GivesFront point ending form out written said says parts
-  no_lines wrote same = record {
-    wrote = wrote;
-    told = (
-      [],
-      told_with point ending (length (join parts).records),
-      subst (λ (s : Option (List ℕ)). Appends said s []) (sym same) (Appends-nil said),
-      refl,
-    );
-  }
-
   -- the records were written, and a prefix of the lines
   pub gives_front : (records : ℕ) → records ≡ length (join parts).records
       → Appends out written (output_in form parts)
       → AppendsFront said says (told_with point ending records)
-      → GivesFront point ending form out written said says parts
-  gives_front records count wrote told = record {
-    wrote = (output_in form parts, [], wrote, sym (append-nil (output_in form parts)));
-    told = subst (λ (n : ℕ). AppendsFront said says (told_with point ending n)) count told;
-  }
+      → GivesFront point ending form out written said says parts (File WriteFailed)
+  gives_front records count wrote told =
+      in_lines wrote
+      (subst (λ (n : ℕ). AppendsFront said says (told_with point ending n)) count told) refl
 
   -- the records were written, and both lines
   pub shows : (read : List ℕ) (damaged : Bool) (generation : ℕ) (broken : Option ℕ) (records : ℕ)

@@ -46,8 +46,9 @@ point_at position = record {
 }
 
 -- the meaning of a fault: no stage was opened and nothing written, and NoPoint and BadFrame are
--- true of the bytes; or a prefix of the remaining records was written, and the fault is a failed
--- write or the device
+-- true of the bytes; or a prefix of the remaining records was written and nothing printed, and the
+-- fault is a failed write or the device; or all of them and a prefix of the lines, and the fault is
+-- a failed write
 abbrev pub StopSays : List ℕ → Bool → Option Form → Option (List ℕ) → Option (List ℕ)
     → Option (List ℕ) → Option (List ℕ) → ToolFault → Type 0
 StopSays read damaged form out written said says fault =
@@ -57,9 +58,11 @@ StopSays read damaged form out written said says fault =
     × (cause ≢ Full) × (cause ≢ Failed) × Keeps out written × Keeps said says)
     ⊎ ((g : ℕ) × (point : Point) × (broken : Option ℕ) × (parts : List Portion)
     × Remains read g point broken parts × (damaged ≡ false → broken ≡ None)
-    × AppendsFront out written (output_in form parts)
+    × ((AppendsFront out written (output_in form parts) × Keeps said says × (form ≢ None)
+    × ((fault ≡ File WriteFailed) ⊎ (fault ≡ Stage Device)))
+    ⊎ (Appends out written (output_in form parts)
     × AppendsFront said says (told_of point broken (length (join parts).records))
-    × ((fault ≡ File WriteFailed) ⊎ ((fault ≡ Stage Device) × (form ≢ None))))
+    × (fault ≡ File WriteFailed))))
 
 -- The faults that can end it: a stage is never reported as full, or as failed before; after
 -- OutOfMemory nothing was written; a fault of a file is a failed write, and there are no faults of
@@ -113,10 +116,12 @@ pub record CasesOfShowing : Type 0 where
       (g : ℕ) (point : Point) (broken : Option ℕ) (parts : List Portion) (cause : StageFault)
       → Remains read g point broken parts → SaysNone cause
       → StopsShowing read true form out written said says (Stage cause) → ⊥
-  -- if no records are written, the device fails only before anything is printed
-  pub fails_before : (read : List ℕ) (damaged : Bool) (out written said says : Option (List ℕ))
-      → StopsShowing read damaged None out written said says (Stage Device)
-      → Keeps out written × Keeps said says
+  -- the device fails only before anything is printed, and before anything is written if no records
+  -- are
+  pub fails_before : (read : List ℕ) (damaged : Bool) (form : Option Form)
+      (out written said says : Option (List ℕ))
+      → StopsShowing read damaged form out written said says (Stage Device)
+      → Keeps said says × (form ≡ None → Keeps out written)
   -- which faults stop it
   pub stops_by : (read : List ℕ) (damaged : Bool) (form : Option Form)
       (out written said says : Option (List ℕ))

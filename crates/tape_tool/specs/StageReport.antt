@@ -59,11 +59,22 @@ pub record Gives (point : Point) (ending : StageEnding) (form : Option Form)
   pub wrote : Appends out written (output_in form parts)
   pub told : Appends said says (told_with point ending (length (join parts).records))
 
--- A prefix of these records was written, or all of them and a prefix of the lines.
-pub record GivesFront (point : Point) (ending : StageEnding) (form : Option Form)
-    (out written said says : Option (List ℕ)) (parts : List Portion) : Type 0 where
-  pub wrote : AppendsFront out written (output_in form parts)
-  pub told : AppendsFront said says (told_with point ending (length (join parts).records))
+-- The faults while the records are written: a failed write, or the stage's device, since the parts
+-- are read again.
+abbrev pub EndsInRecords : Option Form → ToolFault → Type 0
+EndsInRecords form fault = (form ≢ None)
+    × ((fault ≡ File WriteFailed) ⊎ (fault ≡ Stage Device))
+
+-- How far a run came that ended with a fault: a prefix of the records was written, and nothing was
+-- printed; or all records were written, and a prefix of the lines was printed.
+pub data GivesFront (point : Point) (ending : StageEnding) (form : Option Form)
+    (out written said says : Option (List ℕ)) (parts : List Portion) (fault : ToolFault)
+    : Type 0 where
+  in_records : AppendsFront out written (output_in form parts) → Keeps said says
+      → EndsInRecords form fault → GivesFront point ending form out written said says parts fault
+  in_lines : Appends out written (output_in form parts)
+      → AppendsFront said says (told_with point ending (length (join parts).records))
+      → fault ≡ File WriteFailed → GivesFront point ending form out written said says parts fault
 
 -- The bytes that were read contain these remains: a checkpoint, and its parts up to the damage, if
 -- there is any. Without `damaged` there is none: the bytes represent the checkpoint and its parts.
@@ -79,15 +90,9 @@ pub record Shows (read : List ℕ) (damaged : Bool) (form : Option Form)
   pub ends : ending ≡ ending_of point broken
   pub gives : Gives point ending form out written said says parts
 
--- The faults after a stage was opened: a failed write, or its device, if the parts are read again
--- to be written.
-abbrev pub EndsInPart : Option Form → ToolFault → Type 0
-EndsInPart form fault = (fault ≡ File WriteFailed) ⊎ ((fault ≡ Stage Device) × (form ≢ None))
-
 -- A fault ended the run. Either no stage was opened and nothing was written; NoPoint is reported
 -- only if no slot is valid, BadFrame with the offset of the bad frame, never with `damaged`, and
--- Full and Failed never. Or a prefix of the output was written, and the fault is a failed write or
--- the device.
+-- Full and Failed never. Or a prefix of the output was written, as `GivesFront` says.
 pub data StopsShowing (read : List ℕ) (damaged : Bool) (form : Option Form)
     (out written said says : Option (List ℕ)) (fault : ToolFault) : Type 0 where
   unopened : (cause : StageFault) → fault ≡ Stage cause → (SaysNone cause → HoldsNone read)
@@ -96,6 +101,5 @@ pub data StopsShowing (read : List ℕ) (damaged : Bool) (form : Option Form)
       → StopsShowing read damaged form out written said says fault
   in_part : (generation : ℕ) (point : Point) (broken : Option ℕ) (parts : List Portion)
       → Remains read generation point broken parts → (damaged ≡ false → broken ≡ None)
-      → GivesFront point (ending_of point broken) form out written said says parts
-      → EndsInPart form fault
+      → GivesFront point (ending_of point broken) form out written said says parts fault
       → StopsShowing read damaged form out written said says fault

@@ -2,7 +2,7 @@
 
 ghost use Rattle.tape_tool.specs.Words.{IsMistake};
 
-use crate::check::CHECK;
+use crate::check::{CHECK, SURVEY, SurveyOrder, survey_order};
 use crate::command_spec::{CommandSpec, check_numbers, command_of, error_of, mistake};
 use crate::extract::{EXTRACT, ExtractOrder, extract_order};
 use crate::help;
@@ -14,7 +14,6 @@ use crate::refusal::Refusal;
 use crate::salvage::{SALVAGE, SalvageOrder, salvage_order};
 use crate::shown::Shown;
 use crate::stage::{STAGE, StageOrder, stage_order};
-use crate::survey::{SURVEY, SurveyOrder, survey_order};
 use crate::unpack::{UNPACK, UnpackOrder, unpack_order};
 use crate::words::{named, named_once, text_of};
 use crate::write::words::{WRITE, WriteOrder, write_order};
@@ -23,12 +22,10 @@ use clap::{Arg, ArgAction, ArgMatches, Command, Error};
 use std::alloc::{AllocError, Global};
 
 /// The program. The usage line shows the name that users know, whatever the file is called.
-const TAPE: CommandSpec = CommandSpec {
+const TAPE: &CommandSpec = &CommandSpec {
     name: "tape",
-    called: "tape",
     about: help::ABOUT,
     after_help: help::AFTER,
-    usage: None,
     words: &[],
 };
 
@@ -44,27 +41,16 @@ pub struct Call<'a> {
 /// A command with its arguments.
 #[derive(Drop)]
 pub enum Order<'a> {
-    /// Lists the image at a path, or on standard input.
     List(ListOrder<'a>),
-    /// Creates images of volumes without files.
     Init(InitOrder<'a>),
-    /// Reports the sections on images.
     Check(Named<'a>),
-    /// Describes images.
     Survey(SurveyOrder<'a>),
-    /// Writes files to volumes.
     Write(WriteOrder<'a>),
-    /// Recovers a file from images.
     Extract(ExtractOrder<'a>),
-    /// Recovers every file on images.
     Unpack(UnpackOrder<'a>),
-    /// Recovers the readable parts of a file.
     Salvage(SalvageOrder<'a>),
-    /// Shows a stage.
     Stage(StageOrder<'a>),
-    /// Merges readings of one tape.
     Merge(MergeOrder<'a>),
-    /// Compares readings of one tape.
     Compare(Named<'a>),
 }
 
@@ -102,11 +88,10 @@ fn command<'a>(alloc: Global) -> Result<Command<'a>, AllocError> {
         .action(ArgAction::SetTrue)
         .global(true)
         .help(help::EXPLAIN);
-    let bare = command_of(alloc, &TAPE)?.version("0.1.0");
+    let bare = command_of(alloc, TAPE)?.version("0.1.0");
     let mut tape = bare.subcommand_required(true).arg(explain)?;
     let commands = [
-        &LIST, &CHECK, &SURVEY, &COMPARE, &MERGE, &EXTRACT, &UNPACK, &SALVAGE, &STAGE, &INIT,
-        &WRITE,
+        LIST, CHECK, SURVEY, COMPARE, MERGE, EXTRACT, UNPACK, SALVAGE, STAGE, INIT, WRITE,
     ];
     for command_spec in &commands {
         tape = tape.subcommand(command_of(alloc, *command_spec)?)?;
@@ -118,15 +103,9 @@ fn command<'a>(alloc: Global) -> Result<Command<'a>, AllocError> {
 /// of the commands.
 fn call_in<'a>(alloc: Global, matches: &ArgMatches<'a>) -> Result<Call<'a>, Error> {
     let Some((name, words)) = matches.subcommand() else {
-        return Err(mistake(alloc, &TAPE, help::NO_COMMAND));
+        return Err(mistake(alloc, TAPE, help::NO_COMMAND));
     };
-    match name {
-        "extract" => check_numbers(alloc, &EXTRACT, words)?,
-        "salvage" => check_numbers(alloc, &SALVAGE, words)?,
-        "init" => check_numbers(alloc, &INIT, words)?,
-        "write" => check_numbers(alloc, &WRITE, words)?,
-        _ => {}
-    }
+    check_numbers(alloc, spec_of(name), words)?;
     match order_of(alloc, name, words) {
         Ok(order) => Ok(Call {
             name,
@@ -148,19 +127,24 @@ fn call_in<'a>(alloc: Global, matches: &ArgMatches<'a>) -> Result<Call<'a>, Erro
 pub fn error_in(alloc: Global, name: &str, value: &str, refusal: Refusal) -> Error
     ensures { IsMistake result }
 {
+    error_of(alloc, spec_of(name), value, refusal)
+}
+
+/// Returns the description of command `name`, or that of the program if there is none.
+fn spec_of(name: &str) -> &'static CommandSpec {
     match name {
-        "list" => error_of(alloc, &LIST, value, refusal),
-        "check" => error_of(alloc, &CHECK, value, refusal),
-        "survey" => error_of(alloc, &SURVEY, value, refusal),
-        "extract" => error_of(alloc, &EXTRACT, value, refusal),
-        "unpack" => error_of(alloc, &UNPACK, value, refusal),
-        "salvage" => error_of(alloc, &SALVAGE, value, refusal),
-        "stage" => error_of(alloc, &STAGE, value, refusal),
-        "init" => error_of(alloc, &INIT, value, refusal),
-        "write" => error_of(alloc, &WRITE, value, refusal),
-        "merge" => error_of(alloc, &MERGE, value, refusal),
-        "compare" => error_of(alloc, &COMPARE, value, refusal),
-        _ => error_of(alloc, &TAPE, value, refusal),
+        "list" => LIST,
+        "check" => CHECK,
+        "survey" => SURVEY,
+        "extract" => EXTRACT,
+        "unpack" => UNPACK,
+        "salvage" => SALVAGE,
+        "stage" => STAGE,
+        "init" => INIT,
+        "write" => WRITE,
+        "merge" => MERGE,
+        "compare" => COMPARE,
+        _ => TAPE,
     }
 }
 

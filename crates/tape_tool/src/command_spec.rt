@@ -14,13 +14,9 @@ use std::alloc::{AllocError, Global};
 /// The description of a command: its texts, and its arguments.
 pub struct CommandSpec {
     pub name: &'static str,
-    /// The name of the command in its usage line.
-    pub called: &'static str,
     pub about: &'static str,
     /// The text that the long help prints after the arguments.
     pub after_help: &'static str,
-    /// The usage line, if it is not derived from the arguments.
-    pub usage: Option<&'static str>,
     pub words: &'static [Word],
 }
 
@@ -38,6 +34,8 @@ pub enum Kind {
     Texts,
     /// Any number of texts, also none.
     AnyTexts,
+    /// The same, so that a second text gets an error message of its own. Contains the usage line.
+    AtMostOne(&'static str),
     /// An option without a value.
     Flag,
     /// An option without a value, which requires the option with this name.
@@ -57,17 +55,23 @@ pub fn command_of<'a>(
     alloc: Global,
     command_spec: &CommandSpec,
 ) -> Result<Command<'a>, AllocError> {
-    let mut command = Command::new(alloc, command_spec.name)
+    let name = command_spec.name;
+    // The name in the usage line.
+    let called = match name {
+        "tape" => String::from_str(alloc, name)?,
+        _ => format!(in alloc; "tape {name}")?,
+    };
+    let mut command = Command::new(alloc, name)
         .about(command_spec.about)
         .after_long_help(command_spec.after_help)
-        .bin_name(command_spec.called)?;
+        .bin_name(called.as_str())?;
     for word in command_spec.words {
         command = command.arg(argument(alloc, word)?)?;
+        if let Kind::AtMostOne(usage) = word.1 {
+            command = command.override_usage(usage);
+        }
     }
-    match command_spec.usage {
-        Some(usage) => Ok(command.override_usage(usage)),
-        None => Ok(command),
-    }
+    Ok(command)
 }
 
 /// Returns the parser's argument for an argument or an option.
@@ -77,7 +81,7 @@ fn argument<'a>(alloc: Global, word: &Word) -> Result<Arg<'a>, AllocError> {
     Ok(match *kind {
         Kind::Text | Kind::Number(_, _) => arg.required(true),
         Kind::Texts => arg.required(true).num_args(1..),
-        Kind::AnyTexts => arg.num_args(..),
+        Kind::AnyTexts | Kind::AtMostOne(_) => arg.num_args(..),
         Kind::Flag => arg.long(*name).action(ArgAction::SetTrue),
         Kind::FlagOf(option) => {
             let flag = arg.long(*name).action(ArgAction::SetTrue);

@@ -9,8 +9,6 @@ use files::{
     FILE_OF_FOLDER, FILE_OF_IMAGE, FILE_OF_IMAGES, FILE_OF_INPUT, FILE_OF_LINES, FILE_OF_LIST,
     FILE_OF_LOG, FILE_OF_NEW, FILE_OF_OUT, FILE_OF_STAGE, FILE_OF_VOLUME,
 };
-#[cfg(test)]
-pub use missing::MISSING_TEXTS;
 pub use missing::explain_missing;
 pub use reason::reason_of;
 use std::{fmt, io};
@@ -190,17 +188,14 @@ const NO_MEMORY: &str = "  Out of memory. What was written before it remains.
   Close other programs and try again.
 ";
 
-/// The explanation for an image whose first bytes are not valid.
 const NO_IMAGE: &str = "  This does not look like a .tap image. Nothing was listed.
   Is it compressed (try 'zcat NAME | tape list'), or a different kind of file?
 ";
 
-/// The explanation for a directory in place of an image.
 const A_FOLDER: &str = "  This is a directory, not an image. Nothing was listed.
   Name an image in it.
 ";
 
-/// The explanation for a merged image that would be too long.
 const MERGED_TOO_LONG: &str =
     "  The merged image would have more than 4,294,967,295 bytes. Nothing was
   created. Leave out an image whose good blocks replace short bad ones.
@@ -301,26 +296,4 @@ const STAGE: &[&str] = &[
     "  Another run is using this stage. It was neither read nor changed.
   Wait until that run has finished.
 ",
-];
-
-/// All explanations.
-#[cfg(test)]
-pub const TEXTS: &[&[&str]] = &[
-    &[NEVER, NO_MEMORY, NO_IMAGE, A_FOLDER, MERGED_TOO_LONG],
-    IMAGE,
-    LABEL,
-    WRITE,
-    FILE_OF_INPUT,
-    FILE_OF_IMAGES,
-    FILE_OF_LINES,
-    FILE_OF_IMAGE,
-    FILE_OF_VOLUME,
-    FILE_OF_LIST,
-    FILE_OF_OUT,
-    FILE_OF_NEW,
-    FILE_OF_LOG,
-    FILE_OF_STAGE,
-    FILE_OF_FOLDER,
-    RUN,
-    STAGE,
 ];

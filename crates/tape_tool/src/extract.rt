@@ -54,13 +54,10 @@ pub struct Task<'a> {
     pub again: bool,
 }
 
-/// The `extract` command and its arguments.
-pub const EXTRACT: CommandSpec = CommandSpec {
+pub const EXTRACT: &CommandSpec = &CommandSpec {
     name: "extract",
-    called: "tape extract",
     about: help::ABOUT_EXTRACT,
     after_help: help::AFTER_EXTRACT,
-    usage: None,
     words: &[
         Word("SET", Kind::Text, help::SET),
         Word("FILE", Kind::Number(1, 9_999), help::FILE),
@@ -78,7 +75,6 @@ pub const EXTRACT: CommandSpec = CommandSpec {
     ],
 };
 
-/// Returns the request in `matches`, the arguments of `extract`.
 pub fn extract_order<'a>(
     alloc: Global,
     matches: &ArgMatches<'a>,
@@ -114,7 +110,7 @@ pub fn extract<'a, R: Progress>(
     let names = names_to_read(rt, task, named.as_slice())?;
     let images = &mut Images::new(rt, names.as_slice());
     if explained {
-        images.name_reels();
+        images.reels = Some(0);
     }
     let Some(path) = task.stage else {
         return Ok(extract_now(rt, task, images, way)?);
@@ -183,13 +179,10 @@ fn extract_now<R: Progress>(
         Output::New(draft) if !task.again => {
             let Draft { mut name, file } = draft;
             let end = match session_into(rt.alloc(), task, file) {
-                Ok(mut session) => end_as_written(extract_streaming(
-                    &mut session,
-                    images,
-                    task.form,
-                    &mut name,
-                    report,
-                )),
+                Ok(mut session) => {
+                    let session = &mut session;
+                    end_as_written(extract_streaming(session, images, task.form, &mut name, report))
+                }
                 Err(end) => end,
             };
             Ok(name.ended(end))

@@ -1,32 +1,41 @@
 //! The texts of help, and of usage errors that the program finds itself.
-mod extract;
-mod lists;
-mod merge;
-mod salvage;
-mod stage;
-mod survey;
-mod unpack;
-mod volumes;
+mod created;
+mod recovered;
 
-pub use extract::*;
-pub use lists::*;
-pub use merge::*;
-pub use salvage::*;
-pub use stage::*;
-pub use survey::*;
-pub use unpack::*;
-pub use volumes::*;
+pub use created::*;
+pub use recovered::*;
 
-/// The error if no command is named. The parser reports this itself.
-pub const NO_COMMAND: &str = "name a command, for example 'tape list'";
-
-/// The description of the program.
+// The program, `list` and `check`: descriptions of arguments and commands.
 pub const ABOUT: &str = "Read and write ANSI-labelled tape volumes (ECMA-13) as SIMH .tap images";
 
-/// The description of `--explain`.
 pub const EXPLAIN: &str = "Explain errors, and say what to do next";
 
-/// The help text after the list of commands.
+pub const ABOUT_LIST: &str = "List the blocks, tape marks and labels of an image";
+
+pub const IMAGE: &str = "SIMH .tap image [default: standard input]";
+
+pub const OFFSETS: &str = "Print the byte offset and size of each item before its line";
+
+pub const ABOUT_CHECK: &str = "Report which file sections are on the images and what is missing";
+
+pub const IMAGES: &str = "SIMH .tap images, in any order (at most 256; see
+--files-from); '-' is standard input";
+
+// The program, `list` and `check`: errors in arguments.
+pub const NO_COMMAND: &str = "name a command, for example 'tape list'";
+
+pub const DASH: &str = "'-' is not an image: omit IMAGE to read standard input,
+or write './-' for a file of that name";
+
+pub const ONE_IMAGE: &str = "list takes one image; to list several:
+  for f in *.tap; do echo \"$f\"; tape list \"$f\"; done";
+
+pub const REFUSED: &str = "these arguments are not accepted";
+
+pub const NO_TEXT: &str = "error: a name on the command line is not valid UTF-8. Find it with
+  ls | grep -axv '.*'
+and rename it, or use 'tape list < NAME'\n";
+
 pub const AFTER: &str =
     "An error is one line on standard error: 'tape: KIND fault NUMBER', followed for
 images by the byte offset ('tape: image fault 1 at 1884'). With --explain, or if
@@ -70,16 +79,6 @@ Examples:
   zcat reel.tap.gz | tape list
   tape survey *.tap";
 
-/// The description of `list`.
-pub const ABOUT_LIST: &str = "List the blocks, tape marks and labels of an image";
-
-/// The description of IMAGE.
-pub const IMAGE: &str = "SIMH .tap image [default: standard input]";
-
-/// The description of `--offsets`.
-pub const OFFSETS: &str = "Print the byte offset and size of each item before its line";
-
-/// The help text after the arguments of `list`.
 pub const AFTER_LIST: &str =
     "Each line has the item's number, its kind, and the contents of a label:
   000001 VOL1 ABC001                                 volume
@@ -114,14 +113,6 @@ Examples:
   mkdir ../lists
   for f in *.tap; do tape list \"$f\" >\"../lists/$f.txt\" || echo \"$f\"; done";
 
-/// The description of `check`.
-pub const ABOUT_CHECK: &str = "Report which file sections are on the images and what is missing";
-
-/// The description of the IMAGEs of `check` and `survey`.
-pub const IMAGES: &str = "SIMH .tap images, in any order (at most 256; see
---files-from); '-' is standard input";
-
-/// The help text after the arguments of `check`.
 pub const AFTER_CHECK: &str =
     "One line per image, in the order given: its number, how many items it has, and
 how it ends.
@@ -154,18 +145,112 @@ Examples:
   tape check *.tap
   find . -name '*.tap' -print0 | tape check --files-from - --null";
 
-/// The error if `list` gets the argument '-'.
-pub const DASH: &str = "'-' is not an image: omit IMAGE to read standard input,
-or write './-' for a file of that name";
+// Lists of images: descriptions of arguments and commands.
+pub const FROM: &str = "More names, one per line ('-': standard input)";
 
-/// The error if `list` gets several images.
-pub const ONE_IMAGE: &str = "list takes one image; to list several:
-  for f in *.tap; do echo \"$f\"; tape list \"$f\"; done";
+pub const NULL: &str = "Names in LIST end with NUL, as of 'find -print0'";
 
-/// The error if the arguments are refused for a reason that the parser does not name.
-pub const REFUSED: &str = "these arguments are not accepted";
+// Lists of images: errors in arguments.
+pub const TOO_MANY_TO_CHECK: &str =
+    "check takes up to 256 IMAGEs, and any number of names from a list:
+  find . -name '*.tap' -print0 | tape check --files-from - --null";
 
-/// The error if an argument is not text.
-pub const NO_TEXT: &str = "error: a name on the command line is not valid UTF-8. Find it with
-  ls | grep -axv '.*'
-and rename it, or use 'tape list < NAME'\n";
+pub const TOO_MANY_TO_SURVEY: &str =
+    "survey takes up to 256 IMAGEs, and any number of names from a list:
+  find . -name '*.tap' -print0 | tape survey --files-from - --null";
+
+pub const NO_IMAGE: &str = "name at least one image, or a list of names with --files-from";
+
+pub const EMPTY_LIST: &str = "the list contains no image names";
+
+pub const INPUT_TWICE: &str = "standard input can be read only once: '-' is named twice.
+A file of this name is './-'";
+
+pub const NUL_IN_LINES: &str = "the names in the list end with NUL: add --null";
+
+pub const ODD_LINES: &str = "the lines of the list end with a carriage return too, or it begins
+with a byte order mark, as lists of Windows do: make another one by
+  tr -d '\\r' < LIST | sed '1s/^\\xef\\xbb\\xbf//' > NEW
+If names really begin or end like this, end each with a NUL and add --null";
+
+pub const NO_TEXT_IN_LIST: &str = "of the list is not valid UTF-8. Find the file with
+  find . | grep -axv '.*'
+and rename it";
+
+// `survey`: descriptions of arguments and commands.
+pub const ABOUT_SURVEY: &str =
+    "Describe each image, and report what is complete and what is missing";
+
+pub const SHELF: &str = "SIMH .tap images, in any order (at most 256; see --files-from)";
+
+pub const ROWS: &str = "Print tab-separated values, for scripts";
+
+pub const AFTER_SURVEY: &str =
+    "When all images have been read, each of them: its name, its state in a word, and
+what was found on it.
+  one.tap                   ok           volume ABC001, 2 sections
+  two.tap                   damaged      volume ABC002, 2 sections
+      2 unreadable blocks
+      image fault 1 at byte 18840
+      section 2 of file 1 has unreadable blocks, blocks found: 9
+      section 1 of file 2 is truncated, blocks found: 13
+  hdr.tap                   damaged      volume ABC003, 1 section
+      item 11 is neither HDR1 nor a tape mark: the rest is ignored
+  fmt.tap                   unsupported  volume VMS001, 1 section
+      file 1 has an unsupported record format
+  new.tap                   blank        volume NEW001
+  old.tap                   conflict     volume OLD001, 1 section
+      section 1 of file 1: good copies differ
+  raw.tap                   unsupported  no labels; its first block has 10240
+                                         bytes
+  zip.tap                   not a tape   no items
+      image fault 3 at byte 0: not a SIMH image, or compressed (try zcat)
+Then each set with its volumes in order, and its files: number, identifier,
+creation date if there is one, and whether all sections were found. Below an
+incomplete file, each of its sections that is damaged or missing:
+  Set ABC001: 1 of 2 files complete
+    Volumes: ABC001, ABC002, ABC003, missing (follows ABC003)
+     1 PAYROLL            1985-04-23  complete
+     2 LEDGER             1985-04-23  incomplete
+          section 1 is truncated on ABC002: no good copy
+          section 3 missing, after volume ABC003
+If labels of different files have the same number, two sets share one
+identifier. tape cannot separate them: keep the images of each set in a
+directory of its own.
+Then each section with more than one good copy. Copies are compared by the
+number of their data blocks and a digest of their contents:
+  ABC001 file 1 section 1: good, 2 copies agree
+  ABC001 file 2 section 1: CONFLICT, 1.tap and 2.tap differ ('tape compare'
+                           shows where)
+
+The last lines are how many images there are, and how many of them in each
+state, and
+  All files are complete, and every image was read to its end.
+That one appears only if nothing is missing, each section found has a good
+copy, each image is a volume from its label to its end in formats that tape
+reads, no number has labels of different files, and no good copies differ. No
+label says whether more files follow the last one found. The wording may change;
+the exit status and the columns of --tsv will not.
+
+With --tsv these rows; a column whose value is not known is empty:
+  IMAGE name state volume set system items files bad end owner words
+           state: WHOLE, PARTIAL, CONFLICT (good copies of a section on it
+           differ) or NOT OPENED; end as in check
+  SECTION set file section volume blocks state EOF
+           state as in check; EOF if its trailer label ends the file
+  FILE set file identifier created state section volume CONFLICT sections format
+           block record
+           state: COMPLETE, BAD, COUNT or CUT, or MISSING: the section was not
+           found, and the one before it is on that volume; sections: all that
+           are damaged or missing, as 2:CUT;4-5:MISSING; format: F, D or S, and
+           the lengths of a block and of a record, as its HDR2 states them
+  COPIES set file section copies name other AGREE
+           for a section with several good copies: how many agree with the
+           first one, on the image NAME. If one differs, its image is OTHER, and
+           the last column of this row and of the file is CONFLICT
+
+Exit status: 0 everything complete, 1 error, 2 usage error, 3 something is
+missing, damaged or in conflict, or an image was not read to its end
+
+Example:
+  tape survey *.tap";

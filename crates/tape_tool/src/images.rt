@@ -14,8 +14,8 @@ use crate::refusal::{Refusal, open};
 use crate::shown::Shown;
 use std::alloc::{AllocError, Global};
 use std::fs::File;
+use std::io;
 use std::io::{ErrorKind, Read};
-use std::{fmt, io};
 use tape_label::Field;
 use tape_run::{FoundFiles, ImageSource, is_passed};
 use tape_set::Want;
@@ -76,9 +76,13 @@ fn read_list<R: Host>(rt: &R, list: List<'_>) -> Result<String, Refusal> {
     let text = match String::from_utf8(bytes) {
         Ok(text) => text,
         Err(error) => {
-            let place = error.utf8_error().valid_up_to();
-            let number = number_at(error.as_bytes(), list.null, place);
-            return Err(Refusal::NoText(list.null, number));
+            let before = error
+                .as_bytes()
+                .iter()
+                .take(error.utf8_error().valid_up_to());
+            let end = end_of(list.null);
+            let ended = before.filter(|byte| char::from(**byte) == end).count();
+            return Err(Refusal::NoText(list.null, ended.saturating_add(1)));
         }
     };
     let lines = text.as_str();
@@ -105,16 +109,6 @@ fn read_all<D: Read>(alloc: Global, device: &mut D) -> Result<Vec<u8>, Refusal>
         Err(error) if error.kind() == ErrorKind::OutOfMemory => Err(Refusal::from(AllocError)),
         Err(_) => Err(Refusal::from(FileFault::ReadFailed)),
     }
-}
-
-/// Returns the number, counted from 1, of the name at offset `place` of `list`; empty names count.
-fn number_at(list: &[u8], null: bool, place: usize) -> usize {
-    let end = end_of(null);
-    let before = list.iter().take(place);
-    before
-        .filter(|byte| char::from(**byte) == end)
-        .count()
-        .saturating_add(1)
 }
 
 /// Returns the names in the arguments `words`, followed by those in `text`, the contents of a list.
@@ -179,10 +173,11 @@ pub fn names_from<'n>(
     let images = met.images.as_slice();
     let mut order = Vec::new(alloc);
     for number in numbers.as_slice() {
-        if let Some(image) = images.get(*number) {
-            if is_passed(image, want) {
-                continue;
-            }
+        if images
+            .get(*number)
+            .is_some_and(|image| is_passed(image, want))
+        {
+            continue;
         }
         if let Some(name) = names.get(*number) {
             order.push(*name)?;
@@ -265,18 +260,9 @@ pub struct Images<'a, R> {
     names: &'a [&'a str],
     /// The number of the image that is standard input, if any.
     input: Option<usize>,
-    /// How many images were mounted, if each is named on standard error.
-    reels: Option<u64>,
-}
-
-/// The line that names the image which is mounted next.
-#[derive(Clone, Copy, Drop)]
-struct Reel<'a>(u64, &'a str);
-
-impl fmt::Display for Reel<'_> {
-    fn fmt<W: fmt::Write>(&self, f: &mut fmt::Formatter<W>) -> fmt::Result {
-        write!(f, "  REEL {}: {}\n", self.0, Shown(self.1))
-    }
+    /// How many images were mounted, if each is named on standard error when it is mounted, with
+    /// its number in the lines of `extract`.
+    pub reels: Option<u64>,
 }
 
 impl<'a, R: Progress> Images<'a, R> {
@@ -301,12 +287,6 @@ impl<'a, R: Progress> Images<'a, R> {
             }
         };
         Ok(Some(image_of(self.rt, number, self.names.len(), bytes)?))
-    }
-
-    /// From now on names each image on standard error when it is mounted, with its number in the
-    /// lines of `extract`.
-    pub fn name_reels(&mut self) {
-        self.reels = Some(0);
     }
 
     /// Creates the source of the images named `names`, which begin with the arguments `named`. The
@@ -336,7 +316,9 @@ impl<'a, R: Progress> ImageSource<Image<R>> for Images<'a, R> {
         let image = self.open(number, *name)?;
         if let Some(reels) = self.reels {
             let reel = reels.saturating_add(1);
-            let _ = self.rt.eprint(Reel(reel, *name));
+            let _ = self
+                .rt
+                .eprint(format_args!("  REEL {reel}: {}\n", Shown(*name)));
             self.reels = Some(reel);
         }
         Ok(image)

@@ -21,13 +21,10 @@ pub struct InitOrder<'a> {
     pub count: u16,
 }
 
-/// The `init` command and its arguments.
-pub const INIT: CommandSpec = CommandSpec {
+pub const INIT: &CommandSpec = &CommandSpec {
     name: "init",
-    called: "tape init",
     about: help::ABOUT_INIT,
     after_help: help::AFTER_INIT,
-    usage: None,
     words: &[
         Word("DIR", Kind::Text, help::FOLDER),
         Word("PRE", Kind::Text, help::PREFIX),
@@ -35,7 +32,6 @@ pub const INIT: CommandSpec = CommandSpec {
     ],
 };
 
-/// Returns the request in `matches`, the arguments of `init`.
 pub fn init_order<'a>(matches: &ArgMatches<'a>) -> Result<InitOrder<'a>, Refusal> {
     Ok(InitOrder {
         folder: folder_of(matches)?,

@@ -23,21 +23,20 @@ pub struct ListOrder<'a> {
     pub offsets: bool,
 }
 
-/// The `list` command and its arguments. It accepts any number of images, so that the error for a
-/// second one can suggest a loop.
-pub const LIST: CommandSpec = CommandSpec {
+pub const LIST: &CommandSpec = &CommandSpec {
     name: "list",
-    called: "tape list",
     about: help::ABOUT_LIST,
     after_help: help::AFTER_LIST,
-    usage: Some("tape list [--offsets] [IMAGE]"),
     words: &[
-        Word("IMAGE", Kind::AnyTexts, help::IMAGE),
+        Word(
+            "IMAGE",
+            Kind::AtMostOne("tape list [--offsets] [IMAGE]"),
+            help::IMAGE,
+        ),
         Word("offsets", Kind::Flag, help::OFFSETS),
     ],
 };
 
-/// Returns the request in `matches`, the arguments of `list`.
 pub fn list_order<'a>(matches: &ArgMatches<'a>) -> Result<ListOrder<'a>, Refusal> {
     Ok(ListOrder {
         image: at_most_one(matches, "IMAGE", help::DASH, help::ONE_IMAGE)?,

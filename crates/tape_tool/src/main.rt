@@ -1,48 +1,35 @@
 //! `tape`: reads labelled magnetic tape volumes in SIMH `.tap` images.
 #![tactic(auto)]
 
-// A run, from its arguments to its exit status.
-mod program;
-
-// The report on how a run ends.
-mod diagnostics;
-mod fault;
-
-// The arguments.
+mod check;
 mod command_line;
 mod command_spec;
-mod words;
-
-// The texts of the program.
+mod diagnostics;
 mod explain;
-mod help;
-
-// One directory per command, with its arguments and its runner.
-mod check;
 mod extract;
-mod init;
-mod list;
-mod merge;
-mod salvage;
-mod stage;
-mod survey;
-mod unpack;
-mod write;
-
-// The modules that several commands share.
+mod fault;
+mod help;
 mod host;
 mod images;
+mod init;
 mod laws;
-mod left;
+mod list;
+mod merge;
 mod odd_word;
+mod program;
 mod read_ahead;
 mod refusal;
+mod salvage;
 mod screen;
 mod shown;
+mod stage;
 mod staging;
 mod streams;
 #[cfg(test)]
 mod tests;
+mod unpack;
+mod words;
+mod write;
 
 use std::io::IsTerminal;
 use std::process::ExitCode;

@@ -27,13 +27,10 @@ pub struct MergeOrder<'a> {
     pub images: Named<'a>,
 }
 
-/// The `merge` command and its arguments.
-pub const MERGE: CommandSpec = CommandSpec {
+pub const MERGE: &CommandSpec = &CommandSpec {
     name: "merge",
-    called: "tape merge",
     about: help::ABOUT_MERGE,
     after_help: help::AFTER_MERGE,
-    usage: None,
     words: &[
         Word("OUT", Kind::Text, help::MERGED_OUT),
         Word("log", Kind::TextOption("LOG"), help::LOG),
@@ -43,13 +40,10 @@ pub const MERGE: CommandSpec = CommandSpec {
     ],
 };
 
-/// The `compare` command and its arguments.
-pub const COMPARE: CommandSpec = CommandSpec {
+pub const COMPARE: &CommandSpec = &CommandSpec {
     name: "compare",
-    called: "tape compare",
     about: help::ABOUT_COMPARE,
     after_help: help::AFTER_COMPARE,
-    usage: None,
     words: &[
         Word("IMAGE", Kind::AnyTexts, help::READINGS),
         Word("files-from", Kind::TextOption("LIST"), help::FROM),
@@ -57,7 +51,6 @@ pub const COMPARE: CommandSpec = CommandSpec {
     ],
 };
 
-/// Returns the request in `matches`, the arguments of `merge`.
 pub fn merge_order<'a>(alloc: Global, matches: &ArgMatches<'a>) -> Result<MergeOrder<'a>, Refusal> {
     let out = out_of(matches, help::MERGED_OUT_IS_DASH)?;
     let log = matches.get_str("log");
@@ -110,16 +103,8 @@ fn merge_logged<'a, R: Progress>(
     *site = FaultSite::New(order.out);
     let end = match BufWriter::with_capacity(rt.alloc(), HELD, &mut draft) {
         Ok(mut rows) => {
-            merge_files(
-                rt,
-                &order.images,
-                names,
-                out,
-                name,
-                &mut rows,
-                Some(log),
-                site,
-            )
+            let (rows, log) = (&mut rows, Some(log));
+            merge_files(rt, &order.images, names, out, name, rows, log, site)
         }
         Err(_) => End::Faulted(OUT_OF_MEMORY),
     };

@@ -3,10 +3,9 @@
 ghost use Rattle.std.specs.Prelude.{◌≡◌, ◌≢◌, Bool, IfErr};
 ghost use Rattle.clap.specs.Words.{kind_of};
 ghost use Rattle.tape_tool.specs.Ends.{exit_status, no_words_end, words_end, IsRefusalEnd};
-ghost use Rattle.tape_tool.specs.Ends.{end_of, help_end, check_end, extract_end};
-ghost use Rattle.tape_tool.specs.Ends.{stage_end};
+ghost use Rattle.tape_tool.specs.Ends.{end_of, check_end, extract_end, stage_end};
 
-use crate::check::check;
+use crate::check::{check, survey};
 use crate::command_line::{Order, call_of, error_in};
 use crate::diagnostics::FaultLine;
 use crate::explain::{Explanation, FaultSite, explain_missing, reason_of};
@@ -24,7 +23,6 @@ use crate::screen::{Line, Screen};
 use crate::stage::ending::StageEnding;
 use crate::stage::stage;
 use crate::streams::keep_numbers;
-use crate::survey::survey;
 use crate::unpack::unpack;
 use crate::write::run::write;
 use clap::error::ErrorKind;
@@ -110,19 +108,11 @@ pub fn words_end(kind: ErrorKind, printed: bool) -> End
 {
     match kind {
         ErrorKind::OutOfMemory => End::Faulted(OUT_OF_MEMORY),
-        ErrorKind::DisplayHelp | ErrorKind::DisplayVersion => help_end(printed),
+        ErrorKind::DisplayHelp | ErrorKind::DisplayVersion if printed => End::Done,
+        ErrorKind::DisplayHelp | ErrorKind::DisplayVersion => {
+            End::Faulted(ToolFault::File(FileFault::WriteFailed))
+        }
         _ => End::WrongWords,
-    }
-}
-
-/// Returns how a call for help ends, given whether the help was printed.
-fn help_end(printed: bool) -> End
-    ensures { result ≡ help_end printed }
-{
-    if printed {
-        End::Done
-    } else {
-        End::Faulted(ToolFault::File(FileFault::WriteFailed))
     }
 }
 
@@ -138,7 +128,7 @@ pub fn no_words_end(kind: io::ErrorKind) -> End
 }
 
 /// Reports a fault on standard error, and returns the exit status.
-pub fn finish<R: Eprint>(rt: &R, end: End) -> u8
+fn finish<R: Eprint>(rt: &R, end: End) -> u8
     ensures { result ≡ exit_status end }
 {
     if let End::Faulted(fault) = end {
@@ -169,9 +159,9 @@ fn run<R: Progress>(rt: &R) -> u8 {
         Ok(words) => words,
         Err(end) => return finish(rt, end),
     };
-    let outcome = perform(rt, words.as_slice());
-    let status = finish(rt, outcome.end);
-    if let (End::Faulted(fault), Some(site)) = (outcome.end, outcome.explained) {
+    let (end, explained) = perform(rt, words.as_slice());
+    let status = finish(rt, end);
+    if let (End::Faulted(fault), Some(site)) = (end, explained) {
         let reason = reason_of(rt, fault, site);
         let _ = rt.eprint(Explanation {
             fault,
@@ -193,8 +183,9 @@ fn words_of<R: Host>(rt: &R) -> Result<Vec<String>, End>
             Err(_) => Err(End::Faulted(OUT_OF_MEMORY)),
         },
         Err(error) => {
-            let end = without_words(rt, error.kind());
+            let end = no_words_end(error.kind());
             if end == End::WrongWords {
+                let _ = rt.eprint(help::NO_TEXT);
                 let mut room = [0; 4096];
                 if let Some(word) = odd_word(rt, &mut room) {
                     let _ = rt.eprint(word);
@@ -205,37 +196,18 @@ fn words_of<R: Host>(rt: &R) -> Result<Vec<String>, End>
     }
 }
 
-/// The end of a run.
-#[derive(Clone, Copy)]
-pub struct Outcome<'a> {
-    pub end: End,
-    /// The site of the fault, if it is to be explained.
-    pub explained: Option<FaultSite<'a>>,
-}
-
-/// Ends a run whose arguments could not be obtained.
-pub fn without_words<R: Eprint>(rt: &R, kind: io::ErrorKind) -> End
-    ensures { result ≡ no_words_end kind }
-{
-    let end = no_words_end(kind);
-    if end == End::WrongWords {
-        let _ = rt.eprint(help::NO_TEXT);
-    }
-    end
-}
-
-/// Executes a command line, whose first argument is the program's name.
-pub fn perform<'a, R: Progress>(rt: &R, words: &'a [String]) -> Outcome<'a> {
+/// Executes a command line, whose first argument is the program's name. Returns how the run ends,
+/// and the site of a fault if it is to be explained.
+fn perform<'a, R: Progress>(rt: &R, words: &'a [String]) -> (End, Option<FaultSite<'a>>) {
     let call = match call_of(rt.alloc(), words) {
         Ok(call) => call,
-        Err(error) => {
-            return Outcome {
-                end: refuse(rt, &error),
-                explained: None,
-            };
-        }
+        Err(error) => return (refuse(rt, &error), None),
     };
-    let explained = call.explained || is_asked(rt);
+    // The environment may request explanations, too.
+    let explained = match env::var(rt, "TAPE_EXPLAIN") {
+        Ok(value) => call.explained || !value.as_str().is_empty(),
+        Err(_) => call.explained,
+    };
     let mut site = FaultSite::Unknown;
     let end = match obey(rt, &call.order, explained, &mut site) {
         Ok(end) => end,
@@ -244,18 +216,7 @@ pub fn perform<'a, R: Progress>(rt: &R, words: &'a [String]) -> Outcome<'a> {
     if explained && end == End::Incomplete {
         explain_missing(rt, &call.order);
     }
-    Outcome {
-        end,
-        explained: explained.then_some(site),
-    }
-}
-
-/// Returns whether the environment requests explanations.
-fn is_asked<R: Host>(rt: &R) -> bool {
-    match env::var(rt, "TAPE_EXPLAIN") {
-        Ok(value) => !value.as_str().is_empty(),
-        Err(_) => false,
-    }
+    (end, explained.then_some(site))
 }
 
 /// Executes a command. On error, `site` says where it occurred.
@@ -282,7 +243,7 @@ fn obey<'a, R: Progress>(
 
 /// Prints the text of the argument parser: help to standard output, a usage error to standard
 /// error.
-pub fn refuse<R: Print + Eprint>(rt: &R, error: &clap::Error) -> End
+fn refuse<R: Print + Eprint>(rt: &R, error: &clap::Error) -> End
     ensures { (printed : Bool) × (result ≡ words_end (kind_of error.now) printed) }
 {
     let kind = error.kind();

@@ -1,12 +1,15 @@
 //! Reasons for refusing to start a command: its arguments name files that it would destroy, or
-//! files that do not exist. Also the identity of the files found under these names.
+//! files that do not exist. Also the identity of the files found under these names, and their
+//! removal.
 ghost use Rattle.std.specs.Prelude.{◌≡◌, ◌⊎◌, None, Some, Ok, Err, IfErr, IsOk};
 
 use crate::fault::{FileFault, OUT_OF_MEMORY, ToolFault};
 use crate::host::Host;
+use crate::shown::Shown;
 use std::alloc::AllocError;
 use std::fs;
 use std::fs::{File, Files, Metadata};
+use std::io::ErrorKind;
 use std::os::unix::fs::MetadataExt;
 use tape_writer::system::found;
 
@@ -122,8 +125,10 @@ pub fn way_to_take(
 ) -> Result<Taking, FileFault>
     ensures over { result ≡ Ok Taking.Over → now ≡ Ok before }
     ensures new { result ≡ Ok Taking.New → (before ≡ None) ⊎ (now ≡ Ok None) }
-    ensures due { IfErr result (λ fault. (fault ≡ FileFault.Exists) ⊎ (now ≡ Err fault)) }
+    ensures due { IfErr result (λ fault.
+        ((fault ≡ FileFault.Exists) × IsOk now) ⊎ (now ≡ Err fault)) }
     ensures same { now ≡ Ok before → IsOk result }
+    ensures free { now ≡ Ok None → result ≡ Ok Taking.New }
     ensures absent { before ≡ None → result ≡ Ok Taking.New }
 {
     match (before, now) {
@@ -132,5 +137,17 @@ pub fn way_to_take(
         (Some(before), Ok(Some(now))) if before == now => Ok(Taking::Over),
         (Some(_), Ok(Some(_))) => Err(FileFault::Exists),
         (Some(_), Err(fault)) => Err(fault),
+    }
+}
+
+/// Removes the file at `path`, which this program created, if it exists. If that fails, reports
+/// that the file remains.
+pub fn remove<R: Host>(rt: &R, path: &str) {
+    match rt.remove_file(path) {
+        Err(error) if error.kind() != ErrorKind::NotFound => {
+            let name = Shown(path);
+            let _ = rt.eprint(format_args!("tape: \"{name}\" could not be removed\n"));
+        }
+        _ => {}
     }
 }

@@ -25,16 +25,12 @@ pub struct SalvageOrder<'a> {
     pub images: Named<'a>,
 }
 
-/// The values of `--form`.
 const FORMS_OF_SALVAGE: &[&str] = &["lines", "raw", "blocks"];
 
-/// The `salvage` command and its arguments.
-pub const SALVAGE: CommandSpec = CommandSpec {
+pub const SALVAGE: &CommandSpec = &CommandSpec {
     name: "salvage",
-    called: "tape salvage",
     about: help::ABOUT_SALVAGE,
     after_help: help::AFTER_SALVAGE,
-    usage: None,
     words: &[
         Word("SET", Kind::Text, help::SET),
         Word("FILE", Kind::Number(1, 9_999), help::FILE),
@@ -50,7 +46,6 @@ pub const SALVAGE: CommandSpec = CommandSpec {
     ],
 };
 
-/// Returns the request in `matches`, the arguments of `salvage`.
 pub fn salvage_order<'a>(
     alloc: Global,
     matches: &ArgMatches<'a>,
@@ -86,16 +81,10 @@ pub fn salvage<'a, R: Progress>(
     let names = names_of(rt, &order.images, &mut text, site)?;
     *site = FaultSite::Out(order.out);
     let Draft { mut name, file } = Draft::new(rt, order.out)?;
+    let (alloc, report) = (rt.alloc(), &mut io::writer(rt));
     let images = &mut Images::new(rt, names.as_slice());
-    let end = match BufWriter::with_capacity(rt.alloc(), HELD, file) {
-        Ok(out) => check_end(salvage_to(
-            rt.alloc(),
-            &order.task,
-            images,
-            out,
-            &mut name,
-            &mut io::writer(rt),
-        )),
+    let end = match BufWriter::with_capacity(alloc, HELD, file) {
+        Ok(out) => check_end(salvage_to(alloc, &order.task, images, out, &mut name, report)),
         Err(_) => End::Faulted(OUT_OF_MEMORY),
     };
     Ok(name.ended(end))

@@ -20,9 +20,6 @@ use std::time::{Clock, Duration, Instant};
 /// The time in milliseconds between two prints of the line, and before the first one.
 const PAUSE: u64 = 500;
 
-/// The number of bytes in the unit that the line uses.
-const MEGABYTE: u64 = 1_000_000;
-
 /// Overwrites the line, which is shorter, with spaces. Every terminal can do this.
 const CLEARED: &str = "\r                                                            \r";
 
@@ -90,7 +87,7 @@ impl<R: Host> Progress for Screen<'_, R> {
             return;
         }
         self.clear();
-        let read = bytes / MEGABYTE;
+        let read = bytes / 1_000_000;
         let printed = self
             .rt
             .eprint(format_args!("image {image} of {count}: {read} MB"));

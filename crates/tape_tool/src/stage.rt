@@ -1,6 +1,5 @@
 //! `stage`: shows what a stage contains, and writes its records.
 pub mod ending;
-mod read_only;
 pub mod show;
 
 use crate::command_spec::{CommandSpec, Kind, Word};
@@ -14,11 +13,10 @@ use crate::refusal::{Refusal, open};
 use crate::staging::locked_stage;
 use crate::words::{FORMS, at_most_one, form_of, text_of};
 use clap::ArgMatches;
-use read_only::ReadOnly;
 use show::show_stage;
-use std::fs::File;
+use std::fs::{File, Metadata, OpenFile};
 use std::io;
-use std::io::BufWriter;
+use std::io::{BufWriter, Error, ErrorKind, Read, Seek, SeekFrom, Write};
 use tape_blocks::Form;
 use tape_stage::{BufferedFile, buffered_file};
 
@@ -32,17 +30,17 @@ pub struct StageOrder<'a> {
     pub damaged: bool,
 }
 
-/// The `stage` command and its arguments. It accepts any number of outputs, so that a second one
-/// gets an error message of its own.
-pub const STAGE: CommandSpec = CommandSpec {
+pub const STAGE: &CommandSpec = &CommandSpec {
     name: "stage",
-    called: "tape stage",
     about: help::ABOUT_STAGE,
     after_help: help::AFTER_STAGE,
-    usage: Some("tape stage [--form FORM] [--damaged] <PATH> [OUT]"),
     words: &[
         Word("PATH", Kind::Text, help::STAGE_READ),
-        Word("OUT", Kind::AnyTexts, help::OUT_OF_STAGE),
+        Word(
+            "OUT",
+            Kind::AtMostOne("tape stage [--form FORM] [--damaged] <PATH> [OUT]"),
+            help::OUT_OF_STAGE,
+        ),
         Word(
             "form",
             Kind::NameOption("FORM", FORMS, &["lines"]),
@@ -52,7 +50,6 @@ pub const STAGE: CommandSpec = CommandSpec {
     ],
 };
 
-/// Returns the request in `matches`, the arguments of `stage`.
 pub fn stage_order<'a>(matches: &ArgMatches<'a>) -> Result<StageOrder<'a>, Refusal> {
     Ok(StageOrder {
         stage: text_of(matches, "PATH"),
@@ -93,7 +90,6 @@ pub fn stage<'a, R: Host>(
     Ok(end)
 }
 
-/// The disk of a stage: a file that is only read.
 type StageDisk = BufferedFile<ReadOnly<File>>;
 
 /// Shows the stage on `disk`, and writes its records to `output` if there is one.
@@ -122,4 +118,51 @@ fn disk_of<R: Host>(rt: &R, path: &str) -> Result<StageDisk, ToolFault> {
     let file = open(rt, path)?;
     locked_stage(file.try_lock_shared())?;
     buffered_file(rt.alloc(), ReadOnly { file }).map_err(|fault| ToolFault::Stage(fault))
+}
+
+/// A file that is never changed: writing and truncating fail. Syncing does nothing and reports
+/// success, since a stage is synced when it is opened.
+#[derive(Drop)]
+struct ReadOnly<F> {
+    file: F,
+}
+
+impl<F: Read> Read for ReadOnly<F> {
+    fn read(&mut self, buf: &mut [u8]) -> io::Result<usize> {
+        self.file.read(buf)
+    }
+}
+
+impl<F> Write for ReadOnly<F> {
+    fn write(&mut self, _buf: &[u8]) -> io::Result<usize> {
+        Err(Error::from(ErrorKind::Unsupported))
+    }
+
+    fn flush(&mut self) -> io::Result<()> {
+        Ok(())
+    }
+}
+
+impl<F: Seek> Seek for ReadOnly<F> {
+    fn seek(&mut self, pos: SeekFrom) -> io::Result<u64> {
+        self.file.seek(pos)
+    }
+}
+
+impl<F: OpenFile> OpenFile for ReadOnly<F> {
+    fn metadata(&self) -> io::Result<Metadata> {
+        self.file.metadata()
+    }
+
+    fn set_len(&self, _size: u64) -> io::Result<()> {
+        Err(Error::from(ErrorKind::Unsupported))
+    }
+
+    fn sync_all(&self) -> io::Result<()> {
+        Ok(())
+    }
+
+    fn sync_data(&self) -> io::Result<()> {
+        Ok(())
+    }
 }

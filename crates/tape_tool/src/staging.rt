@@ -1,8 +1,10 @@
 //! Sessions over stages, on any disk and in a file.
 
 ghost use Rattle.std.specs.Prelude.{◌≡◌, ◌↔◌, ◌⊎◌, ◌<◌, ◌≤◌, ℕ, [], IfOk, IfErr, IsTrue};
-ghost use Rattle.std.specs.Prelude.{length, slice_index};
-ghost use Rattle.std.specs.Bool.{OnTrue};
+ghost use Rattle.std.specs.Prelude.{OnErr, OnOk, false, length, slice_index};
+ghost use Rattle.std.specs.Bool.{OnFalse, OnTrue};
+ghost use Rattle.tape_core.specs.Known.{IsFileNumber};
+ghost use Rattle.tape_core.specs.Weight.{Rose};
 ghost use Rattle.tape_stage.specs.OnlyReading.{OnlyReads};
 ghost use Rattle.tape_stage.specs.Stages.{OpensOver};
 ghost use Rattle.tape_run.specs.Headline.{IsStart};
@@ -19,7 +21,9 @@ use std::fs::{File, OpenOptions, TryLockError};
 use tape_core::{Checkpoint, ReaderCore};
 use tape_label::{Field, same_field};
 use tape_run::{RunFault, Session};
-use tape_stage::{BufferedFile, Disk, Refused, Stage, StageFault, buffered_file, new_slots};
+use tape_stage::{
+    BufferedFile, Disk, DiskFault, Refused, Stage, StageFault, buffered_file, new_slots,
+};
 use tape_writer::system::{LockFault, locked, sync_folder_of};
 
 /// The reason why a session over a stage could not be opened.
@@ -170,6 +174,10 @@ fn open_or_make<D: Disk + Drop>(
         (session.core.set_id ≡ set_id) × (session.core.file ≡ file)) }
     ensures begins { D.is_honest disk → IsUnmade set_id file (D.seen disk)
         → IfOk result (StandsAt (first_point set_id file) []) }
+    // Such a disk is refused only as an empty one.
+    ensures begins_not { D.is_honest disk → IsFileNumber file → IsUnmade set_id file (D.seen disk)
+        → IfErr result (λ refused.
+        RefusesBeginning file (D.faults disk) refused.fault (D.faults refused.disk)) }
     // No other disk is emptied. At any moment of the call, a stage is opened or unchanged, and
     // anything else on the disk is unchanged.
     ensures goes_on { D.is_honest disk → (IsUnmade set_id file (D.seen disk) → ⊥)
@@ -178,9 +186,19 @@ fn open_or_make<D: Disk + Drop>(
         → IfOk result (λ session. OpensOver D.Disk disk session.sink.disk) }
     ensures refused { D.is_honest disk → (IsUnmade set_id file (D.seen disk) → ⊥) → IfErr result
         (λ refused. RefusesSession set_id file D.Disk disk refused.fault refused.disk) }
+    // Even a dishonest disk that is longer than such a beginning keeps its length if no stage was
+    // opened and the disk did not fail.
+    ensures same_length { 256 < D.length_of disk → IfErr result (λ refused.
+        IsUnopened refused.fault → D.length_of refused.disk ≡ D.length_of disk) }
+    ensures cause { IfErr result (λ refused.
+        FailsBy (D.faults disk) refused.fault (D.faults refused.disk)) }
 {
     let mut disk = disk;
-    if !is_unmade(&mut disk, set_id, file) {
+    let Ok(unmade) = is_unmade(&mut disk, set_id, file) else {
+        let fault = StagingFault::Stage(StageFault::Device);
+        return Err(Refused { disk, fault });
+    };
+    if !unmade {
         return open_session(alloc, disk, set_id, file);
     }
     match disk.cut(0) {
@@ -195,31 +213,41 @@ fn open_or_make<D: Disk + Drop>(
 /// Returns whether the disk has at most 256 bytes, each of them zero or equal to the byte at the
 /// same offset of a new stage of the file, as it is before its first gate is opened. A file
 /// contains zeros where its system lost written bytes. The disk is only read.
-pub fn is_unmade<D: Disk>(disk: &mut D, set_id: Field<6>, file: u16) -> bool
+///
+/// # Errors
+///
+/// Returns `Device` if the disk failed.
+pub fn is_unmade<D: Disk>(disk: &mut D, set_id: Field<6>, file: u16) -> Result<bool, DiskFault>
     ensures unmade { D.is_honest disk.old
-        → OnTrue result (IsUnmade set_id file (D.seen disk.old)) }
+        → IfOk result (λ yes. OnTrue yes (IsUnmade set_id file (D.seen disk.old))) }
+    ensures made { D.is_honest disk.old → IsFileNumber file
+        → IfOk result (λ yes. OnFalse yes (IsUnmade set_id file (D.seen disk.old) → ⊥)) }
+    ensures long { 256 < D.length_of disk.old → IfOk result (λ yes. yes ≡ false) }
+    ensures cause { OnErr result (Rose (D.faults disk.old) (D.faults disk.new)) }
+    ensures calm { OnOk result (D.faults disk.new ≡ D.faults disk.old) }
     ensures reads { OnlyReads D.Disk disk.old disk.new }
     ensures honest { D.is_honest disk.old → D.is_honest disk.new }
 {
     let Ok(core) = ReaderCore::new(set_id, file) else {
-        return false;
+        return Ok(false);
     };
     let len = match disk.len() {
         Ok(len) if len <= 256 => len as usize,
-        _ => return false,
+        Ok(_) => return Ok(false),
+        Err(fault) => return Err(fault),
     };
     let mut bytes = [0; 256];
     let bytes = &mut bytes[..len];
     let Ok(()) = disk.read(0, bytes) else {
-        return false;
+        return Err(DiskFault::Device);
     };
-    is_begun(bytes, &new_slots(&core.save(0)))
+    Ok(is_begun(bytes, &new_slots(&core.save(0))))
 }
 
 /// Returns whether each of `bytes` is zero or equal to the byte of `due` at the same offset.
 fn is_begun(bytes: &[u8], due: &[u8; 256]) -> bool
     requires { length bytes.now ≤ 256 }
-    ensures { OnTrue result ((i : ℕ) → i < length bytes.now → (slice_index bytes.now i ≡ 0)
+    ensures { IsTrue result ↔ ((i : ℕ) → i < length bytes.now → (slice_index bytes.now i ≡ 0)
         ⊎ (slice_index bytes.now i ≡ slice_index due.now i)) }
 {
     for (byte, due) in bytes.iter().zip(due) {

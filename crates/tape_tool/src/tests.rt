@@ -1,25 +1,13 @@
 //! Tests of the program: command lines, files, and output.
-mod again_program;
 mod calls;
-mod check_program;
 mod explain;
 mod extract_program;
 mod fake_system;
-mod faults;
 mod guards;
 mod image;
-mod init;
-mod merge_program;
+mod images;
 mod orders;
-mod program;
-mod progress;
-mod salvage_program;
 mod seen;
-mod showing;
-mod staged_program;
 mod staging;
 mod unpack_program;
-mod volumes;
 mod words;
-mod write;
-mod write_program;

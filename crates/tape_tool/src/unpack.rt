@@ -1,6 +1,5 @@
 //! `unpack`: recovers every file of every set on images into a directory.
-pub mod last_line;
-mod report;
+pub mod report;
 mod run;
 mod salvaged;
 
@@ -29,13 +28,10 @@ pub struct UnpackOrder<'a> {
     pub salvage: bool,
 }
 
-/// The `unpack` command and its arguments.
-pub const UNPACK: CommandSpec = CommandSpec {
+pub const UNPACK: &CommandSpec = &CommandSpec {
     name: "unpack",
-    called: "tape unpack",
     about: help::ABOUT_UNPACK,
     after_help: help::AFTER_UNPACK,
-    usage: None,
     words: &[
         Word("DIR", Kind::Text, help::FOLDER_OF_FILES),
         Word("IMAGE", Kind::AnyTexts, help::SHELF),
@@ -44,7 +40,7 @@ pub const UNPACK: CommandSpec = CommandSpec {
         Word(
             "form",
             Kind::NameOption("FORM", FORMS, &["lines"]),
-            help::FORM_OF_FILES,
+            help::FORM_OF_OUT,
         ),
         Word("set", Kind::TextOption("SET"), help::SET_TO_UNPACK),
         Word("file", Kind::TextOptions("N|NAME"), help::FILES_TO_UNPACK),
@@ -53,7 +49,6 @@ pub const UNPACK: CommandSpec = CommandSpec {
     ],
 };
 
-/// Returns the request in `matches`, the arguments of `unpack`.
 pub fn unpack_order<'a>(
     alloc: Global,
     matches: &ArgMatches<'a>,

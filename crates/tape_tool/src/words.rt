@@ -15,7 +15,6 @@ use tape_writer::Prefix;
 /// The maximum number of images in the arguments of a run.
 const MOST_IMAGES: usize = 256;
 
-/// The values of `--form`.
 pub const FORMS: &[&str] = &["lines", "raw"];
 
 /// Returns the value of argument `name`, which the parser guarantees to be present.
@@ -99,17 +98,14 @@ pub fn named<'a>(
     if words.len() > MOST_IMAGES {
         return Err(Refusal::Words(too_many));
     }
+    let null = matches.get_flag("null");
     let list = match matches.get_str("files-from") {
         None => None,
-        Some(path) => Some(List {
-            file: if path == "-" { None } else { Some(path) },
-            null: matches.get_flag("null"),
-        }),
+        Some("-") => Some(List { file: None, null }),
+        file => Some(List { file, null }),
     };
-    Ok(Named {
-        words: Vec::from_slice(alloc, words)?,
-        list,
-    })
+    let words = Vec::from_slice(alloc, words)?;
+    Ok(Named { words, list })
 }
 
 /// Returns the source of image names for a command that may read standard input once, as an image

@@ -1,5 +1,4 @@
 //! `write`: writes file sets as images.
-pub mod guard;
 pub mod report;
 pub mod run;
 pub mod words;

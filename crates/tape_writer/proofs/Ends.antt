@@ -8,7 +8,7 @@ use Rattle.tape_blocks.specs.Run.{RunOf}
 use Rattle.tape_blocks.proofs.RunLaws.{run_begins}
 use Rattle.tape_writer.specs.declared.{course.Opened.Opened, course.Course.Course}
 use Rattle.tape_writer.specs.declared.{fault.WriteFault.WriteFault}
-use Rattle.tape_writer.specs.Tapes.{Tapes, Ended, UnderWay, Takes, Closes}
+use Rattle.tape_writer.specs.Tapes.{Tapes, UnderWay, Takes, Closes}
 use Rattle.tape_writer.specs.Told.{labelled, Told, AreFiled, IsWrittenSet}
 use Rattle.tape_writer.specs.Draft.{Draft, open_blocks, IsOpen, Closed, begun_course, body_items}
 use Rattle.tape_writer.specs.{Labels.IsReady, Labels.volume_label, Labels.header_items}

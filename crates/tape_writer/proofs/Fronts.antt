@@ -8,7 +8,7 @@ use Rattle.tape_writer.specs.declared.{phase.Phase.TheVariants.Between}
 use Rattle.tape_writer.specs.declared.{phase.Phase.TheVariants.Filing}
 use Rattle.tape_writer.specs.Tapes.{Tapes, Ended, UnderWay, all_volumes, Takes, Keeps}
 use Rattle.tape_writer.specs.Front.{Step, Item, Change, Close, behind_step, behind_steps}
-use Rattle.tape_writer.specs.Front.{HoldsFront, IsInLast, IsLeftInside, IsLeftBehind}
+use Rattle.tape_writer.specs.Front.{HoldsFront, IsInLast, IsLeftBehind}
 use Rattle.tape_writer.specs.Inside.{IsInside, IsPacking, IsFlat, IsWaiting}
 use Rattle.tape_writer.specs.State.{SetState, Stands, IsWriting}
 use Rattle.tape_writer.specs.{Told.Told, Draft.Draft, Draft.IsOpen, Refusals.IsInFile}

@@ -1,5 +1,5 @@
 -- The steps of the writer, with the contents of the tapes.
-use Rattle.tape_writer.proofs.Words.{◌≡◌, ◌<◌, ◌≤◌, ℕ, zero, suc, ◌+◌, List, [], ◌∷◌, ◌++◌, length}
+use Rattle.tape_writer.proofs.Words.{◌≡◌, ◌<◌, ◌≤◌, ℕ, ◌+◌, List, [], ◌∷◌, ◌++◌, length}
 use Rattle.tape_writer.proofs.Words.{true, false, Some, refl, sym, ap, ◌∙◌, subst, append_assoc}
 use Rattle.tape_writer.proofs.Words.{arith, get_or, map, slice_get, OnOk, Result, Ok, Err}
 use Rattle.tape_writer.proofs.Words.{option_map, append-nil, length-map, Vol1, TapeItem, block}
@@ -10,7 +10,7 @@ use Rattle.std.proofs.lemmas.{Option.slice_get-map, Grind.flat_map-append}
 use Rattle.std.proofs.lemmas.Option.{slice_get_within, slice_get-get_or}
 use Rattle.tape_writer.specs.declared.{course.Opened.Opened, course.Course.Course}
 use Rattle.tape_writer.specs.declared.{fault.WriteFault.WriteFault}
-use Rattle.tape_writer.specs.Labels.{volume_label, header_items, trailer_items}
+use Rattle.tape_writer.specs.Labels.{trailer_items}
 use Rattle.tape_writer.specs.Draft.{Draft, open_blocks, closing, here, body_items, open_items}
 use Rattle.tape_writer.specs.Draft.{ended_volumes, Within, Steady, changed_draft, changed_course}
 use Rattle.tape_writer.specs.Draft.{ended_draft, added_draft, added_course, ended_course, IsOpen}

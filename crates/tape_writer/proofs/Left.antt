@@ -9,13 +9,12 @@ use Rattle.tape_writer.specs.declared.course.Opened.{Opened}
 use Rattle.tape_writer.specs.declared.course.Course.{Course}
 use Rattle.tape_writer.specs.declared.fault.WriteFault.{WriteFault}
 use Rattle.tape_writer.specs.declared.phase.OpenFile.{OpenFile}
-use Rattle.tape_writer.specs.declared.phase.Phase.TheVariants.{Between, Filing, Failed}
+use Rattle.tape_writer.specs.declared.phase.Phase.TheVariants.{Between, Filing}
 use Rattle.tape_writer.specs.Told.{Told, AreFiled, IsWrittenSet, opened_by, with_record}
 use Rattle.tape_writer.specs.Inside.{IsInside, IsPacking, IsFlat, Flushed, IsBetween, IsFiling}
 use Rattle.tape_writer.specs.Front.{HoldsFront, IsMidRecord, IsPartly, IsInLast, IsEndingLast}
 use Rattle.tape_writer.specs.{Tapes.Tapes, Tapes.Ended, State.SetState, State.IsWriting}
 use Rattle.tape_writer.specs.{Draft.Draft, Draft.IsOpen, Draft.Closed, Inside.IsWaiting}
-use Rattle.tape_writer.specs.{Front.IsLeftInside}
 use Rattle.tape_writer.proofs.Fronts.{front_here, is_out, inside_left, packing_left, flat_left}
 use Rattle.tape_writer.proofs.{Changed.not_nil, Packed.packing_with, Packed.flat_with}
 use Rattle.tape_writer.proofs.{Ends.between_with, Fronts.waits, Calls.last_told, Calls.put_last}

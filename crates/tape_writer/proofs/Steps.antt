@@ -1,12 +1,11 @@
 -- After each step of the writer the set written so far is still a draft of a valid, tight set.
-use Rattle.tape_writer.proofs.Words.{◌≡◌, ◌<◌, ◌≤◌, ℕ, ◌+◌, List, [], ◌∷◌, ◌++◌, length, Bool, true}
-use Rattle.tape_writer.proofs.Words.{false, Some, refl, sym, ap, ◌∙◌, subst, inl, append_assoc}
+use Rattle.tape_writer.proofs.Words.{◌≡◌, ◌<◌, ◌≤◌, ℕ, ◌+◌, List, [], ◌∷◌, ◌++◌, length, true}
+use Rattle.tape_writer.proofs.Words.{Some, refl, sym, ap, ◌∙◌, subst, inl, append_assoc}
 use Rattle.tape_writer.proofs.Words.{arith, length-append, map, slice_get, AllByRecursion}
-use Rattle.tape_writer.proofs.Words.{map-append, append-nil, nat_tests, Vol1, block, Filled, Placed}
+use Rattle.tape_writer.proofs.Words.{map-append, append-nil, Vol1, block, Filled, Placed}
 use Rattle.tape_writer.proofs.Words.{Volume, numbered, item_of, item_size, items_size, used_before}
 use Rattle.tape_writer.proofs.Words.{IsTightChange, items_size-append, IsWideVolume, ne_eqb, lt-leb}
-use Rattle.std.proofs.Common.{nat_le}
-use Rattle.tape_set.specs.Tight.{takes_end, takes_next}
+use Rattle.tape_set.specs.Tight.{takes_end}
 use Rattle.tape_writer.specs.declared.{course.Opened.Opened, course.Course.Course}
 use Rattle.tape_writer.specs.Labels.{IsReady, header_items, trailer_items}
 use Rattle.tape_writer.specs.Draft.{Draft, placed, body, first_volumes, data_item, closing, here}

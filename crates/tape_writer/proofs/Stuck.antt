@@ -2,7 +2,7 @@
 use Rattle.tape_writer.proofs.Words.{◌≡◌, ◌<◌, ◌≤◌, ℕ, ◌+◌, List, [], ◌∷◌, ◌++◌, length, false}
 use Rattle.tape_writer.proofs.Words.{None, refl, sym, ap, ◌∙◌, subst, arith, drop, AllByRecursion}
 use Rattle.tape_writer.proofs.Words.{append-nil, Vol1, Shape, Portion, Filled, Packing, Given}
-use Rattle.tape_writer.proofs.Words.{IsJudged, Offers, offers_shape, block, Section, item_size}
+use Rattle.tape_writer.proofs.Words.{IsJudged, Offers, offers_shape, Section}
 use Rattle.tape_writer.proofs.Words.{lt-leb}
 use Rattle.tape_blocks.specs.Spans.{InOrder, Joined, span_of, join}
 use Rattle.tape_blocks.specs.{declared.offer.Offer.TheVariants.BlockReady, Run.Run, Run.Going}

@@ -2,8 +2,8 @@
 use Rattle.tape_writer.proofs.Words.{◌≡◌, ℕ, ◌+◌, List, [], ◌∷◌, ◌++◌, length, refl, sym, ap, ◌∙◌}
 use Rattle.tape_writer.proofs.Words.{subst, append_assoc, arith, length-append, AllByRecursion}
 use Rattle.tape_writer.proofs.Words.{Placed, Section, numbered, all_numbered, ◌≢◌, ◌<◌, zero, suc}
-use Rattle.tape_writer.proofs.Words.{Bool, true, false, add-one, map, slice_get, append-nil}
-use Rattle.tape_writer.proofs.Words.{nat_tests, block, Volume, a_mark, on, all_entries}
+use Rattle.tape_writer.proofs.Words.{add-one, map, slice_get, append-nil}
+use Rattle.tape_writer.proofs.Words.{block, Volume, a_mark, on, all_entries}
 use Rattle.tape_writer.proofs.Words.{section_entries, item_of, group_of, Filled, ne_eqb}
 use Rattle.std.proofs.Common.{append-nil, cond, ◌==◌}
 use Rattle.tape_blocks.specs.Tight.{Chain}

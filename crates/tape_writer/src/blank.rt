@@ -1,7 +1,7 @@
 //! Blank volumes: their labels, made from a prefix and a number, and their images.
 ghost use Rattle.std.specs.Prelude.{◌≡◌, ◌<◌, ◌≤◌, ◌+◌, ◌++◌, ◌↔◌, length, IsSome, IfSome, IsTrue};
 ghost use Rattle.arrayvec.specs.ArrayVec.{array_vec_len};
-ghost use Rattle.tape_writer.specs.Blank.{IsPrefixByte, IsPrefix, volume_id, blank_volume};
+ghost use Rattle.tape_writer.specs.Blank.{IsPrefixByte, IsPrefix, blank_volume};
 ghost use Rattle.tape_writer.specs.Blank.{blank_image};
 
 use arrayvec::ArrayVec;
@@ -48,23 +48,15 @@ pub fn blank_volume(prefix: Prefix, number: u16) -> Vol1
     requires { number < 1000 }
     ensures { result ≡ blank_volume prefix.characters number }
 {
+    let [a, b, c] = prefix.characters;
+    let [d, e, f] = digits_of::<3>(u64::from(number));
     Vol1 {
-        volume: volume_id(prefix, number),
+        volume: Field::of_bytes([a, b, c, d, e, f]),
         access: b' ',
         implementation: Field::of_bytes([b' '; 13]),
         owner: Field::of_bytes([b' '; 14]),
         version: b'4',
     }
-}
-
-/// Returns the prefix, followed by the number in three digits.
-fn volume_id(prefix: Prefix, number: u16) -> Field<6>
-    requires { number < 1000 }
-    ensures { result ≡ volume_id prefix.characters number }
-{
-    let [a, b, c] = prefix.characters;
-    let [d, e, f] = digits_of::<3>(u64::from(number));
-    Field::of_bytes([a, b, c, d, e, f])
 }
 
 /// Returns the image of a blank volume: its label, two tape marks and the end-of-medium marker.

@@ -1,31 +1,24 @@
 //! The processing of the items of a reel.
 
-ghost use Rattle.std.specs.Prelude.{◌≡◌, ◌≢◌, false, Some, ◌<◌, ◌≤◌, ◌⊎◌, Bool, List, true, length};
-ghost use Rattle.std.specs.Prelude.{OnOk, IfOk, Ok, not};
+ghost use Rattle.std.specs.Prelude.{◌≡◌, ◌≢◌, false, Some, ◌<◌, true, IfSome, IfNone};
 ghost use Rattle.tape_image.specs.Tape.{block as block'};
-ghost use Rattle.tape_blocks.specs.Block.{Portion, Holds};
-ghost use Rattle.tape_blocks.specs.Spans.{InOrder};
-ghost use Rattle.tape_blocks.specs.Faults.{bool_eq};
-ghost use Rattle.tape_blocks.specs.Judged.{judged};
 ghost use Rattle.tape_set.specs.Lawful.{most_blocks};
-ghost use Rattle.tape_set.specs.Position.{block_of, part_of};
+ghost use Rattle.tape_set.specs.Position.{block_of};
 ghost use Rattle.tape_core.specs.Arrive.{arrival};
-ghost use Rattle.tape_core.specs.Follows.{Checked};
+ghost use Rattle.tape_core.specs.Follows.{Checked, IsAwaited};
 ghost use Rattle.tape_core.specs.Known.{is_finished};
-ghost use Rattle.tape_core.specs.State.{ToldFits, wants_data, State};
+ghost use Rattle.tape_core.specs.State.{ToldFits, wants_data, told};
 ghost use Rattle.tape_core.specs.Table as Table;
-ghost use Rattle.tape_core.specs.Parts as Parts';
 
 use crate::checkpoint::{Checkpoint, Known};
-use crate::event::{Answer, CoreFault, Event, Heading, Phase, Reason};
+use crate::event::{Answer, Awaited, CoreFault, Event, Heading, Phase, Reason};
 use crate::reader::ReaderCore;
-use tape_blocks::{Parts, Shape, check_block};
-use tape_label::{Format, LabelFault, is_volume_label, kind, read_head1, read_trail1, same_field};
+use crate::reader::judging::{judge_awaited, shape_of};
+use tape_label::{LabelFault, is_volume_label, kind, read_head1, read_trail1, same_field};
 use tape_set::Position;
 
 impl ReaderCore {
     /// Processes one item. A complete file stays complete, whatever the item.
-    #[inline(always)]
     pub(crate) fn advance(&mut self, event: Event<'_>) -> Answer
         ensures table { (result, self.new) ≡ Table.step_of self.old (arrival event.entry) }
         ensures complete { result ≡ Answer.Complete → self.new.position ≡ Position.Finished }
@@ -43,8 +36,7 @@ impl ReaderCore {
         }
     }
 
-    /// Processes a block. Nearly all blocks of a reel are data, which need no copy of the phase.
-    #[inline(always)]
+    /// Processes a block. Data need no copy of the phase.
     fn at_block(&mut self, block: &[u8]) -> Answer
         requires { is_finished self.old.position ≡ false }
         ensures table { (result, self.new) ≡ Table.at_block self.old self.old.phase block.now }
@@ -171,10 +163,8 @@ impl ReaderCore {
 }
 
 impl ReaderCore {
-    /// Processes a data block: a block that was delivered already is skipped. The phase is changed
-    /// in place, since nearly all items of a reel are such blocks.
-    #[inline(always)]
-    pub(crate) fn at_data(&mut self, block: &[u8]) -> Answer
+    /// Processes a data block: a block that was delivered already is skipped.
+    fn at_data(&mut self, block: &[u8]) -> Answer
         requires wanted { wants_data self.old.phase ≡ true }
         requires waits { is_finished self.old.position ≡ false }
         ensures table { (result, self.new) ≡ Table.at_block self.old self.old.phase block.now }
@@ -183,6 +173,7 @@ impl ReaderCore {
     {
         let number = self.block();
         let part = self.part();
+        let begun = self.begun;
         let Phase::DataWanted(_, form, seen) = &mut self.phase else {
             unreachable!()
         };
@@ -190,16 +181,68 @@ impl ReaderCore {
             *seen += 1;
             return Answer::Passed;
         }
-        match judge_awaited(form, number, part, self.begun, block) {
+        match judge_awaited(form, number, part, begun, block) {
             Err(why) => self.useless(why),
             Ok(end) => {
-                *seen = number + 1;
-                self.known = Some(*form);
-                self.position = self.position.next_block();
-                self.begun = end;
+                self.deliver(end);
                 Answer::Deliver
             }
         }
+    }
+
+    /// Returns what is known of the block if it is the expected one: if `step` answers `Deliver`.
+    /// Then, after its parts were put, `deliver` moves the reader as that step does.
+    #[inline(always)]
+    pub fn awaited(&self, block: &[u8]) -> Option<Awaited>
+        ensures some { IfSome result (IsAwaited self.now block.now) }
+        ensures none { IfNone result
+            ((Table.step_of self.now (Some (block' block.now))).0 ≢ Answer.Deliver) }
+    {
+        let Phase::DataWanted(_, form, seen) = &self.phase else {
+            return None;
+        };
+        let Position::Awaits {
+            block: number,
+            part,
+            ..
+        } = self.position
+        else {
+            return None;
+        };
+        if number > *seen {
+            return None;
+        }
+        match judge_awaited(form, number, part, self.begun, block) {
+            Err(_) => None,
+            Ok(end) => Some(Awaited {
+                shape: shape_of(form),
+                part,
+                begun: self.begun,
+                end,
+            }),
+        }
+    }
+
+    /// Moves after the expected block; `end` says whether it leaves a record unfinished. The phase
+    /// is changed in place, since nearly all items of a reel are such blocks.
+    #[inline(always)]
+    pub fn deliver(&mut self, end: bool)
+        requires wanted { wants_data self.old.phase ≡ true }
+        requires waits { is_finished self.old.position ≡ false }
+        requires more { block_of self.old.position < most_blocks }
+        requires fits { ToldFits end (told self.old.phase) }
+        ensures table { self.new ≡ Table.after_block self.old end }
+        ensures set_id { self.new.set_id ≡ self.old.set_id }
+        ensures file { self.new.file ≡ self.old.file }
+    {
+        let number = self.block();
+        let Phase::DataWanted(_, form, seen) = &mut self.phase else {
+            unreachable!()
+        };
+        *seen = number + 1;
+        self.known = Some(*form);
+        self.position = self.position.next_block();
+        self.begun = end;
     }
 
     /// Processes an unreadable item after `seen` blocks. The reading ends only if the item is the
@@ -228,116 +271,4 @@ impl ReaderCore {
             self.passed(Phase::TrailerWanted(heading, form))
         }
     }
-}
-
-/// Returns whether `block`, as block number `number`, leaves a record unfinished, or the reason why
-/// it is refused. `part` is the number of its parts already delivered; `begun` says whether a
-/// record is unfinished before the next one.
-#[inline(always)]
-fn judge_awaited(
-    form: &Known,
-    number: u32,
-    part: u32,
-    begun: bool,
-    block: &[u8],
-) -> Result<bool, Reason>
-    requires told { ToldFits begun (Some form.now) }
-    ensures table { (core : State) (heading : Heading) → block_of core.position ≡ number
-        → part_of core.position ≡ part → core.begun ≡ begun
-        → Table.at_awaited core heading form.now block.now
-        ≡ Table.found_awaited core heading form.now result }
-    ensures more { OnOk result (number < most_blocks) }
-    ensures told { IfOk result (λ end. ToldFits end (Some form.now)) }
-    ensures holds { IfOk result (λ end. (begun : Bool) × (parts : List Portion)
-        × Holds form.now.format form.now.rec_len form.now.offset block.now parts
-        × InOrder begun parts end
-        × ((part ≡ 0) ⊎ (part < length parts))
-        × (length parts ≤ length block.now)) }
-{
-    if number == u32::MAX {
-        return Err(Reason::SectionDiffers);
-    }
-    let before = begun_before(form, part, begun, block);
-    match check_block(&shape_of(form), before, block) {
-        Err(fault) => Err(Reason::BadBlock(fault)),
-        Ok(_) if other_front(form, part, begun, block) => Err(Reason::SectionDiffers),
-        Ok(end) => Ok(end),
-    }
-}
-
-/// Returns the shape of the file's blocks, as far as readers check it.
-pub(crate) fn shape_of(known: &Known) -> Shape
-    ensures format { result.format ≡ known.now.format }
-    ensures rec_len { result.rec_len ≡ known.now.rec_len }
-    ensures offset { result.offset ≡ known.now.offset }
-    ensures block_len { result.block_len ≡ 0 }
-    ensures pad_full { result.pad_full ≡ Bool.false }
-{
-    Shape {
-        format: known.format,
-        block_len: 0,
-        rec_len: known.rec_len,
-        offset: known.offset,
-        pad_full: false,
-    }
-}
-
-/// Returns whether the block's first unit continues a record: in format S its indicator is `2` or
-/// `3`.
-fn goes_on_at(format: Format, offset: u8, block: &[u8]) -> bool
-    ensures { result ≡ Parts'.goes_on_at format offset block.now }
-{
-    match format {
-        Format::Fixed | Format::Counted => false,
-        Format::Spanned => {
-            let offset = usize::from(offset);
-            if offset >= block.len() {
-                return false;
-            }
-            matches!(block[offset], b'2' | b'3')
-        }
-    }
-}
-
-/// Returns whether a record is unfinished at the start of the block, after `part` of its parts were
-/// delivered; `begun` says whether a record is unfinished before the expected part.
-pub(crate) fn begun_before(known: &Known, part: u32, begun: bool, block: &[u8]) -> bool
-    ensures { result ≡ Parts'.begun_before known.now part begun block.now }
-{
-    if part == 0 {
-        begun
-    } else {
-        goes_on_at(known.format, known.offset, block)
-    }
-}
-
-/// Returns whether `a` and `b` differ.
-fn differs(a: bool, b: bool) -> bool
-    ensures { result ≡ not (bool_eq a b) }
-{
-    if a { !b } else { b }
-}
-
-/// Returns whether `block`, already checked, differs from the block whose first `part` parts were
-/// delivered: it has no further part, or a record is unfinished after them although `begun` is
-/// false, or the converse.
-#[inline(always)]
-pub(crate) fn other_front(known: &Known, part: u32, begun: bool, block: &[u8]) -> bool
-    requires { (before : Bool) × (end : Bool)
-        × (judged known.now.format known.now.rec_len known.now.offset before block.now ≡ Ok end) }
-    ensures { result ≡ Parts'.other_front known.now part begun block.now }
-{
-    if part == 0 {
-        return false;
-    }
-    let mut going = goes_on_at(known.format, known.offset, block);
-    let mut left = part;
-    for each in Parts::new(&shape_of(known), block) {
-        if left == 0 {
-            return differs(going, begun);
-        }
-        going = each.span.leaves();
-        left -= 1;
-    }
-    true
 }

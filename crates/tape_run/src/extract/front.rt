@@ -110,9 +110,7 @@ pub fn write_rest<S: PartWalk, W: Write>(
                 if ended >= front.written {
                     write_part(out, part, form)?;
                 }
-                if !leaves {
-                    ended += 1;
-                }
+                ended += u64::from(!leaves);
             }
             Ok(None) => return Err(walk_fault(SinkFault::Failed)),
             Err(fault) => return Err(walk_fault(fault)),

@@ -76,6 +76,9 @@ pub fn extract_located<W: Write + Drop, R: Read + Drop, L: ImageSource<R>, O: Pl
         ReadingFails ⟦<OutSink<W> as PartSink>⟧ false fault session.old session.new
         ⊎ ((session.new.core.position ≡ Finished)
         × EndingFails session.new.sink.begun session.new.sink.form form fault)) }
+    // Nothing but the output of a complete file is written here.
+    ensures finished { IfErr result (λ fault. fault ≡ EngineFault.WriteFailed
+        → session.new.core.position ≡ Finished) }
 {
     let complete = read_sections(session, images, mounted, locations)?;
     if !complete {
@@ -108,6 +111,7 @@ fn read_sections<S: PartSink, R: Read + Drop, L: ImageSource<R>>(
     ensures reads { ReadsOnly S.PartSink session.old session.new }
     ensures cause { IfErr result (λ fault.
         ReadingFails S.PartSink false fault session.old session.new) }
+    ensures read_only { IfErr result (λ fault. fault ≢ EngineFault.WriteFailed) }
     ensures calm { OnOk result (IsCalm S.PartSink session.old session.new) }
 {
     let mut next = 0u32;
@@ -150,6 +154,7 @@ fn read_section<S: PartSink, R: Read + Drop, L: ImageSource<R>>(
         → session.new.core.position ≢ Finished) }
     ensures cause { IfErr result (λ fault.
         ReadingFails S.PartSink false fault session.old session.new) }
+    ensures read_only { IfErr result (λ fault. fault ≢ EngineFault.WriteFailed) }
     ensures calm { OnOk result (IsCalm S.PartSink session.old session.new) }
 {
     let key = session.file_key();

@@ -9,8 +9,8 @@ ghost use Rattle.tape_image.specs.Written.{AppendsFront};
 ghost use Rattle.tape_run.specs.MergeLines.{lines_from, reading_line, has_line};
 ghost use Rattle.tape_run.specs.MergeCalls.{IfImages};
 ghost use Rattle.tape_run.specs.MergeNow.{MountsAll, IsMissing, Misses, IfMounted, LeavesPlace};
-ghost use Rattle.tape_run.specs.MergeNow.{ReportsNoImage, ReportsImage, ComesTo, IsTooLong};
-ghost use Rattle.tape_run.specs.MergeNow.{EndsAs, FitsEnd, end_bytes};
+ghost use Rattle.tape_run.specs.MergeNow.{ReportsNoImage, ReportsImage, HoldsMerged, ComesTo};
+ghost use Rattle.tape_run.specs.MergeNow.{IsTooLong, EndsAs, FitsEnd, end_bytes};
 ghost use Rattle.tape_run.specs.declared.merge.line.MergedEnd.TheVariants.{Marked};
 ghost use Rattle.tape_run.specs.declared.merge.now.MergeEnd.{MergeEnd};
 ghost use Rattle.tape_run.specs.declared.merge.now.MergeEnd.TheVariants.{Differs};
@@ -126,10 +126,11 @@ pub fn merge_now<
     ensures left { IfErr result (LeavesPlace O.stands place.old place.new
         ((report.new ≡ report.old) ⊎ ReportsNoImage R
         (IfMounted L.size L.gives R.remaining images.old images.new) (map (λ n. n.now) names.now)
-        (P.contents report.old) (P.contents report.new))
-        (ReportsImage R (map (λ n. n.now) names.now) (P.contents report.old) (P.contents report.new)
+        (L.size images.old) (P.contents report.old) (P.contents report.new))
+        (ReportsImage R (map (λ n. n.now) names.now) (L.size images.old)
+        (P.contents report.old) (P.contents report.new)
         × ((end : MergeEnd) × IfMounted L.size L.gives R.remaining images.old images.new
-        (λ known. ComesTo R known (map (λ n. n.now) names.now) (W.contents out)
+        (λ known. HoldsMerged R known (map (λ n. n.now) names.now) (W.contents out)
         (O.stands place.new) (Appends (G.contents log.old) (G.contents log.new))
         (AppendsFront (P.contents report.old) (P.contents report.new)) end)))) }
 {
@@ -186,10 +187,12 @@ fn merge_readings<R: Read, W: Write + Drop, O: Place<W>, G: Write, P: Write>(
         IsTooLong R known size))) }
     ensures left { IfErr result (LeavesPlace O.stands place.old place.new
         ((report.new ≡ report.old) ⊎ ReportsNoImage R (IfImages readings.old)
-        (map (λ n. n.now) names.now) (P.contents report.old) (P.contents report.new))
-        (ReportsImage R (map (λ n. n.now) names.now) (P.contents report.old) (P.contents report.new)
+        (map (λ n. n.now) names.now) (length readings.old)
+        (P.contents report.old) (P.contents report.new))
+        (ReportsImage R (map (λ n. n.now) names.now) (length readings.old)
+        (P.contents report.old) (P.contents report.new)
         × ((end : MergeEnd) × IfImages readings.old (λ known.
-        ComesTo R known (map (λ n. n.now) names.now) (W.contents out) (O.stands place.new)
+        HoldsMerged R known (map (λ n. n.now) names.now) (W.contents out) (O.stands place.new)
         (Appends (G.contents log.old) (G.contents log.new))
         (AppendsFront (P.contents report.old) (P.contents report.new)) end)))) }
 {

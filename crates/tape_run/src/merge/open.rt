@@ -1,6 +1,6 @@
 //! Readings of images on devices.
 
-ghost use Rattle.std.specs.Prelude.{◌≡◌, IfOk, IfErr, map};
+ghost use Rattle.std.specs.Prelude.{◌≡◌, ◌≢◌, IfOk, IfErr, OnOk, map, length};
 ghost use Rattle.tape_image.specs.Writer.{writing};
 ghost use Rattle.tape_run.specs.MergeCalls.{AreAtFront, IfImages};
 ghost use Rattle.tape_run.specs.MergedImages.{MergesImages, FaultsImages};
@@ -55,6 +55,10 @@ pub fn merge_to<R: Read, W: Write + Drop, G: Write>(
         (G.contents log.old) (G.contents log.new))) }
     ensures fault { IfErr result (λ fault. IfImages readings.old (λ images.
         FaultsImages images readings.new out.old out.new fault)) }
+    // Whatever the images, no reading is lost.
+    ensures all { OnOk result (length readings.new ≡ length readings.old) }
+    ensures still_all { IfErr result (λ fault. fault ≢ MergeFault.OutOfMemory
+        → length readings.new ≡ length readings.old) }
 {
     let mut best = Candidate::new(alloc)?;
     let mut other = Candidate::new(alloc)?;

@@ -84,10 +84,12 @@ impl<D: Disk> ReadAhead<D> {
             ≡ slice_range (D.seen self.now.disk) place (place + result) }
     {
         let held = &self.bytes[..self.held];
-        if place < self.start || place - self.start > held.len() as u64 {
+        // An offset before the start wraps around, and is too great as well.
+        let at = place.wrapping_sub(self.start);
+        if at > held.len() as u64 {
             return 0;
         }
-        let rest = &held[(place - self.start) as usize..];
+        let rest = &held[at as usize..];
         if buf.len() <= rest.len() {
             buf.copy_from_slice(&rest[..buf.len()]);
             return buf.len();

@@ -16,7 +16,7 @@ ghost use Rattle.tape_stage.specs.OnlyReading.{OnlyReads};
 ghost use Rattle.tape_stage.specs.Parts.{longest_part, IsFront};
 ghost use Rattle.tape_stage.specs.Moments.{Passes};
 ghost use Rattle.tape_stage.specs.Frames.{IsFrameAt, NoFrameAt};
-ghost use Rattle.tape_stage.specs.Stages.{IsStage, EndsCall};
+ghost use Rattle.tape_stage.specs.Stages.{IsStage, EndsCall, HasNamed};
 ghost use Rattle.tape_stage.specs.Disk.{SameFact};
 
 use crate::disk::{Disk, DiskFault};
@@ -183,6 +183,8 @@ impl<D: Disk> Stage<D> {
         ensures weight { OnOk result (self.new.weight ≡ staged) }
         ensures acknowledged { self.new.acknowledged ≡ self.old.acknowledged }
         ensures pending { self.new.pending ≡ self.old.pending }
+        ensures slot { (self.new.in_second ≡ self.old.in_second)
+            × (self.new.generation ≡ self.old.generation) }
         ensures usable { OnOk result ((self.new.failed ≡ false)
             × (self.new.readable ≡ self.old.readable)) }
         ensures ends { EndsCall self.old result self.new }
@@ -224,9 +226,11 @@ impl<D: Disk> Stage<D> {
         ensures full { IsErrOf result StageFault.Full → most_generation ≤ self.old.generation }
         ensures stays { self.old.acknowledged.staged ≤ point.now.staged
             → (self.new.acknowledged ≡ self.old.acknowledged)
-            × (self.new.pending ≡ self.old.pending) }
+            × (self.new.pending ≡ self.old.pending)
+            × (self.new.in_second ≡ self.old.in_second)
+            × (self.new.generation ≡ self.old.generation) }
         ensures drops { point.now.staged < self.old.acknowledged.staged
-            → OnOk result (self.new.acknowledged ≡ point.now)
+            → OnOk result (HasNamed point.now self.old self.new)
             × (IsErrOf result StageFault.Device → (self.new.acknowledged ≡ point.now)
             ⊎ ((self.new.acknowledged ≡ self.old.acknowledged)
             × (self.new.pending ≡ Some point.now))) }

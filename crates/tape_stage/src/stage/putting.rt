@@ -242,7 +242,9 @@ impl<D: Disk> PartSink for Stage<D> {
         ensures rewinds { OnOk result (self.new.walked ≡ 0) }
         ensures stays { self.old.acknowledged.staged ≤ point.now.staged
             → (self.new.acknowledged ≡ self.old.acknowledged)
-            × (self.new.pending ≡ self.old.pending) }
+            × (self.new.pending ≡ self.old.pending)
+            × (self.new.in_second ≡ self.old.in_second)
+            × (self.new.generation ≡ self.old.generation) }
         ensures drops { point.now.staged < self.old.acknowledged.staged
             → HasDropped point.now self.old result self.new }
         ensures usable { OnOk result ((self.new.failed ≡ false)

@@ -147,6 +147,8 @@ impl<D: Disk> Stage<D> {
         ensures acknowledged { OnOk result (self.new.acknowledged ≡ point.now) }
         ensures stays { OnErr result ((self.new.acknowledged ≡ self.old.acknowledged)
             ⊎ (self.new.acknowledged ≡ point.now)) }
+        ensures slot { OnOk result ((self.new.in_second ≡ not self.old.in_second)
+            × (self.new.generation ≡ self.old.generation + 1)) }
         ensures usable { OnOk result ((self.new.failed ≡ false)
             × (self.new.readable ≡ self.old.readable)) }
         ensures ends { EndsCall self.old result self.new }

@@ -1,7 +1,6 @@
 //! Explanations of file faults, one list for each purpose of a file, in order of fault number.
 use super::NEVER;
 
-/// Faults of an input of `write`.
 pub const FILE_OF_INPUT: &[&str] = &[
     NEVER,
     "  The input could not be opened. Nothing was written.

@@ -67,21 +67,37 @@ fn file_text(
         return no_file_text(alloc, set_id, files).ok();
     };
     if found.differs {
-        return Some(String::from_str(alloc, IN_CONFLICT).ok()?);
+        return String::from_str(
+            alloc,
+            "  Labels of different files have this number, or complete copies of a section
+  of the file differ: 'tape survey' says which.
+  Keep the images of each set in a directory of its own.
+",
+        )
+        .ok();
     }
     match found.lacks {
         Some(sect) => section_text(alloc, names, met, SectionKey { set_id, file, sect }).ok(),
-        None => Some(String::from_str(alloc, ALL_THERE).ok()?),
+        None => String::from_str(
+            alloc,
+            "  Each section of the file is complete on some image. With --again, tape reads
+  the images until they yield nothing more, and their order does not matter.
+",
+        )
+        .ok(),
     }
 }
 
 /// No file of the set was found.
 fn no_set_text(alloc: Global, set_id: Field<6>, files: &[SetFile]) -> Result<String, AllocError> {
-    let set = shown(alloc, &set_id)?;
-    let sets = sets_of(alloc, files)?;
-    let (set, sets) = (set.as_str(), sets.as_str());
+    let (set, sets) = (shown(alloc, &set_id)?, list_of(alloc, files, None)?);
     if sets.is_empty() {
-        return String::from_str(alloc, NO_SETS);
+        return String::from_str(
+            alloc,
+            "  No file of any set was found on these images.
+  'tape survey' says what they are.
+",
+        );
     }
     format!(in alloc;
         "  No label of set {set} was found on these images.
@@ -93,9 +109,7 @@ fn no_set_text(alloc: Global, set_id: Field<6>, files: &[SetFile]) -> Result<Str
 
 /// No label of the file was found.
 fn no_file_text(alloc: Global, set_id: Field<6>, files: &[SetFile]) -> Result<String, AllocError> {
-    let set = shown(alloc, &set_id)?;
-    let numbers = numbers_of(alloc, set_id, files)?;
-    let (set, numbers) = (set.as_str(), numbers.as_str());
+    let (set, numbers) = (shown(alloc, &set_id)?, list_of(alloc, files, Some(set_id))?);
     format!(in alloc;
         "  No label of this file was found. Files of set {set} on these images:
   {numbers}.
@@ -113,7 +127,6 @@ fn section_text(
 ) -> Result<String, AllocError> {
     let SectionKey { set_id, file, sect } = key;
     if let Some(on) = image_of(alloc, names, met, key)? {
-        let on = on.as_str();
         return format!(in alloc;
             "  Section {sect} of file {file} is complete on no image. It begins on
   {on}.
@@ -128,22 +141,17 @@ fn section_text(
         sect: before,
     };
     match image_of(alloc, names, met, earlier)? {
-        Some(on) => {
-            let on = on.as_str();
-            format!(in alloc;
-                "  Section {sect} of file {file} is on no image. It follows section {before} on
+        Some(on) => format!(in alloc;
+            "  Section {sect} of file {file} is on no image. It follows section {before} on
   {on}.
   Look for the reel that comes after that one.
 "
-            )
-        }
-        None => {
-            format!(in alloc;
-                "  Section {sect} of file {file} is on no image: look for the reel with its
+        ),
+        None => format!(in alloc;
+            "  Section {sect} of file {file} is on no image: look for the reel with its
   beginning. 'tape survey' shows which volumes were found.
 "
-            )
-        }
+        ),
     }
 }
 
@@ -165,9 +173,7 @@ fn image_of(
     let Some(volume) = volume_of(image) else {
         return Ok(Some(name));
     };
-    let volume = shown(alloc, &volume)?;
-    let (volume, name) = (volume.as_str(), name.as_str());
-    Ok(Some(format!(in alloc; "volume {volume}, image {name}")?))
+    Ok(Some(format!(in alloc; "volume {}, image {name}", shown(alloc, &volume)?)?))
 }
 
 /// What was chosen to be unpacked and not found, or `None` if something else is missing.
@@ -197,123 +203,65 @@ fn shown(alloc: Global, field: &Field<6>) -> Result<String, AllocError> {
     text.as_str().trim_end().to_string(alloc)
 }
 
-/// The first sets that were found, each once.
-fn sets_of(alloc: Global, files: &[SetFile]) -> Result<String, AllocError> {
+/// The first sets that were found, each once, or the numbers of the first files of set `of`. A list
+/// with the maximum number of names ends with an ellipsis.
+fn list_of(alloc: Global, files: &[SetFile], of: Option<Field<6>>) -> Result<String, AllocError> {
     let (mut text, mut count) = (String::new(alloc), 0);
     let mut before: Option<Field<6>> = None;
     for file in files {
-        if before != Some(file.set_id) {
-            before = Some(file.set_id);
-            list(&mut text, &mut count, shown(alloc, &file.set_id)?.as_str())?;
+        let is_listed = match of {
+            Some(set_id) => file.set_id == set_id,
+            None => before != Some(file.set_id),
+        };
+        before = Some(file.set_id);
+        if is_listed && count <= MOST {
+            let name = match of {
+                Some(_) => format!(in alloc; "{}", file.file)?,
+                None => shown(alloc, &file.set_id)?,
+            };
+            text.push_str(if count > 0 { ", " } else { "" })?;
+            text.push_str(if count < MOST { name.as_str() } else { ".." })?;
+            count += 1;
         }
     }
     Ok(text)
-}
-
-/// The numbers of the first files of a set that were found.
-fn numbers_of(alloc: Global, set_id: Field<6>, files: &[SetFile]) -> Result<String, AllocError> {
-    let (mut text, mut count) = (String::new(alloc), 0);
-    for file in files {
-        if file.set_id == set_id {
-            let number = format!(in alloc; "{}", file.file)?;
-            list(&mut text, &mut count, number.as_str())?;
-        }
-    }
-    Ok(text)
-}
-
-/// Appends `name` to a list in which there are `count` names. A list with the maximum number of
-/// them gets an ellipsis once, and then nothing more.
-fn list(text: &mut String, count: &mut usize, name: &str) -> Result<(), AllocError> {
-    let before = *count;
-    *count = before.saturating_add(1);
-    if before > MOST {
-        return Ok(());
-    }
-    if before > 0 {
-        text.push_str(", ")?;
-    }
-    text.push_str(if before < MOST { name } else { ".." })
 }
 
 /// The explanation that holds whatever the images contain.
 fn general_text(order: &Order<'_>) -> &'static str {
     match order {
-        Order::Check(_) => OF_CHECK,
-        Order::Survey(_) => OF_SURVEY,
-        Order::Extract(_) => OF_EXTRACT,
-        Order::Unpack(_) => OF_UNPACK,
-        Order::Salvage(_) => OF_SALVAGE,
-        Order::Stage(_) => OF_STAGE,
-        Order::Merge(_) | Order::Compare(_) => OF_MERGE,
+        Order::Check(_) =>
+            "  Each line LACKS names a set, a file and its first section that is complete on
+  no image: look for another copy of that section. Without such a line, no
+  section was found at all. 'tape survey' shows what the images are.
+",
+        Order::Survey(_) =>
+            "  A section is missing or damaged, copies differ, or an image was not read to
+  its end: the lines of the files and images say which.
+",
+        Order::Extract(_) =>
+            "  The last line says which file, section and block are expected next (AWAITS).
+  Look for the reel with that section, or for another copy of it.
+  'tape survey' shows which sections the images contain.
+",
+        Order::Unpack(_) =>
+            "  AWAITS says which file, section and block of the file are expected next. Run
+  it again with other images: the stage keeps what was recovered.
+  'tape survey' shows all files, and which sections are missing or damaged.
+",
+        Order::Salvage(_) =>
+            "  Not every block of the file was found: the lines say what is missing.
+  Another copy of these reels may have it.
+",
+        Order::Stage(_) =>
+            "  The stage has only a part of the file: the last line says which file, section
+  and block are expected next. 'tape extract --stage' continues from it.
+",
+        Order::Merge(_) | Order::Compare(_) =>
+            "  The images differ, or not all of them were read to their end: the lines say
+  where. Each line names the images by their numbers.
+",
         // They do not end so.
         Order::List(_) | Order::Init(_) | Order::Write(_) => NEVER,
     }
 }
-
-const NO_SETS: &str = "  No file of any set was found on these images.
-  'tape survey' says what they are.
-";
-
-const IN_CONFLICT: &str =
-    "  Labels of different files have this number, or complete copies of a section
-  of the file differ: 'tape survey' says which.
-  Keep the images of each set in a directory of its own.
-";
-
-const ALL_THERE: &str =
-    "  Each section of the file is complete on some image. With --again, tape reads
-  the images until they yield nothing more, and their order does not matter.
-";
-
-const OF_CHECK: &str =
-    "  Each line LACKS names a set, a file and its first section that is complete on
-  no image: look for another copy of that section. Without such a line, no
-  section was found at all. 'tape survey' shows what the images are.
-";
-
-const OF_SURVEY: &str =
-    "  A section is missing or damaged, copies differ, or an image was not read to
-  its end: the lines of the files and images say which.
-";
-
-const OF_EXTRACT: &str =
-    "  The last line says which file, section and block are expected next (AWAITS).
-  Look for the reel with that section, or for another copy of it.
-  'tape survey' shows which sections the images contain.
-";
-
-const OF_UNPACK: &str =
-    "  AWAITS says which file, section and block of the file are expected next. Run
-  it again with other images: the stage keeps what was recovered.
-  'tape survey' shows all files, and which sections are missing or damaged.
-";
-
-const OF_SALVAGE: &str = "  Not every block of the file was found: the lines say what is missing.
-  Another copy of these reels may have it.
-";
-
-const OF_STAGE: &str =
-    "  The stage has only a part of the file: the last line says which file, section
-  and block are expected next. 'tape extract --stage' continues from it.
-";
-
-const OF_MERGE: &str =
-    "  The images differ, or not all of them were read to their end: the lines say
-  where. Each line names the images by their numbers.
-";
-
-/// All texts.
-#[cfg(test)]
-pub const MISSING_TEXTS: &[&str] = &[
-    NO_SETS,
-    IN_CONFLICT,
-    ALL_THERE,
-    OF_CHECK,
-    OF_SURVEY,
-    OF_EXTRACT,
-    OF_UNPACK,
-    OF_SALVAGE,
-    OF_STAGE,
-    OF_MERGE,
-];

@@ -5,9 +5,8 @@ ghost use Rattle.tape_tool.specs.Guards.{is_written_in_place};
 
 use crate::fault::{FileFault, ToolFault};
 use crate::host::Host;
-use crate::left::remove;
 use crate::program::End;
-use crate::refusal::{FileId, Taking, way_to_take};
+use crate::refusal::{FileId, Taking, remove, way_to_take};
 use std::alloc::{AllocError, Global};
 use std::fs::{File, OpenOptions, Permissions};
 use std::io::{BufWriter, Error, ErrorKind, Write};

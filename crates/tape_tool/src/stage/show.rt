@@ -7,7 +7,7 @@ ghost use Rattle.tape_blocks.specs.Block.{Portion};
 ghost use Rattle.tape_blocks.specs.Spans.{join};
 ghost use Rattle.tape_image.specs.Written.{AppendsFront};
 ghost use Rattle.tape_tool.specs.StageReport.{stage_line, told_with, ending_of, ending_line};
-ghost use Rattle.tape_tool.specs.StageReport.{EndsInPart, Shows, StopsShowing, output_in};
+ghost use Rattle.tape_tool.specs.StageReport.{EndsInRecords, Shows, StopsShowing, output_in};
 
 use super::ending::StageEnding;
 use crate::fault::{FileFault, ToolFault};
@@ -111,7 +111,7 @@ fn write_in<S: PartWalk, W: Write>(
         × Appends (W.contents out.old) (W.contents out.new) (output_in form parts)) }
     ensures err { OnErr result ((parts : List Portion) → S.holds sink.old parts
         → AppendsFront (W.contents out.old) (W.contents out.new) (output_in form parts)) }
-    ensures fault { IfErr result (EndsInPart form) }
+    ensures fault { IfErr result (EndsInRecords form) }
 {
     match form {
         None => Ok(counted),

@@ -7,55 +7,44 @@
 //!
 //! - `N: LINE` runs the program with the arguments LINE, and checks that it ends with status N, or
 //!   with the fault N, as the line about the fault names it.
-//! - `$ LINE` runs it in a fake system. The next lines are its results: `> TEXT` a line of output,
-//!   or `> ..` any output, `! TEXT` a line of errors, `[N]` the exit status if it is not 0, and
-//!   `? FILE ..` the files that it opens, each with `?` if that fails. Without a line `?` they are
-//!   not compared.
+//! - `$ LINE` runs it, too. The next lines are its results: `> TEXT` a line of output, or `> ..`
+//!   any output, `! TEXT` a line of errors, or `~ TEXT` a text in the errors, which are then not
+//!   compared, `[N]` the exit status if it is not 0, and `? FILE ..` the files that it opens, each
+//!   with `?` if that fails. Without a line `?` they are not compared. `* ODD` makes the system
+//!   peculiar: see `odd_of`.
 //! - `folder FILE`, `put FILE TEXT`, `fill FILE COUNT TEXT`, `link FILE TARGET` and
 //!   `name FILE OTHER` create a directory, a file, a file of so many copies of the text, a link and
 //!   a second name. `remove FILE` removes a file, if it exists; `allow FILE MODE` sets its
-//!   permissions.
+//!   permissions, and `cut FILE LENGTH` its length.
 //! - `worked FILE`, or `worked FILE LENGTH`, creates the example image, or its first bytes,
 //!   `damaged FILE BLOCK` an image with an unreadable block, `lost FILE` one without its second
-//!   block, `first FILE` and `second FILE` the volumes of the example file on two, and
-//!   `records FILE` its records.
+//!   block, `first FILE` and `second FILE` the volumes of the example file on two, `records FILE`
+//!   its records, and `second_file FILE` a volume without the first file of its set.
 //! - `has FILE TEXT`, `at FILE OFFSET TEXT`, `length FILE COUNT`, `is_worked FILE`, `missing FILE`
 //!   and `allowed FILE MODE` check the contents of a file, the bytes at an offset, the length, that
 //!   it is the example image or does not exist, and its permissions.
 
-use super::fake_system::{Odd, called_oddly};
-use super::image::{Image, payroll};
-use super::volumes::{damaged, first_of_two, lost, second_of_two, worked};
-use super::words::words_of;
-use crate::diagnostics::FaultLine;
-use crate::host::Progress;
-use crate::program::{End, perform};
+use super::fake_system::{Odd, called};
+use super::image::{
+    Image, damaged, first_of_two, lost, payroll, second_file, second_of_two, worked,
+};
 use std::alloc::{AllocError, Global};
 use std::fs;
-use std::fs::{File, Permissions};
-use std::io::Write;
+use std::fs::{File, OpenOptions, Permissions};
+use std::io::{ErrorKind, Write};
 use std::os::unix;
 use std::os::unix::fs::PermissionsExt;
 use std::test::Fail;
 
-/// The system itself shows nothing.
-impl Progress for HostRuntime {
-    fn show(&self, _image: usize, _count: usize, _bytes: u64) {}
-}
-
-/// Runs the program with the arguments in `line`, and returns how it ends.
-pub fn end_of(rt: &HostRuntime, line: &str) -> Result<End, Fail> {
-    let words = words_of(rt.alloc(), line)?;
-    Ok(perform(rt, words.as_slice()).end)
-}
-
-/// A run in the fake system, and its expected results.
+/// A run, and its expected results.
 #[derive(Drop)]
 struct Run<'a> {
     line: &'a str,
+    odd: Odd<'a>,
     status: &'a str,
     out: String,
     told: String,
+    parts: Vec<&'a str>,
     opened: Option<&'a str>,
     has_any_output: bool,
 }
@@ -64,9 +53,11 @@ impl<'a> Run<'a> {
     fn new(alloc: Global, line: &'a str) -> Run<'a> {
         Run {
             line,
+            odd: Odd::Nothing,
             status: "[0]",
             out: String::new(alloc),
             told: String::new(alloc),
+            parts: Vec::new(alloc),
             opened: None,
             has_any_output: false,
         }
@@ -78,34 +69,67 @@ impl<'a> Run<'a> {
             ">" if text == ".." => self.has_any_output = true,
             ">" => push_line(&mut self.out, text)?,
             "!" => push_line(&mut self.told, text)?,
+            "~" => self.parts.push(text)?,
             "?" => self.opened = Some(text),
+            "*" => self.odd = odd_of(text),
             word if word.starts_with('[') => self.status = word,
             _ => return Ok(false),
         }
         Ok(true)
     }
 
-    /// Runs the program on a system with the peculiarity `odd`, and fails unless it has the
-    /// expected results.
-    fn check(&self, rt: &HostRuntime, odd: Odd<'_>) -> Result<(), Fail> {
-        let seen = called_oddly(rt, self.line, odd)?;
+    /// Runs the program, and fails unless it has the expected results.
+    fn check(&self, rt: &HostRuntime) -> Result<(), Fail> {
+        let seen = called(rt, self.line, self.odd)?;
         let status = format!(in rt.alloc(); "[{}]", seen.status)?;
         let has_output = self.has_any_output || seen.out.as_str() == self.out.as_str();
         let is_opened = match self.opened {
             Some(paths) => seen.opened.as_str().trim_end() == paths,
             None => true,
         };
-        if status.as_str() == self.status
-            && has_output
-            && seen.told.as_str() == self.told.as_str()
-            && is_opened
-        {
+        let (told, wanted) = (seen.told.as_str(), self.told.as_str());
+        let mut is_told = !self.parts.is_empty() || told.trim_end() == wanted.trim_end();
+        for part in self.parts.as_slice() {
+            is_told = is_told && told.contains(*part);
+        }
+        if status.as_str() == self.status && has_output && is_told && is_opened {
             return Ok(());
         }
         Err(Fail::from(format!(in rt.alloc();
             "{}: {status}\n{}{}{}",
             self.line, seen.out, seen.told, seen.opened
         )?))
+    }
+}
+
+/// Returns a peculiarity of the system, as a script names it.
+fn odd_of(text: &str) -> Odd<'_> {
+    let (word, rest) = text.split_once(' ').unwrap_or((text, ""));
+    let (path, other) = rest.split_once(' ').unwrap_or((rest, ""));
+    match word {
+        "look" => Odd::Look(path, kind_of(other)),
+        "open" => Odd::Open(path, kind_of(other)),
+        "link" => Odd::Link(kind_of(path)),
+        "comes" => Odd::Comes(path, other),
+        "terminal" => Odd::Terminal(path.parse::<usize>().unwrap_or(0)),
+        "rename" => Odd::Rename,
+        "remove" => Odd::Remove,
+        "full" => Odd::Full,
+        "no_text" => Odd::NoText,
+        _ => Odd::Nothing,
+    }
+}
+
+/// Returns an error kind, as a script names it.
+fn kind_of(name: &str) -> ErrorKind {
+    match name {
+        "denied" => ErrorKind::PermissionDenied,
+        "exists" => ErrorKind::AlreadyExists,
+        "full" => ErrorKind::StorageFull,
+        "lost" => ErrorKind::NotFound,
+        "stale" => ErrorKind::StaleNetworkFileHandle,
+        "unsupported" => ErrorKind::Unsupported,
+        _ => ErrorKind::TimedOut,
     }
 }
 
@@ -116,11 +140,6 @@ fn push_line(page: &mut String, text: &str) -> Result<(), AllocError> {
 
 /// Executes the steps of `script` in order, and fails unless each has its expected result.
 pub fn follow(rt: &HostRuntime, script: &str) -> Result<(), Fail> {
-    follow_oddly(rt, script, Odd::Nothing)
-}
-
-/// The same, on a fake system with the peculiarity `odd`.
-pub fn follow_oddly(rt: &HostRuntime, script: &str, odd: Odd<'_>) -> Result<(), Fail> {
     let mut run: Option<Run<'_>> = None;
     for line in script.lines() {
         let line = line.trim_start();
@@ -129,7 +148,7 @@ pub fn follow_oddly(rt: &HostRuntime, script: &str, odd: Odd<'_>) -> Result<(), 
             if run.expect(word, rest)? {
                 continue;
             }
-            run.check(rt, odd)?;
+            run.check(rt)?;
         }
         run = None;
         match word {
@@ -140,7 +159,7 @@ pub fn follow_oddly(rt: &HostRuntime, script: &str, odd: Odd<'_>) -> Result<(), 
         }
     }
     match &run {
-        Some(run) => run.check(rt, odd),
+        Some(run) => run.check(rt),
         None => Ok(()),
     }
 }
@@ -162,12 +181,17 @@ fn take(rt: &HostRuntime, line: &str, word: &str, rest: &str) -> Result<bool, Fa
             Ok(true)
         }
         "allow" => Ok(fs::set_permissions(rt, path, mode_of(text)).is_ok()),
+        "cut" => {
+            let file = OpenOptions::new().write(true).open(rt, path)?;
+            Ok(file.set_len(number as u64).is_ok())
+        }
         "worked" => put_image(rt, path, &worked(alloc)?.cut(number)),
         "damaged" => put_image(rt, path, &damaged(alloc, number)?),
         "lost" => put_image(rt, path, &lost(alloc)?),
         "first" => put_image(rt, path, &first_of_two(alloc)?),
         "second" => put_image(rt, path, &second_of_two(alloc)?),
-        "records" => put(rt, path, payroll(alloc, b"")?.as_slice()),
+        "second_file" => put_image(rt, path, &second_file(alloc)?),
+        "records" => put(rt, path, payroll(alloc)?.as_slice()),
         "has" => holds(rt, path, bytes_of(alloc, text)?.as_slice()),
         "at" => has_text(rt, path, text),
         "length" => Ok(fs::read(rt, path)?.len() == number),
@@ -186,12 +210,12 @@ fn ends(rt: &HostRuntime, line: &str) -> Result<bool, Fail> {
     let Some((wanted, words)) = line.split_once(": ") else {
         return Err(Fail::from("a step that is none"));
     };
-    let end = end_of(rt, words)?;
-    let told = match end {
-        End::Faulted(fault) => format!(in rt.alloc(); "{}", FaultLine(fault))?,
-        end => format!(in rt.alloc(); "tape: {}\n", end.status())?,
+    let seen = called(rt, words, Odd::Nothing)?;
+    let found = match seen.status {
+        1 => seen.told,
+        status => format!(in rt.alloc(); "tape: {status}\n")?,
     };
-    Ok(told.as_str() == format!(in rt.alloc(); "tape: {wanted}\n")?.as_str())
+    Ok(found.as_str() == format!(in rt.alloc(); "tape: {wanted}\n")?.as_str())
 }
 
 /// Returns `text` with the bytes that it represents.
@@ -210,12 +234,10 @@ fn bytes_of(alloc: Global, text: &str) -> Result<Vec<u8>, Fail> {
     Ok(bytes)
 }
 
-/// Returns permissions in octal digits.
 fn mode_of(text: &str) -> Permissions {
     Permissions::from_mode(u32::from_str_radix(text, 8).unwrap_or(0))
 }
 
-/// Creates a file with contents `bytes`.
 pub fn put(rt: &HostRuntime, path: &str, bytes: &[u8]) -> Result<bool, Fail> {
     let mut file = File::create(rt, path)?;
     file.write_all(bytes)?;
@@ -247,21 +269,11 @@ fn has_text(rt: &HostRuntime, path: &str, text: &str) -> Result<bool, Fail> {
     let (place, text) = text.split_once(' ').unwrap_or((text, ""));
     let place = place.parse::<usize>().unwrap_or(usize::MAX);
     let text = bytes_of(rt.alloc(), text)?;
-    Ok(stands(fs::read(rt, path)?.as_slice(), place, text.as_slice()))
-}
-
-/// Returns whether `bytes` contain `text` at offset `place`.
-pub fn stands(bytes: &[u8], place: usize, text: &[u8]) -> bool {
-    bytes
-        .get(place..)
-        .is_some_and(|rest| rest.starts_with(text))
-}
-
-/// Returns `line` followed by the names of `count` images that do not exist.
-pub fn with_images(alloc: Global, line: &str, count: u16) -> Result<String, AllocError> {
-    let mut line = line.to_string(alloc)?;
-    for _ in 0..count {
-        line.push_str(" lost.tap")?;
-    }
-    Ok(line)
+    let bytes = fs::read(rt, path)?;
+    Ok(
+        bytes
+            .as_slice()
+            .get(place..)
+            .is_some_and(|rest| rest.starts_with(text.as_slice())),
+    )
 }

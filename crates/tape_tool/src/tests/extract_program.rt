@@ -1,15 +1,6 @@
-//! Tests of `extract`: arguments, files, exit statuses.
-use super::calls::{end_of, follow, holds, put, with_images};
-use super::words::words_of;
-use crate::command_line::{Order, call_of};
-use crate::extract::ExtractOrder;
-use crate::fault::{FileFault, ToolFault};
-use crate::program::{End, extract_end};
+//! Tests of `extract` and `stage`: files, and exit statuses.
+use super::calls::{follow, holds, put};
 use std::test::Fail;
-use tape_blocks::Form;
-use tape_core::SinkFault;
-use tape_run::{EngineFault, RunFault};
-use tape_set::Want;
 
 const FILES: &str = "
     worked got.tap
@@ -93,11 +84,6 @@ const FILES: &str = "
     # Invalid command lines of `extract`.
     2: extract
     2: extract ABC001 1 out.txt
-    2: extract ABC001 1 - a.tap
-    2: extract ABC0011 1 out.txt a.tap
-    2: extract ABC001 0 out.txt a.tap
-    2: extract ABC001 10000 out.txt a.tap
-    2: extract ABC001 one out.txt a.tap
     2: extract --form records ABC001 1 out.txt a.tap
 ";
 
@@ -149,61 +135,127 @@ fn what_may_keep_a_tape_is_never_the_output(rt: HostRuntime) -> Result<(), Fail>
     Ok(())
 }
 
-/// Returns whether `order` is the request of `extract AB 9999 out.txt a.tap b.tap`.
-fn is_order(order: &ExtractOrder<'_>) -> bool {
-    let task = &order.task;
-    task.set_id.bytes() == b"AB    ".as_slice()
-        && task.file == 9999
-        && task.form == Form::Lines
-        && task.out == "out.txt"
-        && matches!(order.images.words.as_slice(), ["a.tap", "b.tap"])
-}
+const AGAIN: &str = "
+    # Two copies that complete each other, each named once, and one with a wrong count before a good
+    # one.
+    damaged first_bad.tap 1
+    damaged second_bad.tap 2
+    3: extract ABC001 1 out.txt first_bad.tap second_bad.tap
+    3: extract ABC001 1 out.txt second_bad.tap --again
+    missing out.txt
+    missing .tape-1.part
+    0: extract ABC001 1 out.txt first_bad.tap second_bad.tap --again
+    length out.txt 2025
+    at out.txt 1944 0025 \\20
+    remove a.stage
+    0: extract ABC001 1 out.txt first_bad.tap second_bad.tap --form raw --again --stage a.stage
+    length out.txt 2000
+    length a.stage 2381
+    # The data of the suspect copy is discarded even without a stage.
+    lost miscounted.tap
+    worked counted.tap
+    3: extract ABC001 1 counted.txt miscounted.tap counted.tap
+    3: extract ABC001 1 counted.txt miscounted.tap --again
+    missing counted.txt
+    0: extract ABC001 1 counted.txt miscounted.tap counted.tap --again
+    at counted.txt 810 0011 \\20
+";
 
 #[test]
-fn words_of_extract(rt: HostRuntime) -> Result<(), Fail> {
-    let words = words_of(rt.alloc(), "extract AB 9999 out.txt a.tap b.tap")?;
-    let call = call_of(rt.alloc(), words.as_slice())?;
-    match &call.order {
-        Order::Extract(order) => assert!(rt; is_order(order)),
-        _ => return Err(Fail::from("an order to extract")),
-    }
-    Ok(())
+fn images_are_read_again(rt: HostRuntime) -> Result<(), Fail> {
+    follow(&rt, AGAIN)
 }
 
+const STAGED: &str = "
+    damaged monday.tap 3
+    damaged tuesday.tap 1
+    remove days.stage
+    $ extract ABC001 1 days.txt monday.tap --stage days.stage
+    > REEL 1 BAD ITEM
+    > AWAITS 1 1 3
+    [3]
+    length days.stage 1531
+    missing .tape-1.part
+    0: extract ABC001 1 days.txt tuesday.tap --stage days.stage
+    length days.stage 2381
+    # The frames are in the order of the records: a span, a length, and 80 bytes.
+    at days.stage 256 0\\00\\00\\00P0001 \\20
+    at days.stage 1531 0\\00\\00\\00P0016 \\20
+    at days.stage 2296 0\\00\\00\\00P0025 \\20
+    length days.txt 2025
+    at days.txt 1944 0025 \\20
+    # With a complete stage no image is read.
+    0: extract ABC001 1 days_again.txt lost.tap --stage days.stage
+    length days_again.txt 2025
+    # A stage of the file at its start, and complete: `D` means done; the record format and the
+    # record length follow.
+    worked once.tap
+    remove once.stage
+    3: extract ABC001 1 once.txt lost.tap --stage once.stage
+    length once.stage 256
+    at once.stage 0 O000000000000001TPCK2ABC001
+    at once.stage 128 C000000000000000
+    0: extract ABC001 1 once.txt once.tap --stage once.stage
+    length once.stage 2381
+    at once.stage 0 O000000000000001TPCK2ABC001
+    at once.stage 128 O000000000000002TPCK2ABC001
+    at once.stage 178 D01F00080
+    # A reel that lost a block, before a good reel and alone: none of its data is in the stage.
+    lost doubt.tap
+    worked sure.tap
+    remove doubt.stage
+    3: extract ABC001 1 doubt.txt doubt.tap --stage doubt.stage
+    length doubt.stage 256
+    missing doubt.txt
+    0: extract ABC001 1 doubt.txt doubt.tap sure.tap --stage doubt.stage
+    length doubt.stage 2381
+    length doubt.txt 2025
+    at doubt.txt 810 0011 \\20
+    # A stage of file 1 of the set ABC001, and files that are not stages: all are unchanged.
+    damaged refused.tap 3
+    remove refused.stage
+    3: extract ABC001 1 refused.txt refused.tap --stage refused.stage
+    run fault 5: extract ABC001 2 refused.txt refused.tap --stage refused.stage
+    run fault 5: extract ABC00 1 refused.txt refused.tap --stage refused.stage
+    length refused.tap 2500
+    stage fault 1: extract ABC001 1 refused.txt refused.tap --stage refused.tap
+    length refused.tap 2500
+    file fault 2: extract ABC001 1 refused.txt refused.tap --stage missing/a.stage
+    missing refused.txt
+    # The stage cannot be OUT.
+    length refused.stage 1531
+    2: extract ABC001 1 refused.stage refused.tap --stage refused.stage
+    2: extract ABC001 1 refused.stage refused.tap --stage ./refused.stage
+    file fault 1: extract ABC001 1 refused.stage refused.tap
+    length refused.stage 1531
+    2: extract ABC001 1 new.stage refused.tap --stage new.stage
+    2: extract ABC001 1 ./new.stage refused.tap --stage new.stage
+    missing new.stage
+    # The remains of an unfinished new stage, for example after the disk was full, and a file that
+    # might be a user's.
+    worked unmade.tap
+    put unmade.stage C
+    0: extract ABC001 1 unmade.txt unmade.tap --stage unmade.stage
+    length unmade.stage 2381
+    put unmade.stage C000000000000001TPCK2ABC001
+    0: extract ABC001 1 unmade.txt unmade.tap --stage unmade.stage
+    length unmade.stage 2381
+    fill unmade.stage 256 \\00
+    0: extract ABC001 1 unmade.txt unmade.tap --stage unmade.stage
+    length unmade.stage 2381
+    fill unmade.stage 257 \\00
+    stage fault 1: extract ABC001 1 unmade.txt unmade.tap --stage unmade.stage
+    length unmade.stage 257
+    put unmade.stage C000000000000001TPCK2ABC002
+    stage fault 1: extract ABC001 1 unmade.txt unmade.tap --stage unmade.stage
+    put unmade.stage O00
+    stage fault 1: extract ABC001 1 unmade.txt unmade.tap --stage unmade.stage
+    put unmade.stage Contents
+    stage fault 1: extract ABC001 1 unmade.txt unmade.tap --stage unmade.stage
+    has unmade.stage Contents
+";
+
 #[test]
-fn at_most_256_images(rt: HostRuntime) -> Result<(), Fail> {
-    for (count, wanted) in [(256, End::Incomplete), (257, End::WrongWords)] {
-        let line = with_images(rt.alloc(), "extract ABC001 1 many.txt", count)?;
-        assert!(rt; end_of(&rt, line.as_str())? == wanted, "{count}");
-    }
-    Ok(())
-}
-
-/// The missing part at the start of file 1.
-const START: Want = Want {
-    file: 1,
-    sect: 1,
-    block: 0,
-    part: 0,
-};
-
-/// The results of the library, and how `extract` ends with each.
-const ANSWERS: &[(Result<Option<Want>, EngineFault>, End)] = &[
-    (Ok(Some(START)), End::Incomplete),
-    (Ok(None), End::Done),
-    (
-        Err(EngineFault::WriteFailed),
-        End::Faulted(ToolFault::File(FileFault::WriteFailed)),
-    ),
-    (
-        Err(EngineFault::Run(RunFault::Sink(SinkFault::Failed))),
-        End::Faulted(ToolFault::Run(RunFault::Sink(SinkFault::Failed))),
-    ),
-];
-
-#[test]
-fn ends_of_extract(rt: HostRuntime) {
-    for (row, (answer, end)) in ANSWERS.iter().enumerate() {
-        assert!(rt; extract_end(*answer) == *end, "row {row}");
-    }
+fn stages_and_outputs(rt: HostRuntime) -> Result<(), Fail> {
+    follow(&rt, STAGED)
 }

@@ -1,5 +1,6 @@
-//! The program in a fake system, which provides its arguments and standard input, and records its
-//! output and the files that it opens. Files and memory are those of the real system.
+//! The program in a fake system, which provides its arguments and standard input, an image of one
+//! mark, and records its output and the files that it opens. Files and memory are those of the real
+//! system, except that an image named `FUL001.tap` accepts no bytes.
 use super::words::words_of;
 use crate::program::run_on;
 use std::alloc::{Allocator, Global};
@@ -12,12 +13,6 @@ use std::io::{BufRead, ErrorKind, Input, Lines, Write};
 use std::rt::Runtime;
 use std::test::Fail;
 use std::time::{Clock, Duration};
-
-/// The contents of standard input: an image of one mark.
-const STANDARD_INPUT: &[u8] = b"\0\0\0\0\xff\xff\xff\xff";
-
-/// The end of the path of an image that accepts no bytes.
-const FULL: &str = "/FUL001.tap";
 
 /// A peculiarity of the system: what it refuses, or does in addition.
 #[derive(Clone, Copy)]
@@ -37,6 +32,10 @@ pub enum Odd<'a> {
     Comes(&'a str, &'a str),
     /// Standard error is a terminal, and is full after this number of texts.
     Terminal(usize),
+    /// Standard output accepts nothing.
+    Full,
+    /// No argument is text.
+    NoText,
 }
 
 /// A system with arguments and streams of its own.
@@ -62,26 +61,11 @@ struct Records {
     texts: Cell<usize>,
 }
 
-/// The contents of a file that appears during a run.
-const MINE: &[u8] = b"mine";
-
 impl FakeSystem<'_> {
     /// Fails if the test specifies that looking up `path` fails.
     fn look(&self, path: &str) -> io::Result<()> {
         match self.odd {
             Odd::Look(name, kind) if path == name => Err(io::Error::from(kind)),
-            _ => Ok(()),
-        }
-    }
-
-    /// Does what the test specifies for opening `path`.
-    fn open(&self, path: &str) -> io::Result<()> {
-        match self.odd {
-            Odd::Open(name, kind) if path == name => Err(io::Error::from(kind)),
-            Odd::Comes(name, other) if path == name => {
-                let mut file = File::create(&self.rt, other)?;
-                file.write_all(MINE)
-            }
             _ => Ok(()),
         }
     }
@@ -101,12 +85,17 @@ impl Files for FakeSystem<'_> {
     type Dir = <HostRuntime as Files>::Dir;
 
     fn open_file(&self, how: &OpenOptions, path: &str) -> io::Result<File> {
-        let opened = match self.open(path) {
-            Err(error) => Err(error),
-            Ok(()) if path.ends_with(FULL) => {
+        if let Odd::Comes(name, other) = self.odd
+            && path == name
+        {
+            File::create(&self.rt, other)?.write_all(b"mine")?;
+        }
+        let opened = match self.odd {
+            Odd::Open(name, kind) if path == name => Err(io::Error::from(kind)),
+            _ if path.ends_with("/FUL001.tap") => {
                 OpenOptions::new().write(true).open(&self.rt, "/dev/full")
             }
-            Ok(()) => self.rt.open_file(how, path),
+            _ => self.rt.open_file(how, path),
         };
         note(&self.records.opened, path)?;
         note(
@@ -178,6 +167,9 @@ impl Env for FakeSystem<'_> {
             return Err(FillError::TooLong);
         }
         buf[..bytes.len()].copy_from_slice(bytes);
+        if matches!(self.odd, Odd::NoText) && i > 0 && bytes.len() > 0 {
+            buf[0] = 0xFF;
+        }
         Ok(bytes.len())
     }
 
@@ -204,7 +196,10 @@ impl Clock for FakeSystem<'_> {
 
 impl Print for FakeSystem<'_> {
     fn print<D: Display + Drop>(&self, value: D) -> io::Result<()> {
-        note(&self.records.out, value)
+        match self.odd {
+            Odd::Full => Err(io::Error::from(ErrorKind::StorageFull)),
+            _ => note(&self.records.out, value),
+        }
     }
 
     fn println<D: Display + Drop>(&self, value: D) -> io::Result<()> {
@@ -248,7 +243,7 @@ impl Input for FakeSystem<'_> {
     }
 
     fn reader(&self) -> &'static [u8] {
-        STANDARD_INPUT
+        b"\0\0\0\0\xff\xff\xff\xff"
     }
 }
 
@@ -262,17 +257,21 @@ impl Alloc for FakeSystem<'_> {
 
 impl Runtime for FakeSystem<'_> {}
 
+/// The text that removes the line from the terminal.
+const CLEARED: &str = "\r                                                            \r";
+
 /// The results of a run.
 #[derive(Drop)]
 pub struct Seen {
     pub status: u8,
     pub out: String,
+    /// The texts on standard error. A line that was removed ends with `<`.
     pub told: String,
     pub opened: String,
 }
 
 /// Runs the program with the arguments in `line`, on a system with the peculiarity `odd`.
-pub fn called_oddly(rt: &HostRuntime, line: &str, odd: Odd<'_>) -> Result<Seen, Fail> {
+pub fn called(rt: &HostRuntime, line: &str, odd: Odd<'_>) -> Result<Seen, Fail> {
     let words = words_of(rt.alloc(), line)?;
     let records = Records {
         out: RefCell::new(String::new(rt.alloc())),
@@ -288,21 +287,20 @@ pub fn called_oddly(rt: &HostRuntime, line: &str, odd: Odd<'_>) -> Result<Seen, 
         records: &records,
     };
     let status = run_on(&system, matches!(odd, Odd::Terminal(_)));
-    let Records {
-        out,
-        told,
-        opened,
-        ..
-    } = records;
-    let opened = opened.into_inner();
+    let (opened, texts) = (records.opened.into_inner(), records.told.into_inner());
     // The numbers of the standard streams are checked first.
     let Some(opened) = opened.as_str().strip_prefix("/ ") else {
         return Err(Fail::from("the root is opened first"));
     };
+    let mut told = String::new(rt.alloc());
+    for (number, text) in texts.as_str().split(CLEARED).enumerate() {
+        told.push_str(if number > 0 { "<\n" } else { "" })?;
+        told.push_str(text)?;
+    }
     Ok(Seen {
         status,
-        out: out.into_inner(),
-        told: told.into_inner(),
+        out: records.out.into_inner(),
+        told,
         opened: opened.to_string(rt.alloc())?,
     })
 }

@@ -1,20 +1,31 @@
 //! Tests of whole runs as a caller sees them: exit status, both streams, and the files that are
 //! opened.
-use super::calls::{follow, with_images};
-use super::fake_system::{Odd, Seen, called_oddly};
+use super::calls::follow;
+use super::fake_system::{Odd, called};
+use crate::write::report::say;
+use std::io;
+use std::io::Write;
 use std::test::Fail;
+use tape_label::Field;
+use tape_writer::system::Ended;
 
 const CALLS: &str = "
     worked seen_cut.tap 2288
-    put seen_one.txt AB\\0ACDE\\0A
-    put seen_two.txt F\\0A
-    fill seen_span.bin 290 9
-    put seen_none.txt
-    link seen_link.txt seen_behind.txt
-    folder seen
     first seen1.tap
     second seen2.tap
     fill seen_long.bin 120000 9
+    fill seen_span.bin 290 9
+    put seen_one.txt AB\\0ACDE\\0A
+    put seen_none.txt
+    link seen_link.txt seen_behind.txt
+    $ quit
+    ! error: unrecognized subcommand 'quit'
+    !
+    ! Usage: tape [OPTIONS] <COMMAND>
+    !
+    ! For more information, try '--help'.
+    [2]
+    ?
     $ list --offsets seen_cut.tap
     > 0 88 000001 VOL1 ABC001
     > 88 88 000002 HDR1 PAYROLL           ABC001 0001 0001
@@ -25,14 +36,6 @@ const CALLS: &str = "
     ! tape: image fault 1 at 1884
     [1]
     ? seen_cut.tap
-    $ quit
-    ! error: unrecognized subcommand 'quit'
-    !
-    ! Usage: tape [OPTIONS] <COMMAND>
-    !
-    ! For more information, try '--help'.
-    [2]
-    ?
     # A list of names is enough, but something has to be named.
     $ check
     ! error: name at least one image, or a list of names with --files-from
@@ -67,23 +70,7 @@ const CALLS: &str = "
     > LACKS ABC001 1 1
     [3]
     ? seen2.tap
-    $ survey - --files-from -
-    ! error: standard input can be read only once: '-' is named twice.
-    ! A file of this name is './-'
-    !
-    ! Usage: tape survey [OPTIONS] [IMAGE]...
-    !
-    ! For more information, try '--help'.
-    [2]
-    ?
     # A missing section, and an image that does not exist.
-    $ check seen1.tap lost.tap
-    > IMAGE 1 12 MARKED
-    > IMAGE 2 0 NOT OPENED
-    > SECTION ABC001 1 1 ABC001 3 GOOD
-    > LACKS ABC001 1 2
-    [3]
-    ? seen1.tap lost.tap?
     $ survey lost.tap seen1.tap
     > lost.tap                  not opened
     > seen1.tap                 ok           volume ABC001, 1 section
@@ -102,25 +89,6 @@ const CALLS: &str = "
     > REEL 3 COMPLETE
     > COMPLETE 25
     ? .tape-1.part lost.tap? seen1.tap seen2.tap .
-    # If an output cannot be created, first a new file and then writing in place are tried, each
-    # once.
-    $ extract ABC001 1 missing/a.txt seen1.tap seen2.tap
-    > REEL 1 SECTION DONE
-    > REEL 2 COMPLETE
-    ! tape: file fault 2
-    [1]
-    ? missing/.tape-1.part? seen1.tap seen2.tap missing/a.txt?
-    $ write . SEE 100000 ONE=seen_one.txt TWO=seen_two.txt
-    > VOLUME SEE001 876
-    > FILES 2 VOLUMES 1
-    $ unpack seen SEE001.tap
-    > FILE SEE001 1 COMPLETE 2 seen/SEE001.1.ONE
-    > FILE SEE001 2 COMPLETE 1 seen/SEE001.2.TWO
-    > TOTAL 2 complete 0 existing 0 incomplete 0 in conflict 0 not found 0 failed
-    $ write . SES 1042 SPAN=seen_span.bin --format S --block 18 --form raw
-    > VOLUME SES001 1032
-    > VOLUME SES002 486
-    > FILES 1 VOLUMES 2
     # Blocks that are longer than the buffer, on one volume of more than 100,000 bytes.
     $ write . SEL 150000 LONG=seen_long.bin --format S --block 9999 --form raw
     > VOLUME SEL001 120642
@@ -128,23 +96,32 @@ const CALLS: &str = "
     $ extract SEL001 1 seen_again.bin SEL001.tap --form raw
     > REEL 1 COMPLETE
     > COMPLETE 1
-    # An image that accepts no bytes, and a file without records whose output is a link.
-    $ write . FUL 100000 ONE=seen_one.txt
-    ! tape: file fault 4
-    [1]
+    # A file on two volumes.
+    $ write . SES 1042 SPAN=seen_span.bin --format S --block 18 --form raw
+    > VOLUME SES001 1032
+    > VOLUME SES002 486
+    > FILES 1 VOLUMES 2
+    # A file without records whose output is a link.
     $ write . SEN 100000 NOTHING=seen_none.txt
     > VOLUME SEN001 460
     > FILES 1 VOLUMES 1
     $ extract SEN001 1 seen_link.txt SEN001.tap
     > REEL 1 COMPLETE
     > COMPLETE 0
+    # An output that cannot be created: first a new file and then writing in place are tried.
+    $ extract ABC001 1 missing/a.txt seen1.tap seen2.tap
+    > REEL 1 SECTION DONE
+    > REEL 2 COMPLETE
+    ! tape: file fault 2
+    [1]
+    ? missing/.tape-1.part? seen1.tap seen2.tap missing/a.txt?
     $ init . SEI 11
     > INIT 11
-    $ init . SEI 1
-    ! tape: file fault 1
-    [1]
     # An image that accepts no bytes is not reported as created.
     $ init . FUL 1
+    ! tape: file fault 4
+    [1]
+    $ write . FUL 100000 ONE=seen_one.txt
     ! tape: file fault 4
     [1]
     # The contents of the files after these runs.
@@ -182,29 +159,52 @@ const READERS: &[(&str, &str, &str)] = &[
     ),
 ];
 
-/// Returns whether the run opened the files `first` and then tried to open 300 images, and its
-/// output ends with `last`.
-fn looks_for_all(seen: &Seen, first: &str, last: &str) -> bool {
-    let (opened, out) = (seen.opened.as_str(), seen.out.as_str());
-    let looked_for = opened.len() == first.len() + 300 * "lost.tap? ".len();
-    seen.status == 3 && opened.starts_with(first) && looked_for && out.ends_with(last)
-}
-
-/// Runs the program with the arguments in `line`, 256 further images and the images of a list.
-fn called_with_all(rt: &HostRuntime, line: &str) -> Result<Seen, Fail> {
-    let mut line = with_images(rt.alloc(), line, 256)?;
-    line.push_str(" --files-from many.names")?;
-    called_oddly(rt, line.as_str(), Odd::Nothing)
-}
-
-/// All images are read, however many are named by arguments and a list.
+/// All images are read, however many are named by arguments and a list. Arguments may name 256.
 #[test]
 fn many_images(rt: HostRuntime) -> Result<(), Fail> {
-    follow(&rt, "folder many")?;
-    follow(&rt, "fill many.names 44 lost.tap\\0A")?;
+    follow(&rt, "folder many\nfill many.names 44 lost.tap\\0A")?;
     for (line, first, last) in READERS {
-        let seen = called_with_all(&rt, line)?;
-        assert!(rt; looks_for_all(&seen, first, last), "{line}: {}", seen.out);
+        let mut line = line.to_string(rt.alloc())?;
+        for _ in 0..256 {
+            line.push_str(" lost.tap")?;
+        }
+        line.push_str(" --files-from many.names")?;
+        let seen = called(&rt, line.as_str(), Odd::Nothing)?;
+        let (opened, out) = (seen.opened.as_str(), seen.out.as_str());
+        let looked_for = opened.len() == first.len() + 300 * "lost.tap? ".len();
+        let is_last = opened.starts_with(*first) && looked_for && out.ends_with(*last);
+        assert!(rt; seen.status == 3 && is_last, "{line}: {out}");
+        line.push_str(" lost.tap")?;
+        assert_eq!(rt; called(&rt, line.as_str(), Odd::Nothing)?.status, 2);
     }
+    Ok(())
+}
+
+/// A writer that accepts all bytes, and fails at each flush.
+#[derive(Drop)]
+struct Unflushed {
+    taken: Vec<u8>,
+}
+
+impl Write for Unflushed {
+    fn write(&mut self, buf: &[u8]) -> io::Result<usize> {
+        self.taken.extend_from_slice(buf)?;
+        Ok(buf.len())
+    }
+
+    fn flush(&mut self) -> io::Result<()> {
+        Err(io::Error::from(io::ErrorKind::Other))
+    }
+}
+
+/// The lines of `write` are printed, and nothing more, even if flushing them fails.
+#[test]
+fn a_failed_flush(rt: HostRuntime) -> Result<(), Fail> {
+    let taken = Vec::new(rt.alloc());
+    let mut shut = Unflushed { taken };
+    let volume = Field::of_bytes(*b"ABC001");
+    let is_told = say(&mut shut, 1, &[Ended { volume, size: 2484 }]).is_err();
+    let wanted = b"VOLUME ABC001 2484\nFILES 1 VOLUMES 1\n".as_slice();
+    assert!(rt; is_told && shut.taken.as_slice() == wanted);
     Ok(())
 }

@@ -1,9 +1,6 @@
-//! Tests of `unpack`.
-use super::calls::{follow, put};
-use super::image::{END, Image, MARK};
-use super::volumes::{EOF2, FIXED, VOL1, labels};
-use crate::unpack::last_line::LastLine;
-use std::alloc::{AllocError, Global};
+//! Tests of `unpack` and `salvage`.
+use super::calls::follow;
+use crate::unpack::report::LastLine;
 use std::io::Write;
 use std::test::Fail;
 
@@ -114,19 +111,6 @@ fn every_file_is_unpacked(rt: HostRuntime) -> Result<(), Fail> {
     follow(&rt, UNPACKED)
 }
 
-/// Returns a volume with only the second file of its set, which has no records.
-fn second_alone(alloc: Global) -> Result<Image, AllocError> {
-    let mut image = Image::new(alloc);
-    let header = "HDR1LEDGER           ABC00100010002000100 00000 00000 000000";
-    let trailer = "EOF1LEDGER           ABC00100010002000100 00000 00000 000000";
-    labels(&mut image, &[VOL1, header, FIXED])?;
-    image.word(&MARK)?;
-    labels(&mut image, &[trailer, EOF2])?;
-    image.word(&MARK)?;
-    image.word(&END)?;
-    Ok(image)
-}
-
 /// The line that is remembered is not truncated.
 #[test]
 fn the_last_line_is_whole(rt: HostRuntime) -> Result<(), Fail> {
@@ -177,6 +161,7 @@ const CHOSEN: &str = "
     > TOTAL 0 complete 0 existing 0 incomplete 0 in conflict 1 not found 0 failed
     [3]
     # A number without a label is not reported if other files are chosen.
+    second_file second_only.tap
     $ unpack chosen second_only.tap --file LEDGER
     > FILE ABC001 2 COMPLETE 0 chosen/ABC001.2.LEDGER
     > TOTAL 1 complete 0 existing 0 incomplete 0 in conflict 0 not found 0 failed
@@ -193,21 +178,59 @@ const CHOSEN: &str = "
     missing chosen1/ABC001.1.PAYROLL.stage
     2: unpack chosen --set '' CHO001.tap
     2: unpack chosen --set TOOLONG CHO001.tap
-";
-
-const SECOND: &str = "
     folder second
-    3: unpack second second_alone.tap
+    3: unpack second second_only.tap
     length second/ABC001.2.LEDGER 0
     missing second/ABC001.1.LEDGER
 ";
 
 #[test]
 fn files_are_chosen(rt: HostRuntime) -> Result<(), Fail> {
-    let image = second_alone(rt.alloc())?;
-    for path in ["second_only.tap", "second_alone.tap"] {
-        put(&rt, path, image.bytes.as_slice())?;
-    }
-    follow(&rt, CHOSEN)?;
-    follow(&rt, SECOND)
+    follow(&rt, CHOSEN)
+}
+
+const SALVAGED: &str = "
+    # If nothing is missing, the output is the complete file, and an existing file is never
+    # overwritten.
+    worked salvage1.tap
+    0: salvage ABC001 1 salvaged.txt salvage1.tap
+    length salvaged.txt 2025
+    missing salvaged.txt.part
+    put salvaged.old kept
+    file fault 1: salvage ABC001 1 salvaged.old salvage1.tap
+    has salvaged.old kept
+    0: salvage ABC001 1 salvaged.raw salvage1.tap --form raw
+    length salvaged.raw 2000
+    0: salvage ABC001 1 salvaged.blocks salvage1.tap --form blocks
+    length salvaged.blocks 2000
+    # The records of the readable blocks are recovered: the first ten, and the last ten.
+    damaged salvage2.tap 2
+    3: salvage ABC001 1 salvaged.two salvage2.tap
+    length salvaged.two 1620
+    at salvaged.two 1539 0025 \\20
+    # The other copy has all blocks of the section.
+    worked salvage3.tap
+    0: salvage ABC001 1 salvaged.three salvage2.tap salvage3.tap
+    length salvaged.three 2025
+    # If a block is lost, everything in the other blocks is recovered.
+    lost salvage4.tap
+    3: salvage ABC001 1 salvaged.four salvage4.tap
+    length salvaged.four 1215
+    # Images that cannot be opened, and files that no image contains.
+    worked salvage5.tap
+    3: salvage ABC001 2 salvaged.none salvage5.tap
+    length salvaged.none 0
+    3: salvage ABC001 1 salvaged.lost lost.tap
+    file fault 2: salvage ABC001 1 missing/salvaged.txt salvage5.tap
+    2: salvage
+    2: salvage ABC001 1 salvaged.word
+    2: salvage ABC001 1 - x.tap
+    2: salvage ABC001 1 salvaged.word x.tap --form tap
+    missing salvaged.word
+    0: salvage --help
+";
+
+#[test]
+fn files_are_salvaged(rt: HostRuntime) -> Result<(), Fail> {
+    follow(&rt, SALVAGED)
 }

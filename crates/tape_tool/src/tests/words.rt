@@ -1,6 +1,5 @@
 //! Tests of command lines.
-use crate::command_line::{Order, call_of};
-use crate::write::words::WriteOrder;
+use crate::command_line::call_of;
 use std::alloc::{AllocError, Global};
 use std::test::Fail;
 
@@ -8,16 +7,11 @@ use std::test::Fail;
 /// argument.
 pub fn words_of(alloc: Global, line: &str) -> Result<Vec<String>, AllocError> {
     let mut words = Vec::new(alloc);
-    push_word(alloc, &mut words, "out/tape_tool")?;
+    words.push(String::from_str(alloc, "out/tape_tool")?)?;
     for word in line.split_whitespace() {
-        push_word(alloc, &mut words, if word == "''" { "" } else { word })?;
+        words.push(String::from_str(alloc, if word == "''" { "" } else { word })?)?;
     }
     Ok(words)
-}
-
-fn push_word(alloc: Global, words: &mut Vec<String>, word: &str) -> Result<(), AllocError> {
-    words.push(word.to_string(alloc)?)?;
-    Ok(())
 }
 
 /// Command lines that run no command, each after its exit status, and parts of the message.
@@ -111,46 +105,6 @@ fn help_and_mistakes(rt: HostRuntime) -> Result<(), Fail> {
                 assert!(rt; found.as_str() == status, "{line}: {said}");
             }
         }
-    }
-    Ok(())
-}
-
-/// Capacities, in bytes.
-const CAPACITIES: &[(&str, Option<u32>)] = &[
-    ("100000", Some(100_000)),
-    ("+100000", Some(100_000)),
-    ("0", Some(0)),
-    ("9K", Some(9_216)),
-    ("40M", Some(41_943_040)),
-    ("1G", Some(1_073_741_824)),
-    ("3G", Some(3_221_225_472)),
-    ("4294967295", Some(4_294_967_295)),
-    ("4294967296", None),
-    ("4194303K", Some(4_294_966_272)),
-    ("4194304K", None),
-    ("4G", None),
-    ("K", None),
-    ("1k", None),
-    ("1KB", None),
-    ("1KK", None),
-    ("1.5M", None),
-    ("-1K", None),
-    ("''", None),
-];
-
-#[test]
-fn capacities(rt: HostRuntime) -> Result<(), Fail> {
-    for (text, bytes) in CAPACITIES {
-        let line = format!(in rt.alloc(); "write . ABC {text} A=B")?;
-        let words = words_of(rt.alloc(), line.as_str())?;
-        let found = match call_of(rt.alloc(), words.as_slice()) {
-            Ok(call) => match call.order {
-                Order::Write(WriteOrder { capacity, .. }) => Some(capacity),
-                _ => None,
-            },
-            Err(_) => None,
-        };
-        assert!(rt; found == *bytes, "{text}");
     }
     Ok(())
 }

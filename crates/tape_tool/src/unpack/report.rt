@@ -1,18 +1,18 @@
 //! The report of `unpack`: its lines, and how many files they were about.
 
 use super::UnpackOrder;
-use super::last_line::LastLine;
 use crate::diagnostics::FaultLine;
 use crate::fault::{FileFault, ToolFault};
 use crate::host::Host;
 use crate::program::End;
+use arrayvec::ArrayVec;
 use std::alloc::Global;
-use std::fs;
 use std::io::Write;
+use std::{fs, io};
 use tape_label::Field;
 use tape_run::{
-    FileChoice, FoundFiles, Notice, SetFile, Tally, UnpackOutcome, file_line, is_of_set, is_read,
-    means, notice_line, report_file, report_numbers, total_line, write_text,
+    FileChoice, FoundFiles, Notice, SetFile, Tally, UnpackOutcome, is_of_set, is_read, means,
+    notice_line, report_file, report_numbers, total_line, write_text,
 };
 use tape_writer::system::found;
 
@@ -43,13 +43,8 @@ pub fn report_gap<P: Write>(
     if !is_asked || first >= file.file {
         return Ok(true);
     }
-    report_numbers(
-        &mut lines.out,
-        &mut lines.tally,
-        &file.set_id,
-        first,
-        file.file,
-    )?;
+    let Lines { out, tally, .. } = lines;
+    report_numbers(out, tally, &file.set_id, first, file.file)?;
     Ok(false)
 }
 
@@ -122,20 +117,6 @@ pub fn tell<P: Write>(
     Ok(end)
 }
 
-/// Prints another line about a file that was counted before, and ends like this.
-pub fn tell_more<P: Write>(
-    file: &SetFile,
-    outcome: UnpackOutcome,
-    details: &[u8],
-    path: &str,
-    end: End,
-    lines: &mut Lines<P>,
-) -> Ended {
-    let line = file_line(lines.alloc, file, outcome, details, path)?;
-    write_text(&mut lines.out, line.as_slice())?;
-    Ok(end)
-}
-
 /// Reports that a file failed, and with which fault.
 pub fn tell_failed<P: Write>(
     file: &SetFile,
@@ -175,4 +156,49 @@ pub fn listed<R: Host>(
     };
     let _ = write!(last, "LACKS {sect}\n");
     Ok(End::Incomplete)
+}
+
+/// A writer that remembers the last line, as far as its buffer has room.
+#[derive(Drop)]
+pub struct LastLine {
+    text: ArrayVec<u8, 256>,
+    ended: bool,
+}
+
+impl LastLine {
+    /// Creates a writer to which nothing was written.
+    pub fn new() -> LastLine {
+        LastLine {
+            text: ArrayVec::new(),
+            ended: false,
+        }
+    }
+
+    /// Returns the line, without its line feed.
+    pub fn text(&self) -> &[u8] {
+        &self.text
+    }
+
+    fn put(&mut self, byte: u8) {
+        if self.ended {
+            self.text.clear();
+        }
+        self.ended = byte == b'\n';
+        if !self.ended {
+            let _ = self.text.try_push(byte);
+        }
+    }
+}
+
+impl Write for LastLine {
+    fn write(&mut self, buf: &[u8]) -> io::Result<usize> {
+        for byte in buf {
+            self.put(*byte);
+        }
+        Ok(buf.len())
+    }
+
+    fn flush(&mut self) -> io::Result<()> {
+        Ok(())
+    }
 }

@@ -1,9 +1,8 @@
 //! Recovers files from images into a directory.
 
 use super::UnpackOrder;
-use super::last_line::LastLine;
 use super::report::{
-    Ended, Lines, after_word, end_report, listed, report_gap, tell, tell_failed, tell_more,
+    Ended, LastLine, Lines, after_word, end_report, listed, report_gap, tell, tell_failed,
 };
 use super::salvaged::Salvaged;
 use crate::explain::FaultSite;
@@ -12,9 +11,8 @@ use crate::fault::{FileFault, OUT_OF_MEMORY, ToolFault};
 use crate::help;
 use crate::host::{Host, Progress};
 use crate::images::{Image, Images, names_from, names_of};
-use crate::left::remove;
 use crate::program::{End, check_end};
-use crate::refusal::Refusal;
+use crate::refusal::{Refusal, remove};
 use crate::staging::session_in;
 use crate::words::set_id_of;
 use std::alloc::{AllocError, Global};
@@ -22,17 +20,19 @@ use std::io::{BufWriter, Write};
 use std::{fs, io};
 use tape_run::{
     Content, FileChoice, FoundFiles, Mounted, SalvageTask, SetFile, Tally, UnpackOutcome,
-    file_name, find_files, flush, set_of,
+    file_line, file_name, find_files, flush, set_of, write_text,
 };
 use tape_writer::system::found;
 
-/// The source of the files: the images by their names, what was found on them, and the image that
-/// stays open from file to file.
+/// What a run unpacks, and from where: the images by their names, what was found on them, and the
+/// image that stays open from file to file.
 #[derive(Drop)]
-struct Source<'n, D> {
+struct Source<'n, R: Progress> {
+    rt: &'n R,
+    order: &'n UnpackOrder<'n>,
     names: &'n [&'n str],
     met: &'n FoundFiles,
-    mounted: Option<Mounted<D>>,
+    mounted: Option<Mounted<Image<R>>>,
 }
 
 /// The paths of an unpacked file and of its stage.
@@ -64,7 +64,14 @@ pub fn unpack<'a, R: Progress>(
         Ok(met) => met,
         Err(fault) => return Err(Refusal::Faulted(ToolFault::Run(fault))),
     };
-    let end = match unpack_all(rt, order, names, &met, &mut lines) {
+    let source = &mut Source {
+        rt,
+        order,
+        names,
+        met: &met,
+        mounted: None,
+    };
+    let end = match unpack_all(source, &mut lines) {
         Ok(end) => end,
         Err(fault) => End::Faulted(fault),
     };
@@ -85,29 +92,19 @@ fn is_folder<R: Host>(rt: &R, path: &str) -> Result<(), Refusal> {
 
 /// Unpacks the chosen files, and reports the images that were not read to their end, and counts. If
 /// a file fails, the others are still tried: the run ends with the first such fault.
-fn unpack_all<'n, R: Progress, P: Write>(
-    rt: &R,
-    order: &'n UnpackOrder<'n>,
-    names: &'n [&'n str],
-    met: &'n FoundFiles,
-    lines: &mut Lines<P>,
-) -> Ended {
+fn unpack_all<R: Progress, P: Write>(source: &mut Source<'_, R>, lines: &mut Lines<P>) -> Ended {
+    let (order, names, met) = (source.order, source.names, source.met);
     let files = met.files.as_slice();
     let choice = FileChoice {
         set_id: order.set.and_then(set_id_of),
         words: order.files.as_slice(),
-    };
-    let shelf = &mut Source {
-        names,
-        met,
-        mounted: None,
     };
     let mut all = met.whole && !files.is_empty();
     let mut failed = None;
     let mut before = None;
     for file in files {
         all = report_gap(&choice, before, file, lines)? && all;
-        match unpack_file(rt, order, &choice, shelf, file, lines)? {
+        match unpack_file(source, &choice, file, lines)? {
             End::Done => {}
             End::Incomplete => all = false,
             end => failed = failed.or(Some(end)),
@@ -120,10 +117,8 @@ fn unpack_all<'n, R: Progress, P: Write>(
 
 /// Unpacks `file` if it is chosen, or only looks what would become of it, and prints the outcome.
 fn unpack_file<R: Progress, P: Write>(
-    rt: &R,
-    order: &UnpackOrder<'_>,
+    source: &mut Source<'_, R>,
     choice: &FileChoice<'_>,
-    shelf: &mut Source<'_, Image<R>>,
     file: &SetFile,
     lines: &mut Lines<P>,
 ) -> Ended {
@@ -131,18 +126,12 @@ fn unpack_file<R: Progress, P: Write>(
         return Ok(End::Done);
     }
     if file.differs {
-        return tell(
-            file,
-            UnpackOutcome::Conflict,
-            b"",
-            "",
-            End::Incomplete,
-            lines,
-        );
+        let (conflict, end) = (UnpackOutcome::Conflict, End::Incomplete);
+        return tell(file, conflict, b"", "", end, lines);
     }
     let name = file_name(&file.set_id, file.file, &file.file_id);
-    let paths = &paths_of(rt.alloc(), order.folder, &name)?;
-    unpack_to(rt, order, shelf, file, paths, lines)
+    let paths = &paths_of(source.rt.alloc(), source.order.folder, &name)?;
+    unpack_to(source, file, paths, lines)
 }
 
 /// Returns the paths of the file named `name` in directory `folder`.
@@ -159,21 +148,20 @@ fn paths_of(alloc: Global, folder: &str, name: &[u8]) -> Result<Paths, AllocErro
 
 /// Unpacks a file to `paths`, unless a file with its name exists.
 fn unpack_to<R: Progress, P: Write>(
-    rt: &R,
-    order: &UnpackOrder<'_>,
-    shelf: &mut Source<'_, Image<R>>,
+    source: &mut Source<'_, R>,
     file: &SetFile,
     paths: &Paths,
     lines: &mut Lines<P>,
 ) -> Ended {
     let (out, stage) = (paths.out.as_str(), paths.stage.as_str());
     let mut last = LastLine::new();
-    let done = if order.list {
-        listed(rt, file, out, &mut last)
+    let is_list = source.order.list;
+    let done = if is_list {
+        listed(source.rt, file, out, &mut last)
     } else {
-        unpacked(rt, order, shelf, file, paths, &mut last)
+        unpacked(source, file, paths, &mut last)
     };
-    let (outcome, path, end) = match (done, order.list) {
+    let (outcome, path, end) = match (done, is_list) {
         (Ok(end @ End::Done), false) => (UnpackOutcome::Complete, out, end),
         (Ok(end @ End::Done), true) => (UnpackOutcome::Ready, out, end),
         (Ok(end), false) => (UnpackOutcome::Awaits, stage, end),
@@ -184,8 +172,8 @@ fn unpack_to<R: Progress, P: Write>(
         (Err(fault), _) => return tell_failed(file, out, fault, lines),
     };
     let end = tell(file, outcome, after_word(last.text()), path, end, lines)?;
-    if order.salvage && outcome == UnpackOutcome::Awaits {
-        return salvage_file(rt, order, shelf, file, out, end, lines);
+    if source.order.salvage && outcome == UnpackOutcome::Awaits {
+        return salvage_file(source, file, out, end, lines);
     }
     Ok(end)
 }
@@ -193,14 +181,12 @@ fn unpack_to<R: Progress, P: Write>(
 /// Recovers a file, unless something has its name, and removes the stage of a complete one, since
 /// the file then contains all that the stage had.
 fn unpacked<R: Progress>(
-    rt: &R,
-    order: &UnpackOrder<'_>,
-    shelf: &mut Source<'_, Image<R>>,
+    source: &mut Source<'_, R>,
     file: &SetFile,
     paths: &Paths,
     last: &mut LastLine,
 ) -> Result<End, ToolFault> {
-    let stage = paths.stage.as_str();
+    let (rt, stage) = (source.rt, paths.stage.as_str());
     if found(fs::symlink_metadata(rt, paths.out.as_str()))?.is_some() {
         return Err(ToolFault::File(FileFault::Exists));
     }
@@ -209,12 +195,12 @@ fn unpacked<R: Progress>(
         Some(there) if !there.is_file() => return Err(ToolFault::File(FileFault::NotOpened)),
         there => there.is_some(),
     };
-    match recover(rt, order, shelf, file, paths, is_staged, last)? {
+    match recover(source, file, paths, is_staged, last)? {
         End::Faulted(fault) => Err(fault),
         end => {
             if end == End::Done {
                 remove(rt, stage);
-                if order.salvage {
+                if source.order.salvage {
                     Salvaged::of(rt.alloc(), paths.out.as_str())?.remove(rt)?;
                 }
             }
@@ -226,17 +212,16 @@ fn unpacked<R: Progress>(
 /// Writes the readable records of an incomplete file and a report of its gaps, and prints a line
 /// about them. Reads the images that may have blocks of its set.
 fn salvage_file<R: Progress, P: Write>(
-    rt: &R,
-    order: &UnpackOrder<'_>,
-    shelf: &Source<'_, Image<R>>,
+    source: &Source<'_, R>,
     file: &SetFile,
     out: &str,
     end: End,
     lines: &mut Lines<P>,
 ) -> Ended {
+    let rt = source.rt;
     let salvaged = Salvaged::of(rt.alloc(), out)?;
     let mut names = Vec::new(rt.alloc());
-    for (name, image) in shelf.names.iter().zip(shelf.met.images.as_slice()) {
+    for (name, image) in source.names.iter().zip(source.met.images.as_slice()) {
         if set_of(image).is_none_or(|set_id| set_id == file.set_id) && names.push(*name).is_err() {
             return Err(OUT_OF_MEMORY);
         }
@@ -245,7 +230,7 @@ fn salvage_file<R: Progress, P: Write>(
         set_id: file.set_id,
         file: file.file,
         content: Content::Records,
-        form: order.form,
+        form: source.order.form,
     };
     let mut last = LastLine::new();
     let outcome = match salvaged.write(rt, &task, names.as_slice(), &mut last) {
@@ -259,16 +244,16 @@ fn salvage_file<R: Progress, P: Write>(
         UnpackOutcome::Exists => b"",
         _ => after_word(last.text()),
     };
-    tell_more(file, outcome, details, salvaged.path(), end, lines)
+    let line = file_line(rt.alloc(), file, outcome, details, salvaged.path())?;
+    write_text(&mut lines.out, line.as_slice())?;
+    Ok(end)
 }
 
 /// Recovers a file. If all its sections are intact, reads the images that have them once. Any other
 /// file, or one that is still incomplete then, is recovered on its stage, in passes. `last`
 /// remembers the last line of either.
 fn recover<R: Progress>(
-    rt: &R,
-    order: &UnpackOrder<'_>,
-    shelf: &mut Source<'_, Image<R>>,
+    source: &mut Source<'_, R>,
     file: &SetFile,
     paths: &Paths,
     is_staged: bool,
@@ -278,18 +263,19 @@ fn recover<R: Progress>(
         set_id: file.set_id,
         file: file.file,
         out: paths.out.as_str(),
-        form: order.form,
+        form: source.order.form,
         stage: None,
         again: false,
     };
     if file.lacks.is_none() && !is_staged {
-        let images = &mut Images::new(rt, shelf.names);
-        let locations = &shelf.met.locations;
-        let end = extract_whole(rt, &at_once, images, &mut shelf.mounted, locations, last);
+        let rt = source.rt;
+        let images = &mut Images::new(rt, source.names);
+        let locations = &source.met.locations;
+        let end = extract_whole(rt, &at_once, images, &mut source.mounted, locations, last);
         if end != Ok(End::Incomplete) {
             if end != Ok(End::Done) {
                 // Nothing is proved about an image at which a fault occurred.
-                shelf.mounted = None;
+                source.mounted = None;
             }
             return end;
         }
@@ -298,20 +284,20 @@ fn recover<R: Progress>(
         again: true,
         ..at_once
     };
-    recover_on(rt, shelf, &in_passes, paths.stage.as_str(), last)
+    recover_on(source, &in_passes, paths.stage.as_str(), last)
 }
 
 /// Recovers a file on the stage at `path` from the images that may have its missing parts.
-fn recover_on<'a, R: Progress>(
-    rt: &'a R,
-    shelf: &Source<'_, Image<R>>,
-    task: &Task<'a>,
+fn recover_on<R: Progress>(
+    source: &Source<'_, R>,
+    task: &Task<'_>,
     path: &str,
     last: &mut LastLine,
 ) -> Result<End, ToolFault> {
+    let rt = source.rt;
     let mut session = session_in(rt, path, task.set_id, task.file)?;
     let names = match session.want() {
-        Some(want) => names_from(rt.alloc(), shelf.names, shelf.met, task.set_id, want)?,
+        Some(want) => names_from(rt.alloc(), source.names, source.met, task.set_id, want)?,
         None => Vec::new(rt.alloc()),
     };
     let images = &mut Images::new(rt, names.as_slice());

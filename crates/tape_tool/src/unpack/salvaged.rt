@@ -4,14 +4,13 @@
 
 ghost use Rattle.std.specs.Prelude.{None};
 
-use super::last_line::LastLine;
+use super::report::LastLine;
 use crate::extract::{Draft, DraftFile, HELD};
 use crate::fault::{FileFault, ToolFault};
 use crate::host::{Host, Progress};
 use crate::images::Images;
-use crate::left::remove;
 use crate::program::{End, end_of};
-use crate::refusal::{FileId, open};
+use crate::refusal::{FileId, open, remove};
 use hex::encode;
 use sha2::{Digest, Sha256};
 use std::alloc::{AllocError, Global};
@@ -25,7 +24,6 @@ use tape_writer::system::found;
 /// line feed.
 const SUMS: usize = 135;
 
-/// The maximum number of bytes read at once.
 const PIECE: usize = 4_096;
 
 /// The paths of the salvaged records and of their report.

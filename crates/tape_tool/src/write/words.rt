@@ -13,7 +13,6 @@ use tape_blocks::Form;
 use tape_label::Format;
 use tape_writer::Prefix;
 
-/// The names of record formats.
 const FORMATS: &[&str] = &["F", "D", "S"];
 
 /// The maximum of a block length and a record length.
@@ -35,13 +34,10 @@ pub struct WriteOrder<'a> {
     pub form: Form,
 }
 
-/// The `write` command and its arguments.
-pub const WRITE: CommandSpec = CommandSpec {
+pub const WRITE: &CommandSpec = &CommandSpec {
     name: "write",
-    called: "tape write",
     about: help::ABOUT_WRITE,
     after_help: help::AFTER_WRITE,
-    usage: None,
     words: &[
         Word("DIR", Kind::Text, help::FOLDER),
         Word("PRE", Kind::Text, help::PREFIX),
@@ -64,7 +60,6 @@ pub const WRITE: CommandSpec = CommandSpec {
     ],
 };
 
-/// Returns the request in `matches`, the arguments of `write`.
 pub fn write_order<'a>(alloc: Global, matches: &ArgMatches<'a>) -> Result<WriteOrder<'a>, Refusal> {
     let prefix = prefix_of(matches)?;
     let Some(capacity) = size_of(text_of(matches, "CAPACITY")) else {

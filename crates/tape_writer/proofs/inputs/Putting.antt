@@ -1,8 +1,7 @@
 -- Records that are written one after another, until no volume is left.
 use Rattle.tape_writer.proofs.Words.{◌≡◌, ℕ, List, [], ◌∷◌, ◌++◌, Bool, true, false, Option, Some}
 use Rattle.tape_writer.proofs.Words.{None, refl, sym, ap, subst, ◌∙◌, append_assoc, ◌≤◌, length}
-use Rattle.tape_writer.proofs.Words.{arith, IfSome, AllByRecursion, every, IfKnown, ◌+◌, ◌<◌, map}
-use Rattle.tape_writer.proofs.Words.{drop, get_or, drop_more, map-append, Head1, Shape}
+use Rattle.tape_writer.proofs.Words.{arith, IfSome, AllByRecursion, every, IfKnown}
 use Rattle.std.proofs.Common.{append-nil}
 use Rattle.tape_writer.proofs.{Volumes.all_push, Calls.with_last, Last.rose_from}
 use Rattle.tape_writer.proofs.inputs.Filing.{in_input, known_all}
@@ -10,7 +9,7 @@ use Rattle.tape_writer.specs.declared.{course.Opened.Opened, inputs.cut.Cut.Cut}
 use Rattle.tape_writer.specs.declared.{fault.WriteFault.WriteFault}
 use Rattle.tape_writer.specs.declared.{fault.WriteFault.TheVariants.Device, fault.SetFault.SetFault}
 use Rattle.tape_writer.specs.declared.{fault.SetFault.TheVariants.Write}
-use Rattle.tape_writer.specs.Told.{Told, with_record, with_file}
+use Rattle.tape_writer.specs.Told.{Told, with_record}
 use Rattle.tape_writer.specs.Tapes.{Tapes, Failures, Grows, Rose}
 use Rattle.tape_writer.specs.{ToldFiles.with_records, Records.to_come, Records.records_of}
 use Rattle.tape_writer.specs.{Records.given, State.SetState, State.IsOutOfVolumes, LeftOf.GaveUp}

@@ -81,7 +81,6 @@ impl<'a, R: Host> ImageFile<'a, R> {
         Error::from(ErrorKind::Other)
     }
 
-    /// Returns the path of the file.
     fn path(&self) -> Result<String, SystemFault> {
         match image_path(self.rt.alloc(), self.folder, self.prefix, self.number) {
             Ok(path) => Ok(path),
@@ -99,15 +98,12 @@ impl<'a, R: Host> ImageFile<'a, R> {
         let Ok(room) = Vec::with_capacity(self.rt.alloc(), ROOM) else {
             return Err(NO_MEMORY);
         };
-        self.file = Some(WriteBehind::over(room, self.open()?));
-        Ok(())
-    }
-
-    /// Creates the file, or opens the existing one if it is a blank volume.
-    fn open(&self) -> Result<File, SystemFault> {
         let path = self.path()?;
         match open_image(self.rt, path.as_str(), self.prefix, self.number) {
-            Ok(file) => Ok(file),
+            Ok(file) => {
+                self.file = Some(WriteBehind::over(room, file));
+                Ok(())
+            }
             Err(fault) => Err(SystemFault::File(fault)),
         }
     }

@@ -47,21 +47,14 @@ impl<'a, R: Files> InputFile<'a, R> {
             turn: Turn::Waits,
         })
     }
-
-    /// Takes the open file. If the input was not read yet, opens the file first.
-    fn take(&mut self) -> Result<Option<R::File>> {
-        match mem::replace(&mut self.turn, Turn::Ended) {
-            Turn::Waits => Ok(Some(File::open(self.files, self.path)?)),
-            Turn::Runs(file) => Ok(Some(file)),
-            Turn::Ended => Ok(None),
-        }
-    }
 }
 
 impl<R: Files> Read for InputFile<'_, R> {
     fn read(&mut self, buf: &mut [u8]) -> Result<usize> {
-        let Some(mut file) = self.take()? else {
-            return Ok(0);
+        let mut file = match mem::replace(&mut self.turn, Turn::Ended) {
+            Turn::Waits => File::open(self.files, self.path)?,
+            Turn::Runs(file) => file,
+            Turn::Ended => return Ok(0),
         };
         let count = file.read(buf)?;
         if count > 0 || buf.is_empty() {

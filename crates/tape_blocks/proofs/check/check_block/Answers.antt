@@ -1,5 +1,4 @@
-use Rattle.std.proofs.Common.{arith}
-use Rattle.std.proofs.Common.{◌∙◌}
+use Rattle.std.proofs.Common.{arith, ◌∙◌}
 use Rattle.tape_blocks.proofs.JudgedLaws.{answer_passes, answer_faults, judged_only}
 use Rattle.tape_blocks.proofs.JudgedLaws.{judged_by_fault}
 use Rattle.tape_blocks.proofs.check.check_block.Goals as goal

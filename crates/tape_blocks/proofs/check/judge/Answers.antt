@@ -1,12 +1,8 @@
 use Rattle.std.proofs.Common.{◌≡◌, ◌+◌, false, [], ◌∷◌, ◌++◌, drop, Option, Some, None, Result, Ok}
 use Rattle.std.proofs.Common.{Err, refl, sym, ap, ◌∙◌, arith}
 use Rattle.std.proofs.lemmas.List.{length-drop, take_rest, drop_all}
-use Rattle.tape_blocks.specs.declared.check.BlockFault.{BlockFault}
-use Rattle.tape_blocks.specs.declared.check.Found.{Found}
-use Rattle.tape_blocks.specs.Faults.{bool_eq}
-use Rattle.tape_blocks.specs.Parts.{portion}
-use Rattle.tape_blocks.specs.Spans.{continues}
-use Rattle.tape_blocks.specs.Units.{unit_at}
+use Rattle.tape_blocks.specs.{declared.check.BlockFault.BlockFault, declared.check.Found.Found}
+use Rattle.tape_blocks.specs.{Faults.bool_eq, Parts.portion, Spans.continues, Units.unit_at}
 use Rattle.tape_blocks.proofs.FrontLaws.{begins_more, InOrder-append, bool_eq-true}
 use Rattle.tape_blocks.proofs.PartsLaws.{unit_none}
 use Rattle.tape_blocks.proofs.LongestFronts.{judged_where, judged_short}

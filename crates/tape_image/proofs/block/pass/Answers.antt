@@ -1,6 +1,5 @@
 use Rattle.std.proofs.Common.{length, rules, arith}
-use Rattle.std.proofs.lemmas.List.{length-take}
-use Rattle.std.proofs.lemmas.Result.{err_from_is_err_and}
+use Rattle.std.proofs.{lemmas.List.length-take, lemmas.Result.err_from_is_err_and}
 use Rattle.tape_image.proofs.Taken.{Passes-trans, FallsShort-trans}
 use Rattle.tape_image.proofs.block.pass.Goals as goal
 

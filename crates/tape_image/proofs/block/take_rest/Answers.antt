@@ -2,8 +2,7 @@ use Rattle.std.proofs.Common.{◌≡◌, ℕ, ◌+◌, ◌≤◌, ◌%◌, lengt
 use Rattle.std.proofs.Common.{length-drop}
 use Rattle.std.proofs.lemmas.List.{length-take-le, take-append-drop}
 use Rattle.std.proofs.lemmas.Result.{err_from_is_err_and}
-use Rattle.tape_image.proofs.Taken.{FallsShort-trans}
-use Rattle.tape_image.proofs.Rests.{rest_at_once, trail_word}
+use Rattle.tape_image.proofs.{Taken.FallsShort-trans, Rests.rest_at_once, Rests.trail_word}
 use Rattle.tape_image.proofs.block.take_rest.Goals as goal
 
 -- the first pads + 4 of five bytes, which take a pad byte and a word

@@ -1,6 +1,5 @@
 use Rattle.std.proofs.Common.{arith, ◌++◌, take, append_assoc}
-use Rattle.std.proofs.lemmas.Grind.{common_steps}
-use Rattle.std.proofs.KnownBytes.{Appends-trans}
+use Rattle.std.proofs.{lemmas.Grind.common_steps, KnownBytes.Appends-trans}
 use Rattle.tape_image.proofs.put.put.Goals as goal
 
 pub writes-preserved : goal.writes-preserved

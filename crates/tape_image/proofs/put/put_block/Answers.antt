@@ -42,7 +42,8 @@ returns-clause-err g c =
     let content = c.args.content.now in
     let n = length content in
     let P : List ℕ → Type 0 =
-    λ p. Appends (g.W.Write.contents c.put-2.new.device) (g.W.Write.contents c.put-3.new.device) p in
+    λ p. Appends (g.W.Write.contents c.put-2.new.device) (g.W.Write.contents c.put-3.new.device) p
+    in
     let pad : P (replicate (n % 2) 0) =
     subst P (take_one (n % 2) (omega arith)) c.in_ok-put-2.ensures.ok in
     let trail =

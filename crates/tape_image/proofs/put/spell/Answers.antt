@@ -1,6 +1,5 @@
-use Rattle.std.proofs.Common.{◌≡◌, ℕ, ◌+◌, ◌-◌, ◌≤◌, ◌%◌, List, ◌++◌, length, take, drop}
-use Rattle.std.proofs.Common.{replicate, rules, arith, sym, ap, ◌∙◌, append_assoc}
-use Rattle.std.proofs.Common.{length-take, length-drop}
+use Rattle.std.proofs.Common.{◌≡◌, ℕ, ◌+◌, ◌-◌, ◌≤◌, ◌%◌, List, ◌++◌, length, take, drop, replicate}
+use Rattle.std.proofs.Common.{rules, arith, sym, ap, ◌∙◌, append_assoc, length-take, length-drop}
 use Rattle.std.proofs.lemmas.Slice.{take-put_mid, drop-put_mid}
 use Rattle.std.proofs.lemmas.List.{take-replicate, drop-replicate}
 use borrow.Rule.Slice.PartMut.{put_mid, same_len_mid}

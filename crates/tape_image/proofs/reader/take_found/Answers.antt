@@ -1,5 +1,4 @@
-use Rattle.std.proofs.Common.{ap, arith}
-use Rattle.std.proofs.lemmas.Result.{err_from_is_err_and}
+use Rattle.std.proofs.{Common.ap, Common.arith, lemmas.Result.err_from_is_err_and}
 use Rattle.tape_image.specs.Kind.{kind_extent}
 use Rattle.tape_image.proofs.Blocks.{word_falls, over_limit}
 use Rattle.tape_image.proofs.reader.take_found.Goals as goal

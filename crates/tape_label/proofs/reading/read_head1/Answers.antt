@@ -1,8 +1,7 @@
 use Rattle.std.proofs.Common.{sym, ◌∙◌}
 use Rattle.tape_label.specs.Head1.{IsHead1}
-use Rattle.tape_label.proofs.Steps.{is_found}
-use Rattle.tape_label.proofs.Apart.{head1_refuses}
 use Rattle.tape_label.proofs.First.{head1_found, head1_again}
+use Rattle.tape_label.proofs.{Steps.is_found, Apart.head1_refuses}
 use Rattle.tape_label.proofs.reading.read_head1.Goals as goal
 
 pub returns-clause-found : goal.returns-clause-found

@@ -1,9 +1,7 @@
 use Rattle.std.proofs.Common.{sym, ◌∙◌}
-use Rattle.tape_label.specs.declared.values.Kind.{Kind}
-use Rattle.tape_label.specs.Head2.{IsHead2}
-use Rattle.tape_label.proofs.Steps.{is_found}
-use Rattle.tape_label.proofs.Apart.{head2_refuses}
+use Rattle.tape_label.specs.{declared.values.Kind.Kind, Head2.IsHead2}
 use Rattle.tape_label.proofs.Second.{head2_found, head2_again}
+use Rattle.tape_label.proofs.{Steps.is_found, Apart.head2_refuses}
 use Rattle.tape_label.proofs.reading.read_head2.Goals as goal
 
 pub returns-clause-found : goal.returns-clause-found

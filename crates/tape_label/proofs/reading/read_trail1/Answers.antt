@@ -1,8 +1,7 @@
 use Rattle.std.proofs.Common.{sym, ◌∙◌}
 use Rattle.tape_label.specs.Trail1.{IsTrail1}
-use Rattle.tape_label.proofs.Steps.{is_found}
-use Rattle.tape_label.proofs.Apart.{trail1_refuses}
 use Rattle.tape_label.proofs.First.{trail1_found, trail1_again}
+use Rattle.tape_label.proofs.{Steps.is_found, Apart.trail1_refuses}
 use Rattle.tape_label.proofs.reading.read_trail1.Goals as goal
 
 pub returns-clause-found : goal.returns-clause-found

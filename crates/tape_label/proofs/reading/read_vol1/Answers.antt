@@ -1,8 +1,7 @@
 use Rattle.std.proofs.Common.{sym, ◌∙◌}
 use Rattle.tape_label.specs.Vol1.{IsVol1}
-use Rattle.tape_label.proofs.Steps.{is_found}
-use Rattle.tape_label.proofs.Apart.{vol1_refuses}
 use Rattle.tape_label.proofs.First.{vol1_found, vol1_again, vol1_kind}
+use Rattle.tape_label.proofs.{Steps.is_found, Apart.vol1_refuses}
 use Rattle.tape_label.proofs.reading.read_vol1.Goals as goal
 
 pub returns-clause-found : goal.returns-clause-found

@@ -1,5 +1,4 @@
-use Rattle.std.proofs.Common.{ℕ, refl, arith}
-use Rattle.std.proofs.lemmas.List.{take-replicate}
+use Rattle.std.proofs.{Common.ℕ, Common.refl, Common.arith, lemmas.List.take-replicate}
 use Rattle.tape_label.proofs.text.put_spaces.Goals as goal
 
 pub returns-clause-items : goal.returns-clause-items

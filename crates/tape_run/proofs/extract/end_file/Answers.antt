@@ -2,7 +2,7 @@ use Rattle.std.proofs.Common.{rules, ◌≡◌, [], Some, None, refl, sym, ◌�
 use Rattle.tape_set.specs.Position.{want_at}
 use Rattle.tape_run.proofs.Ended.{told_err}
 use Rattle.tape_run.proofs.Extracted.{ends_in_part, none_finished}
-use Rattle.tape_run.proofs.Fitting.{no_text, whole_text}
+use Rattle.tape_run.proofs.Fitting.{no_text}
 use Rattle.tape_run.proofs.extract.end_file.Goals as goal
 
 pub returns-in_err-end_report-clause-err : goal.returns-in_err-end_report-clause-err
@@ -11,7 +11,7 @@ returns-in_err-end_report-clause-err g c =
     c.args.form g.W.Write.contents c.args.out.now c.args.out.now _ _ (Some c.in-Some.want) 0 _
     c.in_err-end_report.ensures.err (λ other. absurd (other c.in_err-end_report.ensures.fault))
     (λ held was. inr (sym c.in-Some.is ∙ c.want.ensures, λ none. absurd (cc none)))
-    (λ held was. inl refl))
+    (λ held was. inl (refl, inr (λ none. absurd (cc none)))))
 
 pub returns-in-Some-clause-ok : goal.returns-in-Some-clause-ok
 returns-in-Some-clause-ok g c = record {
@@ -31,7 +31,7 @@ returns-in_err-records-clause-err g c =
     (λ held was. inl (no_text _ []))
     (λ held was. inr (
       none_finished c.args.session.now.core.file c.args.session.now.core.position none,
-      c.in_err-records.ensures.err held was,
+      inl (c.in_err-records.ensures.err held was, no_text _ []),
     )))
 
 pub returns-in_err-end_report-2-clause-err : goal.returns-in_err-end_report-2-clause-err
@@ -45,7 +45,7 @@ returns-in_err-end_report-2-clause-err g c =
     (λ held was. inr (none, λ same. (c.in_ok-records.ensures.ok held was).0))
     (λ held was. inr (
       none_finished c.args.session.now.core.file c.args.session.now.core.position none,
-      whole_text _ _ _ (c.in_ok-records.ensures.ok held was).1,
+      inr (c.in_ok-records.ensures.ok held was).1,
     )))
 
 pub returns-clause-ok : goal.returns-clause-ok

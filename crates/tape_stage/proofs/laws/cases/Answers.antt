@@ -1,5 +1,5 @@
 use Rattle.tape_stage.proofs.Examples.{cases_of_crashes, cases_of_moments, cases_of_files}
-use Rattle.tape_stage.proofs.Examples.{cases_of_stages, cases_of_faults}
+use Rattle.tape_stage.proofs.Examples.{cases_of_stages}
 use Rattle.tape_stage.proofs.{Examples.cases_of_laws, Examples.cases_of_salvage}
 use Rattle.tape_stage.proofs.laws.cases.Goals as goal
 
@@ -14,9 +14,6 @@ returns-clause-files g c = cases_of_files
 
 pub returns-clause-stages : goal.returns-clause-stages
 returns-clause-stages g c = cases_of_stages g.D.Disk
-
-pub returns-clause-faults : goal.returns-clause-faults
-returns-clause-faults g c = cases_of_faults
 
 pub returns-clause-laws : goal.returns-clause-laws
 returns-clause-laws g c = cases_of_laws

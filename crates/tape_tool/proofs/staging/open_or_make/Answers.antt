@@ -6,8 +6,8 @@ use Rattle.tape_tool.specs.Staging.{GoesOn}
 use Rattle.tape_tool.proofs.Unmade.{not_empty, read_opens, read_then}
 use Rattle.tape_tool.proofs.staging.open_or_make.Goals as goal
 
-pub returns-then-not-is_unmade-clause-begins : goal.returns-then-not-is_unmade-clause-begins
-returns-then-not-is_unmade-clause-begins g c honest made =
+pub returns-then-not-unmade-clause-begins : goal.returns-then-not-unmade-clause-begins
+returns-then-not-unmade-clause-begins g c honest made =
     let reads = c.is_unmade.ensures.reads in
     let h1 = c.is_unmade.ensures.honest honest in
     ⊎_elim (λ empty. c.open_session.ensures.begins h1 empty.1)
@@ -17,8 +17,8 @@ returns-then-not-is_unmade-clause-begins g c honest made =
     (reads.same honest) goes.staged))) (c.open_session.ensures.goes_on h1 some.1))
     (eqb_tells (g.D.Disk.length_of c.is_unmade.new.disk) 0)
 
-pub returns-then-not-is_unmade-clause-goes_on : goal.returns-then-not-is_unmade-clause-goes_on
-returns-then-not-is_unmade-clause-goes_on g c honest made =
+pub returns-then-not-unmade-clause-goes_on : goal.returns-then-not-unmade-clause-goes_on
+returns-then-not-unmade-clause-goes_on g c honest made =
     let reads = c.is_unmade.ensures.reads in
     let h1 = c.is_unmade.ensures.honest honest in
     let some = not_empty g.D.Disk c.args.disk c.is_unmade.new.disk reads honest c.args.set_id
@@ -27,8 +27,8 @@ returns-then-not-is_unmade-clause-goes_on g c honest made =
     (λ (read : List ℕ). GoesOn c.args.set_id c.args.file read session) (reads.same honest) goes)
     (c.open_session.ensures.goes_on h1 some)
 
-pub returns-then-not-is_unmade-clause-any_moment : goal.returns-then-not-is_unmade-clause-any_moment
-returns-then-not-is_unmade-clause-any_moment g c honest made =
+pub returns-then-not-unmade-clause-any_moment : goal.returns-then-not-unmade-clause-any_moment
+returns-then-not-unmade-clause-any_moment g c honest made =
     let reads = c.is_unmade.ensures.reads in
     let h1 = c.is_unmade.ensures.honest honest in
     let some = not_empty g.D.Disk c.args.disk c.is_unmade.new.disk reads honest c.args.set_id
@@ -37,8 +37,8 @@ returns-then-not-is_unmade-clause-any_moment g c honest made =
     c.is_unmade.new.disk reads honest session.sink.disk opens)
     (c.open_session.ensures.any_moment h1 some)
 
-pub returns-then-not-is_unmade-clause-refused : goal.returns-then-not-is_unmade-clause-refused
-returns-then-not-is_unmade-clause-refused g c honest made =
+pub returns-then-not-unmade-clause-refused : goal.returns-then-not-unmade-clause-refused
+returns-then-not-unmade-clause-refused g c honest made =
     let reads = c.is_unmade.ensures.reads in
     let h1 = c.is_unmade.ensures.honest honest in
     let some = not_empty g.D.Disk c.args.disk c.is_unmade.new.disk reads honest c.args.set_id

@@ -81,9 +81,6 @@ returns-clause-front g c = λ set_id told p s f e k.
           refl,
     ))
 
-pub returns-in_err-begin_volume-clause-first : goal.returns-in_err-begin_volume-clause-first
-returns-in_err-begin_volume-clause-first g c = λ zero h none. c.begin_volume.ensures.first h none
-
 pub returns-clause-first : goal.returns-clause-first
 returns-clause-first g c = λ zero h none.
     let IsNow : Tape _ → Type 0 = λ z. Lasts (g.T.TapeOut.holds z.out) z.course.used [] in

@@ -1,7 +1,7 @@
-use Rattle.tape_writer.proofs.Words.{◌∷◌, [], refl, Ok, mark}
+use Rattle.tape_writer.proofs.Words.{◌∷◌, [], Ok, mark}
 use Rattle.tape_writer.specs.{Tapes.UnderWay, Front.HoldsFront}
 use Rattle.tape_writer.proofs.Fronts.{front_here, front_items, front_closed}
-use Rattle.tape_writer.proofs.{Ends.end_written, Last.lasting_err, Last.lasting_then}
+use Rattle.tape_writer.proofs.{Ends.end_written}
 use Rattle.tape_writer.proofs.records.end_set.Goals as goal
 
 pub returns-clause-written : goal.returns-clause-written
@@ -24,10 +24,6 @@ returns-in-Err-clause-front g c = λ set_id told some k.
     end_written (g.T.TapeOut.holds c.mark.new.self.out) (HoldsFront H) _ _ set_id _ told
     (g.T.TapeOut.holds c.args.tape.now.out) c.requires.wide some k (Ok tt) c.in_ok-mark.ensures.ok
     (λ t h. front_closed H t (front_here H t (c.in-Err.ensures.err t h)))
-
-pub returns-in-Err-clause-lasting : goal.returns-in-Err-clause-lasting
-returns-in-Err-clause-lasting g c = lasting_then _ _ _ _ _ _ _ _ _ c.mark.ensures.lasting
-    (lasting_err _ _ _ _ _ _ c.in-Err.ensures.err c.close.ensures.count refl)
 
 pub returns-clause-front : goal.returns-clause-front
 returns-clause-front g c = λ set_id told some k.

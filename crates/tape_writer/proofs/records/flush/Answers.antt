@@ -1,21 +1,12 @@
 -- The current block is written, in the current section or after a change of the volume.
-use Rattle.tape_writer.proofs.Words.{rules, arith, ap, refl, ◌∷◌, [], length, Ok}
-use Rattle.tape_writer.proofs.Words.{err_from_is_err_and, block, IsWideVolume, Filled, item_size}
-use Rattle.tape_writer.proofs.Words.{every_at}
+use Rattle.tape_writer.proofs.Words.{rules, arith, refl, ◌∷◌, [], Ok}
+use Rattle.tape_writer.proofs.Words.{err_from_is_err_and, block, item_size}
 use Rattle.tape_writer.specs.{Draft.added_course, Draft.changed_course, Front.HoldsFront}
-use Rattle.tape_writer.proofs.Held.{given_sized, write_here, write_next}
-use Rattle.tape_writer.proofs.Room.{flushed_here, flushed_next, none_room}
+use Rattle.tape_writer.proofs.Held.{write_here, write_next}
+use Rattle.tape_writer.proofs.Room.{flushed_here}
 use Rattle.tape_writer.proofs.{Fronts.took, Fronts.front_items, Fronts.err_any, Last.lasting_self}
 use Rattle.tape_writer.proofs.Words.{lt-leb}
 use Rattle.tape_writer.proofs.records.flush.Goals as goal
-
-pub add_block-requires-clause-sized : goal.add_block-requires-clause-sized
-add_block-requires-clause-sized g c =
-    given_sized _ _ _ c.requires.shape c.requires.ready.writable c.in-Some.ensures.found
-
-pub add_block-requires-2-clause-sized : goal.add_block-requires-2-clause-sized
-add_block-requires-2-clause-sized g c =
-    given_sized _ _ _ c.requires.shape c.requires.ready.writable c.in-Some.ensures.found
 
 pub returns-in_default-clause-lasting : goal.returns-in_default-clause-lasting
 returns-in_default-clause-lasting g c = lasting_self _ _ _
@@ -36,22 +27,10 @@ returns-in_default-get-clause-stuck g c = λ e. (
 
 -- ---- the room that is left
 
-pub returns-in_default-clause-room : goal.returns-in_default-clause-room
-returns-in_default-clause-room g c = none_room (length c.args.volumes.now) c.args.capacity
-    c.args.tape.now.course c.args.packer.now _ c.in_default.ensures.none
-    c.take_block.follows.holds-at-none
-
 pub returns-then-has_room-clause-room : goal.returns-then-has_room-clause-room
 returns-then-has_room-clause-room g c = flushed_here _ _ _ _ _ _ _ _ c.in-Some.ensures.found
     c.take_block.follows.holds-at-none (let fits = c.has_room.ensures.yes (search rules) in omega
     (arith, fits)) c.add_block.ensures.course
-
-pub returns-clause-room : goal.returns-clause-room
-returns-clause-room g c = flushed_next (length c.args.volumes.now) c.args.capacity
-    c.args.tape.now.course c.change_to.new.self.course c.add_block-2.new.self.course
-    c.args.packer.now _ c.in-Some.block.now c.add_block-2.result c.in-Some.ensures.found
-    c.take_block.follows.holds-at-none (search rules) c.in_ok-change_to.ensures.course
-    c.add_block-2.ensures.course
 
 -- ---- the draft
 

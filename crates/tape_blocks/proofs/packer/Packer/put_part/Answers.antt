@@ -3,10 +3,8 @@ use Rattle.std.proofs.Common.{◌∙◌, arith}
 use Rattle.std.specs.Vec.{with_items}
 use Rattle.tape_label.specs.declared.values.Format.TheVariants.{Spanned}
 use Rattle.tape_blocks.specs.Block.{Portion, IsUnit, spelling, head_len}
-use Rattle.tape_blocks.specs.declared.parts.Span.{Span}
-use Rattle.tape_blocks.specs.Packed.{Keeps, parts_in}
-use Rattle.tape_blocks.specs.Packing.{Packing, size_of, with_part}
-use Rattle.tape_blocks.specs.Spans.{span_of}
+use Rattle.tape_blocks.specs.{declared.parts.Span.Span, Packed.Keeps, Packed.parts_in}
+use Rattle.tape_blocks.specs.{Packing.Packing, Packing.size_of, Packing.with_part, Spans.span_of}
 use Rattle.tape_blocks.proofs.PackLaws.{keeps_itself}
 use Rattle.tape_blocks.proofs.PackerSteps.{put_keeps, written_in, keeps_some, push_some, packed_is}
 use Rattle.tape_blocks.proofs.packer.Packer.put_part.Goals as goal

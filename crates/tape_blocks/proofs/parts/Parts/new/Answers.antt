@@ -1,5 +1,4 @@
-use Rattle.std.proofs.Common.{arith}
-use Rattle.std.proofs.lemmas.List.{take_rest}
+use Rattle.std.proofs.{Common.arith, lemmas.List.take_rest}
 use Rattle.tape_blocks.proofs.PartsLaws.{parts_are}
 use Rattle.tape_blocks.proofs.parts.Parts.new.Goals as goal
 

@@ -1,25 +1,15 @@
-use Rattle.std.proofs.Common.{◌≡◌, ◌<◌, ◌⊎◌, ℕ, length, refl, ap, ◌∙◌, subst}
-use Rattle.tape_set.specs.Position.{next_block}
-use Rattle.tape_core.specs.State.{State}
+use Rattle.std.proofs.Common.{ap, ◌∙◌}
+use Rattle.tape_core.specs.{State.State, Table.delivered}
+use Rattle.tape_core.proofs.Delivering.{checked_by}
 use Rattle.tape_core.proofs.reader.ReaderCore.at_data.Goals as goal
 
 -- the block was checked
 pub returns-in-Ok-clause-checked : goal.returns-in-Ok-clause-checked
 returns-in-Ok-clause-checked c = λ _.
-    let found = c.in-Ok.ensures.holds in
-    record {
-      bytes = c.args.block.now;
-      form = c.in-DataWanted.form;
-      parts = found.1;
-      begun = found.0;
-      end = c.in-Ok.end;
-      came = refl;
-      is_known = refl;
-      holds = found.2;
-      order = found.3;
-      more = subst (λ (n : ℕ). (n ≡ 0) ⊎ (n < length found.1)) c.part-part.ensures found.4;
-      few = found.5;
-      behind = c.next_block-self-inside.ensures
-          ∙ ap (λ (z : State). next_block z.position) c.self.view_is;
-      waits = c.requires.waits;
-    }
+    let heading = c.in-DataWanted.field-0 in
+    let form = c.in-DataWanted.form in
+    let end = c.in-Ok.end in
+    checked_by c.args.self.now c.deliver.new.self c.args.block.now heading form c.part-part.result
+    end (c.deliver.ensures.table
+    ∙ ap (λ (z : State). (delivered z heading form end).1) c.self.view_is)
+    c.part-part.ensures c.requires.waits c.in-Ok.ensures.holds

@@ -1,8 +1,6 @@
 use Rattle.std.proofs.Common.{◌≡◌, ◌≤◌, ◌-◌, length, vec_capacity}
 use Rattle.tape_image.specs.declared.reader.State.TheVariants.{Going}
-use Rattle.tape_image.specs.Begins.{image_limit}
-use Rattle.tape_image.specs.Reader.{going, buffer_len}
-use Rattle.tape_image.specs.Front.{Passed}
+use Rattle.tape_image.specs.{Begins.image_limit, Reader.going, Reader.buffer_len, Front.Passed}
 use Rattle.tape_image.proofs.reader.ImageReader.next.Given as goal
 
 abbrev pub invariant-loop-found : goal.invariant-loop-found

@@ -1,5 +1,5 @@
-use Rattle.std.proofs.Common.{rules, ◌≡◌, ◌<◌, ◌≤◌, Ok, true, false, ap, sym, subst, ◌∙◌, arith}
-use Rattle.std.proofs.Common.{inr, refl}
+use Rattle.std.proofs.Common.{rules, ◌≡◌, ◌<◌, ◌≤◌, Ok, ap, subst, ◌∙◌, arith}
+use Rattle.std.proofs.Common.{inr, refl, ◌+◌}
 use Rattle.tape_blocks.specs.Spans.{leaves}
 use Rattle.tape_core.specs.Walks.{GivesPart}
 use Rattle.tape_image.proofs.Pieces.{on_err}
@@ -9,7 +9,9 @@ use Rattle.tape_run.proofs.Streams.{stream_ended, stream_short}
 use Rattle.tape_run.proofs.Walked.{walk_on}
 use Rattle.tape_run.proofs.extract.front.write_rest.Goals as goal
 use Rattle.tape_run.proofs.extract.front.write_rest.Goals.{else-ended-front}
-use Rattle.tape_run.proofs.extract.front.write_rest.Goals.{then-ended-front+in_ok-write_part-in-Ok-Some}
+use Rattle.tape_run.proofs.extract.front.write_rest.Goals.{
+  then-ended-front+in_ok-write_part-in-Ok-Some,
+}
 
 pub parts-init : goal.parts-init
 parts-init g c = (
@@ -35,44 +37,13 @@ returns-in_err-write_part-in-Ok-Some-clause-err g c =
     ∙ ap Ok c.in-Ok-Some.field-0-is) (c.next_part.follows.holds-at-none.gives xs is))
     c.in_err-write_part-in-Ok-Some.ensures.err)
 
-pub parts-preserved-then-not-leaves : goal.parts-preserved-then-not-leaves
-parts-preserved-then-not-leaves g c =
-    let next = c.next_part.follows.lender-at-none in
-    let more : c.parts.ended < c.args.front.records = omega (arith, c.parts-test.true) in
-    let ends : leaves c.in-Ok-Some.part.span ≡ false =
-    search (rules, c.leaves-leaves.ensures, c.if-not-leaves.true) in
-    let on = walk_on _ _ _ _ _ (c.in-Ok-Some.is ∙ ap Ok c.in-Ok-Some.field-0-is)
-    c.parts.invariant.0 c.next_part.follows.holds-at-none in
-    elim c.if-ended-front.branch [
-      | then-ended-front+in_ok-write_part-in-Ok-Some w ↦ rw (w.sink-is, w.out-is) (
-        on,
-        λ parts was e. stream_writes c.args.form (g.S.PartWalk.ahead c.parts.sink)
-            (g.S.PartWalk.ahead next) c.args.front.written c.parts.ended _ c.args.front.records
-            _ _ _ parts c.in-Ok-Some.part (c.parts.invariant.1 parts was e)
-            (omega (arith, w.if-ended-front.true)) more e
-            (λ xs is. subst (λ r. GivesPart r xs (g.S.PartWalk.ahead next)) (c.in-Ok-Some.is
-            ∙ ap Ok c.in-Ok-Some.field-0-is) (c.next_part.follows.holds-at-none.gives xs is))
-            w.in_ok-write_part-in-Ok-Some.ensures.ok
-            (ap (λ b. with_end b c.parts.ended) (sym ends)),
-      )
-      | else-ended-front w ↦ rw (w.sink-is, w.out-is) (
-        on,
-        λ parts was e. stream_skips c.args.form (g.S.PartWalk.ahead c.parts.sink)
-            (g.S.PartWalk.ahead next) c.args.front.written c.parts.ended _ _ _ parts
-            c.in-Ok-Some.part (c.parts.invariant.1 parts was e)
-            (omega (arith, w.if-ended-front.false))
-            (λ xs is. subst (λ r. GivesPart r xs (g.S.PartWalk.ahead next)) (c.in-Ok-Some.is
-            ∙ ap Ok c.in-Ok-Some.field-0-is) (c.next_part.follows.holds-at-none.gives xs is))
-            (ap (λ b. with_end b c.parts.ended) (sym ends)),
-      )
-    ]
-
 pub parts-preserved : goal.parts-preserved
 parts-preserved g c =
     let next = c.next_part.follows.lender-at-none in
     let more : c.parts.ended < c.args.front.records = omega (arith, c.parts-test.true) in
-    let goes : leaves c.in-Ok-Some.part.span ≡ true =
-    search (rules, c.leaves-leaves.ensures, c.if-not-leaves.false) in
+    let same : c.parts.ended + c.from-ended.result
+    ≡ with_end (leaves c.in-Ok-Some.part.span) c.parts.ended =
+    search (rules, c.leaves-leaves.ensures, c.from-ended.ensures) in
     let on = walk_on _ _ _ _ _ (c.in-Ok-Some.is ∙ ap Ok c.in-Ok-Some.field-0-is)
     c.parts.invariant.0 c.next_part.follows.holds-at-none in
     elim c.if-ended-front.branch [
@@ -85,7 +56,7 @@ parts-preserved g c =
             (λ xs is. subst (λ r. GivesPart r xs (g.S.PartWalk.ahead next)) (c.in-Ok-Some.is
             ∙ ap Ok c.in-Ok-Some.field-0-is) (c.next_part.follows.holds-at-none.gives xs is))
             w.in_ok-write_part-in-Ok-Some.ensures.ok
-            (ap (λ b. with_end b c.parts.ended) (sym goes)),
+            same,
       )
       | else-ended-front w ↦ rw (w.sink-is, w.out-is) (
         on,
@@ -95,7 +66,7 @@ parts-preserved g c =
             (omega (arith, w.if-ended-front.false))
             (λ xs is. subst (λ r. GivesPart r xs (g.S.PartWalk.ahead next)) (c.in-Ok-Some.is
             ∙ ap Ok c.in-Ok-Some.field-0-is) (c.next_part.follows.holds-at-none.gives xs is))
-            (ap (λ b. with_end b c.parts.ended) (sym goes)),
+            same,
       )
     ]
 

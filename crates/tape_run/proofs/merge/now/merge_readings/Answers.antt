@@ -8,7 +8,7 @@ use Rattle.tape_run.specs.MergeLines.{lines_from, reading_line, has_line, merged
 use Rattle.tape_run.specs.MergeNow.{Misses}
 use Rattle.tape_run.proofs.Ended.{told_err}
 use Rattle.tape_run.proofs.Reporting.{front_then}
-use Rattle.tape_run.proofs.MergeNow.{made, made_some, differed, err_write}
+use Rattle.tape_run.proofs.MergeNow.{made, comes_whole, some_end, differed, err_write}
 use Rattle.tape_run.proofs.MergeNow.{all_logged, stays, err_stays, says_front, says_first}
 use Rattle.tape_run.proofs.MergeNow.{says_lines, says_differ, says_items}
 use Rattle.tape_run.proofs.MergeTooLong.{item_cause, end_cause}
@@ -20,6 +20,8 @@ returns-in-Ok-merge_to-clause-ok g c =
     let old = g.P.Write.contents c.args.report.now in
     let mid = g.P.Write.contents c.report_readings.new.report in
     let new = g.P.Write.contents c.pass_on.new.report in
+    comes_whole c.args.readings.now names _ _ _ _ _ c.end_of-end.result _ _
+    c.whole_or_partial.ensures (
     made c.args.readings.now c.merge_to.new.readings c.in-Ok-merge_to.merged _ _
     (g.G.Write.contents c.write_text.new.writer) (g.G.Write.contents c.merge_to.new.log) _ _ _
     c.end_of-end.result _ names (Appends (g.G.Write.contents c.args.log.now)
@@ -33,7 +35,7 @@ returns-in-Ok-merge_to-clause-ok g c =
     (merged_line c.in-Ok-merge_to.merged c.end_of-end.result)
     c.in_ok-report_readings-in-Ok-merge_to.ensures.ok
     (subst (λ t. Appends mid new t) (c.deref.ensures.0 ∙ c.merged_line.ensures)
-    c.in_ok-pass_on-in-Ok-merge_to.ensures.ok))
+    c.in_ok-pass_on-in-Ok-merge_to.ensures.ok)))
 
 pub returns-in-Err-Differ-clause-ok : goal.returns-in-Err-Differ-clause-ok
 returns-in-Err-Differ-clause-ok g c =
@@ -97,20 +99,23 @@ pub returns-in_err-report_readings-in-Ok-merge_to-clause-left :
 returns-in_err-report_readings-in-Ok-merge_to-clause-left g c =
     err_stays c.from_residual-in_err-report_readings-in-Ok-merge_to.result g.O.Place.stands _ _ _
     (says_front c.args.readings.now c.merge_to.new.readings c.in-Ok-merge_to.merged _ _ _ _ _ _ _ _
-    c.in-Ok-merge_to.ensures.ok c.in_err-report_readings-in-Ok-merge_to.ensures.front)
+    c.in-Ok-merge_to.ensures.ok c.in-Ok-merge_to.ensures.all
+    c.in_err-report_readings-in-Ok-merge_to.ensures.front)
 
 pub returns-in_err-written-in-Ok-merge_to-clause-left :
     goal.returns-in_err-written-in-Ok-merge_to-clause-left
 returns-in_err-written-in-Ok-merge_to-clause-left g c =
     err_stays c.from_residual-in_err-written-in-Ok-merge_to.result g.O.Place.stands _ _ _
     (says_lines c.args.readings.now c.merge_to.new.readings c.in-Ok-merge_to.merged _ _ _ _ _ _ _ _
-    c.in-Ok-merge_to.ensures.ok c.in_ok-report_readings-in-Ok-merge_to.ensures.ok)
+    c.in-Ok-merge_to.ensures.ok c.in-Ok-merge_to.ensures.all
+    c.in_ok-report_readings-in-Ok-merge_to.ensures.ok)
 
 pub returns-in_default-flush-clause-left : goal.returns-in_default-flush-clause-left
 returns-in_default-flush-clause-left g c = (
   refl,
   says_lines c.args.readings.now c.merge_to.new.readings c.in-Ok-merge_to.merged _ _ _ _ _ _ _ _
-      c.in-Ok-merge_to.ensures.ok c.in_ok-report_readings-in-Ok-merge_to.ensures.ok,
+      c.in-Ok-merge_to.ensures.ok c.in-Ok-merge_to.ensures.all
+      c.in_ok-report_readings-in-Ok-merge_to.ensures.ok,
 )
 
 pub returns-in_err-place-in-Ok-merge_to-clause-left :
@@ -119,7 +124,8 @@ returns-in_err-place-in-Ok-merge_to-clause-left g c =
     err_write _ g.O.Place.stands _ _ _ _ (search rules) (inl (
       c.in_err-place-in-Ok-merge_to.ensures.err,
       says_lines c.args.readings.now c.merge_to.new.readings c.in-Ok-merge_to.merged _ _ _ _ _ _ _ _
-          c.in-Ok-merge_to.ensures.ok c.in_ok-report_readings-in-Ok-merge_to.ensures.ok,
+          c.in-Ok-merge_to.ensures.ok c.in-Ok-merge_to.ensures.all
+          c.in_ok-report_readings-in-Ok-merge_to.ensures.ok,
     ))
 
 pub returns-in_err-report_readings-in-Err-Differ-clause-left :
@@ -127,7 +133,8 @@ pub returns-in_err-report_readings-in-Err-Differ-clause-left :
 returns-in_err-report_readings-in-Err-Differ-clause-left g c =
     err_stays c.from_residual-in_err-report_readings-in-Err-Differ.result g.O.Place.stands _ _ _
     (says_first c.args.readings.now c.merge_to.new.readings _ _ c.in-Err-Differ.item
-    c.in-Err-Differ.field-0 _ _ c.in-Err-Differ.ensures.fault c.in-Err-Differ.field-0-is _ _
+    c.in-Err-Differ.field-0 _ _ c.in-Err-Differ.ensures.fault c.in-Err-Differ.field-0-is
+    c.in-Err-Differ.ensures.still_all _ _
     c.in_err-report_readings-in-Err-Differ.ensures.front)
 
 pub returns-in_err-pass_on-in-Err-Differ-clause-left :
@@ -137,7 +144,8 @@ returns-in_err-pass_on-in-Err-Differ-clause-left g c =
     search rules in
     err_stays c.from_residual-in_err-pass_on-in-Err-Differ.result g.O.Place.stands _ _ _
     (says_differ c.args.readings.now c.merge_to.new.readings _ _ c.in-Err-Differ.item
-    c.in-Err-Differ.field-0 _ _ c.in-Err-Differ.ensures.fault c.in-Err-Differ.field-0-is _ _ _
+    c.in-Err-Differ.field-0 _ _ c.in-Err-Differ.ensures.fault c.in-Err-Differ.field-0-is
+    c.in-Err-Differ.ensures.still_all _ _ _
     c.in_ok-report_readings-in-Err-Differ.ensures.ok
     (subst (λ t. AppendsFront (g.P.Write.contents c.report_readings-in-Err-Differ.new.report)
     (g.P.Write.contents c.pass_on-in-Err-Differ.new.report) t) text
@@ -154,7 +162,8 @@ returns-in_err-report_items-in-Err-Differ-clause-left g c =
     search rules in
     err_stays c.from_residual-in_err-report_items-in-Err-Differ.result g.O.Place.stands _ _ _
     (says_items c.args.readings.now c.merge_to.new.readings _ _ c.in-Err-Differ.item
-    c.in-Err-Differ.field-0 _ _ c.in-Err-Differ.ensures.fault c.in-Err-Differ.field-0-is old second
+    c.in-Err-Differ.field-0 _ _ c.in-Err-Differ.ensures.fault c.in-Err-Differ.field-0-is
+    c.in-Err-Differ.ensures.still_all old second
     _
     (Appends-trans old first second (lines_from (reading_line names) 0 c.merge_to.new.readings)
     (differ_line c.in-Err-Differ.item) c.in_ok-report_readings-in-Err-Differ.ensures.ok
@@ -174,19 +183,25 @@ returns-in_err-pass_on-in-Ok-merge_to-clause-left g c =
     (lines ++ last) c.in_ok-report_readings-in-Ok-merge_to.ensures.ok
     (subst (λ t. AppendsFront mid new t) (c.deref.ensures.0 ∙ c.merged_line.ensures)
     c.in_err-pass_on-in-Ok-merge_to.ensures.err) (sym (append-nil (lines ++ last))) in
+    let (end, fits) = some_end c.in-Ok-merge_to.merged.bad c.in-Ok-merge_to.merged.miscounted
+    c.end_of-end.result in
     err_write _ g.O.Place.stands _ _ _ _ (search rules) (inr (
       (
         c.merge_to.new.readings,
+        c.in-Ok-merge_to.ensures.all,
         c.in-Ok-merge_to.merged,
         c.end_of-end.result,
         wrote,
       ),
-      made_some c.args.readings.now c.merge_to.new.readings c.in-Ok-merge_to.merged _ _
-          (g.G.Write.contents c.write_text.new.writer) (g.G.Write.contents c.merge_to.new.log) _ _ _
-          c.end_of-end.result names (Appends (g.G.Write.contents c.args.log.now)
-          (g.G.Write.contents c.flush.new.writer)) (AppendsFront old new)
-          c.new-image.ensures c.in-Ok-merge_to.ensures.ok c.in_ok-written-in-Ok-merge_to.ensures.ok
-          c.in_ok-place-in-Ok-merge_to.ensures.ok c.end_of-end.ensures (all_logged _ _ _ _ _ _ _
-          c.as_slice.ensures.value c.in_ok-head.ensures c.in-Ok.ensures.ok c.flush.ensures.kept)
-          wrote,
+      (
+        end,
+        made c.args.readings.now c.merge_to.new.readings c.in-Ok-merge_to.merged _ _
+            (g.G.Write.contents c.write_text.new.writer) (g.G.Write.contents c.merge_to.new.log) _ _
+            _ c.end_of-end.result end names (Appends (g.G.Write.contents c.args.log.now)
+            (g.G.Write.contents c.flush.new.writer)) (AppendsFront old new)
+            c.new-image.ensures c.in-Ok-merge_to.ensures.ok
+            c.in_ok-written-in-Ok-merge_to.ensures.ok c.in_ok-place-in-Ok-merge_to.ensures.ok fits
+            c.end_of-end.ensures (all_logged _ _ _ _ _ _ _ c.as_slice.ensures.value
+            c.in_ok-head.ensures c.in-Ok.ensures.ok c.flush.ensures.kept) wrote,
+      ),
     ))

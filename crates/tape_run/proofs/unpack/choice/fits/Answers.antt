@@ -2,7 +2,9 @@ use Rattle.std.proofs.Common.{◌≡◌, ◌≢◌, []}
 use Rattle.tape_run.proofs.Patterns.{tried_none, tried_star, tried_plain, tried_later, fits_no_more}
 use Rattle.tape_run.proofs.Patterns.{fits_not, smaller_star, some_left}
 use Rattle.tape_run.proofs.unpack.choice.fits.Goals as goal
-use Rattle.tape_run.proofs.unpack.choice.fits.Goals.{else-is_empty-via-then-is_empty+else-is_empty-2}
+use Rattle.tape_run.proofs.unpack.choice.fits.Goals.{
+  else-is_empty-via-then-is_empty+else-is_empty-2,
+}
 use Rattle.tape_run.proofs.unpack.choice.fits.Goals.{else-is_empty-via-else-is_empty}
 
 pub characters-init : goal.characters-init

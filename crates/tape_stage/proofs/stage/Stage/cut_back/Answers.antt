@@ -2,8 +2,12 @@ use Rattle.std.proofs.Common.{◌≡◌, ◌∙◌, subst, sym, Result, Ok, Err,
 use Rattle.tape_core.specs.Point.{Point}
 use Rattle.tape_stage.specs.declared.stage.StageFault.TheVariants.{Device, Full}
 use Rattle.tape_stage.specs.{Parts.IsFront, declared.stage.StageFault.StageFault}
-use Rattle.std.proofs.Common.{◌⊎◌, ap, arith, inl, inr, refl}
-use Rattle.std.specs.Prelude.{OnErr, Option, Some}
+use Rattle.std.proofs.Common.{◌⊎◌, ◌+◌, ℕ, List, ap, arith, inl, inr, not, refl}
+use Rattle.std.specs.Prelude.{OnErr, OnOk, Option, None, Some}
+use Rattle.tape_blocks.specs.Block.{Portion}
+use Rattle.tape_stage.specs.Staged.{NamedIn, SameFrames}
+use Rattle.tape_stage.specs.Stages.{HasNamed, IsStage}
+use Rattle.tape_stage.specs.declared.disk.Disk.{Ghosts}
 use Rattle.tape_stage.specs.declared.stage.Stage.{Stage}
 use Rattle.tape_stage.proofs.Keeps.{frames_cut, frames_same}
 use Rattle.tape_stage.proofs.Passing.{weaken}
@@ -79,9 +83,28 @@ faulted : {A B P : Type 0} (r : Result A B) (fault : B) → r ≡ Err fault → 
 faulted (Ok done) fault is p = absurd (cc is)
 faulted (Err other) fault is p = p
 
+-- the checkpoint is named, if the call succeeded
+named : {D : Type 0} {disk : Ghosts D} (r : Result (Unit {0}) StageFault) (point : Point)
+    (old new : Stage D disk) → OnOk r (new.acknowledged ≡ point)
+    → OnOk r (new.pending ≡ None)
+    → OnOk r ((new.in_second ≡ not old.in_second) × (new.generation ≡ old.generation + 1))
+    → (disk.is_honest old.disk → (acked parts : List Portion) → IsStage old acked parts
+    → OnOk r ((bytes : List ℕ) → disk.may_leave new.disk bytes
+    → NamedIn (not old.in_second) (old.generation + 1) point bytes
+    × SameFrames point.staged (disk.seen old.disk) bytes)) → OnOk r (HasNamed point old new)
+named (Ok done) point old new acknowledged pending slot names = record {
+  acknowledged = acknowledged;
+  pending = pending;
+  slot = slot.0;
+  generation = slot.1;
+  names = names;
+}
+named (Err fault) point old new acknowledged pending slot names = tt
+
 pub returns-clause-drops : goal.returns-clause-drops
-returns-clause-drops g c less = (
-  c.restart.ensures.acknowledged,
-  λ device. dropped _ _ _ _ (c.restart.ensures.pending device)
-      (faulted c.restart.result _ device c.restart.ensures.stays),
-)
+returns-clause-drops g c less =
+    let e = c.restart.ensures in (
+      named c.restart.result _ _ _ e.acknowledged e.not_pending e.slot
+          (λ honest acked parts is. (e.any_point honest acked parts is).1),
+      λ device. dropped _ _ _ _ (e.pending device) (faulted c.restart.result _ device e.stays),
+    )

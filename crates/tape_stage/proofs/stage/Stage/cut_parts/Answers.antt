@@ -37,11 +37,3 @@ returns-in-Err-clause-any_moment g c honest acked parts is =
     let from = c.cut.ensures.crash honest x left in
     front_staged _ _ _ _ _ (256 + c.args.staged) _ _ x (omega (arith, c.requires.behind)) is.ready
     (from.0, from.1, from.2.front))
-
-pub returns-in-Ok-clause-crash : goal.returns-in-Ok-clause-crash
-returns-in-Ok-clause-crash g c honest = stands g.D.Disk _ _ _ (c.cut.ensures.time honest)
-    (λ x left. let from = c.cut.ensures.crash honest x left in (from.0, from.1, from.2.front))
-
-pub returns-in-Err-clause-crash : goal.returns-in-Err-clause-crash
-returns-in-Err-clause-crash g c honest = stands g.D.Disk _ _ _ (c.cut.ensures.time honest)
-    (λ x left. let from = c.cut.ensures.crash honest x left in (from.0, from.1, from.2.front))

@@ -1,12 +1,10 @@
-use Rattle.std.proofs.Common.{◌≡◌, inr, ℕ, false, Result, Ok, Err, IfErr, rules, subst, sym, ◌∙◌}
-use Rattle.tape_core.specs.{Weight.Rose, Point.Point}
-use Rattle.tape_stage.specs.{Parts.IsFront, declared.disk.Disk.Ghosts, declared.stage.Stage.Stage}
+use Rattle.std.proofs.Common.{◌≡◌, inr, subst, sym}
+use Rattle.tape_core.specs.{Point.Point}
+use Rattle.tape_stage.specs.{Parts.IsFront}
 use Rattle.std.proofs.Common.{ap}
 use Rattle.tape_stage.proofs.Passing.{weaken, follow}
 use Rattle.tape_stage.proofs.Keeps.{cut_named, frames_cut, saving_front}
 use Rattle.tape_stage.proofs.Results.{ok_any, on_ok}
-use Rattle.tape_stage.specs.declared.stage.StageFault.{StageFault}
-use Rattle.tape_stage.specs.{declared.stage.StageFault.TheVariants.Device, Stages.HasRefused}
 use Rattle.tape_stage.proofs.{Passing.weaken, Passing.follow, Results.on_ok}
 use Rattle.tape_stage.proofs.stage.Stage.restart.Goals as goal
 
@@ -38,36 +36,8 @@ returns-in-Ok-clause-any_point g c honest acked parts is =
       ok_any c.cut_parts.result (λ x left. cut_named _ _ _ _ _ x _ staged saved.1 (cut.now x left)),
     )
 
-pub returns-in-Err-clause-any_point : goal.returns-in-Err-clause-any_point
-returns-in-Err-clause-any_point g c honest acked parts is = (
-  weaken g.D.Disk _ _ _ _ (λ x saving. saving_front _ _ _ _ _ _ _ x saving)
-      (c.save.ensures.any_point honest acked parts is).0,
-  tt,
-)
-
 pub returns-in-Ok-clause-frames : goal.returns-in-Ok-clause-frames
 returns-in-Ok-clause-frames g c honest = on_ok c.cut_parts.result
     (frames_cut _ _ _ _ _ (ap (λ (p : Point). p.staged) c.point.view_is)
     (c.save.ensures.frames honest))
     (c.cut_parts.ensures.cut (c.in-Ok.ensures.ends.honest honest))
-
--- a cut that failed after the checkpoint was acknowledged
-cut_refused : {A D : Type 0} {disk : Ghosts D} (r : Result A StageFault)
-    (old mid new : Stage D disk) → old.failed ≡ false → mid.weight ≡ old.weight → IfErr r
-    (λ fault. fault ≡ Device) → IfErr r (HasRefused mid new) → IfErr r (HasRefused old new)
-cut_refused (Ok done) old mid new alive same is refused = tt
-cut_refused (Err fault) old mid new alive same is refused =
-    let was = rw is at refused in rw is (alive, was.1, was.2 ∙ same)
-
-pub returns-in-Ok-clause-ends : goal.returns-in-Ok-clause-ends
-returns-in-Ok-clause-ends g c = record {
-  was_alive = search rules;
-  refused = cut_refused c.cut_parts.result c.args.self.now c.save.new.self
-      c.cut_parts.new.self c.in-Ok.ensures.ends.was_alive c.save.ensures.weight
-      c.cut_parts.ensures.device c.cut_parts.ensures.ends.refused;
-  refusals = search rules;
-  cause = λ is. subst (λ (n : ℕ). Rose n (g.D.Disk.faults c.cut_parts.new.self.disk))
-      c.in-Ok.ensures.calm (c.cut_parts.ensures.ends.cause is);
-  honest = search rules;
-  back = search rules;
-}

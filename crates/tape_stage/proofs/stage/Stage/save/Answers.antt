@@ -5,10 +5,6 @@ use Rattle.tape_stage.proofs.Passing.{weaken}
 use Rattle.tape_stage.proofs.Keeps.{either_saved, named_staged}
 use Rattle.tape_stage.proofs.stage.Stage.save.Goals as goal
 
-pub returns-then-self-clause-any_moment : goal.returns-then-self-clause-any_moment
-returns-then-self-clause-any_moment g c honest acked parts front is of =
-    nothing g.D.Disk _ _ (λ x left. inl (ready_each _ _ _ _ _ _ _ x is.ready left).0)
-
 pub returns-then-self-ge-MOST_GENERATION-clause-any_moment
     : goal.returns-then-self-ge-MOST_GENERATION-clause-any_moment
 returns-then-self-ge-MOST_GENERATION-clause-any_moment g c honest acked parts front is of =
@@ -45,12 +41,6 @@ returns-in-Err-clause-any_moment g c honest acked parts front is of =
     weaken g.D.Disk _ _ _ _ (λ x saving. either_saved _ _ _ _ _ front _ x
     (front_holding s.weight _ parts front _ c.requires of is.holds) saving)
     (c.replace_slot.ensures.any_moment honest s.generation s.acknowledged acked refl is.ready)
-
-pub returns-then-self-clause-any_point : goal.returns-then-self-clause-any_point
-returns-then-self-clause-any_point g c honest acked parts is = (
-  nothing g.D.Disk _ _ (λ x left. inl (ready_each _ _ _ _ _ _ _ x is.ready left).0),
-  tt,
-)
 
 pub returns-then-self-ge-MOST_GENERATION-clause-any_point
     : goal.returns-then-self-ge-MOST_GENERATION-clause-any_point

@@ -4,7 +4,7 @@ use Rattle.tape_blocks.specs.{Block.Portion, Spans.join}
 use Rattle.tape_stage.specs.Frames.{NoFrameAt}
 use Rattle.tape_stage.proofs.Passing.{follow, stands, weaken}
 use Rattle.tape_stage.proofs.Remaining.{counted_ends, counted_goes_on, walked_more}
-use Rattle.tape_stage.proofs.Remaining.{framed_whole, framed_broken}
+use Rattle.tape_stage.proofs.Remaining.{framed_broken}
 use Rattle.tape_stage.proofs.stage.frames.walk.Given.{Over}
 use Rattle.tape_stage.proofs.stage.frames.walk.Goals.{After-min-limit, then-not-leaves}
 use Rattle.tape_stage.proofs.stage.frames.walk.Goals.{else-not-leaves}
@@ -80,10 +80,3 @@ returns-in_default-clause-framed g c h =
     (goal.at.returns-in_default-clause-framed g c).After-min-limit h) i.high (omega arith)
     (i.walked h).0 (i.walked h).1 (subst (NoFrameAt c.loop-place.place c.min-limit.result)
     (i.seen h) (c.in_ok-span.ensures.none (i.honest.onward h) c.in_default.is))
-
-pub returns-clause-framed : goal.returns-clause-framed
-returns-clause-framed g c h =
-    let i = c.loop-place.invariant in
-    let limit = limit_at g (goal.at.returns-clause-framed g c).After-min-limit h in
-    framed_whole c.args.staged _ _ _
-    (omega (arith, i.high, limit)) (omega (arith, i.high, limit)) (i.walked h).0 (i.walked h).1

@@ -1,16 +1,8 @@
-use Rattle.std.proofs.Common.{◌≡◌, ℕ, List, ◌∷◌, length, ap, subst, arith, length-append}
-use Rattle.tape_core.specs.Point.{Point}
-use Rattle.tape_stage.proofs.{Bodies.length-body, Bodies.made_ready}
-use Rattle.tape_stage.specs.{Disk.Holds, Body.body_text, Body.FitBody, Staged.blank}
+use Rattle.std.proofs.Common.{◌≡◌, ℕ, List, length, subst, arith}
+use Rattle.tape_stage.proofs.{Bodies.made_ready}
+use Rattle.tape_stage.specs.{Disk.Holds}
 use Rattle.tape_stage.specs.Staged.{new_slots}
 use Rattle.tape_stage.proofs.stage.open_disk.make.Goals as goal
-
-slots_size : (point : Point) → FitBody 1 point → length (new_slots point) ≡ 256
-slots_size point fit = omega (
-  arith,
-  length-append (body_text 1 point) (67 ∷ blank),
-  length-body _ _ fit,
-)
 
 pub returns-clause-made : goal.returns-clause-made
 returns-clause-made g c honest =
@@ -25,13 +17,3 @@ returns-clause-made g c honest =
     made_ready _ s0 s1 s2 (g.D.Disk.may_leave c.write_kept-2.new.disk) c.requires.none
     c.new_slots.ensures.fit empty first
     (c.in_ok-write_kept-2.ensures.written h1) (c.in_ok-write_kept-2.ensures.synced.durable h1)
-
-pub returns-clause-long : goal.returns-clause-long
-returns-clause-long g c = omega (
-  arith,
-  ap length c.new_slots.ensures.text,
-  slots_size _ c.new_slots.ensures.fit,
-  c.requires.empty,
-  c.in_ok-write_kept.ensures.long,
-  c.in_ok-write_kept-2.ensures.long,
-)

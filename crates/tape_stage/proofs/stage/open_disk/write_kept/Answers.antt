@@ -1,5 +1,5 @@
-use Rattle.std.proofs.Common.{ℕ, List, OnOk, length, rules, sym, subst, arith}
-use Rattle.tape_stage.specs.Disk.{Only, Torn}
+use Rattle.std.proofs.Common.{ℕ, List, length, sym, subst, arith}
+use Rattle.tape_stage.specs.Disk.{Torn}
 use Rattle.tape_stage.proofs.Torn.{holds_torn}
 use Rattle.tape_stage.proofs.stage.open_disk.write_kept.Goals as goal
 
@@ -12,15 +12,3 @@ returns-clause-torn g c honest =
     (sym (c.sync.ensures.same (c.write_at.ensures.honest.onward honest))) (holds_torn c.args.place
     bytes old mid (omega (arith, g.met.D.Disk.long_as_seen c.args.disk.now honest, c.requires))
     (c.in_ok-write_at.ensures.written honest))
-
-pub returns-clause-synced : goal.returns-clause-synced
-returns-clause-synced g c = record {
-  durable = λ honest.
-      let honest1 = c.write_at.ensures.honest.onward honest in
-      subst (λ (l : List ℕ). OnOk c.sync.result (Only l (g.D.Disk.may_leave c.sync.new.self)))
-      (sym (c.sync.ensures.same honest1)) (c.sync.ensures.durable honest1);
-  cause = search rules;
-  calm = search rules;
-  honest = search rules;
-  back = search rules;
-}

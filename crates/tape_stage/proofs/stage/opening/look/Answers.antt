@@ -1,6 +1,6 @@
 use Rattle.std.proofs.Common.{◌≡◌, take, ap, ◌∙◌, sym}
 use Rattle.tape_stage.proofs.Finds.{front_same, found_alike, none_remains}
-use Rattle.tape_stage.proofs.{Remaining.walked_as, stage.opening.look.Given.Over}
+use Rattle.tape_stage.proofs.{stage.opening.look.Given.Over}
 use Rattle.tape_stage.proofs.stage.opening.look.Goals.{In_ok-read}
 use Rattle.tape_stage.proofs.stage.opening.look.Goals as goal
 
@@ -20,11 +20,3 @@ pub returns-in_default-clause-none : goal.returns-in_default-clause-none
 returns-in_default-clause-none g c honest is =
     none_remains _ _ (read_at g (goal.at.returns-in_default-clause-none g c).In_ok-read honest)
     c.in_default.ensures.found.0 c.in_default.ensures.found.1
-
-pub returns-clause-framed : goal.returns-clause-framed
-returns-clause-framed g c honest =
-    let honest1 = c.in_ok-sync.ensures.honest honest in
-    let honest2 = c.len.ensures.honest.onward honest1 in
-    walked_as _ _ _ _ _ _ c.staged.ensures.value
-    (c.read.ensures.same honest2 ∙ c.len.ensures.same honest1 ∙ c.sync.ensures.same honest)
-    (c.in_ok-walked.ensures.framed (c.read.ensures.honest.onward honest2))

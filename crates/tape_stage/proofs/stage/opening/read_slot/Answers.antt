@@ -18,6 +18,3 @@ pub returns-in-Err-clause-says : goal.returns-in-Err-clause-says
 returns-in-Err-clause-says c = open_reads _ _ c.if-gate-ne-OPEN.false
     ∙ body_some c.args.body.now c.in_ok-generation.generation _
     (sym c.in_ok-generation.ensures.exact) (ap result_ok (sym c.in-Err.ensures.exact))
-
-pub returns-in-Ok-clause-staged : goal.returns-in-Ok-clause-staged
-returns-in-Ok-clause-staged c = c.in-Ok.ensures.found.1.writable.right.light

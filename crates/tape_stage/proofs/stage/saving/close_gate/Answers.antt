@@ -2,7 +2,6 @@ use Rattle.std.proofs.Common.{ℕ, Bool, subst}
 use Rattle.tape_stage.specs.{Disk.Torn, Staged.Ready, Moments.After}
 use Rattle.tape_stage.proofs.SlotSteps.{ready_each, ready_after, closed_done}
 use Rattle.tape_stage.proofs.{Passing.weaken, Passing.stands, Results.on_ok, Keeps.torn_gate_frames}
-use Rattle.tape_stage.proofs.Keeps.{frames_same}
 use Rattle.tape_stage.proofs.stage.saving.close_gate.Goals as goal
 
 pub returns-then-is_open-clause-closed : goal.returns-then-is_open-clause-closed
@@ -13,9 +12,6 @@ returns-then-is_open-clause-closed g c honest = on_ok c.write_kept.result
 pub returns-then-is_open-clause-frames : goal.returns-then-is_open-clause-frames
 returns-then-is_open-clause-frames g c honest =
     torn_gate_frames _ _ _ (rw c.gate_place.ensures at (c.write_kept.ensures.torn honest))
-
-pub returns-clause-frames : goal.returns-clause-frames
-returns-clause-frames g c honest = frames_same _ _ (c.sync.ensures.same honest)
 
 pub returns-then-is_open-clause-any_moment : goal.returns-then-is_open-clause-any_moment
 returns-then-is_open-clause-any_moment g c honest g' point parts ready =

@@ -2,8 +2,8 @@ use Rattle.std.proofs.Common.{◌≡◌, ◌+◌, ◌∙◌, inl, ℕ, List, len
 use Rattle.tape_blocks.specs.Block.{Portion}
 use Rattle.tape_core.specs.Point.{Point}
 use Rattle.tape_stage.specs.Moments.{Passes}
-use Rattle.tape_stage.specs.Staged.{Holding, KeepsFrames, Ready, StagedIn}
-use Rattle.tape_stage.proofs.Keeps.{frames_then, frames_holding, torn_body_frames, torn_gate_frames}
+use Rattle.tape_stage.specs.Staged.{KeepsFrames, Ready, StagedIn}
+use Rattle.tape_stage.proofs.Keeps.{frames_then, torn_body_frames, torn_gate_frames}
 use Rattle.tape_stage.proofs.Bodies.{length-body}
 use Rattle.tape_stage.proofs.Keeps.{saving_then}
 use Rattle.tape_stage.proofs.Passing.{weaken, follow}

@@ -1,12 +1,14 @@
-use Rattle.std.proofs.Common.{◌≡◌, ℕ, false, refl, subst, inl, Option, Some}
+use Rattle.std.proofs.Common.{◌≡◌, ℕ, false, refl, subst, Option, Some}
 use Rattle.std.proofs.KnownBytes.{Keeps-refl}
 use Rattle.tape_stage.specs.Salvaged.{Remains}
 use Rattle.tape_stage.specs.declared.stage.StageFault.TheVariants.{BadFrame, Failed, Full}
 use Rattle.tape_stage.proofs.Remaining.{broken_bad, broken_none, none_staged}
 use Rattle.tape_stage.proofs.Results.{no_frame_any, no_frame_says}
-use Rattle.tape_tool.specs.StageReport.{GivesFront, in_part, unopened}
+use Rattle.tape_tool.specs.StageReport.{GivesFront, in_part, in_records, unopened}
+use Rattle.tape_tool.specs.declared.fault.ToolFault.TheVariants.{File}
+use Rattle.tape_writer.specs.declared.system.fault.FileFault.TheVariants.{WriteFailed}
 use Rattle.tape_tool.specs.declared.stage.ending.StageEnding.{StageEnding}
-use Rattle.tape_tool.proofs.StageReport.{gives_front, no_lines, shows}
+use Rattle.tape_tool.proofs.StageReport.{gives_front, shows}
 use Rattle.tape_tool.proofs.stage.show.show_stage.Goals as goal
 
 -- ---- no stage was opened
@@ -47,8 +49,8 @@ returns-in-Err-write_in-clause-err g c honest =
     let found = c.in-Ok.ensures.remains honest in
     let ends = c.in-Ok-ending_at.ensures.ok in
     in_part found.0 opened.point opened.broken found.1 found.2 ends.1
-    (no_lines opened.point _ c.args.form _ _ _ _ found.1
-    (c.in-Err-write_in.ensures.err found.1 found.3) refl) c.in-Err-write_in.ensures.fault
+    (in_records (c.in-Err-write_in.ensures.err found.1 found.3) (Keeps-refl _)
+    c.in-Err-write_in.ensures.fault)
 
 -- ---- the lines could not be printed
 
@@ -64,9 +66,9 @@ returns-clause-err g c honest =
     let says = g.P.Write.contents c.tell.new.report in
     in_part found.0 opened.point opened.broken found.1 found.2 ends.1
     (subst (λ (ending : StageEnding). GivesFront opened.point ending c.args.form out written said
-    says found.1) ends.0
+    says found.1 (File WriteFailed)) ends.0
     (gives_front opened.point c.in-Ok-ending_at.ending c.args.form out written said says found.1
-    c.in-Ok-write_in.records wrote.0 wrote.1 c.in-Err-tell.ensures.err)) (inl refl)
+    c.in-Ok-write_in.records wrote.0 wrote.1 c.in-Err-tell.ensures.err))
 
 -- ---- everything succeeded
 

@@ -1,20 +1,10 @@
-use Rattle.std.proofs.Common.{◌≡◌, ◌⊎◌, inl, inr, sym, subst, ◌∙◌, Option, None, Some}
+use Rattle.std.proofs.Common.{◌≡◌, sym, subst, ◌∙◌, Option, None, Some}
 use Rattle.std.specs.Io.KnownBytes.{Appends}
 use Rattle.std.proofs.KnownBytes.{Appends-nil}
 use Rattle.tape_blocks.specs.declared.parts.Form.{Form}
 use Rattle.tape_image.specs.Written.{AppendsFront}
-use Rattle.tape_stage.specs.declared.stage.StageFault.TheVariants.{Device}
-use Rattle.tape_writer.specs.declared.system.fault.FileFault.TheVariants.{WriteFailed}
-use Rattle.tape_tool.specs.StageReport.{EndsInPart, output_in}
-use Rattle.tape_tool.specs.declared.fault.ToolFault.{ToolFault}
-use Rattle.tape_tool.specs.declared.fault.ToolFault.TheVariants.{File, Stage}
+use Rattle.tape_tool.specs.StageReport.{output_in}
 use Rattle.tape_tool.proofs.stage.show.write_in.Goals as goal
-
-part_fault : (form : Option Form) (given : Form) (fault : ToolFault) → form ≡ Some given
-    → (fault ≡ File WriteFailed) ⊎ (fault ≡ Stage Device) → EndsInPart form fault
-part_fault form given fault is (inl e) = inl e
-part_fault form given fault is (inr e) =
-    inr (e, λ none. let no : Some given ≡ None = sym is ∙ none in cc)
 
 pub returns-in-None-clause-ok : goal.returns-in-None-clause-ok
 returns-in-None-clause-ok g c parts held count =
@@ -40,5 +30,7 @@ returns-in-Err-clause-err g c parts held =
     (c.in-Err.ensures.err parts held)
 
 pub returns-in-Err-clause-fault : goal.returns-in-Err-clause-fault
-returns-in-Err-clause-fault g c =
-    part_fault c.args.form c.in-Some.form c.as_read.result c.in-Some.is c.as_read.ensures.ends
+returns-in-Err-clause-fault g c = (
+  λ none. let no : Some c.in-Some.form ≡ None = sym c.in-Some.is ∙ none in cc,
+  c.as_read.ensures.ends,
+)

@@ -1,4 +1,4 @@
-use Rattle.tape_writer.proofs.Words.{rules, refl, sym, subst, Some}
+use Rattle.tape_writer.proofs.Words.{rules, refl, sym, subst}
 use Rattle.tape_writer.proofs.Written.{block_at, block_kept}
 use Rattle.tape_writer.specs.Images.{AreImages}
 use Rattle.tape_writer.proofs.images.ImageTapesTapeOut.block.Goals as goal

@@ -1,4 +1,4 @@
-use Rattle.tape_writer.proofs.Words.{rules, refl, sym, subst, Some, inr, mark, writing}
+use Rattle.tape_writer.proofs.Words.{rules, refl, sym, subst, inr, mark, writing}
 use Rattle.tape_writer.proofs.Written.{mark_at, put_kept}
 use Rattle.tape_image.specs.Written.{written}
 use Rattle.tape_writer.specs.Images.{AreImages}

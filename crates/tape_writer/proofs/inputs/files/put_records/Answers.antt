@@ -3,7 +3,7 @@ use Rattle.tape_writer.specs.declared.fault.WriteFault.TheVariants.{OutOfVolumes
 use Rattle.tape_writer.specs.{Told.with_record, Front.IsLeftInside, State.IsWriting}
 use Rattle.tape_writer.specs.{State.IsOutOfVolumes}
 use Rattle.tape_writer.proofs.inputs.Putting.{within_none, within_one, given_cut, same_record}
-use Rattle.tape_writer.proofs.inputs.Putting.{gave_up, grows_self, grows_then, stops}
+use Rattle.tape_writer.proofs.inputs.Putting.{gave_up, grows_self, grows_then}
 use Rattle.tape_writer.proofs.inputs.Refusing.{not_told, put_fault, put_other, next_fault}
 use Rattle.tape_writer.proofs.inputs.{Leaving.read_left, Leaving.put_left, Refusing.next_long}
 use Rattle.tape_writer.proofs.Last.{rose_from}
@@ -68,16 +68,6 @@ returns-in-Err-put-clause-stuck g c = λ e told held.
 
 pub returns-in-Err-clause-stuck : goal.returns-in-Err-clause-stuck
 returns-in-Err-clause-stuck g c = λ e. absurd (not_told _ (sym c.fault_of.ensures ∙ e))
-
-pub returns-in-Err-put-clause-cause : goal.returns-in-Err-put-clause-cause
-returns-in-Err-put-clause-cause g c =
-    stops (g.T.TapeOut.failures c.args.writer.now.out) (g.T.TapeOut.failures c.records.writer.out)
-    (g.T.TapeOut.failures c.put.new.self.out) c.in-Err-put.fault _ c.records.invariant.grew
-    c.in-Err-put.ensures.cause.0 refl
-
-pub returns-in-Err-put-clause-count : goal.returns-in-Err-put-clause-count
-returns-in-Err-put-clause-count g c =
-    grows_then _ _ _ c.records.invariant.grew c.put.ensures.lasting.count
 
 pub returns-in-Err-put-clause-front : goal.returns-in-Err-put-clause-front
 returns-in-Err-put-clause-front g c = λ file is told held.

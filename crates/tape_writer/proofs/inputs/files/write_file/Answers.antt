@@ -1,6 +1,6 @@
-use Rattle.tape_writer.proofs.Words.{◌≡◌, ◌+◌, ◌∙◌, length, inr, arith, err_from_is_err_and}
+use Rattle.tape_writer.proofs.Words.{◌≡◌, ◌∙◌, inr, arith, err_from_is_err_and}
 use Rattle.tape_writer.specs.declared.fault.WriteFault.TheVariants.{OutOfVolumes, OutOfMemory}
-use Rattle.tape_writer.specs.{State.IsWriting, Told.opened_by, LeftOf.GaveUp}
+use Rattle.tape_writer.specs.{State.IsWriting, LeftOf.GaveUp}
 use Rattle.tape_writer.proofs.{Last.rose_from, Fronts.inside_writing, Fronts.front_here}
 use Rattle.std.proofs.Common.{ℕ, Some, refl, sym}
 use Rattle.tape_label.specs.declared.values.Head1.{Head1}

@@ -6,8 +6,8 @@ use Rattle.tape_writer.proofs.inputs.{Refusing.wrote_fault, Leaving.all_more, Pu
 use Rattle.tape_writer.proofs.inputs.{Putting.grows_then}
 use Rattle.tape_writer.specs.{LeftOf.GaveUp, LeftOf.IsLeftOf, LeftOf.IsLeftUnbegun, Told.with_file}
 use Rattle.tape_writer.specs.{Told.opened_by, Tapes.Rose, State.IsWriting, Records.records_of}
-use Rattle.std.proofs.Common.{◌≡◌, sym, ap}
-use Rattle.std.proofs.Common.{Some, length-append}
+use Rattle.std.proofs.Common.{◌≡◌, sym}
+use Rattle.std.proofs.Common.{Some}
 use Rattle.tape_writer.specs.declared.fault.WriteFault.{WriteFault}
 use Rattle.tape_writer.specs.{State.SetState, Refusals.closed_by}
 use Rattle.tape_writer.proofs.inputs.files.write_files.Goals as goal

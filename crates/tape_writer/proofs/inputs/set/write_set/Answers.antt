@@ -1,6 +1,6 @@
-use Rattle.tape_writer.proofs.Words.{◌≡◌, ◌≤◌, [], ap, sym, subst, ◌∙◌, map, inl, inr, refl}
+use Rattle.tape_writer.proofs.Words.{◌≤◌, [], ap, sym, subst, ◌∙◌, map, inl, inr, refl}
 use Rattle.tape_writer.proofs.Words.{least_capacity}
-use Rattle.tape_writer.specs.LeftOf.{GaveUpIn, GaveUpSet, IsLeftOfAll, IsLeftSet}
+use Rattle.tape_writer.specs.LeftOf.{GaveUpIn, IsLeftOfAll}
 use Rattle.tape_writer.specs.WriteFaults.{IsFaultOfCut, IsFilesFault, IsOfWriter}
 use Rattle.tape_writer.specs.{Images.Holds, Refusals.IsFinishFault, ToldFiles.IfAllKnown}
 use Rattle.tape_writer.specs.{ToldFiles.told_files, WriteSet.IsSetOfImages}

@@ -1,8 +1,7 @@
-use Rattle.tape_writer.proofs.Words.{rules, inl, inr, refl, sym, ap, subst, ◌∙◌}
+use Rattle.tape_writer.proofs.Words.{rules, inl, inr, sym, ap, subst, ◌∙◌}
 use Rattle.tape_writer.specs.{Faults.IsEnding, State.SetState}
 use Rattle.tape_writer.proofs.{Fronts.behind_writing, Last.asked_of, Last.lasting_self}
 use Rattle.tape_writer.proofs.{Calls.begin_told, Left.left_begin}
-use Rattle.tape_writer.specs.declared.phase.Phase.TheVariants.{Failed}
 use Rattle.tape_writer.proofs.set.SetWriter.begin_file.Goals as goal
 
 pub returns-in-Err-clause-lasting : goal.returns-in-Err-clause-lasting
@@ -17,12 +16,6 @@ returns-in_default-new-clause-front g c =
     ∙ c.in_default.ensures.ok.0 in
     rw (← c.self.view_is) (λ told k ends.
     inl (behind_writing (g.T.TapeOut.holds c.self.inside.tape.out) _ told between k))
-
-pub returns-in-Err-clause-front : goal.returns-in-Err-clause-front
-returns-in-Err-clause-front g c = λ told k ends. absurd (c.in-Err.ensures.ending ends)
-
-pub returns-in_default-new-clause-memory : goal.returns-in_default-new-clause-memory
-returns-in_default-new-clause-memory g c = rw (← c.self.view_is) (λ e. inl refl)
 
 pub returns-in-Err-clause-memory : goal.returns-in-Err-clause-memory
 returns-in-Err-clause-memory g c = λ e.
@@ -90,10 +83,3 @@ returns-in-Err-begin-clause-front g c =
     c.in-Ok.packer told c.args.head c.args.shape between (search rules) (search rules)
     (λ s f x. c.in-Err-begin.ensures.front c.self.inside.set_id told c.in-Ok.packer s f
     (search rules) x) k))
-
-pub returns-then-is_err-clause-memory : goal.returns-then-is_err-clause-memory
-returns-then-is_err-clause-memory g c = rw (← c.self.view_is) (λ e. inl refl)
-
-pub returns-in-Err-begin-clause-memory : goal.returns-in-Err-begin-clause-memory
-returns-in-Err-begin-clause-memory g c =
-    rw (← c.self.view_is) (λ e. inr (c.in-Err-begin.ensures.cause.1 e))

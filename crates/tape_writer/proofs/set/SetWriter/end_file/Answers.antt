@@ -34,12 +34,3 @@ returns-in-Err-clause-front g c =
     rw (← c.self.view_is) (λ told k ends. left_end (g.T.TapeOut.holds c.self.inside.tape.out)
     (g.T.TapeOut.holds c.end_file.new.self.out) _ _ _ told c.in-Filing.is (search rules) (λ past
     records x. c.in-Err.ensures.front c.self.inside.set_id past records x) k)
-
-pub returns-in-Between-clause-front : goal.returns-in-Between-clause-front
-returns-in-Between-clause-front g c = λ told k ends. absurd ends
-
-pub returns-in-Failed-clause-front : goal.returns-in-Failed-clause-front
-returns-in-Failed-clause-front g c = λ told k ends. absurd ends
-
-pub returns-in-Finished-clause-front : goal.returns-in-Finished-clause-front
-returns-in-Finished-clause-front g c = λ told k ends. absurd ends

@@ -23,15 +23,3 @@ returns-in-Err-clause-front g c =
     rw (← c.self.view_is) (λ told k ends. left_finish (g.T.TapeOut.holds c.self.inside.tape.out)
     (g.T.TapeOut.holds c.end_set.new.tape.out) _ _ told (search rules) (search rules) (search rules)
     (λ some x. c.end_set.ensures.front c.self.inside.set_id told some x) k)
-
-pub returns-in-Filing-clause-front : goal.returns-in-Filing-clause-front
-returns-in-Filing-clause-front g c = λ told k ends. absurd ends
-
-pub returns-in-Failed-clause-front : goal.returns-in-Failed-clause-front
-returns-in-Failed-clause-front g c = λ told k ends. absurd ends
-
-pub returns-in-Finished-clause-front : goal.returns-in-Finished-clause-front
-returns-in-Finished-clause-front g c = λ told k ends. absurd ends
-
-pub returns-then-self-eq0-clause-front : goal.returns-then-self-eq0-clause-front
-returns-then-self-eq0-clause-front g c = λ told k ends. absurd ends

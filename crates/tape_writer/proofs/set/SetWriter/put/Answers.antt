@@ -41,12 +41,3 @@ returns-in-Err-2-clause-front g c =
     (g.T.TapeOut.holds c.put_record.new.tape.out) _ c.deref.result.now c.in-Filing.file told
     c.args.bytes.now c.in-Filing.is (search rules)
     (λ fs records x. c.in-Err.ensures.front c.self.inside.set_id fs records x ends) k)
-
-pub returns-in-Between-clause-front : goal.returns-in-Between-clause-front
-returns-in-Between-clause-front g c = λ told k ends. absurd ends
-
-pub returns-in-Failed-clause-front : goal.returns-in-Failed-clause-front
-returns-in-Failed-clause-front g c = λ told k ends. absurd ends
-
-pub returns-in-Finished-clause-front : goal.returns-in-Finished-clause-front
-returns-in-Finished-clause-front g c = λ told k ends. absurd ends

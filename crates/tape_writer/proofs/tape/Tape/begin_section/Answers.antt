@@ -1,7 +1,7 @@
 -- The headers, or a prefix of them.
 use Rattle.tape_writer.proofs.Words.{◌++◌, ◌∷◌, [], List, subst, TapeItem, block, mark}
 use Rattle.tape_writer.specs.Tapes.{UnderWay}
-use Rattle.tape_writer.specs.Labels.{first_label, second_label, header_items}
+use Rattle.tape_writer.specs.Labels.{first_label, second_label}
 use Rattle.tape_writer.proofs.Fronts.{front_here, front_items, front_behind, front_assoc}
 use Rattle.tape_label.specs.declared.values.Kind.TheVariants as kinds
 use Rattle.tape_writer.proofs.Words.{ap, ◌∙◌}

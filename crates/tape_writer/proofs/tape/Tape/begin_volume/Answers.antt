@@ -1,8 +1,6 @@
 -- A volume with its label, or a prefix of it.
 use Rattle.tape_writer.proofs.Words.{◌∷◌, [], refl, subst, block}
 use Rattle.tape_writer.specs.{Tapes.UnderWay, Tapes.all_volumes, Front.HoldsFront}
-use Rattle.std.proofs.Common.{inl, inr}
-use Rattle.tape_writer.specs.{Tapes.Ended}
 use Rattle.tape_writer.proofs.Fronts.{front_here, front_changed, took}
 use Rattle.tape_writer.proofs.Last.{lasting_err}
 use Rattle.tape_writer.specs.Labels.{volume_label}
@@ -25,10 +23,3 @@ returns-clause-front g c = λ tapes h.
     c.write_vol1.ensures.text
     (took (g.T.TapeOut.holds c.change_volume.new.self) H (block c.write_vol1.result ∷ []) _
     c.label.ensures.ok c.label.ensures.err (all_volumes tapes) [] (c.in_default.ensures.ok tapes h))
-
-pub returns-in-Err-clause-first : goal.returns-in-Err-clause-first
-returns-in-Err-clause-first g c = λ h none. inl (c.in-Err.ensures.err (Ended []) h, none)
-
-pub returns-clause-first : goal.returns-clause-first
-returns-clause-first g c = λ h none.
-    inr (c.label.ensures.lasting.lasts [] [] (c.in_default.ensures.ok (Ended []) h) refl)

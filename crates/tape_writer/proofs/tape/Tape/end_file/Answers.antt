@@ -1,11 +1,11 @@
 -- The last block and the end of a file, in the current section or after a change of the volume.
 use Rattle.tape_writer.proofs.Words.{rules, arith, refl, true, sym, subst, inl, Ok, Err}
-use Rattle.tape_writer.proofs.Words.{err_from_is_err_and, IsWideVolume, every_at}
+use Rattle.tape_writer.proofs.Words.{err_from_is_err_and}
 use Rattle.tape_writer.specs.declared.fault.WriteFault.TheVariants.{OutOfVolumes}
 use Rattle.tape_writer.specs.Draft.{ended_course, changed_course}
 use Rattle.tape_writer.specs.{Labels.trailer_items, Front.HoldsFront, Inside.IsStuck}
 use Rattle.tape_writer.proofs.{Ends.between_closed, Fronts.front_items, Fronts.err_any}
-use Rattle.tape_writer.proofs.{Held.close_here, Held.close_next, Last.lasting_then, Left.last_left}
+use Rattle.tape_writer.proofs.{Held.close_here, Held.close_next, Left.last_left}
 use Rattle.tape_writer.proofs.{Left.end_left, Packed.flat_flushed, Stuck.stuck_last}
 use Rattle.tape_writer.proofs.{Stuck.stuck_end}
 use Rattle.std.proofs.lemmas.Result.{IfErr-weaker}
@@ -44,10 +44,6 @@ returns-in_err-flush-clause-stuck g c =
     c.args.file.now t.course fs records) (sym q.0) (stuck_last
     (g.T.TapeOut.holds c.args.self.now.out) _ _ set_id _ _ _ fs records k q.1))
 
-pub returns-then-has_room-clause-stuck : goal.returns-then-has_room-clause-stuck
-returns-then-has_room-clause-stuck g c =
-    IfErr-weaker c.end_section.result _ _ (λ f p e. absurd (p.1 e)) c.end_section.ensures.out
-
 pub returns-in_default-clause-stuck : goal.returns-in_default-clause-stuck
 returns-in_default-clause-stuck g c = λ e set_id fs records k.
     let flat = flat_flushed g.T.TapeOut.holds _ _ set_id _ _ _ _ fs records
@@ -60,22 +56,6 @@ returns-in_err-change_to-clause-stuck g c =
     let p = err_from_is_err_and c.from_residual-in_err-change_to.result
     c.from_residual-in_err-change_to.ensures.1 in
     rw (p.1, p.2) (λ e. absurd (c.in_err-change_to.ensures.out.1 e))
-
-pub returns-clause-stuck : goal.returns-clause-stuck
-returns-clause-stuck g c =
-    IfErr-weaker c.end_section-2.result _ _ (λ f p e. absurd (p.1 e)) c.end_section-2.ensures.out
-
-pub returns-then-has_room-clause-lasting : goal.returns-then-has_room-clause-lasting
-returns-then-has_room-clause-lasting g c =
-    lasting_then _ _ _ _ _ _ _ _ _ c.flush.ensures.lasting c.end_section.ensures.lasting
-
-pub returns-in_err-change_to-clause-lasting : goal.returns-in_err-change_to-clause-lasting
-returns-in_err-change_to-clause-lasting g c =
-    lasting_then _ _ _ _ _ _ _ _ _ c.flush.ensures.lasting c.change_to.ensures.lasting
-
-pub returns-clause-lasting : goal.returns-clause-lasting
-returns-clause-lasting g c = lasting_then _ _ _ _ _ _ _ _ _ c.flush.ensures.lasting
-    (lasting_then _ _ _ _ _ _ _ _ _ c.change_to.ensures.lasting c.end_section-2.ensures.lasting)
 
 pub returns-in_err-flush-clause-front : goal.returns-in_err-flush-clause-front
 returns-in_err-flush-clause-front g c =

@@ -1,7 +1,7 @@
 -- The end of a section, or a prefix of it.
 use Rattle.tape_writer.proofs.Words.{◌++◌, ◌∷◌, [], List, subst, ◌∙◌, ap, TapeItem, block, mark}
 use Rattle.tape_writer.specs.Tapes.{UnderWay}
-use Rattle.tape_writer.specs.Labels.{trailer_label, second_label, second_kind, trailer_items}
+use Rattle.tape_writer.specs.Labels.{trailer_label, second_label, second_kind}
 use Rattle.tape_writer.proofs.Fronts.{front_here, front_items, front_behind, front_thrice}
 use Rattle.tape_writer.proofs.Fronts.{front_assoc, took}
 use Rattle.tape_writer.proofs.tape.Tape.end_section.Goals as goal

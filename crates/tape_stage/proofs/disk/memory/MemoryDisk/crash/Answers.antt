@@ -18,15 +18,3 @@ returns-else-content-clause-possible c =
     let d = c.args.self.content in
     subst (λ (b : List ℕ). memory_leaves c.args.self b) (chosen _ _ d.worst.items d.bytes.items
     c.if-content.false ∙ sym c.from_bytes-else-content.ensures.bytes) (worst_left_now d)
-
-pub returns-then-content-clause-worst : goal.returns-then-content-clause-worst
-returns-then-content-clause-worst c =
-    let d = c.args.self.content in
-    c.from_bytes.ensures.bytes ∙ sym (chosen _ _ d.worst.items d.bytes.items
-    c.if-content.true) ∙ sym d.right.worst_is
-
-pub returns-else-content-clause-worst : goal.returns-else-content-clause-worst
-returns-else-content-clause-worst c =
-    let d = c.args.self.content in
-    c.from_bytes-else-content.ensures.bytes
-    ∙ sym (chosen _ _ d.worst.items d.bytes.items c.if-content.false) ∙ sym d.right.worst_is

@@ -1,4 +1,4 @@
-use Rattle.tape_stage.proofs.HoldingLaws.{then_elapses, cut_same}
+use Rattle.tape_stage.proofs.HoldingLaws.{then_elapses}
 use Rattle.tape_stage.proofs.disk.write_behind.WriteBehindDisk.cut.Goals as goal
 
 pub returns-clause-time : goal.returns-clause-time
@@ -7,7 +7,3 @@ returns-clause-time g c honest =
     then_elapses _ _ _ _ _ _ _ _ _ _ _ _ _ passed.empty (passed.looks.crash honest) (λ t x le now.
     g.met.D.Disk.counts_now c.pass_on.new.self.disk t x (passed.looks.honest.onward honest) le now)
     (passed.looks.time honest) (c.cut.ensures.time (passed.looks.honest.onward honest))
-
-pub returns-in_err-pass_on-clause-crash : goal.returns-in_err-pass_on-clause-crash
-returns-in_err-pass_on-clause-crash g c honest x left =
-    (x, c.pass_on.ensures.looks.crash honest x left, cut_same c.args.len x)

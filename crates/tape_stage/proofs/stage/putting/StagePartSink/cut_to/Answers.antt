@@ -58,3 +58,14 @@ returns-in-Err-clause-drops g c less =
     dropped_is c.args.self.now c.cut_back.new.self c.in-Err.fault c.sink_fault.result
     c.args.point.now c.sink_fault.ensures e.ends.refused
     (λ device. (e.drops less).1 (ap Err device))
+
+pub returns-in-Ok-clause-drops : goal.returns-in-Ok-clause-drops
+returns-in-Ok-clause-drops g c less =
+    let named = (c.in-Ok.ensures.drops less).0 in
+    record {
+      acknowledged = named.acknowledged;
+      pending = named.pending;
+      slot = named.slot;
+      generation = named.generation;
+      names = named.names;
+    }

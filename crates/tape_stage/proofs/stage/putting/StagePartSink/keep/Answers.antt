@@ -1,10 +1,9 @@
-use Rattle.std.proofs.Common.{◌≡◌, ◌∙◌, ℕ, List, [], ap, sym, inr, append-nil, Option, Some, None}
+use Rattle.std.proofs.Common.{◌≡◌, ◌∙◌, ℕ, List, [], ap, sym, append-nil, Option, Some, None}
 use Rattle.std.proofs.Common.{Err}
 use Rattle.tape_blocks.specs.Block.{Portion}
 use Rattle.tape_core.specs.{Crash.IsThis, Point.Point, Stands.weight_of}
 use Rattle.tape_stage.specs.{Parts.IsFront, Stages.Returns}
-use Rattle.tape_stage.proofs.Held.{stage_holds, refused_holds, change_refused}
-use Rattle.tape_stage.proofs.Held.{pending_is}
+use Rattle.tape_stage.proofs.Held.{stage_holds, refused_holds}
 use Rattle.tape_stage.proofs.Keeps.{frames_holding}
 use Rattle.tape_stage.proofs.Backs.{returned_kept, returned_now, adds_this, adds_refused}
 use Rattle.tape_stage.proofs.stage.putting.StagePartSink.keep.Goals as goal
@@ -70,16 +69,3 @@ returns-in-Err-clause-crash g c parts holds =
     adds_this s c.save.new.self was.0 parts parts c.args.point.now
     (g.met.D.Disk.seen_now s.disk honest) was.1 (e.any_moment honest was.0 parts parts was.1
     (all_of _ parts (c.requires ∙ holds.weighs))))
-
-pub returns-in-Err-clause-why : goal.returns-in-Err-clause-why
-returns-in-Err-clause-why g c =
-    let e = c.in-Err.ensures in
-    change_refused c.args.self.now c.save.new.self _ c.in-Err.fault c.sink_fault.result
-    c.sink_fault.ensures e.ends.refused (λ device. e.ends.cause (ap Err device))
-    (λ full. inr (e.full (ap Err full)))
-
-pub returns-in-Err-clause-pending : goal.returns-in-Err-clause-pending
-returns-in-Err-clause-pending g c =
-    let e = c.in-Err.ensures in
-    pending_is c.args.self.now c.save.new.self c.in-Err.fault c.sink_fault.result c.args.point.now
-    c.sink_fault.ensures e.ends.refused (λ device. e.pending (ap Err device))

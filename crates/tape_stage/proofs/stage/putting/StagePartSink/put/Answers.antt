@@ -1,6 +1,6 @@
-use Rattle.std.proofs.Common.{[], ◌∷◌, ◌++◌, ap, inl, arith, Err}
+use Rattle.std.proofs.Common.{[], ◌∷◌, ◌++◌}
 use Rattle.tape_blocks.specs.Parts.{view}
-use Rattle.tape_stage.proofs.Held.{stage_holds, refused_holds, change_refused}
+use Rattle.tape_stage.proofs.Held.{stage_holds, refused_holds}
 use Rattle.tape_stage.proofs.{Keeps.kept_front_holding, Backs.adds_nothing, Backs.adds_refused}
 use Rattle.tape_stage.proofs.stage.putting.StagePartSink.put.Goals as goal
 
@@ -37,10 +37,3 @@ returns-in-Err-clause-crash g c parts holds =
     let was = holds.ready alive in
     adds_nothing s c.put_part.new.self was.0 parts (g.met.D.Disk.seen_now s.disk honest) was.1
     (e.any_moment honest was.0 parts was.1))
-
-pub returns-in-Err-clause-why : goal.returns-in-Err-clause-why
-returns-in-Err-clause-why g c =
-    let e = c.in-Err.ensures in
-    change_refused c.args.self.now c.put_part.new.self _ c.in-Err.fault _
-    c.sink_fault.ensures e.ends.refused (λ device. e.ends.cause (ap Err device))
-    (λ full. inl (omega (arith, c.requires, (e.full (ap Err full)).1)))

@@ -1,0 +1,270 @@
+//! The help texts of the commands that recover files.
+
+// `extract`: descriptions of arguments and commands.
+pub const ABOUT_EXTRACT: &str = "Recover one file from the images of its set";
+
+pub const SET: &str = "Set identifier, up to 6 characters; 'tape list' shows it in HDR1";
+
+pub const FILE: &str = "Number of the file in its set, 1 to 9999";
+
+pub const OUT: &str = "Output file; not touched until the file is complete";
+
+pub const REELS: &str = "SIMH .tap images (at most 256; see --files-from)";
+
+pub const FORM_OF_OUT: &str = "lines: end each record with a line feed;
+raw: do not";
+
+pub const STAGE: &str = "Save recovered data here, and continue from it";
+
+pub const AGAIN: &str = "Repeat until a pass recovers nothing new";
+
+// `extract`: errors in arguments.
+pub const WRONG_SET: &str = "SET must have 1 to 6 characters, for example 'ABC001'";
+
+pub const TOO_MANY_IMAGES: &str =
+    "extract takes up to 256 IMAGEs, and any number of names from a list:
+  find . -name '*.tap' | tape extract SET FILE OUT --files-from -";
+
+pub const OUT_IS_DASH: &str = "OUT must be a file, because the progress lines go to standard output:
+write './-' for a file of that name, or /dev/stdout to have both";
+
+pub const OUT_IS_STAGE: &str =
+    "OUT is the stage itself and would be overwritten: choose another name";
+
+pub const OUT_IS_LIST: &str =
+    "OUT is the list of images and would be overwritten: choose another name";
+
+pub const OUT_IS_IMAGE: &str =
+    "OUT is one of the images and would be overwritten. OUT comes before them:
+  tape extract ABC001 1 payroll.txt *.tap";
+
+pub const AFTER_EXTRACT: &str =
+    "Name every image you have of the set, good or damaged. Images of other sets do
+no harm. Give --again whenever you name several: their order does not matter,
+and a block that is unreadable on one copy is taken from another. Give --stage
+too if more reels may turn up: otherwise an incomplete recovery keeps nothing.
+Without --again images are read once, in order, each only as far as needed;
+images after the one that completes the file are not read. Names from LIST come
+after the IMAGEs; empty lines are ignored.
+
+One line per image:
+  REEL n COMPLETE                 file complete
+  REEL n SECTION DONE             section complete; the file continues on
+                                  another reel
+  REEL n REEL ENDED               image ends early: add another copy
+  REEL n BAD ITEM                 a block or label is unreadable: add another
+                                  copy
+  REEL n LATER SECTION            a later section of the file: use --again, or
+                                  name it again after the others
+  REEL n EARLIER SECTION          nothing new
+  REEL n OTHER SET                belongs to another set
+  REEL n NOT ON REEL              does not contain this file
+  REEL n NOT LABELLED             no ECMA-13 labels, or a blank volume
+  REEL n NOT OPENED               check its name and your permissions
+  REEL n BLOCK COUNT LABEL SEEN   the trailer has another block count: a block
+                                  was lost or duplicated
+  REEL n BROKEN                   not read, because a count before it was wrong:
+                                  use --again or --stage
+  REEL n BAD BLOCK CAUSE OFFSET   block contents do not fit the record format
+  REEL n BAD LABEL CAUSE          label cannot be read
+  REEL n SECTION DIFFERS          labels do not match those read before
+  REEL n SPAN LEFT                file ends inside a record
+followed by ' IMAGE CAUSE OFFSET' if the image itself ended the reading ('tape
+--help' lists the causes). The last line is 'COMPLETE n' (n records), or 'AWAITS
+FILE SECTION BLOCK', the first block that is missing, counted from 0, and the
+part of it if some of its parts were read.
+
+With --again the numbering continues: the second pass over three images is
+REEL 4 to REEL 6. With --explain the name of each image precedes its line, on
+standard error:
+  REEL 4: one.tap
+With --again or --stage the data of an image that answers BLOCK COUNT is
+discarded. With --again and without --stage the records are kept in memory until
+the file is complete.
+
+With --stage the recovered data is saved after each image, and the next run
+continues from it. If a run is interrupted at any moment, the stage has the data
+that was saved last, or the data that was being saved. When the file is
+complete, OUT contains all that the stage has, and you may delete the stage.
+
+The records go to .tape-1.part in OUT's directory. It becomes OUT when the file
+is complete, and is removed otherwise; the next run removes one that a killed
+run left. An OUT that is the stage, the list or one of the images is refused,
+and so is one that may be a tape ('tape: file fault 1'): an existing file that
+is not empty and has a name ending in .tap, begins like an image, or is
+compressed, an archive or a stage. If OUT is a pipe, a link or a device, the
+records are written to it at the end.
+
+Exit status: 0 complete, 1 error, 2 usage error, 3 incomplete
+
+Examples:
+  tape extract ABC001 1 payroll.txt *.tap --again
+  tape extract ABC001 1 payroll.txt *.tap --again --stage payroll.stage
+  find . -name '*.tap' | tape extract ABC001 1 out.txt --files-from - --again";
+
+// `unpack`: descriptions of arguments and commands.
+pub const ABOUT_UNPACK: &str = "Recover every file on the images into a directory";
+
+pub const FOLDER_OF_FILES: &str = "Existing directory for the files and their stages";
+
+pub const SET_TO_UNPACK: &str = "Only files of this set";
+
+pub const FILES_TO_UNPACK: &str = "Only files with this number or name; '*' in a name
+represents any characters. May be repeated";
+
+pub const LIST_ONLY: &str = "Print what would be done, and create nothing";
+
+pub const SALVAGE_FILES: &str = "Write what is readable of each incomplete file as
+NAME.salvaged, and where it has gaps as NAME.gaps";
+
+// `unpack`: errors in arguments.
+pub const TOO_MANY_TO_UNPACK: &str =
+    "unpack takes up to 256 IMAGEs, and any number of names from a list:
+  find . -name '*.tap' -print0 | tape unpack DIR --files-from - --null";
+
+pub const DIR_IS_NO_FOLDER: &str = "DIR is not a directory. It comes before the images:
+  mkdir ../out; tape unpack ../out *.tap";
+
+pub const AFTER_UNPACK: &str =
+    "tape first reads all images to find out which sets and files they contain, as
+'tape survey' reports them. Then it recovers each file as 'tape extract --again'
+does. A file that is incomplete leaves a stage in DIR, and the next run
+continues from it, with other images too. Images are opened more than once, so a
+pipe such as '<(zcat NAME)' does not work.
+
+One line per file:
+  FILE ABC001 1 COMPLETE 25 ../out/ABC001.1.PAYROLL
+           written, 25 records
+  FILE ABC001 2 AWAITS 2 2 14 ../out/ABC001.2.LEDGER.stage
+           incomplete: file, section, block (and part) missing; its stage
+  FILE ABC001 2 SALVAGED 90 ../out/ABC001.2.LEDGER.salvaged
+           with --salvage: the readable records of an incomplete file
+  FILE ABC001 3 EXISTS ../out/ABC001.3.TAXES
+           a file of this name exists; it was not changed
+  FILE ABC001 4 CONFLICT
+           labels of different files have this number, or good copies of a
+           section differ: nothing was written. 'tape survey' says which. Keep
+           the images of each set in a directory of its own
+  FILE ABC001 5 NOT FOUND
+           no label of this file was found, only of a later one of its set
+  FILE ABC001 6 FAILED file fault 2 ../out/ABC001.6.INDEX
+           this error; the other files are recovered if possible
+With --list, READY or LACKS and a section replaces COMPLETE and AWAITS: whether
+each section of the file is complete on some image.
+
+Further lines:
+  NO SET ABC002            no file was found that --set or --file means
+  INCOMPLETE IMAGE a.tap   it could not be opened, or is not a whole volume in
+                           formats that tape reads; 'tape survey' says why
+and a last line with the number of files by outcome:
+  TOTAL 1 complete 1 existing 1 incomplete 1 in conflict 1 not found 1 failed
+
+Files are named SET.FILE.NAME after their labels. In SET, '_' replaces a space
+and %XX any other character except digits and capital letters; in NAME, %XX
+replaces '%', unprintable characters and those that some file system refuses,
+and spaces at the end are left out. A file gets its name when it is complete,
+and its stage, NAME.stage, is then removed. Existing files are never
+overwritten.
+
+With --salvage, NAME.gaps names the images and has the lines of 'tape salvage'.
+Both files are written anew by each run and removed when the file is complete,
+unless somebody changed them.
+
+Exit status: 0 all chosen files complete and all images read, 1 error, 2 usage
+error, 3 a file is incomplete, in conflict or not found, an image was not read
+to its end, or no file was found
+
+Examples:
+  mkdir ../out; tape unpack ../out *.tap
+  find . -name '*.tap' -print0 | tape unpack ../out --files-from - --null
+  tape unpack ../out *.tap --set ABC001 --file 2 --file 'PAY*' --list";
+
+// `salvage`: descriptions of arguments and commands.
+pub const ABOUT_SALVAGE: &str = "Recover what is readable of a file that no image has completely";
+
+pub const OUT_OF_SALVAGE: &str = "New file for the recovered records (never an existing one)";
+
+pub const FORM_OF_SALVAGED: &str = "lines: end each record with a line feed;
+raw: do not; blocks: whole blocks";
+
+// `salvage`: errors in arguments.
+pub const TOO_MANY_TO_SALVAGE: &str =
+    "salvage takes up to 256 IMAGEs, and any number of names from a list:
+  find . -name '*.tap' -print0 | tape salvage SET FILE OUT --files-from - --null";
+
+pub const AFTER_SALVAGE: &str = "Examples:
+  tape salvage ABC001 1 ../out/payroll.part *.tap > ../out/payroll.gaps
+  tape salvage ABC001 2 ../out/dump.bin old.tap --form blocks
+
+Try 'tape extract --again' first: it writes a file only if nothing is missing.
+'tape salvage' writes all records whose blocks are readable, in order, and
+prints a line for each gap. A record with a missing part is left out. With
+--form blocks it copies each readable block unchanged, even if tape does not
+read the record format or the volume has no HDR2.
+
+The lines give a section (counted from 1), its blocks (from 0) and the number
+of records written so far:
+  IMAGE 2 NOT OPENED    the second image could not be opened
+  CONFLICT 1 1 3        the first and the third image have complete copies of
+                        section 1 that differ; the first one is used
+  SECTION 1 2 40        section 1 is read from the second image, which has 40
+                        data blocks of it, unreadable ones included
+  GAP 1 5 7 120         blocks 5 to 7 of section 1 are missing, after record
+                        120
+  GAP 1 30 - 700        all blocks from 30 on are missing, number unknown
+  GAP 2 - - 700         section 2 was not found on any image
+  NO FORM 2 700         no label has the form of section 2: use --form blocks
+  TORN 1 8 120          a record interrupted at block 8 is left out
+  REFUSED 1 9 3 0 120   block 9 does not fit the record format (block fault 3
+                        at byte 0) and counts as missing
+  UNSURE 1 30 38        items 30 to 38 may be blocks or labels, and are left
+                        out
+  COUNT 1 40 39         the trailer label counts 40 blocks, but there are 39
+The last line is COMPLETE and the number of records if nothing is missing and
+no copies differ, and otherwise SALVAGED and their number. OUT is written in
+both cases. Keep the lines with it: OUT itself does not show where something is
+missing.
+
+Each image is opened twice, so a pipe such as '<(zcat NAME)' does not work.
+
+Exit status: 0 nothing is missing and no copies differ, 1 error, 2 usage error,
+3 something is missing, or copies differ";
+
+// `stage`: descriptions of arguments and commands.
+pub const ABOUT_STAGE: &str = "Show what a stage contains, and write its records";
+
+pub const STAGE_READ: &str = "Stage of 'tape extract' or 'tape unpack'; it is not changed";
+
+pub const OUT_OF_STAGE: &str = "Output file for the records recovered so far";
+
+pub const DAMAGED: &str = "Use the intact beginning of a damaged stage";
+
+// `stage`: errors in arguments.
+pub const ONE_OUT: &str = "stage takes one stage and at most one OUT";
+
+pub const AFTER_STAGE: &str =
+    "Two lines: set, file and number of complete records, then the last line of
+'extract'.
+  STAGE ABC001 1 20
+  AWAITS 1 1 2
+
+OUT receives the records recovered so far, from the start of the file and
+without gaps. An incomplete last record is left out. The same files are refused
+as OUT as by 'extract'.
+
+'tape: stage fault 2' means that the stage is damaged. With --damaged, tape uses
+the part before the damage:
+  tape stage payroll.stage part.txt --damaged
+  STAGE ABC001 1 12
+  TRUNCATED AT 1276
+The number is the byte offset of the damage in the stage. Changed bytes inside a
+record cannot be detected.
+
+The stage is only read, so it may be on a read-only disk. While 'extract' uses
+it, 'tape stage' fails with stage fault 7.
+
+Exit status: 0 file complete, 1 error, 2 usage error, 3 file incomplete or stage
+damaged
+
+Example:
+  tape stage payroll.stage part.txt";
