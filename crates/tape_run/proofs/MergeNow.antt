@@ -9,6 +9,7 @@ use Rattle.std.proofs.KnownBytes.{Appends-nil, Appends-trans}
 use Rattle.tape_image.specs.Tape.{TapeItem}
 use Rattle.tape_image.specs.Written.{written, AppendsFront}
 use Rattle.tape_image.specs.Writer.{Writer, writing, PutItems}
+use Rattle.tape_image.proofs.Pieces.{front_more}
 use Rattle.tape_image.proofs.WrittenItems.{put_item}
 use Rattle.tape_run.specs.declared.merge.Merged.{Merged}
 use Rattle.tape_run.specs.declared.merge.MergeFault.{MergeFault}
@@ -99,7 +100,10 @@ pub says_front : {R : Type 0} (firsts nows : List (Reading R)) (counts : Merged)
 says_front firsts nows counts first mid log logged names same old new merges all part = inr (
   nows,
   all,
-  inl (part, λ images front. let m = merges images front in (m.readings, m.have)),
+  inl (
+    part,
+    λ images front. let m = merges images front in (m.readings, m.merged, m.have, m.ended, m.is),
+  ),
 )
 
 pub says_lines : {R : Type 0} (firsts nows : List (Reading R)) (counts : Merged)
@@ -133,11 +137,10 @@ module _ {R : Type 0} (firsts nows : List (Reading R)) (was now : Writer) (n : �
 
   pub says_first : (old new : Option (List ℕ))
       → AppendsFront old new (lines_from (reading_line names) 0 nows) → Says old new
-  says_first old new part = inr (
-    nows,
-    many,
-    inl (part, λ images front. let d = differ images front in (d.readings, d.have)),
-  )
+  says_first old new part =
+      let lines = lines_from (reading_line names) 0 nows in
+      let more = differ_line n ++ lines_from (has_line names) 0 nows in
+      inr (nows, many, inr (n, front_more old new lines more part, differ))
 
   -- also the number of the item, or a prefix of that line
   pub says_differ : (old mid new : Option (List ℕ))

@@ -149,12 +149,14 @@ Misses missing long stops.LogFailed = ⊤
 
 -- Lines about so many readings were reported, or a prefix of them; or also lines about an item at
 -- which they differ: none about a merged image. If the bytes of the images are known, the lines are
--- about what was read of them.
+-- about what was read of them: all of it, of images that have a merged tape, or up to the item at
+-- which they differ.
 abbrev pub ReportsNoImage : Type 0 → ((List (List ℕ) → Type 0) → Type 0) → List (List ℕ) → ℕ
     → Option (List ℕ) → Option (List ℕ) → Type 0
 ReportsNoImage R if_known names count old new = (nows : List (Reading R)) × (length nows ≡ count)
     × ((AppendsFront old new (lines_from (reading_line names) 0 nows)
-    × if_known (λ images. (readings : List (List TapeItem)) × TakeImages images nows readings))
+    × if_known (λ images. (readings : List (List TapeItem)) × (merged : List TapeItem)
+    × TakeImages images nows readings × AllStopped nows × IsMerged readings merged))
     ⊎ ((n : ℕ) × AppendsFront old new (lines_from (reading_line names) 0 nows ++ (differ_line n
     ++ lines_from (has_line names) 0 nows)) × if_known (λ images. DifferImages images nows n)))
 
