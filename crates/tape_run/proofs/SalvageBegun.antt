@@ -1,7 +1,6 @@
 -- A section that was being recovered when an error came, and the sections before it.
-use Rattle.std.proofs.Common.{◌≡◌, inl, inr, ℕ, ◌+◌, ◌<◌, ◌≤◌, true, false, List, [], ◌∷◌}
-use Rattle.std.proofs.Common.{◌++◌, length, Option, Some, None, refl, sym, ap, subst, ◌∙◌, arith}
-use Rattle.std.proofs.Common.{append_assoc}
+use Rattle.std.proofs.Common.{◌≡◌, inl, inr, ℕ, ◌+◌, ◌<◌, true, false, List, []}
+use Rattle.std.proofs.Common.{◌++◌, length, Option, Some, None, refl, sym, subst, ◌∙◌, arith}
 use Rattle.std.specs.Prelude.{if◌then◌else◌}
 use Rattle.std.specs.Io.KnownBytes.{Appends}
 use Rattle.tape_image.specs.Tape.{TapeItem}
@@ -22,10 +21,10 @@ use Rattle.tape_run.specs.SalvageBlocks.{Salvaged, ReportsFront}
 use Rattle.tape_run.specs.SalvageChoice.{firsts, IsBest, last_section, form_of_file}
 use Rattle.tape_run.specs.SalvageImage.{RecoversSection, BeginsWith, salvaged_from, text_from}
 use Rattle.tape_run.specs.SalvageEnds.{no_section_text, no_form_text, read_again_text}
-use Rattle.tape_run.specs.SalvageTaking.{Taken, MountsIf, MountsPart, IsBegun}
+use Rattle.tape_run.specs.SalvageTaking.{MountsIf, MountsTaken, StopsCopy, StopsSection}
 use Rattle.tape_run.specs.SalvageTaking.{StopsTaking, form_for, has_form, copy_text, taken_text}
 use Rattle.tape_run.specs.SalvageTaking.{AreTaken, GoOn, after_all, all_text, last_end, last_text}
-use Rattle.tape_run.specs.SalvageTaking.{file_text, next_section, image_number, after_taken}
+use Rattle.tape_run.specs.SalvageTaking.{file_text, next_section, image_number, items_text}
 use Rattle.tape_run.proofs.Fitting.{no_text}
 use Rattle.tape_run.proofs.SalvageTaking.{TakenSoFar}
 
@@ -40,10 +39,13 @@ pub line_begun : {W : Type 0} (contents : W → Option (List ℕ)) (before : Opt
     (c : SectionCopy) (sect : ℕ) (form : Option FileForm) (old : Recovery W)
     (said says : Option (List ℕ))
     → AppendsFront said says (section_line sect (image_number c.image) c.section.blocks)
-    → (items : List TapeItem) × BeginsWith before items
-    × ReportsFront contents old said says (copy_text sect c form (Some items))
-line_begun contents before c sect form old said says part =
-    ([], begins_empty before, λ start g h. front_more said says _ _ part)
+    → (lines : Salvaged → List ℕ) × StopsCopy before sect c form lines
+    × ReportsFront contents old said says lines
+line_begun contents before c sect form old said says part = (
+  items_text sect c form [],
+  ([], inl (begins_empty before, refl)),
+  λ start g h. front_more said says _ [] part,
+)
 
 -- it was, but the data that were read again were not all reported
 pub items_begun : {W : Type 0} (contents : W → Option (List ℕ)) (before : Option (List ℕ))
@@ -53,20 +55,19 @@ pub items_begun : {W : Type 0} (contents : W → Option (List ℕ)) (before : Op
     → Appends said one (section_line sect (image_number c.image) c.section.blocks)
     → (items : List TapeItem) × BeginsWith before items × ReportsFront contents old one says
     (λ g. text_from c.section.key most form origin g items)
-    → (items : List TapeItem) × BeginsWith before items
-    × ReportsFront contents old said says (copy_text sect c form (Some items))
+    → (lines : Salvaged → List ℕ) × StopsCopy before sect c form lines
+    × ReportsFront contents old said says lines
 items_begun contents before c sect form origin most old said one says first count line
     (items, begins, part) =
     let key = c.section.key in (
-      items,
-      begins,
+      items_text sect c form items,
+      (items, inl (begins, refl)),
       subst (λ o. ReportsFront contents old one says (λ g. text_from key most form o g items)
-          → ReportsFront contents old said says (copy_text sect c form (Some items))) (sym first)
+          → ReportsFront contents old said says (items_text sect c form items)) (sym first)
           (subst (λ m. ReportsFront contents old one says
           (λ g. text_from key m form (start_of c) g items)
-          → ReportsFront contents old said says (copy_text sect c form (Some items))) (sym count)
-          (λ r start g h. front_behind said one says _ _ line
-          (front_more one says _ _ (r start g h)))) part,
+          → ReportsFront contents old said says (items_text sect c form items)) (sym count)
+          (λ r start g h. front_behind said one says _ _ line (r start g h))) part,
     )
 
 -- they were, but the end of the section was not
@@ -77,8 +78,8 @@ pub end_begun : {W : Type 0} (contents : W → Option (List ℕ)) (before after 
     → Appends said one (section_line sect (image_number c.image) c.section.blocks)
     → RecoversSection contents before after origin c.section.key most form old mid one two read
     → ReportsFront contents mid two says (read_again_text read c)
-    → (items : List TapeItem) × BeginsWith before items
-    × ReportsFront contents old said says (copy_text sect c form (Some items))
+    → (lines : Salvaged → List ℕ) × StopsCopy before sect c form lines
+    × ReportsFront contents old said says lines
 end_begun contents before after c sect form origin most old mid said one two says read first count
     line found part =
     let key = c.section.key in
@@ -86,8 +87,8 @@ end_begun contents before after c sect form origin most old mid said one two say
     two read) count
     (subst (λ o. RecoversSection contents before after o key most form old mid one two read) first
     found) in (
-      r.items,
-      r.reads.walked,
+      copy_text sect c form (Some r.items),
+      (r.items, inr (after, r.is_ended, r.reads, refl)),
       λ start g h.
           let a = r.recovers start g h in
           front_behind said one says _ _ line (front_behind one two says _ _ a.1
@@ -102,29 +103,29 @@ module _ {W L R : Type 0} (contents : W → Option (List ℕ)) (gives : Mounting
 
   -- the section with this number, and a prefix of its lines
   abbrev pub Begun : ℕ → L → L → Recovery W → Option (List ℕ) → Option (List ℕ) → Type 0
-  Begun sect shelf left old said says = (next : List Taken)
-      × IsBegun gives remaining copies content known sect shelf left next
-      × ReportsFront contents old said says (all_text content known sect next)
+  Begun sect shelf left old said says = (lines : Salvaged → List ℕ)
+      × StopsSection gives remaining copies content known sect shelf left lines
+      × ReportsFront contents old said says lines
 
   pub none_begun : (sect : ℕ) (shelf left : L) (old : Recovery W) (said : Option (List ℕ))
       → left ≡ shelf → Begun sect shelf left old said said
-  none_begun sect shelf left old said same = ([], same, λ start g h. no_text said [])
+  none_begun sect shelf left old said same =
+      ((λ (g : Salvaged). []), inl (same, refl), λ start g h. no_text said [])
 
-  begun : (sect : ℕ) (t : Taken) (shelf left : L) (old : Recovery W) (said says : Option (List ℕ))
-      → IsBest (firsts sect None copies) t.copy
-      → MountsPart gives remaining content known t.copy shelf left t.items
-      → ReportsFront contents old said says (taken_text content known sect t.copy t.items)
+  begun : (sect : ℕ) (copy : Option SectionCopy) (shelf left : L) (old : Recovery W)
+      (said says : Option (List ℕ)) → IsBest (firsts sect None copies) copy
+      → MountsTaken gives remaining content known copy shelf left None
+      → ReportsFront contents old said says (taken_text content known sect copy None)
       → Begun sect shelf left old said says
-  begun sect t shelf left old said says best mounts part =
-      (t ∷ [], (refl, best, mounts), λ start g h. front_more said says _ [] (part start g h))
+  begun sect copy shelf left old said says best mounts part =
+      (taken_text content known sect copy None, inr (copy, best, inl (mounts, refl)), part)
 
   pub without_copy : (sect : ℕ) (shelf left : L) (old : Recovery W) (said says : Option (List ℕ))
       → IsBest (firsts sect None copies) None → left ≡ shelf
       → ReportsFront contents old said says (no_section_text sect)
       → Begun sect shelf left old said says
   without_copy sect shelf left old said says best same part =
-      begun sect (record { copy = None; items = None }) shelf left old said says best (same, refl)
-      part
+      begun sect None shelf left old said says best (same, refl) part
 
   abbrev form_of : SectionCopy → Option FileForm
   form_of c = form_for content c.section.form known
@@ -135,7 +136,7 @@ module _ {W L R : Type 0} (contents : W → Option (List ℕ)) (gives : Mounting
       → ReportsFront contents old said says (no_form_text sect)
       → Begun sect shelf left old said says
   without_form sect c shelf left old said says best off same part =
-      begun sect (record { copy = Some c; items = None }) shelf left old said says best
+      begun sect (Some c) shelf left old said says best
       (subst (λ b. MountsIf b gives remaining c shelf left None) (sym off) (same, refl))
       (subst (λ b. ReportsFront contents old said says
       (λ g. if b then no_section_text sect g else no_form_text sect g)) (sym off) part)
@@ -146,7 +147,7 @@ module _ {W L R : Type 0} (contents : W → Option (List ℕ)) (gives : Mounting
       → ReportsFront contents old said says (no_section_text sect)
       → Begun sect shelf left old said says
   without_image sect c shelf left old said says best on gave part =
-      begun sect (record { copy = Some c; items = None }) shelf left old said says best
+      begun sect (Some c) shelf left old said says best
       (subst (λ b. MountsIf b gives remaining c shelf left None) (sym on) (None, gave, refl))
       (subst (λ b. ReportsFront contents old said says
       (λ g. if b then no_section_text sect g else no_form_text sect g)) (sym on) part)
@@ -154,15 +155,11 @@ module _ {W L R : Type 0} (contents : W → Option (List ℕ)) (gives : Mounting
   pub copy_begun : (sect : ℕ) (c : SectionCopy) (device : R) (shelf left : L) (old : Recovery W)
       (said says : Option (List ℕ)) → IsBest (firsts sect None copies) (Some c)
       → has_form content (form_of c) ≡ true → gives shelf c.image (Some device) left
-      → (items : List TapeItem) × BeginsWith (remaining device) items
-      × ReportsFront contents old said says (copy_text sect c (form_of c) (Some items))
+      → (lines : Salvaged → List ℕ) × StopsCopy (remaining device) sect c (form_of c) lines
+      × ReportsFront contents old said says lines
       → Begun sect shelf left old said says
-  copy_begun sect c device shelf left old said says best on gave (items, begins, part) =
-      begun sect (record { copy = Some c; items = Some items }) shelf left old said says best
-      (device, gave, begins)
-      (subst (λ b. ReportsFront contents old said says
-      (λ g. if b then copy_text sect c (form_of c) (Some items) g else no_form_text sect g))
-      (sym on) part)
+  copy_begun sect c device shelf left old said says best on gave (lines, stops, part) =
+      (lines, inr (Some c, best, inr (c, refl, on, device, gave, stops)), part)
 
   -- the image was opened, but there was no memory to read it
   pub none_read : (sect : ℕ) (c : SectionCopy) (device : R) (shelf left : L) (old : Recovery W)
@@ -170,32 +167,13 @@ module _ {W L R : Type 0} (contents : W → Option (List ℕ)) (gives : Mounting
       → has_form content (form_of c) ≡ true → gives shelf c.image (Some device) left
       → Begun sect shelf left old said said
   none_read sect c device shelf left old said best on gave =
-      copy_begun sect c device shelf left old said said best on gave
-      ([], begins_empty (remaining device), λ start g h. no_text said _)
+      copy_begun sect c device shelf left old said said best on gave (
+        items_text sect c (form_of c) [],
+        ([], inl (begins_empty (remaining device), refl)),
+        λ start g h. no_text said _,
+      )
 
   -- ---- all sections
-
-  text_join : (n : ℕ) (ts us : List Taken) (g : Salvaged)
-      → all_text content known n (ts ++ us) g ≡ all_text content known n ts g
-      ++ all_text content known (n + length ts) us (after_all content known ts g)
-  text_join n [] us g =
-      let at : n ≡ n + 0 = omega arith in ap (λ m. all_text content known m us g) at
-  text_join n (t ∷ ts) us g =
-      let at : n + 1 + length ts ≡ n + length (t ∷ ts) = omega arith in
-      let z = after_taken content known t.copy t.items g in
-      let a = taken_text content known n t.copy t.items g in
-      ap (λ (l : List ℕ). a ++ l) (text_join (n + 1) ts us z
-      ∙ ap (λ m. all_text content known (n + 1) ts z
-      ++ all_text content known m us (after_all content known ts z)) at)
-      ∙ sym (append_assoc a (all_text content known (n + 1) ts z)
-      (all_text content known (n + length (t ∷ ts)) us (after_all content known ts z)))
-
-  few : (n m : ℕ) (shelf left : L) (next : List Taken)
-      → IsBegun gives remaining copies content known n shelf left next → m < last_section copies
-      → m + length next ≤ last_section copies
-  few n m shelf left [] same within = omega (arith, within)
-  few n m shelf left (t ∷ ts) (none, best, mounts) within =
-      let empty : length ts ≡ 0 = ap length none in omega (arith, within, empty)
 
   abbrev pub Stopped : L → L → Recovery W → Option (List ℕ) → Option (List ℕ) → Type 0
   Stopped shelf left old said says = (lines : Salvaged → List ℕ)
@@ -207,33 +185,32 @@ module _ {W L R : Type 0} (contents : W → Option (List ℕ)) (gives : Mounting
       (said w says : Option (List ℕ)) → n < last_section copies → known ≡ form_of_file copies
       → TakenSoFar contents gives remaining copies content known n end shelf now old mid said w
       → Begun (n + 1) now left mid w says → Stopped shelf left old said says
-  stops_in n end shelf now left old mid said w says within form s (next, begins, part) =
+  stops_in n end shelf now left old mid said w says within form s (part, begins, fronts) =
       let at : n + 1 ≡ length s.taken + 1 = omega (arith, s.counted) in
-      let same : n + 1 ≡ 1 + length s.taken = omega (arith, s.counted) in
-      let less : length s.taken < last_section copies = omega (arith, s.counted, within) in (
-        all_text content known 1 (s.taken ++ next),
+      let less : length s.taken < last_section copies = omega (arith, s.counted, within) in
+      let lines = λ (f : Option FileForm) (g : Salvaged). all_text content f 1 s.taken g
+      ++ part (after_all content f s.taken g) in (
+        lines (form_of_file copies),
         record {
           taken = s.taken;
-          next = next;
           mid = now;
           took = subst (λ f. AreTaken gives remaining copies content f 1 shelf s.taken now) form
               s.took;
-          begun = subst (λ f. IsBegun gives remaining copies content f (length s.taken + 1) now left
-              next) form
-              (subst (λ m. IsBegun gives remaining copies content known m now left next) at begins);
-          are = inl (
+          are = inr (inl (
             subst (λ f. GoOn content f s.taken) form s.on,
-            few (n + 1) (length s.taken) now left next begins less,
-            ap (λ f. all_text content f 1 (s.taken ++ next)) form,
-          );
+            less,
+            part,
+            subst (λ f. StopsSection gives remaining copies content f (length s.taken + 1) now left
+                part) form
+                (subst (λ m. StopsSection gives remaining copies content known m now left part) at
+                begins),
+            refl,
+          ));
         },
-        λ start g h.
+        subst (λ f. ReportsFront contents old said says (lines f)) form (λ start g h.
             let r = s.recovers start g h in
-            let z = after_all content known s.taken g in
-            subst (AppendsFront said says)
-            (ap (λ m. all_text content known 1 s.taken g ++ all_text content known m next z) same
-            ∙ sym (text_join 1 s.taken next g))
-            (front_behind said w says _ _ r.1 (part start z r.0)),
+            front_behind said w says _ _ r.1
+            (fronts start (after_all content known s.taken g) r.0)),
       )
 
   -- after all sections that were found
@@ -246,15 +223,13 @@ module _ {W L R : Type 0} (contents : W → Option (List ℕ)) (gives : Mounting
     file_text content copies s.taken,
     record {
       taken = s.taken;
-      next = [];
       mid = now;
       took = subst (λ f. AreTaken gives remaining copies content f 1 shelf s.taken now) form s.took;
-      begun = refl;
-      are = inr (
+      are = inr (inr (
         inl (subst (λ f. GoOn content f s.taken) form s.on, s.counted ∙ all),
         refl,
         refl,
-      );
+      ));
     },
     subst (λ f. ReportsFront contents old said says
         (λ g. all_text content f 1 s.taken g ++ last_text (last_end content f s.taken)

@@ -159,15 +159,9 @@ module _ {L R : Type 0} (size : L → ℕ) (gives : Mounting L R)
       (subst (λ l. AreConflicts l (last_section l) text any) alike differ)
       (record {
         taken = [];
-        next = [];
         mid = middle;
         took = refl;
-        begun = stays;
-        are = inl (
-          tt,
-          omega arith,
-          refl,
-        );
+        are = inl (tt, omega arith, stays, refl);
       }) (front_more found says text [] part)
 
   -- among the sections
@@ -200,11 +194,9 @@ module _ {L R : Type 0} (size : L → ℕ) (gives : Mounting L R)
         file_text task.content ds takes.taken,
         record {
           taken = takes.taken;
-          next = [];
           mid = left;
           took = takes.took;
-          begun = refl;
-          are = inr (takes.all, refl, refl);
+          are = inr (inr (takes.all, refl, refl));
         },
         λ start g h. whole_text noted says _ (takes.recovers start g h).1,
       )

@@ -1,6 +1,6 @@
 -- The sections of a file, recovered one after another, each from its best copy.
-use Rattle.std.specs.Prelude.{◌≡◌, ◌≢◌, ◌⊎◌, ℕ, ◌+◌, ◌≤◌, min, Bool, true, false, if◌then◌else◌}
-use Rattle.std.specs.Prelude.{List, [], ◌∷◌, ◌++◌, length, Option, Some, None, is_some}
+use Rattle.std.specs.Prelude.{◌≡◌, ◌≢◌, ◌⊎◌, ℕ, ◌+◌, ◌<◌, ◌≤◌, min, Bool, true, false, is_some}
+use Rattle.std.specs.Prelude.{List, [], ◌∷◌, ◌++◌, length, Option, Some, None, if◌then◌else◌}
 use Rattle.std.specs.List.{AllByRecursion}
 use Rattle.tape_image.specs.Tape.{TapeItem}
 use Rattle.tape_set.specs.Lawful.{FileForm}
@@ -218,36 +218,48 @@ pub record TakesFile {W L R : Type 0} (contents : W → Option (List ℕ)) (give
 
 -- ---- up to an error
 
--- no image was opened, or the copy's image begins with these items
-abbrev pub MountsPart : {L R : Type 0} → Mounting L R → (R → Option (List ℕ)) → Content
-    → Option FileForm → Option SectionCopy → L → L → Option (List TapeItem) → Type 0
-MountsPart gives remaining content known copy shelf left None =
-    MountsTaken gives remaining content known copy shelf left None
-MountsPart gives remaining content known None shelf left (Some items) = ⊥
-MountsPart gives remaining content known (Some c) shelf left (Some items) = (device : _)
-    × gives shelf c.image (Some device) left × BeginsWith (remaining device) items
+-- the lines about the copy and these items of its image
+abbrev pub items_text : ℕ → SectionCopy → Option FileForm → List TapeItem → Salvaged → List ℕ
+items_text sect c form items g = section_line sect (image_number c.image) c.section.blocks
+    ++ text_from c.section.key (believed c) form (start_of c) g items
 
--- none of these was begun, or the one with this number was
-abbrev pub IsBegun : {L R : Type 0} → Mounting L R → (R → Option (List ℕ)) → List SectionCopy
-    → Content → Option FileForm → ℕ → L → L → List Taken → Type 0
-IsBegun gives remaining copies content known sect shelf left [] = left ≡ shelf
-IsBegun gives remaining copies content known sect shelf left (t ∷ ts) = (ts ≡ [])
-    × IsBest (firsts sect None copies) t.copy
-    × MountsPart gives remaining content known t.copy shelf left t.items
+-- These are the lines about items that the copy's image begins with, or all lines about a copy that
+-- was read.
+abbrev pub StopsCopy : Option (List ℕ) → ℕ → SectionCopy → Option FileForm → (Salvaged → List ℕ)
+    → Type 0
+StopsCopy before sect c form lines = (items : List TapeItem)
+    × ((BeginsWith before items × (lines ≡ items_text sect c form items))
+    ⊎ ((after : Option (List ℕ)) × (is_ended : Bool)
+    × ReadsSection before after (start_of c) c.section.key items is_ended
+    × (lines ≡ copy_text sect c form (Some items))))
 
--- These are the lines of the first sections, of which the next was perhaps begun, or of all
--- sections.
+-- These are the lines about the section with this number, up to an error: none; or all, if no image
+-- of it was read; or those about its best copy.
+abbrev pub StopsSection : {L R : Type 0} → Mounting L R → (R → Option (List ℕ)) → List SectionCopy
+    → Content → Option FileForm → ℕ → L → L → (Salvaged → List ℕ) → Type 0
+StopsSection gives remaining copies content known sect shelf left lines =
+    ((left ≡ shelf) × (lines ≡ (λ g. [])))
+    ⊎ ((copy : Option SectionCopy) × IsBest (firsts sect None copies) copy
+    × ((MountsTaken gives remaining content known copy shelf left None
+    × (lines ≡ taken_text content known sect copy None))
+    ⊎ ((c : SectionCopy) × (copy ≡ Some c)
+    × (has_form content (form_for content c.section.form known) ≡ true)
+    × (device : _) × gives shelf c.image (Some device) left
+    × StopsCopy (remaining device) sect c (form_for content c.section.form known) lines)))
+
+-- These are the lines of the first sections, perhaps with some of the next one, or of all sections.
 pub record StopsTaking {L R : Type 0} (gives : Mounting L R) (remaining : R → Option (List ℕ))
     (copies : List SectionCopy) (content : Content) (shelf left : L) (lines : Salvaged → List ℕ)
     : Type 0 where
   pub taken : List Taken
-  pub next : List Taken
   pub mid : L
   pub took : AreTaken gives remaining copies content (form_of_file copies) 1 shelf taken mid
-  pub begun : IsBegun gives remaining copies content (form_of_file copies) (length taken + 1) mid
-      left next
-  pub are : (GoOn content (form_of_file copies) taken
-      × (length taken + length next ≤ last_section copies)
-      × (lines ≡ all_text content (form_of_file copies) 1 (taken ++ next)))
-      ⊎ (AreAllSections content (form_of_file copies) copies taken × (next ≡ [])
-      × (lines ≡ file_text content copies taken))
+  pub are : (GoOn content (form_of_file copies) taken × (length taken ≤ last_section copies)
+      × (left ≡ mid) × (lines ≡ all_text content (form_of_file copies) 1 taken))
+      ⊎ ((GoOn content (form_of_file copies) taken × (length taken < last_section copies)
+      × (part : Salvaged → List ℕ) × StopsSection gives remaining copies content
+      (form_of_file copies) (length taken + 1) mid left part
+      × (lines ≡ (λ g. all_text content (form_of_file copies) 1 taken g
+      ++ part (after_all content (form_of_file copies) taken g))))
+      ⊎ (AreAllSections content (form_of_file copies) copies taken × (left ≡ mid)
+      × (lines ≡ file_text content copies taken)))

@@ -2,13 +2,10 @@
 
 ghost use Rattle.std.specs.Prelude.{◌≡◌, true, Some, ℕ, List, OnOk, OnErr, IfOk, IfErr};
 ghost use Rattle.tape_image.specs.Reader.{going};
-ghost use Rattle.tape_image.specs.Tape.{TapeItem};
 ghost use Rattle.tape_run.specs.Checked.{IsCheckFault};
 ghost use Rattle.tape_run.specs.SalvageTaking.{form_for, has_form, TakesSection, TakesCopy};
 ghost use Rattle.tape_run.specs.SalvageBlocks.{Salvaged, ReportsFront};
-ghost use Rattle.tape_run.specs.SalvageImage.{BeginsWith};
-ghost use Rattle.tape_run.specs.SalvageTaking.{TakesFile, Taken, IsBegun, StopsTaking, all_text};
-ghost use Rattle.tape_run.specs.SalvageTaking.{copy_text};
+ghost use Rattle.tape_run.specs.SalvageTaking.{TakesFile, StopsTaking, StopsSection, StopsCopy};
 ghost use Rattle.tape_run.specs.declared.salvage.ending.SectionEnd.TheVariants.{FileEnds};
 
 use crate::extract::images::ImageSource;
@@ -99,9 +96,9 @@ fn recover<W: Write, R: Read + Drop, L: ImageSource<R>, P: Write>(
     ensures ok { IfOk result (TakesSection W.contents L.gives R.remaining copies.now content
         known.now sect images.old images.new recovery.old recovery.new (P.contents report.old)
         (P.contents report.new)) }
-    ensures front { OnErr result ((next : List Taken) × IsBegun L.gives R.remaining copies.now
-        content known.now sect images.old images.new next × ReportsFront W.contents recovery.old
-        (P.contents report.old) (P.contents report.new) (all_text content known.now sect next)) }
+    ensures front { OnErr result ((lines : Salvaged → List ℕ) × StopsSection L.gives R.remaining
+        copies.now content known.now sect images.old images.new lines × ReportsFront W.contents
+        recovery.old (P.contents report.old) (P.contents report.new) lines) }
     ensures fault { IfErr result IsCheckFault }
 {
     let Some(copy) = best_copy(copies, sect) else {
@@ -140,9 +137,9 @@ fn recover_copy<W: Write, R: Read, P: Write>(
     requires first { image.old.place ≡ 0 }
     ensures ok { IfOk result (TakesCopy W.contents image.old.left copy.now sect form.now
         recovery.old recovery.new (P.contents report.old) (P.contents report.new)) }
-    ensures front { OnErr result ((items : List TapeItem) × BeginsWith image.old.left items
-        × ReportsFront W.contents recovery.old (P.contents report.old) (P.contents report.new)
-        (copy_text sect copy.now form.now (Some items))) }
+    ensures front { OnErr result ((lines : Salvaged → List ℕ) × StopsCopy image.old.left sect
+        copy.now form.now lines × ReportsFront W.contents recovery.old (P.contents report.old)
+        (P.contents report.new) lines) }
     ensures fault { IfErr result IsCheckFault }
 {
     let line = section_line(sect, copy.image.saturating_add(1), copy.section.blocks);

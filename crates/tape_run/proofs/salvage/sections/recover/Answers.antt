@@ -1,11 +1,9 @@
-use Rattle.std.proofs.Common.{◌≡◌, None, Some, List, true, false, refl, sym, ap, subst, ◌∙◌}
+use Rattle.std.proofs.Common.{◌≡◌, ℕ, None, Some, List, true, false, refl, sym, ap, subst, ◌∙◌}
 use Rattle.std.proofs.Common.{rules}
 use Rattle.std.proofs.lemmas.Result.{IfOk-weaker, on_err_weaker}
-use Rattle.tape_image.specs.Tape.{TapeItem}
-use Rattle.tape_run.specs.SalvageBlocks.{ReportsFront}
-use Rattle.tape_run.specs.SalvageImage.{BeginsWith}
+use Rattle.tape_run.specs.SalvageBlocks.{Salvaged, ReportsFront}
 use Rattle.tape_run.specs.SalvageChoice.{IsBest, firsts}
-use Rattle.tape_run.specs.SalvageTaking.{form_for, has_form, TakesCopy, copy_text}
+use Rattle.tape_run.specs.SalvageTaking.{form_for, has_form, TakesCopy, StopsCopy}
 use Rattle.tape_image.proofs.Pieces.{on_err}
 use Rattle.tape_run.proofs.SalvageBegun.{none_begun, without_copy, without_form, without_image}
 use Rattle.tape_run.proofs.SalvageBegun.{copy_begun, none_read}
@@ -139,14 +137,12 @@ returns-clause-front g c =
     c.best_copy.ensures) on
     (subst (λ i. g.L.ImageSource.gives c.args.images.now k.image i c.mount.new.self)
     c.in-Some-image.is c.in-Ok.ensures.ok)
-    (subst (λ b. (items : List TapeItem) × BeginsWith b items × ReportsFront g.W.Write.contents
-    c.args.recovery.now (g.P.Write.contents c.args.report.now)
-    (g.P.Write.contents c.recover_copy.new.report) (copy_text c.args.sect k
-    (form_for c.args.content k.section.form c.args.known.now) (Some items)))
-    c.in-Ok-new.ensures.unread
-    (subst (λ f. (items : List TapeItem) × BeginsWith c.in-Ok-new.reader.left items
-    × ReportsFront g.W.Write.contents
-    c.args.recovery.now (g.P.Write.contents c.args.report.now)
-    (g.P.Write.contents c.recover_copy.new.report) (copy_text c.args.sect k f (Some items)))
+    (subst (λ b. (lines : Salvaged → List ℕ) × StopsCopy b c.args.sect k
+    (form_for c.args.content k.section.form c.args.known.now) lines
+    × ReportsFront g.W.Write.contents c.args.recovery.now (g.P.Write.contents c.args.report.now)
+    (g.P.Write.contents c.recover_copy.new.report) lines) c.in-Ok-new.ensures.unread
+    (subst (λ f. (lines : Salvaged → List ℕ) × StopsCopy c.in-Ok-new.reader.left c.args.sect k f
+    lines × ReportsFront g.W.Write.contents c.args.recovery.now
+    (g.P.Write.contents c.args.report.now) (g.P.Write.contents c.recover_copy.new.report) lines)
     c.form_for-form.ensures part)))
     c.recover_copy.ensures.front
