@@ -1,8 +1,10 @@
 -- The result of reading images in passes, or of a fault that ended the passes.
-use Rattle.std.proofs.Common.{◌≡◌, Bool, ℕ, List, ◌++◌, Option, length}
-use Rattle.std.proofs.Common.{None, refl, sym, ap, subst, ◌∙◌, inl, true}
+use Rattle.std.proofs.Common.{◌≡◌, ◌⊎◌, Bool, ℕ, ◌<◌, ◌≤◌, List, [], ◌++◌, Option, length}
+use Rattle.std.proofs.Common.{None, refl, sym, ap, subst, ◌∙◌, inl, inr, true}
+use Rattle.std.specs.Io.KnownBytes.{Appends}
 use Rattle.std.proofs.KnownBytes.{Appends-trans}
 use Rattle.tape_blocks.specs.declared.parts.Form.{Form}
+use Rattle.tape_set.specs.declared.position.Position.TheVariants.{Finished}
 use Rattle.tape_set.specs.declared.position.Want.{Want}
 use Rattle.tape_set.specs.Position.{want_at}
 use Rattle.tape_core.specs.declared.sink.PartSink.{Ghosts}
@@ -16,8 +18,10 @@ use Rattle.tape_run.specs.Rounds.{Round, turns_of, core_behind, wanted, IsEnough
 use Rattle.tape_run.specs.Rounds.{FollowsRounds, TakesRounds, StopsInRound}
 use Rattle.tape_run.specs.Extracting.{EndsFile, StopsAtEnd}
 use Rattle.tape_run.specs.ExtractingAgain.{ExtractsAgain, StopsAgain}
+use Rattle.tape_image.specs.Written.{AppendsFront}
 use Rattle.tape_image.proofs.Pieces.{front_more, front_behind}
-use Rattle.tape_run.proofs.Extracted.{ended, told_then, tells_then, less_then, leaves_more}
+use Rattle.tape_run.proofs.Extracted.{ended, all_read, told_then, tells_then, less_then}
+use Rattle.tape_run.proofs.Extracted.{leaves_more}
 use Rattle.tape_run.proofs.Lasting.{last_then, stood_walked}
 use Rattle.tape_run.proofs.Left.{left_walked, left_behind}
 use Rattle.tape_run.proofs.StoppedThere.{stopped_walked}
@@ -108,7 +112,9 @@ stops_in_round {S} {L} {R} {W} gs size gives remaining old new
       image = s.last.image;
       are_turns = s.last.are_turns;
       most = s.last.most;
+      no_more = s.last.no_more;
       want = None;
+      ended = inl lines;
       records = 0;
       lines = front_more said says _ (last_line None 0) lines;
       told = λ other. lines_of_all said s.told says (turns_of s.rounds) s.last.turns s.gone.lines
@@ -124,11 +130,28 @@ stops_in_round {S} {L} {R} {W} gs size gives remaining old new
               subst (λ c. Follows (goes_back old.notes) true c (seen gs s.mid mid) s.last.turns
                   core now) s.gone.at one,
             ),
-            (left_behind gs old s.mid new held mid now before leaves, stopped),
+            (left_behind gs _ old s.mid new held mid now before leaves, stopped),
             inl lines,
             inl (refl, inl lines),
           );
     }
+
+-- all images of the last pass precede the last line, and no other pass follows
+round_then : (said between says : Option (List ℕ)) (lines : List ℕ) (size read before : ℕ)
+    (first : Option Want) (core : State) (want : Option Want) → Appends said between lines
+    → read ≤ size → (read < size → core.position ≡ Finished)
+    → IsEnough size before first (wanted core)
+    → AppendsFront between says [] ⊎ (want ≡ wanted core) → AppendsFront said says lines
+    ⊎ (((read ≡ size) ⊎ (want ≡ None)) × IsEnough size before first want)
+round_then said between says lines size read before first core want told most all enough
+    (inl none) =
+    inl (less_then said between says lines told none)
+round_then said between says lines size read before first core want told most all enough
+    (inr is) =
+    inr (
+      all_read size read core.file core.position want most all is,
+      subst (IsEnough size before first) (sym is) enough,
+    )
 
 pub stops_at_end_again : {S L R W : Type 0} (gs : Ghosts S)
     (size : L → ℕ) (gives : Mounting L R) (remaining : R → Option (List ℕ))
@@ -158,7 +181,12 @@ stops_at_end_again {S} {L} {R} {W} gs size gives remaining old new
       image = None;
       are_turns = (left, t.last.are_turns, inl (refl, refl));
       most = t.last.most;
+      no_more = λ none. refl;
       want = e.want;
+      ended = round_then said between says _ (size shelf) _ (length (turns_of t.rounds))
+          (wanted (core_behind old.core t.rounds)) new.core e.want lines t.last.most t.last.all
+          (subst (λ c. IsEnough (size shelf) (length (turns_of t.rounds)) (wanted c)
+          (wanted new.core)) t.gone.at t.enough) e.wants;
       records = e.records;
       lines = front_behind said between says _ (last_line e.want e.records) lines e.line;
       told = λ other. told_then said between says _ lines (e.told other);
@@ -174,7 +202,7 @@ stops_at_end_again {S} {L} {R} {W} gs size gives remaining old new
                   new.core (seen gs new now)) t.gone.at one,
             ),
             (
-              left_walked gs back old new end held now
+              left_walked gs back _ old new end held now
                   (last_then gs old t.mid new held mid now before last) walked
                   has_now,
               stopped_walked gs remaining (goes_back old.notes) new end now fault has_now walked,

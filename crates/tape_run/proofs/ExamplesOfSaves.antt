@@ -1,13 +1,16 @@
 -- The examples for saves, and for the states that a crash leaves of a session.
 use Rattle.std.proofs.Common.{◌≡◌, ◌⊎◌, inl, inr, ℕ, ◌≤◌, List, [], ◌∷◌, Some, refl, sym, ap, subst}
-use Rattle.std.proofs.Common.{◌∙◌, length, arith, slice_get}
+use Rattle.std.proofs.Common.{◌∙◌, length, arith, slice_get, Option, None}
+use Rattle.std.specs.Prelude.{⊤}
 use Rattle.tape_core.specs.{Place.rest_of, Stands.weight_of, Weight.IsFront, Table.saved}
-use Rattle.tape_core.specs.Point.{Point}
+use Rattle.tape_core.specs.{Point.Point, State.State}
+use Rattle.tape_run.specs.Stopping.{RefusesSave}
+use Rattle.tape_run.specs.declared.fault.EngineFault.TheVariants.{Run}
+use Rattle.tape_run.specs.declared.fault.RunFault.TheVariants.{OutOfMemory}
 use Rattle.tape_run.specs.Crash.{IsNoteOf, IsLast, BringsLast, KeepsLast, LeavesSaved}
 use Rattle.tape_run.specs.{Reeling.StoodSaved, Seen.Seen, Seen.seen, SessionState.SessionState}
 use Rattle.tape_blocks.specs.Block.{Portion}
 use Rattle.tape_run.specs.CasesOfSaves.{CasesOfSaved, brings, comes_now, comes_since, weighing}
-use Rattle.tape_run.specs.CasesOfSaves.{holding_none}
 
 only_first : (s : Seen) (c d back : Point) (there : List Portion) → s.notes ≡ c ∷ d ∷ []
     → IsNoteOf 0 s back there → (back ≡ c) × IsFront there s.parts × (weight_of there ≡ back.staged)
@@ -84,8 +87,8 @@ stood_so old new held ps now c none has (parts, holds, is, keeps) =
     )
 
 left_at_a_fault : (old new : SessionState Point) (held ps : List Portion) (now : Seen) (c : Point)
-    → old.notes ≡ [] → now.notes ≡ c ∷ [] → LeavesSaved (weighing (comes_now ps)) old held now
-    new
+    → old.notes ≡ [] → now.notes ≡ c ∷ [] → LeavesSaved (weighing (comes_now ps)) ⊤ old held
+    now new
     → ((new.sink ≡ c) × IsFront ps now.parts)
     ⊎ ((new.sink.staged ≡ weight_of ps) × IsFront now.parts ps
     × (new.sink ≡ saved (rest_of new.core) (weight_of ps)))
@@ -94,7 +97,7 @@ left_at_a_fault old new held ps now c none has leaves = grind (arith, of_one_not
 alone_at_a_fault : (old new : SessionState Point) (held ps : List Portion) (now : Seen) (c : Point)
     → old.notes ≡ c ∷ [] → now.notes ≡ c ∷ [] → old.sink ≡ c → IsFront ps held
     → weight_of ps ≡ c.staged
-    → LeavesSaved (holding_none (comes_now ps)) old held now new → new.sink ≡ c
+    → LeavesSaved (weighing (comes_now ps)) ⊥ old held now new → new.sink ≡ c
 alone_at_a_fault old new held ps now c had has came front weighs leaves =
     elim (leaves.comes (λ same. alone_before old held ps c had came front weighs) new.sink ps
     (refl, refl)) [
@@ -106,13 +109,18 @@ alone_up_to_a_fault : (old new : SessionState Point) (held ps : List Portion) (n
     (c : Point)
     (t : ℕ) → old.notes ≡ c ∷ [] → now.notes ≡ c ∷ [] → old.sink ≡ c → IsFront ps held
     → weight_of ps ≡ c.staged → t ≤ old.sink.file
-    → LeavesSaved (holding_none (comes_since ps)) old held now new → new.sink ≡ c
+    → LeavesSaved (weighing (comes_since ps)) ⊥ old held now new → new.sink ≡ c
 alone_up_to_a_fault old new held ps now c t had has came front weighs le leaves =
     elim (leaves.since t le (ap length has ∙ sym (ap length had))
     (alone_before old held ps c had came front weighs) new.sink ps (refl, refl)) [
       | inl last ↦ (of_one_note now c new.sink ps has last).0
       | inr here ↦ absurd here.0
     ]
+
+none_saved : (image : Option (Option (List ℕ))) (old : Seen) (place : State)
+    → RefusesSave (λ (r : Option (List ℕ)). r) old image (Run OutOfMemory) place → ⊥
+none_saved None old place r = r
+none_saved (Some image) old place r = r
 
 pub cases_of_saved : CasesOfSaved
 cases_of_saved = record {
@@ -128,6 +136,8 @@ cases_of_saved = record {
   goes_on = λ old new held now keeps. (keeps.no_fewer, keeps.later);
   stood = stood_so;
   left_at_a_fault = left_at_a_fault;
+  unsaved = λ bytes cause old place r. r;
+  no_save = λ image old place r. none_saved image old place r;
   alone_at_a_fault = alone_at_a_fault;
   survives_a_fault = λ old new held now leaves. leaves.survives;
   alone_up_to_a_fault = alone_up_to_a_fault;

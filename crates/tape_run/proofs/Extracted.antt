@@ -1,8 +1,9 @@
 -- The result if all images were read, or if a fault ended the run.
-use Rattle.std.proofs.Common.{◌≡◌, ◌≢◌, Bool, ℕ, List, [], Option, append-nil}
+use Rattle.std.proofs.Common.{◌≡◌, ◌≢◌, ◌⊎◌, Bool, ℕ, ◌<◌, ◌≤◌, List, [], Option, append-nil}
 use Rattle.std.proofs.Common.{None, refl, sym, ap, subst, ◌∙◌, inl, inr, false}
 use Rattle.std.specs.Io.KnownBytes.{Appends}
 use Rattle.std.proofs.KnownBytes.{Appends-trans}
+use Rattle.std.proofs.Math.Nat.{eq-or-lt_of_le}
 use Rattle.tape_blocks.specs.Block.{Portion}
 use Rattle.tape_set.specs.declared.position.Position.{Position}
 use Rattle.tape_set.specs.declared.position.Position.TheVariants.{Awaits, Finished}
@@ -97,7 +98,9 @@ stops_reading {S} {L} {R} {W} gs size gives remaining old new shelf
       image = s.image;
       are_turns = s.are_turns;
       most = s.most;
+      no_more = s.no_more;
       want = None;
+      all = inl s.lines;
       records = 0;
       lines = front_more said says _ (last_line None 0) s.lines;
       told = s.told;
@@ -124,6 +127,23 @@ leaves_more less more want untouched finished some all f (inr (done, inl (part, 
     inr (done, inl (part, f none))
 leaves_more less more want untouched finished some all f (inr (done, inr wrote)) =
     inr (done, inr wrote)
+
+-- all images precede the last line, unless it says that the file is complete
+pub all_read : (size read file : ℕ) (p : Position) (want : Option Want) → read ≤ size
+    → (read < size → p ≡ Finished) → want ≡ want_at file p → (read ≡ size) ⊎ (want ≡ None)
+all_read size read file p want most ended is = elim (eq-or-lt_of_le most) [
+  | inl all ↦ inl all
+  | inr less ↦ inr (is ∙ ap (want_at file) (ended less))
+]
+
+pub all_then : (said between says : Option (List ℕ)) (lines : List ℕ) (size read file : ℕ)
+    (p : Position) (want : Option Want) → Appends said between lines → read ≤ size
+    → (read < size → p ≡ Finished) → AppendsFront between says [] ⊎ (want ≡ want_at file p)
+    → AppendsFront said says lines ⊎ ((read ≡ size) ⊎ (want ≡ None))
+all_then said between says lines size read file p want before most ended (inl none) =
+    inl (less_then said between says lines before none)
+all_then said between says lines size read file p want before most ended (inr is) =
+    inr (all_read size read file p want most ended is)
 
 -- after the lines of all images, nothing more
 pub told_then : (said between says : Option (List ℕ)) (lines : List ℕ) → Appends said between lines
@@ -161,7 +181,10 @@ stops_at_end {S} {L} {R} {W} gs size gives remaining old mid new
       image = None;
       are_turns = (left, t.are_turns, inl (refl, refl));
       most = t.most;
+      no_more = λ none. refl;
       want = e.want;
+      all = all_then said between says _ (size shelf) _ mid.core.file _ e.want t.lines t.most t.all
+          e.wants;
       records = e.records;
       lines = front_behind said between says _ (last_line e.want e.records) t.lines e.line;
       told = λ other. told_then said between says _ t.lines (e.told other);
@@ -171,7 +194,7 @@ stops_at_end {S} {L} {R} {W} gs size gives remaining old mid new
             seen gs mid now,
             f,
             (
-              left_walked gs back old mid new held now last walked has,
+              left_walked gs back _ old mid new held now last walked has,
               stopped_walked gs remaining (goes_back old.notes) mid new now fault has walked,
             ),
             tells_then said between says _ e.want e.records (seen gs mid now) t.lines
@@ -187,16 +210,18 @@ pub ends_in_part : {S W : Type 0} (g : Ghosts S) (session : SessionState S)
     (said says : Option (List ℕ)) (want : Option Want) (records : ℕ) (fault : EngineFault)
     → AppendsFront said says (last_line want records)
     → (fault ≢ WriteFailed → says ≡ said)
+    → AppendsFront said says [] ⊎ (want ≡ want_at session.core.file session.core.position)
     → IfSeen g session (TellsEnd (AppendsFront said says []) want records)
     → IfSeen g session (LeavesOutput (AppendsFront said says []) want form contents out written)
     → StopsAtEnd g session form contents out written said says fault
-ends_in_part g session form contents out written said says want records fault line told tells
-    wrote =
+ends_in_part g session form contents out written said says want records fault line told wants
+    tells wrote =
     record {
       want = want;
       records = records;
       line = line;
       told = told;
+      wants = wants;
       tells = tells;
       is_written = wrote;
     }

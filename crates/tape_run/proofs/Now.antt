@@ -1,5 +1,5 @@
 -- The result of a run that writes the records while it reads the images.
-use Rattle.std.proofs.Common.{◌≡◌, ◌≢◌, ℕ, List, [], Option, None, refl, ap}
+use Rattle.std.proofs.Common.{◌≡◌, ◌≢◌, ◌⊎◌, ℕ, List, [], Option, None, refl, ap}
 use Rattle.std.proofs.Common.{◌∙◌, inl, false}
 use Rattle.std.specs.Io.KnownBytes.{Appends}
 use Rattle.std.proofs.KnownBytes.{Appends-trans}
@@ -19,7 +19,7 @@ use Rattle.tape_run.specs.Stopping.{StopsReading}
 use Rattle.tape_run.specs.declared.fault.EngineFault.{EngineFault}
 use Rattle.tape_run.specs.declared.fault.EngineFault.TheVariants.{WriteFailed}
 use Rattle.tape_run.specs.ExtractingNow.{IsPut, ExtractsNow, LeavesName, StopsNow}
-use Rattle.tape_run.proofs.Extracted.{told_then, tells_then, less_then, leaves_more}
+use Rattle.tape_run.proofs.Extracted.{all_then, told_then, tells_then, less_then, leaves_more}
 use Rattle.tape_image.proofs.Pieces.{front_more, front_behind}
 use Rattle.tape_run.proofs.Lasting.{walked_seen}
 use Rattle.tape_run.proofs.StoppedThere.{stopped_walked}
@@ -77,7 +77,9 @@ stops_reading_now {S} {L} {R} {O} gs size gives remaining old new
       image = s.image;
       are_turns = s.are_turns;
       most = s.most;
+      no_more = s.no_more;
       want = None;
+      all = inl s.lines;
       records = 0;
       lines = front_more said says _ (last_line None 0) s.lines;
       told = s.told;
@@ -96,19 +98,23 @@ pub stops_at_end_now : {S L R O : Type 0} (gs : Ghosts S)
     left said between
     → AppendsFront between says (last_line want records)
     → (fault ≢ WriteFailed → says ≡ between)
+    → AppendsFront between says [] ⊎ (want ≡ want_at mid.core.file mid.core.position)
     → IfSeen gs mid (TellsEnd (AppendsFront between says []) want records)
     → IfSeen gs mid (LeavesName (AppendsFront between says []) want form tells stands out put)
     → StopsNow gs size gives remaining old new shelf left form tells stands out put
     said says fault
 stops_at_end_now {S} {L} {R} {O} gs size gives remaining old mid new
     shelf left form tells stands out put
-    said between says want records fault walked t last same told wrote =
+    said between says want records fault walked t last same wants told wrote =
     record {
       turns = t.turns;
       image = None;
       are_turns = (left, t.are_turns, inl (refl, refl));
       most = t.most;
+      no_more = λ none. refl;
       want = want;
+      all = all_then said between says _ (size shelf) _ mid.core.file _ want t.lines t.most t.all
+          wants;
       records = records;
       lines = front_behind said between says _ (last_line want records) t.lines last;
       told = λ other. told_then said between says _ t.lines (same other);

@@ -9,14 +9,14 @@ use Rattle.tape_core.specs.Stands.{weight_of}
 use Rattle.tape_core.specs.Table.{saved}
 use Rattle.tape_core.specs.declared.sink.PartSink.{Ghosts}
 use Rattle.tape_run.specs.Causes.{IsCalm}
-use Rattle.tape_run.specs.Crash.{IsHere, IsNoteOf, KeepsLast, LeavesStep}
+use Rattle.tape_run.specs.Crash.{IsHere, IsNoteOf, KeepsLast}
 use Rattle.tape_run.specs.Reeling.{HasNotedHere, IsKeptFor, IsNoted}
 use Rattle.tape_run.specs.Seen.{seen, IsKept, IfSeen, IsSeen}
 use Rattle.tape_run.specs.SessionState.{SessionState}
 use Rattle.tape_run.specs.Steps.{Saved, WentBack}
 use Rattle.tape_run.proofs.Causes.{calm_same}
 use Rattle.tape_run.proofs.Lasting.{last_kept, last_same, last_went}
-use Rattle.tape_run.proofs.Left.{last_of, restart_left, same_left, stays_left}
+use Rattle.tape_run.proofs.Left.{last_of}
 
 -- the session after the step, which led from `a` to `b`
 pub record Settled {S : Type 0} (g : Ghosts S) (back spares suspect : Bool)
@@ -24,7 +24,6 @@ pub record Settled {S : Type 0} (g : Ghosts S) (back spares suspect : Bool)
   pub noted : Bool
   pub keeps : IfSeen g a (λ was. IsKeptFor back was → IsSeen g b (λ is.
       IsNoted back spares suspect noted was is × KeepsLast g a was.parts b is.parts))
-  pub left : IfSeen g a (λ was. IsKeptFor back was → LeavesStep g back a was.parts b)
   pub calm : IsCalm g a b
 
 -- the session rolled back
@@ -40,7 +39,6 @@ settled_back g spares a b n last ok crash calm = record {
       let (now, has, (still, went)) = ok held was kept in
       let count = last_of a.notes n went.point last went.noted in
       (now, has, ((n, count, went), last_went g a b held now n count went (crash held was kept)));
-  left = λ held was kept. restart_left g a b held n last (crash held was kept);
   calm = calm;
 }
 
@@ -52,7 +50,6 @@ pub settled_same : {S : Type 0} (g : Ghosts S) (back spares suspect : Bool) (a :
 settled_same {S} g back spares suspect a why = record {
   noted = false;
   keeps = λ held was kept. (held, was, (as_it_was back suspect held was why, last_same g a held));
-  left = λ held was kept. same_left g back a held;
   calm = calm_same g a;
 }
   where
@@ -86,8 +83,5 @@ settled_saved g back spares a b point elsewhere ok at alone crash calm = record 
           last_kept g a b held now point _ (at held was) (alone held was) made (crash held was),
         ),
       );
-  left = λ held was kept.
-      let (now, has, (keeps, made)) = ok held was in
-      stays_left g back a b held now has (made.place, made.parts) (crash held was);
   calm = calm;
 }

@@ -1,13 +1,19 @@
 -- Examples for the definitions of saves, and of the states that a crash leaves of a session. They
 -- are the contract of the call `laws::cases`.
-use Rattle.std.specs.Prelude.{◌≡◌, ◌≤◌, ◌⊎◌, ℕ, List, [], ◌∷◌, length, true, false}
+use Rattle.std.specs.Prelude.{◌≡◌, ◌≤◌, ◌⊎◌, ℕ, List, [], ◌∷◌, length, true, false, ⊤}
+use Rattle.std.specs.Prelude.{Option, Some}
 use Rattle.tape_blocks.specs.Block.{Portion}
 use Rattle.tape_set.specs.declared.position.Position.TheVariants.{Finished}
 use Rattle.tape_core.specs.{Crash.Crashes, Place.rest_of, Point.Point, Stands.weight_of}
-use Rattle.tape_core.specs.{Table.saved, Weight.IsFront}
-use Rattle.tape_core.specs.declared.sink.PartSink.{Ghosts}
+use Rattle.tape_core.specs.{State.State, Table.saved, Weight.IsFront}
+use Rattle.tape_core.specs.declared.sink.{PartSink.Ghosts, SinkFault.SinkFault}
 use Rattle.tape_run.specs.Crash.{IsNoteOf, BringsLast, KeepsLast, LeavesSaved, is_saved}
 use Rattle.tape_run.specs.{Reeling.StoodSaved, Seen.Seen, SessionState.SessionState}
+use Rattle.tape_run.specs.{Given.is_device, Reeling.counts_differ, Steps.Reeled}
+use Rattle.tape_run.specs.Stopping.{RefusesSave}
+use Rattle.tape_run.specs.declared.fault.EngineFault.TheVariants.{Run}
+use Rattle.tape_run.specs.declared.fault.RunFault.TheVariants.{OutOfMemory, Sink}
+use Rattle.tape_run.specs.declared.reel_reader.ReelAnswer.{ReelAnswer}
 use Rattle.tape_run.specs.declared.script.Step.TheVariants.{Reel, Save, Restart}
 
 -- a sink that contains any parts, and of which a crash leaves one checkpoint and these parts
@@ -98,28 +104,36 @@ pub record CasesOfSaved : Type 0 where
   -- after a fault only the checkpoint made meanwhile, or the session's position, may be left
   pub left_at_a_fault : (old new : SessionState Point) (held ps : List Portion) (now : Seen)
       (c : Point)
-      → old.notes ≡ [] → now.notes ≡ c ∷ [] → LeavesSaved (weighing (comes_now ps)) old held
-      now new
+      → old.notes ≡ [] → now.notes ≡ c ∷ [] → LeavesSaved (weighing (comes_now ps)) ⊤ old
+      held now new
       → ((new.sink ≡ c) × IsFront ps now.parts)
       ⊎ ((new.sink.staged ≡ weight_of ps) × IsFront now.parts ps
       × (new.sink ≡ saved (rest_of new.core) (weight_of ps)))
+  -- the position only if the sink refused to save it, after a reel that is not suspect
+  pub unsaved : (bytes : List ℕ) (cause : SinkFault) (old : Seen) (place : State)
+      → RefusesSave (λ (r : Option (List ℕ)). r) old (Some (Some bytes)) (Run (Sink cause)) place
+      → (left : Option (List ℕ)) × (answer : ReelAnswer) × (mid : Seen)
+      × Reeled bytes left (is_device answer.fault) old mid
+      × (counts_differ answer.answer ≡ false) × (mid.place ≡ place)
+  pub no_save : (image : Option (Option (List ℕ))) (old : Seen) (place : State)
+      → RefusesSave (λ (r : Option (List ℕ)). r) old image (Run OutOfMemory) place → ⊥
   pub alone_at_a_fault : (old new : SessionState Point) (held ps : List Portion) (now : Seen)
       (c : Point)
       → old.notes ≡ c ∷ [] → now.notes ≡ c ∷ [] → old.sink ≡ c → IsFront ps held
       → weight_of ps ≡ c.staged
-      → LeavesSaved (holding_none (comes_now ps)) old held now new → new.sink ≡ c
+      → LeavesSaved (weighing (comes_now ps)) ⊥ old held now new → new.sink ≡ c
   pub survives_a_fault : (old new : SessionState Point) (held : List Portion) (now : Seen)
-      → LeavesSaved (holding_none (comes_now [])) old held now new
+      → LeavesSaved (weighing (comes_now [])) ⊥ old held now new
       → old.sink.position ≡ Finished → new.sink.position ≡ Finished
   pub alone_up_to_a_fault : (old new : SessionState Point) (held ps : List Portion) (now : Seen)
       (c : Point) (t : ℕ) → old.notes ≡ c ∷ [] → now.notes ≡ c ∷ [] → old.sink ≡ c
       → IsFront ps held → weight_of ps ≡ c.staged → t ≤ old.sink.file
-      → LeavesSaved (holding_none (comes_since ps)) old held now new → new.sink ≡ c
+      → LeavesSaved (weighing (comes_since ps)) ⊥ old held now new → new.sink ≡ c
   pub survived_a_fault : (old new : SessionState Point) (held : List Portion) (now : Seen) (t : ℕ)
-      → t ≤ old.sink.file → LeavesSaved (holding_none (comes_since [])) old held now new
+      → t ≤ old.sink.file → LeavesSaved (weighing (comes_since [])) ⊥ old held now new
       → old.sink.position ≡ Finished → new.sink.position ≡ Finished
   pub no_fewer_at_a_fault : (old new : SessionState Point) (held : List Portion) (now : Seen)
-      → LeavesSaved (holding_none (comes_since [])) old held now new
+      → LeavesSaved (weighing (comes_since [])) ⊥ old held now new
       → length old.notes ≤ length now.notes
   -- whether only reels were read since the last save
   pub read_since : is_saved false (Reel ∷ Save ∷ Reel ∷ []) ≡ true

@@ -58,31 +58,31 @@ abbrev pub IsHeld : {S : Type 0} → Ghosts S → List Portion → SessionState 
 IsHeld g parts s back there = g.holds s.sink there × IsFront parts there
     × (back ≡ saved (rest_of s.core) (weight_of there))
 
--- A step failed: a crash leaves only what it could leave before, or the session's position after
--- the step, and after a rollback also the last checkpoint.
-abbrev pub LeavesStep : {S : Type 0} → Ghosts S → Bool → SessionState S → List Portion
+-- A step failed: a crash leaves only what it could leave before, after a rollback also the last
+-- checkpoint, and after a refused save the session's position.
+abbrev pub LeavesStep : {S : Type 0} → Ghosts S → Bool → Type 0 → SessionState S → List Portion
     → SessionState S → Type 0
-LeavesStep g goes old held new =
+LeavesStep g goes unsaved old held new =
     AddsOnly (λ back there. ((goes ≡ true) × IsLast (seen g old held) back there)
-    ⊎ IsHeld g held new back there) (g.crashes old.sink) (g.crashes new.sink)
+    ⊎ (unsaved × IsHeld g held new back there)) (g.crashes old.sink) (g.crashes new.sink)
 
 -- A fault came after the session had the state `now`. A crash leaves only the last checkpoint of
--- that state, or the session's position after the fault, if the session made a checkpoint meanwhile
--- or nothing but its last one was left before. If it made none, and from moment t to the start only
--- the old checkpoint was left, then that is true from t until now. If something survived every
--- crash before, something still does, now and at each moment since t.
-pub record LeavesSaved {S : Type 0} (g : Ghosts S) (old : SessionState S) (held : List Portion)
-    (now : Seen) (new : SessionState S) : Type 0 where
+-- that state, or the session's position if the fault is a refused save: this is so if the session
+-- made a checkpoint meanwhile or nothing but its last one was left before. If it made none, and
+-- from moment t to the start only the old checkpoint was left, then that is true from t until now.
+-- If something survived every crash before, something still does, now and at each moment since t.
+pub record LeavesSaved {S : Type 0} (g : Ghosts S) (unsaved : Type 0) (old : SessionState S)
+    (held : List Portion) (now : Seen) (new : SessionState S) : Type 0 where
   pub comes : (length now.notes ≡ length old.notes
       → BringsLast (g.crashes old.sink).returns (seen g old held))
       → (back : Point) (there : List Portion) → (g.crashes new.sink).returns back there
-      → IsLast now back there ⊎ IsHeld g now.parts new back there
+      → IsLast now back there ⊎ (unsaved × IsHeld g now.parts new back there)
   pub survives : (g.crashes old.sink).survives → (g.crashes new.sink).survives
   pub no_fewer : length old.notes ≤ length now.notes
   pub since : (t : ℕ) → t ≤ (g.crashes old.sink).moment → length now.notes ≡ length old.notes
       → BringsLast ((g.crashes old.sink).returned t) (seen g old held)
       → (back : Point) (there : List Portion) → (g.crashes new.sink).returned t back there
-      → IsLast now back there ⊎ IsHeld g now.parts new back there
+      → IsLast now back there ⊎ (unsaved × IsHeld g now.parts new back there)
   pub survived : (t : ℕ) → t ≤ (g.crashes old.sink).moment
       → (g.crashes old.sink).survived t → (g.crashes new.sink).survived t
 

@@ -7,10 +7,10 @@ use Rattle.tape_blocks.specs.Spans.{join}
 use Rattle.tape_set.specs.declared.position.Position.TheVariants.{Finished}
 use Rattle.tape_set.specs.declared.position.Want.{Want}
 use Rattle.tape_set.specs.Position.{want_at}
-use Rattle.tape_core.specs.State.{State}
+use Rattle.tape_core.specs.{Place.rest_of, State.State}
 use Rattle.tape_core.specs.declared.sink.PartSink.{Ghosts}
 use Rattle.tape_run.specs.Crash.{LeavesSaved}
-use Rattle.tape_run.specs.Stopping.{IsStopped}
+use Rattle.tape_run.specs.Stopping.{IsStopped, RefusesSave}
 use Rattle.tape_run.specs.declared.fault.EngineFault.{EngineFault}
 use Rattle.tape_run.specs.declared.fault.EngineFault.TheVariants.{WriteFailed}
 use Rattle.tape_run.specs.Seen.{Seen, IfSeen}
@@ -84,6 +84,7 @@ pub record StopsAtEnd {S W : Type 0} (g : Ghosts S) (session : SessionState S) (
   pub records : ℕ
   pub line : AppendsFront said says (last_line want records)
   pub told : fault ≢ WriteFailed → says ≡ said
+  pub wants : AppendsFront said says [] ⊎ (want ≡ want_at session.core.file session.core.position)
   pub tells : IfSeen g session (TellsEnd (AppendsFront said says []) want records)
   pub is_written : IfSeen g session
       (LeavesOutput (AppendsFront said says []) want form contents out written)
@@ -105,9 +106,10 @@ pub record Extracts {S L R : Type 0} (g : Ghosts S) (size : L → ℕ) (gives : 
       × StoodSaved g old was.parts new e.now)
 
 -- A fault ended the run: the report is a prefix of such a report on the images that were processed,
--- which are the first of the images, and exactly their lines unless a write failed; and the output
--- was not touched, or the file is complete and a prefix of its records was written: all of them if
--- anything of COMPLETE was reported.
+-- which are the first of the images, and exactly their lines unless a write failed. All images
+-- precede anything of a last line, unless it says that the file is complete. The output was not
+-- touched, or the file is complete and a prefix of its records was written: all of them if anything
+-- of COMPLETE was reported.
 pub record Stops {S L R W : Type 0} (g : Ghosts S) (size : L → ℕ) (gives : Mounting L R)
     (remaining : R → Option (List ℕ)) (old new : SessionState S) (shelf left : L) (form : Form)
     (contents : W → Option (List ℕ)) (out written : W) (said says : Option (List ℕ))
@@ -116,14 +118,18 @@ pub record Stops {S L R W : Type 0} (g : Ghosts S) (size : L → ℕ) (gives : M
   pub image : Option R
   pub are_turns : AreFirstTurns gives remaining shelf turns image left
   pub most : length turns ≤ size shelf
+  pub no_more : length turns ≡ size shelf → image ≡ None
   pub want : Option Want
+  pub all : AppendsFront said says (reel_lines 1 (map answer_of turns))
+      ⊎ ((length turns ≡ size shelf) ⊎ (want ≡ None))
   pub records : ℕ
   pub lines : AppendsFront said says
       (reel_lines 1 (map answer_of turns) ++ last_line want records)
   pub told : fault ≢ WriteFailed → Appends said says (reel_lines 1 (map answer_of turns))
   pub follows : IfSeen g old (λ was. IsKeptFor (goes_back old.notes) was → (last : State)
       × (now : Seen) × Follows (goes_back old.notes) false old.core was turns last now
-      × (LeavesSaved g old was.parts now new
+      × (LeavesSaved g (RefusesSave remaining now image fault (rest_of new.core)) old was.parts now
+      new
       × IsStopped g remaining (goes_back old.notes) now image fault new)
       × TellsEnd (AppendsFront said says (reel_lines 1 (map answer_of turns))) want records now
       × LeavesOutput (AppendsFront said says (reel_lines 1 (map answer_of turns))) want form

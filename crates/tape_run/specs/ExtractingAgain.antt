@@ -1,13 +1,13 @@
 -- What `extract` leaves after several passes over the images.
-use Rattle.std.specs.Prelude.{◌≡◌, ◌≢◌, ℕ, ◌<◌, ◌≤◌, List, ◌++◌, length, map, Option}
+use Rattle.std.specs.Prelude.{◌≡◌, ◌≢◌, ◌⊎◌, ℕ, ◌<◌, ◌≤◌, List, ◌++◌, length, map, Option}
 use Rattle.std.specs.Prelude.{None, true}
 use Rattle.std.specs.Io.KnownBytes.{Appends}
 use Rattle.tape_blocks.specs.declared.parts.Form.{Form}
 use Rattle.tape_set.specs.declared.position.Want.{Want}
-use Rattle.tape_core.specs.State.{State}
+use Rattle.tape_core.specs.{Place.rest_of, State.State}
 use Rattle.tape_core.specs.declared.sink.PartSink.{Ghosts}
 use Rattle.tape_run.specs.Crash.{LeavesSaved}
-use Rattle.tape_run.specs.Stopping.{IsStopped}
+use Rattle.tape_run.specs.Stopping.{IsStopped, RefusesSave}
 use Rattle.tape_run.specs.declared.fault.EngineFault.{EngineFault}
 use Rattle.tape_run.specs.declared.fault.EngineFault.TheVariants.{WriteFailed}
 use Rattle.tape_run.specs.Extracting.{Ends, TellsEnd, LeavesOutput}
@@ -47,7 +47,8 @@ pub record ExtractsAgain {S L R : Type 0} (g : Ghosts S) (size : L → ℕ) (giv
 
 -- A fault ended the passes. The images that were processed are those of passes that recovered
 -- something, and the first images of another pass. The report is a prefix of the report on these
--- images, and exactly their lines unless a write failed. The output was not touched; or the file is
+-- images, and exactly their lines unless a write failed. If anything of a last line was reported,
+-- the last pass is complete, and no other follows. The output was not touched; or the file is
 -- complete and a prefix of its records was written: all of them if anything of COMPLETE was
 -- reported.
 pub record StopsAgain {S L R W : Type 0} (g : Ghosts S) (size : L → ℕ) (gives : Mounting L R)
@@ -62,7 +63,11 @@ pub record StopsAgain {S L R W : Type 0} (g : Ghosts S) (size : L → ℕ) (give
   pub image : Option R
   pub are_turns : AreFirstTurns gives remaining between turns image left
   pub most : length turns ≤ size shelf
+  pub no_more : length turns ≡ size shelf → image ≡ None
   pub want : Option Want
+  pub ended : AppendsFront said says (reel_lines 1 (map answer_of (turns_of rounds ++ turns)))
+      ⊎ (((length turns ≡ size shelf) ⊎ (want ≡ None)) × IsEnough (size shelf)
+      (length (turns_of rounds)) (wanted (core_behind old.core rounds)) want)
   pub records : ℕ
   pub lines : AppendsFront said says
       (reel_lines 1 (map answer_of (turns_of rounds ++ turns)) ++ last_line want records)
@@ -70,7 +75,8 @@ pub record StopsAgain {S L R W : Type 0} (g : Ghosts S) (size : L → ℕ) (give
       → Appends said says (reel_lines 1 (map answer_of (turns_of rounds ++ turns)))
   pub follows : IfSeen g old (λ was. IsKeptFor (goes_back old.notes) was → (last : State)
       × (now : Seen) × GoesRound (goes_back old.notes) old.core was rounds turns last now
-      × (LeavesSaved g old was.parts now new
+      × (LeavesSaved g (RefusesSave remaining now image fault (rest_of new.core)) old was.parts now
+      new
       × IsStopped g remaining (goes_back old.notes) now image fault new)
       × TellsEnd (AppendsFront said says
       (reel_lines 1 (map answer_of (turns_of rounds ++ turns)))) want records now

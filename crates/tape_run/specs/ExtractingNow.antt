@@ -1,5 +1,5 @@
 -- What `extract` leaves if the records are written while the images are read.
-use Rattle.std.specs.Prelude.{◌≡◌, ◌≢◌, ℕ, ◌<◌, ◌≤◌, List, ◌++◌, length, map, Option}
+use Rattle.std.specs.Prelude.{◌≡◌, ◌≢◌, ◌⊎◌, ℕ, ◌<◌, ◌≤◌, List, ◌++◌, length, map, Option}
 use Rattle.std.specs.Prelude.{Some, None, ⊤, false}
 use Rattle.std.specs.Io.KnownBytes.{Appends}
 use Rattle.tape_blocks.specs.Block.{Portion}
@@ -66,7 +66,8 @@ LeavesName less want form tells stands out put now =
     (tells → stands put ≡ Some (output_of form now.parts))
 
 -- A fault ended the run: the report is a prefix of such a report, for the first of the images, and
--- exactly their lines unless a write failed; and the output's name was not touched, or the file is
+-- exactly their lines unless a write failed; all images precede anything of a last line, unless it
+-- says that the file is complete. The output's name was not touched, or the file is
 -- complete, and the file with the output's name is unchanged or contains exactly the records.
 pub record StopsNow {S L R O : Type 0} (g : Ghosts S) (size : L → ℕ) (gives : Mounting L R)
     (remaining : R → Option (List ℕ)) (session new : SessionState S) (shelf left : L) (form : Form)
@@ -76,7 +77,10 @@ pub record StopsNow {S L R O : Type 0} (g : Ghosts S) (size : L → ℕ) (gives 
   pub image : Option R
   pub are_turns : AreFirstTurns gives remaining shelf turns image left
   pub most : length turns ≤ size shelf
+  pub no_more : length turns ≡ size shelf → image ≡ None
   pub want : Option Want
+  pub all : AppendsFront said says (reel_lines 1 (map answer_of turns))
+      ⊎ ((length turns ≡ size shelf) ⊎ (want ≡ None))
   pub records : ℕ
   pub lines : AppendsFront said says
       (reel_lines 1 (map answer_of turns) ++ last_line want records)

@@ -2,7 +2,7 @@
 use Rattle.std.specs.Prelude.{◌≡◌, ◌≢◌, ◌⊎◌, ℕ, ◌+◌, ◌-◌, ◌<◌, ◌≤◌, List, length, map, Option}
 use Rattle.std.specs.Prelude.{Some, None, IfSome, Bool, true, false}
 use Rattle.std.specs.Io.KnownBytes.{Appends}
-use Rattle.tape_core.specs.State.{State}
+use Rattle.tape_core.specs.{Place.rest_of, State.State}
 use Rattle.tape_core.specs.Weight.{IsFront}
 use Rattle.tape_core.specs.declared.sink.PartSink.{Ghosts}
 use Rattle.tape_core.specs.declared.sink.SinkFault.TheVariants.{Device}
@@ -35,6 +35,15 @@ StopsInReel back had fault old new = IfSome had (λ bytes. ReelFails bytes fault
     ⊎ ((left : Option (List ℕ)) × (answer : ReelAnswer) × (mid : Seen)
     × Reeled bytes left (is_device answer.fault) old mid
     × NotNoted back (counts_differ answer.answer) fault mid new))
+
+-- After a reel that was read to its end and is not suspect, the sink refused to save this position.
+abbrev pub RefusesSave : {R : Type 0} → (R → Option (List ℕ)) → Seen → Option R → EngineFault
+    → State → Type 0
+RefusesSave remaining old (Some image) (Run (Sink cause)) place = IfSome (remaining image)
+    (λ bytes. (left : Option (List ℕ)) × (answer : ReelAnswer) × (mid : Seen)
+    × Reeled bytes left (is_device answer.fault) old mid
+    × (counts_differ answer.answer ≡ false) × (mid.place ≡ place))
+RefusesSave remaining old image fault place = ⊥
 
 -- Where a session is after a fault. If no image was open, as after a failed write, it is unmoved.
 abbrev pub StopsAt : {R : Type 0} → (R → Option (List ℕ)) → Bool → Seen → Option R → EngineFault
@@ -76,9 +85,11 @@ pub record StopsReading {S L R : Type 0} (g : Ghosts S) (size before : ℕ) (giv
   pub are_turns : AreFirstTurns gives remaining shelf turns image left
   pub most : length turns ≤ size
   pub fewer : fault ≢ WriteFailed → length turns < size
+  pub no_more : length turns ≡ size → image ≡ None
   pub lines : AppendsFront said says (reel_lines (before + 1) (map answer_of turns))
   pub told : fault ≢ WriteFailed → Appends said says (reel_lines (before + 1) (map answer_of turns))
   pub follows : IfSeen g old (λ was. IsKeptFor back was → (core : State) × (now : Seen)
       × Follows back spares old.core was turns core now
-      × LeavesSaved g old was.parts now new
+      × LeavesSaved g (RefusesSave remaining now image fault (rest_of new.core)) old was.parts now
+      new
       × IsStopped g remaining back now image fault new)

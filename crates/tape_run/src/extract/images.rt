@@ -2,11 +2,12 @@
 
 ghost use Rattle.std.specs.Prelude.{◌≡◌, ◌≢◌, ◌≤◌, ◌+◌, ℕ, length, OnOk, OnErr, IfOk, IfErr};
 ghost use Rattle.tape_set.specs.declared.position.Position.TheVariants.{Finished};
+ghost use Rattle.tape_core.specs.Place.{rest_of};
 ghost use Rattle.tape_run.specs.Causes.{ReadingFails, IsCalm};
 ghost use Rattle.tape_run.specs.Crash.{LeavesStep};
 ghost use Rattle.tape_run.specs.Reeling.{Takes, TakesAll, counts_differ, IsKeptFor, Mounting, Took};
 ghost use Rattle.tape_run.specs.Seen.{IfSeen};
-ghost use Rattle.tape_run.specs.Stopping.{IsStopped, StopsReading};
+ghost use Rattle.tape_run.specs.Stopping.{IsStopped, RefusesSave, StopsReading};
 
 use crate::extract::line::ReelLine;
 use crate::fault::{EngineFault, NO_MEMORY, RunFault};
@@ -128,8 +129,9 @@ fn read_image<S: PartSink, R: Read + Drop>(
     requires waits { session.old.core.position ≢ Finished }
     ensures ok { IfOk result (λ answer. Takes S.PartSink R.remaining back spares
         session.old session.new image answer) }
-    ensures left { IfSeen S.PartSink session.old (λ old. IsKeptFor back old
-        → LeavesStep S.PartSink back session.old old.parts session.new) }
+    ensures left { IfErr result (λ fault. IfSeen S.PartSink session.old (λ old. IsKeptFor back old
+        → LeavesStep S.PartSink back (RefusesSave R.remaining old image (EngineFault.Run fault)
+        (rest_of session.new.core)) session.old old.parts session.new)) }
     ensures stops { IfErr result (λ fault. IfSeen S.PartSink session.old (λ old. IsKeptFor back old
         → IsStopped S.PartSink R.remaining back old image (EngineFault.Run fault)
         session.new)) }

@@ -10,6 +10,7 @@ returns-in_err-end_report-clause-err g c =
     told_err _ _ _ c.from_residual.ensures.1 (ends_in_part g.S.PartSink c.args.session.now
     c.args.form g.W.Write.contents c.args.out.now c.args.out.now _ _ (Some c.in-Some.want) 0 _
     c.in_err-end_report.ensures.err (λ other. absurd (other c.in_err-end_report.ensures.fault))
+    (inr (sym c.in-Some.is ∙ c.want.ensures))
     (λ held was. inr (sym c.in-Some.is ∙ c.want.ensures, λ none. absurd (cc none)))
     (λ held was. inl (refl, inr (λ none. absurd (cc none)))))
 
@@ -27,7 +28,7 @@ returns-in_err-records-clause-err g c =
     search rules in
     told_err _ _ _ c.from_residual-in_err-records.ensures.1 (ends_in_part g.S.PartSink
     c.args.session.now c.args.form g.W.Write.contents c.args.out.now c.write_file.new.out _ _ None
-    0 _ (no_text _ _) (λ other. refl)
+    0 _ (no_text _ _) (λ other. refl) (inl (no_text _ []))
     (λ held was. inl (no_text _ []))
     (λ held was. inr (
       none_finished c.args.session.now.core.file c.args.session.now.core.position none,
@@ -41,7 +42,7 @@ returns-in_err-end_report-2-clause-err g c =
     told_err _ _ _ c.from_residual-in_err-end_report-2.ensures.1 (ends_in_part g.S.PartSink
     c.args.session.now c.args.form g.W.Write.contents c.args.out.now c.write_file.new.out _ _ None
     c.in_ok-records.records _ c.in_err-end_report-2.ensures.err
-    (λ other. absurd (other c.in_err-end_report-2.ensures.fault))
+    (λ other. absurd (other c.in_err-end_report-2.ensures.fault)) (inr none)
     (λ held was. inr (none, λ same. (c.in_ok-records.ensures.ok held was).0))
     (λ held was. inr (
       none_finished c.args.session.now.core.file c.args.session.now.core.position none,

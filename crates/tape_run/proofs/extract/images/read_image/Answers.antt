@@ -1,14 +1,16 @@
 use Rattle.std.proofs.Common.{◌≡◌, ◌-◌, Bool, true, false, length, Some, refl, sym, subst, ◌∙◌}
 use Rattle.std.proofs.Common.{arith, rules, inl, inr}
 use Rattle.std.specs.Bool.{OnTrue, OnFalse}
+use Rattle.tape_core.specs.Place.{rest_of}
+use Rattle.tape_run.specs.Crash.{LeavesStep}
 use Rattle.tape_run.specs.Reeling.{Opened, IsKeptFor, IsTurn, counts_differ}
 use Rattle.tape_run.specs.Seen.{seen}
-use Rattle.tape_run.specs.Stopping.{IsStopped, NotNoted}
+use Rattle.tape_run.specs.Stopping.{IsStopped, NotNoted, RefusesSave}
 use Rattle.tape_run.specs.declared.fault.EngineFault.TheVariants.{Run}
 use Rattle.tape_run.proofs.Causes.{calm_back, calm_reel, calm_saved, calm_then}
 use Rattle.tape_run.proofs.Ended.{told_err}
 use Rattle.tape_run.proofs.Lasting.{last_stays, last_then}
-use Rattle.tape_run.proofs.Left.{left_then, restart_left}
+use Rattle.tape_run.proofs.Left.{left_then, restart_left, save_left}
 use Rattle.tape_run.proofs.Settled.{Settled, settled_back, settled_same, settled_saved}
 use Rattle.tape_run.proofs.StoppedThere.{one_turn, step_stops}
 use Rattle.tape_run.proofs.Turns.{kept_behind, kept_for}
@@ -108,11 +110,7 @@ returns g c =
               ),
             );
       };
-      left = λ held was kept.
-          let (now, has, (front, keeps, reeled)) = c.in_ok-answer.ensures.ok held was in
-          let still = kept_for c.args.back (seen sink old held) (seen sink mid now) keeps kept in
-          left_then sink c.args.back old mid new held now c.in_ok-answer.ensures.notes front kept
-          (c.reel.ensures.crash held was) (settled.left now has still);
+      left = tt;
       stops = tt;
       cause = tt;
       calm = calm_then sink old mid new (calm_reel sink old mid _ c.in_ok-answer.ensures.calm
@@ -121,7 +119,7 @@ returns g c =
 
 pub returns-in_err-restart-clause-left : goal.returns-in_err-restart-clause-left
 returns-in_err-restart-clause-left g c =
-    λ held was kept.
+    told_err _ _ _ c.from_residual-in_err-restart.ensures.1 (λ held was kept.
     let sink = g.S.PartSink in
     let old = c.args.session.now in
     let mid = c.reel.new.self in
@@ -131,9 +129,28 @@ returns-in_err-restart-clause-left g c =
     let n = c.saturating_sub-last.result in
     let last : n ≡ length mid.notes - 1 =
     omega (arith, c.saturating_sub-last.ensures, c.notes.ensures) in
-    left_then sink c.args.back old mid c.restart.new.self held now c.in_ok-answer.ensures.notes
-    front kept (c.reel.ensures.crash held was) (rw c.if-back.true (restart_left sink mid
-    c.restart.new.self now n last (c.restart.ensures.crash now has kept_now)))
+    left_then sink c.args.back _ old mid c.restart.new.self held now c.in_ok-answer.ensures.notes
+    front kept (c.reel.ensures.crash held was) (rw c.if-back.true (restart_left sink _ mid
+    c.restart.new.self now n last (c.restart.ensures.crash now has kept_now))))
+
+pub returns-in_err-save-clause-left : goal.returns-in_err-save-clause-left
+returns-in_err-save-clause-left g c =
+    told_err _ _ _ c.from_residual-in_err-save.ensures.1 (λ held was kept.
+    let sink = g.S.PartSink in
+    let old = c.args.session.now in
+    let mid = c.reel.new.self in
+    let new = c.save.new.self in
+    let (now, has, (front, keeps, reeled)) = c.in_ok-answer.ensures.ok held was in
+    let (end, has_end, fails) = c.in_err-save.ensures.err now has in
+    let fault = c.in_err-save.field-0.0 in
+    subst (λ image. LeavesStep sink c.args.back (RefusesSave g.R.Read.remaining (seen sink old held)
+    image (Run fault) (rest_of new.core)) old held new) (sym c.in-Some.is)
+    (left_then sink c.args.back _ old mid new held now c.in_ok-answer.ensures.notes front kept
+    (c.reel.ensures.crash held was) (save_left sink g.R.Read.remaining c.args.back fault
+    c.in-Some.device (g.R.Read.remaining c.reel.new.device) c.in_ok-answer.answer
+    (seen sink old held) mid new now end has_end reeled
+    (sym c.counts_differ.ensures ∙ c.if-counts_differ.false) fails
+    (λ none. c.save.ensures.memory (search (rules, none))) (c.save.ensures.crash now has))))
 
 pub returns-in_err-save-clause-stops : goal.returns-in_err-save-clause-stops
 returns-in_err-save-clause-stops g c =

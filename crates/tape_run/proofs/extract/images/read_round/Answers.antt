@@ -27,6 +27,7 @@ returns-in_err-outcome-clause-err g c =
       are_turns = (c.loop-number.images, are, inr mounted);
       most = omega (arith, e, c.loop-number-test.true);
       fewer = λ other. omega (arith, e, c.loop-number-test.true);
+      no_more = λ none. absurd (omega (arith, none, e, c.loop-number-test.true));
       lines = whole_text _ _ (reel_lines (c.args.lines + 1) (map answer_of turns)) lines;
       told = λ other. lines;
       follows = λ held was kept.
@@ -34,8 +35,9 @@ returns-in_err-outcome-clause-err g c =
             c.loop-number.session.core,
             seen g.S.PartSink c.loop-number.session now,
             follows,
-            left_saved g.S.PartSink c.args.back c.args.session.now c.loop-number.session
-                c.read_image.new.session held now lasts (c.read_image.ensures.left now has still),
+            left_saved g.S.PartSink c.args.back _ c.args.session.now c.loop-number.session
+                c.read_image.new.session held now lasts
+                (c.in_err-outcome.ensures.left now has still),
             c.in_err-outcome.ensures.stops now has still,
           );
     })
@@ -63,6 +65,7 @@ returns-in_err-write_line-clause-err g c =
       );
       most = omega (arith, e, count, c.loop-number-test.true);
       fewer = λ other. absurd (other refl);
+      no_more = λ none. refl;
       lines = front_behind (c.args.lines + 1) _ _ _ turns taken.turn n number lines
           (subst (λ o. AppendsFront (g.P.Write.contents c.loop-number.report)
           (g.P.Write.contents c.write_line.new.writer) (reel_line n o)) (sym taken.answers)
@@ -74,11 +77,11 @@ returns-in_err-write_line-clause-err g c =
             c.read_image.new.session.core,
             seen g.S.PartSink c.read_image.new.session next,
             follows_then c.args.back c.args.spares _ _ turns _ _ (taken.turn ∷ []) _ _ follows one,
-            left_saved g.S.PartSink c.args.back c.args.session.now c.read_image.new.session
+            left_saved g.S.PartSink c.args.back _ c.args.session.now c.read_image.new.session
                 c.read_image.new.session held next
                 (last_then g.S.PartSink c.args.session.now c.loop-number.session
                 c.read_image.new.session held now next lasts last)
-                (same_left g.S.PartSink c.args.back c.read_image.new.session next),
+                (same_left g.S.PartSink c.args.back _ c.read_image.new.session next),
             stopped_there g.S.PartSink g.R.Read.remaining c.args.back c.read_image.new.session next
                 _ has_next,
           );
@@ -94,6 +97,7 @@ returns-in_default-clause-err g c =
       are_turns = (c.loop-number.images, are, inl (refl, stays));
       most = omega (arith, e, c.loop-number-test.true);
       fewer = λ other. omega (arith, e, c.loop-number-test.true);
+      no_more = λ none. refl;
       lines = whole_text _ _ (reel_lines (c.args.lines + 1) (map answer_of turns)) lines;
       told = λ other. lines;
       follows = λ held was kept.
@@ -101,11 +105,9 @@ returns-in_default-clause-err g c =
             c.loop-number.session.core,
             seen g.S.PartSink c.loop-number.session now,
             follows,
-            left_saved g.S.PartSink
-                c.args.back c.args.session.now c.loop-number.session
+            left_saved g.S.PartSink c.args.back _ c.args.session.now c.loop-number.session
                 c.loop-number.session held now lasts
-                (same_left g.S.PartSink
-                c.args.back c.loop-number.session now),
+                (same_left g.S.PartSink c.args.back _ c.loop-number.session now),
             stopped_there g.S.PartSink g.R.Read.remaining c.args.back c.loop-number.session now _
                 has,
           );

@@ -26,6 +26,7 @@ returns-in_err-end_report-clause-err g c =
     g.O.Place.stands c.args.out.now c.args.out.now _ _ _ (Some c.in-Some.want) 0 _
     (session_walked _ c.read_images.new.session) c.in_ok-read_images.ensures.ok
     c.in_err-end_report.ensures.err (λ other. absurd (other c.in_err-end_report.ensures.fault))
+    (inr (sym c.in-Some.is ∙ c.want.ensures))
     (λ held was. inr (sym c.in-Some.is ∙ c.want.ensures, λ none. absurd (cc none)))
     (λ held was. inl (refl, inr (λ none. absurd (cc none)))))
 
@@ -48,7 +49,7 @@ returns-in_err-records-clause-err g c =
     (TellsAlways g.W.Write.contents)
     g.O.Place.stands c.args.out.now c.place_output.new.out _ _ _ None 0 _
     c.place_output.ensures.same c.in_ok-read_images.ensures.ok (no_text _ _) (λ other. refl)
-    (λ held was. inl (no_text _ []))
+    (inl (no_text _ [])) (λ held was. inl (no_text _ []))
     (λ held was. inr (
       none_finished mid.core.file mid.core.position none,
       inl (c.in_err-records.ensures.err, no_text _ []),
@@ -64,7 +65,7 @@ returns-in_err-end_report-2-clause-err g c =
     (TellsAlways g.W.Write.contents)
     g.O.Place.stands c.args.out.now c.place_output.new.out _ _ _ None c.in_ok-records.records _
     c.place_output.ensures.same c.in_ok-read_images.ensures.ok c.in_err-end_report-2.ensures.err
-    (λ other. absurd (other c.in_err-end_report-2.ensures.fault))
+    (λ other. absurd (other c.in_err-end_report-2.ensures.fault)) (inr none)
     (λ held was. inr (
       none,
       λ same. (c.in_ok-records.ensures.ok held was).0,
