@@ -1,7 +1,7 @@
 -- Results of an `ImageReader`, and its states after them, that its contracts exclude: each is the
 -- result of a wrong body, for `next` with the given bytes.
-use Rattle.std.proofs.Common.{◌≡◌, ◌≤◌, ◌+◌, ℕ, List, [], ◌∷◌, ◌++◌, length, refl, ap, ◌∙◌, subst}
-use Rattle.std.proofs.Common.{arith, length-append}
+use Rattle.std.proofs.Common.{◌≡◌, ◌≤◌, ◌+◌, ℕ, List, [], ◌∷◌, ◌++◌, length, refl, subst}
+use Rattle.std.proofs.Common.{arith, rules}
 use Rattle.std.specs.Prelude.{Option, Some, Result, Ok, Err}
 use Rattle.tape_image.specs.declared.item.Ending.TheVariants.{Physical}
 use Rattle.tape_image.specs.declared.item.ImageCause.TheVariants.{Truncated, LengthsDiffer}
@@ -14,7 +14,7 @@ use Rattle.tape_image.specs.{declared.item.Item.Item, declared.item.ImageCause.I
 use Rattle.tape_image.specs.{declared.item.ImageFault.ImageFault, Spelling.a_block, Spelling.a_gap}
 use Rattle.tape_image.specs.{Reader.Reader, Reader.going, Reader.seen, Next.HasMoved}
 use Rattle.tape_image.proofs.Walks.{Walks-nil, Walks-item, IfKnown-at}
-use Rattle.tape_image.proofs.Callers.{walked_front, from_going, same_some}
+use Rattle.tape_image.proofs.Callers.{walked_front, from_going}
 use Rattle.tape_image.proofs.reader.ImageReader.new.Reads as new_reader
 use Rattle.tape_image.proofs.reader.ImageReader.next.Reads as next
 
@@ -186,14 +186,7 @@ module _ (T : _) (L : _) (g : _) (d : _) (κs : _) (a : _) (z : _) (s : _)
   -- too_long_after_the_data: a block that would end past the limit is read whole before the fault
   too_long_after_the_data : a.0.now ≡ at 4294967290 one_byte device room
       → seen z ≡ Err (fault 4294967290 TooLong) → new.left ≡ Some [] → ⊥
-  too_long_after_the_data e w none =
-      let (ys, there, takes) = takes_fault 4294967290 one_byte device room a.0.now new z
-      (fault 4294967290 TooLong) h.0.holds-at-none e w in
-      let left : ys ≡ [] = same_some ys [] new.left there none in
-      let whole : 10 ≡ length takes.given + length ys
-      = ap length takes.whole ∙ length-append takes.given ys in
-      let word : 4294967290 + length takes.given ≡ 4294967290 + 4 = takes.cause.1 in
-      absurd (omega (arith, whole, word, ap length left))
+  too_long_after_the_data e w none = search (rules, takes_fault)
 
   -- place_behind_the_fault: after the fault the reader's place is after the reserved word
   place_behind_the_fault : (p w : ℕ) → a.0.now.status ≡ going

@@ -51,11 +51,6 @@ rest_at_once old new w n end long v held more taken is e room value =
         trail = drop pads behind;
         taken = subst (Consumes mid new) (sym (take-append-drop pads behind)) last;
         pad_is = length-take-le pads behind (omega (arith, size));
-        trail_is = record {
-          four = omega (arith, length-drop pads behind, size);
-          value = sym (value
-              ∙ trail_word (end - 4) long held more room (omega (arith, is, e))
-              ∙ ap (little_number 4) at);
-        };
+        trail_is = grind (arith, pads, behind, size, trail_word);
       },
     )

@@ -46,11 +46,7 @@ trail1_text_is t fits widths =
     record {
       kind = record { size = s.1.1.1.1.1.1.1.1.1.1.1.1.1; named = s.0 };
       head = head_text_has (trailer t.eof) t.head t.blocks (text_of (trail1_pieces t)) fits.head s;
-      blocks = record {
-        spelled = s.1.1.1.1.1.1.1.1.1.1.0;
-        at_least = omega arith;
-        fits = omega (arith, fits.blocks);
-      };
+      blocks = grind (arith, s);
     }
 
 pub head2_text_is : (kind : Kind) (h : Head2) → IsSecond kind → Head2Fits h

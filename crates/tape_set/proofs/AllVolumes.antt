@@ -1,5 +1,5 @@
 -- Complete readings of all volumes, in order, move a file from its start to its end.
-use Rattle.std.proofs.Common.{◌≡◌, ◌≢◌, ◌⊎◌, inl, inr, ℕ, zero, suc, ◌+◌, ◌<◌, ◌≤◌, Bool, true}
+use Rattle.std.proofs.Common.{◌≡◌, ◌⊎◌, inl, inr, ℕ, zero, suc, ◌+◌, ◌<◌, ◌≤◌, Bool, true}
 use Rattle.std.proofs.Common.{false, List, [], ◌∷◌, ◌++◌, length, Option, Some, None, refl, sym, ap}
 use Rattle.std.proofs.Common.{subst, ◌∙◌, arith, eq-eqb}
 use Rattle.std.proofs.lemmas.Bool.Decides.{nat_tests}
@@ -11,7 +11,7 @@ use Rattle.tape_set.specs.Layout.{numbered, all_numbered, ends_file}
 use Rattle.tape_set.specs.Lawful.{IsLawful, IsFile, IsSection, GoesOn, Ends}
 use Rattle.tape_set.specs.{declared.position.Position.Position, Position.start, Position.awaiting}
 use Rattle.tape_set.specs.{Position.at_part, Before.IsIn, Reading.whole_reading}
-use Rattle.tape_set.specs.{Reading.whole_readings, Reach.far, Reach.far_in, Reach.far_over}
+use Rattle.tape_set.specs.{Reading.whole_readings, Reach.far, Reach.far_over}
 use Rattle.tape_set.specs.{Reach.behind, Laws.GoesOnOnNext, Laws.FilesBegin, Laws.WholeGivesFile}
 use Rattle.tape_set.proofs.Everywhere.{every_at, every_stands, is_there}
 use Rattle.tape_set.proofs.Numbering.{placed, section_found, section_stands}
@@ -151,12 +151,7 @@ step_over set file k p l (inr (sect, s, found, later, e)) = rw e (here (s.volume
         same gives in
         subst (ToCome set file (k + 1)) (sym gives')
         (subst (λ v. ToCome set file v (behind sect s)) same (onward set file sect s l found))
-    here false q =
-        let other : s.volume ≢ k + 1 = grind (arith, nat_tests, q) in
-        let stays : far set file (awaiting sect 0) (whole_reading set (k + 1)) ≡ awaiting sect 0 =
-        ap (far_in set file (awaiting sect 0) sect 0 (whole_reading set (k + 1))) found
-        ∙ (rw q refl) in
-        inr (sect, s, found, omega (arith, later, other), stays)
+    here false q = grind arith
 
 -- complete readings of all volumes from the next one
 pub all_over : (set : FileSet) (file n k : ℕ) (p : Position) → IsLawful set

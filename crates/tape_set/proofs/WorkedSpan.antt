@@ -1,7 +1,7 @@
 -- A spanned record of 290 bytes on two volumes of 1,042 bytes: 22 blocks of 18 bytes and EOV1, then
 -- one block and EOF1.
 use Rattle.std.proofs.Common.{◌≡◌, ◌≤◌, ℕ, zero, suc, List, [], ◌∷◌, ◌++◌, true, false, refl, codes}
-use Rattle.std.proofs.Common.{lit≤, lit<}
+use Rattle.std.proofs.Common.{lit≤, lit<, arith}
 use Rattle.std.specs.{Prelude.map, Prelude.replicate, List.AllByRecursion}
 use Rattle.tape_image.specs.Tape.{IsTapeItem}
 use Rattle.tape_label.specs.declared.values.Format.TheVariants.{Fixed, Spanned}
@@ -125,14 +125,7 @@ spanned_lawful =
   where
     held : AllByRecursion (λ b. Holds Spanned 0 0 b.bytes b.parts) on_first
         × AllByRecursion (λ b. Holds Spanned 0 0 b.bytes b.parts) (last_block ∷ [])
-    held = (
-      (
-        first_written.holds,
-        every_middle (λ b. Holds Spanned 0 0 b.bytes b.parts) 21
-            middle_written.holds,
-      ),
-      (last_written.holds, tt),
-    )
+    held = grind (arith, first_written, every_middle, middle_written, last_written)
 
 spanned_tight : IsTight spanned 1042 (shape ∷ [])
 spanned_tight = search (makes, writable, shape_fits, record_packed) depth 9
