@@ -5,11 +5,5 @@ use Rattle.tape_core.proofs.laws.cases.Goals as goal
 pub returns-clause-foreign : goal.returns-clause-foreign
 returns-clause-foreign c = cases_of_foreign
 
-pub returns-clause-places : goal.returns-clause-places
-returns-clause-places c = cases_of_places
-
-pub returns-clause-steps : goal.returns-clause-steps
-returns-clause-steps c = cases_of_steps
-
 pub returns-clause-sinks : goal.returns-clause-sinks
 returns-clause-sinks c = cases_of_sinks

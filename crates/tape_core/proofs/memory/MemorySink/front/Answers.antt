@@ -4,25 +4,6 @@ use Rattle.tape_core.specs.{Stands.weight_of, Memory.portions}
 use Rattle.tape_core.proofs.Weights.{weight_of-more, front_has_parts}
 use Rattle.tape_core.proofs.memory.MemorySink.front.Goals as goal
 
-pub loop-number-init : goal.loop-number-init
-loop-number-init c =
-    let all = portions c.args.self.now in (
-      omega (arith, c.count-number.ensures),
-      λ part parts is. absurd (omega (
-        arith,
-        c.count-number.ensures,
-        length-drop c.count-number.result all,
-        ap length is,
-      )),
-    )
-
-pub overflow_sub-number : goal.overflow_sub-number
-overflow_sub-number c =
-    let all = portions c.args.self.now in
-    let more : c.args.most < weight_of (take c.loop-number.number all) =
-    omega (arith, c.loop-number-test.true, c.weight_to.ensures.value) in
-    front_has_parts c.loop-number.number all c.args.most more
-
 pub loop-number-preserved : goal.loop-number-preserved
 loop-number-preserved c =
     let all = portions c.args.self.now in
