@@ -40,9 +40,9 @@ pub record HasTaken {W : Type 0} (contents : W → Option (List ℕ)) (form : Fo
   pub begins : begun ≡ is_some (join parts).rest
   pub text : TellsAlways contents → IsText contents (text_so_far form parts) out
 
--- Why a change of an output of this weight is refused: a write failed, in the call or earlier, or a
--- part would be too heavy, or written records would have to be removed. Only a write that fails in
--- the call takes the writer away.
+-- Why a change of an output is refused, which has this weight then: a write failed, in the call or
+-- earlier, or a part would be too heavy, or written records would have to be removed. Only a write
+-- that fails in the call takes the writer away.
 abbrev pub RefusesText : Bool → ℕ → SinkFault → Bool → Type 0
 RefusesText works weight Device still = (works ≡ true) × (still ≡ false)
 RefusesText works weight Failed still = still ≡ works

@@ -118,7 +118,7 @@ impl<W: Write + Drop> PartSink for OutSink<W> {
     ghost refusals = { λ s. s.refused };
 
     ghost refuses_change = { λ s fault t.
-        RefusesText (is_some s.out) s.weight fault (is_some t.out) };
+        RefusesText (is_some s.out) t.weight fault (is_some t.out) };
 
     ghost crashes = { λ s. lost };
 
@@ -147,7 +147,7 @@ impl<W: Write + Drop> PartSink for OutSink<W> {
         ensures cause { OnErr result (Rose self.old.refused self.new.refused) }
         ensures calm { OnOk result (self.new.refused ≡ self.old.refused) }
         ensures why { IfErr result (λ fault.
-            RefusesText (is_some self.old.out) self.old.weight fault (is_some self.new.out)) }
+            RefusesText (is_some self.old.out) self.new.weight fault (is_some self.new.out)) }
         // A put is refused only because of the weight, or because a write failed now or before.
         ensures failed { result ≡ Err SinkFault.Failed → self.old.out ≡ None }
         // A part that is accepted was written, and the writer is kept.
@@ -202,7 +202,7 @@ impl<W: Write + Drop> PartSink for OutSink<W> {
         ensures form { self.new.form ≡ self.old.form }
         ensures cause { OnErr result (Rose self.old.refused self.new.refused) }
         ensures why { IfErr result (λ fault.
-            RefusesText (is_some self.old.out) self.old.weight fault (is_some self.new.out)) }
+            RefusesText (is_some self.old.out) self.new.weight fault (is_some self.new.out)) }
     {
         if point.staged == self.weight {
             return Ok(());
