@@ -1,8 +1,8 @@
 -- The contents of a stage as a sink.
 use Rattle.std.proofs.Common.{◌≡◌, ℕ, Bool, false, List, length, Option, None, drop, refl, sym, ap}
-use Rattle.std.proofs.Common.{◌∙◌, subst, arith}
-use Rattle.std.proofs.Common.{◌⊎◌, ⊎_elim, inl, inr}
-use Rattle.std.specs.Prelude.{Some, Err}
+use Rattle.std.proofs.Common.{◌∙◌, ◌+◌, ◌≤◌, ◌<◌, subst, arith, true}
+use Rattle.std.proofs.Common.{◌⊎◌}
+use Rattle.std.specs.Prelude.{Result, Err}
 use Rattle.std.proofs.lemmas.List.{length-take-le, length-drop}
 use Rattle.tape_stage.specs.Staged.{Holding, Ready}
 use Rattle.tape_stage.specs.Stages.{IsStage, IsStaged, AreHeld, Holds, HasRefused, RefusesChange}
@@ -10,8 +10,9 @@ use Rattle.tape_core.specs.Weight.{Rose}
 use Rattle.tape_core.specs.declared.sink.SinkFault.{SinkFault}
 use Rattle.tape_core.specs.declared.sink.SinkFault.TheVariants as sink
 use Rattle.tape_stage.specs.Faults.{sink_fault_of}
-use Rattle.tape_stage.specs.Stages.{HasDropped}
-use Rattle.tape_stage.specs.Stages.{pending_after}
+use Rattle.tape_stage.specs.Stages.{OnlyCounts}
+use Rattle.tape_stage.specs.{Body.most_generation, Parts.longest_part}
+use Rattle.tape_core.specs.Known.{most_staged}
 use Rattle.tape_core.specs.Point.{Point}
 use Rattle.tape_stage.specs.declared.stage.Stage.{Stage}
 use Rattle.tape_stage.specs.declared.stage.StageFault.{StageFault}
@@ -31,6 +32,16 @@ pub holding_weighs : (weight : ℕ) (parts : List Portion) (bytes : List ℕ)
 holding_weighs weight parts bytes holding = sym (length-take-le weight (drop 256 bytes)
     (omega (arith, length-drop 256 bytes, holding.long))) ∙ ap length holding.frames_are
     ∙ length-frames parts
+
+-- a sink's fault of the device is the stage's
+pub is_device : (fault : StageFault) (told : SinkFault) → told ≡ sink_fault_of fault
+    → told ≡ sink.Device → fault ≡ Device
+is_device Device told same is = refl
+is_device NoPoint told same is = absurd (cc (same, is))
+is_device (BadFrame place) told same is = absurd (cc (same, is))
+is_device OutOfMemory told same is = absurd (cc (same, is))
+is_device Failed told same is = absurd (cc (same, is))
+is_device Full told same is = absurd (cc (same, is))
 
 module _ {D : Type 0} {disk : Ghosts D} where
   -- a stage that has not failed contains its parts
@@ -87,55 +98,26 @@ module _ {D : Type 0} {disk : Ghosts D} where
   refused_holds old new parts (BadFrame place) is honest kept holds = absurd is
   refused_holds old new parts OutOfMemory is honest kept holds = absurd is
 
+  only_counts : (old mid : Stage D disk) → mid ≡ old → OnlyCounts old mid
+  only_counts old mid same = subst (λ (s : Stage D disk). OnlyCounts old s) (sym same)
+      ((refl, refl, refl, refl, refl, refl, refl, refl), refl, refl)
+
   -- a call was refused with the fault of the stage
   pub change_refused : (old mid new : Stage D disk) (fault : StageFault) (told : SinkFault)
       → told ≡ sink_fault_of fault → HasRefused old mid fault
+      → (mid.failed ≡ true → new.failed ≡ true) → (OnlyCounts old mid → OnlyCounts old new)
       → (fault ≡ Device → Rose (disk.faults old.disk) (disk.faults new.disk))
-      → (fault ≡ Full → RefusesChange old sink.Full new) → RefusesChange old told new
-  change_refused old mid new Device told same is cause full =
-      subst (λ f. RefusesChange old f new) (sym same) (cause refl)
-  change_refused old mid new Full told same is cause full =
-      subst (λ f. RefusesChange old f new) (sym same) (full refl)
-  change_refused old mid new Failed told same is cause full =
-      subst (λ f. RefusesChange old f new) (sym same) is.1
-  change_refused old mid new NoPoint told same is cause full = absurd is
-  change_refused old mid new (BadFrame place) told same is cause full = absurd is
-  change_refused old mid new OutOfMemory told same is cause full = absurd is
-
-  -- what is pending after a checkpoint was not saved
-  pub pending_is : (old mid : Stage D disk) (fault : StageFault) (told : SinkFault) (point : Point)
-      → told ≡ sink_fault_of fault → HasRefused old mid fault
-      → (fault ≡ Device → mid.pending ≡ Some point)
-      → mid.pending ≡ pending_after told point old.pending
-  pending_is old mid Device told point same is device = rw same (device refl)
-  pending_is old mid Full told point same is device =
-      rw same (ap (λ (s : Stage D disk). s.pending) is)
-  pending_is old mid Failed told point same is device =
-      rw same (ap (λ (s : Stage D disk). s.pending) is.0)
-  pending_is old mid NoPoint told point same is device = absurd is
-  pending_is old mid (BadFrame place) told point same is device = absurd is
-  pending_is old mid OutOfMemory told point same is device = absurd is
-
-  -- what is acknowledged and pending after acknowledged parts were not dropped
-  pub dropped_is : (old mid : Stage D disk) (fault : StageFault) (told : SinkFault) (point : Point)
-      → told ≡ sink_fault_of fault → HasRefused old mid fault
-      → (fault ≡ Device → (mid.acknowledged ≡ point)
-      ⊎ ((mid.acknowledged ≡ old.acknowledged) × (mid.pending ≡ Some point)))
-      → HasDropped point old (Err told) mid
-  dropped_is old mid Device told point same is device = ⊎_elim
-      (λ acknowledged. inl (same, acknowledged))
-      (λ waits. inr (waits.0, rw same waits.1)) (device refl)
-  dropped_is old mid Full told point same is device = inr (
-    ap (λ (s : Stage D disk). s.acknowledged) is,
-    rw same (ap (λ (s : Stage D disk). s.pending) is),
-  )
-  dropped_is old mid Failed told point same is device = inr (
-    ap (λ (s : Stage D disk). s.acknowledged) is.0,
-    rw same (ap (λ (s : Stage D disk). s.pending) is.0),
-  )
-  dropped_is old mid NoPoint told point same is device = absurd is
-  dropped_is old mid (BadFrame place) told point same is device = absurd is
-  dropped_is old mid OutOfMemory told point same is device = absurd is
+      → (fault ≡ Full → (most_staged < old.weight + (5 + longest_part))
+      ⊎ (most_generation ≤ old.generation)) → RefusesChange old told new
+  change_refused old mid new Device told same is failed counts cause full =
+      subst (λ f. RefusesChange old f new) (sym same) (cause refl, failed is.1)
+  change_refused old mid new Full told same is failed counts cause full =
+      subst (λ f. RefusesChange old f new) (sym same) (full refl, counts (only_counts old mid is))
+  change_refused old mid new Failed told same is failed counts cause full =
+      subst (λ f. RefusesChange old f new) (sym same) (is.1, counts (only_counts old mid is.0))
+  change_refused old mid new NoPoint told same is failed counts cause full = absurd is
+  change_refused old mid new (BadFrame place) told same is failed counts cause full = absurd is
+  change_refused old mid new OutOfMemory told same is failed counts cause full = absurd is
 
   -- reading leaves the contents unchanged
   read_staged : (old new : D) (in_second : Bool) (g : ℕ) (point : Point) (other_open : Bool)

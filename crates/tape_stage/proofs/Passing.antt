@@ -1,7 +1,7 @@
 -- Consecutive calls of a disk.
 use Rattle.std.proofs.Common.{inl, inr, ⊎_elim, ℕ, List, arith}
 use Rattle.tape_stage.specs.{declared.disk.Disk.Ghosts, Disk.IsLater, Moments.Passes}
-use Rattle.std.proofs.Common.{refl}
+use Rattle.std.proofs.Common.{refl, ◌∙◌}
 use Rattle.tape_stage.specs.OnlyReading.{OnlyReads}
 
 module _ {D : Type 0} (g : Ghosts D) where
@@ -41,4 +41,14 @@ module _ {D : Type 0} (g : Ghosts D) where
     same_length = refl;
     any_moment = λ honest. nothing a (g.may_leave a) (λ c left. left);
     back = λ honest. honest;
+  }
+
+  pub reads_then : (a b c : D) → (g.is_honest a → g.is_honest b) → OnlyReads g a b
+      → OnlyReads g b c → OnlyReads g a c
+  reads_then a b c honest first second = record {
+    same = λ h. second.same (honest h) ∙ first.same h;
+    same_length = second.same_length ∙ first.same_length;
+    any_moment = λ h. follow a b c _ (first.any_moment h)
+        (weaken b c _ _ (first.any_moment h).now (second.any_moment (honest h)));
+    back = λ h. first.back (second.back h);
   }

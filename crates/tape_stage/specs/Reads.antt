@@ -1,5 +1,5 @@
 -- The state of a stage and of a reader of its parts, once a part is no longer borrowed.
-use Rattle.std.specs.Prelude.{◌≡◌, ◌-◌, [], Option, Result}
+use Rattle.std.specs.Prelude.{◌≡◌, ◌-◌, [], true, List, OnErr, OnOk, Option, Result}
 use Rattle.std.specs.{Borrow.Fml, Borrow.RattleType, Borrow.MutBor, Io.BufRead.Rests}
 use mir.Syntax.{named}
 use Rattle.tape_stage.specs.Stages.{Holds, IsAhead, LendsNone, crashes_of}
@@ -12,10 +12,13 @@ use Rattle.tape_stage.specs.Stages.{SameStage}
 use Rattle.tape_stage.specs.declared.stage.part_reader.PartReader.{PartReader}
 use Rattle.tape_stage.specs.contracts.stage.Stage.{the_row as stage_row}
 use Rattle.tape_stage.specs.contracts.stage.part_reader.PartReader.{the_row}
-use Rattle.tape_core.specs.{Walks.HasGiven, declared.sink.SinkFault.SinkFault}
+use Rattle.tape_core.specs.{Walks.HasGiven, Weight.Rose, declared.sink.SinkFault.SinkFault}
+use Rattle.tape_blocks.specs.Block.{Portion}
 use Rattle.tape_blocks.specs.declared.parts.Part.{Part}
 
--- the stage returned its next part, or refused the call; its disk was only read
+-- The stage returned its next part, or refused the call. Its disk was only read, and is as honest as
+-- before. It failed in this call if the call was refused, unless the parts to come are unknown, or
+-- it had failed before; and in no other case.
 pub record StageGave {D : Type 0} {disk : Ghosts D} (old : Stage D disk)
     (result : Result (Option Part) SinkFault) (new : Stage D disk) : Type 0 where
   pub gave : HasGiven (λ s parts. Holds s parts) (λ s. s.weight) (λ s. s.refused)
@@ -23,6 +26,10 @@ pub record StageGave {D : Type 0} {disk : Ghosts D} (old : Stage D disk)
       (λ s fault t. LendsNone disk s.readable s.walked s.weight s.disk fault t.disk) old result new
   pub same : SameStage old new
   pub reads : OnlyReads disk old.disk new.disk
+  pub honest : disk.is_honest old.disk → disk.is_honest new.disk
+  pub calm : OnOk result (disk.faults new.disk ≡ disk.faults old.disk)
+  pub fails : (parts : List Portion) → IsAhead old parts → old.readable ≡ true
+      → OnErr result (Rose (disk.faults old.disk) (disk.faults new.disk))
 
 abbrev pub GivesAs : (S : RattleType) (g : Ghosts S.Denot) → MutBor (Stage S.Denot g)
     → Result (Option Part) SinkFault → Fml

@@ -33,6 +33,10 @@ SameStage old new = (new.acknowledged ≡ old.acknowledged) × (new.pending ≡ 
     × (new.generation ≡ old.generation) × (new.in_second ≡ old.in_second)
     × (new.other_open ≡ old.other_open)
 
+-- the stage is unchanged, except for its buffer and its count of refused calls
+abbrev pub OnlyCounts : {D : Type 0} {disk : Ghosts D} → Stage D disk → Stage D disk → Type 0
+OnlyCounts old new = SameStage old new × (new.disk ≡ old.disk) × (new.walked ≡ old.walked)
+
 -- the parts are staged, and the first of them are acknowledged
 pub record IsStaged {D : Type 0} (disk : Ghosts D) (at : D) (in_second : Bool) (generation : ℕ)
     (point : Point) (other_open : Bool) (weight : ℕ) (failed : Bool)
@@ -76,21 +80,17 @@ LendsNone disk readable walked weight old sink.Failed new = (readable ≡ false)
     ⊎ (disk.is_honest old → NoFrameAt (256 + walked) (256 + weight) (disk.seen old))
 LendsNone disk readable walked weight old _ new = ⊥
 
--- Why a change is refused: the disk failed, in the call or earlier, or there is no room for a part,
--- or no generation for a checkpoint.
+-- Why a change is refused, and what is left: the disk failed in the call, and the stage has failed;
+-- or it had failed before, or there is no room for a part, or no generation for a checkpoint, and
+-- only the refusal is counted.
 abbrev pub RefusesChange : {D : Type 0} {disk : Ghosts D} → Stage D disk → SinkFault → Stage D disk
     → Type 0
 RefusesChange {D} {disk} old sink.Device new = Rose (disk.faults old.disk) (disk.faults new.disk)
-RefusesChange old sink.Failed new = old.failed ≡ true
-RefusesChange old sink.Full new = (most_staged < old.weight + (5 + longest_part))
-    ⊎ (most_generation ≤ old.generation)
+    × (new.failed ≡ true)
+RefusesChange old sink.Failed new = (old.failed ≡ true) × OnlyCounts old new
+RefusesChange old sink.Full new = ((most_staged < old.weight + (5 + longest_part))
+    ⊎ (most_generation ≤ old.generation)) × OnlyCounts old new
 RefusesChange old sink.OutOfMemory new = ⊥
-
--- what is pending after a checkpoint was not saved: the checkpoint, if the disk failed, and
--- otherwise what was pending before
-abbrev pub pending_after : SinkFault → Point → Option Point → Option Point
-pending_after sink.Device point old = Some point
-pending_after _ point old = old
 
 -- The checkpoint is acknowledged, as the next generation. Whatever a crash leaves now names it, and
 -- has the frames before it.
@@ -105,15 +105,11 @@ pub record HasNamed {D : Type 0} {disk : Ghosts D} (point : Point) (old new : St
       → NamedIn (not old.in_second) (old.generation + 1) point bytes
       × SameFrames point.staged (disk.seen old.disk) bytes
 
--- What is acknowledged and pending after a call that drops acknowledged parts: the checkpoint,
--- which may only be pending if the disk failed; nothing changes if the call was refused otherwise.
-abbrev pub HasDropped : {D : Type 0} {disk : Ghosts D} → Point → Stage D disk
-    → Result (Unit {0}) SinkFault → Stage D disk → Type 0
-HasDropped point old (Ok done) new = HasNamed point old new
-HasDropped point old (Err fault) new =
-    ((fault ≡ sink.Device) × (new.acknowledged ≡ point))
-    ⊎ ((new.acknowledged ≡ old.acknowledged)
-    × (new.pending ≡ pending_after fault point old.pending))
+-- the disk failed while the checkpoint was being saved: it is pending, and the generation before it
+-- is still the acknowledged one
+abbrev pub IsPending : {D : Type 0} {disk : Ghosts D} → Point → Stage D disk → Stage D disk → Type 0
+IsPending point old new = (new.pending ≡ Some point) × (new.acknowledged ≡ old.acknowledged)
+    × (new.in_second ≡ old.in_second) × (new.generation ≡ old.generation)
 
 -- the state of a stage after a call was refused: failed if the disk failed, otherwise unchanged
 abbrev pub HasRefused : {D : Type 0} {disk : Ghosts D} → Stage D disk → Stage D disk → StageFault

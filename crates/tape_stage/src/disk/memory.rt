@@ -23,6 +23,7 @@ impl MemoryDisk {
         ensures bytes { memory_bytes result ≡ [] }
         ensures calm { result.failed ≡ 0 }
         ensures runs { result.left ≡ None }
+        ensures durable { Only (memory_bytes result) (memory_leaves result) }
     {
         MemoryDisk::from_bytes(alloc, Vec::new(alloc))
     }

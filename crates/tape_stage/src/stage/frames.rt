@@ -16,7 +16,7 @@ ghost use Rattle.tape_stage.specs.OnlyReading.{OnlyReads};
 ghost use Rattle.tape_stage.specs.Parts.{longest_part, IsFront};
 ghost use Rattle.tape_stage.specs.Moments.{Passes};
 ghost use Rattle.tape_stage.specs.Frames.{IsFrameAt, NoFrameAt};
-ghost use Rattle.tape_stage.specs.Stages.{IsStage, EndsCall, HasNamed};
+ghost use Rattle.tape_stage.specs.Stages.{IsStage, EndsCall, HasNamed, IsPending};
 ghost use Rattle.tape_stage.specs.Disk.{SameFact};
 
 use crate::disk::{Disk, DiskFault};
@@ -231,9 +231,8 @@ impl<D: Disk> Stage<D> {
             × (self.new.generation ≡ self.old.generation) }
         ensures drops { point.now.staged < self.old.acknowledged.staged
             → OnOk result (HasNamed point.now self.old self.new)
-            × (IsErrOf result StageFault.Device → (self.new.acknowledged ≡ point.now)
-            ⊎ ((self.new.acknowledged ≡ self.old.acknowledged)
-            × (self.new.pending ≡ Some point.now))) }
+            × (IsErrOf result StageFault.Device → HasNamed point.now self.old self.new
+            ⊎ IsPending point.now self.old self.new) }
         ensures usable { OnOk result ((self.new.failed ≡ false)
             × (self.new.readable ≡ self.old.readable)) }
         ensures ends { EndsCall self.old result self.new }

@@ -203,6 +203,9 @@ impl<D: Disk> Stage<D> {
         requires none { point.now.staged ≡ 0 }
         ensures ok { D.is_honest disk → IfOk result
             (λ stage. (stage.acknowledged ≡ point.now) × IsStage stage [] []) }
+        // On any disk, honest or not.
+        ensures first { IfOk result (λ stage. (stage.acknowledged ≡ point.now)
+            × (stage.generation ≡ 1) × (stage.weight ≡ 0) × (stage.failed ≡ false)) }
         ensures holds { D.is_honest disk → IfOk result (λ stage. Holds stage []) }
         ensures calm { IfOk result (λ stage. stage.refused ≡ 0) }
         ensures survives { D.is_honest disk → IfOk result (λ stage. Survives stage) }

@@ -9,13 +9,13 @@ ghost use Rattle.tape_core.specs.Weight.{Rose};
 ghost use Rattle.tape_core.specs.Crash.{AddsNothing, AddsOnly, IsThis, ThisAlone};
 ghost use Rattle.tape_core.specs.Stands.{weight_of};
 ghost use Rattle.tape_stage.specs.Body.{most_generation};
-ghost use Rattle.std.specs.Prelude.{IfErr, ◌≢◌};
+ghost use Rattle.std.specs.Prelude.{IfErr, ◌≢◌, ◌⊎◌};
 ghost use Rattle.tape_core.specs.Known.{most_staged};
 ghost use Rattle.tape_stage.specs.Moments.{Passes};
 ghost use Rattle.tape_stage.specs.Staged.{StagedIn, IsPut, FrontOf, KeepsFront};
 ghost use Rattle.tape_stage.specs.Staged.{IsSaving, SameFrames};
 ghost use Rattle.tape_stage.specs.Stages.{IsStage, EndsCall, Holds, IsAhead, LendsNone, crashes_of};
-ghost use Rattle.tape_stage.specs.Stages.{HasDropped, RefusesChange, SameStage, pending_after};
+ghost use Rattle.tape_stage.specs.Stages.{HasNamed, IsPending, RefusesChange, SameStage};
 ghost use Rattle.tape_stage.specs.Disk.{SameFact};
 ghost use Rattle.tape_stage.specs.Parts.{longest_part};
 ghost use Rattle.tape_stage.specs.Faults.{sink_fault_of};
@@ -171,7 +171,6 @@ impl<D: Disk> PartSink for Stage<D> {
             × (self.new.pending ≡ self.old.pending) }
         ensures usable { OnOk result ((self.new.failed ≡ false)
             × (self.new.readable ≡ self.old.readable)) }
-        ensures device { result ≡ Err SinkFault.Device → self.new.failed ≡ true }
     {
         match self.put_part(part) {
             Ok(()) => {
@@ -198,13 +197,11 @@ impl<D: Disk> PartSink for Stage<D> {
             → ThisAlone point.now parts (crashes_of self.new)) }
         ensures why { IfErr result (λ fault. RefusesChange self.old fault self.new) }
         ensures full { result ≡ Err SinkFault.Full → most_generation ≤ self.old.generation }
-        ensures acknowledged { OnOk result (self.new.acknowledged ≡ point.now) }
-        ensures stays { OnErr result (self.new.acknowledged ≡ self.old.acknowledged) }
-        ensures pending { IfErr result (λ fault.
-            self.new.pending ≡ pending_after fault point.now self.old.pending) }
+        ensures named { OnOk result (HasNamed point.now self.old self.new) }
+        ensures pending { result ≡ Err SinkFault.Device
+            → IsPending point.now self.old self.new }
         ensures usable { OnOk result ((self.new.failed ≡ false)
             × (self.new.readable ≡ self.old.readable)) }
-        ensures device { result ≡ Err SinkFault.Device → self.new.failed ≡ true }
     {
         match self.save(point) {
             Ok(()) => Ok(()),
@@ -246,10 +243,11 @@ impl<D: Disk> PartSink for Stage<D> {
             × (self.new.in_second ≡ self.old.in_second)
             × (self.new.generation ≡ self.old.generation) }
         ensures drops { point.now.staged < self.old.acknowledged.staged
-            → HasDropped point.now self.old result self.new }
+            → OnOk result (HasNamed point.now self.old self.new)
+            × (result ≡ Err SinkFault.Device → HasNamed point.now self.old self.new
+            ⊎ IsPending point.now self.old self.new) }
         ensures usable { OnOk result ((self.new.failed ≡ false)
             × (self.new.readable ≡ self.old.readable)) }
-        ensures device { result ≡ Err SinkFault.Device → self.new.failed ≡ true }
     {
         match self.cut_back(point) {
             Ok(()) => {

@@ -9,7 +9,7 @@ ghost use Rattle.tape_stage.specs.Moments.{EndsSynced, Passes};
 ghost use Rattle.tape_stage.specs.Parts.{IsFront};
 ghost use Rattle.tape_stage.specs.Staged.{IsEither, IsSaving, KeepsFrames, Staged, slot_place};
 ghost use Rattle.tape_stage.specs.Staged.{StagedIn, NamedIn, IsClosed, IsNext, Ready, SameFrames};
-ghost use Rattle.tape_stage.specs.Stages.{IsStage, EndsCall};
+ghost use Rattle.tape_stage.specs.Stages.{IsStage, EndsCall, HasNamed, IsPending};
 
 use crate::disk::{Disk, DiskFault};
 use crate::stage::open_disk::{body_bytes, write_kept};
@@ -47,8 +47,9 @@ impl<D: Disk> Stage<D> {
     /// opened again.
     pub fn save(&mut self, point: &Checkpoint) -> Result<(), StageFault>
         requires { point.now.staged ≤ self.old.weight }
-        ensures pending { IsErrOf result StageFault.Device → self.new.pending ≡ Some point.now }
-        ensures not_pending { OnOk result (self.new.pending ≡ None) }
+        ensures named { OnOk result (HasNamed point.now self.old self.new) }
+        ensures pending { IsErrOf result StageFault.Device
+            → IsPending point.now self.old self.new }
         ensures full { IsErrOf result StageFault.Full → most_generation ≤ self.old.generation }
         ensures ok { D.is_honest self.old.disk → OnOk result ((acked parts front : List Portion)
             → IsStage self.old acked parts → IsFront point.now.staged front parts
@@ -67,16 +68,12 @@ impl<D: Disk> Stage<D> {
             × OnOk result ((bytes : List ℕ) → D.may_leave self.new.disk bytes
             → NamedIn (not self.old.in_second) (self.old.generation + 1) point.now bytes
             × KeepsFrames (D.seen self.old.disk) bytes) }
-        ensures acknowledged { OnOk result (self.new.acknowledged ≡ point.now) }
-        ensures stays { OnErr result (self.new.acknowledged ≡ self.old.acknowledged) }
         ensures weight { self.new.weight ≡ self.old.weight }
         ensures calm { OnOk result (D.faults self.new.disk ≡ D.faults self.old.disk) }
         ensures frames { D.is_honest self.old.disk
             → KeepsFrames (D.seen self.old.disk) (D.seen self.new.disk) }
         ensures usable { OnOk result ((self.new.failed ≡ false)
             × (self.new.readable ≡ self.old.readable)) }
-        ensures slot { OnOk result (self.new.in_second ≡ not self.old.in_second) }
-        ensures generation { OnOk result (self.new.generation ≡ self.old.generation + 1) }
         ensures ends { EndsCall self.old result self.new }
     {
         if self.failed {
@@ -121,9 +118,9 @@ impl<D: Disk> Stage<D> {
     /// and the stage must be opened again.
     pub fn restart(&mut self, point: &Checkpoint) -> Result<(), StageFault>
         requires { point.now.staged ≤ self.old.weight }
+        ensures named { OnOk result (HasNamed point.now self.old self.new) }
         ensures pending { IsErrOf result StageFault.Device
-            → (self.new.pending ≡ Some point.now) ⊎ (self.new.acknowledged ≡ point.now) }
-        ensures not_pending { OnOk result (self.new.pending ≡ None) }
+            → HasNamed point.now self.old self.new ⊎ IsPending point.now self.old self.new }
         ensures full { IsErrOf result StageFault.Full → most_generation ≤ self.old.generation }
         ensures ok { D.is_honest self.old.disk → OnOk result ((acked parts front : List Portion)
             → IsStage self.old acked parts → IsFront point.now.staged front parts
@@ -137,18 +134,10 @@ impl<D: Disk> Stage<D> {
             → IsStage self.old acked parts
             → Passes D.Disk self.old.disk self.new.disk (IsSaving self.old.in_second
             self.old.generation self.old.acknowledged point.now acked
-            (SameFrames point.now.staged (D.seen self.old.disk)))
-            × OnOk result ((bytes : List ℕ) → D.may_leave self.new.disk bytes
-            → NamedIn (not self.old.in_second) (self.old.generation + 1) point.now bytes
-            × SameFrames point.now.staged (D.seen self.old.disk) bytes) }
+            (SameFrames point.now.staged (D.seen self.old.disk))) }
         ensures frames { D.is_honest self.old.disk → OnOk result (SameFrames point.now.staged
             (D.seen self.old.disk) (D.seen self.new.disk)) }
         ensures weight { OnOk result (self.new.weight ≡ point.now.staged) }
-        ensures acknowledged { OnOk result (self.new.acknowledged ≡ point.now) }
-        ensures stays { OnErr result ((self.new.acknowledged ≡ self.old.acknowledged)
-            ⊎ (self.new.acknowledged ≡ point.now)) }
-        ensures slot { OnOk result ((self.new.in_second ≡ not self.old.in_second)
-            × (self.new.generation ≡ self.old.generation + 1)) }
         ensures usable { OnOk result ((self.new.failed ≡ false)
             × (self.new.readable ≡ self.old.readable)) }
         ensures ends { EndsCall self.old result self.new }

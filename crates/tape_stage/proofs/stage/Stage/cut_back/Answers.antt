@@ -33,7 +33,7 @@ returns-then-self-staged-clause-any_point g c honest acked parts is =
 
 pub returns-clause-any_point : goal.returns-clause-any_point
 returns-clause-any_point g c honest acked parts is =
-    (c.restart.ensures.any_point honest acked parts is).0
+    c.restart.ensures.any_point honest acked parts is
 
 pub returns-then-self-staged-clause-frames : goal.returns-then-self-staged-clause-frames
 returns-then-self-staged-clause-frames g c honest = on_ok c.cut_parts.result
@@ -71,40 +71,5 @@ returns-clause-stays g c le = absurd (omega (
   ap (λ (s : Stage g.row.D.Denot g.D.Disk). s.acknowledged.staged) c.self.view_is,
 ))
 
--- a checkpoint that is pending, or acknowledged
-dropped : (now was point : Point) (pending : Option Point) → (pending ≡ Some point) ⊎ (now ≡ point)
-    → (now ≡ was) ⊎ (now ≡ point) → (now ≡ point) ⊎ ((now ≡ was) × (pending ≡ Some point))
-dropped now was point pending (inr acknowledged) stays = inl acknowledged
-dropped now was point pending (inl waits) (inr acknowledged) = inl acknowledged
-dropped now was point pending (inl waits) (inl same) = inr (same, waits)
-
--- what holds on a fault
-faulted : {A B P : Type 0} (r : Result A B) (fault : B) → r ≡ Err fault → OnErr r P → P
-faulted (Ok done) fault is p = absurd (cc is)
-faulted (Err other) fault is p = p
-
--- the checkpoint is named, if the call succeeded
-named : {D : Type 0} {disk : Ghosts D} (r : Result (Unit {0}) StageFault) (point : Point)
-    (old new : Stage D disk) → OnOk r (new.acknowledged ≡ point)
-    → OnOk r (new.pending ≡ None)
-    → OnOk r ((new.in_second ≡ not old.in_second) × (new.generation ≡ old.generation + 1))
-    → (disk.is_honest old.disk → (acked parts : List Portion) → IsStage old acked parts
-    → OnOk r ((bytes : List ℕ) → disk.may_leave new.disk bytes
-    → NamedIn (not old.in_second) (old.generation + 1) point bytes
-    × SameFrames point.staged (disk.seen old.disk) bytes)) → OnOk r (HasNamed point old new)
-named (Ok done) point old new acknowledged pending slot names = record {
-  acknowledged = acknowledged;
-  pending = pending;
-  slot = slot.0;
-  generation = slot.1;
-  names = names;
-}
-named (Err fault) point old new acknowledged pending slot names = tt
-
 pub returns-clause-drops : goal.returns-clause-drops
-returns-clause-drops g c less =
-    let e = c.restart.ensures in (
-      named c.restart.result _ _ _ e.acknowledged e.not_pending e.slot
-          (λ honest acked parts is. (e.any_point honest acked parts is).1),
-      λ device. dropped _ _ _ _ (e.pending device) (faulted c.restart.result _ device e.stays),
-    )
+returns-clause-drops g c less = (c.restart.ensures.named, c.restart.ensures.pending)

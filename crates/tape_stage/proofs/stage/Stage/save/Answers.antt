@@ -28,6 +28,21 @@ returns-in-Ok-clause-ok g c honest acked parts front is of =
       behind = c.requires;
     }
 
+pub returns-in-Ok-clause-named : goal.returns-in-Ok-clause-named
+returns-in-Ok-clause-named g c = record {
+  acknowledged = refl;
+  pending = refl;
+  slot = refl;
+  generation = refl;
+  names = λ honest acked parts is x left.
+      let s = c.args.self.now in
+      let next = c.in-Ok.ensures.done honest s.generation s.acknowledged acked refl is.ready in
+      rw (c.in-Ok.ensures.synced.durable honest x left) (
+        next.named,
+        ap (take c.args.point.now.staged) (c.replace_slot.ensures.frames honest).rest,
+      );
+}
+
 pub returns-in-Ok-clause-any_moment : goal.returns-in-Ok-clause-any_moment
 returns-in-Ok-clause-any_moment g c honest acked parts front is of =
     let s = c.args.self.now in

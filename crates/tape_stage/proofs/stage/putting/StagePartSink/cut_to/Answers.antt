@@ -1,8 +1,9 @@
-use Rattle.std.proofs.Common.{◌≡◌, ℕ, List, ◌++◌, refl, ap, inr, Err}
+use Rattle.std.proofs.Common.{◌≡◌, ℕ, List, ◌++◌, ⊎_elim, refl, ap, inl, inr, Err}
 use Rattle.tape_blocks.specs.Block.{Portion}
 use Rattle.tape_core.specs.{Crash.IsThis, Stands.weight_of}
 use Rattle.tape_stage.specs.Parts.{IsFront}
-use Rattle.tape_stage.proofs.Held.{stage_holds, change_refused, dropped_is}
+use Rattle.tape_stage.specs.declared.stage.StageFault.TheVariants.{Device}
+use Rattle.tape_stage.proofs.Held.{stage_holds, change_refused, is_device}
 use Rattle.tape_stage.proofs.Backs.{adds_this, adds_refused}
 use Rattle.tape_stage.proofs.stage.putting.StagePartSink.cut_to.Goals as goal
 
@@ -49,23 +50,32 @@ pub returns-in-Err-clause-why : goal.returns-in-Err-clause-why
 returns-in-Err-clause-why g c =
     let e = c.in-Err.ensures in
     change_refused c.args.self.now c.cut_back.new.self _ c.in-Err.fault c.sink_fault.result
-    c.sink_fault.ensures e.ends.refused (λ device. e.ends.cause (ap Err device))
-    (λ full. inr (e.full (ap Err full)))
+    c.sink_fault.ensures e.ends.refused (λ failed. failed) (λ counts. counts)
+    (λ device. e.ends.cause (ap Err device)) (λ full. inr (e.full (ap Err full)))
 
 pub returns-in-Err-clause-drops : goal.returns-in-Err-clause-drops
-returns-in-Err-clause-drops g c less =
-    let e = c.in-Err.ensures in
-    dropped_is c.args.self.now c.cut_back.new.self c.in-Err.fault c.sink_fault.result
-    c.args.point.now c.sink_fault.ensures e.ends.refused
-    (λ device. (e.drops less).1 (ap Err device))
+returns-in-Err-clause-drops g c less = (
+  tt,
+  λ told. let device : c.in-Err.fault ≡ Device =
+      is_device c.in-Err.fault c.sink_fault.result c.sink_fault.ensures (cc told) in
+      ⊎_elim (λ named. inl (record {
+        acknowledged = named.acknowledged;
+        pending = named.pending;
+        slot = named.slot;
+        generation = named.generation;
+        names = named.names;
+      })) (λ waits. inr waits) ((c.in-Err.ensures.drops less).1 (ap Err device)),
+)
 
 pub returns-in-Ok-clause-drops : goal.returns-in-Ok-clause-drops
 returns-in-Ok-clause-drops g c less =
-    let named = (c.in-Ok.ensures.drops less).0 in
-    record {
-      acknowledged = named.acknowledged;
-      pending = named.pending;
-      slot = named.slot;
-      generation = named.generation;
-      names = named.names;
-    }
+    let named = (c.in-Ok.ensures.drops less).0 in (
+      record {
+        acknowledged = named.acknowledged;
+        pending = named.pending;
+        slot = named.slot;
+        generation = named.generation;
+        names = named.names;
+      },
+      λ none. absurd (cc none),
+    )

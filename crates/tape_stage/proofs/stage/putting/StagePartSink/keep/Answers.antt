@@ -30,7 +30,7 @@ returns-in-Err-clause-same g c parts holds =
     let s = c.args.self.now in
     let e = c.in-Err.ensures in
     refused_holds s c.save.new.self parts c.in-Err.fault e.ends.refused
-    (λ device none honest. absurd (saved_none (e.pending (ap Err device)) none))
+    (λ device none honest. absurd (saved_none (e.pending (ap Err device)).0 none))
     (λ honest framed. frames_holding _ _ _ _ (e.frames honest) framed) holds
 
 pub returns-in-Ok-clause-kept : goal.returns-in-Ok-clause-kept
@@ -42,7 +42,7 @@ returns-in-Ok-clause-kept g c parts holds =
     let only : (back : Point) (there : List Portion) → Returns new back there
     → (back ≡ c.args.point.now) × (there ≡ parts) =
     λ back there r. returned_kept new parts _ back there (e.ok honest was.0 parts
-    parts was.1 (all_of _ parts (c.requires ∙ holds.weighs))) e.acknowledged r in (
+    parts was.1 (all_of _ parts (c.requires ∙ holds.weighs))) e.named.acknowledged r in (
       only,
       λ back there r. only back there
           (returned_now new (e.ends.honest honest) (g.met.D.Disk.only_now new.disk) back there r),

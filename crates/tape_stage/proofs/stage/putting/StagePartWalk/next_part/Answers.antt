@@ -1,8 +1,9 @@
 use Rattle.std.proofs.Common.{◌≡◌, ◌+◌, length, take, refl, sym, ap, subst, ◌∙◌, arith, rules, Err}
+use Rattle.std.proofs.Common.{⊎_elim}
 use Rattle.std.proofs.lemmas.List.{with_items_is, length-take-le}
 use Rattle.tape_core.proofs.Crashes.{only_same}
 use Rattle.tape_stage.specs.Frames.{AheadIn}
-use Rattle.tape_stage.proofs.Giving.{given, lends_none, nothing_ahead}
+use Rattle.tape_stage.proofs.Giving.{given, lends_none, nothing_ahead, one_ahead}
 use Rattle.tape_stage.proofs.{Backs.adds_read, Held.read_held}
 use Rattle.tape_stage.proofs.Passing.{only_reads_self}
 use Rattle.tape_stage.proofs.stage.putting.StagePartWalk.next_part.Goals as goal
@@ -29,6 +30,9 @@ returns-then-self g c =
           };
           same = (refl, refl, refl, refl, refl, refl, refl, refl);
           reads = only_reads_self g.D.Disk s.disk;
+          honest = λ h. h;
+          calm = refl;
+          fails = λ parts is readable. tt;
         },
       ),
       record { after_borrow = tt },
@@ -69,6 +73,9 @@ returns-in-Ok g c =
           };
           same = (refl, refl, refl, refl, refl, refl, refl, refl);
           reads = e.reads;
+          honest = e.honest;
+          calm = e.calm;
+          fails = λ parts is readable. tt;
         },
       ),
       record { after_borrow = tt },
@@ -103,6 +110,11 @@ returns-in-Err g c =
           };
           same = (refl, refl, refl, refl, refl, refl, refl, refl);
           reads = e.reads;
+          honest = e.honest;
+          calm = tt;
+          fails = λ parts is readable. ⊎_elim (λ device. e.kinds (ap Err device))
+              (λ failed. absurd (let one = one_ahead _ _ _ _ (omega (arith, c.if-self.false)) is.1 in
+              e.none (is.0 calm) (ap Err failed) one.part.span one.part.bytes one.frame_is)) e.only;
         },
       ),
       record { after_borrow = tt },
