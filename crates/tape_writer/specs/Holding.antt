@@ -62,6 +62,13 @@ FileTakes bytes None (Some new) = (contents : Option (List ℕ)) × TakesAll byt
 FileTakes bytes (Some old) None = ⊥
 FileTakes bytes (Some old) (Some new) = TakesAll bytes old new
 
+-- a file did not accept `bytes`: it is not open, or its device failed
+abbrev pub FileStops : List ℕ → Option Holding → Option Holding → Type 0
+FileStops bytes None None = Unit {0}
+FileStops bytes None (Some new) = (contents : Option (List ℕ)) × Stops bytes (fresh contents) new
+FileStops bytes (Some old) None = ⊥
+FileStops bytes (Some old) (Some new) = Stops bytes old new
+
 -- all buffered bytes of a file were written to it, if it was opened
 abbrev pub FilePasses : Option Holding → Option Holding → Type 0
 FilePasses None new = new ≡ None

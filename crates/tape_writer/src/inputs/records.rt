@@ -38,7 +38,8 @@ impl<R: Read + Drop> Records<R> {
     /// Creates a reader for the records of the input `device`, from its current position, each of
     /// at most `limit` bytes. Reads nothing.
     pub fn new(alloc: Global, device: R, cut: Cut, limit: u32) -> Result<Self, AllocError>
-        ensures device { IfOk result (λ r. (r.device ≡ device) × (r.ahead ≡ [])) }
+        ensures device { IfOk result (λ r. (r.device ≡ device) × (r.ahead ≡ [])
+            × (r.content.items ≡ [])) }
         ensures left { IfOk result (λ r. left_of R.remaining r ≡ R.remaining device) }
         ensures cut { IfOk result (λ r. r.cut ≡ cut) }
         ensures begun { IfOk result (λ r. r.over ≡ false) }

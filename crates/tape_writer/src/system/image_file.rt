@@ -1,10 +1,10 @@
 //! Image files, each created when it is first written to.
-ghost use Rattle.std.specs.Prelude.{◌≡◌, length, None, Some, IsSome, OnSome};
+ghost use Rattle.std.specs.Prelude.{◌≡◌, ◌⊎◌, [], length, None, Some, IsSome, OnSome};
 ghost use Rattle.std.specs.Prelude.{OnOk, OnErr, IfOk, IsErr};
 ghost use Rattle.std.specs.Option.{option_map_or};
 ghost use Rattle.std.specs.Io.{WritesAtMost};
 ghost use Rattle.std.specs.Io.KnownBytes.{WriteAppends};
-ghost use Rattle.tape_writer.specs.Holding.{Opens, FileTakes, FilePasses};
+ghost use Rattle.tape_writer.specs.Holding.{Opens, FilePasses, FileStops, FileTakes};
 
 use crate::blank::Prefix;
 use crate::fault::WriteFault;
@@ -63,8 +63,10 @@ impl<'a, R: Host> ImageFile<'a, R> {
     /// Writes the buffered bytes, and returns the fault if anything failed.
     pub fn end(&mut self) -> Option<SystemFault>
         ensures passed { result ≡ None → FilePasses self.old.file self.new.file }
+        ensures stops { self.old.fault ≡ None → IsSome result
+            → FileStops [] self.old.file self.new.file }
         ensures fault { result ≡ self.new.fault }
-        ensures kept { OnSome self.old.fault (result ≡ self.old.fault) }
+        ensures kept { OnSome self.old.fault (self.new ≡ self.old) }
     {
         if self.fault.is_some() {
             return self.fault;
@@ -75,7 +77,7 @@ impl<'a, R: Host> ImageFile<'a, R> {
 
     /// Records a fault, after which every call is refused.
     fn fail(&mut self, fault: SystemFault) -> Error
-        ensures { self.new.fault ≡ Some fault }
+        ensures { self.new ≡ record self.old { fault = Some fault } }
     {
         self.fault = Some(fault);
         Error::from(ErrorKind::Other)
@@ -90,7 +92,9 @@ impl<'a, R: Host> ImageFile<'a, R> {
 
     /// Opens the file if it is not open yet, after allocating its buffer.
     fn make_ready(&mut self) -> Result<(), SystemFault>
-        ensures { OnOk result (Opens self.old.file self.new.file) }
+        ensures ok { OnOk result (Opens self.old.file self.new.file) }
+        ensures err { OnErr result ((self.old.file ≡ None) × (self.new.file ≡ None)) }
+        ensures fault { self.new.fault ≡ self.old.fault }
     {
         if self.file.is_some() {
             return Ok(());
@@ -110,7 +114,8 @@ impl<'a, R: Host> ImageFile<'a, R> {
 
     /// Accepts bytes, and opens the file when the first bytes are accepted.
     fn take(&mut self, bytes: &[u8]) -> Result<(), SystemFault>
-        ensures { OnOk result (FileTakes bytes.now self.old.file self.new.file) }
+        ensures ok { OnOk result (FileTakes bytes.now self.old.file self.new.file) }
+        ensures err { OnErr result (FileStops bytes.now self.old.file self.new.file) }
     {
         self.make_ready()?;
         match &mut self.file {
@@ -124,7 +129,8 @@ impl<'a, R: Host> ImageFile<'a, R> {
 
     /// Writes the buffered bytes.
     fn pass_on(&mut self) -> Result<(), SystemFault>
-        ensures { OnOk result (FilePasses self.old.file self.new.file) }
+        ensures ok { OnOk result (FilePasses self.old.file self.new.file) }
+        ensures err { OnErr result (FileStops [] self.old.file self.new.file) }
     {
         match &mut self.file {
             Some(file) => match file.pass_on() {
@@ -155,7 +161,9 @@ impl<R: Host> Write for ImageFile<'_, R> {
         ensures bytes { WriteAppends None None result buf.now }
         ensures took { IfOk result (λ n. (n ≡ length buf.now)
             × FileTakes buf.now self.old.file self.new.file) }
-        ensures refused { OnSome self.old.fault (IsErr result) }
+        ensures stops { OnErr result (self.old.fault ≡ None
+            → FileStops buf.now self.old.file self.new.file) }
+        ensures refused { OnSome self.old.fault (IsErr result × (self.new ≡ self.old)) }
         ensures kept { OnErr result (IsSome self.new.fault) }
     {
         if self.fault.is_some() {
@@ -169,7 +177,10 @@ impl<R: Host> Write for ImageFile<'_, R> {
 
     fn flush(&mut self) -> io::Result<()>
         ensures passed { OnOk result (FilePasses self.old.file self.new.file) }
-        ensures refused { OnSome self.old.fault (IsErr result) }
+        // The bytes may also be written, but not durable.
+        ensures stops { OnErr result (self.old.fault ≡ None
+            → FileStops [] self.old.file self.new.file ⊎ FilePasses self.old.file self.new.file) }
+        ensures refused { OnSome self.old.fault (IsErr result × (self.new ≡ self.old)) }
         ensures kept { OnErr result (IsSome self.new.fault) }
     {
         if self.end().is_some() {

@@ -1,5 +1,8 @@
 //! The image files of a set, one after another.
-ghost use Rattle.std.specs.Prelude.{◌≡◌, ◌-◌, [], IfOk};
+ghost use Rattle.std.specs.Prelude.{◌≡◌, ◌≤◌, ◌<◌, ◌+◌, ◌-◌, ◌++◌, ◌∷◌, [], min, length, IfOk};
+ghost use Rattle.std.specs.Prelude.{MatchOption, None, vec_capacity};
+ghost use Rattle.std.specs.Option.{option_map_or};
+ghost use Rattle.tape_writer.specs.Blank.{volume_id};
 
 use crate::blank::{Prefix, blank_volume};
 use crate::store::ImageStore;
@@ -29,6 +32,7 @@ pub struct ImageFiles<'a, R: Host> {
     /// The number of files lent.
     lent: u16,
     ended: Vec<Ended>,
+    ghost room: { 256 ≤ vec_capacity ended },
 }
 
 impl<'a, R: Host> ImageFiles<'a, R> {
@@ -68,7 +72,13 @@ impl<'a, R: Host> ImageStore for ImageFiles<'a, R> {
         usize::from(VOLUMES.saturating_sub(self.lent))
     }
 
-    fn next(&mut self, _volume: &Vol1) -> Option<ImageFile<'a, R>> {
+    fn next(&mut self, _volume: &Vol1) -> Option<ImageFile<'a, R>>
+        ensures lends { MatchOption result ((256 ≤ self.old.lent) × (self.new ≡ self.old))
+            (λ file. (file.prefix ≡ self.old.prefix) × (file.number ≡ self.new.lent)
+            × (file.file ≡ None) × (file.fault ≡ None)
+            × (self.new.lent ≡ self.old.lent + 1) × (self.new.prefix ≡ self.old.prefix)
+            × (self.new.ended ≡ self.old.ended)) }
+    {
         if self.lent >= VOLUMES {
             return None;
         }
@@ -76,7 +86,14 @@ impl<'a, R: Host> ImageStore for ImageFiles<'a, R> {
         Some(ImageFile::new(self.rt, self.folder, self.prefix, self.lent))
     }
 
-    fn keep(&mut self, device: ImageFile<'a, R>) {
+    fn keep(&mut self, device: ImageFile<'a, R>)
+        ensures listed { length self.old.ended.items < 256
+            → self.new.ended.items ≡ self.old.ended.items ++ record {
+              volume = volume_id self.old.prefix.characters (min self.old.lent 256);
+              size = option_map_or (λ file. file.size) device.entry.file 0;
+            } ∷ [] }
+        ensures same { (self.new.lent ≡ self.old.lent) × (self.new.prefix ≡ self.old.prefix) }
+    {
         let volume = blank_volume(self.prefix, self.lent.min(VOLUMES)).volume;
         // The list has room for all files that are lent.
         let _ = self.ended.push(Ended {
