@@ -85,7 +85,7 @@ mod UnpackedFits
 mod UnpackedNames
 pub mod Patterns
 mod WholeReports
-mod Streams
+pub mod Streams
 mod QuotedNames
 pub mod RecordFronts
 mod Turns

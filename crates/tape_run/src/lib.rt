@@ -37,7 +37,7 @@ pub use catalogue::Catalogue;
 pub use check::check_to;
 pub use extract::{
     Mounted, OutSink, Place, ReelLine, ReportLine, extract_in_passes, extract_located,
-    extract_streaming, extract_to, last_line, write_file,
+    extract_streaming, extract_to, last_line, write_file, write_part,
 };
 pub use fault::{EngineFault, ListFault, RunFault, Stopped, WriteFailed};
 pub use laws::{only_refusals_stop, stands_across_crashes, stood_comes_back};

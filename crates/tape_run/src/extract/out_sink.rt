@@ -28,7 +28,7 @@ const MOST_STAGED: u64 = 999_999_999_999_999;
 
 /// Writes the records of a file as its parts come. Does not allocate, and nothing survives a crash.
 ///
-/// After a failed write, and after the output was finished, every call is refused.
+/// After a failed write, and after the output was finished, every `put` and `finish` is refused.
 #[derive(Drop)]
 pub struct OutSink<W> {
     /// The writer of the records, until a write fails or the output is finished.
@@ -91,6 +91,8 @@ impl<W: Write + Drop> OutSink<W> {
             × (TellsAlways W.contents → W.contents given.0 ≡ Some (output_of form parts))) }
         ensures cause { IfErr result (EndingFails self.old.begun self.old.form form) }
         ensures ended { OnOk result (CannotEnd self.old.begun self.old.form form → ⊥) }
+        // If the output can be finished, the writer is given up, whether or not a write fails.
+        ensures gone { (CannotEnd self.old.begun self.old.form form → ⊥) → self.new.out ≡ None }
         ensures calm { self.new.refused ≡ self.old.refused }
         ensures kept { (parts : List Portion) → HasTaken W.contents self.old.form self.old.out
             self.old.weight self.old.records self.old.begun parts
