@@ -113,7 +113,8 @@ returns-in-Err g c =
           honest = e.honest;
           calm = tt;
           fails = λ parts is readable. ⊎_elim (λ device. e.kinds (ap Err device))
-              (λ failed. absurd (let one = one_ahead _ _ _ _ (omega (arith, c.if-self.false)) is.1 in
+              (λ failed. absurd (
+              let one = one_ahead _ _ _ _ (omega (arith, c.if-self.false)) is.1 in
               e.none (is.0 calm) (ap Err failed) one.part.span one.part.bytes one.frame_is)) e.only;
         },
       ),
