@@ -117,6 +117,32 @@ alone_up_to_a_fault old new held ps now c t had has came front weighs le leaves 
       | inr here ↦ absurd here.0
     ]
 
+none_added : (old new : SessionState Point) (held now ps : List Portion) → old.notes ≡ []
+    → new.notes ≡ [] → KeepsLast (weighing (comes_now ps)) old held new now → new.sink ≡ old.sink
+none_added old new held now ps none still keeps =
+    elim (keeps.adds (ap length still ∙ sym (ap length none)) new.sink ps (refl, refl)) [
+      | inl was ↦ was.0
+      | inr (n, count, i) ↦ absurd (omega (arith, count, ap length still))
+    ]
+
+same_last : (old new : SessionState Point) (held now ps : List Portion) (c d : Point)
+    → old.notes ≡ c ∷ [] → new.notes ≡ d ∷ [] → IsFront ps held → weight_of ps ≡ c.staged
+    → KeepsLast (weighing (comes_now [])) old held new now → c ≡ d
+same_last old new held now ps c d had has front weighs keeps =
+    (of_one_note (seen (weighing (comes_now [])) new now) d c ps has
+    (keeps.same (ap length has ∙ sym (ap length had)) c ps
+    (0, ap length had, (ap (λ l. slice_get l 0) had, front, weighs)))).0
+
+none_added_at_a_fault : (old new : SessionState Point) (held ps : List Portion) (now : Seen)
+    → old.notes ≡ [] → now.notes ≡ [] → LeavesSaved (weighing (comes_now ps)) ⊥ old held now new
+    → new.sink ≡ old.sink
+none_added_at_a_fault old new held ps now none still leaves =
+    elim (leaves.adds (ap length still ∙ sym (ap length none)) new.sink ps (refl, refl)) [
+      | inl was ↦ was.0
+      | inr (inl (n, count, i)) ↦ absurd (omega (arith, count, ap length still))
+      | inr (inr here) ↦ absurd here.0
+    ]
+
 none_saved : (image : Option (Option (List ℕ))) (old : Seen) (place : State)
     → RefusesSave (λ (r : Option (List ℕ)). r) old image (Run OutOfMemory) place → ⊥
 none_saved None old place r = r
@@ -134,11 +160,14 @@ cases_of_saved = record {
   none_since = alone_since;
   survived = λ old new held now t le keeps. keeps.survived t le;
   goes_on = λ old new held now keeps. (keeps.no_fewer, keeps.later);
+  none_added = none_added;
+  same_last = same_last;
   stood = stood_so;
   left_at_a_fault = left_at_a_fault;
   unsaved = λ bytes cause old place r. r;
   no_save = λ image old place r. none_saved image old place r;
   alone_at_a_fault = alone_at_a_fault;
+  none_added_at_a_fault = none_added_at_a_fault;
   survives_a_fault = λ old new held now leaves. leaves.survives;
   alone_up_to_a_fault = alone_up_to_a_fault;
   survived_a_fault = λ old new held now t le leaves. leaves.survived t le;

@@ -7,19 +7,43 @@ use Rattle.tape_core.specs.Crash.{Returns, Crashes, AddsNothing, AddsOnly, OnlyT
 use Rattle.tape_core.proofs.Crashes.{or_nothing}
 use Rattle.tape_core.specs.{Point.Point, Stands.weight_of, Table.saved, Weight.IsFront}
 use Rattle.tape_core.specs.declared.sink.PartSink.{Ghosts}
-use Rattle.tape_run.specs.Crash.{IsNoteOf, BringsLast, LastAlone, KeepsLast, IsWalked}
+use Rattle.tape_run.specs.Crash.{IsNoteOf, IsLast, BringsLast, LastAlone, KeepsLast, IsWalked}
 use Rattle.tape_run.specs.{Reeling.StoodSaved, Seen.Seen, Seen.seen, Steps.Saved, Steps.WentBack}
 use Rattle.tape_run.specs.SessionState.{SessionState}
 use Rattle.tape_run.proofs.Notes.{front_self, front_trans, same_front}
 
 pub last_same : {S : Type 0} (g : Ghosts S) (s : SessionState S) (held : List Portion)
     → KeepsLast g s held s held
-last_same g s held = grind (arith)
+last_same g s held = record {
+  last = λ h. h refl;
+  adds = λ none back there x. inl x;
+  same = λ none back there last. last;
+  survives = λ x. x;
+  no_fewer = omega arith;
+  later = omega arith;
+  since = λ t le none h. h;
+  survived = λ t le x. x;
+}
 
 pub last_then : {S : Type 0} (g : Ghosts S) (a b c : SessionState S) (held mid now : List Portion)
     → KeepsLast g a held b mid → KeepsLast g b mid c now → KeepsLast g a held c now
 last_then g a b c held mid now one two = record {
   last = λ h. two.last (λ d. one.last (λ e. h (d ∙ e)));
+  adds = λ none back there x.
+      let first : length b.notes ≡ length a.notes =
+      omega (arith, none, one.no_fewer, two.no_fewer) in
+      let then : length c.notes ≡ length b.notes =
+      omega (arith, none, one.no_fewer, two.no_fewer) in
+      elim (two.adds then back there x) [
+        | inl y ↦ elim (one.adds first back there y) [
+          | inl z ↦ inl z
+          | inr last ↦ inr (two.same then back there last)
+        ]
+        | inr last ↦ inr last
+      ];
+  same = λ none back there last.
+      two.same (omega (arith, none, one.no_fewer, two.no_fewer)) back there
+      (one.same (omega (arith, none, one.no_fewer, two.no_fewer)) back there last);
   survives = λ x. two.survives (one.survives x);
   no_fewer = omega (arith, one.no_fewer, two.no_fewer);
   later = omega (arith, one.later, two.later);
@@ -61,6 +85,9 @@ pub last_stays : {S : Type 0} (g : Ghosts S) (a b : SessionState S)
 last_stays g a b held now notes front adds = record {
   last = λ h. still (g.crashes a.sink).returns (g.crashes b.sink).returns
       (λ back there x. or_nothing (adds.now back there x)) (h (ap length notes));
+  adds = λ none back there x. inl (or_nothing (adds.now back there x));
+  same = λ none. still (IsLast (seen g a held)) (IsLast (seen g a held))
+      (λ back there last. last) (λ back there last. last);
   survives = adds.survives;
   no_fewer = omega (arith, ap length notes);
   later = adds.later;
@@ -147,6 +174,8 @@ last_kept g a b held now point these here alone s adds =
     record {
       last = λ same. last_saved (seen g a held) (seen g b now) point
           (g.crashes b.sink).returns here alone.0 s;
+      adds = λ none. absurd (omega (arith, none, more));
+      same = λ none. absurd (omega (arith, none, more));
       survives = adds.survives;
       no_fewer = omega (arith, more);
       later = adds.later;
@@ -162,10 +191,18 @@ pub last_went : {S : Type 0} (g : Ghosts S) (a b : SessionState S) (held now : L
 last_went g a b held now n count went adds =
     let notes : b.notes ≡ a.notes =
     went.notes ∙ take_all (n + 1) a.notes (omega (arith, count)) in
+    let was = IsLast (seen g a held) in
+    let stays = last_back (seen g a held) (seen g b now) n was was count went
+    (λ back there l. inl l) (λ back there l. l) in
     record {
       last = λ h. last_back (seen g a held) (seen g b now) n
           (g.crashes a.sink).returns (g.crashes b.sink).returns count went adds.now
           (h (ap length notes));
+      adds = λ none back there x. elim (adds.now back there x) [
+        | inl y ↦ inl y
+        | inr i ↦ inr (stays back there (n, count, i))
+      ];
+      same = λ none. stays;
       survives = adds.survives;
       no_fewer = omega (arith, ap length notes);
       later = adds.later;

@@ -158,7 +158,31 @@ left_then {S} g goes unsaved a b c held now notes front kept adds =
 pub left_saved : {S : Type 0} (g : Ghosts S) (goes : Bool) (unsaved : Type 0)
     (a b c : SessionState S) (held now : List Portion) → KeepsLast g a held b now
     → LeavesStep g goes unsaved b now c → LeavesSaved g unsaved a held (seen g b now) c
-left_saved {S} g goes unsaved a b c held now keeps step = grind (arith, seen)
+left_saved {S} g goes unsaved a b c held now keeps step = record {
+  comes = λ h back there x. elim (step.now back there x) [
+    | inl y ↦ inl (keeps.last h back there y)
+    | inr (inl last) ↦ inl last.1
+    | inr (inr held) ↦ inr held
+  ];
+  adds = λ none back there x. elim (step.now back there x) [
+    | inl y ↦ elim (keeps.adds none back there y) [
+      | inl z ↦ inl z
+      | inr last ↦ inr (inl last)
+    ]
+    | inr (inl last) ↦ inr (inl last.1)
+    | inr (inr held) ↦ inr (inr held)
+  ];
+  same = keeps.same;
+  survives = λ x. step.survives (keeps.survives x);
+  no_fewer = keeps.no_fewer;
+  since = λ t le none h back there x.
+      elim (step.since t back there (omega (arith, le, keeps.later)) x) [
+        | inl y ↦ inl (keeps.since t le none h back there y)
+        | inr (inl last) ↦ inl last.1
+        | inr (inr held) ↦ inr held
+      ];
+  survived = λ t le x. step.survived t (omega (arith, le, keeps.later)) (keeps.survived t le x);
+}
 
 -- The images were processed, and then a walk over the sink was made.
 pub left_walked : {S : Type 0} (g : Ghosts S) (goes : Bool) (unsaved : Type 0)
@@ -174,6 +198,19 @@ pub left_behind : {S : Type 0} (g : Ghosts S) (unsaved : Type 0) (a b c : Sessio
     → LeavesSaved g unsaved b between now c → LeavesSaved g unsaved a held now c
 left_behind g unsaved a b c held between now keeps leaves = record {
   comes = λ h. leaves.comes (λ d. keeps.last (λ e. h (d ∙ e)));
+  adds = λ none back there x.
+      let then : length now.notes ≡ length b.notes =
+      omega (arith, none, keeps.no_fewer, leaves.no_fewer) in
+      elim (leaves.adds then back there x) [
+        | inl y ↦ elim (keeps.adds (omega (arith, none, then)) back there y) [
+          | inl z ↦ inl z
+          | inr last ↦ inr (inl (leaves.same then back there last))
+        ]
+        | inr left ↦ inr left
+      ];
+  same = λ none back there last.
+      leaves.same (omega (arith, none, keeps.no_fewer, leaves.no_fewer)) back there
+      (keeps.same (omega (arith, none, keeps.no_fewer, leaves.no_fewer)) back there last);
   survives = λ x. leaves.survives (keeps.survives x);
   no_fewer = omega (arith, keeps.no_fewer, leaves.no_fewer);
   since = λ t le same h. leaves.since t (omega (arith, le, keeps.later))

@@ -95,6 +95,12 @@ pub record CasesOfSaved : Type 0 where
   pub goes_on : (old new : SessionState Point) (held now : List Portion)
       → KeepsLast (weighing (comes_since [])) old held new now
       → (length old.notes ≤ length new.notes) × (old.sink.file ≤ new.sink.file)
+  -- without a checkpoint, nothing is left that could not be left before; one that exists remains
+  pub none_added : (old new : SessionState Point) (held now ps : List Portion) → old.notes ≡ []
+      → new.notes ≡ [] → KeepsLast (weighing (comes_now ps)) old held new now → new.sink ≡ old.sink
+  pub same_last : (old new : SessionState Point) (held now ps : List Portion) (c d : Point)
+      → old.notes ≡ c ∷ [] → new.notes ≡ d ∷ [] → IsFront ps held → weight_of ps ≡ c.staged
+      → KeepsLast (weighing (comes_now [])) old held new now → c ≡ d
   -- a session at this position may be left, and its sink contains these parts
   pub stood : (old new : SessionState Point) (held ps : List Portion) (now : Seen) (c : Point)
       → old.notes ≡ [] → now.notes ≡ c ∷ [] → StoodSaved (weighing (comes_now ps)) old held
@@ -122,6 +128,9 @@ pub record CasesOfSaved : Type 0 where
       → old.notes ≡ c ∷ [] → now.notes ≡ c ∷ [] → old.sink ≡ c → IsFront ps held
       → weight_of ps ≡ c.staged
       → LeavesSaved (weighing (comes_now ps)) ⊥ old held now new → new.sink ≡ c
+  pub none_added_at_a_fault : (old new : SessionState Point) (held ps : List Portion) (now : Seen)
+      → old.notes ≡ [] → now.notes ≡ [] → LeavesSaved (weighing (comes_now ps)) ⊥ old held now new
+      → new.sink ≡ old.sink
   pub survives_a_fault : (old new : SessionState Point) (held : List Portion) (now : Seen)
       → LeavesSaved (weighing (comes_now [])) ⊥ old held now new
       → old.sink.position ≡ Finished → new.sink.position ≡ Finished

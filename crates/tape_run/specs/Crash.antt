@@ -36,7 +36,8 @@ LastAlone now s = BringsLast now.returns s
     × ((t : ℕ) × (t ≤ now.moment) × BringsLast (now.returned t) s)
 
 -- What a crash leaves of a session, between two of its states. Only the last checkpoint is left if
--- the session has made one since, or if nothing else was left before. If it made none, and from
+-- the session has made one since, or if nothing else was left before. If it made none, only the
+-- last checkpoint may be left besides what was left before, and it is the same one; and if from
 -- moment t to the start only the old checkpoint was left, then that is true from t until now. If
 -- something survived every crash before, something still does, now and at each moment since t.
 pub record KeepsLast {S : Type 0} (g : Ghosts S) (old : SessionState S) (held : List Portion)
@@ -44,6 +45,11 @@ pub record KeepsLast {S : Type 0} (g : Ghosts S) (old : SessionState S) (held : 
   pub last : (length new.notes ≡ length old.notes
       → BringsLast (g.crashes old.sink).returns (seen g old held))
       → BringsLast (g.crashes new.sink).returns (seen g new now)
+  pub adds : length new.notes ≡ length old.notes → (back : Point) (there : List Portion)
+      → (g.crashes new.sink).returns back there
+      → (g.crashes old.sink).returns back there ⊎ IsLast (seen g new now) back there
+  pub same : length new.notes ≡ length old.notes → (back : Point) (there : List Portion)
+      → IsLast (seen g old held) back there → IsLast (seen g new now) back there
   pub survives : (g.crashes old.sink).survives → (g.crashes new.sink).survives
   pub no_fewer : length old.notes ≤ length new.notes
   pub later : (g.crashes old.sink).moment ≤ (g.crashes new.sink).moment
@@ -68,8 +74,9 @@ LeavesStep g goes unsaved old held new =
 
 -- A fault came after the session had the state `now`. A crash leaves only the last checkpoint of
 -- that state, or the session's position if the fault is a refused save: this is so if the session
--- made a checkpoint meanwhile or nothing but its last one was left before. If it made none, and
--- from moment t to the start only the old checkpoint was left, then that is true from t until now.
+-- made a checkpoint meanwhile or nothing but its last one was left before. If it made none, only
+-- these may be left besides what was left before; and if from moment t to the start only the old
+-- checkpoint was left, then the first is true from t until now.
 -- If something survived every crash before, something still does, now and at each moment since t.
 pub record LeavesSaved {S : Type 0} (g : Ghosts S) (unsaved : Type 0) (old : SessionState S)
     (held : List Portion) (now : Seen) (new : SessionState S) : Type 0 where
@@ -77,6 +84,11 @@ pub record LeavesSaved {S : Type 0} (g : Ghosts S) (unsaved : Type 0) (old : Ses
       → BringsLast (g.crashes old.sink).returns (seen g old held))
       → (back : Point) (there : List Portion) → (g.crashes new.sink).returns back there
       → IsLast now back there ⊎ (unsaved × IsHeld g now.parts new back there)
+  pub adds : length now.notes ≡ length old.notes → (back : Point) (there : List Portion)
+      → (g.crashes new.sink).returns back there → (g.crashes old.sink).returns back there
+      ⊎ (IsLast now back there ⊎ (unsaved × IsHeld g now.parts new back there))
+  pub same : length now.notes ≡ length old.notes → (back : Point) (there : List Portion)
+      → IsLast (seen g old held) back there → IsLast now back there
   pub survives : (g.crashes old.sink).survives → (g.crashes new.sink).survives
   pub no_fewer : length old.notes ≤ length now.notes
   pub since : (t : ℕ) → t ≤ (g.crashes old.sink).moment → length now.notes ≡ length old.notes
