@@ -12,15 +12,6 @@ returns-in_err-write_rest-clause-err g c =
     rest_failed c.args.form c.in_ok-front.front.written _ _ _ _ wrote
     (c.in_err-write_rest.ensures.err parts (c.write_front.ensures.kept parts was) counted))
 
-pub returns-in_err-write_rest-clause-cause : goal.returns-in_err-write_rest-clause-cause
-returns-in_err-write_rest-clause-cause g c =
-    told_err _ _ _ c.from_residual-in_err-write_rest.ensures.1 (fails_behind g.S.PartSink.holds
-    (λ s parts.
-    g.S.PartSink.holds s parts × (c.in_ok-front.front.records ≡ length (join parts).records)) _
-    g.S.PartWalk.refuses _ _ _ _ c.in_ok-front.ensures.calm (λ parts was.
-    (parts, (c.write_front.ensures.kept parts was, (c.in_ok-front.ensures.ok parts was).0)))
-    c.in_err-write_rest.ensures.cause)
-
 pub returns-in_err-flush-clause-err : goal.returns-in_err-flush-clause-err
 returns-in_err-flush-clause-err g c =
     on_err c.from_residual-in_err-flush.result _ (λ parts was.

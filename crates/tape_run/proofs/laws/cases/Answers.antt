@@ -18,18 +18,6 @@ use Rattle.tape_run.proofs.laws.cases.Goals as goal
 pub returns-clause-mounts : goal.returns-clause-mounts
 returns-clause-mounts c = cases_of_mounts
 
-pub returns-clause-histories : goal.returns-clause-histories
-returns-clause-histories c = cases_of_histories
-
-pub returns-clause-given : goal.returns-clause-given
-returns-clause-given c = cases_of_given
-
-pub returns-clause-volumes : goal.returns-clause-volumes
-returns-clause-volumes c = cases_of_volumes
-
-pub returns-clause-sessions : goal.returns-clause-sessions
-returns-clause-sessions c = cases_of_sessions
-
 pub returns-clause-made : goal.returns-clause-made
 returns-clause-made c = cases_of_made
 
@@ -39,9 +27,6 @@ returns-clause-stops c = cases_of_stops
 pub returns-clause-crashes : goal.returns-clause-crashes
 returns-clause-crashes c = cases_of_crashes
 
-pub returns-clause-answers : goal.returns-clause-answers
-returns-clause-answers c = cases_of_answers
-
 pub returns-clause-table : goal.returns-clause-table
 returns-clause-table c = cases_of_table
 
@@ -50,9 +35,6 @@ returns-clause-leads c = cases_of_leads
 
 pub returns-clause-catalogues : goal.returns-clause-catalogues
 returns-clause-catalogues c = cases_of_catalogues
-
-pub returns-clause-images : goal.returns-clause-images
-returns-clause-images c = cases_of_images
 
 pub returns-clause-sections : goal.returns-clause-sections
 returns-clause-sections c = cases_of_sections
@@ -81,9 +63,6 @@ returns-clause-unpacking c = cases_of_unpacking
 pub returns-clause-surveys : goal.returns-clause-surveys
 returns-clause-surveys c = cases_of_surveys
 
-pub returns-clause-turns : goal.returns-clause-turns
-returns-clause-turns c = cases_of_turns
-
 pub returns-clause-seen : goal.returns-clause-seen
 returns-clause-seen c = cases_of_seen
 
@@ -92,9 +71,6 @@ returns-clause-saved c = cases_of_saved
 
 pub returns-clause-outputs : goal.returns-clause-outputs
 returns-clause-outputs c = cases_of_outputs
-
-pub returns-clause-causes : goal.returns-clause-causes
-returns-clause-causes c = cases_of_causes
 
 pub returns-clause-rounds : goal.returns-clause-rounds
 returns-clause-rounds c = cases_of_rounds

@@ -98,13 +98,3 @@ returns-in_err-flush-in-Err-clause-fault g c =
     (stops_at_fault _ _ c.items.image.left next.left c.items.image.place c.items.number
     c.in-Err.fault _ _ _ c.items.invariant.so_far c.items.invariant.limit met.takes
     c.flush.ensures.kept)
-
-pub returns-in-Err-clause-fault : goal.returns-in-Err-clause-fault
-returns-in-Err-clause-fault g c =
-    let next = c.next.follows.lender-at-none in
-    let met = met_fault c.items.image _ next c.in-Err.fault c.next.follows.holds-at-none
-    c.items.invariant.on c.in-Err.is in
-    fits_cause (PlacesToFault c.args.offsets) c.in-Err.fault.cause c.in-Err.fault _ _ _ _ met.memory
-    (fails_at _ _ c.items.image.left next.left c.items.image.place c.items.number
-    c.in-Err.fault _ _ _ c.items.invariant.so_far c.items.invariant.limit met.takes
-    c.flush.ensures.kept)

@@ -66,14 +66,6 @@ returns-in-Err-clause-err g c = λ held parts h was.
           (sym front);
     }
 
-pub returns-in-Err-clause-crash : goal.returns-in-Err-clause-crash
-returns-in-Err-clause-crash g c = λ held was.
-    adds_then _ _ _ (c.loop-part.invariant.crash held was)
-    (c.put.ensures.crash _ (c.loop-part.invariant.held_now held was))
-
-pub loop-part-init : goal.loop-part-init
-loop-part-init g c = none_put _ _ _ _
-
 pub loop-part-preserved : goal.loop-part-preserved
 loop-part-preserved g c =
     let l = c.loop-part in
@@ -93,7 +85,3 @@ returns-clause-ok g c = λ held parts h was.
     subst (λ l. g.S.PartSink.holds c.loop-part.sink (held ++ drop c.args.first l))
     (sym (all ∙ append-nil (map view c.loop-part.yielded)))
     (c.loop-part.invariant.held_now held was)
-
-pub returns-in-Err-clause-cause : goal.returns-in-Err-clause-cause
-returns-in-Err-clause-cause g c = refused_at _ _ _ _ _ _ c.loop-part.invariant.calm
-    c.in-Err.ensures.why c.in-Err.ensures.cause

@@ -4,10 +4,6 @@ use Rattle.tape_run.proofs.SalvageShelf.{file_salvaged, file_placed, wrote_all}
 use Rattle.tape_run.proofs.SalvageShelf.{stops_comparing, stops_recovering, stops_placing}
 use Rattle.tape_run.proofs.salvage.salvage_to.Goals as goal
 
-pub returns-in_err-copies-clause-err : goal.returns-in_err-copies-clause-err
-returns-in_err-copies-clause-err g c =
-    on_err c.from_residual.result _ (inl (refl, c.in_err-copies.ensures.front))
-
 pub returns-in_err-conflict-clause-err : goal.returns-in_err-conflict-clause-err
 returns-in_err-conflict-clause-err g c =
     on_err c.from_residual-in_err-conflict.result _ (inl (

@@ -43,39 +43,6 @@ returns-in_ok-answer-in-Reel-clause-ok g c =
           ),
     )
 
-pub returns-in_err-answer-in-Reel-clause-err : goal.returns-in_err-answer-in-Reel-clause-err
-returns-in_err-answer-in-Reel-clause-err g c =
-    let rem = g.R.Read.remaining in
-    let reels = c.args.reels.now in
-    let device = get_or reels c.args.used c.index-reels-used.result in
-    let here = ap (map rem) (drop_more reels c.args.used c.index-reels-used.result
-    c.if-used-reels.false) in
-    told_err _ _ _ c.from_residual.ensures.1 (λ held was kept.
-    let (now, has, (front, keeps, fails)) = c.in_err-answer-in-Reel.ensures.err held was in
-    let told = reel_failed _ _ (rem device) _ _ fails in
-    (now, (λ ne. has), (keeps kept, rw (here, c.in-Reel.is) told)))
-
-pub returns-in_err-answer-in-Reel-clause-unread : goal.returns-in_err-answer-in-Reel-clause-unread
-returns-in_err-answer-in-Reel-clause-unread g c = on_err _ _
-    (ap (map g.R.Read.remaining) (take-set _ _ _))
-
-pub returns-then-used-reels-clause-err : goal.returns-then-used-reels-clause-err
-returns-then-used-reels-clause-err g c = λ held was kept.
-    let none = ap (map g.R.Read.remaining) (drop_all c.args.used c.args.reels.now
-    (omega (arith, c.if-used-reels.true))) in
-    (held, (λ ne. was), (kept, rw (none, c.in-Reel.is) ((refl, refl))))
-
-pub returns-in_ok-answer-in-Reel-clause-crash : goal.returns-in_ok-answer-in-Reel-clause-crash
-returns-in_ok-answer-in-Reel-clause-crash g c = λ held was kept.
-    only_nothing _ _ _ (c.reel.ensures.crash held was)
-
-pub returns-in_err-answer-in-Reel-clause-crash : goal.returns-in_err-answer-in-Reel-clause-crash
-returns-in_err-answer-in-Reel-clause-crash g c = λ held was kept.
-    only_nothing _ _ _ (c.reel.ensures.crash held was)
-
-pub returns-then-used-reels-clause-crash : goal.returns-then-used-reels-clause-crash
-returns-then-used-reels-clause-crash g c = λ held was kept. only_same _ _
-
 -- ---- a save
 
 pub returns-in_ok-save-in-Save-clause-ok : goal.returns-in_ok-save-in-Save-clause-ok
@@ -93,12 +60,6 @@ returns-in_ok-save-in-Save-clause-ok g c = (
       (now, has, (keeps kept, rw c.in-Save.is (save_made _ _ saved _ _ _ last))),
 )
 
-pub returns-in_err-save-in-Save-clause-err : goal.returns-in_err-save-in-Save-clause-err
-returns-in_err-save-in-Save-clause-err g c =
-    told_err _ _ _ c.from_residual-in_err-save-in-Save.ensures.1 (λ held was kept.
-    let (now, has, fails) = c.in_err-save-in-Save.ensures.err held was in
-    (now, (λ ne. has), (kept_save_fails _ _ _ fails kept, rw c.in-Save.is fails)))
-
 -- ---- going back
 
 pub returns-in_ok-restart-in-Restart-clause-ok : goal.returns-in_ok-restart-in-Restart-clause-ok
@@ -112,66 +73,11 @@ returns-in_ok-restart-in-Restart-clause-ok g c = (
       (now, has, (still, rw c.in-Restart.is (restart_made _ _ _ went _ _ _))),
 )
 
-pub returns-in_err-restart-in-Restart-clause-err : goal.returns-in_err-restart-in-Restart-clause-err
-returns-in_err-restart-in-Restart-clause-err g c =
-    told_err _ _ _ c.from_residual-in_err-restart-in-Restart.ensures.1 (λ held was kept.
-    let (ok, fails) = c.in_err-restart-in-Restart.ensures.err held was kept in (
-      held,
-      (λ keeps. ok (λ device. keeps (((c.in-Restart.n, ap Some c.in-Restart.is), device)))),
-      (kept_restart_fails _ _ _ _ fails kept, rw c.in-Restart.is fails),
-    ))
-
--- ---- of any sink
-
-pub returns-in_ok-answer-in-Reel-clause-calm : goal.returns-in_ok-answer-in-Reel-clause-calm
-returns-in_ok-answer-in-Reel-clause-calm g c =
-    let done = c.in_ok-answer-in-Reel.ensures in
-    calm_reel _ _ _ _ done.calm done.notes done.ok
-
-pub returns-in_ok-save-in-Save-clause-calm : goal.returns-in_ok-save-in-Save-clause-calm
-returns-in_ok-save-in-Save-clause-calm g c =
-    let done = c.in_ok-save-in-Save.ensures in
-    calm_saved _ _ _ _ done.calm done.notes done.ok
-
-pub returns-in_ok-restart-in-Restart-clause-calm : goal.returns-in_ok-restart-in-Restart-clause-calm
-returns-in_ok-restart-in-Restart-clause-calm g c =
-    let done = c.in_ok-restart-in-Restart.ensures in
-    calm_back _ _ _ _ done.calm done.notes done.ok
-
-pub returns-in_err-answer-in-Reel-clause-cause : goal.returns-in_err-answer-in-Reel-clause-cause
-returns-in_err-answer-in-Reel-clause-cause g c =
-    told_err _ _ _ c.from_residual.ensures.1
-    (rw c.in-Reel.is (inl c.in_err-answer-in-Reel.ensures.refuses))
-
-pub returns-then-used-reels-clause-cause : goal.returns-then-used-reels-clause-cause
-returns-then-used-reels-clause-cause g c = rw c.in-Reel.is (inr (refl, refl))
-
-pub returns-in_err-save-in-Save-clause-cause : goal.returns-in_err-save-in-Save-clause-cause
-returns-in_err-save-in-Save-clause-cause g c =
-    told_err _ _ _ c.from_residual-in_err-save-in-Save.ensures.1
-    (rw c.in-Save.is c.in_err-save-in-Save.ensures.refuses)
-
 pub returns-in_err-restart-in-Restart-clause-cause :
     goal.returns-in_err-restart-in-Restart-clause-cause
 returns-in_err-restart-in-Restart-clause-cause g c =
     told_err _ _ _ c.from_residual-in_err-restart-in-Restart.ensures.1
     (rw c.in-Restart.is c.in_err-restart-in-Restart.ensures.refuses)
-
--- ---- readers
-
-pub returns-in_ok-answer-in-Reel-clause-takes : goal.returns-in_ok-answer-in-Reel-clause-takes
-returns-in_ok-answer-in-Reel-clause-takes g c = rw c.in-Reel.is refl
-
-pub returns-in_ok-answer-in-Reel-clause-behind : goal.returns-in_ok-answer-in-Reel-clause-behind
-returns-in_ok-answer-in-Reel-clause-behind g c = rw c.in-Reel.is (drop-set-lt (c.args.used + 1)
-    c.args.reels.now c.args.used c.reel.new.device (omega arith))
-
-pub returns-in_err-answer-in-Reel-clause-behind : goal.returns-in_err-answer-in-Reel-clause-behind
-returns-in_err-answer-in-Reel-clause-behind g c = rw c.in-Reel.is (drop-set-lt (c.args.used + 1)
-    c.args.reels.now c.args.used c.reel.new.device (omega arith))
-
-pub returns-in_ok-save-in-Save-clause-takes : goal.returns-in_ok-save-in-Save-clause-takes
-returns-in_ok-save-in-Save-clause-takes g c = rw c.in-Save.is (omega arith)
 
 pub returns-in_ok-restart-in-Restart-clause-takes :
     goal.returns-in_ok-restart-in-Restart-clause-takes

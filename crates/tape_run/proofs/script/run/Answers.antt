@@ -9,17 +9,6 @@ use Rattle.tape_run.proofs.RunSoFar.{none_made, one_more, adds_more, came_to_end
 use Rattle.tape_run.proofs.RunSoFar.{now_unread, adds_so_far, taken_then, stays_behind}
 use Rattle.tape_run.proofs.script.run.Goals as goal
 
-pub loop-step-init : goal.loop-step-init
-loop-step-init g c = (
-  [],
-  refl,
-  refl,
-  λ held was kept. none_made was kept,
-  calm_same _ _,
-  refl,
-  refl,
-)
-
 pub loop-step-preserved : goal.loop-step-preserved
 loop-step-preserved g c =
     let (which, count, row, come, calm, taken, behind) = c.loop-step.invariant in
@@ -41,12 +30,6 @@ loop-step-preserved g c =
       subst (λ n. drop n c.make.new.reels ≡ drop n c.args.reels.now) (sym c.in-Ok.ensures.takes)
           (stays_behind c.loop-step.used _ _ _ _ behind c.in-Ok.ensures.behind),
     )
-
-pub returns-clause-unread : goal.returns-clause-unread
-returns-clause-unread g c =
-    let (which, count, row, come, calm, taken, behind) = c.loop-step.invariant in
-    subst (λ n. drop n c.loop-step.reels ≡ drop n c.args.reels.now) (taken ∙ ap reels_in (take_all _
-    c.args.steps.now (omega (arith, c.loop-step-test.false)))) behind
 
 pub returns-in-Err-clause-untaken : goal.returns-in-Err-clause-untaken
 returns-in-Err-clause-untaken g c =
@@ -149,10 +132,6 @@ returns-in-Err-clause-crash g c = λ held was kept.
     let others = map rem (drop c.loop-step.used c.make.new.reels) in
     adds_more mid (c.make.ensures.crash mid.now mid.has mid.kept) _ _ (ap (λ l. l ++ others)
     (sym c.in-Err.ensures.unread) ∙ all_unread _ _ _)
-
-pub returns-clause-calm : goal.returns-clause-calm
-returns-clause-calm g c =
-    let (which, count, row, come, calm, taken, behind) = c.loop-step.invariant in calm
 
 pub returns-in-Err-clause-cause : goal.returns-in-Err-clause-cause
 returns-in-Err-clause-cause g c =

@@ -23,14 +23,3 @@ loop-number-preserved c =
           (λ (o : Option ImageState). with_state c.loop-number.tally o) c.state_at.ensures)
           c.loop-number.invariant.tally;
     }
-
-pub returns-clause-text : goal.returns-clause-text
-returns-clause-text c =
-    let names = c.args.names.now in
-    let each : length (map (λ x. x.now) names) ≡ length names = length-map _ (λ x. x.now) in
-    images_all _ _ (map (λ x. x.now) names) _ _ _ _ (omega (arith, each, c.loop-number-test.false))
-    c.loop-number.invariant.text
-
-pub returns-clause-tally : goal.returns-clause-tally
-returns-clause-tally c = all_counted c.args.copies.now c.args.sights.now _ _ c.loop-number.number
-    (omega (arith, c.requires, c.loop-number-test.false)) c.loop-number.invariant.tally

@@ -5,8 +5,3 @@ use Rattle.tape_run.proofs.unpack.add_files.Goals as goal
 pub loop-before-preserved : goal.loop-before-preserved
 loop-before-preserved c = file_added c.args.findings.now c.args.set_id _ _ _ c.loop-before.before
     c.args.greatest c.loop-before-test.true c.in_ok-add_file.ensures c.loop-before.invariant
-
-pub returns : goal.returns
-returns c = files_all c.args.findings.now c.args.set_id _ _ (c.loop-before.before + 1)
-    (c.args.greatest - c.loop-before.before) (omega (arith, c.loop-before-test.false))
-    c.loop-before.invariant

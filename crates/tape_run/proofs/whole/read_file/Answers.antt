@@ -34,15 +34,3 @@ returns-clause-cause g c = IfErr-weaker c.run-made.result _ _ (λ end stops. (
   c.in_ok-session.ensures.core,
   stops,
 )) c.run-made.ensures.cause
-
-pub returns-clause-calm : goal.returns-clause-calm
-returns-clause-calm g c = on_ok_weaker c.run-made.result (λ calm. calm.calm
-    ∙ (ap (λ (sink : MemorySink). sink.refused) c.in_ok-session.ensures.sink
-    ∙ c.new-sink.ensures.calm)) c.run-made.ensures.calm
-
-pub returns-clause-kept : goal.returns-clause-kept
-returns-clause-kept g c = on_ok_weaker c.run-made.result (λ calm.
-    let empty : [] ≡ portions c.in_ok-session.session.sink =
-    sym (ap portions c.in_ok-session.ensures.sink ∙ c.new-sink.ensures.empty) in
-    let (now, has, kept) = calm.kept [] empty c.in_ok-session.ensures.kept in
-    rw (← has) kept) c.run-made.ensures.calm

@@ -23,20 +23,6 @@ returns-clause-crash g c = λ held was bytes e.
           (crashes first.sink).moment back there (omega arith) h),
     )
 
-pub returns-clause-survives : goal.returns-clause-survives
-returns-clause-survives g c = λ held was.
-    let crashes = g.S.PartSink.crashes in
-    let last = crashes c.run-result.new.session.sink in
-    let adds = c.run-result.ensures.crash held
-    (subst (λ s. g.S.PartSink.holds s held) (sym c.resume-session.ensures.sink) was)
-    (c.resume-session.ensures.kept held) in
-    subst (λ s. ((crashes s).survives → last.survives)
-    × ((crashes s).survived (crashes s).moment → last.survived (crashes s).moment))
-    c.resume-session.ensures.sink (
-      adds.survives,
-      λ h. adds.survived (crashes c.resume-session.result.sink).moment (omega arith) h,
-    )
-
 pub returns-clause-delivers : goal.returns-clause-delivers
 returns-clause-delivers g c = on_ok_weaker c.run-result.result (λ run held was.
     let same = sym c.resume-session.ensures.sink in
@@ -65,12 +51,3 @@ returns-clause-cause g c = IfErr-weaker c.run-result.result _ _ (λ end stops. (
   (c.resume-session.ensures.resumed []).notes,
   stops,
 )) c.run-result.ensures.cause
-
-pub returns-clause-kept : goal.returns-clause-kept
-returns-clause-kept g c = on_ok_weaker c.run-result.result (λ calm held was. calm.kept held
-    (subst (λ s. g.S.PartSink.holds s held) (sym c.resume-session.ensures.sink) was)
-    (c.resume-session.ensures.kept held)) c.run-result.ensures.calm
-
-pub returns-clause-calm : goal.returns-clause-calm
-returns-clause-calm g c = on_ok_weaker c.run-result.result (λ calm. calm.calm
-    ∙ ap g.S.PartSink.refusals c.resume-session.ensures.sink) c.run-result.ensures.calm

@@ -22,18 +22,6 @@ returns-in_err-read_rounds-clause-cause g c =
     c.in_err-read_rounds.field-0.0 c.args.session.now c.read_rounds.new.session
     c.has_note-back.ensures c.in_err-read_rounds.ensures.cause)
 
-pub returns-clause-cause : goal.returns-clause-cause
-returns-clause-cause g c = file_fails g.S.PartSink g.S.PartWalk.refuses
-    (goes_back c.args.session.now.notes)
-    c.args.session.now c.read_rounds.new.session c.end_file.new.session c.end_file.result
-    c.in_ok-read_rounds.ensures.calm c.end_file.ensures.cause
-
-pub returns-clause-calm : goal.returns-clause-calm
-returns-clause-calm g c = calm_ended g.S.PartSink c.args.session.now c.read_rounds.new.session
-    c.end_file.new.session c.end_file.result c.in_ok-read_rounds.ensures.calm
-    c.end_file.ensures.same
-    c.end_file.ensures.calm
-
 pub returns-clause-ok : goal.returns-clause-ok
 returns-clause-ok g c =
     if_ok_both c.end_file.result _ _ _ c.end_file.ensures.ok c.end_file.ensures.calm (λ want e calm.

@@ -27,15 +27,6 @@ rounds-preserved g c =
       calm_then _ _ _ _ calm c.in_ok-read_round.ensures.calm,
     )
 
-pub rounds-smaller : goal.rounds-smaller
-rounds-smaller g c =
-    let (rounds, e, room, h, calm) = c.rounds.invariant in
-    let other = not_same _ _ _ _ c.want-before.ensures c.want.ensures c.if-is_enough.ensures.no.1 in
-    let some = some_images _ _ _ _ _ _ _ _ _ _ _ _ c.in_ok-read_round.ensures.ok other in
-    let less : 18446744073709551615 - (c.rounds.lines + c.count-count.result) < 18446744073709551615
-    - c.rounds.lines = omega (arith, room, some) in
-    less
-
 pub returns-in_err-read_round-clause-err : goal.returns-in_err-read_round-clause-err
 returns-in_err-read_round-clause-err g c =
     let (rounds, e, room, h, calm) = c.rounds.invariant in
@@ -60,13 +51,3 @@ returns-in_err-read_round-clause-cause g c =
     let (rounds, e, room, h, calm) = c.rounds.invariant in
     told_err _ _ _ c.from_residual.ensures.1 (then_fails _ _ _ _ _ _ _ calm
     c.in_err-read_round.ensures.cause)
-
-pub returns-then-is_enough-clause-calm : goal.returns-then-is_enough-clause-calm
-returns-then-is_enough-clause-calm g c =
-    let (rounds, e, room, h, calm) = c.rounds.invariant in
-    calm_then _ _ _ _ calm c.in_ok-read_round.ensures.calm
-
-pub returns-then-lines-count-clause-calm : goal.returns-then-lines-count-clause-calm
-returns-then-lines-count-clause-calm g c =
-    let (rounds, e, room, h, calm) = c.rounds.invariant in
-    calm_then _ _ _ _ calm c.in_ok-read_round.ensures.calm

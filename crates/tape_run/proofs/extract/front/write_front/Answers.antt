@@ -20,21 +20,6 @@ parts-init g c = (
       (c.weight-weight.ensures.of parts was) c.weight-weight.ensures.limit,
 )
 
-pub parts-preserved-then-leaves : goal.parts-preserved-then-leaves
-parts-preserved-then-leaves g c =
-    let next = c.next_part.follows.lender-at-none in
-    let goes : leaves c.in-Ok-Some.part.span ≡ true =
-    search (rules, c.leaves.ensures, c.if-leaves.true) in (
-      walk_on _ _ _ _ _ (c.in-Ok-Some.is ∙ ap Ok c.in-Ok-Some.field-0-is) c.parts.invariant.0
-          c.next_part.follows.holds-at-none,
-      λ parts was. front_counts c.args.form (g.S.PartWalk.ahead c.parts.sink)
-          (g.S.PartWalk.ahead next) c.parts.all c.parts.written c.parts.records c.parts.records _ _
-          parts c.in-Ok-Some.part (c.parts.invariant.1 parts was)
-          (λ xs is. subst (λ r. GivesPart r xs (g.S.PartWalk.ahead next)) (c.in-Ok-Some.is
-          ∙ ap Ok c.in-Ok-Some.field-0-is) (c.next_part.follows.holds-at-none.gives xs is))
-          (λ few. ap (λ b. with_end b c.parts.records) (sym goes)) false refl,
-    )
-
 pub returns-in_err-write_part-in-Ok-Some-clause-err :
     goal.returns-in_err-write_part-in-Ok-Some-clause-err
 returns-in_err-write_part-in-Ok-Some-clause-err g c =
@@ -95,7 +80,3 @@ returns-in-Ok-None-clause-ok g c = λ parts was.
 pub returns-in-Err-clause-err : goal.returns-in-Err-clause-err
 returns-in-Err-clause-err g c = λ parts was. front_refused _ _ _ _ _ _ _ parts
     (c.parts.invariant.1 parts was)
-
-pub returns-in-Err-clause-cause : goal.returns-in-Err-clause-cause
-returns-in-Err-clause-cause g c = rw c.walk_fault.ensures (inl (walk_refused _ _ _ _ _ c.in-Err.is
-    c.parts.invariant.0 c.next_part.follows.holds-at-none))

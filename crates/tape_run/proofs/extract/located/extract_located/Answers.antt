@@ -25,21 +25,3 @@ returns-in-Ok-clause-ok g c whole held =
           let same : n ≡ c.in-Ok.records = cc in
           (same ∙ done.0, done.1);
     }
-
-pub returns-in_err-complete-clause-cause : goal.returns-in_err-complete-clause-cause
-returns-in_err-complete-clause-cause g c =
-    told_err _ _ _ c.from_residual.ensures.1 (inl c.in_err-complete.ensures.cause)
-
-pub returns-in-Err-clause-cause : goal.returns-in-Err-clause-cause
-returns-in-Err-clause-cause g c =
-    let ended : c.in_ok-complete.complete ≡ true = search (rules, c.if-not-complete.false) in
-    ended_for _ _ _ _ _ _ _ _ (c.place_output.ensures.calm ∙ c.in_ok-complete.ensures.calm.calm)
-    (c.in_ok-complete.ensures.finished ended) c.in-Err.ensures.cause
-
-pub returns-in-Err-clause-reads : goal.returns-in-Err-clause-reads
-returns-in-Err-clause-reads g c = reads_walked _ c.args.session.now c.read_sections.new.session
-    c.place_output.new.self c.read_sections.ensures.reads c.place_output.ensures.same
-
-pub returns-in-Ok-clause-reads : goal.returns-in-Ok-clause-reads
-returns-in-Ok-clause-reads g c = reads_walked _ c.args.session.now c.read_sections.new.session
-    c.place_output.new.self c.read_sections.ensures.reads c.place_output.ensures.same

@@ -25,33 +25,3 @@ returns-clause-ok g c whole before =
     c.requires.same_set c.requires.later before (λ held was.
     let (now, has, (front, keeps, reeled)) = c.in_ok-answer.ensures.ok held was in
     (now, has, reeled)) tt
-
-pub returns-in_err-answer-clause-cause : goal.returns-in_err-answer-clause-cause
-returns-in_err-answer-clause-cause g c =
-    told_err _ _ _ c.from_residual.ensures.1 (step_fails g.S.PartSink false _
-    c.args.session.now c.reel_behind.new.self c.in_err-answer.ensures.refuses)
-
-pub returns-then-ends_section-clause-calm : goal.returns-then-ends_section-clause-calm
-returns-then-ends_section-clause-calm g c =
-    let done = c.in_ok-answer.ensures in
-    calm_reel _ _ _ _ done.calm done.notes done.ok
-
-pub returns-clause-calm : goal.returns-clause-calm
-returns-clause-calm g c =
-    let done = c.in_ok-answer.ensures in
-    calm_reel _ _ _ _ done.calm done.notes done.ok
-
-pub returns-then-ends_section-clause-reads : goal.returns-then-ends_section-clause-reads
-returns-then-ends_section-clause-reads g c =
-    reads_reel g.S.PartSink c.args.session.now c.reel_behind.new.self _ c.reel_behind.ensures.notes
-    c.reel_behind.ensures.file c.in_ok-answer.ensures.ok
-
-pub returns-clause-reads : goal.returns-clause-reads
-returns-clause-reads g c =
-    reads_reel g.S.PartSink c.args.session.now c.reel_behind.new.self _ c.reel_behind.ensures.notes
-    c.reel_behind.ensures.file c.in_ok-answer.ensures.ok
-
-pub returns-in_err-answer-clause-reads : goal.returns-in_err-answer-clause-reads
-returns-in_err-answer-clause-reads g c =
-    reads_reel g.S.PartSink c.args.session.now c.reel_behind.new.self _ c.reel_behind.ensures.notes
-    c.reel_behind.ensures.file c.in_err-answer.ensures.err

@@ -145,31 +145,3 @@ pub returns-clause-ok : goal.returns-clause-ok
 returns-clause-ok g c whole held =
     let s = (c.sections.invariant.reads whole held).0 in
     sections_read _ _ _ _ true _ _ _ _ _ _ whole _ _ s s.held (search rules, refl)
-
-pub returns-in_err-mounted-clause-cause : goal.returns-in_err-mounted-clause-cause
-returns-in_err-mounted-clause-cause g c =
-    told_err _ _ _ c.from_residual.ensures.1 (then_fails _ _ false _ _ _ _ c.sections.invariant.calm
-    c.in_err-mounted.ensures.cause)
-
-pub returns-then-is_none-clause-calm : goal.returns-then-is_none-clause-calm
-returns-then-is_none-clause-calm g c = calm_then _ _ _ _ c.sections.invariant.calm
-    c.in_ok-mounted.ensures.calm
-
-pub returns-then-is_none-clause-reads : goal.returns-then-is_none-clause-reads
-returns-then-is_none-clause-reads g c = reads_then g.S.PartSink c.args.session.now
-    c.sections.session c.read_section.new.session c.sections.invariant.only
-    c.read_section.ensures.reads
-
-pub returns-in_err-mounted-clause-reads : goal.returns-in_err-mounted-clause-reads
-returns-in_err-mounted-clause-reads g c = reads_then g.S.PartSink c.args.session.now
-    c.sections.session c.read_section.new.session c.sections.invariant.only
-    c.read_section.ensures.reads
-
-pub returns-then-from-next-clause-reads : goal.returns-then-from-next-clause-reads
-returns-then-from-next-clause-reads g c = c.sections.invariant.only
-
-pub returns-in_default-get-clause-reads : goal.returns-in_default-get-clause-reads
-returns-in_default-get-clause-reads g c = c.sections.invariant.only
-
-pub returns-clause-reads : goal.returns-clause-reads
-returns-clause-reads g c = c.sections.invariant.only

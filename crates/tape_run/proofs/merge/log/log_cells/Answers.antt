@@ -5,9 +5,6 @@ use Rattle.tape_run.proofs.MergeReports.{reports_none, reports_more, reports_all
 use Rattle.tape_run.proofs.MergeRows.{lines_flat}
 use Rattle.tape_run.proofs.merge.log.log_cells.Goals as goal
 
-pub loop-reading-init : goal.loop-reading-init
-loop-reading-init g c = reports_none _ _ _
-
 pub loop-reading-preserved : goal.loop-reading-preserved
 loop-reading-preserved g c = reports_more (λ _ r. verdict_cell r.verdict) _ _ _ _ _ _ _
     (search rules) c.reading-item.is c.cell.ensures c.loop-reading.invariant

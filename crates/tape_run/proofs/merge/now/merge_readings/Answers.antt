@@ -37,27 +37,6 @@ returns-in-Ok-merge_to-clause-ok g c =
     (subst (λ t. Appends mid new t) (c.deref.ensures.0 ∙ c.merged_line.ensures)
     c.in_ok-pass_on-in-Ok-merge_to.ensures.ok)))
 
-pub returns-in-Err-Differ-clause-ok : goal.returns-in-Err-Differ-clause-ok
-returns-in-Err-Differ-clause-ok g c =
-    let names = map (λ n. n.now) c.args.names.now in
-    let old = g.P.Write.contents c.args.report.now in
-    let first = g.P.Write.contents c.report_readings-in-Err-Differ.new.report in
-    let second = g.P.Write.contents c.pass_on-in-Err-Differ.new.report in
-    let new = g.P.Write.contents c.report_items.new.report in
-    let lines = lines_from (reading_line names) 0 c.merge_to.new.readings in
-    let items = lines_from (has_line names) 0 c.merge_to.new.readings in
-    let text : c.deref-in-Err-Differ.result.now ≡ differ_line c.in-Err-Differ.item =
-    search rules in
-    differed c.args.readings.now c.merge_to.new.readings _ _ c.in-Err-Differ.item
-    c.in-Err-Differ.field-0 (g.W.Write.contents c.args.out) (g.O.Place.stands c.args.place.now)
-    names (Appends (g.G.Write.contents c.args.log.now) (g.G.Write.contents c.merge_to.new.log))
-    (Appends old new) c.in-Err-Differ.ensures.fault c.in-Err-Differ.field-0-is
-    (Appends-trans old second new (lines ++ differ_line c.in-Err-Differ.item) items
-    (Appends-trans old first second lines (differ_line c.in-Err-Differ.item)
-    c.in_ok-report_readings-in-Err-Differ.ensures.ok
-    (subst (λ t. Appends first second t) text c.in_ok-pass_on-in-Err-Differ.ensures.ok))
-    c.in_ok-report_items-in-Err-Differ.ensures.ok)
-
 pub returns-in-Err-Write-clause-cause : goal.returns-in-Err-Write-clause-cause
 returns-in-Err-Write-clause-cause g c =
     let misses : Misses (λ _. ⊥) (λ n. (c.in-Err-Write.fault ≡ TooLong) × (n ≡ c.size.result))
@@ -76,23 +55,6 @@ returns-in_err-written-in-Ok-merge_to-clause-cause g c =
     (told_err c.from_residual-in_err-written-in-Ok-merge_to.result _ _
     c.from_residual-in_err-written-in-Ok-merge_to.ensures.1
     c.in_err-written-in-Ok-merge_to.ensures.err)
-
-pub returns-in_err-head-clause-left : goal.returns-in_err-head-clause-left
-returns-in_err-head-clause-left g c = err_stays c.from_residual.result g.O.Place.stands _ _ _
-    (inl refl)
-
-pub returns-in_default-clause-left : goal.returns-in_default-clause-left
-returns-in_default-clause-left g c = (refl, inl refl)
-
-pub returns-in-Err-OutOfMemory-clause-left : goal.returns-in-Err-OutOfMemory-clause-left
-returns-in-Err-OutOfMemory-clause-left g c = (refl, inl refl)
-
-pub returns-in-Err-Write-clause-left : goal.returns-in-Err-Write-clause-left
-returns-in-Err-Write-clause-left g c =
-    stays g.O.Place.stands _ _ _ c.write_stop.result (inl refl)
-
-pub returns-clause-left : goal.returns-clause-left
-returns-clause-left g c = (refl, inl refl)
 
 pub returns-in_err-report_readings-in-Ok-merge_to-clause-left :
     goal.returns-in_err-report_readings-in-Ok-merge_to-clause-left

@@ -10,9 +10,6 @@ use Rattle.tape_run.proofs.merge.now.report_items.Goals.{
 }
 use Rattle.tape_run.proofs.merge.now.report_items.Goals as goal
 
-pub loop-number-init : goal.loop-number-init
-loop-number-init g c = reports_none _ _ _
-
 pub loop-number-preserved : goal.loop-number-preserved
 loop-number-preserved g c =
     let names = map (λ n. n.now) c.args.names.now in

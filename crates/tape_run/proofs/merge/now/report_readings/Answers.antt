@@ -5,9 +5,6 @@ use Rattle.tape_run.proofs.MergeReports.{reports_none, reports_more, reports_all
 use Rattle.tape_run.proofs.MergeReports.{reports_so_far, named_reading}
 use Rattle.tape_run.proofs.merge.now.report_readings.Goals as goal
 
-pub loop-number-init : goal.loop-number-init
-loop-number-init g c = reports_none _ _ _
-
 pub loop-number-preserved : goal.loop-number-preserved
 loop-number-preserved g c =
     let names = map (λ n. n.now) c.args.names.now in
@@ -19,12 +16,6 @@ loop-number-preserved g c =
     c.reading_text-text.result.items c.deref.result.now c.name_at.result.now
     c.in_ok-line.line.items c.line_of.ensures c.reading_text-text.ensures c.deref.ensures.0
     c.name_at.ensures c.in_ok-line.ensures) c.loop-number.invariant c.in_ok-pass_on.ensures.ok
-
-pub returns-clause-ok : goal.returns-clause-ok
-returns-clause-ok g c = reports_all _ _ _ _ _ (omega arith) c.loop-number.invariant
-
-pub returns-in_err-line-clause-front : goal.returns-in_err-line-clause-front
-returns-in_err-line-clause-front g c = on_err _ _ (reports_so_far _ _ _ _ _ c.loop-number.invariant)
 
 pub returns-in_err-pass_on-clause-front : goal.returns-in_err-pass_on-clause-front
 returns-in_err-pass_on-clause-front g c =

@@ -6,9 +6,3 @@ returns-clause-ok g c = ok_images _ _ _ _ _ _ _ c.merge_items.ensures.ok
 
 pub returns-clause-fault : goal.returns-clause-fault
 returns-clause-fault g c = err_images _ _ _ _ _ c.merge_items.ensures.fault
-
-pub returns-clause-all : goal.returns-clause-all
-returns-clause-all g c = ok_many _ _ _ _ _ _ _ c.merge_items.ensures.ok
-
-pub returns-clause-still_all : goal.returns-clause-still_all
-returns-clause-still_all g c = err_many _ _ _ _ _ c.merge_items.ensures.fault

@@ -2,11 +2,6 @@ use Rattle.std.proofs.Common.{arith, refl, sym, ◌∙◌}
 use Rattle.tape_run.proofs.MergeNext.{asked_item, asked_stop}
 use Rattle.tape_run.proofs.merge.reading.ask.Goals as goal
 
-pub returns-then-is_stop-clause-asked : goal.returns-then-is_stop-clause-asked
-returns-then-is_stop-clause-asked g c = asked_stop _ _ _ _ _ _ _ _ c.in_ok-verdict.ensures.answered
-    refl (sym c.is_stop.ensures ∙ c.if-is_stop.true)
-    (record { items = refl; bad = refl; from = refl; len = refl })
-
 pub returns-clause-asked : goal.returns-clause-asked
 returns-clause-asked g c = asked_item _ _ _ _ _ _ _ _ _ c.in_ok-verdict.ensures.answered refl
     (sym c.is_stop.ensures ∙ c.if-is_stop.false) c.bad_items.ensures (record {

@@ -8,14 +8,6 @@ use Rattle.tape_run.specs.Puts.{refused_point}
 use Rattle.tape_run.proofs.Places.{shape_fits}
 use Rattle.tape_run.proofs.reel_reader.ReelReader.put_block.Goals as goal
 
-pub returns-in-Err-clause-stops : goal.returns-in-Err-clause-stops
-returns-in-Err-clause-stops g c = (
-  c.in-Err.refused.part,
-  c.in-Err.refused.begun,
-  subst (λ (f : ℕ). f ≤ c.in-Err.refused.part) c.requires.awaited.part c.in-Err.ensures.within.0,
-  ap rest_of c.go_back.ensures.back,
-)
-
 pub returns-in-Err-clause-err : goal.returns-in-Err-clause-err
 returns-in-Err-clause-err g c = λ held parts k known_is h was.
     let core = c.args.self.now.core in

@@ -6,9 +6,6 @@ use Rattle.tape_run.proofs.SalvageConflicts.{compared_front}
 use Rattle.tape_image.proofs.Pieces.{on_err}
 use Rattle.tape_run.proofs.salvage.conflicts.report_section.Goals as goal
 
-pub loop-copy-init : goal.loop-copy-init
-loop-copy-init g c = none_compared _ _ _
-
 pub loop-copy-preserved : goal.loop-copy-preserved
 loop-copy-preserved g c = compared_more _ c.copy-item.result c.args.copies.now
     c.loop-copy.copy-index _ _ _ _ _ _ (search rules) c.copy-item.is c.loop-copy.invariant

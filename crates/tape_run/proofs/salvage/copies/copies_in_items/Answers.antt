@@ -5,14 +5,6 @@ use Rattle.tape_run.specs.{SalvageWalk.in_list, SalvageCopies.of_file}
 use Rattle.tape_run.proofs.SalvageSeen.{starts, one_more, at_end, at_fault}
 use Rattle.tape_run.proofs.salvage.copies.copies_in_items.Goals as goal
 
-pub items-init : goal.items-init
-items-init g c = record {
-  on = c.requires.going;
-  limit = omega (arith, c.requires.first);
-  same_device = refl;
-  so_far = starts _ _ _ _ _ _ _ c.requires.first refl;
-}
-
 pub items-preserved : goal.items-preserved
 items-preserved g c =
     let next = c.next.follows.lender-at-none in

@@ -8,11 +8,6 @@ use Rattle.tape_run.proofs.SalvageTaking.{none_taken, more_taken, ends_file, con
 use Rattle.tape_run.proofs.SalvageBegun.{stops_in, stops_last}
 use Rattle.tape_run.proofs.salvage.sections.recover_sections.Goals as goal
 
-pub loop-before-init : goal.loop-before-init
-loop-before-init g c =
-    none_taken g.W.Write.contents g.L.ImageSource.gives g.R.Read.remaining c.args.copies.now
-    c.args.content _ _ _ _
-
 pub loop-before-preserved : goal.loop-before-preserved
 loop-before-preserved g c =
     more_taken g.W.Write.contents g.L.ImageSource.gives g.R.Read.remaining c.args.copies.now

@@ -29,24 +29,3 @@ returns-in-Some-clause-yes g c =
     (same ∙ (c.save-here.ensures.value
     ∙ ap (saved (rest_of c.self.inside.reel_reader.core)) (c.weight.ensures.of held was))))
     c.same_point.ensures.yes)
-
-pub returns-in-Some-clause-no : goal.returns-in-Some-clause-no
-returns-in-Some-clause-no g c =
-    let sink = g.S.PartSink in
-    let notes : List Point = c.self.inside.notes.items in
-    let last : slice_get notes (length notes - 1) ≡ Some c.in-Some.last.now =
-    subst (λ (l : List Point). slice_get l (length l - 1) ≡ Some c.in-Some.last.now)
-    c.deref.ensures.value (sym c.in-Some.ensures.value) in
-    let story : SessionState _ = record {
-      core = c.self.inside.reel_reader.core;
-      sink = c.self.inside.reel_reader.sink;
-      notes = notes;
-      failures = c.self.inside.failures;
-    } in
-    subst (λ z. OnFalse c.same_point.result (IfSeen sink z (λ now. HasNotedHere now → ⊥)))
-    c.self.view_is
-    (false_map c.same_point.result _ _ (λ other held was.
-    noted_elsewhere (seen sink story held) c.in-Some.last.now last
-    (λ is. other (is ∙ sym (c.save-here.ensures.value
-    ∙ ap (saved (rest_of c.self.inside.reel_reader.core)) (c.weight.ensures.of held was)))))
-    c.same_point.ensures.no)

@@ -34,23 +34,6 @@ returns-clause-place g c =
     let same : point ≡ c.in-Some.field-0.now = cc in
     rw same (ap rest_of c.at-self-inside.ensures))
 
-pub returns-then-point-weight-clause-err : goal.returns-then-point-weight-clause-err
-returns-then-point-weight-clause-err g c =
-    rw (← c.self.view_is) (λ held was kept.
-    let s = c.self.inside in
-    let point = c.in-Some.field-0.now in
-    let noted : slice_get s.notes.items c.args.n ≡ Some point = grind (arith, common_steps, gets) in
-    let at = kept_at (rest_of s.reel_reader.core) [] s.notes.items c.args.n point held noted kept in
-    absurd (omega (
-      arith,
-      c.weight.ensures.of held was,
-      front_weighs at.ps held at.is_front,
-      at.note.staged,
-      c.if-point-weight.true,
-      ap (λ z. z.staged) c.point.view_is,
-      ap (λ z. z.staged) c.in-Some.point-is,
-    )))
-
 pub returns-then-point-weight-clause-refuses : goal.returns-then-point-weight-clause-refuses
 returns-then-point-weight-clause-refuses g c =
     rw (← c.self.view_is) (
@@ -98,10 +81,3 @@ returns-clause-crash g c =
     (g.S.PartSink.refusals s.reel_reader.sink) in
     cut_only here c.args.n point _ _ noted kept (g.S.PartSink.holds s.reel_reader.sink) was
     c.cut_to.ensures.crash)
-
-pub returns-in-Err-clause-refuses : goal.returns-in-Err-clause-refuses
-returns-in-Err-clause-refuses g c = rw (← c.self.view_is) (
-  refl,
-  inl (refused_at g.S.PartSink.refusals g.S.PartSink.refuses_change _ _ _ c.in-Err.cause refl
-      c.in-Err.ensures.why c.in-Err.ensures.cause),
-)

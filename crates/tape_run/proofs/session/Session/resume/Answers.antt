@@ -8,11 +8,3 @@ returns-clause-session g c = λ set held s.
     is_resumed set c.args.point.now (rest_of c.over.result.core) c.over.result.failures
     (g.S.PartSink.refusals c.over.result.sink) c.over.result.notes held
     (c.over.ensures.place ∙ ap rest_of c.at.ensures) c.over.ensures.notes s
-
-pub returns-clause-resumed : goal.returns-clause-resumed
-returns-clause-resumed g c = λ held. record {
-  place = c.over.ensures.place ∙ ap rest_of c.at.ensures;
-  parts = refl;
-  notes = c.over.ensures.notes;
-  failures = c.over.ensures.failures;
-}

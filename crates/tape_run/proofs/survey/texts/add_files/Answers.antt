@@ -6,9 +6,3 @@ pub loop-before-preserved : goal.loop-before-preserved
 loop-before-preserved c =
     text_added c.args.wording c.args.findings.now c.args.set_id _ _ _ c.loop-before.before
     c.args.greatest c.loop-before-test.true c.in_ok-add_file.ensures c.loop-before.invariant
-
-pub returns : goal.returns
-returns c =
-    texts_all c.args.wording c.args.findings.now c.args.set_id _ _ (c.loop-before.before + 1)
-    (c.args.greatest - c.loop-before.before) (omega (arith, c.loop-before-test.false))
-    c.loop-before.invariant
