@@ -45,6 +45,7 @@ pub fn read_file<R: Read>(
     ensures stopped { IfOk result (λ read. IfErr read.1 (λ end. IfTold R.remaining reels.old
         (λ bytes. (began : Seen) × IsStart set_id file began
         × (now : Seen) × (now.place ≡ rest_of read.0.core)
+        × (now.notes ≡ read.0.notes) × (now.failures ≡ read.0.failures)
         × ((LosesParts steps.now end.step end.fault → ⊥) → now.parts ≡ portions read.0.sink)
         × HasStopped began steps.now bytes (map R.remaining reels.new) end.step end.fault
         now))) }
