@@ -102,11 +102,11 @@ fn show_in<R: Host>(
     let (alloc, report) = (rt.alloc(), &mut io::writer(rt));
     let Some(mut output) = output else {
         let out = &mut io::sink();
-        return stage_end(show_stage(alloc, disk, order.damaged, None, out, report));
+        return stage_end(show_stage(alloc, disk, order.damaged, None, out, report).0);
     };
     if let Ok(mut out) = BufWriter::with_capacity(alloc, HELD, &mut output) {
         let form = Some(order.form);
-        let shown = show_stage(alloc, disk, order.damaged, form, &mut out, report);
+        let (shown, _) = show_stage(alloc, disk, order.damaged, form, &mut out, report);
         return out.get_mut().ended(stage_end(shown));
     }
     output.ended(End::Faulted(OUT_OF_MEMORY))

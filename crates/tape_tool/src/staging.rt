@@ -70,13 +70,14 @@ pub fn open_session<D: Disk + Drop>(
     // unchanged.
     ensures refused { D.is_honest disk → (D.length_of disk ≡ 0 → ⊥) → IfErr result
         (λ refused. RefusesSession set_id file D.Disk disk refused.fault refused.disk) }
-    // Even a dishonest disk that is not empty keeps its length if no stage was opened and the disk
-    // did not fail.
-    ensures same_length { (D.length_of disk ≡ 0 → ⊥) → IfErr result (λ refused.
+    // Even a dishonest disk keeps its length if no stage was opened and the disk did not fail.
+    ensures same_length { IfErr result (λ refused.
         IsUnopened refused.fault → D.length_of refused.disk ≡ D.length_of disk) }
-    // An empty disk is never reported as one without a stage, since a stage is created.
+    // An empty disk is never reported as one without a stage, since a stage is created. At most its
+    // slots were written.
     ensures empty { D.length_of disk ≡ 0 → IfErr result (λ refused.
-        RefusesBeginning file (D.faults disk) refused.fault (D.faults refused.disk)) }
+        RefusesBeginning file (D.faults disk) refused.fault (D.faults refused.disk)
+        × (D.length_of refused.disk ≤ 256)) }
     ensures cause { IfErr result (λ refused.
         FailsBy (D.faults disk) refused.fault (D.faults refused.disk)) }
 {
@@ -105,7 +106,10 @@ fn begin<D: Disk + Drop>(
     ensures file { IfOk result (λ session.
         (session.core.set_id ≡ set_id) × (session.core.file ≡ file)) }
     ensures refused { IfErr result (λ refused.
-        RefusesBeginning file (D.faults disk) refused.fault (D.faults refused.disk)) }
+        RefusesBeginning file (D.faults disk) refused.fault (D.faults refused.disk)
+        × (D.length_of refused.disk ≤ 256)) }
+    ensures same_length { IfErr result (λ refused.
+        IsUnopened refused.fault → D.length_of refused.disk ≡ D.length_of disk) }
 {
     let Ok(core) = ReaderCore::new(set_id, file) else {
         let fault = StagingFault::OtherFile;
@@ -177,7 +181,8 @@ fn open_or_make<D: Disk + Drop>(
     // Such a disk is refused only as an empty one.
     ensures begins_not { D.is_honest disk → IsFileNumber file → IsUnmade set_id file (D.seen disk)
         → IfErr result (λ refused.
-        RefusesBeginning file (D.faults disk) refused.fault (D.faults refused.disk)) }
+        RefusesBeginning file (D.faults disk) refused.fault (D.faults refused.disk)
+        × (D.length_of refused.disk ≤ 256)) }
     // No other disk is emptied. At any moment of the call, a stage is opened or unchanged, and
     // anything else on the disk is unchanged.
     ensures goes_on { D.is_honest disk → (IsUnmade set_id file (D.seen disk) → ⊥)

@@ -1,11 +1,13 @@
 //! Reports on stages: the contents of a stage, and its records.
-ghost use Rattle.std.specs.Prelude.{◌≡◌, ◌≤◌, ◌⊎◌, ◌++◌, ℕ, List, length, IfOk, IfErr, OnOk};
-ghost use Rattle.std.specs.Prelude.{OnErr, Some, None, false};
+ghost use Rattle.std.specs.Prelude.{◌≡◌, ◌≤◌, ◌++◌, ℕ, List, length, IfOk, IfErr, IsErrOf, OnOk};
+ghost use Rattle.std.specs.Prelude.{OnErr, Some, None, false, true};
 ghost use Rattle.std.specs.Io.KnownBytes.{Appends};
 ghost use Rattle.arrayvec.specs.ArrayVec.{array_vec_len};
 ghost use Rattle.tape_blocks.specs.Block.{Portion};
 ghost use Rattle.tape_blocks.specs.Spans.{join};
+ghost use Rattle.tape_core.specs.Weight.{Rose};
 ghost use Rattle.tape_image.specs.Written.{AppendsFront};
+ghost use Rattle.tape_stage.specs.{OnlyReading.OnlyReads, Stages.Holds};
 ghost use Rattle.tape_tool.specs.StageReport.{stage_line, told_with, ending_of, ending_line};
 ghost use Rattle.tape_tool.specs.StageReport.{EndsInRecords, Shows, StopsShowing, output_in};
 
@@ -17,7 +19,7 @@ use std::io::Write;
 use tape_blocks::Form;
 use tape_core::{Checkpoint, PartWalk};
 use tape_run::text::{put, put_decimal, put_identifier};
-use tape_run::{EngineFault, WriteFailed, flush, last_line, write_file, write_text};
+use tape_run::{WriteFailed, flush, last_line, write_part, write_text};
 use tape_stage::{Disk, Salvage, Stage, StageFault};
 
 /// Prints the file and the number of complete records of the stage on `disk`, and the last line
@@ -28,8 +30,9 @@ use tape_stage::{Disk, Salvage, Stage, StageFault};
 /// With `damaged`, a damaged stage is accepted: its complete records before the damage are used,
 /// and the offset of the damage is printed in place of the missing part.
 ///
-/// The disk is only read. The stage is walked once when it is opened, which reads the headers of
-/// its frames and counts the records; to write the records, it is walked again.
+/// The disk is only read, and is returned in any case. The stage is walked once when it is opened,
+/// which reads the headers of its frames and counts the records; to write the records, it is walked
+/// again.
 ///
 /// # Errors
 ///
@@ -43,15 +46,18 @@ pub fn show_stage<D: Disk + Drop, W: Write, P: Write>(
     form: Option<Form>,
     out: &mut W,
     report: &mut P,
-) -> Result<StageEnding, ToolFault>
-    ensures ok { D.is_honest disk → IfOk result (Shows (D.seen disk) damaged form
+) -> (Result<StageEnding, ToolFault>, D)
+    ensures ok { D.is_honest disk → IfOk result.0 (Shows (D.seen disk) damaged form
         (W.contents out.old) (W.contents out.new) (P.contents report.old) (P.contents report.new)) }
-    ensures err { D.is_honest disk → IfErr result (StopsShowing (D.seen disk) damaged form
+    ensures err { D.is_honest disk → IfErr result.0 (StopsShowing (D.seen disk) damaged form
         (W.contents out.old) (W.contents out.new) (P.contents report.old) (P.contents report.new)) }
+    ensures reads { OnlyReads D.Disk disk result.1 }
+    ensures cause { D.is_honest disk → IsErrOf result.0 (ToolFault.Stage StageFault.Device)
+        → Rose (D.faults disk) (D.faults result.1) }
 {
     let opened = match Stage::open_read_only(alloc, disk) {
         Ok(opened) => opened,
-        Err(refused) => return Err(ToolFault::Stage(refused.fault)),
+        Err(refused) => return (Err(ToolFault::Stage(refused.fault)), refused.disk),
     };
     let Salvage {
         stage,
@@ -62,15 +68,17 @@ pub fn show_stage<D: Disk + Drop, W: Write, P: Write>(
     let mut stage = stage;
     let ending = match ending_at(&point, broken, damaged) {
         Ok(ending) => ending,
-        Err(fault) => return Err(fault),
+        Err(fault) => return (Err(fault), stage.into_disk()),
     };
-    let records = match write_in(&mut stage, records, form, out) {
-        Ok(records) => records,
-        Err(fault) => return Err(fault),
-    };
+    if let Err(fault) = write_in(&mut stage, records, form, out) {
+        return (Err(fault), stage.into_disk());
+    }
     match tell(report, &point, ending, records) {
-        Ok(()) => Ok(ending),
-        Err(_) => Err(ToolFault::File(FileFault::WriteFailed)),
+        Ok(()) => (Ok(ending), stage.into_disk()),
+        Err(_) => {
+            let fault = ToolFault::File(FileFault::WriteFailed);
+            (Err(fault), stage.into_disk())
+        }
     }
 }
 
@@ -97,45 +105,43 @@ fn ending_at(
     }
 }
 
-/// Writes the records of the parts of `sink` if `form` is `Some`, and returns their number, which
-/// is `counted`.
-fn write_in<S: PartWalk, W: Write>(
-    sink: &mut S,
-    counted: u64,
+/// Writes the records of the parts of `stage` if `form` is `Some`. Their number is `records`.
+fn write_in<D: Disk, W: Write>(
+    stage: &mut Stage<D>,
+    records: u64,
     form: Option<Form>,
     out: &mut W,
-) -> Result<u64, ToolFault>
-    ensures ok { IfOk result (λ records. (parts : List Portion) → S.holds sink.old parts
-        → counted ≡ length (join parts).records
-        → (records ≡ length (join parts).records)
-        × Appends (W.contents out.old) (W.contents out.new) (output_in form parts)) }
-    ensures err { OnErr result ((parts : List Portion) → S.holds sink.old parts
+) -> Result<(), ToolFault>
+    ensures ok { OnOk result ((parts : List Portion) → Holds stage.old parts
+        → records ≡ length (join parts).records
+        → Appends (W.contents out.old) (W.contents out.new) (output_in form parts)) }
+    ensures err { OnErr result ((parts : List Portion) → Holds stage.old parts
+        → records ≡ length (join parts).records
         → AppendsFront (W.contents out.old) (W.contents out.new) (output_in form parts)) }
     ensures fault { IfErr result (EndsInRecords form) }
+    ensures reads { OnlyReads D.Disk stage.old.disk stage.new.disk }
+    ensures cause { IsErrOf result (ToolFault.Stage StageFault.Device)
+        → stage.old.readable ≡ true → (parts : List Portion) → Holds stage.old parts
+        → records ≡ length (join parts).records
+        → Rose (D.faults stage.old.disk) (D.faults stage.new.disk) }
 {
-    match form {
-        None => Ok(counted),
-        Some(form) => match write_file(sink, form, out) {
-            Ok(records) => Ok(records),
-            Err(fault) => Err(as_read(fault)),
-        },
+    let Some(form) = form else {
+        return Ok(());
+    };
+    stage.rewind();
+    let mut ended = 0u64;
+    'parts: while ended < records {
+        match stage.next_part() {
+            Ok(Some(part)) => {
+                let leaves = part.span.leaves();
+                write_part(out, part, form)?;
+                ended += u64::from(!leaves);
+            }
+            Ok(None) => return Err(ToolFault::Stage(StageFault::Device)),
+            Err(_) => return Err(ToolFault::Stage(StageFault::Device)),
+        }
     }
-}
-
-/// Returns the program's fault if writing the records failed. If the parts could not be read, it is
-/// a fault of the stage.
-fn as_read(fault: EngineFault) -> ToolFault
-    ensures ends { (result ≡ ToolFault.File FileFault.WriteFailed)
-        ⊎ (result ≡ ToolFault.Stage StageFault.Device) }
-    ensures written { fault ≡ EngineFault.WriteFailed
-        → result ≡ ToolFault.File FileFault.WriteFailed }
-    ensures read { result ≡ ToolFault.File FileFault.WriteFailed
-        → fault ≡ EngineFault.WriteFailed }
-{
-    match fault {
-        EngineFault::WriteFailed => ToolFault::File(FileFault::WriteFailed),
-        EngineFault::Run(_) => ToolFault::Stage(StageFault::Device),
-    }
+    Ok(flush(out)?)
 }
 
 /// Prints the line about the stage, with its file and number of records, and the line about its

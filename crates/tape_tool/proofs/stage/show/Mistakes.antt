@@ -23,10 +23,10 @@ shown_end read n point broken parts is damaged form out written said says ending
 -- damage_told_as_complete: a stage is damaged, but it is reported as intact, with its file complete
 damage_told_as_complete : (D : _) (W : _) (P : _) (LD : _) (LW : _) (LP : _) (g : _) (d : _)
     (h : _) (e : _) (i : _) (j : _) (k : _) (κs : _) (a : _) (s : _) (n : _) (point : _)
-    (parts : _) (place : ℕ)
-    → show_stage.Learnt-named D W P LD LW LP g d h e i j k κs a (Ok (Whole None)) s
+    (parts : _) (place : ℕ) (left : _)
+    → show_stage.Learnt-named D W P LD LW LP g d h e i j k κs a (Ok (Whole None), left) s
     → g.is_honest a.1.0 → Remains (g.seen a.1.0) n point (Some place) parts → ⊥
-damage_told_as_complete D W P LD LW LP g d h e i j k κs a s n point parts place l honest is =
+damage_told_as_complete D W P LD LW LP g d h e i j k κs a s n point parts place left l honest is =
     absurd (let e : Whole None ≡ Broken place
     = shown_end (g.seen a.1.0) n point (Some place) parts is a.1.1.0 a.1.1.1.0 _ _ _ _ (Whole None)
     (l.ok honest) in cc)

@@ -1,4 +1,4 @@
-use Rattle.std.proofs.Common.{ℕ, List, subst, ⊎_elim}
+use Rattle.std.proofs.Common.{ℕ, List, length, ap, arith, rules, subst, ⊎_elim}
 use Rattle.std.proofs.lemmas.Bool.Decides.{eqb_tells}
 use Rattle.tape_stage.specs.Staged.{Staged}
 use Rattle.tape_stage.proofs.{Remaining.none_staged, Results.if_err, Results.if_ok}
@@ -46,3 +46,29 @@ returns-then-not-unmade-clause-refused g c honest made =
     if_err c.open_session.result (λ refused refuses. read_then g.D.Disk c.args.disk
     c.is_unmade.new.disk reads honest c.args.set_id c.args.file refused.fault refused.disk refuses)
     (c.open_session.ensures.refused h1 some)
+
+-- ---- a disk that was not emptied is no longer than before
+
+pub returns-in_default-clause-begins_not : goal.returns-in_default-clause-begins_not
+returns-in_default-clause-begins_not g c honest valid made = (
+  search rules,
+  omega (
+    arith,
+    c.is_unmade.ensures.reads.same_length,
+    g.met.D.Disk.long_as_seen c.args.disk honest,
+    made.few,
+  ),
+)
+
+pub returns-in-Err-clause-begins_not : goal.returns-in-Err-clause-begins_not
+returns-in-Err-clause-begins_not g c honest valid made =
+    let h1 = c.is_unmade.ensures.honest honest in (
+      search rules,
+      omega (
+        arith,
+        (c.in-Err.ensures.partly h1).no_longer,
+        g.met.D.Disk.long_as_seen c.cut.new.self (c.cut.ensures.honest.onward h1),
+        ap length (c.is_unmade.ensures.reads.same honest),
+        made.few,
+      ),
+    )
