@@ -10,4 +10,3 @@ mod orders;
 mod seen;
 mod staging;
 mod unpack_program;
-mod words;

@@ -1,104 +1,142 @@
-//! Scripts: runs of the program with a command line, and the files before and after them. The tests
-//! share a directory, so each file has a name of its own.
+//! Scripts: runs of the program with a command line, and the files before and after them. Each test
+//! has a directory of its own.
 //!
 //! Each line of a script is a step, after any spaces. FILE is a path, and TEXT the rest of the
 //! line, in which a backslash and two hexadecimal digits represent a byte. A line that begins with
 //! `#` is a comment.
 //!
 //! - `N: LINE` runs the program with the arguments LINE, and checks that it ends with status N, or
-//!   with the fault N, as the line about the fault names it.
-//! - `$ LINE` runs it, too. The next lines are its results: `> TEXT` a line of output, or `> ..`
-//!   any output, `! TEXT` a line of errors, or `~ TEXT` a text in the errors, which are then not
-//!   compared, `[N]` the exit status if it is not 0, and `? FILE ..` the files that it opens, each
-//!   with `?` if that fails. Without a line `?` they are not compared. `* ODD` makes the system
-//!   peculiar: see `odd_of`.
-//! - `folder FILE`, `put FILE TEXT`, `fill FILE COUNT TEXT`, `link FILE TARGET` and
-//!   `name FILE OTHER` create a directory, a file, a file of so many copies of the text, a link and
-//!   a second name. `remove FILE` removes a file, if it exists; `allow FILE MODE` sets its
-//!   permissions, and `cut FILE LENGTH` its length.
-//! - `worked FILE`, or `worked FILE LENGTH`, creates the example image, or its first bytes,
+//!   with the fault N, as the line about the fault names it. `N: LINE | LINE ..` does so for each
+//!   LINE. `N$ LINE` checks all output and errors, too, and `$ LINE` the same for status 0.
+//! - The next lines are further results: `> TEXT` a line of output, or `> ..` any output,
+//!   `| TEXT` a text in the output, `! TEXT` a line of errors after that about the fault, or
+//!   `~ TEXT` a text in the errors, which are then not compared, and `? FILE ..` the files that
+//!   it opens, each with `?` if that fails. Without a line `?` they are not compared. `* ODD`
+//!   makes the system peculiar: see `odd_of`.
+//! - `folder FILE ..`, `put FILE TEXT`, `fill FILE COUNT TEXT`, `link FILE TARGET` and
+//!   `name FILE OTHER` create directories, a file, a file of so many copies of the text, a link and
+//!   a second name. `remove FILE` removes a file; `allow FILE MODE` sets its permissions, and
+//!   `cut FILE LENGTH` its length.
+//! - `worked FILE ..` creates the example image, `front FILE LENGTH` its first bytes,
 //!   `damaged FILE BLOCK` an image with an unreadable block, `lost FILE` one without its second
 //!   block, `first FILE` and `second FILE` the volumes of the example file on two, `records FILE`
 //!   its records, and `second_file FILE` a volume without the first file of its set.
-//! - `has FILE TEXT`, `at FILE OFFSET TEXT`, `length FILE COUNT`, `is_worked FILE`, `missing FILE`
-//!   and `allowed FILE MODE` check the contents of a file, the bytes at an offset, the length, that
-//!   it is the example image or does not exist, and its permissions.
+//! - `has FILE TEXT`, `at FILE OFFSET TEXT`, `length FILE COUNT`, `is_worked FILE`,
+//!   `missing FILE ..` and `allowed FILE MODE` check the contents of a file, the bytes at an
+//!   offset, the length, that it is the example image or does not exist, and its permissions.
 
 use super::fake_system::{Odd, called};
-use super::image::{
-    Image, damaged, first_of_two, lost, payroll, second_file, second_of_two, worked,
-};
+use super::image::{example, payroll};
 use std::alloc::{AllocError, Global};
-use std::fs;
 use std::fs::{File, OpenOptions, Permissions};
 use std::io::{ErrorKind, Write};
 use std::os::unix;
 use std::os::unix::fs::PermissionsExt;
 use std::test::Fail;
+use std::{env, fs};
 
 /// A run, and its expected results.
 #[derive(Drop)]
 struct Run<'a> {
-    line: &'a str,
+    /// The arguments of the run, or of several ones, separated by ` | `.
+    lines: &'a str,
     odd: Odd<'a>,
     status: &'a str,
     out: String,
     told: String,
-    parts: Vec<&'a str>,
+    /// Texts in the errors or, if false, in the output.
+    parts: Vec<(bool, &'a str)>,
     opened: Option<&'a str>,
-    has_any_output: bool,
+    /// Whether all output, and all errors, are compared.
+    is_out_compared: bool,
+    is_told_compared: bool,
 }
 
 impl<'a> Run<'a> {
-    fn new(alloc: Global, line: &'a str) -> Run<'a> {
-        Run {
-            line,
+    /// Returns the run in the line `step` of a script, or `None` if it is another step.
+    fn new(alloc: Global, step: &'a str) -> Result<Option<Run<'a>>, AllocError> {
+        let whole = step.split_once("$ ");
+        let Some((wanted, lines)) = whole.or(step.split_once(": ")) else {
+            return Ok(None);
+        };
+        let is_fault = wanted.contains(" fault ");
+        let mut told = String::new(alloc);
+        let status = match wanted {
+            _ if is_fault => {
+                told.push_str("tape: ")?;
+                push_line(&mut told, wanted)?;
+                "1"
+            }
+            "" => "0",
+            _ if wanted.len() > 1 => return Ok(None),
+            status => status,
+        };
+        Ok(Some(Run {
+            lines,
             odd: Odd::Nothing,
-            status: "[0]",
+            status,
             out: String::new(alloc),
-            told: String::new(alloc),
+            told,
             parts: Vec::new(alloc),
             opened: None,
-            has_any_output: false,
-        }
+            is_out_compared: whole.is_some(),
+            is_told_compared: whole.is_some() || is_fault,
+        }))
     }
 
     /// Adds the expected result in a line of the script. Returns false if the line is another step.
     fn expect(&mut self, word: &'a str, text: &'a str) -> Result<bool, AllocError> {
         match word {
-            ">" if text == ".." => self.has_any_output = true,
+            ">" if text == ".." => self.is_out_compared = false,
             ">" => push_line(&mut self.out, text)?,
-            "!" => push_line(&mut self.told, text)?,
-            "~" => self.parts.push(text)?,
+            "|" => self.parts.push((false, text))?,
+            "!" => {
+                self.is_told_compared = true;
+                push_line(&mut self.told, text)?;
+            }
+            "~" => {
+                self.is_told_compared = false;
+                self.parts.push((true, text))?;
+            }
             "?" => self.opened = Some(text),
             "*" => self.odd = odd_of(text),
-            word if word.starts_with('[') => self.status = word,
             _ => return Ok(false),
         }
         Ok(true)
     }
 
-    /// Runs the program, and fails unless it has the expected results.
-    fn check(&self, rt: &HostRuntime) -> Result<(), Fail> {
-        let seen = called(rt, self.line, self.odd)?;
-        let status = format!(in rt.alloc(); "[{}]", seen.status)?;
-        let has_output = self.has_any_output || seen.out.as_str() == self.out.as_str();
+    /// Runs the program with the arguments in `line`, and fails unless it has the expected results.
+    fn check_one(&self, rt: &HostRuntime, line: &str) -> Result<(), Fail> {
+        let seen = called(rt, line, self.odd)?;
+        let status = format!(in rt.alloc(); "{}", seen.status)?;
+        let (out, told) = (seen.out.as_str(), seen.told.as_str());
         let is_opened = match self.opened {
             Some(paths) => seen.opened.as_str().trim_end() == paths,
             None => true,
         };
-        let (told, wanted) = (seen.told.as_str(), self.told.as_str());
-        let mut is_told = !self.parts.is_empty() || told.trim_end() == wanted.trim_end();
-        for part in self.parts.as_slice() {
-            is_told = is_told && told.contains(*part);
+        let is_out = !self.is_out_compared || out == self.out.as_str();
+        let is_told = !self.is_told_compared || told.trim_end() == self.told.as_str().trim_end();
+        let mut has_parts = true;
+        for (is_error, part) in self.parts.as_slice() {
+            has_parts = has_parts && (if *is_error { told } else { out }).contains(*part);
         }
-        if status.as_str() == self.status && has_output && is_told && is_opened {
+        let is_ended = seen.status != 1 || told.ends_with('\n');
+        let is_status = status.as_str() == self.status && is_ended;
+        if is_status && is_out && is_told && has_parts && is_opened {
             return Ok(());
         }
         Err(Fail::from(format!(in rt.alloc();
             "{}: {status}\n{}{}{}",
-            self.line, seen.out, seen.told, seen.opened
+            line, seen.out, seen.told, seen.opened
         )?))
+    }
+
+    /// Runs the program with each of the lines.
+    fn check(&self, rt: &HostRuntime) -> Result<(), Fail> {
+        for line in self.lines.split(" | ") {
+            self.check_one(rt, line)?;
+        }
+        Ok(())
     }
 }
 
@@ -138,6 +176,13 @@ fn push_line(page: &mut String, text: &str) -> Result<(), AllocError> {
     page.push('\n')
 }
 
+/// Creates the directory `folder`, and executes the steps of `script` there, as `follow` does.
+pub fn follow_in(rt: &HostRuntime, folder: &str, script: &str) -> Result<(), Fail> {
+    fs::create_dir(rt, folder)?;
+    env::set_current_dir(rt, folder)?;
+    follow(rt, script)
+}
+
 /// Executes the steps of `script` in order, and fails unless each has its expected result.
 pub fn follow(rt: &HostRuntime, script: &str) -> Result<(), Fail> {
     let mut run: Option<Run<'_>> = None;
@@ -151,11 +196,12 @@ pub fn follow(rt: &HostRuntime, script: &str) -> Result<(), Fail> {
             run.check(rt)?;
         }
         run = None;
-        match word {
-            "" | "#" => {}
-            "$" => run = Some(Run::new(rt.alloc(), rest)),
-            _ if take(rt, line, word, rest)? => {}
-            _ => return Err(Fail::from(line.to_string(rt.alloc())?)),
+        if word.is_empty() || word == "#" {
+            continue;
+        }
+        run = Run::new(rt.alloc(), line)?;
+        if run.is_none() && !take(rt, word, rest)? {
+            return Err(Fail::from(line.to_string(rt.alloc())?));
         }
     }
     match &run {
@@ -164,58 +210,49 @@ pub fn follow(rt: &HostRuntime, script: &str) -> Result<(), Fail> {
     }
 }
 
-/// Executes the step `line`, which consists of `word` and `rest`. Returns whether it had its
-/// expected result.
-fn take(rt: &HostRuntime, line: &str, word: &str, rest: &str) -> Result<bool, Fail> {
+/// Executes a step other than a run. Returns whether it had its expected result.
+fn take(rt: &HostRuntime, word: &str, rest: &str) -> Result<bool, Fail> {
     let alloc = rt.alloc();
     let (path, text) = rest.split_once(' ').unwrap_or((rest, ""));
     let number = text.parse::<usize>().unwrap_or(usize::MAX);
     match word {
-        "folder" => Ok(fs::create_dir(rt, path).is_ok()),
+        "folder" => Ok(rest.split(' ').all(|path| fs::create_dir(rt, path).is_ok())),
         "put" => put(rt, path, bytes_of(alloc, text)?.as_slice()),
         "fill" => fill(rt, path, text),
         "link" => Ok(unix::fs::symlink(rt, text, path).is_ok()),
         "name" => Ok(fs::hard_link(rt, text, path).is_ok()),
-        "remove" => {
-            let _ = fs::remove_file(rt, path);
-            Ok(true)
-        }
+        "remove" => Ok(fs::remove_file(rt, path).is_ok()),
         "allow" => Ok(fs::set_permissions(rt, path, mode_of(text)).is_ok()),
         "cut" => {
             let file = OpenOptions::new().write(true).open(rt, path)?;
             Ok(file.set_len(number as u64).is_ok())
         }
-        "worked" => put_image(rt, path, &worked(alloc)?.cut(number)),
-        "damaged" => put_image(rt, path, &damaged(alloc, number)?),
-        "lost" => put_image(rt, path, &lost(alloc)?),
-        "first" => put_image(rt, path, &first_of_two(alloc)?),
-        "second" => put_image(rt, path, &second_of_two(alloc)?),
-        "second_file" => put_image(rt, path, &second_file(alloc)?),
+        "worked" => {
+            let bytes = example(alloc, word, 0)?.bytes;
+            for path in rest.split(' ') {
+                put(rt, path, bytes.as_slice())?;
+            }
+            Ok(true)
+        }
+        "front" => {
+            let bytes = example(alloc, word, 0)?.bytes;
+            put(rt, path, bytes.as_slice().get(..number).unwrap_or(&[]))
+        }
+        "damaged" | "lost" | "first" | "second" | "second_file" => {
+            put(rt, path, example(alloc, word, number)?.bytes.as_slice())
+        }
         "records" => put(rt, path, payroll(alloc)?.as_slice()),
         "has" => holds(rt, path, bytes_of(alloc, text)?.as_slice()),
         "at" => has_text(rt, path, text),
         "length" => Ok(fs::read(rt, path)?.len() == number),
-        "is_worked" => holds(rt, path, worked(alloc)?.bytes.as_slice()),
-        "missing" => Ok(fs::read(rt, path).is_err()),
+        "is_worked" => holds(rt, path, example(alloc, word, 0)?.bytes.as_slice()),
+        "missing" => Ok(rest.split(' ').all(|path| fs::read(rt, path).is_err())),
         "allowed" => {
             let mode = fs::metadata(rt, path)?.permissions().mode() & 0o7777;
             Ok(mode == mode_of(text).mode())
         }
-        _ => ends(rt, line),
+        _ => Ok(false),
     }
-}
-
-/// Runs the program as in `line`, and returns whether it ends as the line says.
-fn ends(rt: &HostRuntime, line: &str) -> Result<bool, Fail> {
-    let Some((wanted, words)) = line.split_once(": ") else {
-        return Err(Fail::from("a step that is none"));
-    };
-    let seen = called(rt, words, Odd::Nothing)?;
-    let found = match seen.status {
-        1 => seen.told,
-        status => format!(in rt.alloc(); "tape: {status}\n")?,
-    };
-    Ok(found.as_str() == format!(in rt.alloc(); "tape: {wanted}\n")?.as_str())
 }
 
 /// Returns `text` with the bytes that it represents.
@@ -253,10 +290,6 @@ fn fill(rt: &HostRuntime, path: &str, text: &str) -> Result<bool, Fail> {
         bytes.extend_from_slice(piece.as_slice())?;
     }
     put(rt, path, bytes.as_slice())
-}
-
-fn put_image(rt: &HostRuntime, path: &str, image: &Image) -> Result<bool, Fail> {
-    put(rt, path, image.bytes.as_slice())
 }
 
 /// Returns whether the contents of the file at `path` are exactly `bytes`.

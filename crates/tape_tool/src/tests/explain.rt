@@ -1,6 +1,6 @@
 //! Tests of the explanations that `--explain` prints after the line of a fault, and of what is
 //! missing.
-use super::calls::follow;
+use super::calls::follow_in;
 use crate::explain::{Explanation, FaultSite};
 use crate::fault::{OUT_OF_MEMORY, ToolFault};
 use std::test::Fail;
@@ -10,81 +10,62 @@ use tape_run::RunFault;
 /// Runs that end with a fault: the line about its site, and the beginning of its explanation.
 const SITES: &str = "
     worked told.tap
-    worked told_cut.tap 2000
+    front told_cut.tap 2000
     damaged told_bad.tap 1
     put told.gz \\1F\\8B\\08\\00
     0: init . TLD 1
     put told.stage no stage
     folder told
     put told/ABC001.1.PAYROLL.stage no stage
-    $ list --explain told_cut.tap
-    > ..
+    1: list --explain told_cut.tap
     ~   Image: told_cut.tap
     ~   The image ends in the middle of a block: it was cut off.
-    [1]
-    $ --explain list lost.tap
+    1$ --explain list lost.tap
     ~   Image: lost.tap: No such file or directory
     ~   The image could not be opened.
-    [1]
-    $ list a\u{9b} --explain
+    1$ list a\u{9b} --explain
     ~   Image: a\\u009B: No such
-    [1]
-    $ list told --explain
+    1$ list told --explain
     ~   Image: told: Is a directory
     ~   This is a directory, not an image.
-    [1]
-    $ list told.tap --explain
+    1$ list told.tap --explain
     * full
     ~   Output: standard output
     ~   Output failed: the disk is full,
-    [1]
-    $ init . TLD 1 --explain
+    1$ init . TLD 1 --explain
     ~   Image: ./TLD001.tap
     ~   The image already exists; it was not changed.
-    [1]
-    $ write . TLD 100000 A=told.tap Ab=told.tap --explain
+    1$ write . TLD 100000 A=told.tap Ab=told.tap --explain
     ~   Input: Ab=told.tap
-    [1]
-    $ write none TLD 100000 A=told.stage --explain
+    1$ write none TLD 100000 A=told.stage --explain
     ~   DIR: none
     ~   An image or an input could not be opened or created.
-    [1]
-    $ extract ABC001 1 told.tap lost.tap --explain
+    1$ extract ABC001 1 told.tap lost.tap --explain
     ~   OUT: told.tap
     ~   OUT already exists and might be a tape image,
-    [1]
-    $ check told.tap --files-from lost.names --explain
+    1$ check told.tap --files-from lost.names --explain
     ~   List: lost.names
-    [1]
-    $ extract ABC001 1 told.txt --files-from . --explain
+    1$ extract ABC001 1 told.txt --files-from . --explain
     ~   List: .
-    [1]
-    $ extract ABC001 1 told.txt told.tap --stage told.stage --explain
+    1$ extract ABC001 1 told.txt told.tap --stage told.stage --explain
     ~   Stage: told.stage
     ~   This is not a stage, and it was not changed.
-    [1]
-    $ extract ABC001 1 lost/told.txt told.tap --explain
-    > ..
+    1: extract ABC001 1 lost/told.txt told.tap --explain
     ~   OUT: lost/told.txt
-    [1]
-    $ unpack lost told.tap --explain
+    1$ unpack lost told.tap --explain
     ~   DIR: lost
-    [1]
-    $ unpack told told_bad.tap --explain
-    > ..
+    1: unpack told told_bad.tap --explain
     ~   Stage: the path reported as FAILED, with .stage after it
     ~   This is not a stage, and it was not changed.
-    [1]
-    $ unpack told lost.tap --explain
+    1$ unpack told lost.tap --explain
     * full
     ~   DIR: told
     ~   Writing to DIR or standard output failed:
-    [1]
 ";
 
 #[test]
 fn faults_have_their_places(rt: HostRuntime) -> Result<(), Fail> {
-    follow(&rt, SITES)
+    follow_in(&rt, "sites", SITES)
 }
 
 /// The fault of a gzip file.
@@ -137,60 +118,44 @@ const MISSING: &str = "
     first missing1.tap
     second missing2.tap
     put missing_noise.txt noise that is not an image
-    $ extract DEF001 1 missing.txt missing1.tap --explain
-    > ..
+    3: extract DEF001 1 missing.txt missing1.tap --explain
     !   REEL 1: missing1.tap
     !   No label of set DEF001 was found on these images.
     !   Sets found: ABC001.
     !   Give one of them as SET, or add the images of set DEF001.
-    [3]
-    $ extract ABC001 1 missing.txt missing_noise.txt --explain
-    > ..
+    3: extract ABC001 1 missing.txt missing_noise.txt --explain
     !   REEL 1: missing_noise.txt
     !   No file of any set was found on these images.
     !   'tape survey' says what they are.
-    [3]
-    $ extract ABC001 2 missing.txt missing1.tap --explain
-    > ..
+    3: extract ABC001 2 missing.txt missing1.tap --explain
     !   REEL 1: missing1.tap
     !   No label of this file was found. Files of set ABC001 on these images:
     !   1.
     !   'tape survey' prints their names.
-    [3]
-    $ extract ABC001 1 missing.txt missing1.tap --explain
-    > ..
+    3: extract ABC001 1 missing.txt missing1.tap --explain
     !   REEL 1: missing1.tap
     !   Section 2 of file 1 is on no image. It follows section 1 on
     !   volume ABC001, image missing1.tap.
     !   Look for the reel that comes after that one.
-    [3]
-    $ salvage ABC001 1 missing.txt missing2.tap --explain
-    > ..
+    3: salvage ABC001 1 missing.txt missing2.tap --explain
     !   Section 1 of file 1 is on no image: look for the reel with its
     !   beginning. 'tape survey' shows which volumes were found.
-    [3]
-    $ extract ABC001 1 missing.txt missing2.tap missing1.tap --explain
-    > ..
+    3: extract ABC001 1 missing.txt missing2.tap missing1.tap --explain
     !   REEL 1: missing2.tap
     !   REEL 2: missing1.tap
     !   Each section of the file is complete on some image. With --again, tape reads
     !   the images until they yield nothing more, and their order does not matter.
-    [3]
-    $ unpack . missing1.tap --set DEF001 --explain
-    > ..
+    3: unpack . missing1.tap --set DEF001 --explain
     !   No label of set DEF001 was found on these images.
     !   Sets found: ABC001.
     !   Give one of them as SET, or add the images of set DEF001.
-    [3]
-    $ check missing1.tap --explain
-    > ..
+    3: check missing1.tap --explain
     !   Each line LACKS names a set, a file and its first section that is complete on
     !   no image: look for another copy of that section. Without such a line, no
     !   section was found at all. 'tape survey' shows what the images are.
-    [3]
 ";
 
 #[test]
 fn missing_parts_are_explained(rt: HostRuntime) -> Result<(), Fail> {
-    follow(&rt, MISSING)
+    follow_in(&rt, "missing", MISSING)
 }

@@ -1,5 +1,5 @@
 //! Tests of `extract` and `stage`: files, and exit statuses.
-use super::calls::{follow, holds, put};
+use super::calls::{follow, follow_in, holds, put};
 use std::test::Fail;
 
 const FILES: &str = "
@@ -9,7 +9,7 @@ const FILES: &str = "
     0: extract --form raw ABC001 1 got.txt lost.tap got.tap lost.tap
     length got.txt 2000
     # While something is missing, an existing output is unchanged, and a new one is not created.
-    worked part.tap 2288
+    front part.tap 2288
     put stays.txt kept
     3: extract ABC001 1 stays.txt part.tap
     has stays.txt kept
@@ -20,16 +20,11 @@ const FILES: &str = "
     file fault 2: extract ABC001 1 missing/no.txt made.tap
     # Files that a typing error would destroy are unchanged: the stage, the images under any name,
     # and an image whose name does not end in `.tap`.
-    worked only.tap
-    worked other.tap
-    remove linked.tap
+    worked only.tap other.tap
     link linked.tap only.tap
-    remove named.tap
     name named.tap only.tap
-    2: extract ABC001 1 only.tap only.tap
-    2: extract ABC001 1 ./only.tap other.tap only.tap
-    2: extract ABC001 1 linked.tap only.tap
-    2: extract ABC001 1 only.tap linked.tap
+    2: extract ABC001 1 only.tap only.tap | extract ABC001 1 ./only.tap other.tap only.tap
+    2: extract ABC001 1 linked.tap only.tap | extract ABC001 1 only.tap linked.tap
     2: extract ABC001 1 named.tap only.tap
     # This also holds if a list contains the name, and for the list itself.
     put only.names other.tap\\0Aonly.tap
@@ -37,16 +32,14 @@ const FILES: &str = "
     2: extract ABC001 1 ./only.names other.tap --files-from only.names
     has only.names other.tap\\0Aonly.tap
     # OUT is forgotten.
-    file fault 1: extract ABC001 1 only.tap other.tap
-    file fault 1: extract ABC001 1 linked.tap other.tap
+    file fault 1: extract ABC001 1 only.tap other.tap | extract ABC001 1 linked.tap other.tap
     is_worked only.tap
     is_worked other.tap
     # A file that is named like an image but is not one, and one whose name only resembles that of
     # an image.
     put damaged.tap \\01
     put damaged.TAP \\01
-    file fault 1: extract ABC001 1 damaged.tap only.tap
-    file fault 1: extract ABC001 1 damaged.TAP only.tap
+    file fault 1: extract ABC001 1 damaged.tap only.tap | extract ABC001 1 damaged.TAP only.tap
     has damaged.TAP \\01
     put empty.tap
     0: extract ABC001 1 empty.tap only.tap
@@ -54,11 +47,10 @@ const FILES: &str = "
     put tap \\01
     0: extract ABC001 1 tap only.tap
     length tap 2025
-    remove tap
     # The draft beside the output takes the output's name or is removed, and no other file is
     # affected.
     worked whole.tap
-    worked front.tap 2288
+    front front.tap 2288
     # The draft of a run that was killed is removed.
     put .tape-1.part another
     put kept.txt kept
@@ -73,7 +65,6 @@ const FILES: &str = "
     missing .tape-1.part
     # If the output is a link, its target is written.
     put behind.txt kept
-    remove before.txt
     link before.txt behind.txt
     0: extract ABC001 1 before.txt whole.tap
     length behind.txt 2025
@@ -82,14 +73,12 @@ const FILES: &str = "
     file fault 4: extract ABC001 1 /dev/full whole.tap
     0: extract ABC001 1 /dev/null whole.tap
     # Invalid command lines of `extract`.
-    2: extract
-    2: extract ABC001 1 out.txt
-    2: extract --form records ABC001 1 out.txt a.tap
+    2: extract | extract ABC001 1 out.txt | extract --form records ABC001 1 out.txt a.tap
 ";
 
 #[test]
 fn files(rt: HostRuntime) -> Result<(), Fail> {
-    follow(&rt, FILES)
+    follow_in(&rt, "files", FILES)
 }
 
 /// The first bytes of files that might be tapes: images, compressed files, archives and stages.
@@ -121,7 +110,7 @@ const PLAIN: &[&[u8]] = &[
 
 #[test]
 fn what_may_keep_a_tape_is_never_the_output(rt: HostRuntime) -> Result<(), Fail> {
-    follow(&rt, "worked held.tap")?;
+    follow_in(&rt, "held", "worked held.tap")?;
     for bytes in KEPT {
         put(&rt, "kept.bin", *bytes)?;
         follow(&rt, "file fault 1: extract ABC001 1 kept.bin held.tap")?;
@@ -142,12 +131,10 @@ const AGAIN: &str = "
     damaged second_bad.tap 2
     3: extract ABC001 1 out.txt first_bad.tap second_bad.tap
     3: extract ABC001 1 out.txt second_bad.tap --again
-    missing out.txt
-    missing .tape-1.part
+    missing out.txt .tape-1.part
     0: extract ABC001 1 out.txt first_bad.tap second_bad.tap --again
     length out.txt 2025
     at out.txt 1944 0025 \\20
-    remove a.stage
     0: extract ABC001 1 out.txt first_bad.tap second_bad.tap --form raw --again --stage a.stage
     length out.txt 2000
     length a.stage 2381
@@ -163,17 +150,15 @@ const AGAIN: &str = "
 
 #[test]
 fn images_are_read_again(rt: HostRuntime) -> Result<(), Fail> {
-    follow(&rt, AGAIN)
+    follow_in(&rt, "again", AGAIN)
 }
 
 const STAGED: &str = "
     damaged monday.tap 3
     damaged tuesday.tap 1
-    remove days.stage
-    $ extract ABC001 1 days.txt monday.tap --stage days.stage
+    3$ extract ABC001 1 days.txt monday.tap --stage days.stage
     > REEL 1 BAD ITEM
     > AWAITS 1 1 3
-    [3]
     length days.stage 1531
     missing .tape-1.part
     0: extract ABC001 1 days.txt tuesday.tap --stage days.stage
@@ -190,7 +175,6 @@ const STAGED: &str = "
     # A stage of the file at its start, and complete: `D` means done; the record format and the
     # record length follow.
     worked once.tap
-    remove once.stage
     3: extract ABC001 1 once.txt lost.tap --stage once.stage
     length once.stage 256
     at once.stage 0 O000000000000001TPCK2ABC001
@@ -203,7 +187,6 @@ const STAGED: &str = "
     # A reel that lost a block, before a good reel and alone: none of its data is in the stage.
     lost doubt.tap
     worked sure.tap
-    remove doubt.stage
     3: extract ABC001 1 doubt.txt doubt.tap --stage doubt.stage
     length doubt.stage 256
     missing doubt.txt
@@ -213,7 +196,6 @@ const STAGED: &str = "
     at doubt.txt 810 0011 \\20
     # A stage of file 1 of the set ABC001, and files that are not stages: all are unchanged.
     damaged refused.tap 3
-    remove refused.stage
     3: extract ABC001 1 refused.txt refused.tap --stage refused.stage
     run fault 5: extract ABC001 2 refused.txt refused.tap --stage refused.stage
     run fault 5: extract ABC00 1 refused.txt refused.tap --stage refused.stage
@@ -257,5 +239,5 @@ const STAGED: &str = "
 
 #[test]
 fn stages_and_outputs(rt: HostRuntime) -> Result<(), Fail> {
-    follow(&rt, STAGED)
+    follow_in(&rt, "staged", STAGED)
 }

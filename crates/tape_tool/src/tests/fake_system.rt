@@ -1,9 +1,8 @@
 //! The program in a fake system, which provides its arguments and standard input, an image of one
 //! mark, and records its output and the files that it opens. Files and memory are those of the real
 //! system, except that an image named `FUL001.tap` accepts no bytes.
-use super::words::words_of;
 use crate::program::run_on;
-use std::alloc::{Allocator, Global};
+use std::alloc::{AllocError, Allocator, Global};
 use std::cell::{Cell, RefCell};
 use std::env::{Env, FillError};
 use std::fmt::Display;
@@ -256,6 +255,17 @@ impl Alloc for FakeSystem<'_> {
 }
 
 impl Runtime for FakeSystem<'_> {}
+
+/// Returns the arguments in `line`, after the program's name. Two quotes represent an empty
+/// argument.
+pub fn words_of(alloc: Global, line: &str) -> Result<Vec<String>, AllocError> {
+    let mut words = Vec::new(alloc);
+    words.push(String::from_str(alloc, "out/tape_tool")?)?;
+    for word in line.split_whitespace() {
+        words.push(String::from_str(alloc, if word == "''" { "" } else { word })?)?;
+    }
+    Ok(words)
+}
 
 /// The text that removes the line from the terminal.
 const CLEARED: &str = "\r                                                            \r";

@@ -12,12 +12,6 @@ pub struct Image {
 }
 
 impl Image {
-    /// Returns the image truncated to its first `length` bytes.
-    pub fn cut(mut self, length: usize) -> Image {
-        self.bytes.truncate(length);
-        self
-    }
-
     fn word(&mut self, word: &[u8; 4]) -> Result<(), AllocError> {
         self.bytes.extend_from_slice(word)
     }
@@ -95,63 +89,62 @@ fn volume(
 /// The number of no block.
 const NONE: usize = usize::MAX;
 
-/// Returns the example volume: 25 records of 80 characters in blocks of 800, 2,484 bytes.
-pub fn worked(alloc: Global) -> Result<Image, AllocError> {
-    volume(alloc, &[VOL1, HDR1, HDR2], false, NONE, &[], &[EOF1, EOF2])
-}
-
-/// Returns the example volume without its second block, which its trailer label still counts.
-pub fn lost(alloc: Global) -> Result<Image, AllocError> {
-    volume(alloc, &[VOL1, HDR1, HDR2], false, NONE, &[1], &[EOF1, EOF2])
-}
-
-/// Returns a volume of the 25 example records in blocks of 400. Block `bad` is unreadable.
-pub fn damaged(alloc: Global, bad: usize) -> Result<Image, AllocError> {
-    let headers = [
+/// Returns the example volume, 2,484 bytes with 25 records of 80 characters in blocks of 800, or a
+/// variant of it, as a script names it:
+///
+/// - `lost` is without its second block, which its trailer label still counts;
+/// - `damaged` has the records in blocks of 400, of which block `bad` is unreadable;
+/// - `first` has no room for the end-of-file labels, and `second` is the volume after it, with an
+///   empty section;
+/// - `second_file` has only the second file of its set, without records.
+pub fn example(alloc: Global, name: &str, bad: usize) -> Result<Image, AllocError> {
+    let head = [VOL1, HDR1, HDR2];
+    let head_400 = [
         VOL1,
         HDR1,
         "HDR2F0040000080                                   00",
     ];
-    let trailers = [
+    let tail_400 = [
         "EOF1PAYROLL          ABC00100010001000100 00000 00000 000005",
         "EOF2F0040000080                                   00",
     ];
-    volume(alloc, &headers, true, bad, &[], &trailers)
-}
-
-/// Returns the example file on a volume that has no room for the end-of-file labels: three blocks,
-/// and end-of-volume labels.
-pub fn first_of_two(alloc: Global) -> Result<Image, AllocError> {
-    let trailers = [
+    let tail_of_first = [
         "EOV1PAYROLL          ABC00100010001000100 00000 00000 000003",
         "EOV2F0080000080                                   00",
     ];
-    volume(alloc, &[VOL1, HDR1, HDR2], false, NONE, &[], &trailers)
-}
-
-/// Returns the second volume of the example file: an empty section, and the end-of-file labels.
-pub fn second_of_two(alloc: Global) -> Result<Image, AllocError> {
-    let headers = [
+    let head_of_second = [
         "VOL1ABC002                                                                     4",
         "HDR1PAYROLL          ABC00100020001000100 00000 00000 000000",
         HDR2,
     ];
-    let trailer = "EOF1PAYROLL          ABC00100020001000100 00000 00000 000000";
-    volume(alloc, &headers, false, NONE, &[0, 1, 2], &[trailer, EOF2])
-}
-
-/// Returns a volume with only the second file of its set, which has no records.
-pub fn second_file(alloc: Global) -> Result<Image, AllocError> {
-    let header = "HDR1LEDGER           ABC00100010002000100 00000 00000 000000";
-    let trailer = "EOF1LEDGER           ABC00100010002000100 00000 00000 000000";
-    volume(
-        alloc,
-        &[VOL1, header, HDR2],
-        false,
-        NONE,
-        &[0, 1, 2],
-        &[trailer, EOF2],
-    )
+    let eof_of_second = "EOF1PAYROLL          ABC00100020001000100 00000 00000 000000";
+    let hdr_of_file = "HDR1LEDGER           ABC00100010002000100 00000 00000 000000";
+    let eof_of_file = "EOF1LEDGER           ABC00100010002000100 00000 00000 000000";
+    let none = &[0, 1, 2];
+    match name {
+        "lost" => volume(alloc, &head, false, NONE, &[1], &[EOF1, EOF2]),
+        "damaged" => volume(alloc, &head_400, true, bad, &[], &tail_400),
+        "first" => volume(alloc, &head, false, NONE, &[], &tail_of_first),
+        "second" => volume(
+            alloc,
+            &head_of_second,
+            false,
+            NONE,
+            none,
+            &[eof_of_second, EOF2],
+        ),
+        "second_file" => {
+            volume(
+                alloc,
+                &[VOL1, hdr_of_file, HDR2],
+                false,
+                NONE,
+                none,
+                &[eof_of_file, EOF2],
+            )
+        }
+        _ => volume(alloc, &head, false, NONE, &[], &[EOF1, EOF2]),
+    }
 }
 
 /// Returns the 25 records of the example volume. Record i consists of i in four digits and 76

@@ -1,34 +1,20 @@
 //! Tests of the commands that read images or create them: files, and exit statuses.
-use super::calls::follow;
+use super::calls::follow_in;
 use std::test::Fail;
 
 const READ: &str = "
     # Command lines, and how they end.
-    0: list --help
-    0: --version
-    2: 
-    2: list a.tap b.tap
-    2: list -
-    2: lost
-    file fault 2: list missing.tap
-    file fault 2: list ./-
+    file fault 2: list missing.tap | list ./-
     image fault 5 at 0: list .
     worked reel.tap
-    0: list reel.tap
-    0: list --offsets reel.tap
+    0: list reel.tap | list --offsets reel.tap
     first check1.tap
     second check2.tap
-    0: check check1.tap check2.tap
-    0: check check2.tap lost.tap -- check1.tap
-    3: check check1.tap
-    3: check lost.tap
-    3: check .
-    2: check
-    2: check --all
-    0: check --help
+    0: check check1.tap check2.tap | check check2.tap lost.tap -- check1.tap
+    3: check check1.tap | check lost.tap | check .
+    2: check | check --all
     0: survey check2.tap check1.tap
-    3: survey check2.tap lost.tap check1.tap
-    3: survey check1.tap
+    3: survey check2.tap lost.tap check1.tap | survey check1.tap
     2: survey
     0: survey --help
     # The last line of a list counts even without a line feed, and an empty line is ignored.
@@ -36,21 +22,17 @@ const READ: &str = "
     put check.nulls check2.tap\\00
     put empty.names \\0A\\0A
     put no_text.names check1.tap\\0A\\FF\\0A
-    0: check --files-from check.names
-    0: check check1.tap --null --files-from check.nulls
-    3: check --files-from check.nulls --null
-    3: check check1.tap --files-from empty.names
-    2: check --files-from empty.names
-    2: check check1.tap --files-from check.nulls
-    2: check check1.tap --files-from no_text.names
-    2: check check1.tap --null
+    0: check --files-from check.names | check check1.tap --null --files-from check.nulls
+    3: check --files-from check.nulls --null | check check1.tap --files-from empty.names
+    2: check --files-from empty.names | check check1.tap --files-from check.nulls
+    2: check check1.tap --files-from no_text.names | check check1.tap --null
     file fault 2: check check1.tap --files-from lost.names
     file fault 3: check check1.tap --files-from .
 ";
 
 #[test]
 fn images_are_read(rt: HostRuntime) -> Result<(), Fail> {
-    follow(&rt, READ)
+    follow_in(&rt, "read", READ)
 }
 
 const MERGED: &str = "
@@ -59,8 +41,7 @@ const MERGED: &str = "
     damaged merge2.tap 2
     # None of the five blocks is unreadable.
     damaged merge3.tap 5
-    0: compare merge1.tap merge2.tap
-    0: merge merged.tap merge1.tap merge2.tap
+    0: compare merge1.tap merge2.tap | merge merged.tap merge1.tap merge2.tap
     missing merged.tap.part
     0: compare merged.tap merge3.tap
     at merged.tap 676 \\90\\01\\00\\00
@@ -75,8 +56,7 @@ const MERGED: &str = "
     worked name1.tap
     put name2.tap
     link name3.tap nowhere
-    file fault 1: merge name1.tap name1.tap name1.tap
-    file fault 1: merge name2.tap name1.tap name1.tap
+    file fault 1: merge name1.tap name1.tap name1.tap | merge name2.tap name1.tap name1.tap
     file fault 1: merge name3.tap name1.tap name1.tap
     is_worked name1.tap
     length name2.tap 0
@@ -84,14 +64,12 @@ const MERGED: &str = "
     # Readings that differ, and a reading that lost a block, compared with itself.
     worked other1.tap
     lost other2.tap
-    3: compare other1.tap other2.tap
-    3: merge merge_none.tap other1.tap other2.tap
-    missing merge_none.tap
-    missing merge_none.tap.part
+    3: compare other1.tap other2.tap | merge merge_none.tap other1.tap other2.tap
+    missing merge_none.tap merge_none.tap.part
     3: merge merge_counted.tap other2.tap other2.tap
     at merge_counted.tap 4 VOL1
     # A reading that ends with a fault, and one without items.
-    worked cut1.tap 2000
+    front cut1.tap 2000
     worked cut2.tap
     put cut3.tap
     3: merge merge_cut.tap cut1.tap cut1.tap
@@ -118,33 +96,24 @@ const MERGED: &str = "
     at log.tsv 0 ITEM\\09KIND\\09log1.tap\\09log2.tap\\0A
     at log.tsv 28 6\\09BLOCK 400\\09BAD\\09GOOD\\0A
     at log.tsv 49 7\\09BLOCK 400\\09GOOD\\09BAD\\0A
-    missing log4.tap
-    missing log4.tsv
-    missing .tape-1.part
-    missing .tape-2.part
+    missing log4.tap log4.tsv .tape-1.part .tape-2.part
     worked word1.tap
     put merge.names word1.tap\\0Aword1.tap\\0A
     put merge_lost.names word1.tap\\0Alost.tap\\0A
-    2: merge
-    2: merge new1.tap
-    2: merge new1.tap word1.tap
-    2: merge - word1.tap word1.tap
+    2: merge | merge new1.tap | merge new1.tap word1.tap | merge - word1.tap word1.tap
     2: compare word1.tap
     missing new1.tap
-    file fault 2: merge new1.tap word1.tap lost.tap
-    file fault 2: merge new1.tap --files-from merge_lost.names
+    file fault 2: merge new1.tap word1.tap lost.tap | merge new1.tap --files-from merge_lost.names
     file fault 2: merge missing/new1.tap word1.tap word1.tap
-    missing new1.tap
-    missing new1.tap.part
+    missing new1.tap new1.tap.part
     0: merge new1.tap --files-from merge.names
     is_worked new1.tap
-    0: merge --help
-    0: compare --help
+    0: merge --help | compare --help
 ";
 
 #[test]
 fn readings_are_merged(rt: HostRuntime) -> Result<(), Fail> {
-    follow(&rt, MERGED)
+    follow_in(&rt, "merged", MERGED)
 }
 
 const WRITTEN: &str = "
@@ -164,13 +133,8 @@ const WRITTEN: &str = "
     length OLD001.tap 100
     missing OLD003.tap
     file fault 1: init . OLD 1
-    2: init
-    2: init . ABC
-    2: init . ABC 0
-    2: init . ABC 99999999999999999999
-    2: init . ABC -1
-    2: init . ABC one
-    2: init . ABC 1 2
+    2: init | init . ABC | init . ABC 0 | init . ABC 99999999999999999999 | init . ABC -1
+    2: init . ABC one | init . ABC 1 2
     file fault 2: init missing ABC 1
     0: init --help
     # The example image is written to a new file and over a blank volume, but not over a volume that
@@ -183,8 +147,7 @@ const WRITTEN: &str = "
     file fault 1: write w ABC 100000 PAYROLL=p.bin --format F --block 800 --record 80 --form raw
     is_worked w/ABC001.tap
     remove w/ABC001.tap
-    0: init w ABC 1
-    0: write w ABC 100000 PAYROLL=p.bin --format F --block 800 --record 80 --form raw
+    0: init w ABC 1 | write w ABC 100000 PAYROLL=p.bin --format F --block 800 --record 80 --form raw
     is_worked w/ABC001.tap
     0: list w/ABC001.tap
     # A file that cannot be read cannot be an image to overwrite.
@@ -195,15 +158,12 @@ const WRITTEN: &str = "
     # written.
     put apart.txt AB\\0A
     0: init . UNF 2
-    remove refusal.txt
     link refusal.txt UNF002.tap
     2: write . UNF 100000 A=UNF001.tap --format S --form raw
-    2: write ./. UNF 100000 A=apart.txt B=./UNF002.tap
-    2: write . UNF 100000 A=refusal.txt
+    2: write ./. UNF 100000 A=apart.txt B=./UNF002.tap | write . UNF 100000 A=refusal.txt
     length UNF001.tap 100
     length UNF002.tap 100
     # A device and a directory among the images, some of which would be written before them.
-    remove UND003.tap
     link UND003.tap /dev/null
     file fault 1: write . UND 100000 A=apart.txt
     missing UND001.tap
@@ -223,19 +183,11 @@ const WRITTEN: &str = "
     file fault 3: write . LKD 100000 A=here.txt B=.
     missing LKD001.tap
     # Invalid command lines of `write`.
-    2: write
-    2: write . WRD 100000
-    2: write . WRD 4294967296 A=B
-    2: write . WRD many A=B
-    2: write . WRD 100000 A
-    2: write . WRD 100000 A=B C
-    2: write . WRD 100000 A=B --format F
-    2: write . WRD 100000 A=B --format S --record 80
-    2: write . WRD 100000 A=B --form raw
-    2: write . WRD 100000 A=B --format X
-    2: write . WRD 100000 A=B --form blocks
-    2: write . WRD 100000 A=B --block 4294967296
-    2: write . WRD 100000 A=B --record -1
+    2: write | write . WRD 100000 | write . WRD 4294967296 A=B | write . WRD many A=B
+    2: write . WRD 100000 A | write . WRD 100000 A=B C | write . WRD 100000 A=B --format F
+    2: write . WRD 100000 A=B --format S --record 80 | write . WRD 100000 A=B --form raw
+    2: write . WRD 100000 A=B --format X | write . WRD 100000 A=B --form blocks
+    2: write . WRD 100000 A=B --block 4294967296 | write . WRD 100000 A=B --record -1
     0: write --help
     fill nine.txt 9996 9
     fill rest.bin 81 9
@@ -245,8 +197,7 @@ const WRITTEN: &str = "
     label fault 6: write none FLT 0 A=none Ab=none
     label fault 7: write none FLT 0 ABCDEFGHIJKLMNOPQR=none
     file fault 2: write none FLT 0 A=none
-    write fault 2: write none FLT 0 A=nine.txt --block 17
-    write fault 2: write none FLT 0 A=nine.txt --offset 100
+    write fault 2: write none FLT 0 A=nine.txt --block 17 | write none FLT 0 A=nine.txt --offset 100
     write fault 3: write none FLT 3071 A=nine.txt
     file fault 2: write none FLT 100000 A=nine.txt
     write fault 4: write . FLT 100000 A=nine.txt --block 20000
@@ -259,5 +210,5 @@ const WRITTEN: &str = "
 
 #[test]
 fn volumes_are_written(rt: HostRuntime) -> Result<(), Fail> {
-    follow(&rt, WRITTEN)
+    follow_in(&rt, "written", WRITTEN)
 }

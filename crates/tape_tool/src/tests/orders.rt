@@ -1,7 +1,7 @@
-//! Tests of complete requests: what the program understands from a command line.
-use super::words::words_of;
+//! Tests of command lines: the request that the program understands, or what it prints.
+use super::calls::follow_in;
+use super::fake_system::words_of;
 use crate::command_line::{Order, call_of};
-use crate::extract::Task;
 use crate::images::Named;
 use crate::write::words::WriteOrder;
 use std::alloc::{AllocError, Global};
@@ -9,60 +9,39 @@ use std::fmt;
 use std::test::Fail;
 use tape_run::{Content, Wording};
 
-/// Command lines, each before its request as `text_of` prints it.
+/// Command lines, each before its request as `text_of` prints it, on the same line or the next.
 const REQUESTS: &str = "
-    list
-    => list offsets=false none
-    list a.tap
-    => list offsets=false a.tap
-    list --offsets a.tap
-    => list offsets=true a.tap
-    list -- -odd.tap
-    => list offsets=false -odd.tap
-    list a.tap --explain
-    => explained: list offsets=false a.tap
-    --explain list a.tap
-    => explained: list offsets=false a.tap
-    check a.tap b.tap
-    => check a.tap b.tap
-    check a.tap --files-from l
-    => check a.tap lines of l
-    check --files-from l --null
-    => check nulls of l
-    check --files-from -
-    => check lines of none
-    check -
-    => check -
-    survey a.tap b.tap
-    => survey words a.tap b.tap
-    survey --tsv a.tap
-    => survey rows a.tap
-    survey --files-from - --null -- -a
-    => survey words -a nulls of none
+    list => list offsets=false none
+    list a.tap => list offsets=false a.tap
+    list --offsets a.tap => list offsets=true a.tap
+    list -- -odd.tap => list offsets=false -odd.tap
+    list a.tap --explain => explained: list offsets=false a.tap
+    --explain list a.tap => explained: list offsets=false a.tap
+    check a.tap b.tap => check a.tap b.tap
+    check a.tap --files-from l => check a.tap lines of l
+    check --files-from l --null => check nulls of l
+    check --files-from - => check lines of none
+    check - => check -
+    survey a.tap b.tap => survey words a.tap b.tap
+    survey --tsv a.tap => survey rows a.tap
+    survey --files-from - --null -- -a => survey words -a nulls of none
     extract ABC001 2 out a.tap b.tap
     => extract ABC001 2 out Lines stage=none again=false a.tap b.tap
     extract AB 9999 out --again --stage kept --form raw --files-from l
     => extract AB     9999 out Raw stage=kept again=true lines of l
     extract ABC001 1 out --form lines --null --files-from l a
     => extract ABC001 1 out Lines stage=none again=false a nulls of l
-    unpack dir a.tap b.tap
-    => unpack dir Lines list=false salvage=false set=none a.tap b.tap
+    unpack dir a.tap b.tap => unpack dir Lines list=false salvage=false set=none a.tap b.tap
     unpack dir a --form raw --set ABC001 --file 3 --file P* --list
     => unpack dir Raw list=true salvage=false set=ABC001 file=3 file=P* a
     unpack dir --salvage --files-from l
     => unpack dir Lines list=false salvage=true set=none lines of l
-    salvage ABC001 2 out a.tap
-    => salvage ABC001 2 out blocks=false Lines a.tap
-    salvage ABC001 1 out --form raw a
-    => salvage ABC001 1 out blocks=false Raw a
-    salvage ABC001 1 out --form blocks a b
-    => salvage ABC001 1 out blocks=true Raw a b
-    stage kept
-    => stage kept Lines damaged=false none
-    stage kept out --form raw --damaged
-    => stage kept Raw damaged=true out
-    init dir ABC 12
-    => init dir ABC 12
+    salvage ABC001 2 out a.tap => salvage ABC001 2 out blocks=false Lines a.tap
+    salvage ABC001 1 out --form raw a => salvage ABC001 1 out blocks=false Raw a
+    salvage ABC001 1 out --form blocks a b => salvage ABC001 1 out blocks=true Raw a b
+    stage kept => stage kept Lines damaged=false none
+    stage kept out --form raw --damaged => stage kept Raw damaged=true out
+    init dir ABC 12 => init dir ABC 12
     write dir ABC 9K A=a B=b
     => write dir ABC 9216 Counted 2048 offset=0 full=false Lines record=None A=a B=b
     write dir X1Z 100000 A=a --format F --record 80 --block 8000 --offset 4 --pad-full
@@ -75,12 +54,9 @@ const REQUESTS: &str = "
     => write dir ABC 41943040 Spanned 2048 offset=0 full=false Lines record=None A=a
     write dir ABC 3G A=a --format S
     => write dir ABC 3221225472 Spanned 2048 offset=0 full=false Lines record=None A=a
-    merge out a.tap b.tap
-    => merge out log=none a.tap b.tap
-    merge out --log kept a --files-from l
-    => merge out log=kept a lines of l
-    compare a.tap b.tap
-    => compare a.tap b.tap
+    merge out a.tap b.tap => merge out log=none a.tap b.tap
+    merge out --log kept a --files-from l => merge out log=kept a lines of l
+    compare a.tap b.tap => compare a.tap b.tap
 ";
 
 /// Texts, each after the first text.
@@ -158,18 +134,15 @@ fn text_of(alloc: Global, order: &Order<'_>) -> Result<String, AllocError> {
 fn recovery_text(alloc: Global, order: &Order<'_>) -> Result<String, AllocError> {
     match order {
         Order::Extract(order) => {
-            let Task {
-                set_id,
-                file,
-                out,
-                form,
-                stage,
-                again,
-            } = order.task;
-            let stage = stage.unwrap_or("none");
+            let task = &order.task;
             format!(in alloc;
-                "extract {} {file} {out} {form:?} stage={stage} again={again}{}",
-                id(set_id.bytes()),
+                "extract {} {} {} {:?} stage={} again={}{}",
+                id(task.set_id.bytes()),
+                task.file,
+                task.out,
+                task.form,
+                task.stage.unwrap_or("none"),
+                task.again,
                 Images(&order.images)
             )
         }
@@ -217,18 +190,95 @@ fn write_text(alloc: Global, order: &WriteOrder<'_>) -> Result<String, AllocErro
 
 #[test]
 fn requests(rt: HostRuntime) -> Result<(), Fail> {
-    let mut asked = String::new(rt.alloc());
+    let mut before = "";
     for line in REQUESTS.lines() {
         let line = line.trim_start();
-        if let Some(wanted) = line.strip_prefix("=> ") {
-            let words = words_of(rt.alloc(), asked.as_str())?;
+        if let Some((asked, wanted)) = line.split_once("=> ") {
+            let asked = if asked.is_empty() { before } else { asked };
+            let words = words_of(rt.alloc(), asked)?;
             let call = call_of(rt.alloc(), words.as_slice())?;
             let explained = if call.explained { "explained: " } else { "" };
             let text = text_of(rt.alloc(), &call.order)?;
             let text = format!(in rt.alloc(); "{explained}{text}")?;
             assert!(rt; text.as_str() == wanted, "{asked}: {text}");
         }
-        asked = line.to_string(rt.alloc())?;
+        before = line;
     }
     Ok(())
+}
+
+/// Command lines that run no command, and parts of what is printed.
+const SAID: &str = "
+    2: 
+    ~ requires a subcommand
+    2: lost
+    ~ unrecognized subcommand 'lost'
+    2: list a.tap b.tap
+    ~ do echo \"$f\"; tape list \"$f\"; done
+    ~ Usage: tape list [--offsets] [IMAGE]
+    2: list -
+    ~ omit IMAGE to read standard input
+    2: list -- -
+    ~ write './-' for a file of that name
+    2: list --all
+    ~ unexpected argument '--all' found
+    ~ Usage: tape list [--offsets] [IMAGE]
+    0: --help
+    | Usage: tape [OPTIONS] <COMMAND>
+    0: --version
+    | tape 0.1.0
+    0: list --help
+    | Usage: tape list [--offsets] [IMAGE]
+    0: check --help
+    | --explain
+    0: help list
+    | zcat reel.tap.gz | tape list
+    2: init '' ABC 2
+    ~ DIR is empty: write '.'
+    2: write '' ABC 100000 A=B
+    ~ DIR is empty: write '.'
+    2: check --null a.tap
+    ~ --files-from <LIST>
+    2: extract ABC001 1 - a.tap
+    ~ write './-' for a file of that name
+    2: check - a.tap -
+    ~ standard input can be read only once
+    2: survey --files-from - -
+    ~ A file of this name is './-'
+    # The message contains the value that is not accepted.
+    2: extract TOOLONG 1 a.txt a.tap
+    ~ error: invalid value \"TOOLONG\": SET must have 1 to 6 characters
+    2: salvage TOOLONG 1 a.txt a.tap
+    ~ error: invalid value \"TOOLONG\": SET must have
+    2: init . ab 2
+    ~ error: invalid value \"ab\": PRE must be three characters
+    2: write . ABC 40X A=B
+    ~ error: invalid value \"40X\": CAPACITY must be a number of bytes
+    2: write . ABC 4G A=B
+    ~ error: invalid value \"4G\": CAPACITY must be a number of bytes
+    2: write . ABCD 100000 A=B
+    ~ error: invalid value \"ABCD\": PRE must be three characters
+    # It also says what was expected, if that is a number.
+    2: extract ABC001 one a.txt a.tap
+    ~ error: invalid value \"one\": FILE must be a number from 1 to 9999
+    2: extract ABC001 10000 a.txt a.tap
+    ~ error: invalid value \"10000\": FILE must be a number from 1 to 9999
+    2: salvage ABC001 0 a.txt a.tap
+    ~ error: invalid value \"0\": FILE must be a number from 1 to 9999
+    2: init . ABC 1000
+    ~ error: invalid value \"1000\": COUNT must be a number from 1 to 999
+    2: write . ABC 100000 A=B --block 2K
+    ~ error: invalid value \"2K\": --block must be a number from 0 to 4294967295
+    2: write . ABC 100000 A=B --offset 256
+    ~ error: invalid value \"256\": --offset must be a number from 0 to 255
+    # No argument can control the terminal when it is printed.
+    2: a\u{1b}b\\
+    ~ unrecognized subcommand 'a\\u001Bb\\\\'
+    2: init . a\u{202e} 2
+    ~ invalid value \"a\\u202E\": PRE
+";
+
+#[test]
+fn help_and_mistakes(rt: HostRuntime) -> Result<(), Fail> {
+    follow_in(&rt, "words", SAID)
 }

@@ -1,6 +1,6 @@
 //! Tests of whole runs as a caller sees them: exit status, both streams, and the files that are
 //! opened.
-use super::calls::follow;
+use super::calls::follow_in;
 use super::fake_system::{Odd, called};
 use crate::write::report::say;
 use std::io;
@@ -10,7 +10,7 @@ use tape_label::Field;
 use tape_writer::system::Ended;
 
 const CALLS: &str = "
-    worked seen_cut.tap 2288
+    front seen_cut.tap 2288
     first seen1.tap
     second seen2.tap
     fill seen_long.bin 120000 9
@@ -18,40 +18,35 @@ const CALLS: &str = "
     put seen_one.txt AB\\0ACDE\\0A
     put seen_none.txt
     link seen_link.txt seen_behind.txt
-    $ quit
+    2$ quit
     ! error: unrecognized subcommand 'quit'
     !
     ! Usage: tape [OPTIONS] <COMMAND>
     !
     ! For more information, try '--help'.
-    [2]
     ?
-    $ list --offsets seen_cut.tap
+    image fault 1 at 1884$ list --offsets seen_cut.tap
     > 0 88 000001 VOL1 ABC001
     > 88 88 000002 HDR1 PAYROLL           ABC001 0001 0001
     > 176 88 000003 HDR2 F 00800 00080 00
     > 264 4 000004 MARK
     > 268 808 000005 BLOCK 00800
     > 1076 808 000006 BLOCK 00800
-    ! tape: image fault 1 at 1884
-    [1]
     ? seen_cut.tap
     # A list of names is enough, but something has to be named.
-    $ check
+    2$ check
     ! error: name at least one image, or a list of names with --files-from
     !
     ! Usage: tape check [OPTIONS] [IMAGE]...
     !
     ! For more information, try '--help'.
-    [2]
     ?
-    $ extract ABC001 1 a.txt
+    2$ extract ABC001 1 a.txt
     ! error: name at least one image, or a list of names with --files-from
     !
     ! Usage: tape extract [OPTIONS] <SET> <FILE> <OUT> [IMAGE]...
     !
     ! For more information, try '--help'.
-    [2]
     ?
     # Each image is opened once, in the order of the arguments.
     $ check seen2.tap lost.tap seen1.tap
@@ -63,15 +58,14 @@ const CALLS: &str = "
     > ALL SECTIONS FOUND
     ? seen2.tap lost.tap? seen1.tap
     # Standard input is an image of one mark.
-    $ check - seen2.tap
+    3$ check - seen2.tap
     > IMAGE 1 1 MARKED
     > IMAGE 2 9 MARKED
     > SECTION ABC001 1 2 ABC002 0 GOOD
     > LACKS ABC001 1 1
-    [3]
     ? seen2.tap
     # A missing section, and an image that does not exist.
-    $ survey lost.tap seen1.tap
+    3$ survey lost.tap seen1.tap
     > lost.tap                  not opened
     > seen1.tap                 ok           volume ABC001, 1 section
     > Set ABC001: 0 of 1 files complete
@@ -79,7 +73,6 @@ const CALLS: &str = "
     >    1 PAYROLL                        incomplete
     >         section 2 missing, after volume ABC001
     > 2 images: 1 ok, 1 not opened
-    [3]
     ? lost.tap? seen1.tap
     # No image is opened after the one that completes the file. The directory is opened to be
     # synced.
@@ -109,21 +102,15 @@ const CALLS: &str = "
     > REEL 1 COMPLETE
     > COMPLETE 0
     # An output that cannot be created: first a new file and then writing in place are tried.
-    $ extract ABC001 1 missing/a.txt seen1.tap seen2.tap
+    file fault 2$ extract ABC001 1 missing/a.txt seen1.tap seen2.tap
     > REEL 1 SECTION DONE
     > REEL 2 COMPLETE
-    ! tape: file fault 2
-    [1]
     ? missing/.tape-1.part? seen1.tap seen2.tap missing/a.txt?
     $ init . SEI 11
     > INIT 11
     # An image that accepts no bytes is not reported as created.
-    $ init . FUL 1
-    ! tape: file fault 4
-    [1]
-    $ write . FUL 100000 ONE=seen_one.txt
-    ! tape: file fault 4
-    [1]
+    file fault 4$ init . FUL 1
+    file fault 4$ write . FUL 100000 ONE=seen_one.txt
     # The contents of the files after these runs.
     length seen.txt 2025
     length seen_again.bin 120000
@@ -134,7 +121,7 @@ const CALLS: &str = "
 
 #[test]
 fn whole_calls(rt: HostRuntime) -> Result<(), Fail> {
-    follow(&rt, CALLS)
+    follow_in(&rt, "calls", CALLS)
 }
 
 /// Commands that read images: the files opened before the images, and the end of the output for 300
@@ -162,7 +149,11 @@ const READERS: &[(&str, &str, &str)] = &[
 /// All images are read, however many are named by arguments and a list. Arguments may name 256.
 #[test]
 fn many_images(rt: HostRuntime) -> Result<(), Fail> {
-    follow(&rt, "folder many\nfill many.names 44 lost.tap\\0A")?;
+    follow_in(
+        &rt,
+        "many_images",
+        "folder many\nfill many.names 44 lost.tap\\0A",
+    )?;
     for (line, first, last) in READERS {
         let mut line = line.to_string(rt.alloc())?;
         for _ in 0..256 {

@@ -1,5 +1,5 @@
 //! Tests of `stage`, and of two runs that use one stage.
-use super::calls::follow;
+use super::calls::{follow, follow_in};
 use crate::staging::{StagingFault, open_session};
 use std::fs::File;
 use std::test::Fail;
@@ -8,26 +8,21 @@ use tape_stage::{MemoryDisk, StageFault};
 
 const SHOWN: &str = "
     damaged shown.tap 3
-    remove shown.stage
     3: extract ABC001 1 shown.txt shown.tap --stage shown.stage
-    $ stage shown.stage shown_first.txt
+    3$ stage shown.stage shown_first.txt
     > STAGE ABC001 1 15
     > AWAITS 1 1 3
-    [3]
     length shown_first.txt 1215
     at shown_first.txt 1134 0015 \\20
     3: stage shown.stage shown_raw.txt --form raw
     length shown_raw.txt 1200
     # For an intact stage, the lines are the same with and without the option.
-    $ stage shown.stage --damaged
+    3$ stage shown.stage --damaged
     > STAGE ABC001 1 15
     > AWAITS 1 1 3
-    [3]
     # The stage is unchanged, and a file that might be a tape is never overwritten.
     length shown.stage 1531
-    2: stage shown.stage shown.stage
-    2: stage shown.stage one.txt two.txt
-    2: stage shown.stage -
+    2: stage shown.stage shown.stage | stage shown.stage one.txt two.txt | stage shown.stage -
     file fault 1: stage shown.stage shown.tap
     stage fault 1: stage shown.tap
     file fault 2: stage lost.stage
@@ -35,12 +30,10 @@ const SHOWN: &str = "
     missing lost.stage
     # A stage without records, and one that is complete and then loses its end.
     damaged torn.tap 0
-    remove torn.stage
     3: extract ABC001 1 torn.txt torn.tap --stage torn.stage
-    $ stage torn.stage torn.txt
+    3$ stage torn.stage torn.txt
     > STAGE ABC001 1 0
     > AWAITS 1 1 0
-    [3]
     length torn.txt 0
     damaged torn.tap 9
     0: extract ABC001 1 torn.all torn.tap --stage torn.stage
@@ -54,39 +47,33 @@ const SHOWN: &str = "
     length torn.txt 2025
     cut torn.stage 2380
     stage fault 2: stage torn.stage
-    $ stage torn.stage torn.txt --damaged
+    3$ stage torn.stage torn.txt --damaged
     > STAGE ABC001 1 24
     > TRUNCATED AT 2296
-    [3]
     length torn.txt 1944
     cut torn.stage 1300
-    $ stage torn.stage torn.txt --damaged
+    3$ stage torn.stage torn.txt --damaged
     > STAGE ABC001 1 12
     > TRUNCATED AT 1276
-    [3]
     length torn.txt 972
     cut torn.stage 1276
-    $ stage torn.stage torn.txt --damaged
+    3$ stage torn.stage torn.txt --damaged
     > STAGE ABC001 1 12
     > TRUNCATED AT 1276
-    [3]
     length torn.txt 972
     cut torn.stage 256
-    $ stage torn.stage torn.txt --damaged
+    3$ stage torn.stage torn.txt --damaged
     > STAGE ABC001 1 0
     > TRUNCATED AT 256
-    [3]
     length torn.txt 0
 ";
 
 /// A run whose stage another run is using.
 const SECOND: &str = "
-    $ extract ABC001 1 second.txt shown.tap --stage shown.stage --explain
-    ! tape: stage fault 7
+    stage fault 7$ extract ABC001 1 second.txt shown.tap --stage shown.stage --explain
     !   Stage: shown.stage
     !   Another run is using this stage. It was neither read nor changed.
     !   Wait until that run has finished.
-    [1]
     # The files of the other run are unchanged.
     length shown.stage 1531
     missing second.txt
@@ -94,7 +81,7 @@ const SECOND: &str = "
 
 #[test]
 fn stages_are_shown(rt: HostRuntime) -> Result<(), Fail> {
-    follow(&rt, SHOWN)?;
+    follow_in(&rt, "shown", SHOWN)?;
     let first = File::open(&rt, "shown.stage")?;
     // A run that only shows the stage excludes others too.
     first.lock_shared()?;

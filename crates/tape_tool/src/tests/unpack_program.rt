@@ -1,5 +1,5 @@
 //! Tests of `unpack` and `salvage`.
-use super::calls::follow;
+use super::calls::follow_in;
 use crate::unpack::report::LastLine;
 use std::io::Write;
 use std::test::Fail;
@@ -11,8 +11,7 @@ const UNPACKED: &str = "
     3: unpack unpacked lost.tap
     0: unpack unpacked/ unpack1.tap unpack1.tap
     length unpacked/ABC001.1.PAYROLL 2025
-    missing unpacked/.tape-1.part
-    missing unpacked/ABC001.1.PAYROLL.stage
+    missing unpacked/.tape-1.part unpacked/ABC001.1.PAYROLL.stage
     put unpacked/ABC001.1.PAYROLL kept
     0: unpack unpacked unpack1.tap
     3: unpack unpacked unpack1.tap lost.tap
@@ -22,8 +21,7 @@ const UNPACKED: &str = "
     folder days
     damaged day1.tap 1
     damaged day2.tap 2
-    3: unpack days day1.tap --form raw
-    3: unpack days day2.tap --form raw
+    3: unpack days day1.tap --form raw | unpack days day2.tap --form raw
     missing days/ABC001.1.PAYROLL
     0: unpack days day1.tap --form raw
     length days/ABC001.1.PAYROLL 2000
@@ -60,13 +58,11 @@ const UNPACKED: &str = "
     length gaps/ABC001.1.PAYROLL.gaps 190
     at gaps/ABC001.1.PAYROLL.gaps 0 FROM 1 gaps1.tap\\0ASECTION 1 1 5\\0A
     at gaps/ABC001.1.PAYROLL.gaps 31 GAP 1 1 1 5\\0ASALVAGED 20\\0ASUMS\\20
-    missing gaps/.tape-1.part
-    missing gaps/.tape-2.part
+    missing gaps/.tape-1.part gaps/.tape-2.part
     3: unpack gaps gaps2.tap --salvage
     at gaps/ABC001.1.PAYROLL.gaps 31 GAP 1 2 2 10\\0ASALVAGED 20\\0A
     0: unpack gaps gaps1.tap --salvage
-    missing gaps/ABC001.1.PAYROLL.salvaged
-    missing gaps/ABC001.1.PAYROLL.gaps
+    missing gaps/ABC001.1.PAYROLL.salvaged gaps/ABC001.1.PAYROLL.gaps
     length gaps/ABC001.1.PAYROLL 2025
     # Files that were changed are not removed, nor is one of the two files alone.
     remove gaps/ABC001.1.PAYROLL
@@ -85,22 +81,15 @@ const UNPACKED: &str = "
     0: unpack gaps3 gaps3.tap --salvage
     missing gaps3/ABC001.1.PAYROLL.gaps
     # Two sets with one identifier, and a blank volume.
-    folder missed
-    folder missed1
-    folder missed2
+    folder missed missed1 missed2
     fill missed_one.bin 130 1
-    0: write missed1 MIX 100000 ONE=missed_one.bin
-    0: write missed2 MIX 100000 TWO=missed_one.bin
+    0: write missed1 MIX 100000 ONE=missed_one.bin | write missed2 MIX 100000 TWO=missed_one.bin
     3: unpack missed missed1/MIX001.tap missed2/MIX001.tap
-    missing missed/MIX001.1.ONE
-    missing missed/MIX001.1.TWO
+    missing missed/MIX001.1.ONE missed/MIX001.1.TWO
     0: init missed1 BLK 1
     3: unpack missed missed1/BLK001.tap
     worked unpack2.tap
-    2: unpack
-    2: unpack unpacked
-    2: unpack '' unpack2.tap
-    2: unpack unpack2.tap unpack2.tap
+    2: unpack | unpack unpacked | unpack '' unpack2.tap | unpack unpack2.tap unpack2.tap
     is_worked unpack2.tap
     file fault 2: unpack missing unpack2.tap
     0: unpack --help
@@ -108,7 +97,7 @@ const UNPACKED: &str = "
 
 #[test]
 fn every_file_is_unpacked(rt: HostRuntime) -> Result<(), Fail> {
-    follow(&rt, UNPACKED)
+    follow_in(&rt, "unpacked_files", UNPACKED)
 }
 
 /// The line that is remembered is not truncated.
@@ -123,15 +112,14 @@ fn the_last_line_is_whole(rt: HostRuntime) -> Result<(), Fail> {
 /// Images of one set of three files, and of another set, and lines that choose files.
 const CHOSEN: &str = "
     # Images of one set of three files, and of another set.
-    folder chosen
-    folder chosen1
+    folder chosen chosen1
     put chosen_a.txt A\\0A
     put chosen_b.txt B\\0AB\\0A
     put chosen1/CHO001.1.ONE kept
     0: write . CHO 100000 ONE=chosen_a.txt TWO=chosen_b.txt THREE=chosen_a.txt
     0: write . OTH 100000 ONE=chosen_b.txt
-    worked chosen.tap 2288
-    $ unpack chosen1 --list CHO001.tap chosen.tap OTH001.tap
+    front chosen.tap 2288
+    3$ unpack chosen1 --list CHO001.tap chosen.tap OTH001.tap
     > FILE CHO001 1 EXISTS chosen1/CHO001.1.ONE
     > FILE CHO001 2 READY chosen1/CHO001.2.TWO
     > FILE CHO001 3 READY chosen1/CHO001.3.THREE
@@ -139,7 +127,6 @@ const CHOSEN: &str = "
     > FILE OTH001 1 READY chosen1/OTH001.1.ONE
     > INCOMPLETE IMAGE chosen.tap
     > TOTAL 3 complete 1 existing 1 incomplete 0 in conflict 0 not found 0 failed
-    [3]
     $ unpack chosen --list CHO001.tap
     > FILE CHO001 1 READY chosen/CHO001.1.ONE
     > FILE CHO001 2 READY chosen/CHO001.2.TWO
@@ -149,35 +136,30 @@ const CHOSEN: &str = "
     > FILE CHO001 2 COMPLETE 2 chosen/CHO001.2.TWO
     > FILE CHO001 3 COMPLETE 1 chosen/CHO001.3.THREE
     > TOTAL 2 complete 0 existing 0 incomplete 0 in conflict 0 not found 0 failed
-    $ unpack chosen OTH001.tap CHO001.tap --file *O*E --file 4 --file FOUR
+    3$ unpack chosen OTH001.tap CHO001.tap --file *O*E --file 4 --file FOUR
     > FILE OTH001 1 COMPLETE 2 chosen/OTH001.1.ONE
     > FILE CHO001 1 COMPLETE 1 chosen/CHO001.1.ONE
     > NO FILE 4
     > NO FILE FOUR
     > TOTAL 2 complete 0 existing 0 incomplete 0 in conflict 2 not found 0 failed
-    [3]
-    $ unpack chosen CHO001.tap OTH001.tap --set OTH --file 1
+    3$ unpack chosen CHO001.tap OTH001.tap --set OTH --file 1
     > NO SET OTH
     > TOTAL 0 complete 0 existing 0 incomplete 0 in conflict 1 not found 0 failed
-    [3]
     # A number without a label is not reported if other files are chosen.
     second_file second_only.tap
     $ unpack chosen second_only.tap --file LEDGER
     > FILE ABC001 2 COMPLETE 0 chosen/ABC001.2.LEDGER
     > TOTAL 1 complete 0 existing 0 incomplete 0 in conflict 0 not found 0 failed
-    $ unpack chosen second_only.tap
+    3$ unpack chosen second_only.tap
     > FILE ABC001 1 NOT FOUND
     > FILE ABC001 2 EXISTS chosen/ABC001.2.LEDGER
     > TOTAL 0 complete 1 existing 0 incomplete 0 in conflict 1 not found 0 failed
-    [3]
     # What is left by the lines.
     has chosen/CHO001.1.ONE A\\0A
     has chosen/CHO001.2.TWO B\\0AB\\0A
     has chosen1/CHO001.1.ONE kept
-    missing chosen1/CHO001.2.TWO
-    missing chosen1/ABC001.1.PAYROLL.stage
-    2: unpack chosen --set '' CHO001.tap
-    2: unpack chosen --set TOOLONG CHO001.tap
+    missing chosen1/CHO001.2.TWO chosen1/ABC001.1.PAYROLL.stage
+    2: unpack chosen --set '' CHO001.tap | unpack chosen --set TOOLONG CHO001.tap
     folder second
     3: unpack second second_only.tap
     length second/ABC001.2.LEDGER 0
@@ -186,7 +168,7 @@ const CHOSEN: &str = "
 
 #[test]
 fn files_are_chosen(rt: HostRuntime) -> Result<(), Fail> {
-    follow(&rt, CHOSEN)
+    follow_in(&rt, "chosen_files", CHOSEN)
 }
 
 const SALVAGED: &str = "
@@ -222,9 +204,7 @@ const SALVAGED: &str = "
     length salvaged.none 0
     3: salvage ABC001 1 salvaged.lost lost.tap
     file fault 2: salvage ABC001 1 missing/salvaged.txt salvage5.tap
-    2: salvage
-    2: salvage ABC001 1 salvaged.word
-    2: salvage ABC001 1 - x.tap
+    2: salvage | salvage ABC001 1 salvaged.word | salvage ABC001 1 - x.tap
     2: salvage ABC001 1 salvaged.word x.tap --form tap
     missing salvaged.word
     0: salvage --help
@@ -232,5 +212,5 @@ const SALVAGED: &str = "
 
 #[test]
 fn files_are_salvaged(rt: HostRuntime) -> Result<(), Fail> {
-    follow(&rt, SALVAGED)
+    follow_in(&rt, "salvaged_files", SALVAGED)
 }
