@@ -1,16 +1,16 @@
 -- The texts of a survey, image by image and file by file.
-use Rattle.std.proofs.Common.{◌≡◌, inr, ℕ, zero, suc, ◌+◌, ◌-◌, ◌<◌, ◌≤◌, Bool, true, false, List}
+use Rattle.std.proofs.Common.{◌≡◌, inr, ℕ, zero, suc, ◌+◌, ◌-◌, ◌<◌, ◌≤◌, Bool, List}
 use Rattle.std.proofs.Common.{[], ◌∷◌, ◌++◌, length, take, drop, get_or, slice_get, Option, Some}
-use Rattle.std.proofs.Common.{refl, sym, ap, subst, ◌∙◌, arith, append_assoc, append-nil, map, ◌&&◌}
-use Rattle.std.proofs.Common.{◌||◌, flat_map}
+use Rattle.std.proofs.Common.{refl, sym, ap, subst, ◌∙◌, arith, append_assoc, append-nil, map}
+use Rattle.std.proofs.Common.{flat_map}
 use Rattle.std.proofs.lemmas.List.{get_or-map, at_drop_more, at_drop_all}
 use Rattle.std.specs.Io.KnownBytes.{Appends}
 use Rattle.std.proofs.lemmas.Grind.{flat_map-append}
 use Rattle.tape_run.specs.declared.{section.SectionKey.SectionKey, survey.Wording.Wording}
 use Rattle.tape_run.specs.declared.{survey.tally.Tally.Tally, survey.view.ImageSurvey.ImageSurvey}
 use Rattle.tape_run.specs.{Lacks.SetFiles, Reeling.Mounting, SurveyCopies.Held}
-use Rattle.tape_run.specs.{SurveyCopies.disputed_on, SurveyFiles.Filed, SurveyFiles.any_differs}
-use Rattle.tape_run.specs.{Noted.is_good, Passing.Told, SurveySets.is_all, SurveySets.all_good}
+use Rattle.tape_run.specs.SurveyCopies.{disputed_on}
+use Rattle.tape_run.specs.SurveySets.{is_all}
 use Rattle.tape_image.specs.Written.{AppendsFront}
 use Rattle.tape_run.specs.Survey.{image_texts, survey_text, Surveys, SurveysInPart}
 use Rattle.tape_run.specs.SurveyWording.{image_text, file_text, file_texts, set_text, set_texts}
@@ -64,45 +64,6 @@ pub set_added : (y : Wording) (d : Found) (sets : List SetFiles) (old new : List
     (x : SetFiles) → Some x ≡ slice_get sets i → new ≡ old ++ set_text y d x
     → old ≡ set_texts y d (take i sets) → new ≡ set_texts y d (take (i + 1) sets)
 set_added y d sets old new i x at put was = flat_more (set_text y d) sets old new i x at put was
-
--- whether labels of other files were found for one of the files up to an index
-or_false : (b : Bool) → (b || false) ≡ b
-or_false true = refl
-or_false false = refl
-
-or_assoc : (a b c : Bool) → (a || (b || c)) ≡ ((a || b) || c)
-or_assoc true b c = refl
-or_assoc false b c = refl
-
-any_push : (fs : List Filed) (f : Filed)
-    → any_differs (fs ++ f ∷ []) ≡ (any_differs fs || f.1.differs)
-any_push [] f = or_false f.1.differs
-any_push (x ∷ fs) f = ap (λ (b : Bool). x.1.differs || b) (any_push fs f)
-    ∙ or_assoc x.1.differs (any_differs fs) f.1.differs
-
-pub any_more : (fs : List Filed) (i : ℕ) (f : Filed) → Some f ≡ slice_get fs i
-    → any_differs (take (i + 1) fs) ≡ (any_differs (take i fs) || f.1.differs)
-any_more fs i f at = ap any_differs (take_get fs i f at) ∙ any_push (take i fs) f
-
--- whether each section up to an index is good
-and_true : (b : Bool) → (b && true) ≡ b
-and_true true = refl
-and_true false = refl
-
-and_assoc : (a b c : Bool) → (a && (b && c)) ≡ ((a && b) && c)
-and_assoc true b c = refl
-and_assoc false b c = refl
-
-all_push : (ts : List Told) (t : Told)
-    → all_good (ts ++ t ∷ []) ≡ (all_good ts && is_good t.1.state)
-all_push [] t = and_true (is_good t.1.state)
-all_push (x ∷ ts) t = ap (λ (b : Bool). is_good x.1.state && b) (all_push ts t)
-    ∙ and_assoc (is_good x.1.state) (all_good ts) (is_good t.1.state)
-
-pub all_more : (ts : List Told) (i : ℕ) (t : Told) (good : Bool) → Some t ≡ slice_get ts i
-    → good ≡ is_good t.1.state → all_good (take (i + 1) ts) ≡ (all_good (take i ts) && good)
-all_more ts i t good at is = ap all_good (take_get ts i t at) ∙ all_push (take i ts) t
-    ∙ ap (λ b. all_good (take i ts) && b) (sym is)
 
 -- ---- images
 

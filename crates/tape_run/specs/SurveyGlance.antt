@@ -1,6 +1,6 @@
 -- A summary of an image, from its items.
 use Rattle.std.specs.Prelude.{ℕ, ◌+◌, ◌==◌, ◌&&◌, not, Bool, true, false, if◌then◌else◌, List, []}
-use Rattle.std.specs.Prelude.{◌∷◌, length, Option, Some, None, Result, Ok, Err}
+use Rattle.std.specs.Prelude.{◌∷◌, length, Option, Some, None, is_some, Result, Ok, Err}
 use Rattle.std.specs.{List.flat_map, Str.bytes_eq}
 use Rattle.tape_image.specs.Tape.{TapeItem, block, bad, mark}
 use Rattle.tape_label.specs.declared.values.{Kind.Kind, Vol1.Vol1, Head1.Head1, Head2.Head2}
@@ -161,11 +161,6 @@ is_bad mark = false
 abbrev pub one_if : Bool → ℕ
 one_if b = if b then 1 else 0
 
--- a header label counts as one section
-abbrev pub one_head : Option Head1 → ℕ
-one_head None = 0
-one_head (Some head) = 1
-
 -- the entry of a section, if the section is damaged
 abbrev pub damage_in : Told → List SectionLine
 damage_in t = if is_good t.1.state then [] else line_of t ∷ []
@@ -194,7 +189,7 @@ look_to g p x next = record {
   first = first_with g.first (g.items + 1) x;
   late = late_with g.late (g.items + 1) x;
   head = or_else g.head (head_in p x);
-  files = g.files + one_head (head_in p x);
+  files = g.files + one_if (is_some (head_in p x));
   bad = g.bad + one_if (is_bad x);
   unread = or_else g.unread (unread_in p x);
   course = course_with g.course (g.items + 1) p x next;

@@ -3,10 +3,8 @@ ghost use Rattle.std.specs.Result.{IsOkUnless};
 ghost use Rattle.std.specs.Prelude.{◌≡◌, ◌∷◌, [], ◌++◌, OnOk, IfOk, is_some};
 ghost use Rattle.tape_run.specs.SurveyCopies.{no_copies, copy_note, noted_at, with_conflict};
 ghost use Rattle.tape_run.specs.SurveyCopies.{with_good, with_told, dispute_at, is_agreed};
-ghost use Rattle.tape_run.specs.SurveyCopies.{differs, disputed_by, disputed, disputed_on};
-ghost use Rattle.tape_run.specs.SurveyFiles.{same_file, file_key};
+ghost use Rattle.tape_run.specs.SurveyCopies.{differs, disputed, disputed_on};
 ghost use Rattle.tape_run.specs.declared.fault.RunFault.TheVariants as faults;
-ghost use Rattle.std.specs.Map.{lookup};
 
 use super::files::FileKey;
 use super::glance::or_else;
@@ -16,7 +14,6 @@ use crate::section::SectionKey;
 use indexmap::IndexMap;
 use std::alloc::{AllocError, Global};
 use std::marker::Model;
-use tape_label::Field;
 
 /// The record of the complete copies of a section.
 #[derive(Clone, Copy)]
@@ -197,17 +194,6 @@ impl Copies {
         }
     }
 
-    /// Appends a copy if complete copies of its section differ.
-    fn add_disputed(&self, copies: &mut Vec<Held>, held: &Held) -> Result<(), AllocError>
-        ensures { OnOk result (copies.new.items
-            ≡ copies.old.items ++ disputed_by self.now.notes held.now) }
-    {
-        if self.differs(&held.1) {
-            copies.push(*held)?;
-        }
-        Ok(())
-    }
-
     /// Returns the complete copies of sections whose complete copies differ, in the order in which
     /// they were found.
     pub(crate) fn disputed(&self, alloc: Global) -> Result<Vec<Held>, AllocError>
@@ -215,7 +201,9 @@ impl Copies {
     {
         let mut copies = Vec::new(alloc);
         for held in self.held.as_slice() {
-            self.add_disputed(&mut copies, held)?;
+            if self.differs(&held.1) {
+                copies.push(*held)?;
+            }
         }
         Ok(copies)
     }

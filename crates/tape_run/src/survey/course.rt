@@ -1,7 +1,7 @@
 //! The extent to which the items of an image are in the order of a volume.
 ghost use Rattle.std.specs.Prelude.{◌≡◌};
 ghost use Rattle.tape_image.specs.Reader.{tape_item};
-ghost use Rattle.tape_run.specs.SurveyGlance.{wanted_in, left_by, behind, course_with};
+ghost use Rattle.tape_run.specs.SurveyGlance.{wanted_in, course_with};
 
 use crate::passing::Phase;
 use tape_image::Item;
@@ -55,30 +55,8 @@ fn wanted_in(phase: Phase) -> ExpectedItem
     }
 }
 
-/// Returns the label order after item `number`, which is in order or not; `phase` and `next` are
-/// the phases before and after it.
-fn left_by(number: u32, phase: Phase, next: Phase) -> LabelOrder
-    ensures { result ≡ left_by number phase next }
-{
-    match next {
-        Phase::Over => LabelOrder::Leaves(number, wanted_in(phase)),
-        _ => LabelOrder::Follows,
-    }
-}
-
-/// Returns the label order after an item, if all items before it are in order and the volume
-/// continues.
-fn behind(number: u32, phase: Phase, item: Item<'_>, next: Phase) -> LabelOrder
-    ensures { result ≡ behind number phase (tape_item item.entry) next }
-{
-    match (phase, item) {
-        (Phase::Labels(_), Item::Mark) => LabelOrder::Blank,
-        (Phase::Next(_), Item::Mark) => LabelOrder::Ended,
-        _ => left_by(number, phase, next),
-    }
-}
-
-/// Returns the label order after an item.
+/// Returns the label order after item `number`; `phase` and `next` are the phases before and after
+/// it.
 pub(crate) fn course_with(
     course: LabelOrder,
     number: u32,
@@ -88,11 +66,16 @@ pub(crate) fn course_with(
 ) -> LabelOrder
     ensures { result ≡ course_with course number phase (tape_item item.entry) next }
 {
-    match (course, item) {
-        (LabelOrder::Follows, _) => behind(number, phase, item, next),
-        (LabelOrder::Blank, Item::Mark) => LabelOrder::Ended,
-        (LabelOrder::Blank, _) => LabelOrder::Leaves(number, ExpectedItem::SecondMark),
-        (LabelOrder::Ended, _) => LabelOrder::Leaves(number, ExpectedItem::End),
-        (LabelOrder::Leaves(_, _), _) => course,
+    match (course, phase, item) {
+        (LabelOrder::Follows, Phase::Labels(_), Item::Mark) => LabelOrder::Blank,
+        (LabelOrder::Follows, Phase::Next(_), Item::Mark) => LabelOrder::Ended,
+        (LabelOrder::Follows, _, _) => match next {
+            Phase::Over => LabelOrder::Leaves(number, wanted_in(phase)),
+            _ => LabelOrder::Follows,
+        },
+        (LabelOrder::Blank, _, Item::Mark) => LabelOrder::Ended,
+        (LabelOrder::Blank, _, _) => LabelOrder::Leaves(number, ExpectedItem::SecondMark),
+        (LabelOrder::Ended, _, _) => LabelOrder::Leaves(number, ExpectedItem::End),
+        (LabelOrder::Leaves(_, _), _, _) => course,
     }
 }

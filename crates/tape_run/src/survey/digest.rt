@@ -3,7 +3,7 @@ ghost use Rattle.std.specs.Prelude.{◌≡◌, map};
 ghost use Rattle.std.specs.Int.{w64, from_le_bytes};
 ghost use Rattle.tape_run.specs.SurveyDigest.{digest_by, digest_with, in_turn, side_by, side_over};
 ghost use Rattle.tape_run.specs.SurveyDigest.{no_chains, words_of};
-ghost use Rattle.tape_run.specs.SurveyCopies.{digest_at, digest_past, digest_in};
+ghost use Rattle.tape_run.specs.SurveyCopies.{digest_in};
 ghost use Rattle.tape_image.specs.Reader.{tape_item};
 
 use crate::passing::Phase;
@@ -132,33 +132,14 @@ pub(crate) fn digest_with(digest: u64, block: &[u8]) -> u64
     digest_by(h, block.len() as u64)
 }
 
-/// Returns the digest of the data blocks of the section that is being read, after one more item.
+/// Returns the digest of the data blocks of the section that is being read, after one more item:
+/// data begin after the mark that ends the headers.
 pub(crate) fn digest_in(digest: u64, phase: &Phase, item: Item<'_>) -> u64
     ensures { result ≡ digest_in digest phase.now (tape_item item.entry) }
 {
-    match item {
-        Item::Block(bytes) => digest_at(digest, phase, bytes),
-        Item::Bad => digest,
-        Item::Mark => digest_past(digest, phase),
-    }
-}
-
-/// Returns the digest after a block.
-fn digest_at(digest: u64, phase: &Phase, block: &[u8]) -> u64
-    ensures { result ≡ digest_at digest phase.now block.now }
-{
-    match phase {
-        Phase::Data(_) => digest_with(digest, block),
-        _ => digest,
-    }
-}
-
-/// Returns the digest after a tape mark: data begin after the mark that ends the headers.
-fn digest_past(digest: u64, phase: &Phase) -> u64
-    ensures { result ≡ digest_past digest phase.now }
-{
-    match phase {
-        Phase::Headers(_) => 0,
+    match (phase, item) {
+        (Phase::Data(_), Item::Block(bytes)) => digest_with(digest, bytes),
+        (Phase::Headers(_), Item::Mark) => 0,
         _ => digest,
     }
 }

@@ -1,18 +1,15 @@
 //! The files whose header labels were found, by their numbers.
 ghost use Rattle.std.specs.Result.{IsOkUnless};
-ghost use Rattle.std.specs.Prelude.{◌≡◌, ◌<◌, ◌+◌, ◌||◌, OnOk, length, take};
+ghost use Rattle.std.specs.Prelude.{◌≡◌, OnOk};
 ghost use Rattle.std.specs.Map.{lookup};
-ghost use Rattle.tape_run.specs.SurveyFiles.{same_file, is_other, note_of, with_head, with_met};
-ghost use Rattle.tape_run.specs.SurveyFiles.{form_in, form_at, form_by, with_form, any_differs};
+ghost use Rattle.tape_run.specs.SurveyFiles.{same_file, is_other, note_of, with_met, form_in};
+ghost use Rattle.tape_run.specs.SurveyFiles.{with_form, any_differs};
 ghost use Rattle.tape_image.specs.Reader.{tape_item};
-ghost use Rattle.tape_label.specs.Kinds.{kind_at};
-ghost use Rattle.tape_label.specs.Reading.{head2_at};
 ghost use Rattle.tape_run.specs.declared.fault.RunFault.TheVariants as faults;
 
 use super::glance::or_else;
 use crate::fault::RunFault;
 use crate::passing::Phase;
-use crate::section::SectionKey;
 use indexmap::IndexMap;
 use tape_image::Item;
 use tape_label::{Field, Head1, Head2, Kind, kind, read_head2};
@@ -65,11 +62,14 @@ fn note_of(files: &Files, key: &FileKey, head: Head1) -> FileNote
     }
 }
 
-/// Adds a header label.
-fn note_head(files: &mut Files, head: Head1) -> Result<(), RunFault>
+/// Records the header label that was found, if any.
+pub(crate) fn note_met(files: &mut Files, head: Option<Head1>) -> Result<(), RunFault>
     ensures fault { IsOkUnless result faults.OutOfMemory }
-    ensures ok { OnOk result (files.new.entries ≡ with_head files.old.entries head) }
+    ensures ok { OnOk result (files.new.entries ≡ with_met files.old.entries head) }
 {
+    let Some(head) = head else {
+        return Ok(());
+    };
     let key = FileKey {
         set_id: head.set_id,
         file: head.sequence,
@@ -81,52 +81,20 @@ fn note_head(files: &mut Files, head: Head1) -> Result<(), RunFault>
     }
 }
 
-/// Records the header label that was found, if any.
-pub(crate) fn note_met(files: &mut Files, head: Option<Head1>) -> Result<(), RunFault>
-    ensures fault { IsOkUnless result faults.OutOfMemory }
-    ensures ok { OnOk result (files.new.entries ≡ with_met files.old.entries head) }
-{
-    match head {
-        Some(head) => note_head(files, head),
-        None => Ok(()),
-    }
-}
-
 /// Returns the second header label that an item is, if it is supported and expected, and its file.
 pub(crate) fn form_in(phase: &Phase, item: Item<'_>) -> Option<(FileKey, Head2)>
     ensures { result ≡ form_in phase.now (tape_item item.entry) }
 {
-    match item {
-        Item::Block(bytes) => form_at(phase, bytes),
-        Item::Bad | Item::Mark => None,
-    }
-}
-
-/// Returns the block as a second header label, if it is supported and expected, and its file.
-fn form_at(phase: &Phase, bytes: &[u8]) -> Option<(FileKey, Head2)>
-    ensures { result ≡ form_at phase.now bytes.now }
-{
-    match phase {
-        Phase::Second(met) => form_by(&met.key, bytes),
+    let (Phase::Second(met), Item::Block(bytes)) = (phase, item) else {
+        return None;
+    };
+    match (kind(bytes), read_head2(bytes)) {
+        (Some(Kind::Hdr2), Ok(form)) => {
+            let (set_id, file) = (met.key.set_id, met.key.file);
+            Some((FileKey { set_id, file }, form))
+        }
         _ => None,
     }
-}
-
-/// Returns the second header label of a section, if it is supported, and the file of the section.
-fn form_by(section: &SectionKey, bytes: &[u8]) -> Option<(FileKey, Head2)>
-    ensures { result ≡ form_by section.now (kind_at bytes.now) (head2_at bytes.now) }
-{
-    let Some(Kind::Hdr2) = kind(bytes) else {
-        return None;
-    };
-    let Ok(form) = read_head2(bytes) else {
-        return None;
-    };
-    let key = FileKey {
-        set_id: section.set_id,
-        file: section.file,
-    };
-    Some((key, form))
 }
 
 /// Records the second header label that was found, if any.
@@ -150,26 +118,14 @@ pub(crate) fn note_form(files: &mut Files, found: Option<(FileKey, Head2)>) -> R
     }
 }
 
-/// Returns whether labels of different files were found for the file at index `place`.
-fn differs_at(files: &Files, place: usize) -> bool
-    requires { place < length files.now.entries }
-    ensures { any_differs (take (place + 1) files.now.entries)
-        ≡ (any_differs (take place files.now.entries) || result) }
-{
-    let Some((_, note)) = files.get_index(place) else {
-        unreachable!()
-    };
-    note.differs
-}
-
 /// Returns whether labels of different files were found under the number of any file.
 pub(crate) fn any_differs(files: &Files) -> bool
     ensures { result ≡ any_differs files.now.entries }
 {
-    let mut any = false;
-    for place in 0..files.len() {
-        let differs = differs_at(files, place);
-        any = any || differs;
+    for (_, note) in files {
+        if note.differs {
+            return true;
+        }
     }
-    any
+    false
 }

@@ -3,9 +3,8 @@ ghost use Rattle.std.specs.Result.{IsOkUnless};
 ghost use Rattle.std.specs.Prelude.{◌≡◌, ◌<◌, ◌≤◌, ◌++◌, OnOk};
 ghost use Rattle.tape_image.specs.Reader.{tape_item};
 ghost use Rattle.tape_image.specs.Begins.{image_limit};
-ghost use Rattle.tape_run.specs.SurveyGlance.{blank_glance, is_ebcdic, first_of, first_with};
-ghost use Rattle.tape_run.specs.SurveyGlance.{is_vol1, late_with, head_in, unread_in, is_bad};
-ghost use Rattle.tape_run.specs.SurveyGlance.{one_if, one_head, or_else, damages_in, look_to};
+ghost use Rattle.tape_run.specs.SurveyGlance.{blank_glance, is_ebcdic, first_of, is_vol1, head_in};
+ghost use Rattle.tape_run.specs.SurveyGlance.{unread_in, one_if, or_else, damages_in, look_to};
 ghost use Rattle.tape_run.specs.Passing.{in_list};
 ghost use Rattle.tape_run.specs.declared.fault.RunFault.TheVariants as faults;
 
@@ -95,16 +94,6 @@ fn first_of(item: Item<'_>) -> First
     }
 }
 
-/// Returns what an image begins with, after its item `number`.
-fn first_with(first: &First, number: u32, item: Item<'_>) -> First
-    ensures { result ≡ first_with first.now number (tape_item item.entry) }
-{
-    if number == 1 {
-        return first_of(item);
-    }
-    *first
-}
-
 /// Returns whether an item is a volume label.
 fn is_vol1(item: Item<'_>) -> bool
     ensures { result ≡ is_vol1 (tape_item item.entry) }
@@ -141,33 +130,12 @@ fn unread_in(phase: &Phase, item: Item<'_>) -> Option<u16>
     }
 }
 
-/// Returns whether an item is an unreadable block.
-fn is_bad(item: Item<'_>) -> bool
-    ensures { result ≡ is_bad (tape_item item.entry) }
-{
-    match item {
-        Item::Bad => true,
-        Item::Block(_) | Item::Mark => false,
-    }
-}
-
 /// Returns 1 if `so` is true, otherwise 0.
 pub(crate) fn one_if(so: bool) -> u32
     ensures exact { result ≡ one_if so }
     ensures most { result ≤ 1 }
 {
     if so { 1 } else { 0 }
-}
-
-/// Returns 1 if there is a header label, otherwise 0.
-fn one_head(head: &Option<Head1>) -> u32
-    ensures exact { result ≡ one_head head.now }
-    ensures most { result ≤ 1 }
-{
-    match head {
-        Some(_) => 1,
-        None => 0,
-    }
 }
 
 /// Returns the first of two values that exists.
@@ -217,24 +185,24 @@ pub(crate) fn look(
 {
     let number = glance.items + 1;
     let head = head_in(phase, item);
+    let first = if number == 1 {
+        first_of(item)
+    } else {
+        glance.first
+    };
+    let late = if number != 1 && is_vol1(item) {
+        or_else(glance.late, Some(number))
+    } else {
+        glance.late
+    };
     ImageSummary {
         items: number,
-        first: first_with(&glance.first, number, item),
-        late: late_with(glance.late, number, item),
+        first,
+        late,
         head: or_else(glance.head, head),
-        files: glance.files + one_head(&head),
-        bad: glance.bad + one_if(is_bad(item)),
+        files: glance.files + one_if(head.is_some()),
+        bad: glance.bad + one_if(matches!(item, Item::Bad)),
         unread: or_else(glance.unread, unread_in(phase, item)),
         course: course_with(glance.course, number, *phase, item, *next),
     }
-}
-
-/// Returns the number of the first volume label after the first item, after item `number`.
-fn late_with(late: Option<u32>, number: u32, item: Item<'_>) -> Option<u32>
-    ensures { result ≡ late_with late number (tape_item item.entry) }
-{
-    if number != 1 && is_vol1(item) {
-        return or_else(late, Some(number));
-    }
-    late
 }

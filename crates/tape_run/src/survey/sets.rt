@@ -1,7 +1,7 @@
 //! The part of a survey about sets and their files.
-ghost use Rattle.std.specs.Prelude.{◌≡◌, ◌<◌, ◌+◌, ◌++◌, ◌&&◌, length, take, IfOk, OnOk, Some};
+ghost use Rattle.std.specs.Prelude.{◌≡◌, ◌++◌, IfOk, OnOk, Some};
 ghost use Rattle.std.specs.Prelude.{is_some, option_map};
-ghost use Rattle.tape_run.specs.Lacks.{entry_at, found_all};
+ghost use Rattle.tape_run.specs.Lacks.{entry_at};
 ghost use Rattle.tape_run.specs.SurveyCopies.{dispute_at};
 ghost use Rattle.tape_run.specs.SurveyFiles.{note_at, file_key};
 ghost use Rattle.tape_run.specs.SurveySets.{wanted_at, standing_of, known_text, number_text};
@@ -306,43 +306,24 @@ pub(crate) fn add_set_line(
     append(findings.alloc, texts, line)
 }
 
-/// Returns whether something was found, and nothing is missing.
-fn is_complete(alloc: Global, sections: &Sections) -> Result<bool, AllocError>
-    ensures { IfOk result (λ found. found ≡ found_all sections.now.entries) }
-{
-    let sets = sets_of(alloc, sections)?;
-    Ok(found_all(sections, &sets))
-}
-
-/// Returns whether the section at index `place` is complete.
-fn good_at(sections: &Sections, place: usize) -> bool
-    requires { place < length sections.now.entries }
-    ensures { all_good (take (place + 1) sections.now.entries)
-        ≡ (all_good (take place sections.now.entries) && result) }
-{
-    let Some((_, entry)) = sections.get_index(place) else {
-        unreachable!()
-    };
-    entry.state.is_good()
-}
-
 /// Returns whether each section that was found has a complete copy.
 fn all_good(sections: &Sections) -> bool
     ensures { result ≡ all_good sections.now.entries }
 {
-    let mut all = true;
-    for place in 0..sections.len() {
-        let good = good_at(sections, place);
-        all = all && good;
+    for (_, entry) in sections {
+        if !entry.state.is_good() {
+            return false;
+        }
     }
-    all
+    true
 }
 
 /// Returns whether all is well; the exit status of a survey says the same.
 pub(crate) fn is_all(alloc: Global, findings: &Findings) -> Result<bool, AllocError>
     ensures { IfOk result (λ all. all ≡ is_all findings.now) }
 {
-    let found = is_complete(alloc, &findings.sections)?;
+    let sets = sets_of(alloc, &findings.sections)?;
+    let found = found_all(&findings.sections, &sets);
     let good = all_good(&findings.sections);
     let one_file = !any_differs(&findings.files);
     Ok(findings.whole && found && good && one_file && findings.copies.is_agreed())
