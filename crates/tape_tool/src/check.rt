@@ -3,13 +3,11 @@
 use crate::command_spec::{CommandSpec, Kind, Word};
 use crate::explain::FaultSite;
 use crate::help;
-use crate::host::Progress;
 use crate::images::{Images, Named, names_of};
 use crate::program::{End, check_end};
 use crate::refusal::Refusal;
-use crate::words::named_once;
-use clap::ArgMatches;
-use std::alloc::{AllocError, Global};
+use crate::screen::Progress;
+use std::alloc::AllocError;
 use std::io;
 use std::io::BufWriter;
 use tape_run::{Wording, check_to, survey_to};
@@ -25,28 +23,6 @@ pub const CHECK: &CommandSpec = &CommandSpec {
     ],
 };
 
-/// Reports the sections on the images that the arguments name, on standard output. On error, `site`
-/// says where it occurred.
-pub fn check<'a, R: Progress>(
-    rt: &R,
-    named: &Named<'a>,
-    site: &mut FaultSite<'a>,
-) -> Result<End, Refusal> {
-    let mut text = String::new(rt.alloc());
-    let names = names_of(rt, named, &mut text, site)?;
-    *site = FaultSite::Lines;
-    let mut report = BufWriter::new(rt.alloc(), io::writer(rt)).map_err(|_| AllocError)?;
-    let images = &mut Images::or_input(rt, names.as_slice(), named);
-    Ok(check_end(check_to(rt.alloc(), images, &mut report)))
-}
-
-/// The request to `survey`: the images, and how to print their descriptions.
-#[derive(Drop)]
-pub struct SurveyOrder<'a> {
-    pub images: Named<'a>,
-    pub wording: Wording,
-}
-
 pub const SURVEY: &CommandSpec = &CommandSpec {
     name: "survey",
     about: help::ABOUT_SURVEY,
@@ -59,34 +35,22 @@ pub const SURVEY: &CommandSpec = &CommandSpec {
     ],
 };
 
-pub fn survey_order<'a>(
-    alloc: Global,
-    matches: &ArgMatches<'a>,
-) -> Result<SurveyOrder<'a>, Refusal> {
-    let wording = if matches.get_flag("tsv") {
-        Wording::Rows
-    } else {
-        Wording::Words
-    };
-    Ok(SurveyOrder {
-        images: named_once(alloc, matches, help::TOO_MANY_TO_SURVEY)?,
-        wording,
-    })
-}
-
-/// Describes the images that the arguments name, on standard output. On error, `site` says where it
-/// occurred.
-pub fn survey<'a, R: Progress>(
+/// Reports on the images that the arguments name, on standard output: describes them in `wording`
+/// or, if that is `None`, lists their sections. On error, `site` says where it occurred.
+pub fn check<'a, R: Progress>(
     rt: &R,
-    order: &SurveyOrder<'a>,
+    named: &Named<'a>,
+    wording: Option<Wording>,
     site: &mut FaultSite<'a>,
 ) -> Result<End, Refusal> {
     let mut text = String::new(rt.alloc());
-    let names = names_of(rt, &order.images, &mut text, site)?;
+    let names = names_of(rt, named, &mut text, site)?;
+    let names = names.as_slice();
     *site = FaultSite::Lines;
     let mut report = BufWriter::new(rt.alloc(), io::writer(rt)).map_err(|_| AllocError)?;
-    let names = names.as_slice();
-    let images = &mut Images::or_input(rt, names, &order.images);
-    let answer = survey_to(rt.alloc(), images, names, order.wording, &mut report);
-    Ok(check_end(answer))
+    let images = &mut Images::or_input(rt, names, named);
+    Ok(check_end(match wording {
+        None => check_to(rt.alloc(), images, &mut report),
+        Some(wording) => survey_to(rt.alloc(), images, names, wording, &mut report),
+    }))
 }

@@ -2,8 +2,8 @@
 
 ghost use Rattle.tape_tool.specs.Words.{IsMistake};
 
-use crate::check::{CHECK, SURVEY, SurveyOrder, survey_order};
-use crate::command_spec::{CommandSpec, check_numbers, command_of, error_of, mistake};
+use crate::check::{CHECK, SURVEY};
+use crate::command_spec::{CommandSpec, check_numbers, command_of, mistake, wrong_value};
 use crate::extract::{EXTRACT, ExtractOrder, extract_order};
 use crate::help;
 use crate::images::Named;
@@ -20,6 +20,7 @@ use crate::write::words::{WRITE, WriteOrder, write_order};
 use clap::error::ErrorKind;
 use clap::{Arg, ArgAction, ArgMatches, Command, Error};
 use std::alloc::{AllocError, Global};
+use tape_run::Wording;
 
 /// The program. The usage line shows the name that users know, whatever the file is called.
 const TAPE: &CommandSpec = &CommandSpec {
@@ -44,7 +45,7 @@ pub enum Order<'a> {
     List(ListOrder<'a>),
     Init(InitOrder<'a>),
     Check(Named<'a>),
-    Survey(SurveyOrder<'a>),
+    Survey(Named<'a>, Wording),
     Write(WriteOrder<'a>),
     Extract(ExtractOrder<'a>),
     Unpack(UnpackOrder<'a>),
@@ -57,13 +58,29 @@ pub enum Order<'a> {
 /// Returns the request in the arguments `words`, the first of which is the program's name. On
 /// error, returns a usage error or a call for help, with its text, or a refused allocation.
 pub fn call_of<'a>(alloc: Global, words: &'a [String]) -> Result<Call<'a>, Error> {
-    match command(alloc)?.try_get_matches_from(words) {
-        Ok(matches) => call_in(alloc, &matches),
-        Err(error) if error.kind() == ErrorKind::OutOfMemory => Err(error),
-        Err(_) => match refused_as_shown(alloc, words) {
-            Ok(error) => Err(error),
-            Err(error) => Err(Error::from(error)),
-        },
+    let matches = match command(alloc)?.try_get_matches_from(words) {
+        Ok(matches) => matches,
+        Err(error) if error.kind() == ErrorKind::OutOfMemory => return Err(error),
+        Err(_) => return Err(refused_as_shown(alloc, words)?),
+    };
+    // The parser guarantees that the arguments name one of the commands.
+    let Some((name, words)) = matches.subcommand() else {
+        return Err(mistake(alloc, TAPE, help::NO_COMMAND));
+    };
+    check_numbers(alloc, spec_of(name), words)?;
+    match order_of(alloc, name, words) {
+        Ok(order) => Ok(Call {
+            name,
+            order,
+            explained: matches.get_flag("explain"),
+        }),
+        Err(refusal) => {
+            let value = match refusal {
+                Refusal::Value(word, _) => text_of(words, word),
+                _ => "",
+            };
+            Err(error_in(alloc, name, value, refusal))
+        }
     }
 }
 
@@ -99,35 +116,23 @@ fn command<'a>(alloc: Global) -> Result<Command<'a>, AllocError> {
     Ok(tape)
 }
 
-/// Returns the request in `matches`, the parsed arguments. The parser guarantees that they name one
-/// of the commands.
-fn call_in<'a>(alloc: Global, matches: &ArgMatches<'a>) -> Result<Call<'a>, Error> {
-    let Some((name, words)) = matches.subcommand() else {
-        return Err(mistake(alloc, TAPE, help::NO_COMMAND));
-    };
-    check_numbers(alloc, spec_of(name), words)?;
-    match order_of(alloc, name, words) {
-        Ok(order) => Ok(Call {
-            name,
-            order,
-            explained: matches.get_flag("explain"),
-        }),
-        Err(refusal) => {
-            let value = match refusal {
-                Refusal::Value(word, _) => text_of(words, word),
-                _ => "",
-            };
-            Err(error_in(alloc, name, value, refusal))
-        }
-    }
-}
-
 /// Returns the usage error of command `name` for the reason `refusal`, which may be that an
-/// argument has the value `value`.
+/// argument has the value `value`. If memory ran out, returns the error for that.
 pub fn error_in(alloc: Global, name: &str, value: &str, refusal: Refusal) -> Error
     ensures { IsMistake result }
 {
-    error_of(alloc, spec_of(name), value, refusal)
+    match refusal {
+        Refusal::Words(text) => mistake(alloc, spec_of(name), text),
+        Refusal::Value(_, text) => wrong_value(alloc, spec_of(name), value, text),
+        Refusal::NoText(null, number) => {
+            let what = if null { "name" } else { "line" };
+            match format!(in alloc; "{what} {number} {}", help::NO_TEXT_IN_LIST) {
+                Ok(text) => mistake(alloc, spec_of(name), text.as_str()),
+                Err(_) => Error::from(AllocError),
+            }
+        }
+        Refusal::Faulted(_) => Error::from(AllocError),
+    }
 }
 
 /// Returns the description of command `name`, or that of the program if there is none.
@@ -154,7 +159,15 @@ fn order_of<'a>(alloc: Global, name: &str, words: &ArgMatches<'a>) -> Result<Ord
     Ok(match name {
         "list" => Order::List(list_order(words)?),
         "check" => Order::Check(named_once(alloc, words, help::TOO_MANY_TO_CHECK)?),
-        "survey" => Order::Survey(survey_order(alloc, words)?),
+        "survey" => {
+            let is_rows = words.get_flag("tsv");
+            let wording = if is_rows {
+                Wording::Rows
+            } else {
+                Wording::Words
+            };
+            Order::Survey(named_once(alloc, words, help::TOO_MANY_TO_SURVEY)?, wording)
+        }
         "extract" => Order::Extract(extract_order(alloc, words)?),
         "unpack" => Order::Unpack(unpack_order(alloc, words)?),
         "salvage" => Order::Salvage(salvage_order(alloc, words)?),

@@ -1,10 +1,6 @@
 //! Tables of commands and their arguments.
-ghost use Rattle.std.specs.Prelude.{◌≡◌, IfOk};
-ghost use Rattle.clap.specs.Words.{kind_of};
 ghost use Rattle.tape_tool.specs.Words.{IsMistake};
 
-use crate::help;
-use crate::refusal::Refusal;
 use crate::shown::Shown;
 use clap::builder::ValueParser;
 use clap::error::ErrorKind;
@@ -132,31 +128,16 @@ pub fn check_numbers(
     Ok(())
 }
 
-/// Returns the usage error of the command for the reason `refusal`, which may be that an argument
-/// has the value `value`. If memory ran out, returns the error for that.
-pub fn error_of(alloc: Global, command_spec: &CommandSpec, value: &str, refusal: Refusal) -> Error
-    ensures { IsMistake result }
-{
-    match refusal {
-        Refusal::Words(text) => mistake(alloc, command_spec, text),
-        Refusal::Value(_, text) => wrong_value(alloc, command_spec, value, text),
-        Refusal::NoText(null, number) => {
-            let what = if null { "name" } else { "line" };
-            match format!(in alloc; "{what} {number} {}", help::NO_TEXT_IN_LIST) {
-                Ok(text) => mistake(alloc, command_spec, text.as_str()),
-                Err(_) => Error::from(AllocError),
-            }
-        }
-        Refusal::Faulted(_) => Error::from(AllocError),
-    }
-}
-
 /// Returns a usage error of the command, whose usage line follows `text`. If that cannot be
 /// allocated, returns the error for out of memory.
 pub fn mistake(alloc: Global, command_spec: &CommandSpec, text: &str) -> Error
     ensures { IsMistake result }
 {
-    match told(alloc, command_spec, text) {
+    let mut command = match command_of(alloc, command_spec) {
+        Ok(command) => command,
+        Err(error) => return Error::from(error),
+    };
+    match command.error(ErrorKind::ValueValidation, text) {
         Ok(error) => error,
         Err(error) => Error::from(error),
     }
@@ -164,18 +145,11 @@ pub fn mistake(alloc: Global, command_spec: &CommandSpec, text: &str) -> Error
 
 /// Returns the usage error for `value`, which is not accepted; the message shows `value` before
 /// `text`.
-fn wrong_value(alloc: Global, command_spec: &CommandSpec, value: &str, text: &str) -> Error
+pub fn wrong_value(alloc: Global, command_spec: &CommandSpec, value: &str, text: &str) -> Error
     ensures { IsMistake result }
 {
     match format!(in alloc; "invalid value \"{}\": {text}", Shown(value)) {
         Ok(text) => mistake(alloc, command_spec, text.as_str()),
         Err(_) => Error::from(AllocError),
     }
-}
-
-/// Returns the usage error with `text`. Fails if it cannot be allocated.
-fn told(alloc: Global, command_spec: &CommandSpec, text: &str) -> Result<Error, AllocError>
-    ensures { IfOk result (λ error. kind_of error ≡ ErrorKind.ValueValidation) }
-{
-    command_of(alloc, command_spec)?.error(ErrorKind::ValueValidation, text)
 }

@@ -1,20 +1,23 @@
 //! Explanations of faults, printed after the line of the fault if `--explain` is specified.
 mod files;
 mod missing;
-mod reason;
 
-use crate::fault::{ToolFault, number_of_file, number_of_write};
+use crate::fault::{FileFault, ToolFault, number_of_file, number_of_write};
 use crate::shown::Shown;
+use crate::write::run::split;
 use files::{
     FILE_OF_FOLDER, FILE_OF_IMAGE, FILE_OF_IMAGES, FILE_OF_INPUT, FILE_OF_LINES, FILE_OF_LIST,
     FILE_OF_LOG, FILE_OF_NEW, FILE_OF_OUT, FILE_OF_STAGE, FILE_OF_VOLUME,
 };
 pub use missing::explain_missing;
-pub use reason::reason_of;
-use std::{fmt, io};
+use std::fs::File;
+use std::io::Read;
+use std::rt::Runtime;
+use std::{fmt, fs, io};
 use tape_image::ImageCause;
 use tape_run::RunFault;
 use tape_writer::Prefix;
+use tape_writer::system::folder_of;
 
 /// The file or stream that the program was working on when a fault occurred, as far as it is known.
 #[derive(Clone, Copy, PartialEq, Eq)]
@@ -60,7 +63,7 @@ impl fmt::Display for FaultSite<'_> {
             }
             FaultSite::Listed(number) => write!(f, "  Image: name {number} in the list"),
             _ => {
-                let (kind, name) = self.named();
+                let (kind, name, _) = self.described();
                 write!(f, "  {kind}: {}", Shown(name))
             }
         }
@@ -68,19 +71,23 @@ impl fmt::Display for FaultSite<'_> {
 }
 
 impl<'a> FaultSite<'a> {
-    /// Returns the kind of the site, and the name of the file.
-    fn named(&self) -> (&'static str, &'a str) {
+    /// Returns the kind of the site, the name of the file, and the explanations of file faults.
+    fn described(&self) -> (&'static str, &'a str, &'static [&'static str]) {
         match *self {
-            FaultSite::Unknown | FaultSite::Volume(_, _, _) | FaultSite::Listed(_) => ("", ""),
-            FaultSite::Lines => ("Output", "standard output"),
-            FaultSite::Stdin => ("Image", "standard input"),
-            FaultSite::Image(path) => ("Image", path),
-            FaultSite::Input(word) => ("Input", word),
-            FaultSite::List(path) => ("List", path.unwrap_or("standard input")),
-            FaultSite::Out(path) | FaultSite::New(path) => ("OUT", path),
-            FaultSite::Log(path) => ("LOG", path),
-            FaultSite::Stage(path) => ("Stage", path),
-            FaultSite::Folder(path) | FaultSite::Images(path) => ("DIR", path),
+            FaultSite::Unknown => ("", "", FILE_OF_IMAGES),
+            FaultSite::Lines => ("Output", "standard output", FILE_OF_LINES),
+            FaultSite::Stdin => ("Image", "standard input", FILE_OF_IMAGE),
+            FaultSite::Image(path) => ("Image", path, FILE_OF_IMAGE),
+            FaultSite::Listed(_) => ("Image", "", FILE_OF_IMAGE),
+            FaultSite::Volume(_, _, _) => ("Image", "", FILE_OF_VOLUME),
+            FaultSite::Input(word) => ("Input", word, FILE_OF_INPUT),
+            FaultSite::Images(path) => ("DIR", path, FILE_OF_IMAGES),
+            FaultSite::List(path) => ("List", path.unwrap_or("standard input"), FILE_OF_LIST),
+            FaultSite::Out(path) => ("OUT", path, FILE_OF_OUT),
+            FaultSite::New(path) => ("OUT", path, FILE_OF_NEW),
+            FaultSite::Log(path) => ("LOG", path, FILE_OF_LOG),
+            FaultSite::Stage(path) => ("Stage", path, FILE_OF_STAGE),
+            FaultSite::Folder(path) => ("DIR", path, FILE_OF_FOLDER),
         }
     }
 }
@@ -101,7 +108,15 @@ impl fmt::Display for Explanation<'_> {
             Some(reason) if is_image && reason.kind() == io::ErrorKind::IsADirectory => A_FOLDER,
             _ => text_of(self.fault, self.site),
         };
-        let site = site_of(self.fault, self.site);
+        let is_stage = matches!(
+            self.fault,
+            ToolFault::Stage(_) | ToolFault::StageInUse | ToolFault::Run(RunFault::OtherFile)
+        );
+        let site = match self.site {
+            // In `unpack`, a fault of a stage is one of the stage of the file.
+            FaultSite::Folder(_) if is_stage => FaultSite::Stage(STAGE_OF_FAILED),
+            site => site,
+        };
         let is_known = match self.fault {
             ToolFault::Run(_) => matches!(site, FaultSite::Stage(_)),
             _ => site != FaultSite::Unknown,
@@ -117,21 +132,51 @@ impl fmt::Display for Explanation<'_> {
     }
 }
 
-/// Returns the site to explain for `fault`: in `unpack`, a fault of a stage is one of the stage of
-/// the file, not of the directory.
-fn site_of<'a>(fault: ToolFault, site: FaultSite<'a>) -> FaultSite<'a> {
-    let is_stage = matches!(
-        fault,
-        ToolFault::Stage(_) | ToolFault::StageInUse | ToolFault::Run(RunFault::OtherFile)
-    );
+/// Accesses the file with the fault again, and returns the system's error. Returns `None` if there
+/// is no error now, or if there is no file that can be accessed again.
+pub fn reason_of<R: Runtime>(rt: &R, fault: ToolFault, site: FaultSite<'_>) -> Option<io::Error> {
+    match fault {
+        ToolFault::File(FileFault::NotOpened | FileFault::ReadFailed) => {}
+        ToolFault::Image(fault) if fault.cause == ImageCause::Device => {}
+        _ => return None,
+    }
     match site {
-        FaultSite::Folder(_) if is_stage => FaultSite::Stage(STAGE_OF_FAILED),
-        _ => site,
+        FaultSite::Image(path) | FaultSite::List(Some(path)) | FaultSite::Stage(path) => unread(
+            rt, path,
+        ),
+        FaultSite::Input(word) => unread(rt, split(word).1),
+        FaultSite::Out(path) | FaultSite::New(path) | FaultSite::Log(path) => {
+            fs::metadata(rt, folder_of(path)).err()
+        }
+        FaultSite::Folder(path) | FaultSite::Images(path) | FaultSite::Volume(path, _, _) => {
+            fs::metadata(rt, path).err()
+        }
+        FaultSite::Unknown
+        | FaultSite::Lines
+        | FaultSite::Stdin
+        | FaultSite::List(None)
+        | FaultSite::Listed(_) => None,
     }
 }
 
+/// Returns the error with which reading the file at `path` fails, if any. A pipe or a device is not
+/// opened, since that might block.
+fn unread<R: Runtime>(rt: &R, path: &str) -> Option<io::Error> {
+    match fs::metadata(rt, path) {
+        Ok(found) if found.is_file() || found.is_dir() => {}
+        Ok(_) => return None,
+        Err(error) => return Some(error),
+    }
+    let mut file = match File::open(rt, path) {
+        Ok(file) => file,
+        Err(error) => return Some(error),
+    };
+    let mut byte = [0; 1];
+    file.read(&mut byte).err()
+}
+
 /// Returns the explanation of `fault`: what happened, what was saved, and what to do next.
-pub fn text_of(fault: ToolFault, site: FaultSite<'_>) -> &'static str {
+fn text_of(fault: ToolFault, site: FaultSite<'_>) -> &'static str {
     match fault {
         ToolFault::Image(_) if matches!(site, FaultSite::New(_) | FaultSite::Lines) =>
             MERGED_TOO_LONG,
@@ -142,27 +187,10 @@ pub fn text_of(fault: ToolFault, site: FaultSite<'_>) -> &'static str {
         },
         ToolFault::Label(fault) => nth(LABEL, fault.number()),
         ToolFault::Write(fault) => nth(WRITE, number_of_write(fault)),
-        ToolFault::File(fault) => nth(files_at(site), number_of_file(fault)),
+        ToolFault::File(fault) => nth(site.described().2, number_of_file(fault)),
         ToolFault::Run(fault) => nth(RUN, fault.number()),
         ToolFault::Stage(fault) => nth(STAGE, fault.number()),
         ToolFault::StageInUse => nth(STAGE, 7),
-    }
-}
-
-/// Returns the explanations of file faults for this kind of site.
-fn files_at(site: FaultSite<'_>) -> &'static [&'static str] {
-    match site {
-        FaultSite::Stdin | FaultSite::Image(_) | FaultSite::Listed(_) => FILE_OF_IMAGE,
-        FaultSite::Volume(_, _, _) => FILE_OF_VOLUME,
-        FaultSite::List(_) => FILE_OF_LIST,
-        FaultSite::Out(_) => FILE_OF_OUT,
-        FaultSite::New(_) => FILE_OF_NEW,
-        FaultSite::Log(_) => FILE_OF_LOG,
-        FaultSite::Stage(_) => FILE_OF_STAGE,
-        FaultSite::Folder(_) => FILE_OF_FOLDER,
-        FaultSite::Lines => FILE_OF_LINES,
-        FaultSite::Input(_) => FILE_OF_INPUT,
-        FaultSite::Images(_) | FaultSite::Unknown => FILE_OF_IMAGES,
     }
 }
 

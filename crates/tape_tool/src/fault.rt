@@ -1,11 +1,13 @@
-//! Errors of the program, and their numbers.
-ghost use Rattle.std.specs.Prelude.{◌≡◌};
+//! Errors of the program, their numbers, and the line that reports one.
+ghost use Rattle.std.specs.Prelude.{◌≡◌, Some};
 ghost use Rattle.tape_writer.specs.declared.system.fault.FileFault.TheVariants as files;
 ghost use Rattle.tape_tool.specs.Fault.{file_number, write_number, of_system, of_engine, of_list};
 ghost use Rattle.tape_tool.specs.Fault.{no_memory};
+ghost use Rattle.tape_tool.specs.Diagnostics.{fault_line};
 ghost use Rattle.tape_tool.specs.declared.fault.ToolFault.TheVariants.{File, Run};
 
 use std::alloc::AllocError;
+use std::fmt;
 use tape_image::ImageFault;
 use tape_label::LabelFault;
 use tape_run::{EngineFault, ListFault, RunFault, WriteFailed};
@@ -67,6 +69,31 @@ pub enum ToolFault {
 
 /// The fault if memory runs out, also for the arguments of the command line.
 pub const OUT_OF_MEMORY: ToolFault = ToolFault::Run(RunFault::OutOfMemory);
+
+/// The line that reports a fault: its kind, its number and, for an image, the byte offset.
+#[derive(Clone, Copy)]
+pub struct FaultLine(pub ToolFault);
+
+impl fmt::Display for FaultLine {
+    ghost output = { λ line. Some (fault_line line.0) };
+
+    fn fmt<W: fmt::Write>(&self, f: &mut fmt::Formatter<W>) -> fmt::Result {
+        match self.0 {
+            ToolFault::Image(fault) => {
+                let number = fault.cause.number();
+                let place = fault.place;
+                write!(f, "tape: image fault {number} at {place}\n")
+            }
+            ToolFault::Label(fault) => write!(f, "tape: label fault {}\n", fault.number()),
+            ToolFault::Write(fault) => write!(f, "tape: write fault {}\n", number_of_write(fault)),
+            ToolFault::File(fault) => write!(f, "tape: file fault {}\n", number_of_file(fault)),
+            ToolFault::Run(fault) => write!(f, "tape: run fault {}\n", fault.number()),
+            ToolFault::Stage(fault) => write!(f, "tape: stage fault {}\n", fault.number()),
+            // The stage's own faults have the numbers 1 to 6.
+            ToolFault::StageInUse => write!(f, "tape: stage fault {}\n", 7u8),
+        }
+    }
+}
 
 impl From<FileFault> for ToolFault {
     ghost from_gives = { λ fault e. e ≡ File fault };

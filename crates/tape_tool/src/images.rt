@@ -8,9 +8,9 @@ ghost use Rattle.tape_tool.specs.Names.{end_byte, names_in};
 use crate::explain::FaultSite;
 use crate::fault::FileFault;
 use crate::help;
-use crate::host::{Host, Progress};
 use crate::read_ahead::ReadAhead;
 use crate::refusal::{Refusal, open};
+use crate::screen::{Host, Progress};
 use crate::shown::Shown;
 use std::alloc::{AllocError, Global};
 use std::fs::File;
@@ -276,19 +276,6 @@ impl<'a, R: Progress> Images<'a, R> {
         }
     }
 
-    /// Opens image `number`, named `name`, or standard input.
-    fn open(&self, number: usize, name: &str) -> Result<Option<Image<R>>, AllocError> {
-        let bytes = if self.input == Some(number) {
-            ImageBytes::Input(self.rt.reader())
-        } else {
-            match File::open(self.rt, name) {
-                Ok(file) => ImageBytes::Named(file),
-                Err(_) => return Ok(None),
-            }
-        };
-        Ok(Some(image_of(self.rt, number, self.names.len(), bytes)?))
-    }
-
     /// Creates the source of the images named `names`, which begin with the arguments `named`. The
     /// first `-` among the arguments means standard input; in a list it is the name of a file.
     pub fn or_input(rt: &'a R, names: &'a [&'a str], named: &Named<'_>) -> Images<'a, R> {
@@ -313,7 +300,18 @@ impl<'a, R: Progress> ImageSource<Image<R>> for Images<'a, R> {
         let Some(name) = self.names.get(number) else {
             return Ok(None);
         };
-        let image = self.open(number, *name)?;
+        let bytes = if self.input == Some(number) {
+            Some(ImageBytes::Input(self.rt.reader()))
+        } else {
+            match open(self.rt, *name) {
+                Ok(file) => Some(ImageBytes::Named(file)),
+                Err(_) => None,
+            }
+        };
+        let image = match bytes {
+            Some(bytes) => Some(image_of(self.rt, number, self.names.len(), bytes)?),
+            None => None,
+        };
         if let Some(reels) = self.reels {
             let reel = reels.saturating_add(1);
             let _ = self

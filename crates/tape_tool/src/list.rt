@@ -2,18 +2,18 @@
 
 use crate::command_spec::{CommandSpec, Kind, Word};
 use crate::explain::FaultSite;
-use crate::fault::{FileFault, ToolFault};
+use crate::fault::ToolFault;
 use crate::help;
-use crate::host::Progress;
 use crate::images::{ImageBytes, image_of};
 use crate::program::{End, end_of};
 use crate::refusal::{Refusal, open};
+use crate::screen::Progress;
 use crate::words::at_most_one;
 use clap::ArgMatches;
 use std::io;
 use std::io::BufWriter;
 use tape_image::{ImageCause, ImageFault};
-use tape_run::{list_places_to, list_to};
+use tape_run::{ListFault, list_places_to, list_to};
 
 /// The request to `list`: an image at a path, or standard input.
 #[derive(Clone, Copy)]
@@ -50,22 +50,17 @@ const NO_MEMORY: ToolFault = ToolFault::Image(ImageFault {
     cause: ImageCause::OutOfMemory,
 });
 
-/// Lists the image at the path in `order`, or the one on standard input, on standard output. On
-/// error, `site` says where it occurred.
-pub fn list<'a, R: Progress>(rt: &R, order: ListOrder<'a>, site: &mut FaultSite<'a>) -> End {
+/// Lists the image at the path in `order`, or the one on standard input, on standard output. Both
+/// are buffered. On error, `site` says where it occurred.
+pub fn list<'a, R: Progress>(
+    rt: &R,
+    order: ListOrder<'a>,
+    site: &mut FaultSite<'a>,
+) -> Result<End, Refusal> {
     *site = match order.image {
         None => FaultSite::Stdin,
         Some(path) => FaultSite::Image(path),
     };
-    let listed = list_image(rt, order);
-    if let Err(ToolFault::File(FileFault::WriteFailed)) = listed {
-        *site = FaultSite::Lines;
-    }
-    end_of(listed)
-}
-
-/// Lists an image. The image and standard output are buffered.
-fn list_image<R: Progress>(rt: &R, order: ListOrder<'_>) -> Result<(), ToolFault> {
     let bytes = match order.image {
         None => ImageBytes::Input(rt.reader()),
         Some(path) => ImageBytes::Named(open(rt, path)?),
@@ -77,5 +72,8 @@ fn list_image<R: Progress>(rt: &R, order: ListOrder<'_>) -> Result<(), ToolFault
     } else {
         list_to(rt.alloc(), &mut image, &mut writer)
     };
-    Ok(listed?)
+    if let Err(ListFault::WriteFailed) = listed {
+        *site = FaultSite::Lines;
+    }
+    Ok(end_of(listed.map_err(|fault| ToolFault::from(fault))))
 }

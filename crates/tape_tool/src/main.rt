@@ -4,18 +4,16 @@
 mod check;
 mod command_line;
 mod command_spec;
-mod diagnostics;
 mod explain;
 mod extract;
 mod fault;
 mod help;
-mod host;
 mod images;
 mod init;
+mod launch;
 mod laws;
 mod list;
 mod merge;
-mod odd_word;
 mod program;
 mod read_ahead;
 mod refusal;
@@ -24,7 +22,6 @@ mod screen;
 mod shown;
 mod stage;
 mod staging;
-mod streams;
 #[cfg(test)]
 mod tests;
 mod unpack;

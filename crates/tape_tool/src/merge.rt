@@ -2,16 +2,17 @@
 
 use crate::command_spec::{CommandSpec, Kind, Word};
 use crate::explain::FaultSite;
-use crate::extract::{Draft, DraftFile, HELD, OutName};
+use crate::extract::{Draft, HELD, OutName};
 use crate::fault::{FileFault, OUT_OF_MEMORY, ToolFault};
 use crate::help;
-use crate::host::{Host, Progress};
 use crate::images::{Images, Named, names_of};
 use crate::program::End;
 use crate::refusal::Refusal;
+use crate::screen::{Host, Progress};
 use crate::words::{named, out_of};
 use clap::ArgMatches;
 use std::alloc::Global;
+use std::fs::File;
 use std::io;
 use std::io::{BufWriter, Sink, Write};
 use tape_image::{ImageCause, ImageFault};
@@ -91,7 +92,7 @@ fn merge_logged<'a, R: Progress>(
     order: &MergeOrder<'a>,
     log: &'a str,
     names: &[&str],
-    out: BufWriter<DraftFile>,
+    out: BufWriter<File>,
     name: &mut OutName<'_, R>,
     site: &mut FaultSite<'a>,
 ) -> End {

@@ -5,24 +5,21 @@ ghost use Rattle.clap.specs.Words.{kind_of};
 ghost use Rattle.tape_tool.specs.Ends.{exit_status, no_words_end, words_end, IsRefusalEnd};
 ghost use Rattle.tape_tool.specs.Ends.{end_of, check_end, extract_end, stage_end};
 
-use crate::check::{check, survey};
+use crate::check::check;
 use crate::command_line::{Order, call_of, error_in};
-use crate::diagnostics::FaultLine;
 use crate::explain::{Explanation, FaultSite, explain_missing, reason_of};
 use crate::extract::extract;
-use crate::fault::{FileFault, OUT_OF_MEMORY, ToolFault};
+use crate::fault::{FaultLine, FileFault, OUT_OF_MEMORY, ToolFault};
 use crate::help;
-use crate::host::{Host, Progress};
 use crate::init::init;
+use crate::launch::{keep_numbers, odd_word};
 use crate::list::list;
 use crate::merge::{compare, merge};
-use crate::odd_word::odd_word;
 use crate::refusal::Refusal;
 use crate::salvage::salvage;
-use crate::screen::{Line, Screen};
+use crate::screen::{Host, Line, Progress, Screen};
 use crate::stage::ending::StageEnding;
 use crate::stage::stage;
-use crate::streams::keep_numbers;
 use crate::unpack::unpack;
 use crate::write::run::write;
 use clap::error::ErrorKind;
@@ -142,7 +139,7 @@ fn finish<R: Eprint>(rt: &R, end: End) -> u8
 /// standard error is a terminal.
 pub fn run_on<R: Host>(rt: &R, is_terminal: bool) -> u8 {
     let line = Cell::new(Line::new(rt, is_terminal));
-    let screen = Screen::new(rt, &line);
+    let screen = Screen { rt, line: &line };
     let status = run(&screen);
     screen.clear();
     status
@@ -209,7 +206,20 @@ fn perform<'a, R: Progress>(rt: &R, words: &'a [String]) -> (End, Option<FaultSi
         Err(_) => call.explained,
     };
     let mut site = FaultSite::Unknown;
-    let end = match obey(rt, &call.order, explained, &mut site) {
+    let done = match &call.order {
+        Order::List(order) => list(rt, *order, &mut site),
+        Order::Init(order) => Ok(end_of(init(rt, order, &mut site))),
+        Order::Check(named) => check(rt, named, None, &mut site),
+        Order::Survey(named, wording) => check(rt, named, Some(*wording), &mut site),
+        Order::Write(order) => write(rt, order, &mut site),
+        Order::Extract(order) => extract(rt, order, explained, &mut site),
+        Order::Unpack(order) => unpack(rt, order, &mut site),
+        Order::Salvage(order) => salvage(rt, order, &mut site),
+        Order::Stage(order) => stage(rt, order, &mut site),
+        Order::Merge(order) => merge(rt, order, &mut site),
+        Order::Compare(named) => compare(rt, named, &mut site),
+    };
+    let end = match done {
         Ok(end) => end,
         Err(refusal) => end_refused(rt, call.name, refusal),
     };
@@ -217,28 +227,6 @@ fn perform<'a, R: Progress>(rt: &R, words: &'a [String]) -> (End, Option<FaultSi
         explain_missing(rt, &call.order);
     }
     (end, explained.then_some(site))
-}
-
-/// Executes a command. On error, `site` says where it occurred.
-fn obey<'a, R: Progress>(
-    rt: &R,
-    order: &Order<'a>,
-    explained: bool,
-    site: &mut FaultSite<'a>,
-) -> Result<End, Refusal> {
-    match order {
-        Order::List(order) => Ok(list(rt, *order, site)),
-        Order::Init(order) => Ok(end_of(init(rt, order, site))),
-        Order::Check(named) => check(rt, named, site),
-        Order::Survey(order) => survey(rt, order, site),
-        Order::Write(order) => write(rt, order, site),
-        Order::Extract(order) => extract(rt, order, explained, site),
-        Order::Unpack(order) => unpack(rt, order, site),
-        Order::Salvage(order) => salvage(rt, order, site),
-        Order::Stage(order) => stage(rt, order, site),
-        Order::Merge(order) => merge(rt, order, site),
-        Order::Compare(named) => compare(rt, named, site),
-    }
 }
 
 /// Prints the text of the argument parser: help to standard output, a usage error to standard

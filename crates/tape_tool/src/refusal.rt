@@ -4,7 +4,7 @@
 ghost use Rattle.std.specs.Prelude.{◌≡◌, ◌⊎◌, None, Some, Ok, Err, IfErr, IsOk};
 
 use crate::fault::{FileFault, OUT_OF_MEMORY, ToolFault};
-use crate::host::Host;
+use crate::screen::Host;
 use crate::shown::Shown;
 use std::alloc::AllocError;
 use std::fs;

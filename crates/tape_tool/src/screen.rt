@@ -6,7 +6,6 @@
 
 ghost use Rattle.std.specs.Prelude.{◌≡◌, false, None};
 
-use crate::host::{Host, Progress};
 use std::alloc::{Allocator, Global};
 use std::cell::Cell;
 use std::env::{Env, FillError};
@@ -16,6 +15,14 @@ use std::io;
 use std::io::{Input, Lines};
 use std::rt::Runtime;
 use std::time::{Clock, Duration, Instant};
+pub use tape_writer::system::Host;
+
+/// A system that shows how far the images have been read.
+pub trait Progress: Host {
+    /// Shows that `bytes` bytes of image number `image` of `count` were read, if there is a
+    /// terminal.
+    fn show(&self, image: usize, count: usize, bytes: u64);
+}
 
 /// The time in milliseconds between two prints of the line, and before the first one.
 const PAUSE: u64 = 500;
@@ -52,16 +59,12 @@ impl Line {
 /// A system, with the line on its terminal.
 #[derive(Clone, Drop)]
 pub struct Screen<'a, R> {
-    rt: &'a R,
-    line: &'a Cell<Line>,
+    pub rt: &'a R,
+    /// The state of the line.
+    pub line: &'a Cell<Line>,
 }
 
-impl<'a, R: Host> Screen<'a, R> {
-    /// Returns the system `rt`, with the line whose state is in `line`.
-    pub fn new(rt: &'a R, line: &'a Cell<Line>) -> Screen<'a, R> {
-        Screen { rt, line }
-    }
-
+impl<R: Host> Screen<'_, R> {
     /// Removes the line from the terminal.
     pub fn clear(&self) {
         let line = self.line.get();

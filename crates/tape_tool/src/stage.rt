@@ -7,9 +7,9 @@ use crate::explain::FaultSite;
 use crate::extract::{HELD, Output, way_to_out};
 use crate::fault::{OUT_OF_MEMORY, ToolFault};
 use crate::help;
-use crate::host::Host;
 use crate::program::{End, stage_end};
 use crate::refusal::{Refusal, open};
+use crate::screen::Host;
 use crate::staging::locked_stage;
 use crate::words::{FORMS, at_most_one, form_of, text_of};
 use clap::ArgMatches;
@@ -70,7 +70,7 @@ pub fn stage<'a, R: Host>(
     *site = FaultSite::Lines;
     if let Some(out) = order.out {
         *site = FaultSite::Out(out);
-        way = Some((out, way_to_out(rt, out, Some(order.stage), &[])?));
+        way = Some((out, way_to_out(rt, out, Some(order.stage), None, &[])?));
     }
     let disk = match disk_of(rt, order.stage) {
         Ok(disk) => disk,

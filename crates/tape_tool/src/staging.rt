@@ -15,7 +15,7 @@ ghost use Rattle.tape_tool.specs.Staging.{FailsBy, RefusesBeginning, RefusesSess
 ghost use Rattle.tape_tool.specs.Staging.{as_sink, first_point};
 
 use crate::fault::{FileFault, ToolFault};
-use crate::host::Host;
+use crate::screen::Host;
 use std::alloc::Global;
 use std::fs::{File, OpenOptions, TryLockError};
 use tape_core::{Checkpoint, ReaderCore};

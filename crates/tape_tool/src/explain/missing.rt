@@ -2,13 +2,13 @@
 use super::{FaultSite, NEVER};
 use crate::command_line::Order;
 use crate::extract::are_files;
-use crate::host::Progress;
 use crate::images::{Images, names_of};
+use crate::screen::Progress;
 use crate::unpack::UnpackOrder;
 use crate::words::set_id_of;
 use std::alloc::{AllocError, Global};
 use tape_label::Field;
-use tape_run::{FoundFiles, SectionKey, SetFile, find_files, means, name_text, volume_of};
+use tape_run::{FoundFiles, SectionKey, find_files, means, name_text, volume_of};
 
 /// The maximum number of sets, or of files, that an explanation lists.
 const MOST: usize = 8;
@@ -24,10 +24,10 @@ pub fn explain_missing<R: Progress>(rt: &R, order: &Order<'_>) {
 /// The explanation by what the images of the command contain, which are read again. `None` if a
 /// command has none, or if they cannot be read twice.
 fn text_by_images<R: Progress>(rt: &R, order: &Order<'_>) -> Option<String> {
-    let (named, key) = match order {
-        Order::Extract(order) => (&order.images, Some((order.task.set_id, order.task.file))),
-        Order::Salvage(order) => (&order.images, Some((order.task.set_id, order.task.file))),
-        Order::Unpack(order) => (&order.images, None),
+    let named = match order {
+        Order::Extract(order) => &order.images,
+        Order::Salvage(order) => &order.images,
+        Order::Unpack(order) => &order.images,
         _ => return None,
     };
     if let Some(list) = named.list {
@@ -40,157 +40,180 @@ fn text_by_images<R: Progress>(rt: &R, order: &Order<'_>) -> Option<String> {
     if !are_files(rt, names) {
         return None;
     }
-    let met = find_files(rt.alloc(), &mut Images::new(rt, names)).ok()?;
-    match (order, key) {
-        (_, Some((set_id, file))) => file_text(rt.alloc(), names, &met, set_id, file),
-        (Order::Unpack(order), None) => choice_text(rt.alloc(), order, met.files.as_slice()),
+    let met = &find_files(rt.alloc(), &mut Images::new(rt, names)).ok()?;
+    let alloc = rt.alloc();
+    let shelf = Shelf { alloc, names, met };
+    match order {
+        Order::Extract(order) => shelf.file_text(order.task.set_id, order.task.file).ok(),
+        Order::Salvage(order) => shelf.file_text(order.task.set_id, order.task.file).ok(),
+        Order::Unpack(order) => shelf.choice_text(order),
         _ => None,
     }
 }
 
-/// What is missing of a file, by its labels and sections.
-fn file_text(
+/// The images of a command, by their names, and what is on them.
+#[derive(Clone, Copy)]
+struct Shelf<'n> {
     alloc: Global,
-    names: &[&str],
-    met: &FoundFiles,
-    set_id: Field<6>,
-    file: u16,
-) -> Option<String> {
-    let files = met.files.as_slice();
-    if !files.iter().any(|found| found.set_id == set_id) {
-        return no_set_text(alloc, set_id, files).ok();
-    }
-    let Some(found) = files
-        .iter()
-        .find(|found| found.set_id == set_id && found.file == file)
-    else {
-        return no_file_text(alloc, set_id, files).ok();
-    };
-    if found.differs {
-        return String::from_str(
-            alloc,
-            "  Labels of different files have this number, or complete copies of a section
-  of the file differ: 'tape survey' says which.
-  Keep the images of each set in a directory of its own.
-",
-        )
-        .ok();
-    }
-    match found.lacks {
-        Some(sect) => section_text(alloc, names, met, SectionKey { set_id, file, sect }).ok(),
-        None => String::from_str(
-            alloc,
-            "  Each section of the file is complete on some image. With --again, tape reads
-  the images until they yield nothing more, and their order does not matter.
-",
-        )
-        .ok(),
-    }
+    names: &'n [&'n str],
+    met: &'n FoundFiles,
 }
 
-/// No file of the set was found.
-fn no_set_text(alloc: Global, set_id: Field<6>, files: &[SetFile]) -> Result<String, AllocError> {
-    let (set, sets) = (shown(alloc, &set_id)?, list_of(alloc, files, None)?);
-    if sets.is_empty() {
-        return String::from_str(
-            alloc,
-            "  No file of any set was found on these images.
+impl Shelf<'_> {
+    /// What is missing of a file, by its labels and sections.
+    fn file_text(&self, set_id: Field<6>, file: u16) -> Result<String, AllocError> {
+        let files = self.met.files.as_slice();
+        let found = files
+            .iter()
+            .find(|found| found.set_id == set_id && found.file == file);
+        let text = match found {
+            None if !files.iter().any(|found| found.set_id == set_id) => {
+                return self.no_set_text(set_id);
+            }
+            None => return self.no_file_text(set_id),
+            Some(found) if found.differs => {
+                "  Labels of different files have this number, or complete copies of a section
+  of the file differ: 'tape survey' says which.
+  Keep the images of each set in a directory of its own.
+"
+            }
+            Some(found) => match found.lacks {
+                Some(sect) => return self.section_text(SectionKey { set_id, file, sect }),
+                None => {
+                    "  Each section of the file is complete on some image. With --again, tape reads
+  the images until they yield nothing more, and their order does not matter.
+"
+                }
+            },
+        };
+        String::from_str(self.alloc, text)
+    }
+
+    /// No file of the set was found.
+    fn no_set_text(&self, set_id: Field<6>) -> Result<String, AllocError> {
+        let (set, sets) = (shown(self.alloc, &set_id)?, self.list_of(None)?);
+        if sets.is_empty() {
+            return String::from_str(
+                self.alloc,
+                "  No file of any set was found on these images.
   'tape survey' says what they are.
 ",
-        );
-    }
-    format!(in alloc;
-        "  No label of set {set} was found on these images.
+            );
+        }
+        format!(in self.alloc;
+            "  No label of set {set} was found on these images.
   Sets found: {sets}.
   Give one of them as SET, or add the images of set {set}.
 "
-    )
-}
+        )
+    }
 
-/// No label of the file was found.
-fn no_file_text(alloc: Global, set_id: Field<6>, files: &[SetFile]) -> Result<String, AllocError> {
-    let (set, numbers) = (shown(alloc, &set_id)?, list_of(alloc, files, Some(set_id))?);
-    format!(in alloc;
-        "  No label of this file was found. Files of set {set} on these images:
+    /// No label of the file was found.
+    fn no_file_text(&self, set_id: Field<6>) -> Result<String, AllocError> {
+        let (set, numbers) = (shown(self.alloc, &set_id)?, self.list_of(Some(set_id))?);
+        format!(in self.alloc;
+            "  No label of this file was found. Files of set {set} on these images:
   {numbers}.
   'tape survey' prints their names.
 "
-    )
-}
+        )
+    }
 
-/// A section of the file is complete on no image.
-fn section_text(
-    alloc: Global,
-    names: &[&str],
-    met: &FoundFiles,
-    key: SectionKey,
-) -> Result<String, AllocError> {
-    let SectionKey { set_id, file, sect } = key;
-    if let Some(on) = image_of(alloc, names, met, key)? {
-        return format!(in alloc;
-            "  Section {sect} of file {file} is complete on no image. It begins on
+    /// A section of the file is complete on no image.
+    fn section_text(&self, key: SectionKey) -> Result<String, AllocError> {
+        let SectionKey { set_id, file, sect } = key;
+        let before = sect.saturating_sub(1);
+        if let Some(on) = self.image_of(key)? {
+            return format!(in self.alloc;
+                "  Section {sect} of file {file} is complete on no image. It begins on
   {on}.
   Look for another copy of that reel, or for another image of it.
 "
-        );
-    }
-    let before = sect.saturating_sub(1);
-    let earlier = SectionKey {
-        set_id,
-        file,
-        sect: before,
-    };
-    match image_of(alloc, names, met, earlier)? {
-        Some(on) => format!(in alloc;
-            "  Section {sect} of file {file} is on no image. It follows section {before} on
+            );
+        }
+        let earlier = SectionKey {
+            set_id,
+            file,
+            sect: before,
+        };
+        match self.image_of(earlier)? {
+            Some(on) => format!(in self.alloc;
+                "  Section {sect} of file {file} is on no image. It follows section {before} on
   {on}.
   Look for the reel that comes after that one.
 "
-        ),
-        None => format!(in alloc;
-            "  Section {sect} of file {file} is on no image: look for the reel with its
+            ),
+            None => format!(in self.alloc;
+                "  Section {sect} of file {file} is on no image: look for the reel with its
   beginning. 'tape survey' shows which volumes were found.
 "
-        ),
-    }
-}
-
-/// The volume and the name of the image on which a section begins, if one is known.
-fn image_of(
-    alloc: Global,
-    names: &[&str],
-    met: &FoundFiles,
-    key: SectionKey,
-) -> Result<Option<String>, AllocError> {
-    let Some(at) = met.locations.get(&key) else {
-        return Ok(None);
-    };
-    let (Some(name), Some(image)) = (names.get(*at), met.images.as_slice().get(*at)) else {
-        return Ok(None);
-    };
-    let name = name_text(alloc, *name)?;
-    let name = String::from_utf8_lossy(alloc, name.as_slice())?;
-    let Some(volume) = volume_of(image) else {
-        return Ok(Some(name));
-    };
-    Ok(Some(format!(in alloc; "volume {}, image {name}", shown(alloc, &volume)?)?))
-}
-
-/// What was chosen to be unpacked and not found, or `None` if something else is missing.
-fn choice_text(alloc: Global, order: &UnpackOrder<'_>, files: &[SetFile]) -> Option<String> {
-    let set_id = order.set.and_then(set_id_of);
-    if let Some(set_id) = set_id {
-        if !files.iter().any(|file| file.set_id == set_id) {
-            return no_set_text(alloc, set_id, files).ok();
+            ),
         }
-        let files_of_set = || files.iter().filter(|file| file.set_id == set_id);
+    }
+
+    /// The volume and the name of the image on which a section begins, if one is known.
+    fn image_of(&self, key: SectionKey) -> Result<Option<String>, AllocError> {
+        let Some(at) = self.met.locations.get(&key) else {
+            return Ok(None);
+        };
+        let (Some(name), Some(image)) = (self.names.get(*at), self.met.images.as_slice().get(*at))
+        else {
+            return Ok(None);
+        };
+        let name = name_text(self.alloc, *name)?;
+        let name = String::from_utf8_lossy(self.alloc, name.as_slice())?;
+        let Some(volume) = volume_of(image) else {
+            return Ok(Some(name));
+        };
+        let volume = shown(self.alloc, &volume)?;
+        Ok(Some(format!(in self.alloc; "volume {volume}, image {name}")?))
+    }
+
+    /// What was chosen to be unpacked and not found, or `None` if something else is missing.
+    fn choice_text(&self, order: &UnpackOrder<'_>) -> Option<String> {
+        let set_id = order.set.and_then(set_id_of)?;
+        let files_of_set = || self
+            .met
+            .files
+            .as_slice()
+            .iter()
+            .filter(|file| file.set_id == set_id);
+        if files_of_set().next().is_none() {
+            return self.no_set_text(set_id).ok();
+        }
         for word in order.files.as_slice() {
             if !files_of_set().any(|file| means(*word, file)) {
-                return no_file_text(alloc, set_id, files).ok();
+                return self.no_file_text(set_id).ok();
             }
         }
+        None
     }
-    None
+
+    /// The first sets that were found, each once, or the numbers of the first files of set `of`. A
+    /// list with the maximum number of names ends with an ellipsis.
+    fn list_of(&self, of: Option<Field<6>>) -> Result<String, AllocError> {
+        let (mut text, mut count) = (String::new(self.alloc), 0);
+        let mut before: Option<Field<6>> = None;
+        for file in self.met.files.as_slice() {
+            let (is_listed, name) = match of {
+                Some(set_id) => (
+                    file.set_id == set_id,
+                    format!(in self.alloc; "{}", file.file)?,
+                ),
+                None => (
+                    before != Some(file.set_id),
+                    shown(self.alloc, &file.set_id)?,
+                ),
+            };
+            before = Some(file.set_id);
+            if is_listed && count <= MOST {
+                text.push_str(if count > 0 { ", " } else { "" })?;
+                text.push_str(if count < MOST { name.as_str() } else { ".." })?;
+                count += 1;
+            }
+        }
+        Ok(text)
+    }
 }
 
 /// An identifier without the spaces at its end.
@@ -203,30 +226,6 @@ fn shown(alloc: Global, field: &Field<6>) -> Result<String, AllocError> {
     text.as_str().trim_end().to_string(alloc)
 }
 
-/// The first sets that were found, each once, or the numbers of the first files of set `of`. A list
-/// with the maximum number of names ends with an ellipsis.
-fn list_of(alloc: Global, files: &[SetFile], of: Option<Field<6>>) -> Result<String, AllocError> {
-    let (mut text, mut count) = (String::new(alloc), 0);
-    let mut before: Option<Field<6>> = None;
-    for file in files {
-        let is_listed = match of {
-            Some(set_id) => file.set_id == set_id,
-            None => before != Some(file.set_id),
-        };
-        before = Some(file.set_id);
-        if is_listed && count <= MOST {
-            let name = match of {
-                Some(_) => format!(in alloc; "{}", file.file)?,
-                None => shown(alloc, &file.set_id)?,
-            };
-            text.push_str(if count > 0 { ", " } else { "" })?;
-            text.push_str(if count < MOST { name.as_str() } else { ".." })?;
-            count += 1;
-        }
-    }
-    Ok(text)
-}
-
 /// The explanation that holds whatever the images contain.
 fn general_text(order: &Order<'_>) -> &'static str {
     match order {
@@ -235,7 +234,7 @@ fn general_text(order: &Order<'_>) -> &'static str {
   no image: look for another copy of that section. Without such a line, no
   section was found at all. 'tape survey' shows what the images are.
 ",
-        Order::Survey(_) =>
+        Order::Survey(_, _) =>
             "  A section is missing or damaged, copies differ, or an image was not read to
   its end: the lines of the files and images say which.
 ",

@@ -4,9 +4,9 @@ ghost use Rattle.std.specs.Prelude.{◌≡◌, None, Bool};
 ghost use Rattle.tape_tool.specs.Guards.{is_written_in_place};
 
 use crate::fault::{FileFault, ToolFault};
-use crate::host::Host;
 use crate::program::End;
 use crate::refusal::{FileId, Taking, remove, way_to_take};
+use crate::screen::Host;
 use std::alloc::{AllocError, Global};
 use std::fs::{File, OpenOptions, Permissions};
 use std::io::{BufWriter, Error, ErrorKind, Write};
@@ -25,22 +25,6 @@ pub fn is_written_in_place(kind: ErrorKind, there: bool) -> bool
         ErrorKind::PermissionDenied | ErrorKind::ReadOnlyFilesystem => true,
         ErrorKind::NotFound => !there,
         _ => false,
-    }
-}
-
-/// A new file. Writes are passed on; the contract makes no claim about the file's contents.
-#[derive(Drop)]
-pub struct DraftFile {
-    file: File,
-}
-
-impl Write for DraftFile {
-    fn write(&mut self, buf: &[u8]) -> io::Result<usize> {
-        self.file.write(buf)
-    }
-
-    fn flush(&mut self) -> io::Result<()> {
-        self.file.flush()
     }
 }
 
@@ -148,15 +132,15 @@ impl<R: Host> OutName<'_, R> {
     }
 }
 
-impl<R: Host> Place<BufWriter<DraftFile>> for OutName<'_, R> {
+impl<R: Host> Place<BufWriter<File>> for OutName<'_, R> {
     ghost stands = { λ _. None };
 
-    fn place(&mut self, out: BufWriter<DraftFile>) -> Result<(), WriteFailed> {
+    fn place(&mut self, out: BufWriter<File>) -> Result<(), WriteFailed> {
         // The buffer is written before the file gets its name.
         let Ok(draft) = out.into_inner() else {
             return Err(WriteFailed);
         };
-        self.take(&draft.file).map_err(|_| WriteFailed)
+        self.take(&draft).map_err(|_| WriteFailed)
     }
 }
 
@@ -164,7 +148,7 @@ impl<R: Host> Place<BufWriter<DraftFile>> for OutName<'_, R> {
 #[derive(Drop)]
 pub struct Draft<'a, R: Host> {
     pub name: OutName<'a, R>,
-    pub file: DraftFile,
+    pub file: File,
 }
 
 /// The maximum number of draft names that are tried.
@@ -228,10 +212,7 @@ impl<'a, R: Host> Draft<'a, R> {
                         name.clear();
                         break;
                     }
-                    return Ok(Some(Draft {
-                        name,
-                        file: DraftFile { file },
-                    }));
+                    return Ok(Some(Draft { name, file }));
                 }
                 Ok(None) => {}
                 Err(kind) if is_written_in_place(kind, before.is_some()) => return Ok(None),
@@ -248,8 +229,7 @@ impl<R: Host> Write for Draft<'_, R> {
     }
 
     fn flush(&mut self) -> io::Result<()> {
-        self.file.flush()?;
-        self.name.take(&self.file.file)
+        self.name.take(&self.file)
     }
 }
 

@@ -1,10 +1,10 @@
 //! Checks of the output of `extract`: whether it may be written, and how.
 
-use crate::extract::ExtractOrder;
 use crate::fault::FileFault;
 use crate::help;
-use crate::host::Host;
+use crate::images::List;
 use crate::refusal::{FileId, Refusal, look, open, same_file};
+use crate::screen::Host;
 use std::alloc::{AllocError, Global};
 use std::fs;
 use std::fs::Metadata;
@@ -38,41 +38,32 @@ pub enum Way {
     InPlace(Option<FileId>),
 }
 
-/// Returns how the output of `order` is to be written if the images are named `images`; see
-/// `way_to_out`.
-///
-/// # Errors
-///
-/// The errors are those of `way_to_out`, and `Words` if the output is the list, even if the list is
-/// standard input.
-pub fn way_of<R: Host>(rt: &R, order: &ExtractOrder<'_>, images: &[&str]) -> Result<Way, Refusal> {
-    if let (Some(list), Some(there)) = (order.images.list, look(rt, order.task.out)?) {
-        let path = list.file.unwrap_or(STANDARD_INPUT);
-        differs(rt, &there, path, help::OUT_IS_LIST)?;
-    }
-    way_to_out(rt, order.task.out, order.task.stage, images)
-}
-
 /// The path by which standard input is found as a file.
 const STANDARD_INPUT: &str = "/dev/stdin";
 
-/// Returns how the output `out`, recovered from `stage` and `images`, is to be written. Nothing is
-/// created or changed.
+/// Returns how the output `out`, recovered from `stage` and from `images`, of which some may be in
+/// `list`, is to be written. Nothing is created or changed.
 ///
 /// # Errors
 ///
-/// Returns `Words` if the output is the stage (even one that does not exist yet) or one of the
-/// images: the same file, whatever name or link leads to it. Returns `Faulted` with `Exists` if it
+/// Returns `Words` if the output is the stage (even one that does not exist yet), the list (even if
+/// it is standard input) or one of the images: the same file, whatever name or link leads to it.
+/// Returns `Faulted` with `Exists` if it
 /// might be a tape: it is not empty, and is named `.tap`, begins like an image, or is compressed,
 /// an archive or a stage; with `NotOpened` or `ReadFailed` if that cannot be determined.
 pub fn way_to_out<R: Host>(
     rt: &R,
     out: &str,
     stage: Option<&str>,
+    list: Option<List<'_>>,
     images: &[&str],
 ) -> Result<Way, Refusal> {
     let mut before = None;
     if let Some(there) = look(rt, out)? {
+        if let Some(list) = list {
+            let path = list.file.unwrap_or(STANDARD_INPUT);
+            differs(rt, &there, path, help::OUT_IS_LIST)?;
+        }
         if let Some(stage) = stage {
             differs(rt, &there, stage, help::OUT_IS_STAGE)?;
         }
@@ -123,14 +114,20 @@ fn differs<R: Host>(
     }
 }
 
-/// Returns whether the file at `path` might be a tape.
+/// Returns whether the file at `path` might be a tape: its name ends in `.tap`, in upper or lower
+/// case, or it begins as one of `FRONTS` or as an image.
 fn may_keep_a_tape<R: Host>(rt: &R, path: &str) -> Result<bool, Refusal> {
     let mut file = open(rt, path)?;
     let mut front = [0; FRONT];
     let Ok(count) = fill(&mut file, &mut front) else {
         return Err(Refusal::from(FileFault::ReadFailed));
     };
-    if is_named_image(path) || begins_as_kept(&front[..count]) {
+    let (name, front) = (path.as_bytes(), &front[..count]);
+    let is_named = name[name.len().saturating_sub(4)..].eq_ignore_ascii_case(b".tap");
+    let begins_as_kept = FRONTS.iter().any(|(place, bytes)| front
+        .get(*place..)
+        .is_some_and(|there| there.starts_with(*bytes)));
+    if is_named || begins_as_kept {
         return Ok(true);
     }
     match begins_as_image(rt.alloc(), &mut open(rt, path)?) {
@@ -141,20 +138,6 @@ fn may_keep_a_tape<R: Host>(rt: &R, path: &str) -> Result<bool, Refusal> {
             _ => Ok(false),
         },
     }
-}
-
-/// Returns whether `path` ends in `.tap`, in upper or lower case.
-fn is_named_image(path: &str) -> bool {
-    let name = path.as_bytes();
-    let end = name.len().saturating_sub(4);
-    name[end..].eq_ignore_ascii_case(b".tap")
-}
-
-/// Returns whether `front` has the bytes of one of `FRONTS`.
-fn begins_as_kept(front: &[u8]) -> bool {
-    FRONTS.iter().any(|(place, bytes)| front
-        .get(*place..)
-        .is_some_and(|there| there.starts_with(*bytes)))
 }
 
 /// Returns whether the first item of the image on `device`, or its end-of-medium marker, is

@@ -2,9 +2,9 @@
 use super::draft::Draft;
 use super::out::Way;
 use crate::fault::{FileFault, ToolFault};
-use crate::host::Host;
 use crate::program::End;
 use crate::refusal::FileId;
+use crate::screen::Host;
 use std::fs::{File, OpenOptions};
 use std::io;
 use std::io::{Error, ErrorKind, Write};

@@ -103,10 +103,10 @@ fn text_of(alloc: Global, order: &Order<'_>) -> Result<String, AllocError> {
         }
         Order::Check(images) => format!(in alloc; "check{}", Images(images)),
         Order::Compare(images) => format!(in alloc; "compare{}", Images(images)),
-        Order::Survey(order) => {
-            let is_rows = matches!(order.wording, Wording::Rows);
+        Order::Survey(images, wording) => {
+            let is_rows = matches!(wording, Wording::Rows);
             let wording = if is_rows { "rows" } else { "words" };
-            format!(in alloc; "survey {wording}{}", Images(&order.images))
+            format!(in alloc; "survey {wording}{}", Images(images))
         }
         Order::Stage(order) => format!(in alloc;
             "stage {} {:?} damaged={} {}",

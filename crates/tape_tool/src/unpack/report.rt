@@ -1,10 +1,9 @@
 //! The report of `unpack`: its lines, and how many files they were about.
 
 use super::UnpackOrder;
-use crate::diagnostics::FaultLine;
-use crate::fault::{FileFault, ToolFault};
-use crate::host::Host;
+use crate::fault::{FaultLine, FileFault, ToolFault};
 use crate::program::End;
+use crate::screen::Host;
 use arrayvec::ArrayVec;
 use std::alloc::Global;
 use std::io::Write;

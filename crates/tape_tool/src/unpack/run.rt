@@ -9,10 +9,10 @@ use crate::explain::FaultSite;
 use crate::extract::{Draft, Output, Task, extract_whole, gather};
 use crate::fault::{FileFault, OUT_OF_MEMORY, ToolFault};
 use crate::help;
-use crate::host::{Host, Progress};
 use crate::images::{Image, Images, names_from, names_of};
 use crate::program::{End, check_end};
 use crate::refusal::{Refusal, remove};
+use crate::screen::Progress;
 use crate::staging::session_in;
 use crate::words::set_id_of;
 use std::alloc::{AllocError, Global};
@@ -53,17 +53,20 @@ pub fn unpack<'a, R: Progress>(
     let names = names_of(rt, &order.images, &mut text, site)?;
     let names = names.as_slice();
     *site = FaultSite::Folder(order.folder);
-    is_folder(rt, order.folder)?;
+    match fs::metadata(rt, order.folder) {
+        Ok(found) if found.is_dir() => {}
+        // If it is an image, DIR was forgotten.
+        Ok(_) => return Err(Refusal::Words(help::DIR_IS_NO_FOLDER)),
+        Err(_) => return Err(Refusal::from(FileFault::NotOpened)),
+    }
     let out = BufWriter::new(rt.alloc(), io::writer(rt)).map_err(|_| AllocError)?;
     let mut lines = Lines {
         alloc: rt.alloc(),
         out,
         tally: Tally::new(),
     };
-    let met = match find_files(rt.alloc(), &mut Images::new(rt, names)) {
-        Ok(met) => met,
-        Err(fault) => return Err(Refusal::Faulted(ToolFault::Run(fault))),
-    };
+    let met = find_files(rt.alloc(), &mut Images::new(rt, names));
+    let met = met.map_err(|fault| ToolFault::Run(fault))?;
     let source = &mut Source {
         rt,
         order,
@@ -71,23 +74,11 @@ pub fn unpack<'a, R: Progress>(
         met: &met,
         mounted: None,
     };
-    let end = match unpack_all(source, &mut lines) {
-        Ok(end) => end,
-        Err(fault) => End::Faulted(fault),
-    };
+    let end = unpack_all(source, &mut lines).unwrap_or_else(|fault| End::Faulted(fault));
     Ok(match (end, flush(&mut lines.out)) {
         (End::Done | End::Incomplete, Err(fault)) => End::Faulted(ToolFault::from(fault)),
         (end, _) => end,
     })
-}
-
-/// Refuses `path` if it is not a directory. If it is an image, DIR was forgotten.
-fn is_folder<R: Host>(rt: &R, path: &str) -> Result<(), Refusal> {
-    match fs::metadata(rt, path) {
-        Ok(found) if found.is_dir() => Ok(()),
-        Ok(_) => Err(Refusal::Words(help::DIR_IS_NO_FOLDER)),
-        Err(_) => Err(Refusal::from(FileFault::NotOpened)),
-    }
 }
 
 /// Unpacks the chosen files, and reports the images that were not read to their end, and counts. If

@@ -5,12 +5,12 @@
 ghost use Rattle.std.specs.Prelude.{None};
 
 use super::report::LastLine;
-use crate::extract::{Draft, DraftFile, HELD};
+use crate::extract::{Draft, HELD};
 use crate::fault::{FileFault, ToolFault};
-use crate::host::{Host, Progress};
 use crate::images::Images;
 use crate::program::{End, end_of};
 use crate::refusal::{FileId, open, remove};
+use crate::screen::{Host, Progress};
 use hex::encode;
 use sha2::{Digest, Sha256};
 use std::alloc::{AllocError, Global};
@@ -33,26 +33,17 @@ pub struct Salvaged {
     report: String,
 }
 
-/// The files at the two paths.
-#[derive(Clone, Copy)]
-enum Earlier {
-    Nothing,
-    /// The files are those that an earlier run wrote, unchanged.
-    Own(FileId, FileId),
-    Other,
-}
-
 /// A new file, with the checksum of its bytes and with its last line.
 #[derive(Drop)]
 struct Summed {
-    out: BufWriter<DraftFile>,
+    out: BufWriter<File>,
     sum: Sha256,
     last: LastLine,
 }
 
 impl Summed {
     /// Creates a buffered writer to `file`, which also computes the checksum of the bytes.
-    fn new(alloc: Global, file: DraftFile) -> Result<Summed, ToolFault> {
+    fn new(alloc: Global, file: File) -> Result<Summed, ToolFault> {
         Ok(Summed {
             out: BufWriter::with_capacity(alloc, HELD, file).map_err(|_| AllocError)?,
             sum: Sha256::new(),
@@ -117,11 +108,7 @@ impl Salvaged {
         names: &[&str],
         last: &mut LastLine,
     ) -> Result<(), ToolFault> {
-        let (records, report) = match self.earlier(rt)? {
-            Earlier::Nothing => (None, None),
-            Earlier::Own(records, report) => (Some(records), Some(report)),
-            Earlier::Other => return Err(ToolFault::File(FileFault::Exists)),
-        };
+        let (records, report) = self.earlier(rt)?;
         let Draft { mut name, file } = Draft::over(rt, self.records.as_str(), records)?;
         let end = match Draft::over(rt, self.report.as_str(), report) {
             Ok(draft) => {
@@ -148,27 +135,32 @@ impl Salvaged {
 
     /// Removes the files that an earlier run wrote, unless they have changed since then.
     pub fn remove<R: Host>(&self, rt: &R) -> Result<(), ToolFault> {
-        if let Earlier::Own(_, _) = self.earlier(rt)? {
-            remove(rt, self.report.as_str());
-            remove(rt, self.records.as_str());
+        match self.earlier(rt) {
+            Ok((Some(_), _)) => {
+                remove(rt, self.report.as_str());
+                remove(rt, self.records.as_str());
+                Ok(())
+            }
+            Ok(_) | Err(ToolFault::File(FileFault::Exists)) => Ok(()),
+            Err(fault) => Err(fault),
         }
-        Ok(())
     }
 
-    /// Returns the files that have the two paths.
-    fn earlier<R: Host>(&self, rt: &R) -> Result<Earlier, ToolFault> {
+    /// Returns the files that an earlier run wrote, if the two paths have files. Returns `Exists`
+    /// if they have others, or these were changed.
+    fn earlier<R: Host>(&self, rt: &R) -> Result<(Option<FileId>, Option<FileId>), ToolFault> {
         let records = found(fs::symlink_metadata(rt, self.records.as_str()))?;
         let report = found(fs::symlink_metadata(rt, self.report.as_str()))?;
-        let (Some(records), Some(report)) = (&records, &report) else {
-            return Ok(match (records, report) {
-                (None, None) => Earlier::Nothing,
-                _ => Earlier::Other,
-            });
-        };
-        if records.is_file() && report.is_file() && self.is_own(rt, records.len(), report.len())? {
-            return Ok(Earlier::Own(FileId::of(records), FileId::of(report)));
+        match (&records, &report) {
+            (None, None) => return Ok((None, None)),
+            (Some(records), Some(report)) if records.is_file() && report.is_file() => {
+                if self.is_own(rt, records.len(), report.len())? {
+                    return Ok((Some(FileId::of(records)), Some(FileId::of(report))));
+                }
+            }
+            _ => {}
         }
-        Ok(Earlier::Other)
+        Err(ToolFault::File(FileFault::Exists))
     }
 
     /// Returns whether the last line of the report contains the checksums of both files, given
@@ -194,14 +186,17 @@ fn written<R: Progress>(
     rt: &R,
     task: &SalvageTask,
     names: &[&str],
-    records: DraftFile,
-    lines: DraftFile,
+    records: File,
+    lines: File,
     last: &mut LastLine,
-) -> Result<(BufWriter<DraftFile>, BufWriter<DraftFile>), ToolFault> {
+) -> Result<(BufWriter<File>, BufWriter<File>), ToolFault> {
     let alloc = rt.alloc();
     let mut report = Summed::new(alloc, lines)?;
     for (number, name) in names.iter().enumerate() {
-        write_text(&mut report, image_line(alloc, number, *name)?.as_slice())?;
+        let front = format!(in alloc; "FROM {} ", number.saturating_add(1))?;
+        write_text(&mut report, front.as_bytes())?;
+        write_text(&mut report, name_text(alloc, *name)?.as_slice())?;
+        write_text(&mut report, b"\n")?;
     }
     let mut kept = Kept(None);
     let images = &mut Images::new(rt, names);
@@ -220,15 +215,6 @@ fn written<R: Progress>(
     write_text(&mut out, line.as_bytes())?;
     flush(&mut out)?;
     Ok((records.out, out))
-}
-
-/// Returns the line of the report that names an image: `FROM`, its number from 1, and its name.
-fn image_line(alloc: Global, number: usize, name: &str) -> Result<Vec<u8>, AllocError> {
-    let front = format!(in alloc; "FROM {} ", number.saturating_add(1))?;
-    let mut line = Vec::from_slice(alloc, front.as_bytes())?;
-    line.extend_from_slice(name_text(alloc, name)?.as_slice())?;
-    line.push(b'\n')?;
-    Ok(line)
 }
 
 /// Returns the last line of a report: the checksums of the records, and of the lines before it.

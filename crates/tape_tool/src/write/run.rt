@@ -9,9 +9,9 @@ use super::words::WriteOrder;
 use crate::explain::FaultSite;
 use crate::fault::{FileFault, ToolFault};
 use crate::help;
-use crate::host::Host;
 use crate::program::{End, end_of};
 use crate::refusal::{Refusal, look, same_file};
+use crate::screen::Host;
 use std::alloc::AllocError;
 use std::fs::Metadata;
 use std::io;
@@ -21,8 +21,11 @@ use tape_label::{Field, Format, Head1};
 use tape_writer::system::{FolderPlan, InputFile, VOLUMES, image_path, write_in_folder};
 use tape_writer::{Input, WriteFault};
 
-/// Writes files to volumes, unless that would destroy a file. On error, `site` says where it
-/// occurred.
+/// Writes files to volumes, unless that would destroy a file, and reports the volumes. One input
+/// and one image are open at a time. On error, `site` says where it occurred.
+///
+/// Errors are checked in this order: the shape, the identifiers of the files, their inputs, and
+/// then those that the writer finds.
 pub fn write<'a, R: Host>(
     rt: &R,
     order: &WriteOrder<'a>,
@@ -30,19 +33,6 @@ pub fn write<'a, R: Host>(
 ) -> Result<End, Refusal> {
     *site = FaultSite::Images(order.folder);
     look_ahead(rt, order)?;
-    Ok(end_of(write_set(rt, order, site)))
-}
-
-/// Writes the files to volumes, and reports the volumes. One input and one image are open at a
-/// time.
-///
-/// Errors are checked in this order: the shape, the identifiers of the files, their inputs, and
-/// then those that the writer finds.
-fn write_set<'a, R: Host>(
-    rt: &R,
-    order: &WriteOrder<'a>,
-    site: &mut FaultSite<'a>,
-) -> Result<(), ToolFault> {
     let plan = FolderPlan {
         folder: order.folder,
         prefix: order.prefix,
@@ -57,8 +47,10 @@ fn write_set<'a, R: Host>(
     }
     let mut files = find_inputs(rt, order, site)?;
     *site = FaultSite::Images(order.folder);
-    let ended = write_in_folder(rt, &plan, files.as_mut_slice())?;
-    Ok(say(&mut io::writer(rt), files.len() as u64, ended.as_slice())?)
+    let ended = write_in_folder(rt, &plan, files.as_mut_slice());
+    let ended = ended.map_err(|fault| ToolFault::from(fault))?;
+    let said = say(&mut io::writer(rt), files.len() as u64, ended.as_slice());
+    Ok(end_of(said.map_err(|fault| ToolFault::from(fault))))
 }
 
 /// Returns the shape of all files. An impossible shape is reported as a fault of the writer.
