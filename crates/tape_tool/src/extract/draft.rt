@@ -136,7 +136,8 @@ impl<R: Host> Place<BufWriter<File>> for OutName<'_, R> {
     ghost stands = { λ _. None };
 
     fn place(&mut self, out: BufWriter<File>) -> Result<(), WriteFailed> {
-        // The buffer is written before the file gets its name.
+        // The buffer is written before the file gets its name. If only the directory cannot be
+        // synced, it has the name already.
         let Ok(draft) = out.into_inner() else {
             return Err(WriteFailed);
         };
