@@ -190,19 +190,22 @@ fn write_text(alloc: Global, order: &WriteOrder<'_>) -> Result<String, AllocErro
 
 #[test]
 fn requests(rt: HostRuntime) -> Result<(), Fail> {
-    let mut before = "";
+    let mut asked = String::new(rt.alloc());
     for line in REQUESTS.lines() {
         let line = line.trim_start();
-        if let Some((asked, wanted)) = line.split_once("=> ") {
-            let asked = if asked.is_empty() { before } else { asked };
-            let words = words_of(rt.alloc(), asked)?;
-            let call = call_of(rt.alloc(), words.as_slice())?;
-            let explained = if call.explained { "explained: " } else { "" };
-            let text = text_of(rt.alloc(), &call.order)?;
-            let text = format!(in rt.alloc(); "{explained}{text}")?;
-            assert!(rt; text.as_str() == wanted, "{asked}: {text}");
+        let Some((words, wanted)) = line.split_once("=> ") else {
+            asked = line.to_string(rt.alloc())?;
+            continue;
+        };
+        if !words.is_empty() {
+            asked = words.to_string(rt.alloc())?;
         }
-        before = line;
+        let words = words_of(rt.alloc(), asked.as_str())?;
+        let call = call_of(rt.alloc(), words.as_slice())?;
+        let explained = if call.explained { "explained: " } else { "" };
+        let text = text_of(rt.alloc(), &call.order)?;
+        let text = format!(in rt.alloc(); "{explained}{text}")?;
+        assert!(rt; text.as_str() == wanted, "{asked}: {text}");
     }
     Ok(())
 }
