@@ -16,9 +16,9 @@ use Rattle.tape_core.specs.{Walks.HasGiven, Weight.Rose, declared.sink.SinkFault
 use Rattle.tape_blocks.specs.Block.{Portion}
 use Rattle.tape_blocks.specs.declared.parts.Part.{Part}
 
--- The stage returned its next part, or refused the call. Its disk was only read, and remains honest
--- if it was. It failed only if the call was refused; and then it did, if the parts to come are known
--- and the stage can still be read.
+-- The stage returned its next part, or refused the call. Its disk was only read, and is honest if
+-- it was before. The disk failed only if the call was refused; and then it did, if the parts to
+-- come are known and the stage can still be read.
 pub record StageGave {D : Type 0} {disk : Ghosts D} (old : Stage D disk)
     (result : Result (Option Part) SinkFault) (new : Stage D disk) : Type 0 where
   pub gave : HasGiven (λ s parts. Holds s parts) (λ s. s.weight) (λ s. s.refused)
