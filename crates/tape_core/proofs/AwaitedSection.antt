@@ -1,12 +1,10 @@
 -- Facts about the section needed, and about the rest of the volume.
 use Rattle.std.proofs.Common.{◌≡◌, ◌<◌, ◌⊎◌, List, [], ◌∷◌, ◌++◌, length, drop, Bool, true, false}
 use Rattle.std.proofs.Common.{Some, None, refl, sym, ap, ◌∙◌, subst, inl, inr, append_assoc, ◌||◌}
-use Rattle.std.proofs.Common.{MatchBool}
-use Rattle.std.proofs.lemmas.List.{drop-append-le}
-use Rattle.tape_set.specs.declared.position.Position.{Position}
-use Rattle.tape_set.specs.{Position.is_start, Lawful.FileForm, Lawful.TellsForm}
+use Rattle.std.proofs.{Common.MatchBool, lemmas.List.drop-append-le}
 use Rattle.tape_set.specs.Layout.{Section, Placed, Entry, a_mark, is_data, data_group}
-use Rattle.tape_set.specs.Layout.{trailer_group, sections, on}
+use Rattle.tape_set.specs.{Layout.trailer_group, Layout.sections, Layout.on, Position.is_start}
+use Rattle.tape_set.specs.{declared.position.Position.Position, Lawful.FileForm, Lawful.TellsForm}
 use Rattle.tape_set.specs.Reach.{passes, far, before_data, moved}
 use Rattle.tape_set.proofs.{Everywhere.every-append, Numbering.FileOf, Numbering.section_found}
 use Rattle.tape_set.proofs.{Reaching.passes_longer, Reaching.passes_length, Volumes.IsOn}
@@ -14,8 +12,7 @@ use Rattle.tape_set.proofs.Forms.{one_form, forms_alike, form_told}
 use Rattle.tape_core.specs.declared.event.Heading.{Heading}
 use Rattle.tape_core.specs.Follows.{FileTells, KnownAt, reading, to_come, Among, Inside, Reached}
 use Rattle.tape_core.proofs.Fronts.{left_more, ahead_later, wanted_here, AtIt, Ahead, among_on}
-use Rattle.tape_core.proofs.Fronts.{here, far_on, shorter}
-use Rattle.tape_core.proofs.Aim.{Aim}
+use Rattle.tape_core.proofs.{Fronts.here, Fronts.far_on, Fronts.shorter, Aim.Aim}
 
 module _ (aim : Aim) where
   open aim use {set, l, core, at, sect, block, part, k, w, found, good}

@@ -5,18 +5,17 @@ use Rattle.std.proofs.lemmas.Bool.Decides.{nat_tests}
 use Rattle.tape_blocks.specs.Tight.{Filled}
 use Rattle.tape_set.specs.Position.{block_of}
 use Rattle.tape_set.specs.Layout.{Entry, a_label, entries, sections, on}
-use Rattle.tape_core.specs.declared.event.Reason.TheVariants.{BadItem, ReelEnded}
-use Rattle.tape_core.specs.declared.event.Phase.{Phase}
 use Rattle.tape_core.specs.declared.event.Phase.TheVariants.{Over, Broken, Volume as AtVolume}
 use Rattle.tape_core.specs.declared.event.Phase.TheVariants.{VolumeLabels, Header2, Headers}
 use Rattle.tape_core.specs.declared.event.Phase.TheVariants.{DataPassed, DataWanted, TrailerPassed}
-use Rattle.tape_core.specs.declared.event.Phase.TheVariants.{TrailerWanted, Trailers, NextFile}
-use Rattle.tape_core.specs.Table.{useless, passed, at_bad}
 use Rattle.tape_core.specs.Follows.{to_come, Left, BarrenNext, BarrenTrailers, BarrenTrailer}
+use Rattle.tape_core.specs.declared.event.Reason.TheVariants.{BadItem, ReelEnded}
+use Rattle.tape_core.specs.{declared.event.Phase.Phase, Table.useless, Table.passed, Table.at_bad}
+use Rattle.tape_core.specs.declared.event.Phase.TheVariants.{TrailerWanted, Trailers, NextFile}
 use Rattle.tape_core.specs.Follows.{BarrenData, Follows}
+use Rattle.tape_core.proofs.HeaderSteps.{Next, passed_next, either, bad_here, over_next}
 use Rattle.tape_core.proofs.{Aim.Aim, Fronts.ahead_later, TrailerSteps.trailer_bad}
 use Rattle.tape_core.proofs.AwaitedSection.{all_among, on_with, ahead_inside, ahead_passed}
-use Rattle.tape_core.proofs.HeaderSteps.{Next, passed_next, either, bad_here, over_next}
 use Rattle.tape_core.proofs.HeaderSteps.{bad_between}
 use Rattle.tape_core.proofs.DataSteps.{data_below, data_bad, count_cases, all_counted}
 use Rattle.tape_core.proofs.StraySteps.{stray_over, stray_first, stray_bad, at_start, data_astray}

@@ -4,32 +4,31 @@ use Rattle.std.proofs.Common.{Ok, Err, refl, sym, ap, subst, ◌∙◌, arith, n
 use Rattle.std.proofs.Common.{◌==◌}
 use Rattle.std.specs.Str.{bytes_eq}
 use Rattle.tape_image.specs.Tape.{TapeItem, block, bad, mark}
-use Rattle.tape_label.specs.declared.values.{Kind.Kind, Head1.Head1, Head2.Head2, Trail1.Trail1}
-use Rattle.tape_label.specs.declared.label.LabelFault.{LabelFault}
-use Rattle.tape_label.specs.declared.values.Kind.TheVariants as kinds
-use Rattle.tape_label.specs.{Kinds.kind_at, VolumeLabels.is_volume_label}
+use Rattle.tape_label.specs.{declared.values.Kind.Kind, declared.values.Head1.Head1, Kinds.kind_at}
+use Rattle.tape_label.specs.{declared.values.Head2.Head2, declared.values.Trail1.Trail1}
+use Rattle.tape_label.specs.{declared.label.LabelFault.LabelFault, VolumeLabels.is_volume_label}
 use Rattle.tape_label.specs.Reading.{head1_at, head2_at, trail1_at}
-use Rattle.tape_blocks.specs.declared.check.BlockFault.{BlockFault}
-use Rattle.tape_blocks.specs.Judged.{judged}
+use Rattle.tape_label.specs.declared.values.Kind.TheVariants as kinds
+use Rattle.tape_blocks.specs.{declared.check.BlockFault.BlockFault, Judged.judged}
 use Rattle.tape_set.specs.declared.position.Position.{Position}
 use Rattle.tape_set.specs.declared.position.Position.TheVariants.{Awaits, Finished}
 use Rattle.tape_set.specs.Position.{sect_of, block_of, part_of, next_section}
 use Rattle.tape_set.specs.Lawful.{FileForm, label_count, most_blocks}
-use Rattle.tape_core.specs.declared.event.Answer.TheVariants.{SectionDone, Complete}
 use Rattle.tape_core.specs.declared.event.Reason.TheVariants.{OtherSet, NotOnReel, BlockCount}
 use Rattle.tape_core.specs.declared.event.Reason.TheVariants.{LaterSection, EarlierSection}
-use Rattle.tape_core.specs.declared.event.Reason.TheVariants.{SectionDiffers, BadItem, SpanLeft}
-use Rattle.tape_core.specs.declared.event.{Heading.Heading, Phase.Phase}
 use Rattle.tape_core.specs.declared.event.Phase.TheVariants.{Over, Broken, Volume, VolumeLabels}
 use Rattle.tape_core.specs.declared.event.Phase.TheVariants.{Header2, Headers, DataPassed}
 use Rattle.tape_core.specs.declared.event.Phase.TheVariants.{DataWanted, TrailerPassed}
-use Rattle.tape_core.specs.declared.event.Phase.TheVariants.{TrailerWanted, Trailers, NextFile}
-use Rattle.tape_core.specs.Labels.{heading_of, form_at, other_file_id, other_shape}
-use Rattle.tape_core.specs.{Parts.begun_before, Parts.other_front, Known.is_finished, State.State}
 use Rattle.tape_core.specs.Table.{passed, useless, broken, moved_to, delivered, first_label}
 use Rattle.tape_core.specs.Table.{first_labels, at_head1, at_head2, second_label, at_judged}
 use Rattle.tape_core.specs.Table.{at_awaited, other_numbers, at_passed_trailer, at_end}
 use Rattle.tape_core.specs.Table.{at_wanted_trailer, at_block, at_mark, at_bad, at_item, step_of}
+use Rattle.tape_core.specs.declared.event.Answer.TheVariants.{SectionDone, Complete}
+use Rattle.tape_core.specs.declared.event.Reason.TheVariants.{SectionDiffers, BadItem, SpanLeft}
+use Rattle.tape_core.specs.{declared.event.Heading.Heading, declared.event.Phase.Phase, State.State}
+use Rattle.tape_core.specs.declared.event.Phase.TheVariants.{TrailerWanted, Trailers, NextFile}
+use Rattle.tape_core.specs.Labels.{heading_of, form_at, other_file_id, other_shape}
+use Rattle.tape_core.specs.{Parts.begun_before, Parts.other_front, Known.is_finished}
 use Rattle.tape_core.specs.Table.{unless_complete}
 use Rattle.tape_core.specs.Behind.{passed_over, expected_over, PassesTo, AreInOrder}
 

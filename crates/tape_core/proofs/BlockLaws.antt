@@ -5,8 +5,7 @@ use Rattle.std.proofs.Common.{drop, Bool, false, Ok, refl, sym, ap, ◌∙◌, a
 use Rattle.std.proofs.lemmas.Bool.Decides.{nat_tests}
 use Rattle.tape_label.specs.declared.values.Format.{Format}
 use Rattle.tape_label.specs.declared.values.Format.TheVariants.{Fixed, Counted, Spanned}
-use Rattle.tape_blocks.specs.declared.parts.Span.{Span}
-use Rattle.tape_blocks.specs.declared.parts.Span.TheVariants.{Whole}
+use Rattle.tape_blocks.specs.{declared.parts.Span.Span, declared.parts.Span.TheVariants.Whole}
 use Rattle.tape_blocks.specs.Block.{Portion, Holds, indicator, span_by}
 use Rattle.tape_blocks.specs.{Spans.InOrder, Spans.continues, Judged.judged, Judged.begun_behind}
 use Rattle.tape_blocks.proofs.FrontLaws.{spellings_first, bool_eq-same}

@@ -1,10 +1,9 @@
 -- Readers and labels for the mistakes, and proofs that they can exist.
 use Rattle.std.proofs.Common.{ℕ, false, codes, Some, None}
-use Rattle.tape_label.specs.declared.values.{Format.TheVariants.Fixed, Head1.Head1}
-use Rattle.tape_set.specs.declared.position.{Position.Position, Position.TheVariants.Awaits}
-use Rattle.tape_set.specs.Lawful.{FileForm}
-use Rattle.tape_core.specs.declared.event.{Heading.Heading, Phase.Phase}
-use Rattle.tape_core.specs.State.{State}
+use Rattle.tape_label.specs.{declared.values.Format.TheVariants.Fixed, declared.values.Head1.Head1}
+use Rattle.tape_set.specs.{declared.position.Position.Position, Lawful.FileForm}
+use Rattle.tape_set.specs.declared.position.Position.TheVariants.{Awaits}
+use Rattle.tape_core.specs.{declared.event.Heading.Heading, declared.event.Phase.Phase, State.State}
 
 -- ---- readers and labels, written out
 

@@ -3,18 +3,17 @@
 use Rattle.std.proofs.Common.{◌≡◌, ◌<◌, ◌≤◌, ℕ, ◌+◌, ◌-◌, List, [], ◌∷◌, ◌++◌, length, drop, Bool}
 use Rattle.std.proofs.Common.{true, false, refl, sym, ap, ◌∙◌, subst, append_assoc, arith}
 use Rattle.std.proofs.Common.{length-append, map, nat_lt}
-use Rattle.std.proofs.lemmas.{Bool.Decides.nat_tests, List.drop_all, List.length-drop}
+use Rattle.std.proofs.{lemmas.Bool.Decides.nat_tests, lemmas.List.drop_all, lemmas.List.length-drop}
 use Rattle.tape_blocks.specs.Tight.{Filled}
 use Rattle.tape_set.specs.{Position.block_of, Lawful.FileForm}
 use Rattle.tape_set.specs.Layout.{Placed, a_label, a_data_block, a_mark, data_group, trailer_group}
 use Rattle.tape_set.specs.Reach.{moved, stopped, good_run}
-use Rattle.tape_core.specs.declared.event.{Reason.TheVariants.BadItem, Heading.Heading}
+use Rattle.tape_core.specs.{declared.event.Reason.TheVariants.BadItem, Table.useless, Table.passed}
+use Rattle.tape_core.specs.declared.event.Heading.{Heading}
 use Rattle.tape_core.specs.declared.event.Phase.TheVariants.{DataWanted, TrailerWanted}
-use Rattle.tape_core.specs.Table.{useless, passed}
 use Rattle.tape_core.specs.Follows.{Inside, Reached, InData}
 use Rattle.tape_core.proofs.Lists.{run_all, Full, moved_bad, moved_all, stopped_block, or_true}
-use Rattle.tape_core.proofs.Lists.{both_false}
-use Rattle.tape_core.proofs.{Aim.Aim, Fronts.here}
+use Rattle.tape_core.proofs.{Lists.both_false, Aim.Aim, Fronts.here}
 use Rattle.tape_core.proofs.AwaitedSection.{wanted_at, on_with, far_there, reached_more}
 use Rattle.tape_core.proofs.HeaderSteps.{Next, passed_next, useless_next}
 

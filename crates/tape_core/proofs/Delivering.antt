@@ -1,34 +1,26 @@
 -- Only the expected block is delivered, and what is known of it.
-use Rattle.std.proofs.Common.{◌≡◌, ◌≢◌, ◌<◌, ◌≤◌, ◌⊎◌, ℕ, List, Bool, true, false, cond, length}
-use Rattle.std.proofs.Common.{Option, Some, Result, Ok, Err, refl, ◌==◌, not, nat_lt, ap, sym}
-use Rattle.std.proofs.Common.{◌∙◌, subst}
-use Rattle.std.proofs.Common.{arith}
-use Rattle.std.proofs.lemmas.Bool.Decides.{nat_tests}
+use Rattle.std.proofs.Common.{◌≡◌, ◌≢◌, ℕ, List, Bool, true, false, cond}
+use Rattle.std.proofs.Common.{Option, Some, Result, Ok, Err, refl, ◌==◌, not, nat_lt}
 use Rattle.std.specs.Str.{bytes_eq}
 use Rattle.tape_image.specs.Tape.{block}
-use Rattle.tape_label.specs.declared.values.{Kind.Kind, Head1.Head1, Head2.Head2, Trail1.Trail1}
-use Rattle.tape_label.specs.declared.label.LabelFault.{LabelFault}
-use Rattle.tape_label.specs.declared.values.Kind.TheVariants as kinds
-use Rattle.tape_label.specs.{Kinds.kind_at, VolumeLabels.is_volume_label}
+use Rattle.tape_label.specs.{declared.values.Kind.Kind, declared.values.Head1.Head1, Kinds.kind_at}
+use Rattle.tape_label.specs.{declared.values.Head2.Head2, declared.values.Trail1.Trail1}
+use Rattle.tape_label.specs.{declared.label.LabelFault.LabelFault, VolumeLabels.is_volume_label}
 use Rattle.tape_label.specs.Reading.{head1_at, head2_at, trail1_at}
-use Rattle.tape_blocks.specs.declared.parts.Shape.{Shape}
-use Rattle.tape_blocks.specs.{Block.Portion, Block.Holds, Spans.InOrder}
-use Rattle.tape_set.specs.declared.position.Position.{Position}
+use Rattle.tape_label.specs.declared.values.Kind.TheVariants as kinds
+use Rattle.tape_set.specs.{declared.position.Position.Position, Position.sect_of, Position.block_of}
 use Rattle.tape_set.specs.declared.position.Position.TheVariants.{Awaits, Finished}
-use Rattle.tape_set.specs.Position.{sect_of, block_of, part_of}
-use Rattle.tape_set.specs.Lawful.{FileForm, label_count, most_blocks}
-use Rattle.tape_core.specs.declared.event.{Heading.Heading, Phase.Phase}
-use Rattle.tape_core.specs.declared.event.Answer.TheVariants.{Deliver}
+use Rattle.tape_set.specs.Lawful.{FileForm, label_count}
 use Rattle.tape_core.specs.declared.event.Phase.TheVariants.{Volume, VolumeLabels, Header2}
 use Rattle.tape_core.specs.declared.event.Phase.TheVariants.{DataWanted, TrailerPassed}
-use Rattle.tape_core.specs.declared.event.Phase.TheVariants.{TrailerWanted, NextFile}
-use Rattle.tape_core.specs.Labels.{form_at, other_file_id, other_shape}
-use Rattle.tape_core.specs.State.{State, ToldFits, told, wants_data}
-use Rattle.tape_core.specs.{Follows.Checked, Follows.IsAwaited, Known.is_finished}
 use Rattle.tape_core.specs.Table.{Outcome, at_head1, at_head2, other_numbers, at_passed_trailer}
 use Rattle.tape_core.specs.Table.{at_end, at_wanted_trailer, first_labels, first_label}
-use Rattle.tape_core.specs.Table.{second_label, at_awaited, at_block, unless_complete, step_of}
-use Rattle.tape_core.specs.Table.{IsShapeOf, after_block, delivered, moved_on}
+use Rattle.tape_core.specs.{declared.event.Heading.Heading, declared.event.Phase.Phase}
+use Rattle.tape_core.specs.declared.event.Answer.TheVariants.{Deliver}
+use Rattle.tape_core.specs.declared.event.Phase.TheVariants.{TrailerWanted, NextFile}
+use Rattle.tape_core.specs.Labels.{form_at, other_file_id, other_shape}
+use Rattle.tape_core.specs.State.{State, wants_data}
+use Rattle.tape_core.specs.Table.{second_label, at_block, unless_complete, step_of}
 
 pick : (t : Bool) (a b : Outcome) → a.0 ≢ Deliver → b.0 ≢ Deliver → (cond t a b).0 ≢ Deliver
 pick true a b x y = x
@@ -112,69 +104,3 @@ only_data core bytes other =
         → (unless_complete core p (at_block core core.phase bytes)).0 ≢ Deliver
     go Finished n = λ e. cc
     go (Awaits sect b part) n = n
-
--- ---- the expected block
-
--- the parts of a block that was checked
-abbrev pub Found : FileForm → List ℕ → ℕ → Bool → Type 0
-Found form bytes part end = (begun : Bool) × (parts : List Portion)
-    × Holds form.format form.rec_len form.offset bytes parts × InOrder begun parts end
-    × ((part ≡ 0) ⊎ (part < length parts)) × (length parts ≤ length bytes)
-
-pub checked_by : (core new : State) (bytes : List ℕ) (heading : Heading) (form : FileForm)
-    (part : ℕ) (end : Bool)
-    → new ≡ (delivered core heading form end).1 → part ≡ part_of core.position
-    → is_finished core.position ≡ false → Found form bytes part end
-    → Checked (Some (block bytes)) core new
-checked_by core new bytes heading form part end is at waits found = record {
-  bytes = bytes;
-  form = form;
-  parts = found.1;
-  begun = found.0;
-  end = end;
-  came = refl;
-  is_known = ap (λ (z : State). z.known) is;
-  holds = found.2;
-  order = found.3;
-  more = subst (λ (n : ℕ). (n ≡ 0) ⊎ (n < length found.1)) at found.4;
-  few = found.5;
-  behind = ap (λ (z : State). z.position) is;
-  waits = waits;
-}
-
-pub awaited_by : (core : State) (bytes : List ℕ) (heading : Heading) (form : FileForm)
-    (seen sect number part : ℕ) (begun end : Bool) (shape : Shape)
-    → core.phase ≡ DataWanted heading form seen → core.position ≡ Awaits sect number part
-    → begun ≡ core.begun → number ≤ seen → number < most_blocks → ToldFits end (Some form)
-    → at_awaited core heading form bytes ≡ delivered core heading form end
-    → Found form bytes part end → IsShapeOf form shape
-    → IsAwaited core bytes (record { shape = shape; part = part; begun = begun; end = end })
-awaited_by core bytes heading form seen sect number part begun end shape phase at same reached more
-    fits table found shows = record {
-      step = go core.phase core.position phase (rw at refl)
-          (ap (λ (n : ℕ). nat_lt seen n) number_is ∙ grind (arith, nat_tests, reached));
-      checked = checked_by core _ bytes heading form part end behind part_is (rw at refl) found;
-      form = form;
-      is_known = ap (λ (z : State). z.known) behind;
-      shape = shows;
-      part = part_is;
-      begun = same;
-      wanted = rw phase refl;
-      more = subst (λ (n : ℕ). n < most_blocks) (sym number_is) more;
-      fits = subst (λ (z : Phase). ToldFits end (told z)) (sym phase) fits;
-    }
-  where
-    number_is : block_of core.position ≡ number
-    number_is = ap block_of at
-
-    part_is : part ≡ part_of core.position
-    part_is = sym (ap part_of at)
-
-    behind : after_block core end ≡ (delivered core heading form end).1
-    behind = ap (λ (z : Phase). moved_on core z end) phase
-
-    go : (z : Phase) (p : Position) → z ≡ DataWanted heading form seen → is_finished p ≡ false
-        → nat_lt seen (block_of core.position) ≡ false
-        → unless_complete core p (at_block core z bytes) ≡ (Deliver, moved_on core z end)
-    go z Finished e f g = absurd (cc)
-    go z (Awaits a b c) e f g = rw (e, g) table

@@ -1,13 +1,12 @@
 -- Further facts about a file's sections, blocks and parts.
 use Rattle.std.proofs.Common.{◌≡◌, ◌≤◌, ℕ, zero, suc, List, [], ◌∷◌, ◌++◌, length, Bool, true}
 use Rattle.std.proofs.Common.{false, Some, None, refl, ap, ◌∙◌, arith, slice_get, unwrap_or}
-use Rattle.tape_label.specs.declared.values.Trail1.{Trail1}
-use Rattle.tape_label.specs.{Kinds.identifier, Kinds.trailer, Positions.positions, Trail1.IsTrail1}
+use Rattle.tape_label.specs.{declared.values.Trail1.Trail1, Kinds.identifier, Kinds.trailer}
+use Rattle.tape_label.specs.{Positions.positions, Trail1.IsTrail1}
 use Rattle.tape_blocks.specs.{Judged.begun_behind, Tight.Filled}
-use Rattle.tape_set.specs.declared.position.Position.TheVariants.{Finished}
+use Rattle.tape_set.specs.{declared.position.Position.TheVariants.Finished, Lawful.IsLawful}
 use Rattle.tape_set.specs.Layout.{FileSet, Section, section_of, sections, ends_file}
 use Rattle.tape_set.specs.Before.{section_parts, parts_of, parts_at, parts_before, before}
-use Rattle.tape_set.specs.Lawful.{IsLawful}
 use Rattle.tape_set.proofs.{Everywhere.every_stands, Forms.all_four_digits}
 use Rattle.tape_set.proofs.Numbering.{FileOf, placed, section_stands}
 use Rattle.tape_set.proofs.FileParts.{file_is, file_lawful, order_end}

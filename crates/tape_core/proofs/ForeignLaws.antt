@@ -3,22 +3,20 @@ use Rattle.std.proofs.Common.{◌≡◌, ℕ, List, ◌∷◌, Bool, true, false
 use Rattle.std.proofs.Common.{Err, refl, sym, ap, ◌∙◌, subst, ◌&&◌}
 use Rattle.std.specs.Str.{bytes_eq}
 use Rattle.tape_image.specs.Tape.{TapeItem, block, bad, mark}
-use Rattle.tape_label.specs.declared.values.{Head1.Head1, Kind.Kind}
-use Rattle.tape_label.specs.declared.label.LabelFault.{LabelFault}
+use Rattle.tape_label.specs.{declared.values.Head1.Head1, declared.values.Kind.Kind, Kinds.kind_at}
+use Rattle.tape_label.specs.{declared.label.LabelFault.LabelFault, Reading.head1_at}
+use Rattle.tape_label.specs.VolumeLabels.{is_volume_label}
 use Rattle.tape_label.specs.declared.values.Kind.TheVariants as kinds
-use Rattle.tape_label.specs.{Kinds.kind_at, Reading.head1_at, VolumeLabels.is_volume_label}
-use Rattle.tape_set.specs.declared.position.Position.{Position}
+use Rattle.tape_set.specs.{declared.position.Position.Position, Layout.FileSet}
 use Rattle.tape_set.specs.declared.position.Position.TheVariants.{Awaits, Finished}
-use Rattle.tape_set.specs.Layout.{FileSet}
-use Rattle.tape_core.specs.declared.event.{Reason.Reason, Phase.Phase}
 use Rattle.tape_core.specs.declared.event.Reason.TheVariants.{NotLabelled, OtherSet, BadItem}
-use Rattle.tape_core.specs.declared.event.Reason.TheVariants.{ReelEnded, BadLabel}
-use Rattle.tape_core.specs.declared.event.Phase.TheVariants.{Over, Broken, Volume, VolumeLabels}
-use Rattle.tape_core.specs.{State.State, State.is_broken, Follows.IsAt}
 use Rattle.tape_core.specs.Table.{Outcome, in_phase, useless, passed, at_item, at_head1}
 use Rattle.tape_core.specs.Table.{first_label, first_labels, unless_complete, step_of, mounted}
-use Rattle.tape_core.specs.Table.{mount_of}
 use Rattle.tape_core.specs.Foreign.{is_of_set, labels_of_set, is_vol1, starts_set, IsForeignIn}
+use Rattle.tape_core.specs.{declared.event.Reason.Reason, declared.event.Phase.Phase, Follows.IsAt}
+use Rattle.tape_core.specs.declared.event.Reason.TheVariants.{ReelEnded, BadLabel}
+use Rattle.tape_core.specs.declared.event.Phase.TheVariants.{Over, Broken, Volume, VolumeLabels}
+use Rattle.tape_core.specs.{State.State, State.is_broken, Table.mount_of}
 use Rattle.tape_core.specs.Foreign.{IsForeignAt, Unmoved}
 
 module _ (set : FileSet) (core : State) (at : IsAt set core) (sect place part : ℕ)

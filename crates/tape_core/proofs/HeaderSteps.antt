@@ -3,34 +3,31 @@
 use Rattle.std.proofs.Common.{◌≡◌, ◌≢◌, ◌≤◌, ◌⊎◌, ◌+◌, List, [], ◌∷◌, ◌++◌, length, drop, Bool}
 use Rattle.std.proofs.Common.{true, false, cond, Option, Some, None, Ok, refl, sym, ap, ◌∙◌, subst}
 use Rattle.std.proofs.Common.{inl, inr, append_assoc, arith, slice_get, map, not, is_some, nat_lt}
+use Rattle.std.proofs.lemmas.Bool.Decides.{nat_tests}
+use Rattle.std.proofs.lemmas.List.{drop_all, append_cancel_right}
 use Rattle.std.specs.Str.{bytes_eq}
-use Rattle.std.proofs.lemmas.{Bool.Decides.nat_tests, List.drop_all, List.append_cancel_right}
 use Rattle.tape_image.specs.Tape.{bad}
 use Rattle.tape_label.specs.declared.values.Kind.TheVariants as kinds
-use Rattle.tape_label.specs.declared.values.Head1.{Head1}
-use Rattle.tape_label.specs.{Kinds.kind_at, Head1.IsHead1, Reading.head1_at}
+use Rattle.tape_label.specs.{declared.values.Head1.Head1, Kinds.kind_at, Head1.IsHead1}
+use Rattle.tape_label.specs.Reading.{head1_at}
 use Rattle.tape_label.proofs.{Apart.kind_again, First.head1_again, Second.head2_again}
-use Rattle.tape_set.specs.declared.position.Position.{Position}
-use Rattle.tape_set.specs.Position.{sect_of}
 use Rattle.tape_set.specs.Layout.{Placed, Entry, a_label, a_mark, item_of, is_data, all_entries}
 use Rattle.tape_set.specs.Layout.{data_group, trailer_group, entries}
+use Rattle.tape_set.specs.{declared.position.Position.Position, Position.sect_of}
 use Rattle.tape_set.specs.Lawful.{FileForm, IsHeader, TellsForm, form_of}
 use Rattle.tape_set.specs.Reach.{passes, before_data, stopped, good_run}
 use Rattle.tape_set.proofs.Forms.{head1_same}
-use Rattle.tape_core.specs.declared.event.{Reason.Reason, Heading.Heading, Phase.Phase}
-use Rattle.tape_core.specs.declared.event.Phase.TheVariants.{Over}
-use Rattle.tape_core.specs.Labels.{heading_of, form_at, other_file_id, other_shape}
-use Rattle.tape_core.specs.State.{is_broken}
 use Rattle.tape_core.specs.Table.{Outcome, in_phase, useless, passed, at_head1, data_phase}
-use Rattle.tape_core.specs.Table.{second_label}
 use Rattle.tape_core.specs.Follows.{IsAt, to_come, Left, Among, Tells, Inside, Follows, IsFinal}
-use Rattle.tape_core.specs.Follows.{Gives}
-use Rattle.tape_core.proofs.LabelLaws.{bytes_same, same_id, no_other_shape}
-use Rattle.tape_core.proofs.{Lists.stopped_here, StateLaws.follows_sound, Aim.Aim}
+use Rattle.tape_core.specs.{Table.second_label, Follows.Gives, declared.event.Reason.Reason}
+use Rattle.tape_core.specs.{declared.event.Heading.Heading, declared.event.Phase.Phase}
+use Rattle.tape_core.specs.{declared.event.Phase.TheVariants.Over, State.is_broken}
+use Rattle.tape_core.specs.Labels.{heading_of, form_at, other_file_id, other_shape}
 use Rattle.tape_core.proofs.Fronts.{left_more, over_bad, over_elsewhere, first_is, Ahead, opened}
-use Rattle.tape_core.proofs.Fronts.{here, ahead_later, wanted_here}
 use Rattle.tape_core.proofs.AwaitedSection.{wanted_at, told, known_cases, on_it, tells_each}
-use Rattle.tape_core.proofs.AwaitedSection.{on_with}
+use Rattle.tape_core.proofs.{Fronts.here, Fronts.ahead_later, Fronts.wanted_here, Aim.Aim}
+use Rattle.tape_core.proofs.{AwaitedSection.on_with, Lists.stopped_here, StateLaws.follows_sound}
+use Rattle.tape_core.proofs.LabelLaws.{bytes_same, same_id, no_other_shape}
 
 module _ (aim : Aim) where
   open aim use {set, core, at, sect, block, part, k, w, inside, good}

@@ -1,15 +1,12 @@
 -- Items that change nothing, after a complete reading.
 use Rattle.std.proofs.Common.{◌≡◌, ℕ, List, length, Bool, true, Option, Some, None, refl, sym, ap}
-use Rattle.std.proofs.Common.{◌∙◌, subst, IsSome}
-use Rattle.std.proofs.lemmas.List.{length-map}
+use Rattle.std.proofs.{Common.◌∙◌, Common.subst, Common.IsSome, lemmas.List.length-map}
 use Rattle.tape_image.specs.Tape.{TapeItem, block as a_block, bad, mark}
-use Rattle.tape_set.specs.declared.position.Position.{Position}
+use Rattle.tape_set.specs.{declared.position.Position.Position, Lawful.IsLawful, Reach.passes}
 use Rattle.tape_set.specs.declared.position.Position.TheVariants.{Awaits, Finished}
 use Rattle.tape_set.specs.Layout.{FileSet, Volume, item_of, nth, entries, items}
-use Rattle.tape_set.specs.{Lawful.IsLawful, Reach.passes}
-use Rattle.tape_core.specs.declared.event.{Reason.Reason, Reason.TheVariants.ReelEnded}
-use Rattle.tape_core.specs.declared.event.Phase.TheVariants.{Over}
-use Rattle.tape_core.specs.State.{State}
+use Rattle.tape_core.specs.{declared.event.Reason.Reason, declared.event.Phase.TheVariants.Over}
+use Rattle.tape_core.specs.{declared.event.Reason.TheVariants.ReelEnded, State.State}
 use Rattle.tape_core.specs.Table.{Outcome, useless, at_item, unless_complete, step_of}
 use Rattle.tape_core.specs.Follows.{IsAt, Follows, IsReading, Idle}
 use Rattle.tape_core.proofs.{Aim.aim_of, PositionSteps.whole_over}

@@ -1,18 +1,16 @@
 -- How the labels of a valid set are read, and that no block is two kinds of label.
 use Rattle.std.proofs.Common.{◌≡◌, ◌⊎◌, inl, inr, ℕ, List, Bool, true, false, Option, Some, None}
-use Rattle.std.proofs.Common.{refl, eq-eqb, ◌==◌}
+use Rattle.std.proofs.{Common.refl, Common.eq-eqb, Common.◌==◌, lemmas.Slice.Eq.bytes_eq-Decides}
 use Rattle.std.specs.Str.{bytes_eq}
-use Rattle.std.proofs.lemmas.Slice.Eq.{bytes_eq-Decides}
 use Rattle.tape_label.specs.declared.values.Kind.TheVariants as kinds
-use Rattle.tape_label.specs.declared.values.{Head1.Head1, Trail1.Trail1}
+use Rattle.tape_label.specs.{declared.values.Head1.Head1, declared.values.Trail1.Trail1}
 use Rattle.tape_label.specs.{Formats.letter, Kinds.trailer, Head1.IsHead1, Trail1.IsTrail1}
 use Rattle.tape_label.specs.VolumeLabels.{is_volume_label}
 use Rattle.tape_label.proofs.Apart.{HasKind-unique}
 use Rattle.tape_label.proofs.VolumeLabels.{volume_label_again, no_volume_label}
 use Rattle.tape_set.specs.Lawful.{FileForm, IsVolumeLabel}
-use Rattle.tape_core.specs.declared.event.Heading.{Heading}
+use Rattle.tape_core.specs.{declared.event.Heading.Heading, Follows.FitsHeading, Follows.IsNoHeader}
 use Rattle.tape_core.specs.Labels.{same_shape, other_shape, other_file_id}
-use Rattle.tape_core.specs.Follows.{FitsHeading, IsNoHeader}
 
 pub bytes_same : (bytes : List ℕ) → bytes_eq bytes bytes ≡ true
 bytes_same bytes = (bytes_eq-Decides bytes bytes).1 refl

@@ -1,13 +1,11 @@
 -- Parts whose bytes are consecutive: adding, removing, borrowing and weighing them.
 use Rattle.std.proofs.Common.{◌≡◌, ◌≤◌, ℕ, zero, suc, ◌+◌, ◌-◌, ◌*◌, List, [], ◌∷◌, ◌++◌, length}
 use Rattle.std.proofs.Common.{take, drop, Some, refl, sym, ap, ◌∙◌, subst, arith, slice_get}
-use Rattle.std.proofs.Common.{slice_range}
 use Rattle.std.proofs.lemmas.List.{drop-take, take-take, take-append-le, drop_at, take_all}
-use Rattle.std.proofs.lemmas.List.{length-take-le, length-drop}
+use Rattle.std.proofs.{Common.slice_range, lemmas.List.length-take-le, lemmas.List.length-drop}
 use Rattle.tape_blocks.specs.Block.{Portion}
-use Rattle.tape_core.specs.declared.event.Entry.{Entry}
+use Rattle.tape_core.specs.{declared.event.Entry.Entry, Stands.weight_of}
 use Rattle.tape_core.specs.Entries.{part_at, parts_from, end_from, AreLaid, IsLaid}
-use Rattle.tape_core.specs.Stands.{weight_of}
 
 range_is : (xs : List ℕ) (from to : ℕ) → from ≤ to → slice_range xs from to ≡ drop from (take to xs)
 range_is xs from to le =

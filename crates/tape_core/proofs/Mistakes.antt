@@ -5,11 +5,10 @@ use denote.MutBor.{MutBor}
 use Rattle.tape_label.specs.Reading.{head1_at}
 use Rattle.tape_set.specs.declared.position.Position.TheVariants.{Awaits}
 use Rattle.tape_core.specs.declared.event.Answer.TheVariants.{Passed, Useless}
+use Rattle.tape_core.specs.{declared.event.Event.Event, State.State, Table.at_head1}
 use Rattle.tape_core.specs.declared.event.Reason.TheVariants as reasons
-use Rattle.tape_core.specs.declared.event.Event.{Event}
 use Rattle.tape_core.specs.declared.event.Event.TheVariants as events
 use Rattle.tape_core.specs.declared.event.Phase.TheVariants as phases
-use Rattle.tape_core.specs.{State.State, Table.at_head1}
 use Rattle.tape_core.proofs.Cases.{fixed, at_start, inside, headed, head}
 use Rattle.tape_core.proofs.reader.ReaderCore.step.Reads as step
 

@@ -3,26 +3,25 @@ use Rattle.std.proofs.Common.{◌≡◌, ℕ, List, Bool, true, false, cond, Opt
 use Rattle.std.proofs.Common.{Err, refl, ap, ◌∙◌, ◌==◌, not, nat_lt}
 use Rattle.std.specs.Str.{bytes_eq}
 use Rattle.tape_image.specs.Tape.{TapeItem, block, bad, mark}
-use Rattle.tape_label.specs.declared.values.{Kind.Kind, Head1.Head1, Head2.Head2, Trail1.Trail1}
-use Rattle.tape_label.specs.declared.label.LabelFault.{LabelFault}
-use Rattle.tape_label.specs.declared.values.Kind.TheVariants as kinds
-use Rattle.tape_label.specs.{Kinds.kind_at, VolumeLabels.is_volume_label}
+use Rattle.tape_label.specs.{declared.values.Kind.Kind, declared.values.Head1.Head1, Kinds.kind_at}
+use Rattle.tape_label.specs.{declared.values.Head2.Head2, declared.values.Trail1.Trail1}
+use Rattle.tape_label.specs.{declared.label.LabelFault.LabelFault, VolumeLabels.is_volume_label}
 use Rattle.tape_label.specs.Reading.{head1_at, head2_at, trail1_at}
-use Rattle.tape_blocks.specs.declared.check.BlockFault.{BlockFault}
-use Rattle.tape_blocks.specs.Judged.{judged}
+use Rattle.tape_label.specs.declared.values.Kind.TheVariants as kinds
+use Rattle.tape_blocks.specs.{declared.check.BlockFault.BlockFault, Judged.judged}
 use Rattle.tape_set.specs.declared.position.Position.{Position}
 use Rattle.tape_set.specs.declared.position.Position.TheVariants.{Awaits, Finished}
 use Rattle.tape_set.specs.Position.{sect_of, block_of, part_of}
 use Rattle.tape_set.specs.Lawful.{FileForm, label_count, most_blocks}
-use Rattle.tape_core.specs.declared.event.{Heading.Heading, Phase.Phase}
 use Rattle.tape_core.specs.declared.event.Phase.TheVariants.{Broken, Volume, VolumeLabels, Header2}
 use Rattle.tape_core.specs.declared.event.Phase.TheVariants.{DataWanted, TrailerPassed}
-use Rattle.tape_core.specs.declared.event.Phase.TheVariants.{TrailerWanted, NextFile}
-use Rattle.tape_core.specs.Labels.{form_at, other_file_id, other_shape}
-use Rattle.tape_core.specs.{Parts.begun_before, Parts.other_front, State.State}
 use Rattle.tape_core.specs.Table.{Outcome, at_head1, at_head2, other_numbers, at_passed_trailer}
 use Rattle.tape_core.specs.Table.{at_end, at_wanted_trailer, at_judged, at_awaited, first_labels}
 use Rattle.tape_core.specs.Table.{first_label, second_label, at_block, at_mark, at_bad, at_reel_end}
+use Rattle.tape_core.specs.{declared.event.Heading.Heading, declared.event.Phase.Phase, State.State}
+use Rattle.tape_core.specs.declared.event.Phase.TheVariants.{TrailerWanted, NextFile}
+use Rattle.tape_core.specs.Labels.{form_at, other_file_id, other_shape}
+use Rattle.tape_core.specs.Parts.{begun_before, other_front}
 use Rattle.tape_core.specs.Table.{at_arrival, unless_complete, step_of}
 
 -- the set and the file after a step are those before it

@@ -1,13 +1,11 @@
 -- The tests of the range of a checkpoint agree with its invariant.
 use Rattle.std.proofs.Common.{◌≡◌, ◌≤◌, ◌&&◌, ◌||◌, not, nat_le, Bool, true, false, Option, Some}
 use Rattle.std.proofs.Common.{None, is_some, refl, sym, arith, rules}
-use Rattle.std.proofs.lemmas.{Bool.and_parts, Bool.Decides.nat_tests}
-use Rattle.tape_set.specs.declared.position.Position.{Position}
+use Rattle.std.proofs.{lemmas.Bool.and_parts, lemmas.Bool.Decides.nat_tests}
+use Rattle.tape_set.specs.{declared.position.Position.Position, Position.is_start, Lawful.FileForm}
 use Rattle.tape_set.specs.declared.position.Position.TheVariants.{Awaits, Finished}
-use Rattle.tape_set.specs.{Position.is_start, Lawful.FileForm}
 use Rattle.tape_core.specs.Known.{PositionFits, StandFits, IsFileNumber, is_finished, may_span}
-use Rattle.tape_core.specs.Known.{most_staged}
-use Rattle.tape_core.specs.Point.{Point, IsPoint}
+use Rattle.tape_core.specs.{Known.most_staged, Point.Point, Point.IsPoint}
 use Rattle.tape_core.specs.Range.{in_range, position_in_range, known_where_due, may_begin}
 
 position_fits : (p : Position) → position_in_range p ≡ true → PositionFits p

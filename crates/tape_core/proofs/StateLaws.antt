@@ -6,13 +6,12 @@ use Rattle.std.proofs.lemmas.Bool.Decides.{nat_tests}
 use Rattle.std.specs.List.{AllByRecursion}
 use Rattle.tape_label.specs.declared.values.Format.{Format}
 use Rattle.tape_label.specs.declared.values.Format.TheVariants.{Fixed, Counted, Spanned}
-use Rattle.tape_blocks.specs.declared.parts.Span.TheVariants.{Whole}
-use Rattle.tape_blocks.specs.{Block.Portion, Block.IsUnit, Spans.InOrder, Spans.leaves}
-use Rattle.tape_blocks.specs.{Faults.bool_eq, Judged.begun_behind}
-use Rattle.tape_set.specs.declared.position.Position.{Position}
-use Rattle.tape_set.specs.{Position.is_start, Position.awaiting, Lawful.FileForm, Layout.FileSet}
+use Rattle.tape_blocks.specs.{declared.parts.Span.TheVariants.Whole, Block.Portion, Block.IsUnit}
+use Rattle.tape_blocks.specs.{Spans.InOrder, Spans.leaves, Faults.bool_eq, Judged.begun_behind}
+use Rattle.tape_set.specs.{declared.position.Position.Position, Lawful.FileForm, Layout.FileSet}
+use Rattle.tape_set.specs.Position.{is_start, awaiting}
 use Rattle.tape_set.proofs.FileParts.{begun_behind-append}
-use Rattle.tape_core.specs.declared.event.{Phase.Phase, Phase.TheVariants.Broken}
+use Rattle.tape_core.specs.{declared.event.Phase.Phase, declared.event.Phase.TheVariants.Broken}
 use Rattle.tape_core.specs.{Known.is_spanned, State.ToldFits, State.is_broken, Follows.Follows}
 use Rattle.tape_core.specs.Parts.{parts_in, goes_on_at, begun_before, other_front}
 

@@ -3,14 +3,13 @@ use Rattle.std.proofs.Common.{◌≡◌, ℕ, zero, suc, List, [], ◌∷◌, �
 use Rattle.std.proofs.Common.{cond, Option, Some, None, refl, sym, ap, ◌∙◌, subst, append_assoc}
 use Rattle.std.proofs.Common.{slice_get, map, IsSome}
 use Rattle.tape_image.specs.Tape.{TapeItem, bad}
-use Rattle.tape_set.specs.declared.position.Position.{Position}
+use Rattle.tape_set.specs.{declared.position.Position.Position, Before.IsIn, Lawful.IsLawful}
 use Rattle.tape_set.specs.declared.position.Position.TheVariants.{Awaits, Finished}
 use Rattle.tape_set.specs.Layout.{FileSet, Volume, Entry, item_of, nth, entries, items}
-use Rattle.tape_set.specs.{Before.IsIn, Lawful.IsLawful, Reach.far}
-use Rattle.tape_core.specs.declared.event.Phase.{Phase}
+use Rattle.tape_set.specs.Reach.{far}
 use Rattle.tape_core.specs.declared.event.Phase.TheVariants.{Over, Broken, DataWanted}
+use Rattle.tape_core.specs.{declared.event.Phase.Phase, State.State, State.is_broken}
 use Rattle.tape_core.specs.declared.event.Phase.TheVariants.{TrailerWanted}
-use Rattle.tape_core.specs.State.{State, is_broken}
 use Rattle.tape_core.specs.Table.{Outcome, at_item, unless_complete, step_of, mount_of, mounted}
 use Rattle.tape_core.specs.Follows.{IsAt, reading, Follows, FollowsFrom, IsReading, Kept}
 use Rattle.tape_core.proofs.{Lists.stopped_waits, Aim.aim_of, HeaderSteps.Next, BadSteps.bad_next}

@@ -3,32 +3,29 @@
 use Rattle.std.proofs.Common.{◌≡◌, ◌<◌, ℕ, zero, suc, List, [], ◌∷◌, ◌++◌, length, Bool, true}
 use Rattle.std.proofs.Common.{false, Some, Result, Ok, Err, refl, sym, ap, ◌∙◌, subst, inl}
 use Rattle.std.proofs.Common.{append_assoc, arith, length-append, slice_get, map, ◌==◌}
-use Rattle.std.specs.List.{AllByRecursion}
 use Rattle.std.proofs.lemmas.Bool.Decides.{nat_tests}
-use Rattle.tape_label.specs.declared.values.{Head1.Head1, Trail1.Trail1}
+use Rattle.std.specs.List.{AllByRecursion}
+use Rattle.tape_label.specs.{declared.values.Head1.Head1, declared.values.Trail1.Trail1}
 use Rattle.tape_label.specs.declared.label.LabelFault.{LabelFault}
-use Rattle.tape_label.specs.declared.label.LabelFault.TheVariants as faults
 use Rattle.tape_label.specs.Reading.{head1_at, trail1_at}
+use Rattle.tape_label.specs.declared.label.LabelFault.TheVariants as faults
 use Rattle.tape_label.proofs.First.{head1_found, trail1_found}
 use Rattle.tape_blocks.specs.Tight.{Filled}
 use Rattle.tape_set.specs.Layout.{Placed, Entry, a_label, a_data_block, a_mark, item_of}
 use Rattle.tape_set.specs.Layout.{all_entries, section_entries, data_group, trailer_group, entries}
-use Rattle.tape_set.specs.Layout.{entries_on, sections, on}
-use Rattle.tape_set.specs.Lawful.{IsSection}
+use Rattle.tape_set.specs.{Layout.entries_on, Layout.sections, Layout.on, Lawful.IsSection}
 use Rattle.tape_set.proofs.Everywhere.{every, every_both, every_rest}
 use Rattle.tape_set.proofs.{Volumes.IsOn, Volumes.sections_on_are, Forms.trail1_same}
-use Rattle.tape_core.specs.declared.event.{Reason.Reason, Heading.Heading}
-use Rattle.tape_core.specs.declared.event.Reason.TheVariants.{NotOnReel, SectionDiffers, BadLabel}
 use Rattle.tape_core.specs.declared.event.Phase.TheVariants.{DataPassed, TrailerPassed, Trailers}
-use Rattle.tape_core.specs.declared.event.Phase.TheVariants.{NextFile}
 use Rattle.tape_core.specs.Table.{useless, passed, at_item, at_head1, at_passed_trailer}
-use Rattle.tape_core.specs.Table.{other_numbers}
 use Rattle.tape_core.specs.Follows.{to_come, Left, FitsHeading, IsNoHeader, BarrenNext}
+use Rattle.tape_core.specs.{declared.event.Reason.Reason, declared.event.Heading.Heading}
+use Rattle.tape_core.specs.declared.event.Reason.TheVariants.{NotOnReel, SectionDiffers, BadLabel}
+use Rattle.tape_core.specs.{declared.event.Phase.TheVariants.NextFile, Table.other_numbers}
 use Rattle.tape_core.specs.Follows.{BarrenTrailers, BarrenTrailer, BarrenData, Inside, Astray}
-use Rattle.tape_core.proofs.LabelLaws.{trailer_no_header, header_no_trailer}
-use Rattle.tape_core.proofs.Lists.{passes_bad, passes_stays_bad}
+use Rattle.tape_core.proofs.{LabelLaws.trailer_no_header, LabelLaws.header_no_trailer, Aim.Aim}
+use Rattle.tape_core.proofs.{Lists.passes_bad, Lists.passes_stays_bad, AwaitedSection.ahead_passed}
 use Rattle.tape_core.proofs.Fronts.{over_bad, among_on, laid_out, here}
-use Rattle.tape_core.proofs.{Aim.Aim, AwaitedSection.ahead_passed}
 use Rattle.tape_core.proofs.HeaderSteps.{Next, passed_next, useless_next, either}
 
 module _ (aim : Aim) where

@@ -3,8 +3,7 @@ use Rattle.std.proofs.Common.{◌≡◌, ◌<◌, ◌+◌, List, [], ◌∷◌, 
 use Rattle.std.proofs.Common.{Option, Some, Ok, refl, sym, ap, ◌∙◌, subst, inl, inr, append_assoc}
 use Rattle.std.proofs.Common.{arith, eq-eqb, slice_get, map, ◌==◌, not, nat_lt, IsSome}
 use Rattle.std.proofs.lemmas.Bool.Decides.{nat_tests}
-use Rattle.tape_label.specs.declared.values.Trail1.{Trail1}
-use Rattle.tape_label.specs.Reading.{trail1_at}
+use Rattle.tape_label.specs.{declared.values.Trail1.Trail1, Reading.trail1_at}
 use Rattle.tape_label.proofs.First.{trail1_again}
 use Rattle.tape_blocks.specs.Judged.{begun_behind}
 use Rattle.tape_set.specs.declared.position.Position.TheVariants.{Awaits, Finished}
@@ -13,16 +12,15 @@ use Rattle.tape_set.specs.Layout.{Section, Placed, a_label, a_mark, section_of, 
 use Rattle.tape_set.specs.Before.{before, parts_at}
 use Rattle.tape_set.specs.Lawful.{FileForm, IsTrailer, TellsForm, label_count}
 use Rattle.tape_set.specs.Reach.{far, moved, stopped, behind}
-use Rattle.tape_set.proofs.{Numbering.FileOf, Forms.one_form}
 use Rattle.tape_set.proofs.FileParts.{next_found, file_is, file_lawful, ends_at, before_next}
-use Rattle.tape_set.proofs.FileParts.{before_end}
-use Rattle.tape_core.specs.declared.event.{Reason.TheVariants.BadItem, Heading.Heading}
+use Rattle.tape_set.proofs.{Numbering.FileOf, Forms.one_form, FileParts.before_end}
 use Rattle.tape_core.specs.Table.{useless, at_passed_trailer, at_wanted_trailer, at_end}
-use Rattle.tape_core.specs.Table.{other_numbers}
+use Rattle.tape_core.specs.{declared.event.Reason.TheVariants.BadItem, Table.other_numbers}
+use Rattle.tape_core.specs.declared.event.Heading.{Heading}
 use Rattle.tape_core.specs.Follows.{reading, Inside, Reached, AtTrailer}
+use Rattle.tape_core.proofs.AwaitedSection.{wanted_at, its_file, told, known_after, on_it, on_with}
 use Rattle.tape_core.proofs.Files.{no_parts_at, ends_as, few_sections, whole_begun}
 use Rattle.tape_core.proofs.{Lists.Full, Lists.moved_all, Lists.stopped_here, Aim.Aim, Fronts.here}
-use Rattle.tape_core.proofs.AwaitedSection.{wanted_at, its_file, told, known_after, on_it, on_with}
 use Rattle.tape_core.proofs.AwaitedSection.{far_there}
 use Rattle.tape_core.proofs.HeaderSteps.{Next, passed_next, useless_next, either}
 

@@ -4,12 +4,11 @@ use Rattle.std.specs.Prelude.{◌≡◌, ◌<◌, false, Option, Some, None, ⊤
 use Rattle.tape_set.specs.declared.position.Position.{Position}
 use Rattle.tape_set.specs.declared.position.Position.TheVariants.{Awaits, Finished}
 use Rattle.tape_core.specs.declared.event.Answer.TheVariants.{Passed, Deliver, SectionDone}
-use Rattle.tape_core.specs.declared.event.Answer.TheVariants.{Complete, Useless}
-use Rattle.tape_core.specs.declared.event.Phase.{Phase}
 use Rattle.tape_core.specs.declared.event.Phase.TheVariants.{Over, Broken, Header2, Headers}
 use Rattle.tape_core.specs.declared.event.Phase.TheVariants.{DataPassed, DataWanted, TrailerPassed}
+use Rattle.tape_core.specs.declared.event.Answer.TheVariants.{Complete, Useless}
+use Rattle.tape_core.specs.{declared.event.Phase.Phase, Known.is_finished, State.State}
 use Rattle.tape_core.specs.declared.event.Phase.TheVariants.{TrailerWanted, Trailers}
-use Rattle.tape_core.specs.{Known.is_finished, State.State}
 use Rattle.tape_core.specs.Table.{Outcome, in_phase, passed}
 
 -- the items expected if the section is skipped

@@ -4,27 +4,26 @@ use Rattle.std.specs.Prelude.{◌≡◌, ◌≢◌, ◌<◌, ◌≤◌, ◌+◌,
 use Rattle.std.specs.Prelude.{◌++◌, length, drop, replicate, codes, slice_get, Option, Some, None}
 use Rattle.std.specs.Prelude.{Result, Ok, Err}
 use Rattle.tape_image.specs.Tape.{TapeItem, block, bad, mark}
-use Rattle.tape_blocks.specs.declared.parts.{Shape.Shape, Part.Part}
+use Rattle.tape_blocks.specs.{declared.parts.Shape.Shape, declared.parts.Part.Part, Parts.view}
 use Rattle.tape_blocks.specs.declared.parts.Span.TheVariants.{Whole, First}
-use Rattle.tape_blocks.specs.Block.{Portion, Holds}
-use Rattle.tape_blocks.specs.{Parts.view, Spans.InOrder, Judged.begun_behind, Packing.longest_block}
-use Rattle.tape_set.specs.declared.position.Position.{Position}
+use Rattle.tape_blocks.specs.{Block.Portion, Block.Holds, Spans.InOrder, Judged.begun_behind}
+use Rattle.tape_blocks.specs.Packing.{longest_block}
+use Rattle.tape_set.specs.{declared.position.Position.Position, Lawful.FileForm, Lawful.TellsForm}
 use Rattle.tape_set.specs.declared.position.Position.TheVariants.{Awaits, Finished}
 use Rattle.tape_set.specs.Position.{start, awaiting, next_block, part_of}
-use Rattle.tape_set.specs.Layout.{FileSet, Section, section_of}
-use Rattle.tape_set.specs.{Lawful.FileForm, Lawful.TellsForm, Before.before, Before.IsIn, Reach.far}
-use Rattle.tape_core.specs.declared.event.Answer.TheVariants.{Passed, Deliver, Complete}
+use Rattle.tape_set.specs.{Layout.FileSet, Layout.Section, Layout.section_of, Reach.far}
+use Rattle.tape_set.specs.Before.{before, IsIn}
 use Rattle.tape_core.specs.declared.event.Phase.TheVariants.{Over, Broken, Volume, VolumeLabels}
-use Rattle.tape_core.specs.declared.event.Phase.TheVariants.{NextFile}
-use Rattle.tape_core.specs.declared.sink.SinkFault.{SinkFault}
 use Rattle.tape_core.specs.Crash.{Returns, Crashes, IsThis, OnlyThis, ThisAlone, AddsNothing}
-use Rattle.tape_core.specs.Crash.{AddsOnly, lost}
-use Rattle.tape_core.specs.{Entries.parts_from, Place.rest_of, Place.place_of, Place.IsPlaced}
-use Rattle.tape_core.specs.{Point.Point, Point.IsPoint, Stands.Stands, Stands.weight_of}
-use Rattle.tape_core.specs.{Stands.inside_block, State.State, State.is_broken, Table.Outcome}
-use Rattle.tape_core.specs.{Table.Shows, Weight.IsFront, Weight.Rose}
-use Rattle.tape_core.specs.Foreign.{starts_set, labels_of_set, IsForeignAt, Unmoved}
 use Rattle.tape_core.specs.Follows.{IsAt, StandsAt, KnownAt, FileTells, IsFinal, Delivers, Gives}
+use Rattle.tape_core.specs.declared.event.Answer.TheVariants.{Passed, Deliver, Complete}
+use Rattle.tape_core.specs.{declared.event.Phase.TheVariants.NextFile, Crash.AddsOnly, Crash.lost}
+use Rattle.tape_core.specs.{declared.sink.SinkFault.SinkFault, Entries.parts_from}
+use Rattle.tape_core.specs.Place.{rest_of, place_of, IsPlaced}
+use Rattle.tape_core.specs.{Point.Point, Point.IsPoint, State.State, State.is_broken}
+use Rattle.tape_core.specs.Stands.{Stands, weight_of, inside_block}
+use Rattle.tape_core.specs.{Table.Outcome, Table.Shows, Weight.IsFront, Weight.Rose}
+use Rattle.tape_core.specs.Foreign.{starts_set, labels_of_set, IsForeignAt, Unmoved}
 use Rattle.tape_core.specs.Follows.{Checked, Idle, Kept, IsReading, reading}
 use Rattle.tape_core.specs.Known.{is_finished, IsFileNumber, StandFits, most_staged}
 use Rattle.tape_core.specs.Walks.{GivesPart, Counts, Lends, HasGiven}

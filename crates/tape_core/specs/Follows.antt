@@ -2,28 +2,26 @@
 -- entries of the volume still to come.
 use Rattle.std.specs.Prelude.{◌≡◌, ◌≢◌, ◌<◌, ◌≤◌, ◌⊎◌, ℕ, List, [], ◌∷◌, ◌++◌, ◌+◌, Bool, true}
 use Rattle.std.specs.Prelude.{false, Option, Some, None, map, drop, length, is_some, slice_get}
-use Rattle.std.specs.Prelude.{MatchBool}
-use Rattle.std.specs.List.{AllByRecursion}
+use Rattle.std.specs.{Prelude.MatchBool, List.AllByRecursion}
 use Rattle.tape_image.specs.Tape.{TapeItem, block}
-use Rattle.tape_label.specs.declared.values.{Head1.Head1, Trail1.Trail1}
+use Rattle.tape_label.specs.{declared.values.Head1.Head1, declared.values.Trail1.Trail1}
 use Rattle.tape_label.specs.{Head1.IsHead1, Trail1.IsTrail1}
-use Rattle.tape_blocks.specs.Block.{Portion, Holds}
-use Rattle.tape_blocks.specs.{Spans.InOrder, Judged.begun_behind, Tight.Filled}
-use Rattle.tape_set.specs.declared.position.Position.{Position}
-use Rattle.tape_set.specs.declared.position.Position.TheVariants.{Awaits, Finished}
-use Rattle.tape_set.specs.Position.{is_start, awaiting, next_block, block_of, part_of}
+use Rattle.tape_blocks.specs.{Block.Portion, Block.Holds, Spans.InOrder, Judged.begun_behind}
+use Rattle.tape_blocks.specs.Tight.{Filled}
 use Rattle.tape_set.specs.Layout.{FileSet, Section, Placed, Entry, a_label, a_data_block, a_mark}
 use Rattle.tape_set.specs.Layout.{entries, sections, on, all_entries, data_group, trailer_group}
-use Rattle.tape_set.specs.Layout.{section_of}
-use Rattle.tape_set.specs.{Before.before, Before.IsIn, Reading.Reading}
+use Rattle.tape_set.specs.{declared.position.Position.Position, Layout.section_of, Reading.Reading}
+use Rattle.tape_set.specs.declared.position.Position.TheVariants.{Awaits, Finished}
+use Rattle.tape_set.specs.Position.{is_start, awaiting, next_block, block_of, part_of}
+use Rattle.tape_set.specs.Before.{before, IsIn}
 use Rattle.tape_set.specs.Lawful.{FileForm, TellsForm, IsVolumeLabel, most_blocks}
 use Rattle.tape_set.specs.Reach.{far, before_data, passes, good_run, stopped}
-use Rattle.tape_core.specs.declared.event.{Answer.Answer, Awaited.Awaited, Heading.Heading}
-use Rattle.tape_core.specs.declared.event.Phase.{Phase}
-use Rattle.tape_core.specs.declared.event.Answer.TheVariants.{Passed, Deliver}
 use Rattle.tape_core.specs.declared.event.Phase.TheVariants.{Over, Broken, Volume, VolumeLabels}
 use Rattle.tape_core.specs.declared.event.Phase.TheVariants.{Header2, Headers, DataPassed}
 use Rattle.tape_core.specs.declared.event.Phase.TheVariants.{DataWanted, TrailerPassed}
+use Rattle.tape_core.specs.{declared.event.Answer.Answer, declared.event.Awaited.Awaited}
+use Rattle.tape_core.specs.{declared.event.Heading.Heading, declared.event.Phase.Phase}
+use Rattle.tape_core.specs.declared.event.Answer.TheVariants.{Passed, Deliver}
 use Rattle.tape_core.specs.declared.event.Phase.TheVariants.{TrailerWanted, Trailers, NextFile}
 use Rattle.tape_core.specs.{Labels.heading_of, Known.is_finished}
 use Rattle.tape_core.specs.State.{State, ToldFits, is_broken, told, wants_data}

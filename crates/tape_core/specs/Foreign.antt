@@ -3,14 +3,13 @@ use Rattle.std.specs.Prelude.{◌≡◌, ◌≢◌, ◌&&◌, Bool, true, false,
 use Rattle.std.specs.Prelude.{Option, Some, Result, Ok, Err}
 use Rattle.std.specs.Str.{bytes_eq}
 use Rattle.tape_image.specs.Tape.{TapeItem, block}
-use Rattle.tape_label.specs.declared.values.{Head1.Head1, Kind.Kind}
-use Rattle.tape_label.specs.declared.label.LabelFault.{LabelFault}
+use Rattle.tape_label.specs.{declared.values.Head1.Head1, declared.values.Kind.Kind, Kinds.kind_at}
+use Rattle.tape_label.specs.{declared.label.LabelFault.LabelFault, Reading.head1_at}
+use Rattle.tape_label.specs.VolumeLabels.{is_volume_label}
 use Rattle.tape_label.specs.declared.values.Kind.TheVariants as kinds
-use Rattle.tape_label.specs.{Kinds.kind_at, Reading.head1_at, VolumeLabels.is_volume_label}
-use Rattle.tape_set.specs.declared.position.Position.{Position}
+use Rattle.tape_set.specs.{declared.position.Position.Position, Layout.FileSet}
 use Rattle.tape_set.specs.declared.position.Position.TheVariants.{Awaits, Finished}
-use Rattle.tape_set.specs.Layout.{FileSet}
-use Rattle.tape_core.specs.declared.event.{Answer.TheVariants.Deliver, Phase.Phase}
+use Rattle.tape_core.specs.{declared.event.Answer.TheVariants.Deliver, declared.event.Phase.Phase}
 use Rattle.tape_core.specs.declared.event.Phase.TheVariants.{Over, Volume, VolumeLabels}
 use Rattle.tape_core.specs.{State.State, Table.Outcome, Follows.IsAt}
 

@@ -1,13 +1,11 @@
 -- The form of a file, known from its labels, and the ranges of a checkpoint's numbers.
 use Rattle.std.specs.Prelude.{◌≡◌, ℕ, ◌≤◌, List, Bool, true, false, not, Option, Some, None}
 use Rattle.std.specs.Prelude.{is_some}
-use Rattle.tape_label.specs.declared.values.Format.{Format}
+use Rattle.tape_label.specs.{declared.values.Format.Format, Formats.least_record}
 use Rattle.tape_label.specs.declared.values.Format.TheVariants.{Fixed, Counted, Spanned}
-use Rattle.tape_label.specs.Formats.{least_record}
 use Rattle.tape_blocks.specs.Packing.{longest_block}
-use Rattle.tape_set.specs.declared.position.Position.{Position}
+use Rattle.tape_set.specs.{declared.position.Position.Position, Position.is_start}
 use Rattle.tape_set.specs.declared.position.Position.TheVariants.{Awaits, Finished}
-use Rattle.tape_set.specs.Position.{is_start}
 use Rattle.tape_set.specs.Lawful.{FileForm, binding_len, most_blocks}
 
 -- The numbers are possible in a second label; the record length matters only in format F, and is 0

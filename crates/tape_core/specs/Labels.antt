@@ -1,11 +1,9 @@
 -- How blocks are read as labels, and how labels are compared.
 use Rattle.std.specs.Prelude.{ℕ, ◌==◌, ◌&&◌, not, Bool, false, if◌then◌else◌, List, length, Option}
-use Rattle.std.specs.Prelude.{Some, None}
-use Rattle.std.specs.Str.{bytes_eq}
-use Rattle.tape_label.specs.declared.values.{Head1.Head1, Head2.Head2}
-use Rattle.tape_label.specs.declared.label.LabelFault.{LabelFault}
+use Rattle.std.specs.{Prelude.Some, Prelude.None, Str.bytes_eq}
+use Rattle.tape_label.specs.{declared.values.Head1.Head1, declared.values.Head2.Head2}
+use Rattle.tape_label.specs.{declared.label.LabelFault.LabelFault, Formats.letter}
 use Rattle.tape_label.specs.declared.label.LabelFault.TheVariants as faults
-use Rattle.tape_label.specs.Formats.{letter}
 use Rattle.tape_set.specs.Lawful.{FileForm, binding_len}
 use Rattle.tape_core.specs.declared.event.Heading.{Heading}
 

@@ -1,8 +1,7 @@
 -- The contents of a sink in memory.
 use Rattle.std.specs.Prelude.{◌≡◌, ◌<◌, ◌≤◌, ◌+◌, ℕ, List, ◌∷◌, ◌++◌, length}
 use Rattle.tape_blocks.specs.Block.{Portion}
-use Rattle.tape_core.specs.Entries.{parts_from}
-use Rattle.tape_core.specs.Stands.{weight_of}
+use Rattle.tape_core.specs.{Entries.parts_from, Stands.weight_of}
 use Rattle.tape_core.specs.declared.memory.MemorySink.{MemorySink}
 
 -- the parts, in order

@@ -4,8 +4,7 @@ use Rattle.std.specs.Prelude.{ℕ, zero, suc, nat_le, ◌||◌, not, Bool, false
 use Rattle.std.specs.Prelude.{take, drop, Option, Some, None}
 use Rattle.tape_label.specs.declared.values.Format.{Format}
 use Rattle.tape_label.specs.declared.values.Format.TheVariants.{Fixed, Counted, Spanned}
-use Rattle.tape_blocks.specs.declared.parts.Span.{Span}
-use Rattle.tape_blocks.specs.Block.{Portion, span_by}
+use Rattle.tape_blocks.specs.{declared.parts.Span.Span, Block.Portion, Block.span_by}
 use Rattle.tape_blocks.specs.{Spans.continues, Faults.bool_eq, Judged.begun_behind, Parts.parts_of}
 use Rattle.tape_set.specs.Lawful.{FileForm}
 

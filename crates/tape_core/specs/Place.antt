@@ -2,9 +2,8 @@
 use Rattle.std.specs.Prelude.{◌≡◌, List}
 use Rattle.tape_blocks.specs.Block.{Portion}
 use Rattle.tape_set.specs.{Layout.FileSet, Before.before}
-use Rattle.tape_core.specs.declared.event.Phase.{Phase}
+use Rattle.tape_core.specs.{declared.event.Phase.Phase, State.State, Point.Point, Follows.IsAt}
 use Rattle.tape_core.specs.declared.event.Phase.TheVariants.{Over, Broken}
-use Rattle.tape_core.specs.{State.State, Point.Point, Follows.IsAt}
 
 -- the phase between two reels, which says only whether the reader is broken
 abbrev pub resting : Phase → Phase

@@ -1,7 +1,6 @@
 -- A sink that refuses one call.
 use Rattle.std.specs.Prelude.{◌≡◌, ◌<◌, ◌+◌, ◌-◌, ◌^◌, Result, Err}
-use Rattle.tape_core.specs.declared.refusing.Refusing.{Refusing}
-use Rattle.tape_core.specs.declared.sink.SinkFault.{SinkFault}
+use Rattle.tape_core.specs.{declared.refusing.Refusing.Refusing, declared.sink.SinkFault.SinkFault}
 
 -- The call that is due is refused with this fault, and does not reach the inner sink; after it,
 -- none is due before 2^64 - 1 others. Any other call brings the due one nearer, and is answered by

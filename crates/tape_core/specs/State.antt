@@ -1,9 +1,8 @@
 -- A reader's state, as seen by contracts.
 use Rattle.std.specs.Prelude.{◌≡◌, ℕ, Bool, true, false, List, Option, Some, None}
-use Rattle.tape_set.specs.declared.position.Position.{Position}
-use Rattle.tape_set.specs.Lawful.{FileForm}
-use Rattle.tape_core.specs.declared.event.Phase.{Phase}
+use Rattle.tape_set.specs.{declared.position.Position.Position, Lawful.FileForm}
 use Rattle.tape_core.specs.declared.event.Phase.TheVariants.{Broken, Headers, DataWanted}
+use Rattle.tape_core.specs.declared.event.Phase.{Phase}
 use Rattle.tape_core.specs.declared.event.Phase.TheVariants.{TrailerWanted}
 use Rattle.tape_core.specs.Known.{StandFits, IsFileNumber, is_spanned}
 

@@ -3,15 +3,12 @@
 ghost use Rattle.std.specs.Prelude.{◌≡◌, ◌↔◌, ◌<◌, ◌≤◌, ◌-◌, ◌++◌, ℕ, List, true, false, length};
 ghost use Rattle.std.specs.Prelude.{take, drop, is_some, IfSome, IsSome};
 ghost use Rattle.tape_image.specs.Tape.{TapeItem};
-ghost use Rattle.tape_blocks.specs.Judged.{begun_behind};
-ghost use Rattle.tape_blocks.specs.Packing.{longest_block};
-ghost use Rattle.tape_set.specs.Layout.{FileSet};
-ghost use Rattle.tape_set.specs.Before.{before};
+ghost use Rattle.tape_blocks.specs.{Judged.begun_behind, Packing.longest_block};
+ghost use Rattle.tape_set.specs.{Layout.FileSet, Before.before};
 ghost use Rattle.tape_core.specs.Known.{PositionFits, StandFits, IsFileNumber, is_finished};
-ghost use Rattle.tape_core.specs.Known.{most_staged, IsForm, may_span, known_of};
-ghost use Rattle.tape_core.specs.Point.{point_of};
 ghost use Rattle.tape_core.specs.Range.{in_range, length_in_range, form_in_range};
-ghost use Rattle.tape_core.specs.Range.{position_in_range, known_where_due, may_begin};
+ghost use Rattle.tape_core.specs.Known.{most_staged, IsForm, may_span, known_of};
+ghost use Rattle.tape_core.specs.{Range.position_in_range, Range.known_where_due, Point.point_of};
 
 use std::marker::Model;
 use tape_label::{Field, Format};
@@ -253,7 +250,7 @@ pub(crate) fn is_in_range(
         && file <= 9_999
         && position_in_range(position)
         && known_where_due(known, position)
-        && (!begun || may_begin(known, position))
+        && (!begun || may_span(known) && !matches!(position, Position::Finished))
         && staged <= MOST_STAGED
 }
 
@@ -275,13 +272,6 @@ fn known_where_due(known: &Option<Known>, position: Position) -> bool
         Some(_) => !position.is_start(),
         None => position.is_start(),
     }
-}
-
-/// Returns whether a record may be unfinished at the position.
-fn may_begin(known: &Option<Known>, position: Position) -> bool
-    ensures { result ≡ may_begin known.now position }
-{
-    may_span(known) && !matches!(position, Position::Finished)
 }
 
 /// Returns whether the records of the file may continue in the next block.

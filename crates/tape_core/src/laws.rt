@@ -2,8 +2,7 @@
 
 ghost use Rattle.std.specs.Prelude.{◌≡◌, Some};
 ghost use Rattle.tape_image.specs.Tape.{TapeItem};
-ghost use Rattle.tape_core.specs.State.{State};
-ghost use Rattle.tape_core.specs.Table.{step_of};
+ghost use Rattle.tape_core.specs.{State.State, Table.step_of};
 ghost use Rattle.tape_core.specs.Behind.{AreInOrder, PassesTo, expected_over, passed_over};
 ghost use Rattle.tape_core.specs.Cases.{CasesOfForeign, CasesOfPlaces, CasesOfSteps, CasesOfSinks};
 

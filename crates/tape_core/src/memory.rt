@@ -2,12 +2,8 @@
 
 ghost use Rattle.std.specs.Prelude.{◌≡◌, ◌≤◌, ◌<◌, ◌-◌, ◌+◌, ◌*◌, ◌++◌, ◌∷◌, [], List, Some, drop};
 ghost use Rattle.std.specs.Prelude.{take, length, slice_get, OnOk, OnErr};
-ghost use Rattle.tape_blocks.specs.Block.{Portion};
-ghost use Rattle.tape_blocks.specs.Parts.{view};
-ghost use Rattle.tape_blocks.specs.Packing.{longest_block};
-ghost use Rattle.tape_core.specs.Weight.{Rose};
-ghost use Rattle.tape_core.specs.Known.{most_staged};
-ghost use Rattle.tape_core.specs.Stands.{weight_of};
+ghost use Rattle.tape_blocks.specs.{Block.Portion, Parts.view, Packing.longest_block};
+ghost use Rattle.tape_core.specs.{Weight.Rose, Known.most_staged, Stands.weight_of};
 ghost use Rattle.tape_core.specs.Entries.{IsLaid, laid_one_way, end_from, viewed};
 
 use crate::checkpoint::{Checkpoint, MOST_STAGED};

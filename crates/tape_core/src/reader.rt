@@ -8,10 +8,8 @@ ghost use Rattle.std.specs.Prelude.{◌≡◌, ◌≤◌, ◌++◌, ◌∷◌, [
 ghost use Rattle.std.specs.Prelude.{IsSome, IfOk, OnOk, OnErr, length, slice_get, if◌then◌else◌};
 ghost use Rattle.std.specs.Prelude.{◌≢◌};
 ghost use Rattle.tape_image.specs.Tape.{TapeItem, bad};
-ghost use Rattle.tape_blocks.specs.Block.{Portion};
 ghost use Rattle.tape_set.specs.Layout.{FileSet, nth, items, entries};
-ghost use Rattle.tape_set.specs.Before.{before, IsIn};
-ghost use Rattle.tape_set.specs.Lawful.{IsLawful};
+ghost use Rattle.tape_set.specs.{Before.before, Before.IsIn, Lawful.IsLawful};
 ghost use Rattle.tape_set.specs.Reach.{far, passes};
 ghost use Rattle.tape_set.specs.Position.{start, want_at, sect_of, block_of, part_of};
 ghost use Rattle.tape_core.specs.State.{ToldFits, told};
@@ -22,7 +20,7 @@ use crate::event::{Answer, CoreFault, Event, Phase, Reason};
 use crate::reader::judging::shape_of;
 use std::marker::Model;
 use tape_blocks::Shape;
-use tape_label::Field;
+use tape_label::{Field, same_field};
 use tape_set::{Position, Want};
 
 /// Reads one file of a set, item by item, from reels that are mounted in any order. Tracks the
@@ -129,7 +127,11 @@ impl ReaderCore {
         // Only the phase changes.
         ensures same { rest_of self.new ≡ rest_of self.old }
     {
-        self.begin()
+        self.phase = match (self.phase, self.position) {
+            (Phase::Broken, _) => Phase::Broken,
+            (_, Position::Finished) => Phase::Over,
+            _ => Phase::Volume,
+        };
     }
 
     /// Begins reading after a trailer label, where the reader of an earlier file of the set has
@@ -138,13 +140,6 @@ impl ReaderCore {
     pub fn mount_behind(&mut self)
         ensures table { self.new ≡ behind_of self.old }
         ensures same { rest_of self.new ≡ rest_of self.old }
-    {
-        self.begin_behind()
-    }
-
-    /// Continues reading after a trailer label.
-    fn begin_behind(&mut self)
-        ensures table { self.new ≡ behind_of self.old }
     {
         self.phase = match (self.phase, self.position) {
             (Phase::Broken, _) => Phase::Broken,
@@ -262,7 +257,11 @@ impl ReaderCore {
         ensures there { OnOk result (rest_of self.new ≡ place_of checkpoint.now) }
         ensures refused { OnErr result (self.new ≡ self.old) }
     {
-        self.go_to(checkpoint)
+        if !same_field(&self.set_id, &checkpoint.set_id) || self.file != checkpoint.file {
+            return Err(CoreFault::OtherFile);
+        }
+        *self = ReaderCore::at(checkpoint);
+        Ok(())
     }
 }
 

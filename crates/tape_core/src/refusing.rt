@@ -1,15 +1,11 @@
 //! A sink that refuses one call, for tests.
 
-ghost use Rattle.std.specs.Prelude.{◌≡◌, ◌≢◌, ◌↔◌, ◌<◌, ◌≤◌, ◌+◌, ◌-◌, ◌^◌, ◌++◌, ◌∷◌, []};
-ghost use Rattle.std.specs.Prelude.{List, length, IsTrue, OnOk, OnErr, IfErr, Err};
+ghost use Rattle.std.specs.Prelude.{◌≡◌, ◌≢◌, ◌↔◌, ◌<◌, ◌≤◌, ◌+◌, ◌-◌, ◌^◌, ◌++◌, ◌∷◌, [], List};
+ghost use Rattle.std.specs.Prelude.{length, IsTrue, OnOk, OnErr, IfErr, Err};
 ghost use Rattle.std.specs.Bool.{OnTrue, OnFalse};
-ghost use Rattle.tape_blocks.specs.Block.{Portion};
-ghost use Rattle.tape_blocks.specs.Parts.{view};
-ghost use Rattle.tape_blocks.specs.Packing.{longest_block};
+ghost use Rattle.tape_blocks.specs.{Block.Portion, Parts.view, Packing.longest_block};
 ghost use Rattle.tape_core.specs.Crash.{AddsNothing, AddsOnly, IsThis, ThisAlone};
-ghost use Rattle.tape_core.specs.Known.{most_staged};
-ghost use Rattle.tape_core.specs.Refusing.{RefusesOne};
-ghost use Rattle.tape_core.specs.Stands.{weight_of};
+ghost use Rattle.tape_core.specs.{Known.most_staged, Refusing.RefusesOne, Stands.weight_of};
 ghost use Rattle.tape_core.specs.Weight.{Rose};
 
 use crate::checkpoint::Checkpoint;

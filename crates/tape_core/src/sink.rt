@@ -1,19 +1,12 @@
 //! Sinks, which receive the parts of a file, and can return them.
 
 ghost use Rattle.std.specs.Prelude.{◌≡◌, ◌≢◌, ◌<◌, ◌≤◌, ◌+◌, ◌++◌, ◌∷◌, [], ℕ, List, length, OnOk};
-ghost use Rattle.std.specs.Prelude.{OnErr, IfErr, Err};
-ghost use Rattle.std.specs.Borrow.{sem};
+ghost use Rattle.std.specs.{Prelude.OnErr, Prelude.IfErr, Prelude.Err, Borrow.sem};
 ghost use Rattle.std.specs.Io.BufRead.{Rests};
-ghost use Rattle.tape_blocks.specs.Block.{Portion};
-ghost use Rattle.tape_blocks.specs.Parts.{view};
-ghost use Rattle.tape_blocks.specs.Packing.{longest_block};
-ghost use Rattle.tape_core.specs.Weight.{Rose};
+ghost use Rattle.tape_blocks.specs.{Block.Portion, Parts.view, Packing.longest_block};
+ghost use Rattle.tape_core.specs.{Weight.Rose, Walks.HasGiven, Known.most_staged, Point.Point};
 ghost use Rattle.tape_core.specs.Crash.{AddsNothing, AddsOnly, Crashes, IsThis, ThisAlone};
-ghost use Rattle.tape_core.specs.Walks.{HasGiven};
-ghost use Rattle.tape_core.specs.Known.{most_staged};
-ghost use Rattle.tape_core.specs.Point.{Point};
-ghost use Rattle.tape_core.specs.Stands.{weight_of};
-ghost use Rattle.tape_core.specs.Faults.{sink_fault_number};
+ghost use Rattle.tape_core.specs.{Stands.weight_of, Faults.sink_fault_number};
 ghost use Rattle.tape_core.specs.declared.sink.SinkFault.{SinkFault};
 
 use crate::checkpoint::Checkpoint;

@@ -1,9 +1,8 @@
 -- A block's content and the bytes after it, read in one call.
 use Rattle.std.proofs.Common.{◌≡◌, ℕ, ◌+◌, ◌-◌, ◌≤◌, ◌%◌, List, ◌++◌, length, take, drop, Option}
 use Rattle.std.proofs.Common.{Some, None, refl, sym, ap, subst, ◌∙◌, arith, append_assoc}
-use Rattle.std.proofs.Common.{length-drop}
 use Rattle.std.proofs.lemmas.List.{length-take-le, take-append-drop, take-append-le, drop-append-le}
-use Rattle.std.proofs.lemmas.List.{drop-drop}
+use Rattle.std.proofs.{Common.length-drop, lemmas.List.drop-drop}
 use Rattle.std.specs.Io.KnownBytes.{Consumes}
 use Rattle.byteorder.specs.{Endian.little_number, Numbers.little_from-take}
 use Rattle.tape_image.specs.Device.{TakesRest}

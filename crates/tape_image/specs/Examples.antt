@@ -1,29 +1,22 @@
 -- Test cases for the definitions: small images and results that each definition accepts or
 -- excludes.
 use Rattle.std.specs.Prelude.{◌≡◌, ◌⊎◌, ◌≤◌, ◌<◌, ◌+◌, ℕ, List, [], ◌∷◌, ◌++◌, length, Option}
-use Rattle.std.specs.Prelude.{Result, Ok, Err, None}
-use Rattle.std.specs.Io.KnownBytes.{Appends}
-use Rattle.tape_image.specs.declared.item.Ending.{Ending}
-use Rattle.tape_image.specs.declared.item.Ending.TheVariants.{Marked, Physical}
+use Rattle.std.specs.{Prelude.Result, Prelude.Ok, Prelude.Err, Prelude.None, Io.KnownBytes.Appends}
 use Rattle.tape_image.specs.declared.item.ImageCause.TheVariants.{Truncated, LengthsDiffer}
-use Rattle.tape_image.specs.declared.item.ImageCause.TheVariants.{Reserved, TooLong, Device}
-use Rattle.tape_image.specs.declared.item.ImageFault.{ImageFault}
-use Rattle.tape_image.specs.declared.item.ImageWriteFault.{ImageWriteFault}
-use Rattle.tape_image.specs.declared.item.ImageWriteFault.TheVariants as refusal
-use Rattle.tape_image.specs.declared.item.Item.{Item}
-use Rattle.tape_image.specs.Tape.{TapeItem, block, bad, mark, IsTapeItem}
-use Rattle.tape_image.specs.Spelling.{IsSpelling, Spells, end_len}
-use Rattle.tape_image.specs.Begins.{image_limit, Stop, ends, faults, Stops, Stands, Walks, Begins}
 use Rattle.tape_image.specs.Laws.{SpellingsAreUnique, NeverBoth, BeginsIsUnique, SpelledBegins}
-use Rattle.tape_image.specs.Laws.{WalkedIsFront}
-use Rattle.tape_image.specs.Reader.{Reader, ended, failed}
 use Rattle.tape_image.specs.Step.{least_extent, TakesEnd, TakesFault, IsCause, GivesItem, MeetsEnd}
-use Rattle.tape_image.specs.Step.{MeetsFault, Answers}
-use Rattle.tape_image.specs.Calls.{Gave}
-use Rattle.tape_image.specs.Next.{HasMoved}
-use Rattle.tape_image.specs.Written.{written}
 use Rattle.tape_image.specs.Writer.{Writer, Standing, writing, finished, broken, PutsAll, Puts}
+use Rattle.tape_image.specs.{declared.item.Ending.Ending, declared.item.ImageFault.ImageFault}
+use Rattle.tape_image.specs.declared.item.Ending.TheVariants.{Marked, Physical}
+use Rattle.tape_image.specs.declared.item.ImageCause.TheVariants.{Reserved, TooLong, Device}
+use Rattle.tape_image.specs.{declared.item.ImageWriteFault.ImageWriteFault, declared.item.Item.Item}
+use Rattle.tape_image.specs.Tape.{TapeItem, block, bad, mark, IsTapeItem}
+use Rattle.tape_image.specs.{Spelling.IsSpelling, Spelling.Spells, Spelling.end_len, Calls.Gave}
+use Rattle.tape_image.specs.Begins.{image_limit, Stop, ends, faults, Stops, Stands, Walks, Begins}
+use Rattle.tape_image.specs.{Laws.WalkedIsFront, Reader.Reader, Reader.ended, Reader.failed}
+use Rattle.tape_image.specs.{Step.MeetsFault, Step.Answers, Next.HasMoved, Written.written}
 use Rattle.tape_image.specs.Writer.{PutsFrom, BlockFrom}
+use Rattle.tape_image.specs.declared.item.ImageWriteFault.TheVariants as refusal
 
 -- images and their items
 pub record ImagesAreHeld : Type 0 where

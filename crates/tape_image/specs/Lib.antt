@@ -15,7 +15,7 @@ pub mod Laws
 pub mod Examples
 -- definitions about private code, proved to agree with the definitions above:
 pub mod Device
-pub mod Kind
+pub mod Begun
 pub mod Front
 pub mod State
 pub mod Standing

@@ -1,10 +1,9 @@
 -- How callers see the private state of an `ImageWriter`, and the results of its private calls.
 use Rattle.std.specs.Prelude.{◌≡◌, ℕ, ◌+◌, ◌<◌, ◌≤◌, Result, Ok, Err}
-use Rattle.tape_image.specs.declared.item.ImageWriteFault.{ImageWriteFault}
+use Rattle.tape_image.specs.{declared.item.ImageWriteFault.ImageWriteFault, Begins.image_limit}
 use Rattle.tape_image.specs.declared.item.ImageWriteFault.TheVariants.{Device, Finished, TooLong}
 use Rattle.tape_image.specs.declared.writer.Phase.{Phase}
 use Rattle.tape_image.specs.declared.writer.Phase.TheVariants.{Open, Done, Broken}
-use Rattle.tape_image.specs.Begins.{image_limit}
 use Rattle.tape_image.specs.Writer.{Standing, writing, finished, broken, Writer}
 
 -- the state that callers see

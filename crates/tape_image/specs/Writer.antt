@@ -1,17 +1,13 @@
 -- The state of an `ImageWriter` that callers see, and the effects of its calls.
 use Rattle.std.specs.Prelude.{◌≡◌, ℕ, ◌+◌, ◌<◌, ◌≤◌, List, [], ◌∷◌, ◌++◌, length, Option, Some}
-use Rattle.std.specs.Prelude.{Result, Ok, Err, MatchBool}
-use Rattle.std.specs.List.{flat_map}
+use Rattle.std.specs.{Prelude.Result, Prelude.Ok, Prelude.Err, Prelude.MatchBool, List.flat_map}
 use Rattle.std.specs.Io.KnownBytes.{Appends}
 use Rattle.byteorder.specs.Endian.{little_bytes}
-use Rattle.tape_image.specs.declared.item.ImageWriteFault.{ImageWriteFault}
 use Rattle.tape_image.specs.declared.item.ImageWriteFault.TheVariants.{BlockLength, Device}
+use Rattle.tape_image.specs.{declared.item.ImageWriteFault.ImageWriteFault, Word.end_word}
 use Rattle.tape_image.specs.declared.item.ImageWriteFault.TheVariants.{Finished, TooLong}
-use Rattle.tape_image.specs.Tape.{TapeItem, block, bad, mark}
-use Rattle.tape_image.specs.Word.{end_word}
-use Rattle.tape_image.specs.Spelling.{Spells}
-use Rattle.tape_image.specs.Begins.{image_limit}
-use Rattle.tape_image.specs.Written.{written, is_no_block}
+use Rattle.tape_image.specs.{Tape.TapeItem, Tape.block, Tape.bad, Tape.mark, Spelling.Spells}
+use Rattle.tape_image.specs.{Begins.image_limit, Written.written, Written.is_no_block}
 
 -- open, finished by an end-of-medium marker, or failed
 pub data Standing : Type 0 where

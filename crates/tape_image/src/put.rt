@@ -6,8 +6,7 @@
 ghost use Rattle.std.specs.Prelude.{◌≡◌, ◌≤◌, length, take, replicate, OnOk, OnErr, IsOkUnless};
 ghost use Rattle.std.specs.Io.KnownBytes.{Appends};
 ghost use Rattle.byteorder.specs.Endian.{little_bytes};
-ghost use Rattle.tape_image.specs.Written.{AppendsFront, written_block};
-ghost use Rattle.tape_image.specs.Word.{longest_block};
+ghost use Rattle.tape_image.specs.{Written.AppendsFront, Written.written_block, Word.longest_block};
 
 use crate::item::ImageWriteFault;
 use byteorder::{ByteOrder, LittleEndian};

@@ -2,9 +2,7 @@
 
 ghost use Rattle.std.specs.Prelude.{◌≡◌};
 ghost use Rattle.byteorder.specs.Endian.{little_bytes};
-ghost use Rattle.tape_image.specs.Tape.{bad, mark};
-ghost use Rattle.tape_image.specs.Word.{end_word};
-ghost use Rattle.tape_image.specs.Written.{written};
+ghost use Rattle.tape_image.specs.{Tape.bad, Tape.mark, Word.end_word, Written.written};
 
 use crate::block::{BAD, END, IMAGE_LIMIT, LONGEST_BLOCK, MARK, WORD, extent_of_block};
 use crate::item::ImageWriteFault;

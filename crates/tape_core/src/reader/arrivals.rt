@@ -2,19 +2,15 @@
 
 ghost use Rattle.std.specs.Prelude.{◌≡◌, ◌≢◌, false, Some, ◌<◌, true, IfSome, IfNone};
 ghost use Rattle.tape_image.specs.Tape.{block as block'};
-ghost use Rattle.tape_set.specs.Lawful.{most_blocks};
-ghost use Rattle.tape_set.specs.Position.{block_of};
-ghost use Rattle.tape_core.specs.Arrive.{arrival};
-ghost use Rattle.tape_core.specs.Follows.{Checked, IsAwaited};
-ghost use Rattle.tape_core.specs.Known.{is_finished};
-ghost use Rattle.tape_core.specs.State.{ToldFits, wants_data, told};
+ghost use Rattle.tape_set.specs.{Lawful.most_blocks, Position.block_of};
+ghost use Rattle.tape_core.specs.{Arrive.arrival, Follows.Checked, Follows.IsAwaited};
+ghost use Rattle.tape_core.specs.{Known.is_finished, State.ToldFits, State.wants_data, State.told};
 ghost use Rattle.tape_core.specs.Table as Table;
 
-use crate::checkpoint::{Checkpoint, Known};
-use crate::event::{Answer, Awaited, CoreFault, Event, Heading, Phase, Reason};
+use crate::event::{Answer, Awaited, Event, Phase, Reason};
 use crate::reader::ReaderCore;
 use crate::reader::judging::{judge_awaited, shape_of};
-use tape_label::{LabelFault, is_volume_label, kind, read_head1, read_trail1, same_field};
+use tape_label::{LabelFault, is_volume_label, kind, read_head1, read_trail1};
 use tape_set::Position;
 
 impl ReaderCore {
@@ -87,24 +83,18 @@ impl ReaderCore {
             Phase::Header2(..) | Phase::TrailerPassed(_) | Phase::TrailerWanted(..) => {
                 self.useless(Reason::BadLabel(LabelFault::Identifier))
             }
-            Phase::Headers(heading, wanted) => self.data_follow(heading, wanted),
+            Phase::Headers(heading, wanted) => match wanted {
+                None => self.passed(Phase::DataPassed(heading)),
+                Some(form) => self.passed(Phase::DataWanted(heading, form, 0)),
+            },
             Phase::DataPassed(heading) => self.passed(Phase::TrailerPassed(heading)),
-            Phase::DataWanted(heading, form, seen) => self.at_data_end(heading, form, seen),
+            // The mark after the data must follow all blocks that were delivered already.
+            Phase::DataWanted(_, _, seen) if seen < self.block() => {
+                self.useless(Reason::SectionDiffers)
+            }
+            Phase::DataWanted(heading, form, _) => self.passed(Phase::TrailerWanted(heading, form)),
             Phase::Trailers => self.passed(Phase::NextFile),
             Phase::NextFile => self.useless(Reason::NotOnReel),
-        }
-    }
-
-    /// Processes the mark after the headers.
-    fn data_follow(&mut self, heading: Heading, wanted: Option<Known>) -> Answer
-        requires { ToldFits self.old.begun wanted }
-        ensures table { (result, self.new)
-            ≡ Table.passed self.old (Table.data_phase heading wanted) }
-        ensures silent { result ≢ Answer.Deliver }
-    {
-        match wanted {
-            None => self.passed(Phase::DataPassed(heading)),
-            Some(form) => self.passed(Phase::DataWanted(heading, form, 0)),
         }
     }
 
@@ -118,7 +108,10 @@ impl ReaderCore {
             Phase::Over => self.useless(Reason::ReelEnded),
             Phase::Broken => self.broken(Reason::Broken),
             Phase::DataPassed(_) => Answer::Passed,
-            Phase::DataWanted(heading, form, seen) => self.at_bad_data(heading, form, seen),
+            // The reading goes on only after a block that was delivered already.
+            Phase::DataWanted(heading, form, seen) if seen < self.block() => {
+                self.passed(Phase::DataWanted(heading, form, seen + 1))
+            }
             _ => self.useless(Reason::BadItem),
         }
     }
@@ -132,33 +125,6 @@ impl ReaderCore {
             Phase::Broken => self.broken(Reason::Broken),
             _ => self.useless(Reason::ReelEnded),
         }
-    }
-}
-
-impl ReaderCore {
-    /// Begins a reading.
-    pub(crate) fn begin(&mut self)
-        ensures table { self.new ≡ Table.mount_of self.old }
-    {
-        self.phase = match (self.phase, self.position) {
-            (Phase::Broken, _) => Phase::Broken,
-            (_, Position::Finished) => Phase::Over,
-            _ => Phase::Volume,
-        };
-    }
-
-    /// Moves to a checkpoint of the same file.
-    pub(crate) fn go_to(&mut self, checkpoint: &Checkpoint) -> Result<(), CoreFault>
-        ensures value { (result, self.new) ≡ Table.restart_of self.old checkpoint.now }
-    {
-        if !same_field(&self.set_id, &checkpoint.set_id) || self.file != checkpoint.file {
-            return Err(CoreFault::OtherFile);
-        }
-        self.position = checkpoint.position;
-        self.begun = checkpoint.begun;
-        self.known = checkpoint.known;
-        self.phase = Phase::Over;
-        Ok(())
     }
 }
 
@@ -243,32 +209,5 @@ impl ReaderCore {
         self.known = Some(*form);
         self.position = self.position.next_block();
         self.begun = end;
-    }
-
-    /// Processes an unreadable item after `seen` blocks. The reading ends only if the item is the
-    /// expected block or a later block.
-    pub(crate) fn at_bad_data(&mut self, heading: Heading, form: Known, seen: u32) -> Answer
-        requires told { ToldFits self.old.begun (Some form) }
-        ensures table { (result, self.new) ≡ Table.at_bad_data self.old heading form seen }
-        ensures silent { result ≢ Answer.Deliver }
-    {
-        if seen < self.block() {
-            self.passed(Phase::DataWanted(heading, form, seen + 1))
-        } else {
-            self.useless(Reason::BadItem)
-        }
-    }
-
-    /// Processes the mark after the data. It must follow all blocks that were delivered already.
-    pub(crate) fn at_data_end(&mut self, heading: Heading, form: Known, seen: u32) -> Answer
-        requires told { ToldFits self.old.begun (Some form) }
-        ensures table { (result, self.new) ≡ Table.at_data_end self.old heading form seen }
-        ensures silent { result ≢ Answer.Deliver }
-    {
-        if seen < self.block() {
-            self.useless(Reason::SectionDiffers)
-        } else {
-            self.passed(Phase::TrailerWanted(heading, form))
-        }
     }
 }

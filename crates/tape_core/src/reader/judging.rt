@@ -1,13 +1,8 @@
 //! Judges the expected block, and the block whose first parts were delivered.
 
-ghost use Rattle.std.specs.Prelude.{◌≡◌, Bool, List, ◌<◌, ◌≤◌, ◌⊎◌, length, not, Ok, Some, OnOk};
-ghost use Rattle.std.specs.Prelude.{IfOk};
-ghost use Rattle.tape_blocks.specs.Block.{Portion, Holds};
-ghost use Rattle.tape_blocks.specs.Spans.{InOrder};
-ghost use Rattle.tape_blocks.specs.Faults.{bool_eq};
-ghost use Rattle.tape_blocks.specs.Judged.{judged};
-ghost use Rattle.tape_set.specs.Lawful.{most_blocks};
-ghost use Rattle.tape_set.specs.Position.{block_of, part_of};
+ghost use Rattle.std.specs.Prelude.{◌≡◌, Bool, List, ◌<◌, ◌≤◌, ◌⊎◌, length, Ok, Some, OnOk, IfOk};
+ghost use Rattle.tape_blocks.specs.{Block.Portion, Block.Holds, Spans.InOrder, Judged.judged};
+ghost use Rattle.tape_set.specs.{Lawful.most_blocks, Position.block_of, Position.part_of};
 ghost use Rattle.tape_core.specs.State.{ToldFits, State};
 ghost use Rattle.tape_core.specs.Table as Table;
 ghost use Rattle.tape_core.specs.Parts as Parts';
@@ -98,13 +93,6 @@ fn begun_before(known: &Known, part: u32, begun: bool, block: &[u8]) -> bool
     }
 }
 
-/// Returns whether `a` and `b` differ.
-fn differs(a: bool, b: bool) -> bool
-    ensures { result ≡ not (bool_eq a b) }
-{
-    if a { !b } else { b }
-}
-
 /// Returns whether `block`, already checked, differs from the block whose first `part` parts were
 /// delivered: it has no further part, or a record is unfinished after them although `begun` is
 /// false, or the converse.
@@ -121,7 +109,7 @@ fn other_front(known: &Known, part: u32, begun: bool, block: &[u8]) -> bool
     let mut left = part;
     for each in Parts::new(&shape_of(known), block) {
         if left == 0 {
-            return differs(going, begun);
+            return going != begun;
         }
         going = each.span.leaves();
         left -= 1;

@@ -1,9 +1,7 @@
 //! The rules for labels that continue a file.
 
 ghost use Rattle.std.specs.Prelude.{◌≡◌, ◌≢◌, true, false, Some, ℕ, List};
-ghost use Rattle.tape_label.specs.Kinds.{kind_at};
-ghost use Rattle.tape_label.specs.Reading.{head2_at};
-ghost use Rattle.tape_label.specs.Head2.{IsHead2};
+ghost use Rattle.tape_label.specs.{Kinds.kind_at, Reading.head2_at, Head2.IsHead2};
 ghost use Rattle.tape_label.specs.declared.values.Kind.{Kind};
 ghost use Rattle.tape_core.specs.State.{ToldFits};
 ghost use Rattle.tape_core.specs.Table as Table;

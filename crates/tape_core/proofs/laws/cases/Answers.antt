@@ -1,5 +1,4 @@
-use Rattle.tape_core.proofs.Examples.{cases_of_foreign, cases_of_places, cases_of_steps}
-use Rattle.tape_core.proofs.Examples.{cases_of_sinks}
+use Rattle.tape_core.proofs.Examples.{cases_of_foreign, cases_of_sinks}
 use Rattle.tape_core.proofs.laws.cases.Goals as goal
 
 pub returns-clause-foreign : goal.returns-clause-foreign

@@ -1,6 +1,5 @@
 use Rattle.std.proofs.Common.{◌≡◌, ℕ, ◌+◌, ◌≤◌, ◌%◌, length, arith, take, drop, replicate, sym, ◌∙◌}
-use Rattle.std.proofs.Common.{length-drop}
-use Rattle.std.proofs.lemmas.List.{length-take-le, take-append-drop}
+use Rattle.std.proofs.{Common.length-drop, lemmas.List.length-take-le, lemmas.List.take-append-drop}
 use Rattle.std.proofs.lemmas.Result.{err_from_is_err_and}
 use Rattle.tape_image.proofs.{Taken.FallsShort-trans, Rests.rest_at_once, Rests.trail_word}
 use Rattle.tape_image.proofs.block.take_rest.Goals as goal

@@ -1,6 +1,8 @@
-use Rattle.std.proofs.{Common.ap, Common.arith, lemmas.Result.err_from_is_err_and}
-use Rattle.tape_image.specs.Kind.{kind_extent}
-use Rattle.tape_image.proofs.Blocks.{word_falls, over_limit}
+use Rattle.std.proofs.{Common.◌≡◌, Common.◌⊎◌, Common.arith, lemmas.Result.err_from_is_err_and}
+use Rattle.tape_image.specs.declared.block.Found.TheVariants.{Block, Bad}
+use Rattle.tape_image.proofs.Blocks.{word_falls, over_limit, length_found, block_falls}
+use Rattle.tape_image.proofs.Blocks.{block_differs, block_found}
+use Rattle.tape_image.proofs.reader.take_found.Goals.{in-Block, in-Block-2}
 use Rattle.tape_image.proofs.reader.take_found.Goals as goal
 
 pub returns-in_err-word : goal.returns-in_err-word
@@ -11,12 +13,49 @@ returns-in_err-word g c =
 pub returns-then-place-extent : goal.returns-then-place-extent
 returns-then-place-extent g c =
     let word = rw c.in-Some.is at c.in_ok-word.ensures in
-    over_limit c.args.place c.in-Some.word c.in-Some-kind_of.kind _ _ word c.in-Some-kind_of.ensures
-    (omega (arith, c.extent.ensures))
+    over_limit c.args.place c.in-Some.word c.in-Some-begun_by.begun _ _ word
+    c.in-Some-begun_by.ensures (omega (arith, c.extent.ensures.is))
 
-pub returns-in_ok-take_block-in-Block : goal.returns-in_ok-take_block-in-Block
-returns-in_ok-take_block-in-Block g c =
+pub returns-in_err-trail : goal.returns-in_err-trail
+returns-in_err-trail g c =
     let word = rw c.in-Some.is at c.in_ok-word.ensures in
-    let size = ap kind_extent c.in-Block.is in
-    c.in_ok-take_block-in-Block.ensures c.args.place word.bytes (g.R.Read.remaining
-    c.args.device.now) (omega (arith, c.extent.ensures, size)) word.is word.taken
+    let n = c.match-found.len in
+    let which : (c.in-Some-begun_by.begun ≡ Block n) ⊎ (c.in-Some-begun_by.begun ≡ Bad n) =
+    elim c.match-found.branch [
+      | in-Block w ↦ rw w.len-is w.in-Block.is
+      | in-Block-2 w ↦ rw w.len-is w.in-Block.is
+    ] in
+    let (len, size) = length_found c.in-Some.word n _ c.in-Some-begun_by.ensures which in
+    let p = err_from_is_err_and c.from_residual-in_err-trail.result
+    c.from_residual-in_err-trail.ensures.1 in
+    rw (p.1, p.2) (block_falls c.args.place c.in-Some.word n _ _ _ word.bytes _
+    (omega (arith, c.extent.ensures.is, size)) len word.is word.taken c.in_err-trail.ensures)
+
+pub returns-then-trail-word : goal.returns-then-trail-word
+returns-then-trail-word g c =
+    let word = rw c.in-Some.is at c.in_ok-word.ensures in
+    let n = c.match-found.len in
+    let which : (c.in-Some-begun_by.begun ≡ Block n) ⊎ (c.in-Some-begun_by.begun ≡ Bad n) =
+    elim c.match-found.branch [
+      | in-Block w ↦ rw w.len-is w.in-Block.is
+      | in-Block-2 w ↦ rw w.len-is w.in-Block.is
+    ] in
+    let (len, size) = length_found c.in-Some.word n _ c.in-Some-begun_by.ensures which in
+    let (_, t, behind) = c.in_ok-trail.ensures in
+    block_differs c.args.place c.in-Some.word n c.in_ok-trail.trail _ _ _ _ word.bytes t.content
+    (omega (arith, c.extent.ensures.is, size)) len word.is word.taken t.taken t.count behind
+    c.if-trail-word.true
+
+pub returns : goal.returns
+returns g c =
+    let word = rw c.in-Some.is at c.in_ok-word.ensures in
+    let n = c.match-found.len in
+    let which : (c.in-Some-begun_by.begun ≡ Block n) ⊎ (c.in-Some-begun_by.begun ≡ Bad n) =
+    elim c.match-found.branch [
+      | in-Block w ↦ rw w.len-is w.in-Block.is
+      | in-Block-2 w ↦ rw w.len-is w.in-Block.is
+    ] in
+    let (_, size) = length_found c.in-Some.word n _ c.in-Some-begun_by.ensures which in
+    block_found c.args.place c.in-Some.word n c.in_ok-trail.trail _ _ _ _ word.bytes _
+    (omega (arith, c.extent.ensures.is, size)) c.in-Some-begun_by.ensures which word.is word.taken
+    c.in_ok-trail.ensures c.if-trail-word.false

@@ -1,6 +1,5 @@
 use Rattle.std.proofs.Common.{◌≡◌, ◌+◌, [], ◌∷◌, ◌++◌, length, sym, ap, ◌∙◌, subst, arith}
-use Rattle.tape_core.specs.declared.event.Entry.{Entry}
-use Rattle.tape_core.specs.Entries.{parts_from, AreLaid}
+use Rattle.tape_core.specs.{declared.event.Entry.Entry, Entries.parts_from, Entries.AreLaid}
 use Rattle.tape_core.proofs.Laid.{laid_more, parts_added, weight_all}
 use Rattle.tape_core.proofs.memory.MemorySink.add.Goals as goal
 

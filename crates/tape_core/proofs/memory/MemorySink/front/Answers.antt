@@ -1,5 +1,5 @@
-use Rattle.std.proofs.Common.{◌≡◌, ◌<◌, ◌-◌, suc, length, take, drop, sym, ap, arith}
-use Rattle.std.proofs.lemmas.List.{length-drop, take-append-drop}
+use Rattle.std.proofs.Common.{◌≡◌, ◌<◌, ◌-◌, suc, take, drop, sym, ap, arith}
+use Rattle.std.proofs.lemmas.List.{take-append-drop}
 use Rattle.tape_core.specs.{Stands.weight_of, Memory.portions}
 use Rattle.tape_core.proofs.Weights.{weight_of-more, front_has_parts}
 use Rattle.tape_core.proofs.memory.MemorySink.front.Goals as goal

@@ -1,9 +1,8 @@
 use Rattle.std.proofs.Common.{◌≡◌, ℕ, List, take, sym, ap, ◌∙◌, subst, arith}
-use Rattle.tape_core.specs.Memory.{portions, IsLongestFront}
-use Rattle.tape_core.specs.declared.{event.Entry.Entry, memory.MemorySink.MemorySink}
+use Rattle.tape_core.specs.{Memory.portions, Memory.IsLongestFront, declared.event.Entry.Entry}
+use Rattle.tape_core.specs.declared.memory.MemorySink.{MemorySink}
 use Rattle.tape_core.specs.Entries.{parts_from, end_from, IsLaid}
-use Rattle.tape_core.proofs.Laid.{parts_cut, laid_cut}
-use Rattle.tape_core.proofs.Weights.{longest_is}
+use Rattle.tape_core.proofs.{Laid.parts_cut, Laid.laid_cut, Weights.longest_is}
 use Rattle.tape_core.proofs.memory.MemorySinkPartSink.cut_to.Goals as goal
 
 -- the parts left are the first parts

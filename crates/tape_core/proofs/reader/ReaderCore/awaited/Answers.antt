@@ -1,7 +1,6 @@
-use Rattle.std.proofs.Common.{sym, ap, ◌∙◌}
-use Rattle.tape_set.specs.Position.{block_of, part_of}
+use Rattle.std.proofs.Common.{ap, ◌∙◌}
 use Rattle.tape_core.specs.State.{State}
-use Rattle.tape_core.proofs.Delivering.{awaited_by, only_data}
+use Rattle.tape_core.proofs.Delivering.{only_data}
 use Rattle.tape_core.proofs.reader.ReaderCore.awaited.Goals as goal
 
 pub returns-in_default : goal.returns-in_default

@@ -1,12 +1,13 @@
 use Rattle.std.proofs.Common.{◌≡◌, ◌≤◌, ◌++◌, ◌∷◌, [], ℕ, List, length, map, Bool, sym, ap, ◌∙◌}
-use Rattle.std.proofs.Common.{subst, Ok, arith, length-append}
+use Rattle.std.proofs.Common.{subst, Ok, arith, length-append, not, true, false, refl}
+use mathlib.Core.Bool.{beq}
 use Rattle.std.proofs.lemmas.List.{append-nil, length-map, map-append}
 use Rattle.std.specs.Iterator.{YieldsFirstBy, Yields}
 use Rattle.tape_label.specs.declared.values.{Format.Format, Format.TheVariants.Fixed}
 use Rattle.tape_set.specs.Lawful.{FileForm}
 use Rattle.tape_blocks.specs.declared.parts.{Part.Part, Parts.Parts}
 use Rattle.tape_blocks.specs.{Block.Portion, Block.Holds, Judged.judged, Judged.begun_behind}
-use Rattle.tape_blocks.specs.{Parts.view, PartsLeft.parts_left}
+use Rattle.tape_blocks.specs.{Parts.view, PartsLeft.parts_left, Faults.bool_eq}
 use Rattle.tape_blocks.proofs.{JudgedLaws.judged_found, YieldLaws.yielded_parts}
 use Rattle.tape_core.specs.Parts.{parts_in, goes_on_at}
 use Rattle.tape_core.proofs.BlockLaws.{parts_in_it}
@@ -43,6 +44,13 @@ parts_all form block before end format rec_len offset s t xs some f r o j new by
     (subst (λ z. Holds format rec_len z block h.0) o h.1)) in
     parts_in_it form block h.0 held ∙ (sym (new h.0 h.1) ∙ yielded_parts s xs t by)
 
+-- the comparison of two truth values is that of the definition
+beq_is : (a b : Bool) → beq a b ≡ bool_eq a b
+beq_is true true = refl
+beq_is true false = refl
+beq_is false true = refl
+beq_is false false = refl
+
 pub returns-then-left-eq0 : goal.returns-then-left-eq0
 returns-then-left-eq0 c =
     let s = c.shape_of.result in
@@ -59,7 +67,8 @@ returns-then-left-eq0 c =
     all ∙ ap (λ z. map view c.loop-each.yielded ++ z) c.in-Some.ensures.steps in
     let n : length (map view c.loop-each.yielded) ≡ c.args.part =
     length-map c.loop-each.yielded view ∙ omega (arith, i.0, c.if-left-eq0.true) in
-    c.differs.ensures ∙ front_at c.args.known.now c.args.part c.args.begun c.loop-each.going
+    ap not (beq_is c.loop-each.going c.args.begun)
+    ∙ front_at c.args.known.now c.args.part c.args.begun c.loop-each.going
     c.args.block.now (map view c.loop-each.yielded) (parts_left c.next.new.self)
     (view c.in-Some.each) is n c.if-part-eq0.false i.1
 
