@@ -5,13 +5,12 @@ use Rattle.std.proofs.Common.{drop, Option, Some, None, Result, Ok, Err, refl, s
 use Rattle.std.proofs.Common.{append_assoc, arith, length-append, inl, inr}
 use Rattle.std.proofs.lemmas.List.{drop-drop, append-nil}
 use Rattle.std.proofs.lemmas.List.Concat.{flat_map-cons, flat_map-append}
-use Rattle.std.specs.Prelude.{◌⊎◌}
-use Rattle.std.specs.List.{AllByRecursion}
+use Rattle.std.specs.{Prelude.◌⊎◌, List.AllByRecursion}
 use Rattle.tape_label.specs.declared.values.Format.{Format}
 use Rattle.tape_blocks.specs.Block.{Portion, head_len, spelling, spellings, IsUnit, BeginsWith}
-use Rattle.tape_blocks.specs.Spans.{continues, leaves, InOrder}
+use Rattle.tape_blocks.specs.{Spans.continues, Spans.leaves, Spans.InOrder, Parts.portion}
 use Rattle.tape_blocks.specs.{declared.check.BlockFault.BlockFault, declared.check.Found.Found}
-use Rattle.tape_blocks.specs.{Faults.bool_eq, Faults.IsFront, Parts.portion, Units.unit_at}
+use Rattle.tape_blocks.specs.{Faults.bool_eq, Faults.IsFront, Units.unit_at}
 use Rattle.tape_blocks.proofs.UnitLaws.{found_of, unit_found, unit_again, portion_of, rest_of}
 
 -- ---- the order of spans

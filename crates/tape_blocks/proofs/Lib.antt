@@ -1,5 +1,4 @@
 pub mod BackLaws
-pub mod CaseLaws
 pub mod FrontLaws
 pub mod JoinLaws
 pub mod JudgedLaws

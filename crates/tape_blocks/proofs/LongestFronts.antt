@@ -8,18 +8,17 @@ use Rattle.std.proofs.lemmas.List.{drop-drop, drop_at, append-nil, length-drop}
 use Rattle.std.specs.List.{AllByRecursion}
 use Rattle.tape_label.specs.declared.values.Format.{Format}
 use Rattle.tape_label.specs.declared.values.Format.TheVariants.{Fixed}
-use Rattle.tape_blocks.specs.declared.check.BlockCause.TheVariants.{ShortOffset}
+use Rattle.tape_blocks.specs.{declared.check.BlockCause.TheVariants.ShortOffset, Units.unit_at}
 use Rattle.tape_blocks.specs.Block.{Portion, spelling, spellings, IsUnit}
 use Rattle.tape_blocks.specs.Faults.{bool_eq, first_fault, tests, IsFront, fault}
 use Rattle.tape_blocks.specs.Judged.{in_order, begun_behind, unless_fault, judged_behind, judged}
 use Rattle.tape_blocks.specs.Spans.{continues, leaves, InOrder}
 use Rattle.tape_blocks.specs.{declared.check.BlockFault.BlockFault, declared.check.Found.Found}
-use Rattle.tape_blocks.specs.{Parts.portion, Parts.parts_of, Units.unit_at}
-use Rattle.tape_blocks.proofs.FrontLaws.{NoUnit, spellings_first, bool_eq-true, bool_eq-same}
+use Rattle.tape_blocks.specs.Parts.{portion, parts_of}
 use Rattle.tape_blocks.proofs.PartsLaws.{parts_front, parts_next, parts_end, parts_fault}
-use Rattle.tape_blocks.proofs.PartsLaws.{found_size}
+use Rattle.tape_blocks.proofs.FrontLaws.{NoUnit, spellings_first, bool_eq-true, bool_eq-same}
+use Rattle.tape_blocks.proofs.{PartsLaws.found_size, UnitLaws.unit_found}
 use Rattle.tape_blocks.proofs.TestLaws.{stop_by, moved, tests_are}
-use Rattle.tape_blocks.proofs.UnitLaws.{unit_found}
 
 -- ---- a prefix that no unit in span order follows
 

@@ -1,20 +1,18 @@
 -- The parts that the bytes of a current block represent, and writing after them.
 use Rattle.std.proofs.Common.{◌≡◌, ◌≢◌, ℕ, zero, suc, ◌+◌, ◌-◌, ◌<◌, ◌≤◌, Bool, true, false, List}
-use Rattle.std.proofs.Common.{[], ◌∷◌, ◌++◌, length, take, drop, replicate, max, not, ◌==◌}
-use Rattle.std.proofs.Common.{None, refl, sym, ap, ◌∙◌, append_assoc, arith, length-append}
+use Rattle.std.proofs.Common.{[], ◌∷◌, ◌++◌, length, take, drop, replicate, max, not, ◌==◌, None}
 use Rattle.std.proofs.lemmas.List.{length-drop, length-take, length-replicate, take-take}
 use Rattle.std.proofs.lemmas.List.{take-append-drop, take_all, drop_all, drop_at, take-append-le}
-use Rattle.std.proofs.lemmas.List.{drop-append-le, append-nil}
-use Rattle.std.proofs.{lemmas.Bool.le-ltb, lemmas.List.Concat.flat_map-cons}
+use Rattle.std.proofs.Common.{refl, sym, ap, ◌∙◌, append_assoc, arith, length-append}
+use Rattle.std.proofs.{lemmas.List.drop-append-le, lemmas.List.append-nil, lemmas.Bool.le-ltb}
+use Rattle.std.proofs.lemmas.List.Concat.{flat_map-cons}
 use Rattle.std.specs.List.{AllByRecursion, position_or_len}
 use Rattle.tape_label.specs.declared.values.Format.{Format}
 use Rattle.tape_label.specs.declared.values.Format.TheVariants.{Fixed, Counted, Spanned}
-use Rattle.tape_blocks.specs.declared.parts.Shape.{Shape}
 use Rattle.tape_blocks.specs.Block.{Portion, head_len, spelling, spellings, IsUnit, IsPadding}
-use Rattle.tape_blocks.specs.Block.{first_other, Holds}
-use Rattle.tape_blocks.specs.Packed.{body_of, parts_in, Keeps}
 use Rattle.tape_blocks.specs.Packing.{IsWritable, HasWritableRecords, size_of, written, padded_by}
-use Rattle.tape_blocks.specs.Packing.{padded_len}
+use Rattle.tape_blocks.specs.{declared.parts.Shape.Shape, Block.first_other, Block.Holds}
+use Rattle.tape_blocks.specs.{Packed.body_of, Packed.parts_in, Packed.Keeps, Packing.padded_len}
 use Rattle.tape_blocks.proofs.FrontLaws.{all_append, spellings_push}
 use Rattle.tape_blocks.proofs.{PartsLaws.parts_are, PartsLaws.unit_size, UnitLaws.length-spelling}
 

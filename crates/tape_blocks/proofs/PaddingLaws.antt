@@ -5,10 +5,9 @@ use Rattle.std.proofs.lemmas.Bool.{ltb-true, lt-ltb}
 use Rattle.std.specs.Str.{all_ascii_digits}
 use Rattle.tape_label.specs.declared.values.Format.{Format}
 use Rattle.tape_label.specs.declared.values.Format.TheVariants.{Fixed, Counted, Spanned}
-use Rattle.tape_blocks.specs.Block.{first_other, IsPadding}
+use Rattle.tape_blocks.specs.{Block.first_other, Block.IsPadding, declared.parts.Span.Span}
 use Rattle.tape_blocks.specs.Units.{padding_by, short_by, counted, spanned, unit_at}
-use Rattle.tape_blocks.specs.{declared.check.BlockFault.BlockFault, declared.parts.Span.Span}
-use Rattle.tape_blocks.specs.{declared.check.Found.Found}
+use Rattle.tape_blocks.specs.{declared.check.BlockFault.BlockFault, declared.check.Found.Found}
 use Rattle.tape_blocks.proofs.UnitLaws.{some, none}
 
 -- ---- padding

@@ -7,13 +7,12 @@ use Rattle.std.proofs.{lemmas.Bool.Decides.nat_tests, lemmas.List.Concat.flat_ma
 use Rattle.std.specs.{Prelude.nat_lt, List.AllByRecursion}
 use Rattle.tape_label.specs.declared.values.Format.{Format}
 use Rattle.tape_label.specs.declared.values.Format.TheVariants.{Fixed, Counted, Spanned}
-use Rattle.tape_blocks.specs.declared.check.BlockFault.{BlockFault}
+use Rattle.tape_blocks.specs.{declared.check.BlockFault.BlockFault, declared.check.Found.Found}
 use Rattle.tape_blocks.specs.Block.{Portion, head_len, spelling, spellings, IsUnit, IsPadding}
 use Rattle.tape_blocks.specs.Parts.{portion, unit_len, with_unit, parts_by, parts_of}
-use Rattle.tape_blocks.specs.{declared.check.Found.Found, Units.unit_at}
+use Rattle.tape_blocks.specs.Units.{unit_at}
 use Rattle.tape_blocks.proofs.UnitLaws.{found_of, unit_found, unit_again, portion_of, rest_of}
-use Rattle.tape_blocks.proofs.UnitLaws.{length-spelling}
-use Rattle.tape_blocks.proofs.PaddingLaws.{padding_again}
+use Rattle.tape_blocks.proofs.{UnitLaws.length-spelling, PaddingLaws.padding_again}
 
 abbrev unit_of : Found → Result (Option Found) BlockFault
 unit_of found = Ok (Some found)

@@ -6,19 +6,18 @@ use Rattle.std.proofs.lemmas.List.{length-take, length-drop, append-nil, take-ap
 use Rattle.std.specs.List.{AllByRecursion}
 use Rattle.tape_label.specs.declared.values.Format.{Format}
 use Rattle.tape_label.specs.declared.values.Format.TheVariants.{Spanned}
-use Rattle.tape_blocks.specs.declared.parts.Span.TheVariants.{Whole}
+use Rattle.tape_blocks.specs.Packing.{Packing, Given, IsJudged, HasRecordLength, IsFull, size_of}
+use Rattle.tape_blocks.specs.Tight.{Filled, IsWritten, AreSegments, first_len, parts_of_all}
+use Rattle.tape_blocks.specs.{declared.parts.Span.TheVariants.Whole, Tight.IsTight}
 use Rattle.tape_blocks.specs.declared.offer.Offer.TheVariants.{Taken, BlockReady}
 use Rattle.tape_blocks.specs.Spans.{InOrder, span_of, content_after, join}
-use Rattle.tape_blocks.specs.Packing.{Packing, Given, IsJudged, HasRecordLength, IsFull, size_of}
 use Rattle.tape_blocks.specs.Packing.{least_room, emptied, Fills, Closes, Offers}
-use Rattle.tape_blocks.specs.Tight.{Filled, IsWritten, AreSegments, first_len, parts_of_all}
-use Rattle.tape_blocks.specs.Tight.{IsTight}
-use Rattle.tape_blocks.specs.{declared.parts.Shape.Shape, declared.offer.Offer.Offer, Block.Portion}
-use Rattle.tape_blocks.specs.{Block.head_len, Run.AreClosed, Run.Run, Run.Going}
+use Rattle.tape_blocks.specs.{declared.parts.Shape.Shape, declared.offer.Offer.Offer}
+use Rattle.tape_blocks.specs.{Block.Portion, Block.head_len, Run.AreClosed, Run.Run, Run.Going}
 use Rattle.tape_blocks.proofs.TightLaws.{first_push, first_some, closed_more, chain_of, chain_more}
-use Rattle.tape_blocks.proofs.TightLaws.{each_more, parts_more}
+use Rattle.tape_blocks.proofs.{TightLaws.each_more, TightLaws.parts_more, PackLaws.size_push}
 use Rattle.tape_blocks.proofs.LongerRuns.{Part, segments_part, order_part, spanned_room, run_ends}
-use Rattle.tape_blocks.proofs.{JoinLaws.join_goes_on, JoinLaws.leaves_of, PackLaws.size_push}
+use Rattle.tape_blocks.proofs.JoinLaws.{join_goes_on, leaves_of}
 
 -- ---- a block taken
 

@@ -1,14 +1,13 @@
 -- Lists of blocks with one more block.
 use Rattle.std.proofs.Common.{◌≡◌, ◌≢◌, ℕ, ◌+◌, List, [], ◌∷◌, ◌++◌, length, refl, ap, subst, ◌∙◌}
-use Rattle.std.proofs.Common.{arith, length-append}
-use Rattle.std.proofs.lemmas.List.{append-nil}
+use Rattle.std.proofs.{Common.arith, Common.length-append, lemmas.List.append-nil}
 use Rattle.std.proofs.lemmas.List.Concat.{flat_map-cons, flat_map-append}
 use Rattle.std.specs.List.{AllByRecursion}
 use Rattle.tape_label.specs.declared.values.Format.TheVariants.{Spanned}
-use Rattle.tape_blocks.specs.Block.{Portion, spelling, spellings}
 use Rattle.tape_blocks.specs.Tight.{Filled, Chain, IsDue, IsWritten, IsSegment, AreSegments}
-use Rattle.tape_blocks.specs.Tight.{first_len, parts_of_all}
-use Rattle.tape_blocks.specs.{declared.parts.Shape.Shape, Packing.IsFull, Run.AreClosed}
+use Rattle.tape_blocks.specs.{Block.Portion, Block.spelling, Block.spellings, Packing.IsFull}
+use Rattle.tape_blocks.specs.{Tight.first_len, Tight.parts_of_all, declared.parts.Shape.Shape}
+use Rattle.tape_blocks.specs.Run.{AreClosed}
 use Rattle.tape_blocks.proofs.UnitLaws.{length-spelling}
 
 -- ---- lists of blocks

@@ -2,21 +2,19 @@
 use Rattle.std.proofs.Common.{◌≡◌, ℕ, ◌+◌, ◌-◌, ◌/◌, ◌%◌, ◌<◌, ◌≤◌, Bool, true, false, not, cond}
 use Rattle.std.proofs.Common.{ltb, eqb, List, [], ◌∷◌, ◌++◌, length, take, drop, Option, Some, None}
 use Rattle.std.proofs.Common.{Result, Ok, Err, refl, sym, ap, subst, ◌∙◌, append_assoc, arith}
-use Rattle.std.proofs.Common.{rules, length-append}
-use Rattle.std.proofs.lemmas.Bool.{ltb-false, le-ltb, eqb-true}
 use Rattle.std.proofs.lemmas.List.{take_at, drop_at, take-append-drop, length-take, length-drop}
-use Rattle.std.proofs.lemmas.List.{drop-drop}
+use Rattle.std.proofs.{Common.rules, Common.length-append, lemmas.List.drop-drop}
+use Rattle.std.proofs.lemmas.Bool.{ltb-false, le-ltb, eqb-true}
 use Rattle.std.specs.Str.{all_ascii_digits}
 use Rattle.tape_label.specs.declared.values.Format.TheVariants.{Fixed, Counted, Spanned}
 use Rattle.tape_label.specs.{Digits.digits, Digits.number_of, declared.values.Format.Format}
 use Rattle.tape_label.proofs.DigitLaws.{digits-number_of, number_of-digits, number_of-lt}
 use Rattle.tape_label.proofs.DigitLaws.{all_ascii_digits-digits}
-use Rattle.tape_blocks.specs.declared.check.BlockFault.{BlockFault}
-use Rattle.tape_blocks.specs.declared.parts.Span.TheVariants.{Whole, First, Middle, Last}
 use Rattle.tape_blocks.specs.Block.{Portion, indicator, head_len, spelling, IsUnit, first_other}
-use Rattle.tape_blocks.specs.Block.{span_by}
+use Rattle.tape_blocks.specs.{declared.check.BlockFault.BlockFault, Block.span_by, Parts.portion}
+use Rattle.tape_blocks.specs.declared.parts.Span.TheVariants.{Whole, First, Middle, Last}
 use Rattle.tape_blocks.specs.Units.{padding_by, short_by, counted, spanned, unit_at}
-use Rattle.tape_blocks.specs.{declared.parts.Span.Span, declared.check.Found.Found, Parts.portion}
+use Rattle.tape_blocks.specs.{declared.parts.Span.Span, declared.check.Found.Found}
 
 abbrev pub some : Found → Result (Option Found) BlockFault
 some found = Ok (Some found)

@@ -4,19 +4,15 @@ use Rattle.std.specs.Prelude.{◌≡◌, ◌≢◌, ◌≤◌, ◌<◌, ◌+◌,
 use Rattle.std.specs.Prelude.{length, drop, replicate, Option, is_some, Ok}
 use Rattle.tape_label.specs.declared.values.Format.{Format}
 use Rattle.tape_label.specs.declared.values.Format.TheVariants.{Spanned}
-use Rattle.tape_blocks.specs.declared.parts.Shape.{Shape}
-use Rattle.tape_blocks.specs.declared.parts.Span.TheVariants.{Whole, First, Last}
-use Rattle.tape_blocks.specs.declared.offer.Offer.{Offer}
-use Rattle.tape_blocks.specs.declared.offer.Offer.TheVariants.{BlockReady}
-use Rattle.tape_blocks.specs.Block.{Portion, Holds}
-use Rattle.tape_blocks.specs.Spans.{InOrder, join, join_after, joined_with}
-use Rattle.tape_blocks.specs.Judged.{judged}
-use Rattle.tape_blocks.specs.Packing.{Packing, Offers, Ends, IsRefused, HasRecordLength}
-use Rattle.tape_blocks.specs.Packing.{IsFull, size_of, least_room, written, Given}
-use Rattle.tape_blocks.specs.Records.{AreRecordsOf}
-use Rattle.tape_blocks.specs.Tight.{Filled, IsSegment, IsWritten, IsTight, Packs, first_len}
+use Rattle.tape_blocks.specs.Packing.{Packing, Offers, Ends, IsRefused, HasRecordLength, IsFull}
 use Rattle.tape_blocks.specs.Laws.{HoldsOneList, PassesForOne, JoinsOn, BegunIsRest, ReadyIsFull}
-use Rattle.tape_blocks.specs.Laws.{PackedBlocksHold, HoldRecords}
+use Rattle.tape_blocks.specs.{declared.parts.Shape.Shape, declared.offer.Offer.Offer, Judged.judged}
+use Rattle.tape_blocks.specs.declared.parts.Span.TheVariants.{Whole, First, Last}
+use Rattle.tape_blocks.specs.{declared.offer.Offer.TheVariants.BlockReady, Records.AreRecordsOf}
+use Rattle.tape_blocks.specs.{Block.Portion, Block.Holds, Laws.PackedBlocksHold, Laws.HoldRecords}
+use Rattle.tape_blocks.specs.Spans.{InOrder, join, join_after, joined_with}
+use Rattle.tape_blocks.specs.Packing.{size_of, least_room, written, Given}
+use Rattle.tape_blocks.specs.Tight.{Filled, IsSegment, IsWritten, IsTight, Packs, first_len}
 
 -- a packer's offers, and the records that it refuses
 pub record CasesOfOffers : Type 0 where

@@ -1,9 +1,7 @@
 -- Blocks that pass the check.
 use Rattle.std.specs.Prelude.{ℕ, Bool, List}
 use Rattle.tape_label.specs.declared.values.Format.{Format}
-use Rattle.tape_blocks.specs.declared.parts.Shape.{Shape}
-use Rattle.tape_blocks.specs.Block.{Portion, Holds}
-use Rattle.tape_blocks.specs.Spans.{InOrder}
+use Rattle.tape_blocks.specs.{declared.parts.Shape.Shape, Block.Portion, Block.Holds, Spans.InOrder}
 
 -- the block contains parts in span order; `begun` and `end` say whether a record is unfinished
 -- before and after them

@@ -4,17 +4,14 @@ use Rattle.std.specs.Prelude.{◌≡◌, ℕ, ◌+◌, ◌-◌, ◌<◌, ◌≤�
 use Rattle.std.specs.Prelude.{Bool, true, false, List, [], ◌∷◌, ◌++◌, length, take, drop, Option}
 use Rattle.std.specs.Prelude.{Some, None, is_some, is_none, if◌then◌else◌}
 use Rattle.std.specs.Str.{all_ascii_digits}
-use Rattle.tape_label.specs.Digits.{number_of}
-use Rattle.tape_label.specs.declared.values.Format.{Format}
+use Rattle.tape_label.specs.{Digits.number_of, declared.values.Format.Format}
 use Rattle.tape_label.specs.declared.values.Format.TheVariants.{Fixed, Counted, Spanned}
-use Rattle.tape_blocks.specs.declared.check.BlockCause.{BlockCause}
 use Rattle.tape_blocks.specs.declared.check.BlockCause.TheVariants.{ShortOffset, NotMultiple}
 use Rattle.tape_blocks.specs.declared.check.BlockCause.TheVariants.{BadCount, PastEnd, BadIndicator}
+use Rattle.tape_blocks.specs.{declared.check.BlockCause.BlockCause, declared.parts.Span.Span}
 use Rattle.tape_blocks.specs.declared.check.BlockCause.TheVariants.{SpanBroken, BadPadding}
-use Rattle.tape_blocks.specs.declared.check.BlockFault.{BlockFault}
-use Rattle.tape_blocks.specs.declared.parts.Span.{Span}
+use Rattle.tape_blocks.specs.{declared.check.BlockFault.BlockFault, Spans.continues, Spans.InOrder}
 use Rattle.tape_blocks.specs.Block.{Portion, span_by, first_other, spellings, BeginsWith}
-use Rattle.tape_blocks.specs.Spans.{continues, InOrder}
 
 -- a cause at a place of the block
 abbrev pub fault : ℕ → BlockCause → BlockFault

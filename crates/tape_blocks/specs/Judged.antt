@@ -2,12 +2,10 @@
 use Rattle.std.specs.Prelude.{ℕ, ◌+◌, nat_lt, Bool, List, [], ◌∷◌, length, drop, Option, Some, None}
 use Rattle.std.specs.Prelude.{Result, Ok, Err, if◌then◌else◌}
 use Rattle.tape_label.specs.declared.values.Format.{Format}
-use Rattle.tape_blocks.specs.declared.check.BlockCause.TheVariants.{ShortOffset}
-use Rattle.tape_blocks.specs.declared.check.BlockFault.{BlockFault}
-use Rattle.tape_blocks.specs.Block.{Portion, spellings}
+use Rattle.tape_blocks.specs.{declared.check.BlockCause.TheVariants.ShortOffset, Parts.parts_of}
+use Rattle.tape_blocks.specs.{declared.check.BlockFault.BlockFault, Block.Portion, Block.spellings}
 use Rattle.tape_blocks.specs.Spans.{continues, leaves}
 use Rattle.tape_blocks.specs.Faults.{bool_eq, first_fault, tests, fault}
-use Rattle.tape_blocks.specs.Parts.{parts_of}
 
 -- the parts before the first part that violates the span order
 abbrev pub in_order : Bool → List Portion → List Portion

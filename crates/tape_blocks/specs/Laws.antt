@@ -1,15 +1,11 @@
 -- Laws about blocks and parts. Each is the contract of a function of the module `laws`.
 use Rattle.std.specs.Prelude.{◌≡◌, ◌≢◌, ◌≤◌, ℕ, Bool, List, [], ◌++◌, Option, None, false, is_some}
 use Rattle.std.specs.Prelude.{Ok, Err, IfErr, length, drop}
+use Rattle.std.specs.List.{AllByRecursion}
 use Rattle.tape_label.specs.declared.values.Format.{Format}
 use Rattle.tape_label.specs.declared.values.Format.TheVariants.{Fixed, Spanned}
-use Rattle.tape_blocks.specs.Block.{Portion, Holds}
-use Rattle.std.specs.List.{AllByRecursion}
-use Rattle.tape_blocks.specs.declared.parts.Shape.{Shape}
-use Rattle.tape_blocks.specs.declared.check.BlockFault.{BlockFault}
-use Rattle.tape_blocks.specs.Faults.{HasFault}
-use Rattle.tape_blocks.specs.Checked.{Passes}
-use Rattle.tape_blocks.specs.Judged.{judged}
+use Rattle.tape_blocks.specs.{Block.Portion, Block.Holds, declared.parts.Shape.Shape, Judged.judged}
+use Rattle.tape_blocks.specs.{declared.check.BlockFault.BlockFault, Faults.HasFault, Checked.Passes}
 use Rattle.tape_blocks.specs.declared.offer.Offer.TheVariants.{BlockReady}
 use Rattle.tape_blocks.specs.Packing.{Packing, Offers, IsFull}
 use Rattle.tape_blocks.specs.Spans.{InOrder, join, join_after, joined_with}

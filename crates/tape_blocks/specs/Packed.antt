@@ -1,13 +1,10 @@
 -- The meaning of a packer's bytes: the parts of its current block are read from them.
 use Rattle.std.specs.Prelude.{◌≡◌, ℕ, ◌<◌, ◌≤◌, true, List, length, take, drop, replicate, vec_len}
-use Rattle.std.specs.Prelude.{vec_capacity}
-use Rattle.std.specs.List.{AllByRecursion}
+use Rattle.std.specs.{Prelude.vec_capacity, List.AllByRecursion}
 use Rattle.tape_label.specs.declared.values.Format.TheVariants.{Spanned}
-use Rattle.tape_blocks.specs.declared.parts.Shape.{Shape}
-use Rattle.tape_blocks.specs.declared.packer.Packer.TheInside.{Inside}
-use Rattle.tape_blocks.specs.Block.{Portion, IsUnit, spellings}
+use Rattle.tape_blocks.specs.{declared.parts.Shape.Shape, declared.packer.Packer.TheInside.Inside}
+use Rattle.tape_blocks.specs.{Block.Portion, Block.IsUnit, Block.spellings, Parts.parts_of}
 use Rattle.tape_blocks.specs.Packing.{Packing, IsWritable}
-use Rattle.tape_blocks.specs.Parts.{parts_of}
 
 -- the bytes of the current block after its offset
 abbrev pub body_of : Shape → List ℕ → ℕ → List ℕ

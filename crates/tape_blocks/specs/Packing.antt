@@ -4,11 +4,9 @@ use Rattle.std.specs.Prelude.{◌≡◌, ◌≢◌, ℕ, ◌+◌, ◌-◌, ◌<�
 use Rattle.std.specs.Prelude.{if◌then◌else◌, List, [], ◌∷◌, ◌++◌, length, take, replicate, max}
 use Rattle.tape_label.specs.declared.values.Format.{Format}
 use Rattle.tape_label.specs.declared.values.Format.TheVariants.{Fixed, Counted, Spanned}
-use Rattle.tape_blocks.specs.declared.parts.Shape.{Shape}
-use Rattle.tape_blocks.specs.declared.offer.Offer.{Offer}
+use Rattle.tape_blocks.specs.{declared.parts.Shape.Shape, declared.offer.Offer.Offer, Spans.span_of}
 use Rattle.tape_blocks.specs.declared.offer.Offer.TheVariants.{Taken, BlockReady}
 use Rattle.tape_blocks.specs.Block.{Portion, spellings, Holds}
-use Rattle.tape_blocks.specs.Spans.{span_of}
 
 -- ---- shapes and records that can be written
 

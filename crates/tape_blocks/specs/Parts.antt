@@ -2,11 +2,8 @@
 use Rattle.std.specs.Prelude.{ℕ, zero, suc, ◌-◌, List, [], ◌∷◌, length, take, drop, Option, Some}
 use Rattle.std.specs.Prelude.{None, Result, Ok, Err}
 use Rattle.tape_label.specs.declared.values.Format.{Format}
-use Rattle.tape_blocks.specs.declared.check.BlockFault.{BlockFault}
-use Rattle.tape_blocks.specs.declared.parts.Part.{Part}
-use Rattle.tape_blocks.specs.declared.check.Found.{Found}
-use Rattle.tape_blocks.specs.Block.{Portion}
-use Rattle.tape_blocks.specs.Units.{unit_at}
+use Rattle.tape_blocks.specs.{declared.check.BlockFault.BlockFault, declared.parts.Part.Part}
+use Rattle.tape_blocks.specs.{declared.check.Found.Found, Block.Portion, Units.unit_at}
 
 -- a borrowed part, without its address
 abbrev pub view : Part → Portion

@@ -1,8 +1,6 @@
 -- Records of a shape.
-use Rattle.std.specs.Prelude.{ℕ, List, length}
-use Rattle.std.specs.List.{AllByRecursion}
-use Rattle.tape_blocks.specs.declared.parts.Shape.{Shape}
-use Rattle.tape_blocks.specs.Packing.{HasRecordLength}
+use Rattle.std.specs.{Prelude.ℕ, Prelude.List, Prelude.length, List.AllByRecursion}
+use Rattle.tape_blocks.specs.{declared.parts.Shape.Shape, Packing.HasRecordLength}
 
 -- Each record has one of the lengths of the shape.
 abbrev pub AreRecordsOf : Shape → List (List ℕ) → Type 0

@@ -1,9 +1,8 @@
 -- The order of spans, and the records that parts join to.
 use Rattle.std.specs.Prelude.{◌≡◌, ℕ, Bool, true, false, List, [], ◌∷◌, ◌++◌, Option, Some, None}
 use Rattle.std.specs.Prelude.{if◌then◌else◌}
-use Rattle.tape_blocks.specs.declared.parts.Span.{Span}
+use Rattle.tape_blocks.specs.{declared.parts.Span.Span, Block.Portion}
 use Rattle.tape_blocks.specs.declared.parts.Span.TheVariants.{Whole, First, Middle, Last}
-use Rattle.tape_blocks.specs.Block.{Portion}
 
 -- whether the span continues a record
 abbrev pub continues : Span → Bool

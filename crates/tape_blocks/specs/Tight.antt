@@ -2,10 +2,8 @@
 use Rattle.std.specs.Prelude.{◌≡◌, ◌≢◌, ℕ, ◌+◌, ◌≤◌, true, false, List, [], ◌∷◌, length, map, None}
 use Rattle.std.specs.List.{flat_map, AllByRecursion}
 use Rattle.tape_label.specs.declared.values.Format.TheVariants.{Spanned}
-use Rattle.tape_blocks.specs.declared.parts.Shape.{Shape}
-use Rattle.tape_blocks.specs.declared.parts.Span.TheVariants.{Whole}
-use Rattle.tape_blocks.specs.Block.{Portion, Holds}
-use Rattle.tape_blocks.specs.Spans.{InOrder, leaves, join}
+use Rattle.tape_blocks.specs.{declared.parts.Shape.Shape, declared.parts.Span.TheVariants.Whole}
+use Rattle.tape_blocks.specs.{Block.Portion, Block.Holds, Spans.InOrder, Spans.leaves, Spans.join}
 use Rattle.tape_blocks.specs.Packing.{written, IsFull}
 
 -- a block with its parts

@@ -3,17 +3,13 @@
 use Rattle.std.specs.Prelude.{ℕ, ◌-◌, ◌==◌, nat_lt, not, List, [], ◌∷◌, length, take, drop, Option}
 use Rattle.std.specs.Prelude.{Some, None, Result, Ok, Err, if◌then◌else◌}
 use Rattle.std.specs.Str.{all_ascii_digits}
-use Rattle.tape_label.specs.Digits.{number_of}
-use Rattle.tape_label.specs.declared.values.Format.{Format}
+use Rattle.tape_label.specs.{Digits.number_of, declared.values.Format.Format}
 use Rattle.tape_label.specs.declared.values.Format.TheVariants.{Fixed, Counted, Spanned}
 use Rattle.tape_blocks.specs.declared.check.BlockCause.TheVariants.{NotMultiple, BadCount, PastEnd}
 use Rattle.tape_blocks.specs.declared.check.BlockCause.TheVariants.{BadIndicator, BadPadding}
-use Rattle.tape_blocks.specs.declared.check.BlockFault.{BlockFault}
-use Rattle.tape_blocks.specs.declared.parts.Span.{Span}
-use Rattle.tape_blocks.specs.declared.parts.Span.TheVariants.{Whole}
-use Rattle.tape_blocks.specs.declared.check.Found.{Found}
-use Rattle.tape_blocks.specs.Block.{first_other, span_by}
-use Rattle.tape_blocks.specs.Faults.{fault}
+use Rattle.tape_blocks.specs.{declared.check.BlockFault.BlockFault, declared.parts.Span.Span}
+use Rattle.tape_blocks.specs.{declared.parts.Span.TheVariants.Whole, declared.check.Found.Found}
+use Rattle.tape_blocks.specs.{Block.first_other, Block.span_by, Faults.fault}
 
 -- no unit, if all bytes are circumflexes
 abbrev pub padding_by : Option ℕ → Result (Option Found) BlockFault

@@ -2,14 +2,11 @@
 
 ghost use Rattle.std.specs.Prelude.{◌≡◌, Bool, List, IfOk, IfErr, Ok, Err, ◌≤◌, ◌<◌, length};
 ghost use Rattle.std.specs.Prelude.{IfSome, None};
-ghost use Rattle.tape_blocks.specs.declared.check.BlockFault.{BlockFault};
+ghost use Rattle.tape_blocks.specs.{declared.check.BlockFault.BlockFault, Checked.Passes};
 ghost use Rattle.tape_blocks.specs.Block.{Portion, Holds, first_other, span_by};
-ghost use Rattle.tape_blocks.specs.Checked.{Passes};
-ghost use Rattle.tape_blocks.specs.Faults.{HasFault, bool_eq};
-ghost use Rattle.tape_blocks.specs.Judged.{judged};
-ghost use Rattle.tape_blocks.specs.Spans.{InOrder, continues};
+ghost use Rattle.tape_blocks.specs.{Faults.HasFault, Faults.bool_eq, Judged.judged};
+ghost use Rattle.tape_blocks.specs.{Spans.InOrder, Spans.continues, Numbers.cause_number};
 ghost use Rattle.tape_blocks.specs.Units.{unit_at, counted, padding_by};
-ghost use Rattle.tape_blocks.specs.Numbers.{cause_number};
 
 use crate::parts::{Shape, Span};
 use tape_label::{Format, digits_value};

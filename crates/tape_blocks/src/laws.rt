@@ -3,8 +3,7 @@
 ghost use Rattle.std.specs.Prelude.{◌≡◌, ◌≤◌, ℕ, Bool, List};
 ghost use Rattle.tape_label.specs.declared.values.Format.TheVariants.{Fixed};
 ghost use Rattle.tape_blocks.specs.Laws.{HoldsOneList, PartsFit, PassesForOne, JudgedAsHeld};
-ghost use Rattle.tape_blocks.specs.Laws.{JoinsOn, BegunIsRest, ReadyIsFull};
-ghost use Rattle.tape_blocks.specs.Laws.{PackedBlocksHold};
+ghost use Rattle.tape_blocks.specs.Laws.{JoinsOn, BegunIsRest, ReadyIsFull, PackedBlocksHold};
 ghost use Rattle.tape_blocks.specs.Cases.{CasesOfOffers, CasesOfBlocks, CasesOfLaws};
 
 use tape_label::Format;

@@ -5,10 +5,9 @@ ghost use Rattle.std.specs.Prelude.{IfNone, length, replicate, vec_capacity, ⊤
 ghost use Rattle.std.specs.Borrow.{sem};
 ghost use mathlib.Core.Option.{none};
 ghost use denote.Follow.{follows_so};
-ghost use Rattle.tape_blocks.specs.Block.{Portion, IsUnit, head_len};
 ghost use Rattle.tape_blocks.specs.Packing.{Packing, Given, IsWritable, Offers, IsJudged};
+ghost use Rattle.tape_blocks.specs.{Block.IsUnit, Block.head_len, Spans.span_of};
 ghost use Rattle.tape_blocks.specs.Packing.{IsRefused, emptied, size_of, with_part};
-ghost use Rattle.tape_blocks.specs.Spans.{span_of};
 
 use crate::offer::{Offer, PackFault};
 use crate::parts::Shape;

@@ -2,7 +2,7 @@
 
 ghost use Rattle.std.specs.Prelude.{◌≡◌, ◌≢◌, ◌+◌, ◌-◌, ◌<◌, ◌≤◌, ◌++◌, length, take, replicate};
 ghost use Rattle.tape_label.specs.Digits.{digits};
-ghost use Rattle.tape_blocks.specs.Block.{Portion, IsUnit, spelling, indicator, head_len};
+ghost use Rattle.tape_blocks.specs.Block.{spelling, indicator, head_len};
 
 use crate::parts::Span;
 use crate::writing::head_len;

@@ -1,9 +1,8 @@
 //! The shapes and records that can be written, and the lengths of their units and blocks.
 
 ghost use Rattle.std.specs.Prelude.{◌≡◌, ◌≤◌, IsTrue, ◌↔◌};
-ghost use Rattle.tape_blocks.specs.Block.{head_len};
+ghost use Rattle.tape_blocks.specs.{Block.head_len, Spans.span_of};
 ghost use Rattle.tape_blocks.specs.Packing.{HasRecordLength, padded_len, least_room};
-ghost use Rattle.tape_blocks.specs.Spans.{span_of};
 
 use crate::parts::{Shape, Span};
 use tape_label::Format;

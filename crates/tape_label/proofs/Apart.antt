@@ -4,9 +4,8 @@ use Rattle.std.proofs.Common.{Option, None, Some, Err, refl, sym, subst, ◌∙�
 use Rattle.std.proofs.{lemmas.Bool.eqb-true, lemmas.Slice.Eq.bytes_eq-Decides}
 use Rattle.std.specs.{List.find, Str.bytes_eq}
 use Rattle.tape_label.specs.Kinds.{identifier, HasKind, IsFirstTrailer, IsSecond, kind_named}
-use Rattle.tape_label.specs.Kinds.{kind_at}
+use Rattle.tape_label.specs.{Kinds.kind_at, declared.values.Kind.Kind, Positions.positions}
 use Rattle.tape_label.specs.Reading.{vol1_at, head1_at, trail1_at, end_at, head2_at}
-use Rattle.tape_label.specs.{declared.values.Kind.Kind, Positions.positions}
 use Rattle.tape_label.specs.declared.label.LabelFault.TheVariants as faults
 use Rattle.tape_label.specs.declared.values.Kind.TheVariants as kinds
 use Rattle.tape_label.proofs.Steps.{size_again}

@@ -3,13 +3,11 @@
 use Rattle.std.proofs.Common.{◌≡◌, ℕ, ◌+◌, ◌<◌, List, [], ◌∷◌, length, Bool, true, false, cond, eqb}
 use Rattle.std.proofs.Common.{Ok, Err, refl, subst, arith, rules, inl, inr, ◌⊎◌}
 use Rattle.std.proofs.{lemmas.Bool.eqb-true, lemmas.Slice.Eq.bytes_eq-Decides}
-use Rattle.std.specs.Str.{bytes_eq}
-use Rattle.std.specs.Prelude.{codes, ◌||◌}
+use Rattle.std.specs.{Str.bytes_eq, Prelude.codes, Prelude.◌||◌}
 use Rattle.tape_label.specs.Reading.{◌>>=◌, eighty, begins_as, number_at, second, format_at}
-use Rattle.tape_label.specs.Reading.{offset_at, head2_at}
+use Rattle.tape_label.specs.{Reading.offset_at, Reading.head2_at, declared.values.Kind.Kind}
 use Rattle.tape_label.specs.declared.values.Format.TheVariants.{Fixed, Counted, Spanned}
-use Rattle.tape_label.specs.Formats.{letter, least_record}
-use Rattle.tape_label.specs.{declared.values.Kind.Kind, declared.values.Format.Format}
+use Rattle.tape_label.specs.{Formats.letter, Formats.least_record, declared.values.Format.Format}
 use Rattle.tape_label.specs.{declared.values.Head2.Head2, Kinds.identifier, Kinds.IsSecond}
 use Rattle.tape_label.specs.{Positions.positions, Head2.HasOffset, Head2.IsHead2}
 use Rattle.tape_label.specs.declared.label.LabelFault.TheVariants as faults

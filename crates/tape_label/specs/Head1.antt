@@ -1,8 +1,7 @@
 -- The first header label.
 use Rattle.std.specs.Prelude.{◌≡◌, ℕ, ◌≤◌, List, [], ◌∷◌}
 use Rattle.tape_label.specs.declared.values.Kind.TheVariants as kinds
-use Rattle.tape_label.specs.declared.values.Head1.{Head1}
-use Rattle.tape_label.specs.Kinds.{HasKind}
+use Rattle.tape_label.specs.{declared.values.Head1.Head1, Kinds.HasKind}
 use Rattle.tape_label.specs.Positions.{positions, HasNumber}
 
 -- The fields that a first header label and the first trailer labels share, at the same positions.

@@ -1,9 +1,7 @@
 -- The second header or trailer label.
 use Rattle.std.specs.Prelude.{◌≡◌, ℕ, ◌≤◌, ◌⊎◌, List, [], ◌∷◌, codes}
-use Rattle.tape_label.specs.declared.values.Kind.{Kind}
-use Rattle.tape_label.specs.declared.values.Head2.{Head2}
-use Rattle.tape_label.specs.Formats.{letter, least_record}
-use Rattle.tape_label.specs.Kinds.{HasKind, IsSecond}
+use Rattle.tape_label.specs.{declared.values.Kind.Kind, declared.values.Head2.Head2}
+use Rattle.tape_label.specs.{Formats.letter, Formats.least_record, Kinds.HasKind, Kinds.IsSecond}
 use Rattle.tape_label.specs.Positions.{positions, HasNumber}
 
 -- the buffer offset in two digits, or two spaces for 0

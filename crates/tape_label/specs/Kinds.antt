@@ -1,11 +1,8 @@
 -- The kinds of labels, by the length of a block and its first four characters.
 use Rattle.std.specs.Prelude.{◌≡◌, ◌==◌, ℕ, List, [], ◌∷◌, length, codes, Bool, if◌then◌else◌}
-use Rattle.std.specs.Prelude.{Option, None}
-use Rattle.std.specs.List.{find}
-use Rattle.std.specs.Str.{bytes_eq}
-use Rattle.tape_label.specs.declared.values.Kind.{Kind}
+use Rattle.std.specs.{Prelude.Option, Prelude.None, List.find, Str.bytes_eq}
 use Rattle.tape_label.specs.declared.values.Kind.TheVariants.{Vol1, Hdr1, Hdr2, Eof1, Eof2, Eov1}
-use Rattle.tape_label.specs.declared.values.Kind.TheVariants.{Eov2}
+use Rattle.tape_label.specs.{declared.values.Kind.Kind, declared.values.Kind.TheVariants.Eov2}
 use Rattle.tape_label.specs.Positions.{positions}
 
 -- the first four characters of each kind

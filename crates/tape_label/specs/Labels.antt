@@ -1,19 +1,14 @@
 -- The label in a block.
 use Rattle.std.specs.Prelude.{ℕ, ◌==◌, List, length, if◌then◌else◌, Option, Some, None, Result, Ok}
 use Rattle.std.specs.Prelude.{Err}
-use Rattle.tape_label.specs.declared.label.LabelFault.{LabelFault}
-use Rattle.tape_label.specs.declared.label.LabelFault.TheVariants.{NotEighty, Identifier}
-use Rattle.tape_label.specs.declared.label.Label.{Label}
-use Rattle.tape_label.specs.declared.label.Label.TheVariants as labels
-use Rattle.tape_label.specs.declared.values.Kind.{Kind}
 use Rattle.tape_label.specs.declared.values.Kind.TheVariants.{Vol1, Hdr1, Hdr2, Eof1, Eof2, Eov1}
-use Rattle.tape_label.specs.declared.values.Kind.TheVariants.{Eov2}
-use Rattle.tape_label.specs.Kinds.{kind_at}
-use Rattle.tape_label.specs.Vol1.{IsVol1}
-use Rattle.tape_label.specs.Head1.{IsHead1}
-use Rattle.tape_label.specs.Head2.{IsHead2}
+use Rattle.tape_label.specs.{declared.label.LabelFault.LabelFault, declared.label.Label.Label}
+use Rattle.tape_label.specs.declared.label.LabelFault.TheVariants.{NotEighty, Identifier}
+use Rattle.tape_label.specs.{declared.values.Kind.Kind, declared.values.Kind.TheVariants.Eov2}
+use Rattle.tape_label.specs.{Kinds.kind_at, Vol1.IsVol1, Head1.IsHead1, Head2.IsHead2}
 use Rattle.tape_label.specs.Trail1.{IsTrail1}
 use Rattle.tape_label.specs.Reading.{◌>>=◌, vol1_at, head1_at, head2_at, trail1_at}
+use Rattle.tape_label.specs.declared.label.Label.TheVariants as labels
 
 -- the block is the given label, with its fields
 abbrev pub IsLabel : List ℕ → Label → Type 0

@@ -3,20 +3,14 @@
 use Rattle.std.specs.Prelude.{ℕ, ◌-◌, ◌==◌, nat_lt, ◌||◌, List, length, codes, slice_index, Bool}
 use Rattle.std.specs.Prelude.{true, false, if◌then◌else◌, Result, Ok, Err}
 use Rattle.std.specs.Str.{bytes_eq, all_ascii_digits}
-use Rattle.tape_label.specs.declared.label.LabelFault.{LabelFault}
-use Rattle.tape_label.specs.declared.label.LabelFault.TheVariants as faults
-use Rattle.tape_label.specs.declared.values.Kind.{Kind}
-use Rattle.tape_label.specs.declared.values.Kind.TheVariants as kinds
-use Rattle.tape_label.specs.declared.values.Format.{Format}
+use Rattle.tape_label.specs.{declared.label.LabelFault.LabelFault, declared.values.Kind.Kind}
+use Rattle.tape_label.specs.{declared.values.Format.Format, declared.values.Vol1.Vol1}
 use Rattle.tape_label.specs.declared.values.Format.TheVariants.{Fixed, Counted, Spanned}
-use Rattle.tape_label.specs.declared.values.Vol1.{Vol1}
-use Rattle.tape_label.specs.declared.values.Head1.{Head1}
-use Rattle.tape_label.specs.declared.values.Head2.{Head2}
-use Rattle.tape_label.specs.declared.values.Trail1.{Trail1}
-use Rattle.tape_label.specs.Digits.{number_of}
-use Rattle.tape_label.specs.Formats.{letter, least_record}
-use Rattle.tape_label.specs.Kinds.{identifier}
-use Rattle.tape_label.specs.Positions.{positions}
+use Rattle.tape_label.specs.{declared.values.Head1.Head1, declared.values.Head2.Head2}
+use Rattle.tape_label.specs.{declared.values.Trail1.Trail1, Digits.number_of, Kinds.identifier}
+use Rattle.tape_label.specs.{Formats.letter, Formats.least_record, Positions.positions}
+use Rattle.tape_label.specs.declared.label.LabelFault.TheVariants as faults
+use Rattle.tape_label.specs.declared.values.Kind.TheVariants as kinds
 
 -- the next step, unless a step has failed already
 infixl 10 ◌>>=◌

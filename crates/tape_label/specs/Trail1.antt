@@ -1,9 +1,7 @@
 -- The first trailer label.
 use Rattle.std.specs.Prelude.{ℕ, ◌≤◌, List}
-use Rattle.tape_label.specs.declared.values.Trail1.{Trail1}
-use Rattle.tape_label.specs.Head1.{HasHead, HeadFits}
-use Rattle.tape_label.specs.Kinds.{HasKind, trailer}
-use Rattle.tape_label.specs.Positions.{HasNumber}
+use Rattle.tape_label.specs.{declared.values.Trail1.Trail1, Head1.HasHead, Head1.HeadFits}
+use Rattle.tape_label.specs.{Kinds.HasKind, Kinds.trailer, Positions.HasNumber}
 
 -- the label is a first trailer label with the given fields: `EOF1` at the end of the file, `EOV1`
 -- if the file continues on another volume

@@ -1,9 +1,7 @@
 -- The volume label.
 use Rattle.std.specs.Prelude.{◌≡◌, ℕ, List, [], ◌∷◌}
 use Rattle.tape_label.specs.declared.values.Kind.TheVariants as kinds
-use Rattle.tape_label.specs.declared.values.Vol1.{Vol1}
-use Rattle.tape_label.specs.Kinds.{HasKind}
-use Rattle.tape_label.specs.Positions.{positions}
+use Rattle.tape_label.specs.{declared.values.Vol1.Vol1, Kinds.HasKind, Positions.positions}
 
 -- the label is a volume label with the given fields; positions 12 to 24 and 52 to 79 are reserved
 -- and may contain anything

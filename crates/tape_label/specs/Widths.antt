@@ -1,7 +1,6 @@
 -- The number of characters in the fields of labels.
 use Rattle.std.specs.Prelude.{◌≡◌, length}
-use Rattle.tape_label.specs.declared.values.Vol1.{Vol1}
-use Rattle.tape_label.specs.declared.values.Head1.{Head1}
+use Rattle.tape_label.specs.{declared.values.Vol1.Vol1, declared.values.Head1.Head1}
 
 -- The fields of a first label are as wide as their positions.
 pub record IsWide (fields : Head1) : Type 0 where

@@ -1,15 +1,11 @@
 -- The text that is written for each label: its pieces in the order of their positions, with spaces
 -- in reserved positions.
 use Rattle.std.specs.Prelude.{◌≡◌, ℕ, List, [], ◌∷◌, ◌++◌, length, replicate}
-use Rattle.tape_label.specs.declared.values.Kind.{Kind}
-use Rattle.tape_label.specs.declared.values.Kind.TheVariants as kinds
-use Rattle.tape_label.specs.declared.values.Vol1.{Vol1}
-use Rattle.tape_label.specs.declared.values.Head1.{Head1}
-use Rattle.tape_label.specs.declared.values.Head2.{Head2}
-use Rattle.tape_label.specs.declared.values.Trail1.{Trail1}
-use Rattle.tape_label.specs.Digits.{digits}
-use Rattle.tape_label.specs.Formats.{letter}
+use Rattle.tape_label.specs.{declared.values.Kind.Kind, declared.values.Vol1.Vol1, Digits.digits}
+use Rattle.tape_label.specs.{declared.values.Head1.Head1, declared.values.Head2.Head2}
+use Rattle.tape_label.specs.{declared.values.Trail1.Trail1, Formats.letter}
 use Rattle.tape_label.specs.Kinds.{identifier, trailer}
+use Rattle.tape_label.specs.declared.values.Kind.TheVariants as kinds
 
 -- some characters of a label, and the number of positions for them
 pub record Piece : Type 0 where

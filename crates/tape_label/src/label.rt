@@ -2,10 +2,9 @@
 
 ghost use Rattle.std.specs.Prelude.{◌≡◌, ◌≢◌, IfOk, Ok, Err, length, ◌↔◌, IfSome, Some, IsTrue};
 ghost use Rattle.std.specs.Prelude.{false};
-ghost use Rattle.tape_label.specs.Kinds.{HasKind, kind_at};
+ghost use Rattle.tape_label.specs.{Kinds.HasKind, Kinds.kind_at, Faults.number};
 ghost use Rattle.tape_label.specs.Labels.{IsLabel, label_at, no_kind};
 ghost use Rattle.tape_label.specs.VolumeLabels.{IsOfVolume, is_volume_label};
-ghost use Rattle.tape_label.specs.Faults.{number};
 
 use crate::reading::{read_head1, read_head2, read_trail1, read_vol1};
 use crate::values::{Head1, Head2, Kind, Trail1, Vol1};

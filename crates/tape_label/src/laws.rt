@@ -1,11 +1,8 @@
 //! Laws about labels, each as the contract of a function.
 
 ghost use Rattle.std.specs.Prelude.{◌≡◌, ◌<◌, ◌≤◌, ◌^◌, Ok, Some};
-ghost use Rattle.tape_label.specs.Vol1.{IsVol1};
-ghost use Rattle.tape_label.specs.Head1.{IsHead1, HeadFits};
-ghost use Rattle.tape_label.specs.Head2.{Head2Fits};
-ghost use Rattle.tape_label.specs.Trail1.{IsTrail1, TrailFits};
-ghost use Rattle.tape_label.specs.Kinds.{IsSecond};
+ghost use Rattle.tape_label.specs.{Vol1.IsVol1, Head1.IsHead1, Head1.HeadFits, Head2.Head2Fits};
+ghost use Rattle.tape_label.specs.{Trail1.IsTrail1, Trail1.TrailFits, Kinds.IsSecond};
 ghost use Rattle.tape_label.specs.Widths.{IsWide, IsWideVolume};
 ghost use Rattle.tape_label.specs.Laws.{HasOneKind, IsNotBoth, IsSecondLabel, readings};
 

@@ -3,15 +3,11 @@
 ghost use Rattle.std.specs.Prelude.{◌≡◌, ◌≢◌, IfOk, Ok, Err, length, ◌<◌, ◌≤◌, ◌+◌, ◌-◌, ◌^◌, ℕ};
 ghost use Rattle.std.specs.Prelude.{IfSome, Some, None, if◌then◌else◌};
 ghost use Rattle.std.specs.Str.{all_ascii_digits};
-ghost use Rattle.tape_label.specs.Vol1.{IsVol1};
-ghost use Rattle.tape_label.specs.Head1.{IsHead1};
-ghost use Rattle.tape_label.specs.Head2.{IsHead2};
-ghost use Rattle.tape_label.specs.Trail1.{IsTrail1};
-ghost use Rattle.tape_label.specs.Kinds.{HasKind, IsFirstTrailer, IsSecond};
 ghost use Rattle.tape_label.specs.Reading.{vol1_at, vol1_fields, head_at, head1_at, trail1_at};
 ghost use Rattle.tape_label.specs.Reading.{head2_at, character_at, number_at, end_at, format_at};
-ghost use Rattle.tape_label.specs.Reading.{offset_at};
-ghost use Rattle.tape_label.specs.Digits.{digits, number_of};
+ghost use Rattle.tape_label.specs.{Vol1.IsVol1, Head1.IsHead1, Head2.IsHead2, Trail1.IsTrail1};
+ghost use Rattle.tape_label.specs.Kinds.{HasKind, IsFirstTrailer, IsSecond};
+ghost use Rattle.tape_label.specs.{Reading.offset_at, Digits.digits, Digits.number_of};
 
 use crate::label::LabelFault;
 use crate::values::{Format, Head1, Head2, Kind, Trail1, Vol1, field_at};

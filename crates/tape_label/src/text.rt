@@ -2,12 +2,9 @@
 
 ghost use Rattle.std.specs.Prelude.{◌≡◌, ◌<◌, ◌≤◌, ◌+◌, ◌^◌, ◌++◌, length, replicate};
 ghost use Rattle.arrayvec.specs.ArrayVec.{array_vec_len};
-ghost use Rattle.tape_label.specs.Digits.{digits};
-ghost use Rattle.tape_label.specs.Head1.{HeadFits};
-ghost use Rattle.tape_label.specs.Head2.{Head2Fits};
-ghost use Rattle.tape_label.specs.Kinds.{identifier};
 ghost use Rattle.tape_label.specs.Written.{text_of, HaveWidths, vol1_pieces, head_pieces};
-ghost use Rattle.tape_label.specs.Written.{head2_pieces};
+ghost use Rattle.tape_label.specs.{Digits.digits, Head1.HeadFits, Head2.Head2Fits};
+ghost use Rattle.tape_label.specs.{Kinds.identifier, Written.head2_pieces};
 
 use crate::reading::digits_of;
 use crate::values::{Head1, Head2, Kind, Vol1};

@@ -1,13 +1,10 @@
 //! Writes labels.
 
 ghost use Rattle.std.specs.Prelude.{◌≡◌};
-ghost use Rattle.tape_label.specs.Vol1.{IsVol1};
-ghost use Rattle.tape_label.specs.Head1.{IsHead1, HeadFits};
-ghost use Rattle.tape_label.specs.Head2.{IsHead2, Head2Fits};
-ghost use Rattle.tape_label.specs.Trail1.{IsTrail1, TrailFits};
-ghost use Rattle.tape_label.specs.Kinds.{IsSecond, trailer};
 ghost use Rattle.tape_label.specs.Written.{text_of, vol1_pieces, head1_pieces, trail1_pieces};
-ghost use Rattle.tape_label.specs.Written.{head2_pieces};
+ghost use Rattle.tape_label.specs.{Vol1.IsVol1, Head1.IsHead1, Head1.HeadFits};
+ghost use Rattle.tape_label.specs.{Head2.IsHead2, Head2.Head2Fits, Kinds.IsSecond, Kinds.trailer};
+ghost use Rattle.tape_label.specs.{Trail1.IsTrail1, Trail1.TrailFits, Written.head2_pieces};
 
 use crate::text::{head_text, head2_text, vol1_text};
 use crate::values::{Head1, Head2, Kind, Trail1, Vol1};

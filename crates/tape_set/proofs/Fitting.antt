@@ -9,12 +9,11 @@ use Rattle.tape_label.specs.declared.values.Format.TheVariants.{Fixed, Counted, 
 use Rattle.tape_blocks.specs.Block.{Portion, IsUnit, IsPadding, Holds, spelling, spellings}
 use Rattle.tape_blocks.specs.Tight.{Filled}
 use Rattle.tape_blocks.proofs.UnitLaws.{length-spelling}
-use Rattle.tape_set.specs.declared.position.Position.{Position}
-use Rattle.tape_set.specs.declared.position.Position.TheVariants.{Awaits, Finished}
 use Rattle.tape_set.specs.Layout.{FileSet, Entry, sections, header_group, data_group, trailer_group}
-use Rattle.tape_set.specs.Layout.{item_of}
+use Rattle.tape_set.specs.{declared.position.Position.Position, Layout.item_of, Laws.FitsDigits}
+use Rattle.tape_set.specs.declared.position.Position.TheVariants.{Awaits, Finished}
 use Rattle.tape_set.specs.Lawful.{IsLawful, IsSection, FileForm, TellsForm}
-use Rattle.tape_set.specs.{Before.IsIn, Before.parts_of, Laws.FitsDigits}
+use Rattle.tape_set.specs.Before.{IsIn, parts_of}
 use Rattle.tape_set.proofs.Everywhere.{every_at, every_stands}
 use Rattle.tape_set.proofs.Numbering.{placed, section_stands}
 use Rattle.tape_set.proofs.Forms.{blocks_held, form_told, all_four_digits}

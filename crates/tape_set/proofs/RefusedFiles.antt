@@ -5,11 +5,9 @@ use Rattle.tape_label.specs.{declared.values.Format.TheVariants.Fixed, Head2.Hea
 use Rattle.tape_blocks.specs.{declared.parts.Shape.Shape, Block.Holds, Spans.InOrder, Tight.Filled}
 use Rattle.tape_set.specs.Lawful.{IsFile, HasForm, TellsForm, FileForm, Ends}
 use Rattle.tape_set.specs.{Layout.FileSet, Before.section_parts, Tight.second_of}
-use Rattle.tape_set.proofs.Worked.{makes, made, form, made_form, plain_set, shape_of}
-use Rattle.tape_set.proofs.Worked.{alike_file}
-use Rattle.tape_set.proofs.RefusedLawful.{base, set_of}
 use Rattle.tape_set.proofs.RefusedSets.{OnlyFiles, fit_of, empty_form, OnlyGoesOn, empty_section}
-use Rattle.tape_set.proofs.RefusedSets.{empty_file}
+use Rattle.tape_set.proofs.Worked.{makes, made, form, made_form, plain_set, shape_of, alike_file}
+use Rattle.tape_set.proofs.{RefusedLawful.base, RefusedLawful.set_of, RefusedSets.empty_file}
 use Rattle.tape_set.proofs.{Forms.one_form, WorkedFile.shape, WorkedFile.shape_fits}
 use Rattle.tape_set.proofs.WorkedSpan as span
 

@@ -1,16 +1,15 @@
 -- A complete reading of a section's volume moves each position in the section to the position after
 -- it.
 use Rattle.std.proofs.Common.{◌≡◌, ◌≤◌, ℕ, zero, suc, ◌+◌, ◌-◌, List, [], ◌∷◌, ◌++◌, length, take}
-use Rattle.std.proofs.Common.{drop, Bool, true, refl, ap, ◌∙◌, arith, eq-eqb}
-use Rattle.std.proofs.Common.{length-append}
-use Rattle.std.proofs.{lemmas.List.length-map}
+use Rattle.std.proofs.Common.{drop, Bool, true, refl, ap, ◌∙◌, arith, eq-eqb, length-append}
+use Rattle.std.proofs.lemmas.List.{length-map}
 use Rattle.std.specs.Prelude.{replicate, ◌==◌, ◌&&◌}
-use Rattle.tape_set.specs.declared.position.Position.TheVariants.{Awaits}
-use Rattle.tape_set.specs.Layout.{FileSet, Section, Entry, a_data_block}
-use Rattle.tape_set.specs.Layout.{data_group, trailer_group, item_of, entries, items}
+use Rattle.tape_set.specs.Layout.{FileSet, Section, Entry, a_data_block, data_group, trailer_group}
 use Rattle.tape_set.specs.Reach.{far, far_in, before_data, passes, good_run, first_unread}
+use Rattle.tape_set.specs.{declared.position.Position.TheVariants.Awaits, Laws.WholeGivesSection}
+use Rattle.tape_set.specs.Layout.{item_of, entries, items}
 use Rattle.tape_set.specs.Reach.{both_good, moved, behind}
-use Rattle.tape_set.specs.{declared.position.Position.Position, Laws.WholeGivesSection}
+use Rattle.tape_set.specs.declared.position.Position.{Position}
 use Rattle.tape_set.proofs.{Reaching.reading_of, Reaching.both_true, Standing.data_stands}
 
 -- ---- if all items were readable

@@ -1,30 +1,23 @@
 -- The labels, blocks and sections in the worked sets, and proofs that they are valid.
 use Rattle.std.proofs.Common.{◌≡◌, ◌≤◌, ℕ, List, [], ◌∷◌, ◌++◌, length, Bool, true, false, refl}
 use Rattle.std.proofs.Common.{arith, codes, lit≤, lit<, inl, inr}
-use Rattle.std.specs.Prelude.{map, replicate, if◌then◌else◌}
-use Rattle.std.specs.List.{AllByRecursion}
+use Rattle.std.specs.{Prelude.map, Prelude.replicate, Prelude.if◌then◌else◌, List.AllByRecursion}
 use Rattle.tape_image.specs.Tape.{IsTapeItem, block, mark}
-use Rattle.tape_label.specs.declared.values.Kind.TheVariants.{Vol1 as AVol1, Hdr1 as AHdr1}
-use Rattle.tape_label.specs.declared.values.Kind.TheVariants.{Hdr2 as AHdr2, Eof1 as AEof1}
-use Rattle.tape_label.specs.declared.values.Kind.TheVariants.{Eof2 as AEof2, Eov1 as AEov1}
-use Rattle.tape_label.specs.declared.values.Kind.TheVariants.{Eov2 as AEov2}
-use Rattle.tape_label.specs.{declared.values.Format.Format}
-use Rattle.tape_label.specs.{declared.values.Format.TheVariants.Fixed, declared.values.Kind.Kind}
-use Rattle.tape_label.specs.{declared.values.Vol1.Vol1, declared.values.Head1.Head1}
-use Rattle.tape_label.specs.{declared.values.Trail1.Trail1, Kinds.HasKind, Kinds.IsSecond}
-use Rattle.tape_label.specs.{Head1.IsHead1, Head1.HeadFits}
+use Rattle.tape_label.specs.Written.{text_of, vol1_pieces, head1_pieces, trail1_pieces}
+use Rattle.tape_label.specs.{declared.values.Format.Format, declared.values.Kind.Kind}
+use Rattle.tape_label.specs.{declared.values.Format.TheVariants.Fixed, declared.values.Vol1.Vol1}
+use Rattle.tape_label.specs.{declared.values.Head1.Head1, declared.values.Trail1.Trail1}
+use Rattle.tape_label.specs.{Kinds.HasKind, Kinds.IsSecond, Head1.IsHead1, Head1.HeadFits}
 use Rattle.tape_label.specs.{Head2.IsHead2, Head2.Head2Fits, Trail1.IsTrail1, Trail1.TrailFits}
-use Rattle.tape_label.specs.{Written.text_of, Written.vol1_pieces, Written.head1_pieces}
-use Rattle.tape_label.specs.{Written.trail1_pieces, Written.head2_pieces, Widths.IsWide}
+use Rattle.tape_label.specs.{Written.head2_pieces, Widths.IsWide}
 use Rattle.tape_label.specs.declared.values.Kind.TheVariants as kinds
 use Rattle.tape_label.proofs.Widths.{head_wide, head2_wide}
 use Rattle.tape_label.proofs.Texts.{head1_text_is, trail1_text_is, head2_text_is}
-use Rattle.tape_blocks.specs.{declared.parts.Shape.Shape, Block.Portion, Block.Holds}
-use Rattle.tape_blocks.specs.{Packing.written, Tight.Filled, Spans.InOrder}
+use Rattle.tape_blocks.specs.{declared.parts.Shape.Shape, Block.Portion, Block.Holds, Tight.Filled}
+use Rattle.tape_blocks.specs.{Packing.written, Spans.InOrder}
 use Rattle.tape_set.specs.Layout.{FileSet, Section, Volume, Entry, item_of, section_entries}
-use Rattle.tape_set.specs.Layout.{data_group}
 use Rattle.tape_set.specs.Lawful.{IsVolume, IsSection, FileForm, HasForm, form_of, most_blocks}
-use Rattle.tape_set.specs.Lawful.{label_count, Ends, IsFile}
+use Rattle.tape_set.specs.{Layout.data_group, Lawful.label_count, Lawful.Ends, Lawful.IsFile}
 use Rattle.tape_set.specs.{Before.section_parts, Tight.second_of, Tight.HasPlainLabels}
 use Rattle.tape_set.proofs.Numbering.{placed}
 

@@ -6,18 +6,17 @@ use Rattle.std.proofs.Common.{sym, ap, subst, arith, codes, lit≤, lit<}
 use Rattle.std.proofs.lemmas.List.{length-replicate}
 use Rattle.std.specs.{Prelude.map, Prelude.replicate, List.AllByRecursion}
 use Rattle.tape_image.specs.Tape.{IsTapeItem}
-use Rattle.tape_label.specs.declared.values.Format.TheVariants.{Fixed}
-use Rattle.tape_label.specs.{declared.values.Head1.Head1, declared.values.Trail1.Trail1}
-use Rattle.tape_label.specs.{Head1.HeadFits, Head2.Head2Fits, Trail1.TrailFits}
+use Rattle.tape_label.specs.{declared.values.Format.TheVariants.Fixed, declared.values.Head1.Head1}
+use Rattle.tape_label.specs.{declared.values.Trail1.Trail1, Head1.HeadFits, Head2.Head2Fits}
+use Rattle.tape_label.specs.Trail1.{TrailFits}
 use Rattle.tape_label.specs.declared.values.Kind.TheVariants as kinds
-use Rattle.tape_blocks.specs.Tight.{Filled, Chain, parts_of_all}
-use Rattle.tape_blocks.specs.{declared.parts.Shape.Shape, Block.Holds, Spans.InOrder}
+use Rattle.tape_blocks.specs.{Tight.Filled, Tight.Chain, Tight.parts_of_all, Block.Holds}
+use Rattle.tape_blocks.specs.{declared.parts.Shape.Shape, Spans.InOrder}
 use Rattle.tape_blocks.proofs.PackLaws.{written_holds}
 use Rattle.tape_set.specs.Layout.{FileSet, Section, Placed, sections, item_of, section_entries}
-use Rattle.tape_set.specs.Layout.{data_group}
 use Rattle.tape_set.specs.Lawful.{IsLawful, IsVolume, IsSection, IsHeader, IsTrailer, IsFile}
+use Rattle.tape_set.specs.{Layout.data_group, Tight.second_of}
 use Rattle.tape_set.specs.Lawful.{StartsOnFirst, GoesOn, most_blocks, label_count}
-use Rattle.tape_set.specs.Tight.{second_of}
 use Rattle.tape_set.proofs.Worked.{set_id, head, trail, trailer, made, filled, form, hdr1_is}
 use Rattle.tape_set.proofs.Worked.{trailer_is, second_is, label_count_most, made_sized}
 use Rattle.tape_set.proofs.Worked.{plain_volume_is, plain_set, shape_of}

@@ -7,17 +7,16 @@ use Rattle.tape_image.specs.Tape.{IsTapeItem}
 use Rattle.tape_label.specs.declared.values.Format.TheVariants.{Fixed, Spanned}
 use Rattle.tape_label.specs.Head2.{Head2Fits}
 use Rattle.tape_blocks.specs.declared.parts.Span.TheVariants.{First, Middle, Last}
-use Rattle.tape_blocks.specs.Packing.{written, IsWritable}
+use Rattle.tape_blocks.specs.{Packing.written, Packing.IsWritable, declared.parts.Shape.Shape}
 use Rattle.tape_blocks.specs.Tight.{Filled, Chain, IsWritten, IsDue}
-use Rattle.tape_blocks.specs.{declared.parts.Shape.Shape, Block.Portion, Block.Holds, Spans.InOrder}
+use Rattle.tape_blocks.specs.{Block.Portion, Block.Holds, Spans.InOrder}
 use Rattle.tape_blocks.specs.Tight as packing
 use Rattle.tape_blocks.proofs.PackLaws.{written_holds}
 use Rattle.tape_set.specs.Layout.{FileSet, sections, all_items, item_of, data_group}
-use Rattle.tape_set.specs.Position.{awaiting, at_part}
+use Rattle.tape_set.specs.{Position.awaiting, Position.at_part, Sizes.items_size, Before.before}
 use Rattle.tape_set.specs.Tight.{IsTight, IsTightChange, ChainBehind, second_of}
-use Rattle.tape_set.specs.{Sizes.items_size, Before.before, Lawful.IsLawful}
-use Rattle.tape_set.proofs.Worked.{makes, alike_file, made, filled, plain_set}
-use Rattle.tape_set.proofs.Worked.{shape_of}
+use Rattle.tape_set.specs.Lawful.{IsLawful}
+use Rattle.tape_set.proofs.Worked.{makes, alike_file, made, filled, plain_set, shape_of}
 
 -- for a format other than F the least record length does not matter
 pub not_fixed : Spanned ≡ Fixed → 1 ≤ 0

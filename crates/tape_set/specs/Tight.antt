@@ -4,18 +4,14 @@ use Rattle.std.specs.Prelude.{◌≡◌, ℕ, ◌+◌, ◌==◌, nat_le, ◌≤�
 use Rattle.std.specs.Prelude.{List, [], ◌∷◌, ◌++◌, length, MatchBool}
 use Rattle.std.specs.List.{AllByRecursion}
 use Rattle.tape_image.specs.Tape.{block}
-use Rattle.tape_label.specs.declared.values.Kind.{Kind}
+use Rattle.tape_label.specs.{declared.values.Kind.Kind, declared.values.Head2.Head2, Head2.IsHead2}
 use Rattle.tape_label.specs.declared.values.Kind.TheVariants as kinds
-use Rattle.tape_label.specs.declared.values.Head2.{Head2}
-use Rattle.tape_label.specs.Head2.{IsHead2}
-use Rattle.tape_blocks.specs.declared.parts.Shape.{Shape}
+use Rattle.tape_blocks.specs.{declared.parts.Shape.Shape, Tight.Filled}
 use Rattle.tape_blocks.specs.Packing.{IsWritable, HasRecordLength}
 use Rattle.tape_blocks.specs.Tight as packing
-use Rattle.tape_blocks.specs.Tight.{Filled}
-use Rattle.tape_set.specs.Before.{blocks_of_all}
 use Rattle.tape_set.specs.Layout.{FileSet, Section, Placed, Volume, sections, up_to_data}
-use Rattle.tape_set.specs.Layout.{data_group, ends_file}
 use Rattle.tape_set.specs.Sizes.{item_size, entries_size, headers_size, file_end_size}
+use Rattle.tape_set.specs.{Before.blocks_of_all, Layout.data_group, Layout.ends_file}
 use Rattle.tape_set.specs.Sizes.{volume_end_size}
 
 -- ---- labels and blocks of a file

@@ -1,12 +1,11 @@
 -- The remains of a stage after a crash.
 use Rattle.std.proofs.Common.{◌≡◌, ◌⊎◌, inl, inr, ℕ, ◌+◌, ◌≤◌, Bool, false, List, sym, ◌∙◌, subst}
-use Rattle.tape_stage.specs.Staged.{Staged, StagedIn, IsEither, Ready}
 use Rattle.tape_stage.specs.Stages.{IsStage, Returns, Survives, Returned, Survived, HasRefused}
-use Rattle.tape_stage.specs.Stages.{crashes_of}
 use Rattle.tape_stage.specs.declared.stage.StageFault.TheVariants.{NoPoint, BadFrame, Device}
+use Rattle.tape_stage.specs.Staged.{Staged, StagedIn, IsEither, Ready}
+use Rattle.tape_stage.specs.{Stages.crashes_of, declared.disk.Disk.Ghosts, Moments.Passes}
 use Rattle.tape_stage.specs.declared.stage.StageFault.TheVariants.{OutOfMemory, Failed, Full}
-use Rattle.tape_stage.specs.{declared.disk.Disk.Ghosts, Moments.Passes, declared.stage.Stage.Stage}
-use Rattle.tape_stage.specs.declared.stage.StageFault.{StageFault}
+use Rattle.tape_stage.specs.{declared.stage.Stage.Stage, declared.stage.StageFault.StageFault}
 use Rattle.tape_blocks.specs.Block.{Portion}
 use Rattle.tape_core.specs.Crash.{AddsNothing, AddsOnly, Crashes, IsThis}
 use Rattle.tape_core.specs.Point.{Point}

@@ -6,9 +6,8 @@ use Rattle.std.proofs.lemmas.List.{length-replicate}
 use Rattle.tape_stage.specs.Calls.{after, left_after, seen_by, left_by, since_by, IsImage, WasImage}
 use Rattle.tape_stage.specs.Calls.{Fits, AllFit, worst_after, worst_by, worst_longer, kept_or}
 use Rattle.tape_stage.specs.Calls.{IsRight, seen_image, worst_image}
-use Rattle.tape_stage.specs.Disk.{Elapses, Torn}
+use Rattle.tape_stage.specs.{Disk.Elapses, Disk.Torn, Memory.first_of, Memory.DidCall}
 use Rattle.tape_stage.specs.declared.disk.content.Call.TheVariants.{Write, Sync}
-use Rattle.tape_stage.specs.Memory.{first_of, DidCall}
 use Rattle.tape_stage.specs.{declared.disk.content.Call.Call, declared.disk.content.Content.Content}
 use Rattle.std.specs.declared.alloc.Global.{Global}
 

@@ -4,7 +4,6 @@ use Rattle.std.proofs.Common.{take, subst, Some, Ok, true, false}
 use Rattle.tape_blocks.specs.{declared.parts.Part.Part, Block.Portion, Parts.view}
 use Rattle.tape_stage.specs.Calls.{IsImage, WasImage, kept_or}
 use Rattle.tape_stage.specs.Cases.{CasesOfCrashes, CasesOfMoments, CasesOfFiles, CasesOfStages}
-use Rattle.tape_stage.specs.Cases.{CasesOfFaults}
 use Rattle.tape_stage.specs.CasesOfSalvage.{CasesOfSalvage, cut_frame, frame_and_none}
 use Rattle.tape_stage.specs.{declared.disk.Disk.Ghosts, declared.stage.Stage.Stage, Reads.StageGave}
 use Rattle.tape_stage.specs.{Stages.IsAhead, Body.body_text, Disk.Torn, Frames.NoFrameAt}
@@ -195,15 +194,6 @@ cases_of_stages g = record {
   end_refused = λ old new e. (e.refused, e.cause refl, e.back);
   opened_over = λ old new c p. p.before (g.moment old) c (omega arith);
   no_other = λ old new. (λ h. h, λ h. h, λ h. h);
-}
-
-pub cases_of_faults : CasesOfFaults
-cases_of_faults = record {
-  none_said = (tt, tt);
-  not_said = (λ h. h, λ h. h);
-  is_no_device = (tt, tt, tt);
-  is_device = λ h. h;
-  of_its_place = λ place n h. h;
 }
 
 pub cases_of_laws : CasesOfLaws

@@ -1,30 +1,18 @@
 -- The contents of a stage as a sink.
 use Rattle.std.proofs.Common.{◌≡◌, ℕ, Bool, false, List, length, Option, None, drop, refl, sym, ap}
-use Rattle.std.proofs.Common.{◌∙◌, ◌+◌, ◌≤◌, ◌<◌, subst, arith, true}
-use Rattle.std.proofs.Common.{◌⊎◌}
-use Rattle.std.specs.Prelude.{Result, Err}
+use Rattle.std.proofs.Common.{◌∙◌, ◌+◌, ◌≤◌, ◌<◌, subst, arith, true, ◌⊎◌}
 use Rattle.std.proofs.lemmas.List.{length-take-le, length-drop}
-use Rattle.tape_stage.specs.Staged.{Holding, Ready}
 use Rattle.tape_stage.specs.Stages.{IsStage, IsStaged, AreHeld, Holds, HasRefused, RefusesChange}
-use Rattle.tape_core.specs.Weight.{Rose}
-use Rattle.tape_core.specs.declared.sink.SinkFault.{SinkFault}
-use Rattle.tape_core.specs.declared.sink.SinkFault.TheVariants as sink
-use Rattle.tape_stage.specs.Faults.{sink_fault_of}
-use Rattle.tape_stage.specs.Stages.{OnlyCounts}
-use Rattle.tape_stage.specs.{Body.most_generation, Parts.longest_part}
-use Rattle.tape_core.specs.Known.{most_staged}
-use Rattle.tape_core.specs.Point.{Point}
-use Rattle.tape_stage.specs.declared.stage.Stage.{Stage}
-use Rattle.tape_stage.specs.declared.stage.StageFault.{StageFault}
 use Rattle.tape_stage.specs.declared.stage.StageFault.TheVariants.{NoPoint, BadFrame, Device}
+use Rattle.tape_stage.specs.{Staged.Holding, Staged.Ready, Stages.OnlyCounts, Faults.sink_fault_of}
+use Rattle.tape_stage.specs.{Body.most_generation, Parts.longest_part, declared.stage.Stage.Stage}
+use Rattle.tape_stage.specs.{declared.stage.StageFault.StageFault, declared.disk.Disk.Ghosts}
 use Rattle.tape_stage.specs.declared.stage.StageFault.TheVariants.{OutOfMemory, Failed, Full}
-use Rattle.tape_stage.specs.{declared.disk.Disk.Ghosts, Faults.sink_fault_of}
-use Rattle.tape_stage.specs.{declared.stage.Stage.Stage, declared.stage.StageFault.StageFault}
-use Rattle.tape_blocks.specs.Block.{Portion}
-use Rattle.tape_core.specs.{Stands.weight_of, Weight.Rose, declared.sink.SinkFault.SinkFault}
-use Rattle.tape_core.specs.Point.{Point}
-use Rattle.tape_stage.proofs.Giving.{length-frames}
+use Rattle.tape_core.specs.{Weight.Rose, declared.sink.SinkFault.SinkFault, Known.most_staged}
+use Rattle.tape_core.specs.{Point.Point, Stands.weight_of}
 use Rattle.tape_core.specs.declared.sink.SinkFault.TheVariants as sink
+use Rattle.tape_blocks.specs.Block.{Portion}
+use Rattle.tape_stage.proofs.Giving.{length-frames}
 
 -- the weight of framed parts is the length of their frames
 pub holding_weighs : (weight : ℕ) (parts : List Portion) (bytes : List ℕ)

@@ -1,9 +1,8 @@
 -- The effect of buffered bytes on the results of reads, and on the contents that a crash may leave.
 use Rattle.std.proofs.Common.{◌≡◌, inl, inr, ⊎_elim, ℕ, ◌+◌, ◌-◌, ◌≤◌, ◌<◌, List, [], ◌++◌, length}
-use Rattle.std.proofs.Common.{take, drop, sym, ap, ◌∙◌, subst, arith, length-append}
-use Rattle.std.proofs.Common.{length-drop, append_assoc}
+use Rattle.std.proofs.Common.{take, drop, sym, ap, ◌∙◌, subst, arith, length-append, length-drop}
 use Rattle.std.proofs.lemmas.List.{length-take-le, take_at, drop_at, take-append-drop, take-take}
-use Rattle.std.proofs.lemmas.List.{drop-take, drop-drop}
+use Rattle.std.proofs.{Common.append_assoc, lemmas.List.drop-take, lemmas.List.drop-drop}
 use Rattle.std.proofs.{lemmas.Bool.cases_lt, Math.ListN.drop_of_length-le, Math.Seq.take-add}
 use Rattle.tape_stage.specs.Calls.{over}
 use Rattle.tape_stage.specs.Disk.{Torn, Elapses, NoMore, Holds, Allows, Follows}

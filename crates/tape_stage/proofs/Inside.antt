@@ -1,20 +1,14 @@
 -- A stage whose checkpoint lies inside a part.
 use Rattle.std.proofs.Common.{◌≡◌, ℕ, ◌+◌, ◌-◌, ◌<◌, ◌≤◌, Bool, List, [], ◌∷◌, ◌++◌, length, take}
-use Rattle.std.proofs.Common.{drop, refl, sym, ap, ◌∙◌, arith, length-append}
 use Rattle.std.proofs.lemmas.List.{drop_at, drop-drop, drop-take, length-drop, length-take}
+use Rattle.std.proofs.Common.{drop, refl, sym, ap, ◌∙◌, arith, length-append}
 use Rattle.std.proofs.lemmas.List.{take-take}
 use Rattle.tape_blocks.specs.Block.{Portion}
-use Rattle.tape_core.specs.Point.{Point}
-use Rattle.tape_core.specs.Stands.{weight_of}
-use Rattle.tape_stage.specs.Found.{IsBadPlace}
-use Rattle.tape_stage.specs.Frames.{AheadIn}
-use Rattle.tape_stage.specs.Parts.{frames, AllShort}
+use Rattle.tape_core.specs.{Point.Point, Stands.weight_of}
+use Rattle.tape_stage.specs.{Found.IsBadPlace, Frames.AheadIn, Parts.frames, Parts.AllShort}
 use Rattle.tape_stage.specs.Staged.{Holding, NamedIn, SameFrames}
-use Rattle.tape_stage.proofs.Finds.{best_of}
-use Rattle.tape_stage.proofs.Giving.{frames-append, front_holding, length-frames}
-use Rattle.tape_stage.proofs.Giving.{one_ahead, size_same}
-use Rattle.tape_stage.proofs.Tears.{open_reads}
-use Rattle.tape_stage.proofs.Torn.{alike_piece}
+use Rattle.tape_stage.proofs.Giving.{frames-append, front_holding, length-frames, one_ahead}
+use Rattle.tape_stage.proofs.{Finds.best_of, Giving.size_same, Tears.open_reads, Torn.alike_piece}
 
 short_back : (front back : List Portion) → AllShort (front ++ back) → AllShort back
 short_back [] back all = all

@@ -1,21 +1,15 @@
 -- Bytes that a call leaves unchanged, whatever its result.
 use Rattle.std.proofs.Common.{◌≡◌, ℕ, ◌+◌, ◌≤◌, Bool, true, false, List, length, take, drop, ap}
-use Rattle.std.proofs.Common.{◌∙◌, arith, not, ◌==◌, sym}
-use Rattle.std.proofs.lemmas.List.{length-take}
-use Rattle.std.proofs.Common.{inl, inr, subst}
-use Rattle.std.proofs.lemmas.List.{take-take}
-use Rattle.tape_stage.specs.Disk.{Torn}
+use Rattle.std.proofs.Common.{◌∙◌, arith, not, ◌==◌, sym, inl, inr, subst}
+use Rattle.std.proofs.lemmas.List.{length-take, take-take}
 use Rattle.tape_stage.specs.Staged.{slot_place, Holding, KeepsFrames, KeepsFront, gate_at, StagedIn}
-use Rattle.tape_stage.specs.Staged.{Ready, FrontOf}
+use Rattle.tape_stage.specs.{Disk.Torn, Body.body_of}
+use Rattle.tape_stage.specs.Staged.{Ready, FrontOf, NamedIn, IsEither, IsSaving, Loses, SameFrames}
 use Rattle.tape_blocks.specs.Block.{Portion}
-use Rattle.tape_stage.proofs.{Torn.torn_high, Torn.torn_front, Torn.alike_less, Tears.alike_holding}
-use Rattle.tape_stage.proofs.{Tears.alike_staged, Tears.gate_alike, SlotSteps.ready_each}
+use Rattle.tape_stage.proofs.Torn.{torn_high, torn_front, alike_less, alike_piece}
+use Rattle.tape_stage.proofs.Tears.{alike_holding, alike_staged, gate_alike, body_alike, slot_alike}
+use Rattle.tape_stage.proofs.SlotSteps.{ready_each}
 use Rattle.tape_core.specs.Point.{Point}
-use Rattle.tape_stage.specs.Staged.{slot_place, Holding, KeepsFrames, KeepsFront, StagedIn, NamedIn}
-use Rattle.tape_stage.specs.Staged.{IsEither, IsSaving, FrontOf, Loses, SameFrames}
-use Rattle.tape_stage.specs.Body.{body_of}
-use Rattle.tape_stage.proofs.Torn.{alike_piece}
-use Rattle.tape_stage.proofs.Tears.{body_alike, slot_alike}
 
 pub frames_same : (old new : List ℕ) → new ≡ old → KeepsFrames old new
 frames_same old new same = record {

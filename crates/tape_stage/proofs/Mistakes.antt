@@ -1,16 +1,15 @@
 -- Results that the contracts of checkpoints, disks and stages exclude: each is the result of a
 -- wrong body.
-use Rattle.std.proofs.Common.{◌≡◌, ℕ, List, true, false, sym, ap, subst, ◌∙◌, arith, Some}
-use Rattle.std.proofs.Common.{Ok, Err, option_map, unwrap_or, ◌⊎◌, inl, inr, ◌+◌, Bool, not, []}
-use Rattle.std.proofs.Common.{◌∷◌, Option, None}
+use Rattle.std.proofs.Common.{◌≡◌, ℕ, List, true, false, sym, ap, subst, ◌∙◌, arith, Some, Ok, Err}
+use Rattle.std.proofs.Common.{option_map, unwrap_or, ◌⊎◌, inl, inr, ◌+◌, Bool, not, [], ◌∷◌, Option}
+use Rattle.std.proofs.Common.{None}
 use Rattle.tape_core.specs.{Point.Point, Stands.weight_of}
 use Rattle.tape_stage.specs.Staged.{best, gate_at, slot_at, body_at, read_slot, IsEither, Loses}
-use Rattle.tape_stage.specs.Staged.{Ready, Staged, StagedIn}
+use Rattle.tape_stage.specs.{Staged.Ready, Staged.Staged, Staged.StagedIn, Faults.IsNotDevice}
 use Rattle.tape_stage.specs.declared.stage.StageFault.TheVariants.{NoPoint, OutOfMemory}
-use Rattle.tape_stage.specs.Stages.{Holds, IsStage, Survived}
-use Rattle.tape_stage.specs.{Faults.IsNotDevice, Found.IsFaultOf, Salvaged.Remains}
-use Rattle.tape_stage.specs.{Text.IsPointText, declared.point.Version.TheVariants.One}
-use Rattle.tape_stage.specs.Parts.{IsFront}
+use Rattle.tape_stage.specs.{Stages.Holds, Stages.IsStage, Stages.Survived, Found.IsFaultOf}
+use Rattle.tape_stage.specs.{Salvaged.Remains, Text.IsPointText, Parts.IsFront}
+use Rattle.tape_stage.specs.declared.point.Version.TheVariants.{One}
 use Rattle.tape_blocks.specs.Block.{Portion}
 use Rattle.tape_stage.proofs.Once.{remains_once}
 use Rattle.tape_stage.specs.declared.disk.DiskFault.TheVariants as disk_faults

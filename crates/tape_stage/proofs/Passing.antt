@@ -1,7 +1,6 @@
 -- Consecutive calls of a disk.
-use Rattle.std.proofs.Common.{inl, inr, ⊎_elim, ℕ, List, arith}
+use Rattle.std.proofs.Common.{inl, inr, ⊎_elim, ℕ, List, arith, refl, ◌∙◌}
 use Rattle.tape_stage.specs.{declared.disk.Disk.Ghosts, Disk.IsLater, Moments.Passes}
-use Rattle.std.proofs.Common.{refl, ◌∙◌}
 use Rattle.tape_stage.specs.OnlyReading.{OnlyReads}
 
 module _ {D : Type 0} (g : Ghosts D) where

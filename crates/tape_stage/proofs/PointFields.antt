@@ -1,24 +1,22 @@
 -- Checkpoints and their fields determine each other; and the fields that are valid.
 use Rattle.std.proofs.Common.{◌≡◌, ℕ, ◌^◌, ◌<◌, ◌≤◌, Bool, true, false, replicate, Option, None}
 use Rattle.std.proofs.Common.{Some, refl, sym, subst, arith, rules, ◌&&◌, ◌==◌, nat_le, not}
-use Rattle.std.proofs.Common.{if◌then◌else◌, is_some}
-use Rattle.std.proofs.{lemmas.Bool.and_parts, lemmas.Slice.Eq.bytes_eq-Decides}
+use Rattle.std.proofs.{Common.if◌then◌else◌, Common.is_some, lemmas.Bool.and_parts}
+use Rattle.std.proofs.lemmas.Slice.Eq.{bytes_eq-Decides}
 use Rattle.std.specs.Str.{bytes_eq}
 use Rattle.tape_label.specs.declared.values.Format.{Format}
 use Rattle.tape_label.specs.declared.values.Format.TheVariants.{Fixed, Counted, Spanned}
-use Rattle.tape_set.specs.declared.position.Position.{Position}
+use Rattle.tape_set.specs.{declared.position.Position.Position, Lawful.FileForm, Lawful.most_blocks}
 use Rattle.tape_set.specs.declared.position.Position.TheVariants.{Awaits, Finished}
 use Rattle.tape_set.specs.Position.{sect_of, block_of, part_of}
-use Rattle.tape_set.specs.Lawful.{FileForm, most_blocks}
 use Rattle.tape_core.specs.{Known.IsForm, Known.PositionFits, Known.is_finished, Point.Point}
-use Rattle.tape_core.specs.{Range.length_in_range, Range.form_in_range, Range.in_range}
+use Rattle.tape_core.specs.Range.{length_in_range, form_in_range, in_range}
 use Rattle.tape_core.proofs.Ranges.{ranged, in_range_is}
 use Rattle.tape_stage.specs.Fields.{place_of, form_of, fields_of, form_as, known_as, known_by}
-use Rattle.tape_stage.specs.Fields.{point_by}
+use Rattle.tape_stage.specs.{Fields.point_by, declared.point.Place.Place, declared.point.Form.Form}
 use Rattle.tape_stage.specs.Range.{place_agrees, is_blank, form_agrees, is_right}
 use Rattle.tape_stage.specs.Text.{FitsVersion, Fit, KnownFits, IsWritable}
-use Rattle.tape_stage.specs.{declared.point.Place.Place, declared.point.Version.Version}
-use Rattle.tape_stage.specs.{declared.point.Form.Form, declared.point.Fields.Fields}
+use Rattle.tape_stage.specs.{declared.point.Version.Version, declared.point.Fields.Fields}
 
 -- ---- a checkpoint's fields determine it
 

@@ -7,13 +7,12 @@ use Rattle.tape_set.specs.declared.position.Position.TheVariants.{Awaits, Finish
 use Rattle.tape_set.specs.{declared.position.Position.Position, Position.sect_of, Lawful.FileForm}
 use Rattle.tape_core.specs.{Known.PositionFits, Point.Point}
 use Rattle.tape_stage.specs.Text.{pieces, rest_pieces, tail_width, Fit, KnownFits, IsWritable}
-use Rattle.tape_stage.specs.Text.{IsPointText}
-use Rattle.tape_stage.specs.declared.point.text.PointFault.{PointFault}
-use Rattle.tape_stage.specs.{declared.point.Version.Version, declared.point.Version.TheVariants.One}
-use Rattle.tape_stage.specs.{declared.point.Version.TheVariants.Two, declared.point.Fields.Fields}
+use Rattle.tape_stage.specs.{Text.IsPointText, declared.point.text.PointFault.PointFault}
+use Rattle.tape_stage.specs.{declared.point.Version.Version, declared.point.Fields.Fields}
+use Rattle.tape_stage.specs.declared.point.Version.TheVariants.{One, Two}
 use Rattle.tape_stage.specs.{Fields.form_of, Fields.fields_of, Fields.point_by, Range.is_right}
-use Rattle.tape_stage.specs.{Reading.text_at, Reading.right_point, Reading.reading}
-use Rattle.tape_stage.specs.{Laws.IsTextOfOne, Laws.HasBothTexts}
+use Rattle.tape_stage.specs.Reading.{text_at, right_point, reading}
+use Rattle.tape_stage.specs.Laws.{IsTextOfOne}
 use Rattle.tape_stage.proofs.TextLaws.{Reads, text_found, text_again, reads_stand, stands_read}
 use Rattle.tape_stage.proofs.TextLaws.{reads_fit, stood}
 use Rattle.tape_stage.proofs.PointFields.{point_again, point_right, fields_again, right_writable}
@@ -123,26 +122,4 @@ pub text_of_one : IsTextOfOne
 text_of_one bytes v w a b first second = (
   first_same v w (fields_of a) (fields_of b) _ (point_read _ _ _ first) (point_read _ _ _ second),
   ok_is a b (sym (reads_only _ _ _ first) ∙ reads_only _ _ _ second),
-)
-
-pub both_texts : HasBothTexts
-both_texts c right known set_id file_id block part = (
-  text_of (pieces One (fields_of c)),
-  text_of (pieces Two (fields_of c)),
-  record {
-    writable = record { right = right; known = known; fits = (omega (arith, block), part) };
-    set_id = set_id;
-    file_id = file_id;
-    text = refl;
-  },
-  record {
-    writable = record {
-      right = right;
-      known = known;
-      fits = (omega (arith, block), omega (arith, part));
-    };
-    set_id = set_id;
-    file_id = file_id;
-    text = refl;
-  },
 )

@@ -1,12 +1,11 @@
 -- The state of a disk after opening a stage was refused.
-use Rattle.std.proofs.Common.{◌≡◌, ℕ, ◌+◌, ◌≤◌, List, take, length, Some}
-use Rattle.std.proofs.Common.{sym, ap, ◌∙◌, subst, arith}
-use Rattle.std.proofs.lemmas.List.{take-take, length-take-le}
+use Rattle.std.proofs.Common.{◌≡◌, ℕ, ◌+◌, ◌≤◌, List, take, length, Some, sym, ap, ◌∙◌, subst}
+use Rattle.std.proofs.{Common.arith, lemmas.List.take-take, lemmas.List.length-take-le}
 use Rattle.tape_blocks.specs.Block.{Portion}
 use Rattle.tape_core.specs.Point.{Point}
-use Rattle.tape_stage.specs.{Body.Slot, Disk.CutShort, Found.IsFound}
-use Rattle.tape_stage.specs.{Moments.Untouched, Staged.Staged, Staged.KeepsStaged}
-use Rattle.tape_stage.specs.{declared.disk.Disk.Ghosts, declared.stage.Found.Found}
+use Rattle.tape_stage.specs.{Body.Slot, Disk.CutShort, Found.IsFound, Moments.Untouched}
+use Rattle.tape_stage.specs.{Staged.Staged, Staged.KeepsStaged, declared.disk.Disk.Ghosts}
+use Rattle.tape_stage.specs.declared.stage.Found.{Found}
 use Rattle.tape_stage.proofs.{Finds.best_of, Passing.weaken, Passing.follow}
 
 module _ {D : Type 0} (g : Ghosts D) where

@@ -1,9 +1,8 @@
 -- The remains of a damaged stage.
 use Rattle.std.proofs.Common.{◌≡◌, ℕ, ◌+◌, ◌≤◌, ◌<◌, List, length, min, Some, subst, arith, Option}
 use Rattle.std.proofs.Common.{None, ◌-◌, [], ◌∷◌, ◌++◌, take, drop, w32, refl, sym, ap, ◌∙◌, true}
-use Rattle.std.proofs.Common.{false, length-append}
+use Rattle.std.proofs.{Common.false, Common.length-append, Math.Seq.take-add}
 use Rattle.std.proofs.lemmas.List.{length-take-le, length-drop, drop-drop}
-use Rattle.std.proofs.Math.Seq.{take-add}
 use Rattle.tape_blocks.specs.Spans.{join, Joined, content_after, leaves}
 use Rattle.tape_blocks.specs.{Block.Portion, Block.indicator, declared.parts.Span.Span}
 use Rattle.tape_core.specs.Point.{Point}
@@ -11,8 +10,8 @@ use Rattle.tape_stage.specs.Salvaged.{FramedTo, Remains, RemainsNone, WalkedOver
 use Rattle.tape_stage.specs.Staged.{Holding, HoldsNone, Staged, WalkedTo, IsPut}
 use Rattle.tape_stage.specs.{Found.IsFound, Found.IsBadPlace, Frames.NoFrameAt}
 use Rattle.tape_stage.specs.{declared.stage.Found.Found, Parts.frame, Parts.frames}
-use Rattle.tape_stage.proofs.Once.{remains_once, staged_remains}
-use Rattle.tape_stage.proofs.{Finds.best_of, Giving.put_holding}
+use Rattle.tape_stage.proofs.{Once.remains_once, Once.staged_remains, Finds.best_of}
+use Rattle.tape_stage.proofs.Giving.{put_holding}
 use Rattle.std.specs.Int.{to_be_bytes}
 use Rattle.tape_blocks.proofs.JoinLaws.{join_ends, join_goes_on}
 

@@ -5,9 +5,7 @@ use base.Logic.{ent, ex_e, ex_i}
 use types.Logic.{Logic, sem}
 use denote.RattleType.{RattleType}
 use denote.Follow.{such_by, follows_if}
-use Rattle.std.specs.Prelude.{⊤}
-use Rattle.std.specs.Borrow.{MutBor}
-use Rattle.std.specs.Io.BufRead.{Rests}
+use Rattle.std.specs.{Prelude.⊤, Borrow.MutBor, Io.BufRead.Rests}
 
 pub rests_also : {M : Type 1} {𝓤 : Ura M} (𝓛 : Logic 𝓤) (R : RattleType) (s : MutBor R.Denot)
     (P Q : R.Denot → Type 0) → ((x : R.Denot) → P x → Q x)

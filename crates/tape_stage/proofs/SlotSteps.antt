@@ -1,22 +1,17 @@
 -- The three steps from one generation to the next.
-use Rattle.std.proofs.Common.{◌≡◌, inl, inr, ⊎_elim, ℕ, ◌+◌, ◌≤◌, Bool, true, false, not, List}
-use Rattle.std.proofs.Common.{[], ◌∷◌, length, take, drop, Some, ◌==◌, sym, ap, ◌∙◌, subst, arith}
+use Rattle.std.proofs.Common.{◌≡◌, inl, inr, ⊎_elim, ℕ, ◌+◌, ◌≤◌, Bool, true, false, not, List, []}
+use Rattle.std.proofs.Common.{◌∷◌, length, take, drop, Some, ◌==◌, sym, ap, ◌∙◌, subst, arith}
 use Rattle.std.proofs.{lemmas.List.length-take, lemmas.Bool.Decides.eqb_tells}
 use Rattle.tape_stage.specs.Staged.{slot_place, gate_at, body_at, read_slot, slot_at, Loses}
-use Rattle.tape_stage.specs.Staged.{StagedIn, IsClosed, IsNext, Ready}
-use Rattle.tape_stage.specs.{Disk.Torn, Disk.Holds, Disk.Only, Body.body_of, Body.body_text}
-use Rattle.tape_stage.specs.{Body.FitBody, Moments.After}
-use Rattle.tape_blocks.specs.Block.{Portion}
+use Rattle.tape_stage.specs.Staged.{StagedIn, IsClosed, IsNext, Ready, NamedIn, IsSaving}
+use Rattle.tape_stage.specs.{Staged.KeepsFrames, Disk.Torn, Disk.Holds, Disk.Only, Moments.After}
 use Rattle.tape_stage.specs.Body.{body_of, body_text, FitBody}
-use Rattle.tape_stage.specs.Staged.{slot_place, gate_at, body_at, read_slot, slot_at}
-use Rattle.tape_stage.specs.Staged.{Loses, StagedIn, NamedIn, IsClosed, IsNext, IsSaving, Ready}
-use Rattle.tape_stage.specs.Staged.{KeepsFrames}
-use Rattle.tape_stage.specs.Moments.{After}
+use Rattle.tape_blocks.specs.Block.{Portion}
 use Rattle.tape_core.specs.Point.{Point}
 use Rattle.tape_stage.proofs.Tears.{KeptIn, torn_other, gate_alike, torn_gate_body, torn_body_gate}
 use Rattle.tape_stage.proofs.Tears.{kept_holding, alike_staged, loses_gate, closed_none, open_reads}
-use Rattle.tape_stage.proofs.Tears.{none_loses}
-use Rattle.tape_stage.proofs.{Torn.holds_torn, Torn.holds_piece, Torn.holds_byte, Bodies.body_reads}
+use Rattle.tape_stage.proofs.{Tears.none_loses, Torn.holds_torn, Torn.holds_piece, Torn.holds_byte}
+use Rattle.tape_stage.proofs.Bodies.{body_reads}
 
 -- the other slot contains the next generation after a closed gate
 pub record IsFilled (second : Bool) (g : ℕ) (point next : Point) (parts : List Portion)

@@ -1,7 +1,6 @@
 -- The 127 bytes after a gate: a generation, a checkpoint and spaces.
 use Rattle.std.specs.Prelude.{ℕ, ◌^◌, ◌<◌, List, ◌++◌, take, drop, replicate, Option, Some, None}
-use Rattle.std.specs.Prelude.{if◌then◌else◌}
-use Rattle.std.specs.Str.{all_ascii_digits}
+use Rattle.std.specs.{Prelude.if◌then◌else◌, Str.all_ascii_digits}
 use Rattle.tape_label.specs.{Digits.digits, Digits.number_of, Written.text_of}
 use Rattle.tape_core.specs.Point.{Point}
 use Rattle.tape_stage.specs.{declared.point.Version.TheVariants.Two, Fields.fields_of}

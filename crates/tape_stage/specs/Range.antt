@@ -1,12 +1,11 @@
 -- The rules that connect the fields of a checkpoint.
 use Rattle.std.specs.Prelude.{nat_le, ◌==◌, ◌&&◌, not, Bool, if◌then◌else◌, replicate, Option, Some}
-use Rattle.std.specs.Prelude.{None}
-use Rattle.std.specs.Str.{bytes_eq}
+use Rattle.std.specs.{Prelude.None, Str.bytes_eq}
 use Rattle.tape_label.specs.declared.values.Format.{Format}
 use Rattle.tape_set.specs.Lawful.{most_blocks}
 use Rattle.tape_core.specs.Range.{form_in_range, in_range}
-use Rattle.tape_stage.specs.Fields.{form_as, point_by}
-use Rattle.tape_stage.specs.{declared.point.Form.Form, declared.point.Fields.Fields}
+use Rattle.tape_stage.specs.{Fields.form_as, Fields.point_by, declared.point.Form.Form}
+use Rattle.tape_stage.specs.declared.point.Fields.{Fields}
 
 -- if the file is complete, the section, block and part are 0; otherwise the block number is
 -- possible in a section

@@ -2,19 +2,13 @@
 use Rattle.std.specs.Prelude.{◌≡◌, ◌-◌, [], true, List, OnErr, OnOk, Option, Result}
 use Rattle.std.specs.{Borrow.Fml, Borrow.RattleType, Borrow.MutBor, Io.BufRead.Rests}
 use mir.Syntax.{named}
-use Rattle.tape_stage.specs.Stages.{Holds, IsAhead, LendsNone, crashes_of}
+use Rattle.tape_stage.specs.Stages.{Holds, IsAhead, LendsNone, crashes_of, SameStage}
 use Rattle.tape_stage.specs.{declared.disk.Disk.Ghosts, declared.stage.Stage.Stage}
-use Rattle.tape_core.specs.Walks.{HasGiven}
-use Rattle.tape_blocks.specs.declared.parts.Part.{Part}
-use Rattle.tape_core.specs.declared.sink.SinkFault.{SinkFault}
-use Rattle.tape_stage.specs.OnlyReading.{OnlyReads}
-use Rattle.tape_stage.specs.Stages.{SameStage}
+use Rattle.tape_stage.specs.{OnlyReading.OnlyReads, contracts.stage.Stage.the_row as stage_row}
 use Rattle.tape_stage.specs.declared.stage.part_reader.PartReader.{PartReader}
-use Rattle.tape_stage.specs.contracts.stage.Stage.{the_row as stage_row}
 use Rattle.tape_stage.specs.contracts.stage.part_reader.PartReader.{the_row}
-use Rattle.tape_core.specs.{Walks.HasGiven, Weight.Rose, declared.sink.SinkFault.SinkFault}
-use Rattle.tape_blocks.specs.Block.{Portion}
-use Rattle.tape_blocks.specs.declared.parts.Part.{Part}
+use Rattle.tape_core.specs.{Walks.HasGiven, declared.sink.SinkFault.SinkFault, Weight.Rose}
+use Rattle.tape_blocks.specs.{declared.parts.Part.Part, Block.Portion}
 
 -- The stage returned its next part, or refused the call. Its disk was only read, and is honest if
 -- it was before. The disk failed only if the call was refused; and then it did, if the parts to

@@ -1,10 +1,9 @@
 -- Laws about the bytes of a stage: they have at most one meaning.
 use Rattle.std.specs.Prelude.{◌≡◌, ◌⊎◌, ◌<◌, ◌+◌, ℕ, Bool, List, ◌∷◌, ◌++◌, length}
 use Rattle.tape_blocks.specs.Block.{Portion}
-use Rattle.tape_core.specs.Stands.{weight_of}
+use Rattle.tape_core.specs.{Stands.weight_of, Point.Point}
 use Rattle.tape_stage.specs.Found.{IsBadPlace}
 use Rattle.tape_stage.specs.Staged.{Holding, IsEither, NamedIn, SameFrames, Staged, StagedIn}
-use Rattle.tape_core.specs.Point.{Point}
 
 -- the bytes represent at most one generation, checkpoint and list of parts
 abbrev pub StandsOnce : List ℕ → Type 0

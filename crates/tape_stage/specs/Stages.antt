@@ -1,25 +1,15 @@
 -- The contents and states of a stage.
 use Rattle.std.specs.Prelude.{◌≡◌, ◌⊎◌, ℕ, ◌+◌, ◌<◌, ◌≤◌, Bool, true, false, not, List, Option}
-use Rattle.std.specs.Prelude.{None, Result, OnOk, IfErr, IsErrOf}
-use Rattle.std.specs.Prelude.{Some, Ok, Err}
-use Rattle.tape_stage.specs.declared.disk.Disk.{Ghosts}
-use Rattle.tape_blocks.specs.Block.{Portion}
-use Rattle.tape_core.specs.Crash.{Crashes}
-use Rattle.tape_core.specs.Known.{most_staged}
-use Rattle.tape_core.specs.Stands.{weight_of}
-use Rattle.tape_core.specs.Weight.{Rose}
-use Rattle.tape_core.specs.declared.sink.SinkFault.{SinkFault}
-use Rattle.tape_core.specs.declared.sink.SinkFault.TheVariants as sink
-use Rattle.tape_stage.specs.Body.{most_generation}
-use Rattle.tape_stage.specs.Faults.{IsNotDevice, OnBadFrame, SaysNone}
+use Rattle.std.specs.Prelude.{None, Result, OnOk, IfErr, IsErrOf, Some}
 use Rattle.tape_stage.specs.Staged.{Staged, StandsLike, Holding, HoldsNone, KeepsStaged, Ready}
-use Rattle.tape_stage.specs.Staged.{NamedIn, SameFrames}
 use Rattle.tape_stage.specs.declared.stage.StageFault.TheVariants.{Device, Full, Failed}
-use Rattle.tape_stage.specs.declared.stage.StageFault.TheVariants.{OutOfMemory}
 use Rattle.tape_stage.specs.{declared.disk.Disk.Ghosts, Body.most_generation, Found.IsFaultOf}
-use Rattle.tape_stage.specs.{Frames.AheadIn, Frames.NoFrameAt, Moments.Passes, Moments.Untouched}
-use Rattle.tape_stage.specs.{OnlyReading.OnlyReads, Parts.longest_part, Salvaged.RemainsNone}
-use Rattle.tape_stage.specs.{declared.stage.Stage.Stage, declared.stage.StageFault.StageFault}
+use Rattle.tape_stage.specs.Faults.{IsNotDevice, OnBadFrame, SaysNone}
+use Rattle.tape_stage.specs.{Staged.NamedIn, Staged.SameFrames, Frames.AheadIn, Frames.NoFrameAt}
+use Rattle.tape_stage.specs.{declared.stage.StageFault.TheVariants.OutOfMemory, Parts.longest_part}
+use Rattle.tape_stage.specs.{Moments.Passes, Moments.Untouched, OnlyReading.OnlyReads}
+use Rattle.tape_stage.specs.{Salvaged.RemainsNone, declared.stage.Stage.Stage}
+use Rattle.tape_stage.specs.declared.stage.StageFault.{StageFault}
 use Rattle.tape_blocks.specs.Block.{Portion}
 use Rattle.tape_core.specs.{Crash.Crashes, Known.most_staged, Stands.weight_of, Weight.Rose}
 use Rattle.tape_core.specs.{declared.sink.SinkFault.SinkFault, Point.Point}

@@ -2,12 +2,11 @@
 
 ghost use Rattle.std.specs.Prelude.{◌≡◌, Ok, ℕ, List};
 ghost use Rattle.tape_stage.specs.Cases.{CasesOfCrashes, CasesOfMoments, CasesOfFiles};
-ghost use Rattle.tape_stage.specs.Cases.{CasesOfStages, CasesOfFaults};
-ghost use Rattle.tape_stage.specs.Laws.{HasBothTexts, IsTextOfOne, IsTextOnce};
 ghost use Rattle.tape_stage.specs.StageLaws.{EitherStands, NamedStands, ReadsOneOf, StandsOnce};
+ghost use Rattle.tape_stage.specs.{Cases.CasesOfStages, Cases.CasesOfFaults, StageLaws.BadInside};
+ghost use Rattle.tape_stage.specs.Laws.{HasBothTexts, IsTextOfOne, IsTextOnce};
 ghost use Rattle.tape_stage.specs.{CasesOfLaws.CasesOfLaws, CasesOfSalvage.CasesOfSalvage};
 ghost use Rattle.tape_stage.specs.Salvaged.{RemainsOnce};
-ghost use Rattle.tape_stage.specs.StageLaws.{BadInside};
 
 use crate::disk::Disk;
 use crate::point::text::PointFault;

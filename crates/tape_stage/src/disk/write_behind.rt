@@ -1,10 +1,9 @@
 //! A write buffer for a disk.
 ghost use Rattle.std.specs.Prelude.{◌≡◌, ◌+◌, ◌<◌, ◌≤◌, ◌^◌, [], ◌++◌, length, max, OnOk, OnErr};
-ghost use Rattle.std.specs.Prelude.{vec_capacity};
-ghost use Rattle.std.specs.Bool.{OnTrue};
+ghost use Rattle.std.specs.{Prelude.vec_capacity, Bool.OnTrue};
 ghost use Rattle.tape_stage.specs.Holding.{with_held, LeftTorn, LeftSince, held_long, held_over};
-ghost use Rattle.tape_stage.specs.Holding.{held_counts, held_only};
-ghost use Rattle.tape_stage.specs.{Disk.NoMore, OnlyReading.Looks};
+ghost use Rattle.tape_stage.specs.{Holding.held_counts, Holding.held_only, Disk.NoMore};
+ghost use Rattle.tape_stage.specs.OnlyReading.{Looks};
 ghost use Rattle.tape_core.specs.Weight.{Rose};
 
 use crate::disk::{Disk, DiskFault};

@@ -1,23 +1,17 @@
 //! Frames (the header and content of a part): walking, reading and truncating them.
 
-ghost use Rattle.std.specs.Prelude.{◌≡◌, ◌+◌, ◌≤◌, ◌<◌, ◌∷◌, List, length, OnOk};
-ghost use Rattle.std.specs.Prelude.{OnErr, IfOk, MatchOption, take, drop, IsErrOf, true, false};
-ghost use Rattle.std.specs.Prelude.{◌⊎◌, IfErr, IfSome, None};
-ghost use Rattle.std.specs.Int.{to_be_bytes};
+ghost use Rattle.std.specs.Prelude.{◌≡◌, ◌+◌, ◌≤◌, ◌<◌, ◌∷◌, List, length, OnOk, OnErr, IfOk};
+ghost use Rattle.std.specs.Prelude.{MatchOption, take, drop, IsErrOf, true, false, ◌⊎◌, IfErr};
+ghost use Rattle.std.specs.{Prelude.IfSome, Prelude.None, Int.to_be_bytes};
 ghost use Rattle.std.proofs.Common.{w32};
 ghost use Rattle.tape_blocks.specs.Block.{Portion, indicator};
-ghost use Rattle.tape_core.specs.Weight.{Rose};
-ghost use Rattle.tape_core.specs.Known.{most_staged};
-ghost use Rattle.tape_stage.specs.Body.{most_generation};
-ghost use Rattle.tape_stage.specs.Staged.{IsNoHeader, StagedIn, IsEither, IsSaving};
-ghost use Rattle.tape_stage.specs.Staged.{FrontOf, SameFrames};
-ghost use Rattle.tape_stage.specs.Salvaged.{WalkedIn, WalkedOver};
-ghost use Rattle.tape_stage.specs.OnlyReading.{OnlyReads};
+ghost use Rattle.tape_core.specs.{Weight.Rose, Known.most_staged};
+ghost use Rattle.tape_stage.specs.Staged.{IsNoHeader, StagedIn, IsEither, IsSaving, FrontOf};
+ghost use Rattle.tape_stage.specs.{Body.most_generation, Staged.SameFrames, OnlyReading.OnlyReads};
+ghost use Rattle.tape_stage.specs.{Salvaged.WalkedIn, Salvaged.WalkedOver, Moments.Passes};
 ghost use Rattle.tape_stage.specs.Parts.{longest_part, IsFront};
-ghost use Rattle.tape_stage.specs.Moments.{Passes};
 ghost use Rattle.tape_stage.specs.Frames.{IsFrameAt, NoFrameAt};
 ghost use Rattle.tape_stage.specs.Stages.{IsStage, EndsCall, HasNamed, IsPending};
-ghost use Rattle.tape_stage.specs.Disk.{SameFact};
 
 use crate::disk::{Disk, DiskFault};
 use crate::stage::{Stage, StageFault};

@@ -3,11 +3,10 @@
 ghost use Rattle.std.specs.Prelude.{◌≡◌, ◌≤◌, ◌==◌, length, OnOk, IfOk, IfErr, IfSome, MatchOption};
 ghost use Rattle.std.specs.Prelude.{None, Some, false, true, not};
 ghost use Rattle.tape_core.specs.Known.{most_staged};
-ghost use Rattle.tape_stage.specs.Staged.{read_slot, slot_at, Loses};
+ghost use Rattle.tape_stage.specs.{Staged.read_slot, Staged.slot_at, Staged.Loses, Found.IsFound};
 ghost use Rattle.tape_stage.specs.Salvaged.{RemainsNone, WalkedIn, WalkedOver};
-ghost use Rattle.tape_stage.specs.Faults.{SaysNone, OnBadFrame};
-ghost use Rattle.tape_stage.specs.{Moments.IsDurable, Found.IsFound, Stages.EndsFinding};
-ghost use Rattle.tape_stage.specs.{OnlyReading.OnlyReads, Body.most_generation};
+ghost use Rattle.tape_stage.specs.{Faults.SaysNone, Faults.OnBadFrame, Moments.IsDurable};
+ghost use Rattle.tape_stage.specs.{Stages.EndsFinding, OnlyReading.OnlyReads, Body.most_generation};
 
 use crate::disk::Disk;
 use crate::point::read_point;

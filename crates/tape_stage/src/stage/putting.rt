@@ -1,24 +1,16 @@
 //! A stage as a sink: appending parts, saving and walking.
 
-ghost use Rattle.std.specs.Prelude.{◌≡◌, ◌+◌, ◌≤◌, ◌<◌, ◌^◌, ◌∷◌, ◌++◌, [], List, length};
-ghost use Rattle.std.specs.Prelude.{OnOk, OnErr, IsErrOf, ◌-◌, Err, true, false};
+ghost use Rattle.std.specs.Prelude.{◌≡◌, ◌+◌, ◌≤◌, ◌<◌, ◌∷◌, ◌++◌, [], List, length, OnOk, OnErr};
+ghost use Rattle.std.specs.Prelude.{IsErrOf, ◌-◌, Err, true, false, IfErr, ◌≢◌, ◌⊎◌};
 ghost use Rattle.std.proofs.Common.{inr};
-ghost use Rattle.tape_blocks.specs.Block.{Portion, indicator};
-ghost use Rattle.tape_blocks.specs.Parts.{view};
-ghost use Rattle.tape_core.specs.Weight.{Rose};
+ghost use Rattle.tape_blocks.specs.{Block.Portion, Block.indicator, Parts.view};
+ghost use Rattle.tape_core.specs.{Weight.Rose, Stands.weight_of, Known.most_staged};
 ghost use Rattle.tape_core.specs.Crash.{AddsNothing, AddsOnly, IsThis, ThisAlone};
-ghost use Rattle.tape_core.specs.Stands.{weight_of};
-ghost use Rattle.tape_stage.specs.Body.{most_generation};
-ghost use Rattle.std.specs.Prelude.{IfErr, ◌≢◌, ◌⊎◌};
-ghost use Rattle.tape_core.specs.Known.{most_staged};
-ghost use Rattle.tape_stage.specs.Moments.{Passes};
-ghost use Rattle.tape_stage.specs.Staged.{StagedIn, IsPut, FrontOf, KeepsFront};
-ghost use Rattle.tape_stage.specs.Staged.{IsSaving, SameFrames};
+ghost use Rattle.tape_stage.specs.Staged.{StagedIn, IsPut, FrontOf, KeepsFront, IsSaving};
 ghost use Rattle.tape_stage.specs.Stages.{IsStage, EndsCall, Holds, IsAhead, LendsNone, crashes_of};
+ghost use Rattle.tape_stage.specs.{Body.most_generation, Moments.Passes, Staged.SameFrames};
 ghost use Rattle.tape_stage.specs.Stages.{HasNamed, IsPending, RefusesChange, SameStage};
-ghost use Rattle.tape_stage.specs.Disk.{SameFact};
-ghost use Rattle.tape_stage.specs.Parts.{longest_part};
-ghost use Rattle.tape_stage.specs.Faults.{sink_fault_of};
+ghost use Rattle.tape_stage.specs.{Disk.SameFact, Parts.longest_part, Faults.sink_fault_of};
 
 use crate::disk::{Disk, DiskFault};
 use crate::stage::frames::read_frame;

@@ -1,13 +1,12 @@
 //! Saving: slots, their gates, and the order of writes and syncs.
 
-ghost use Rattle.std.specs.Prelude.{◌≡◌, ◌≤◌, ◌<◌, ◌+◌, ℕ, List, false, not, OnOk, OnErr};
-ghost use Rattle.std.specs.Prelude.{IsErrOf, Some, None, ◌⊎◌, ◌^◌, Bool};
+ghost use Rattle.std.specs.Prelude.{◌≡◌, ◌≤◌, ◌<◌, ◌+◌, ℕ, List, false, not, OnOk, IsErrOf, Some};
+ghost use Rattle.std.specs.Prelude.{None, ◌⊎◌, ◌^◌};
 ghost use Rattle.tape_blocks.specs.Block.{Portion};
 ghost use Rattle.tape_core.specs.Point.{Point};
-ghost use Rattle.tape_stage.specs.Body.{most_generation};
-ghost use Rattle.tape_stage.specs.Moments.{EndsSynced, Passes};
-ghost use Rattle.tape_stage.specs.Parts.{IsFront};
 ghost use Rattle.tape_stage.specs.Staged.{IsEither, IsSaving, KeepsFrames, Staged, slot_place};
+ghost use Rattle.tape_stage.specs.{Body.most_generation, Moments.EndsSynced, Moments.Passes};
+ghost use Rattle.tape_stage.specs.Parts.{IsFront};
 ghost use Rattle.tape_stage.specs.Staged.{StagedIn, NamedIn, IsClosed, IsNext, Ready, SameFrames};
 ghost use Rattle.tape_stage.specs.Stages.{IsStage, EndsCall, HasNamed, IsPending};
 

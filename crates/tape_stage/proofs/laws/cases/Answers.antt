@@ -1,6 +1,5 @@
 use Rattle.tape_stage.proofs.Examples.{cases_of_crashes, cases_of_moments, cases_of_files}
-use Rattle.tape_stage.proofs.Examples.{cases_of_stages}
-use Rattle.tape_stage.proofs.{Examples.cases_of_laws, Examples.cases_of_salvage}
+use Rattle.tape_stage.proofs.Examples.{cases_of_stages, cases_of_laws, cases_of_salvage}
 use Rattle.tape_stage.proofs.laws.cases.Goals as goal
 
 pub returns-clause-crashes : goal.returns-clause-crashes

@@ -3,8 +3,7 @@ use Rattle.std.proofs.Common.{◌∙◌, arith}
 use Rattle.std.specs.Vec.{with_items}
 use Rattle.tape_blocks.specs.{Packed.Keeps, Packing.Packing, Packing.Given, Packing.emptied}
 use Rattle.tape_blocks.proofs.PackerSteps.{given_is, given_keeps, padded_in, keeps_nothing}
-use Rattle.tape_blocks.proofs.PackerSteps.{packed_is, not_closed}
-use Rattle.tape_blocks.proofs.PackLaws.{keeps_itself}
+use Rattle.tape_blocks.proofs.{PackerSteps.packed_is, PackerSteps.not_closed, PackLaws.keeps_itself}
 use Rattle.tape_blocks.proofs.packer.Packer.take_block.Goals as goal
 
 pub returns-then-self-offset : goal.returns-then-self-offset

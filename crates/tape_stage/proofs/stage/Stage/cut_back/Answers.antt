@@ -1,17 +1,9 @@
-use Rattle.std.proofs.Common.{◌≡◌, ◌∙◌, subst, sym, Result, Ok, Err, IfErr}
+use Rattle.std.proofs.Common.{◌≡◌, ◌∙◌, subst, sym, Result, Ok, Err, IfErr, ap, arith, inl, refl}
 use Rattle.tape_core.specs.Point.{Point}
 use Rattle.tape_stage.specs.declared.stage.StageFault.TheVariants.{Device, Full}
 use Rattle.tape_stage.specs.{Parts.IsFront, declared.stage.StageFault.StageFault}
-use Rattle.std.proofs.Common.{◌⊎◌, ◌+◌, ℕ, List, ap, arith, inl, inr, not, refl}
-use Rattle.std.specs.Prelude.{OnErr, OnOk, Option, None, Some}
-use Rattle.tape_blocks.specs.Block.{Portion}
-use Rattle.tape_stage.specs.Staged.{NamedIn, SameFrames}
-use Rattle.tape_stage.specs.Stages.{HasNamed, IsStage}
-use Rattle.tape_stage.specs.declared.disk.Disk.{Ghosts}
 use Rattle.tape_stage.specs.declared.stage.Stage.{Stage}
-use Rattle.tape_stage.proofs.Keeps.{frames_cut, frames_same}
-use Rattle.tape_stage.proofs.Passing.{weaken}
-use Rattle.tape_stage.proofs.Results.{on_ok}
+use Rattle.tape_stage.proofs.{Keeps.frames_cut, Keeps.frames_same, Passing.weaken, Results.on_ok}
 use Rattle.tape_stage.proofs.stage.Stage.cut_back.Goals as goal
 
 pub returns-then-self-staged-clause-ok : goal.returns-then-self-staged-clause-ok

@@ -3,10 +3,9 @@ use Rattle.tape_blocks.specs.Block.{Portion}
 use Rattle.tape_core.specs.Weight.{Rose}
 use Rattle.tape_stage.specs.declared.stage.StageFault.TheVariants.{BadFrame, Device, Failed, Full}
 use Rattle.tape_stage.specs.{Salvaged.FramedTo, Salvaged.Remains, Stages.OpensOver, Staged.Holding}
-use Rattle.tape_stage.proofs.Backs.{ready_survives, ready_returns}
-use Rattle.tape_stage.proofs.Openings.{IsOpened, cut_opened, cut_passes, cut_stopped, read_refuses}
 use Rattle.tape_stage.proofs.Remaining.{broken_bad, broken_none, found_remains, none_staged}
-use Rattle.tape_stage.proofs.Remaining.{whole_framed}
+use Rattle.tape_stage.proofs.{Backs.ready_survives, Backs.ready_returns, Remaining.whole_framed}
+use Rattle.tape_stage.proofs.Openings.{IsOpened, cut_opened, cut_passes, cut_stopped, read_refuses}
 use Rattle.tape_stage.proofs.stage.Stage.open_disk.Goals.{After-cut_kept, In-Ok-cut_kept}
 use Rattle.tape_stage.proofs.{Finds.found_read, Held.opened_holds, Results.no_frame_says}
 use Rattle.tape_stage.proofs.stage.Stage.open_disk.Given.{Over}

@@ -1,11 +1,8 @@
-use Rattle.std.proofs.Common.{◌≡◌, ◌∙◌, inl, inr, subst, sym}
-use Rattle.tape_core.specs.{Point.Point}
+use Rattle.std.proofs.Common.{◌≡◌, ◌∙◌, inl, inr, subst, sym, ap}
+use Rattle.tape_core.specs.Point.{Point}
 use Rattle.tape_stage.specs.{Parts.IsFront, Stages.HasNamed}
-use Rattle.std.proofs.Common.{ap}
-use Rattle.tape_stage.proofs.Passing.{weaken, follow}
+use Rattle.tape_stage.proofs.{Passing.weaken, Passing.follow, Results.ok_any, Results.on_ok}
 use Rattle.tape_stage.proofs.Keeps.{cut_named, frames_cut, saving_front}
-use Rattle.tape_stage.proofs.Results.{ok_any, on_ok}
-use Rattle.tape_stage.proofs.{Passing.weaken, Passing.follow, Results.on_ok}
 use Rattle.tape_stage.proofs.stage.Stage.restart.Given.{Over}
 use Rattle.tape_stage.proofs.stage.Stage.restart.Goals.{After-cut_parts}
 use Rattle.tape_stage.proofs.stage.Stage.restart.Goals as goal

@@ -2,12 +2,10 @@ use Rattle.std.proofs.Common.{◌≡◌, ◌+◌, List, [], ◌∷◌, ◌++◌,
 use Rattle.std.proofs.Common.{subst, ◌∙◌, arith}
 use Rattle.tape_blocks.specs.{Block.Portion, Spans.join}
 use Rattle.tape_stage.specs.Frames.{NoFrameAt}
-use Rattle.tape_stage.proofs.Passing.{follow, stands, weaken}
-use Rattle.tape_stage.proofs.Remaining.{counted_ends, counted_goes_on, walked_more}
-use Rattle.tape_stage.proofs.Remaining.{framed_broken}
-use Rattle.tape_stage.proofs.stage.frames.walk.Given.{Over}
 use Rattle.tape_stage.proofs.stage.frames.walk.Goals.{After-min-limit, then-not-leaves}
-use Rattle.tape_stage.proofs.stage.frames.walk.Goals.{else-not-leaves}
+use Rattle.tape_stage.proofs.Passing.{follow, stands, weaken}
+use Rattle.tape_stage.proofs.Remaining.{counted_ends, counted_goes_on, walked_more, framed_broken}
+use Rattle.tape_stage.proofs.{stage.frames.walk.Given.Over, stage.frames.walk.Goals.else-not-leaves}
 use Rattle.tape_stage.proofs.stage.frames.walk.Goals as goal
 
 -- the limit of the walk, in terms of the bytes

@@ -1,7 +1,6 @@
 use Rattle.std.proofs.Common.{◌≡◌, ℕ, List, length, subst, arith}
-use Rattle.tape_stage.proofs.{Bodies.made_ready}
-use Rattle.tape_stage.specs.{Disk.Holds}
-use Rattle.tape_stage.specs.Staged.{new_slots}
+use Rattle.tape_stage.proofs.Bodies.{made_ready}
+use Rattle.tape_stage.specs.{Disk.Holds, Staged.new_slots}
 use Rattle.tape_stage.proofs.stage.open_disk.make.Goals as goal
 
 pub returns-clause-made : goal.returns-clause-made

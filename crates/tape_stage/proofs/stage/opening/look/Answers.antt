@@ -1,7 +1,6 @@
 use Rattle.std.proofs.Common.{◌≡◌, take, ap, ◌∙◌, sym}
 use Rattle.tape_stage.proofs.Finds.{front_same, found_alike, none_remains}
-use Rattle.tape_stage.proofs.{stage.opening.look.Given.Over}
-use Rattle.tape_stage.proofs.stage.opening.look.Goals.{In_ok-read}
+use Rattle.tape_stage.proofs.{stage.opening.look.Given.Over, stage.opening.look.Goals.In_ok-read}
 use Rattle.tape_stage.proofs.stage.opening.look.Goals as goal
 
 -- the slots that were read

@@ -1,16 +1,12 @@
 use Rattle.std.proofs.Common.{◌≡◌, ◌+◌, ◌∙◌, inl, ℕ, List, length, ap, arith}
 use Rattle.tape_blocks.specs.Block.{Portion}
 use Rattle.tape_core.specs.Point.{Point}
-use Rattle.tape_stage.specs.Moments.{Passes}
-use Rattle.tape_stage.specs.Staged.{KeepsFrames, Ready, StagedIn}
-use Rattle.tape_stage.proofs.Keeps.{frames_then, torn_body_frames, torn_gate_frames}
-use Rattle.tape_stage.proofs.Bodies.{length-body}
-use Rattle.tape_stage.proofs.Keeps.{saving_then}
-use Rattle.tape_stage.proofs.Passing.{weaken, follow}
+use Rattle.tape_stage.specs.{Moments.Passes, Staged.KeepsFrames, Staged.Ready, Staged.StagedIn}
 use Rattle.tape_stage.proofs.SlotSteps.{IsFilled, filled_done, filled_body, filled_after}
+use Rattle.tape_stage.proofs.Keeps.{frames_then, torn_body_frames, torn_gate_frames, saving_then}
+use Rattle.tape_stage.proofs.{Bodies.length-body, Passing.weaken, Passing.follow, Results.on_ok}
 use Rattle.tape_stage.proofs.SlotSteps.{opened_done, opened_after}
 use Rattle.tape_stage.proofs.stage.saving.replace_slot.Goals.{After-write_kept, In_ok-write_kept}
-use Rattle.tape_stage.proofs.{Bodies.length-body, Results.on_ok}
 use Rattle.tape_stage.proofs.stage.saving.replace_slot.Given.{Over}
 use Rattle.tape_stage.proofs.stage.saving.replace_slot.Goals as goal
 

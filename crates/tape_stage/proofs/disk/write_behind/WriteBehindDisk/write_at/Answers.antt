@@ -1,9 +1,8 @@
 use Rattle.std.proofs.Common.{◌≡◌, ◌+◌, length, arith}
 use Rattle.tape_stage.specs.Holding.{torn_same}
 use Rattle.tape_stage.proofs.HoldingLaws.{then_elapses, then_stays, then_allows, holds_more}
-use Rattle.tape_stage.proofs.HoldingLaws.{more_elapses, more_stays, added_follows}
-use Rattle.tape_stage.proofs.HoldingLaws.{added_allows, begun_allows}
-use Rattle.tape_stage.proofs.Results.{on_ok}
+use Rattle.tape_stage.proofs.HoldingLaws.{more_elapses, more_stays, added_follows, added_allows}
+use Rattle.tape_stage.proofs.{HoldingLaws.begun_allows, Results.on_ok}
 use Rattle.tape_stage.proofs.disk.write_behind.WriteBehindDisk.write_at.Goals as goal
 
 -- ---- bytes appended to the buffer

@@ -1,8 +1,7 @@
 use Rattle.std.proofs.Common.{◌≡◌, ℕ, List, ◌++◌, ⊎_elim, refl, ap, inl, inr, Err}
 use Rattle.tape_blocks.specs.Block.{Portion}
 use Rattle.tape_core.specs.{Crash.IsThis, Stands.weight_of}
-use Rattle.tape_stage.specs.Parts.{IsFront}
-use Rattle.tape_stage.specs.declared.stage.StageFault.TheVariants.{Device}
+use Rattle.tape_stage.specs.{Parts.IsFront, declared.stage.StageFault.TheVariants.Device}
 use Rattle.tape_stage.proofs.Held.{stage_holds, change_refused, is_device}
 use Rattle.tape_stage.proofs.Backs.{adds_this, adds_refused}
 use Rattle.tape_stage.proofs.stage.putting.StagePartSink.cut_to.Goals as goal

@@ -1,10 +1,8 @@
-use Rattle.std.proofs.Common.{◌≡◌, ◌∙◌, ℕ, List, [], ap, sym, append-nil, Option, Some, None}
-use Rattle.std.proofs.Common.{Err}
+use Rattle.std.proofs.Common.{◌≡◌, ◌∙◌, ℕ, List, [], ap, sym, append-nil, Option, Some, None, Err}
 use Rattle.tape_blocks.specs.Block.{Portion}
 use Rattle.tape_core.specs.{Crash.IsThis, Point.Point, Stands.weight_of}
 use Rattle.tape_stage.specs.{Parts.IsFront, Stages.Returns}
-use Rattle.tape_stage.proofs.Held.{stage_holds, refused_holds}
-use Rattle.tape_stage.proofs.Keeps.{frames_holding}
+use Rattle.tape_stage.proofs.{Held.stage_holds, Held.refused_holds, Keeps.frames_holding}
 use Rattle.tape_stage.proofs.Backs.{returned_kept, returned_now, adds_this, adds_refused}
 use Rattle.tape_stage.proofs.stage.putting.StagePartSink.keep.Goals as goal
 

@@ -2,8 +2,7 @@ use mathlib.Core.List.{[]}
 use base.Logic.{id⊢}
 use contract.Monad.{fact_i}
 use borrow.Fn.Refines.{by_parts}
-use Rattle.tape_stage.specs.Reads.{StageGave}
-use Rattle.tape_stage.specs.contracts.stage.Stage.{the_row}
+use Rattle.tape_stage.specs.{Reads.StageGave, contracts.stage.Stage.the_row}
 use Rattle.tape_stage.proofs.Resting.{rests_also}
 use Rattle.tape_stage.proofs.stage.putting.StagePartWalk.TheImpl.Goals as goal
 

@@ -1,11 +1,9 @@
 use Rattle.std.proofs.Common.{◌≡◌, ◌+◌, length, take, refl, sym, ap, subst, ◌∙◌, arith, rules, Err}
-use Rattle.std.proofs.Common.{⊎_elim}
-use Rattle.std.proofs.lemmas.List.{with_items_is, length-take-le}
+use Rattle.std.proofs.{Common.⊎_elim, lemmas.List.with_items_is, lemmas.List.length-take-le}
 use Rattle.tape_core.proofs.Crashes.{only_same}
 use Rattle.tape_stage.specs.Frames.{AheadIn}
 use Rattle.tape_stage.proofs.Giving.{given, lends_none, nothing_ahead, one_ahead}
-use Rattle.tape_stage.proofs.{Backs.adds_read, Held.read_held}
-use Rattle.tape_stage.proofs.Passing.{only_reads_self}
+use Rattle.tape_stage.proofs.{Backs.adds_read, Held.read_held, Passing.only_reads_self}
 use Rattle.tape_stage.proofs.stage.putting.StagePartWalk.next_part.Goals as goal
 
 pub returns-then-self : goal.returns-then-self
