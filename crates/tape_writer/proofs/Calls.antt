@@ -1,17 +1,15 @@
 -- The writer's calls, as its callers see them.
 use Rattle.tape_writer.proofs.Words.{◌≡◌, ℕ, ◌+◌, List, [], ◌∷◌, ◌++◌, length, refl, sym, ap, ◌∙◌}
 use Rattle.tape_writer.proofs.Words.{subst, inr, map, map-append, length-map, Vol1, Head1, Shape}
-use Rattle.tape_writer.proofs.Words.{Packing, Section}
-use Rattle.tape_writer.specs.declared.{course.Opened.Opened, course.Course.Course}
-use Rattle.tape_writer.specs.declared.{phase.Phase.Phase, phase.OpenFile.OpenFile}
-use Rattle.tape_writer.specs.declared.{fault.WriteFault.WriteFault, phase.Phase.TheVariants.Between}
-use Rattle.tape_writer.specs.declared.{phase.Phase.TheVariants.Filing}
-use Rattle.tape_writer.specs.declared.{phase.Phase.TheVariants.Failed}
-use Rattle.tape_writer.specs.Told.{Told, opened_by, with_record}
-use Rattle.tape_writer.specs.Inside.{IsInside, IsFiling, IsBetween, IsWaiting, IsStuck}
+use Rattle.tape_writer.proofs.{Words.Packing, Words.Section, Changed.not_nil}
 use Rattle.tape_writer.specs.State.{SetState, Stands, IsFilingLast, IsWriting, Leaves, IfFiling}
-use Rattle.tape_writer.specs.{Tapes.Tapes, Faults.IsEnding, State.IsOutOfVolumes}
-use Rattle.tape_writer.proofs.Changed.{not_nil}
+use Rattle.tape_writer.specs.{declared.course.Opened.Opened, declared.course.Course.Course}
+use Rattle.tape_writer.specs.{declared.phase.Phase.Phase, declared.phase.OpenFile.OpenFile}
+use Rattle.tape_writer.specs.{declared.fault.WriteFault.WriteFault, State.IsOutOfVolumes}
+use Rattle.tape_writer.specs.declared.phase.Phase.TheVariants.{Between, Filing, Failed}
+use Rattle.tape_writer.specs.{Told.Told, Told.opened_by, Told.with_record, Tapes.Tapes}
+use Rattle.tape_writer.specs.Inside.{IsInside, IsFiling, IsBetween, IsWaiting, IsStuck}
+use Rattle.tape_writer.specs.Faults.{IsEnding}
 use Rattle.tape_writer.specs.declared.fault.WriteFault.TheVariants as faults
 
 pub with_last : (past : List Told) (t : Told) (r : List ℕ) → with_record (past ++ t ∷ []) r

@@ -1,18 +1,16 @@
 -- Proofs of the test cases for the contents of the tapes after a refusal.
 use Rattle.tape_writer.proofs.Words.{◌≡◌, ◌≢◌, ◌⊎◌, ℕ, List, [], ◌∷◌, ◌++◌, Option, Some, IfSome}
 use Rattle.tape_writer.proofs.Words.{inl, inr, length, refl, sym, subst, AllByRecursion, TapeItem}
-use Rattle.tape_writer.proofs.Words.{Head1, Shape}
-use Rattle.tape_writer.specs.declared.fault.SetFault.{SetFault}
-use Rattle.tape_writer.specs.declared.fault.WriteFault.TheVariants.{OutOfMemory}
-use Rattle.tape_writer.specs.declared.inputs.cut.Cut.{Cut}
+use Rattle.tape_writer.proofs.{Words.Head1, Words.Shape, Fronts.front_begins}
+use Rattle.tape_writer.specs.{declared.fault.SetFault.SetFault, declared.inputs.cut.Cut.Cut}
+use Rattle.tape_writer.specs.{declared.fault.WriteFault.TheVariants.OutOfMemory, State.SetState}
 use Rattle.tape_writer.specs.declared.fault.SetFault.TheVariants.{Write, ReadFailed}
 use Rattle.tape_writer.specs.Front.{behind_steps, HoldsFront, IsLeftBehind, IsLeftWhole}
 use Rattle.tape_writer.specs.LeftOf.{IsLeftOf, IsLeftOfAll, IsLeftUnbegun}
 use Rattle.tape_writer.specs.{Records.records_of, Records.IsFirstLong, Told.Told, Told.with_file}
-use Rattle.tape_writer.specs.{State.SetState, Tapes.Tapes, Tapes.UnderWay, ToldFiles.told_files}
-use Rattle.tape_writer.specs.{ToldFiles.IfAllKnown, WriteFaults.IsOfInput}
-use Rattle.tape_writer.specs.{CasesOfFronts.CasesOfFronts}
-use Rattle.tape_writer.proofs.Fronts.{front_begins}
+use Rattle.tape_writer.specs.{Tapes.Tapes, Tapes.UnderWay, WriteFaults.IsOfInput}
+use Rattle.tape_writer.specs.ToldFiles.{told_files, IfAllKnown}
+use Rattle.tape_writer.specs.CasesOfFronts.{CasesOfFronts}
 
 not_back : (u : TapeItem) → HoldsFront (λ t. t ≡ UnderWay [] (u ∷ [])) (UnderWay [] []) → ⊥
 not_back u f =

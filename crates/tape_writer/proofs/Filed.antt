@@ -2,21 +2,19 @@
 use Rattle.tape_writer.proofs.Words.{◌≡◌, ◌≤◌, ℕ, suc, ◌+◌, List, [], ◌∷◌, ◌++◌, length, Bool, true}
 use Rattle.tape_writer.proofs.Words.{refl, sym, ap, subst, arith, if◌then◌else◌, AllByRecursion}
 use Rattle.tape_writer.proofs.Words.{Format, Portion, Filled, Section, Placed, numbered}
+use Rattle.tape_writer.proofs.Sections.{first_is, second_is, trailer_is, second_kind_is}
 use Rattle.tape_writer.proofs.Words.{blocks_of_all, least_capacity, every}
+use Rattle.tape_writer.proofs.{Sections.trailer_ends, Volumes.all_push, Volumes.numbered-push}
 use Rattle.tape_label.specs.declared.values.Format.TheVariants.{Fixed, Counted, Spanned}
-use Rattle.tape_label.specs.Head1.{IsHead1}
-use Rattle.tape_label.specs.Head2.{IsHead2}
-use Rattle.tape_label.specs.Trail1.{IsTrail1}
+use Rattle.tape_label.specs.{Head1.IsHead1, Head2.IsHead2, Trail1.IsTrail1}
 use Rattle.tape_blocks.specs.{Block.IsUnit, Block.Holds, Records.AreRecordsOf, Tight.IsWritten}
 use Rattle.tape_set.specs.Layout.{ends_file}
 use Rattle.tape_set.specs.Lawful.{Ends, FileForm, TellsForm, HasForm, binding_len, form_of}
 use Rattle.tape_set.specs.Tight.{HasPlainLabels, second_of, second_trailer}
 use Rattle.tape_set.proofs.Everywhere.{every_front, every_rest}
-use Rattle.tape_writer.specs.declared.course.Opened.{Opened}
+use Rattle.tape_writer.specs.{declared.course.Opened.Opened, Draft.IsGoing}
 use Rattle.tape_writer.specs.Labels.{IsReady, head_at, trailer_at, second_label, second_kind}
-use Rattle.tape_writer.specs.{Told.IsOfFile, Told.Told, Told.IsFiled, Told.AreFiled, Draft.IsGoing}
-use Rattle.tape_writer.proofs.Sections.{first_is, second_is, trailer_is, second_kind_is}
-use Rattle.tape_writer.proofs.{Sections.trailer_ends, Volumes.all_push, Volumes.numbered-push}
+use Rattle.tape_writer.specs.Told.{IsOfFile, Told, IsFiled, AreFiled}
 use Rattle.tape_label.specs.declared.values.Kind.TheVariants as kinds
 use Rattle.tape_blocks.specs.Tight as packing
 

@@ -5,17 +5,16 @@ use Rattle.tape_writer.proofs.Words.{map, slice_get, AllByRecursion, map-append,
 use Rattle.tape_writer.proofs.Words.{Vol1, Section, Placed, Volume, a_mark, on, all_entries}
 use Rattle.tape_writer.proofs.Words.{numbered, all_numbered, group_of, item_of, IsSection}
 use Rattle.tape_writer.proofs.Words.{IsTightChange, used_before, items_size-append, every}
-use Rattle.tape_writer.proofs.Words.{IsWideVolume}
-use Rattle.tape_writer.proofs.Words.{length-take-le}
+use Rattle.tape_writer.proofs.{Words.IsWideVolume, Words.length-take-le, Sections.vol1_is}
+use Rattle.tape_writer.proofs.Volumes.{all_push, first_next}
 use Rattle.tape_set.specs.Layout.{FileSet, nth, sections, entries_on, header_group, data_group}
-use Rattle.tape_set.specs.Layout.{items, first_items, all_items}
+use Rattle.tape_set.specs.{Layout.items, Layout.first_items, Layout.all_items, Sizes.entries_size}
 use Rattle.tape_set.specs.Tight.{IsTightEnd, AreTightFiles, EachBehind, ChainBehind, last_volume}
-use Rattle.tape_set.specs.{Sizes.entries_size, Lawful.IsVolume, Lawful.IsFile}
-use Rattle.tape_writer.specs.declared.course.Course.{Course}
-use Rattle.tape_writer.specs.Told.{labelled, IsWithin, Told, AreFiled, IsWrittenSet}
+use Rattle.tape_set.specs.Lawful.{IsVolume, IsFile}
 use Rattle.tape_writer.specs.Draft.{Draft, placed, body, first_volumes, body_items, ended_volumes}
-use Rattle.tape_writer.specs.{Tapes.Tapes, Tapes.Ended, Draft.IsDone, Draft.Between, Draft.OfLast}
-use Rattle.tape_writer.proofs.{Sections.vol1_is, Volumes.all_push, Volumes.first_next}
+use Rattle.tape_writer.specs.{declared.course.Course.Course, Tapes.Tapes, Tapes.Ended}
+use Rattle.tape_writer.specs.Told.{labelled, IsWithin, Told, AreFiled, IsWrittenSet}
+use Rattle.tape_writer.specs.Draft.{IsDone, Between, OfLast}
 
 abbrev pub set_of : List Vol1 → List ℕ → Draft → FileSet
 set_of vs set_id d =

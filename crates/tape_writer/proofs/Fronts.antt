@@ -2,16 +2,15 @@
 use Rattle.tape_writer.proofs.Words.{◌≡◌, ◌≢◌, List, [], ◌∷◌, ◌++◌, refl, sym, ap, ◌∙◌, subst}
 use Rattle.tape_writer.proofs.Words.{append_assoc, inl, inr, ◌⊎◌, IfErr, Result, Ok, Err}
 use Rattle.tape_writer.proofs.Words.{append-nil, TapeItem, ℕ, Vol1, Packing, Section}
-use Rattle.tape_writer.specs.declared.{fault.WriteFault.WriteFault, course.Opened.Opened}
-use Rattle.tape_writer.specs.declared.{course.Course.Course, phase.Phase.Phase}
-use Rattle.tape_writer.specs.declared.{phase.Phase.TheVariants.Between}
-use Rattle.tape_writer.specs.declared.{phase.Phase.TheVariants.Filing}
-use Rattle.tape_writer.specs.Tapes.{Tapes, Ended, UnderWay, all_volumes, Takes, Keeps}
 use Rattle.tape_writer.specs.Front.{Step, Item, Change, Close, behind_step, behind_steps}
+use Rattle.tape_writer.specs.{declared.fault.WriteFault.WriteFault, declared.course.Opened.Opened}
+use Rattle.tape_writer.specs.{declared.course.Course.Course, declared.phase.Phase.Phase, Told.Told}
+use Rattle.tape_writer.specs.declared.phase.Phase.TheVariants.{Between, Filing}
+use Rattle.tape_writer.specs.Tapes.{Tapes, Ended, UnderWay, all_volumes, Takes, Keeps}
 use Rattle.tape_writer.specs.Front.{HoldsFront, IsInLast, IsLeftBehind}
 use Rattle.tape_writer.specs.Inside.{IsInside, IsPacking, IsFlat, IsWaiting}
-use Rattle.tape_writer.specs.State.{SetState, Stands, IsWriting}
-use Rattle.tape_writer.specs.{Told.Told, Draft.Draft, Draft.IsOpen, Refusals.IsInFile}
+use Rattle.tape_writer.specs.{State.SetState, State.Stands, State.IsWriting, Refusals.IsInFile}
+use Rattle.tape_writer.specs.Draft.{Draft, IsOpen}
 use Rattle.tape_writer.specs.declared.fault.WriteFault.TheVariants as faults
 
 behind-append : (a b : List Step) (t : Tapes)

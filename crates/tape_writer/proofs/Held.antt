@@ -1,25 +1,22 @@
 -- The steps of the writer, with the contents of the tapes.
-use Rattle.tape_writer.proofs.Words.{◌≡◌, ◌<◌, ◌≤◌, ℕ, ◌+◌, List, [], ◌∷◌, ◌++◌, length}
-use Rattle.tape_writer.proofs.Words.{true, false, Some, refl, sym, ap, ◌∙◌, subst, append_assoc}
-use Rattle.tape_writer.proofs.Words.{arith, get_or, map, slice_get, OnOk, Result, Ok, Err}
-use Rattle.tape_writer.proofs.Words.{option_map, append-nil, length-map, Vol1, TapeItem, block}
-use Rattle.tape_writer.proofs.Words.{mark, Filled, Section, blocks_of_all, item_size, IsWideVolume}
-use Rattle.tape_writer.proofs.Words.{lt-leb, every_at, AllByRecursion, least_capacity, Packing}
-use Rattle.tape_writer.proofs.Words.{Given, IsWritable, Shape}
-use Rattle.std.proofs.lemmas.{Option.slice_get-map, Grind.flat_map-append}
-use Rattle.std.proofs.lemmas.Option.{slice_get_within, slice_get-get_or}
-use Rattle.tape_writer.specs.declared.{course.Opened.Opened, course.Course.Course}
-use Rattle.tape_writer.specs.declared.{fault.WriteFault.WriteFault}
-use Rattle.tape_writer.specs.Labels.{trailer_items}
+use Rattle.tape_writer.proofs.Words.{◌≡◌, ◌<◌, ◌≤◌, ℕ, ◌+◌, List, [], ◌∷◌, ◌++◌, length, true}
+use Rattle.tape_writer.proofs.Words.{false, Some, refl, sym, ap, ◌∙◌, subst, append_assoc, arith}
+use Rattle.tape_writer.proofs.Words.{get_or, map, slice_get, OnOk, Result, Ok, Err, option_map}
+use Rattle.tape_writer.proofs.Words.{append-nil, length-map, Vol1, TapeItem, block, mark, Filled}
+use Rattle.tape_writer.proofs.Words.{Section, blocks_of_all, item_size, IsWideVolume, lt-leb}
+use Rattle.tape_writer.proofs.Words.{every_at, AllByRecursion, least_capacity, Packing, Given}
+use Rattle.tape_writer.proofs.{Words.IsWritable, Words.Shape, Sections.ends_by, Sections.of_file}
+use Rattle.tape_writer.proofs.Changed.{changed, ended_changed, open_changed}
+use Rattle.tape_writer.proofs.Steps.{added_here, added_next, open_added, ended}
+use Rattle.std.proofs.lemmas.Option.{slice_get-map, slice_get_within, slice_get-get_or}
+use Rattle.std.proofs.lemmas.Grind.{flat_map-append}
 use Rattle.tape_writer.specs.Draft.{Draft, open_blocks, closing, here, body_items, open_items}
 use Rattle.tape_writer.specs.Draft.{ended_volumes, Within, Steady, changed_draft, changed_course}
 use Rattle.tape_writer.specs.Draft.{ended_draft, added_draft, added_course, ended_course, IsOpen}
-use Rattle.tape_writer.specs.Draft.{Closed, changed_tapes}
-use Rattle.tape_writer.specs.Inside.{Flushed}
-use Rattle.tape_writer.specs.{Tapes.Tapes, Tapes.UnderWay, Tapes.Takes, Told.labelled}
-use Rattle.tape_writer.proofs.Sections.{ends_by, of_file}
-use Rattle.tape_writer.proofs.Changed.{changed, ended_changed, open_changed}
-use Rattle.tape_writer.proofs.Steps.{added_here, added_next, open_added, ended}
+use Rattle.tape_writer.specs.{declared.course.Opened.Opened, declared.course.Course.Course}
+use Rattle.tape_writer.specs.{declared.fault.WriteFault.WriteFault, Labels.trailer_items}
+use Rattle.tape_writer.specs.{Draft.Closed, Draft.changed_tapes, Inside.Flushed, Told.labelled}
+use Rattle.tape_writer.specs.Tapes.{Tapes, UnderWay, Takes}
 
 pub label_at : (vs : List Vol1) (k : ℕ) (v : Vol1) → slice_get vs k ≡ Some v
     → slice_get (map labelled vs) k ≡ Some (labelled v)

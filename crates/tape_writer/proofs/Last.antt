@@ -3,8 +3,7 @@ use Rattle.tape_writer.proofs.Words.{◌≡◌, ◌≤◌, ℕ, ◌+◌, List, [
 use Rattle.tape_writer.proofs.Words.{append_assoc, arith, inl, inr, append-nil, TapeItem, item_size}
 use Rattle.tape_writer.proofs.Words.{items_size-append, Vol1}
 use Rattle.tape_writer.specs.Tapes.{Tapes, UnderWay, Rose, Failures, Grows, WasAsked}
-use Rattle.tape_writer.specs.Lasting.{Lasting}
-use Rattle.tape_writer.specs.Lasting.{Lasts, LastsFirst}
+use Rattle.tape_writer.specs.Lasting.{Lasting, Lasts, LastsFirst}
 
 pub rose_from : (a b c : ℕ) → a ≤ b → Rose b c → Rose a c
 rose_from a b c le (inl lt) = inl (omega arith)

@@ -3,21 +3,20 @@
 use Rattle.tape_writer.proofs.Words.{◌≡◌, ◌≢◌, ◌≤◌, ℕ, ◌+◌, List, [], ◌∷◌, ◌++◌, length, refl, sym}
 use Rattle.tape_writer.proofs.Words.{ap, ◌∙◌, subst, inl, inr, arith, drop, IfErr, Result, Ok, Err}
 use Rattle.tape_writer.proofs.Words.{length-map, Vol1, Head1, Shape, Portion, Packing, IsJudged}
-use Rattle.tape_writer.proofs.Words.{Offers, emptied, Section, least_capacity}
-use Rattle.tape_blocks.specs.declared.offer.Offer.TheVariants.{BlockReady}
-use Rattle.tape_writer.specs.declared.course.Opened.{Opened}
-use Rattle.tape_writer.specs.declared.course.Course.{Course}
-use Rattle.tape_writer.specs.declared.fault.WriteFault.{WriteFault}
-use Rattle.tape_writer.specs.declared.phase.OpenFile.{OpenFile}
-use Rattle.tape_writer.specs.declared.phase.Phase.TheVariants.{Between, Filing}
-use Rattle.tape_writer.specs.Told.{Told, AreFiled, IsWrittenSet, opened_by, with_record}
-use Rattle.tape_writer.specs.Inside.{IsInside, IsPacking, IsFlat, Flushed, IsBetween, IsFiling}
-use Rattle.tape_writer.specs.Front.{HoldsFront, IsMidRecord, IsPartly, IsInLast, IsEndingLast}
-use Rattle.tape_writer.specs.{Tapes.Tapes, Tapes.Ended, State.SetState, State.IsWriting}
-use Rattle.tape_writer.specs.{Draft.Draft, Draft.IsOpen, Draft.Closed, Inside.IsWaiting}
 use Rattle.tape_writer.proofs.Fronts.{front_here, is_out, inside_left, packing_left, flat_left}
-use Rattle.tape_writer.proofs.{Changed.not_nil, Packed.packing_with, Packed.flat_with}
-use Rattle.tape_writer.proofs.{Ends.between_with, Fronts.waits, Calls.last_told, Calls.put_last}
+use Rattle.tape_writer.proofs.Words.{Offers, emptied, Section, least_capacity}
+use Rattle.tape_writer.proofs.{Fronts.waits, Changed.not_nil, Packed.packing_with, Packed.flat_with}
+use Rattle.tape_writer.proofs.{Ends.between_with, Calls.last_told, Calls.put_last}
+use Rattle.tape_blocks.specs.declared.offer.Offer.TheVariants.{BlockReady}
+use Rattle.tape_writer.specs.Inside.{IsInside, IsPacking, IsFlat, Flushed, IsBetween, IsFiling}
+use Rattle.tape_writer.specs.{declared.course.Opened.Opened, declared.course.Course.Course}
+use Rattle.tape_writer.specs.{declared.fault.WriteFault.WriteFault, Inside.IsWaiting}
+use Rattle.tape_writer.specs.{declared.phase.OpenFile.OpenFile, Tapes.Tapes, Tapes.Ended}
+use Rattle.tape_writer.specs.declared.phase.Phase.TheVariants.{Between, Filing}
+use Rattle.tape_writer.specs.Told.{Told, AreFiled, opened_by, with_record}
+use Rattle.tape_writer.specs.Front.{HoldsFront, IsMidRecord, IsPartly, IsInLast, IsEndingLast}
+use Rattle.tape_writer.specs.State.{SetState, IsWriting}
+use Rattle.tape_writer.specs.Draft.{Draft, IsOpen, Closed}
 use Rattle.tape_writer.specs.declared.fault.WriteFault.TheVariants as faults
 
 -- ---- inside a file
@@ -138,11 +137,12 @@ unbegun H vs cap set_id course told none (inl (begun, held, empty)) = (held, emp
 unbegun H vs cap set_id course told none (inr (k, some)) =
     absurd (omega (arith, none, k.resting.between.volume))
 
+-- afterwards the writer is between two files
 pub is_begun : (H : Tapes → Type 0) (vs : List Vol1) (cap : ℕ) (set_id : List ℕ) (course : Course)
     (told : List Told) → (course.volume ≡ 0 → ⊥) → IsWaiting H vs cap set_id course told
-    → IsBetween H vs cap set_id course told
+    → IsBetween H vs cap set_id course told × (told ≢ [])
 is_begun H vs cap set_id course told some (inl (none, held, empty)) = absurd (some none)
-is_begun H vs cap set_id course told some (inr (k, many)) = k
+is_begun H vs cap set_id course told some (inr k) = k
 
 -- ---- the writer's calls
 
@@ -219,18 +219,3 @@ left_begin H H' w vs file p told head shape is v same filing k =
     (told ++ record { file = z; records = [] } ∷ [])) named
     (subst (λ z. IsInLast (HoldsFront H') z w.capacity w.set_id
     (told ++ record { file = file; records = [] } ∷ [])) v left)
-
-pub left_finish : {T : Type 0} (H H' : Tapes → Type 0) (w : SetState T) (vs : List Vol1)
-    (told : List Told) → w.phase ≡ Between → vs ≡ w.volumes → w.course.volume ≢ 0
-    → (told ≢ [] → IsBetween H vs w.capacity w.set_id w.course told
-    → IsWrittenSet (HoldsFront H') vs w.capacity w.set_id told)
-    → IsWriting H w told → IsWrittenSet (HoldsFront H') w.volumes w.capacity w.set_id told
-left_finish H H' w vs told is v some written k =
-    subst (λ z. IsWrittenSet (HoldsFront H') z w.capacity w.set_id told) v
-    (go (subst (λ z. IsWaiting H z w.capacity w.set_id w.course told) (sym v)
-    (waits H w told is k)))
-  where
-    go : IsWaiting H vs w.capacity w.set_id w.course told
-        → IsWrittenSet (HoldsFront H') vs w.capacity w.set_id told
-    go (inl (begun, held, empty)) = absurd (some begun)
-    go (inr (between, any)) = written any between

@@ -1,18 +1,16 @@
 -- The bytes of a record, in one block after another.
-use Rattle.tape_writer.proofs.Words.{◌≡◌, ◌≢◌, ℕ, List, [], ◌∷◌, ◌++◌, length, false}
-use Rattle.tape_writer.proofs.Words.{None, refl, sym, ap, ◌∙◌, subst, inl, inr, drop}
-use Rattle.tape_writer.proofs.Words.{◌⊎◌, Vol1, Shape, Portion, Filled}
-use Rattle.tape_writer.proofs.Words.{Packing, IsJudged, HasRecordLength, Offers}
-use Rattle.tape_writer.proofs.Words.{emptied, offers_shape, Section}
+use Rattle.tape_writer.proofs.Words.{◌≡◌, ◌≢◌, ℕ, List, [], ◌∷◌, ◌++◌, length, false, None, refl}
+use Rattle.tape_writer.proofs.Words.{sym, ap, ◌∙◌, subst, inl, inr, drop, ◌⊎◌, Vol1, Shape, Portion}
+use Rattle.tape_writer.proofs.Words.{Filled, Packing, IsJudged, HasRecordLength, Offers, emptied}
+use Rattle.tape_writer.proofs.{Words.offers_shape, Words.Section, Volumes.all_push}
 use Rattle.tape_blocks.specs.declared.offer.Offer.TheVariants.{Taken, BlockReady}
 use Rattle.tape_blocks.specs.Run.{Going}
 use Rattle.tape_blocks.proofs.RunLaws.{filled_of, going_length, going_ends, going_block, run_last}
 use Rattle.tape_blocks.proofs.RunLaws.{run_none}
-use Rattle.tape_writer.specs.declared.{course.Opened.Opened, course.Course.Course}
-use Rattle.tape_writer.specs.declared.{tape.Tape.Tape}
-use Rattle.tape_writer.specs.{Tapes.Tapes, Draft.Draft, Draft.IsOpen, Draft.open_blocks}
-use Rattle.tape_writer.specs.{Inside.IsInside, Inside.IsPacking, Inside.Flushed, Inside.IsFlat}
-use Rattle.tape_writer.proofs.Volumes.{all_push}
+use Rattle.tape_writer.specs.{declared.course.Opened.Opened, declared.course.Course.Course}
+use Rattle.tape_writer.specs.{declared.tape.Tape.Tape, Tapes.Tapes}
+use Rattle.tape_writer.specs.Draft.{Draft, IsOpen, open_blocks}
+use Rattle.tape_writer.specs.Inside.{IsInside, IsPacking, Flushed, IsFlat}
 use Rattle.tape_blocks.specs.Tight as packing
 
 -- ---- the records of a file

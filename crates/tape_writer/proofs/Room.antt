@@ -4,17 +4,14 @@ use Rattle.tape_writer.proofs.Words.{length, Bool, true, false, refl, sym, ap, s
 use Rattle.tape_writer.proofs.Words.{length-append, Result, Ok, Err, OnOk, block, Format, Shape}
 use Rattle.tape_writer.proofs.Words.{Portion, Packing, Given, IsJudged, IsWritable, HasRecordLength}
 use Rattle.tape_writer.proofs.Words.{Offers, emptied, item_size}
-use Rattle.std.proofs.Common.{◌*◌, replicate}
-use Rattle.std.proofs.Math.Nat.{add-mul}
-use Rattle.std.proofs.lemmas.List.{length-replicate}
+use Rattle.std.proofs.{Common.◌*◌, Common.replicate, lemmas.List.length-replicate}
 use Rattle.tape_label.specs.declared.values.Format.TheVariants.{Fixed, Counted, Spanned}
 use Rattle.tape_blocks.specs.declared.offer.Offer.TheVariants.{Taken, BlockReady}
-use Rattle.tape_blocks.specs.Block.{spellings, head_len}
-use Rattle.tape_blocks.specs.Spans.{span_of}
+use Rattle.tape_blocks.specs.{Block.spellings, Block.head_len, Spans.span_of}
 use Rattle.tape_blocks.specs.Packing.{HasWritableRecords, size_of, padded_len}
 use Rattle.tape_blocks.proofs.PackLaws.{size_push}
-use Rattle.tape_writer.specs.declared.{course.Course.Course, fault.WriteFault.WriteFault}
-use Rattle.tape_writer.specs.{Draft.added_course, Draft.changed_course, Room.room_of}
+use Rattle.tape_writer.specs.{declared.course.Course.Course, declared.fault.WriteFault.WriteFault}
+use Rattle.tape_writer.specs.{Draft.added_course, Room.room_of}
 
 -- a block is at least as long as its parts
 given_size : (p : Packing) (text : List ℕ) → Given p text → size_of p.shape p.parts ≤ length text
@@ -32,13 +29,6 @@ given_size p text given =
       length-replicate {A = ℕ} p.shape.offset 32,
     )
 
--- one volume fewer
-volume_less : (vs v w m : ℕ) → w ≡ v + 1 → w ≤ vs → (vs - v) * m ≡ (vs - w) * m + m
-volume_less vs v w m e few =
-    let one : vs - v ≡ (vs - w) + 1 = omega (arith, e, few) in
-    let product : 1 * m ≡ m = omega arith in
-    ap (λ k. k * m) one ∙ add-mul (vs - w) 1 m ∙ ap (λ k. (vs - w) * m + k) product
-
 -- writing a block uses up room, in the current section
 pub flushed_here : (vs cap : ℕ) (old new : Course) (p q : Packing) (text : List ℕ)
     (r : Result (Unit {0}) WriteFault) → Given p text → q ≡ emptied p
@@ -53,27 +43,6 @@ flushed_here vs cap old new p q text (Ok x) given is fits course =
     = ap (λ k. (vs - k.volume) * m) course in
     let used : new.used ≡ old.used + item_size (block text) = ap (λ k. k.used) course in
     omega (arith, product, used, fits, given_size p text given, given.within))
-
--- and on the next volume
-pub flushed_next : (vs cap : ℕ) (old one new : Course) (p q : Packing) (text : List ℕ)
-    (r : Result (Unit {0}) WriteFault) → Given p text → q ≡ emptied p → old.volume < vs
-    → one ≡ changed_course old → OnOk r (new ≡ added_course one (item_size (block text)))
-    → OnOk r (room_of vs cap new q ≤ room_of vs cap old p)
-flushed_next vs cap old one new p q text (Err e) given is left changed course = tt
-flushed_next vs cap old one new p q text (Ok x) given is left changed course =
-    subst (λ z. room_of vs cap new z ≤ room_of vs cap old p) (sym is)
-    (let next : new.volume ≡ old.volume + 1
-    = ap (λ k. k.volume) course ∙ ap (λ k. k.volume) changed in
-    let product = volume_less vs old.volume new.volume (cap + p.shape.block_len) next
-    (omega (arith, next, left)) in
-    omega (arith, product))
-
--- there was no current block
-pub none_room : (vs cap : ℕ) (course : Course) (p q : Packing) → p.parts ≡ [] → q ≡ emptied p
-    → room_of vs cap course q ≤ room_of vs cap course p
-none_room vs cap course p q none is =
-    let size : size_of p.shape p.parts ≡ size_of p.shape [] = ap (size_of p.shape) none in
-    subst (λ z. room_of vs cap course z ≤ room_of vs cap course p) (sym is) (omega (arith, size))
 
 -- an offer that closes the block does not increase the room
 pub offered_room : (vs cap : ℕ) (course : Course) (p q : Packing) (rest : List ℕ) (n : ℕ)

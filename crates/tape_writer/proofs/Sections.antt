@@ -5,27 +5,25 @@ use Rattle.tape_writer.proofs.Words.{◌++◌, length, sym, ap, ◌∙◌, subst
 use Rattle.tape_writer.proofs.Words.{AllByRecursion, map-append, block, Filled, Placed, Section}
 use Rattle.tape_writer.proofs.Words.{Volume, on, all_entries, section_entries, item_of, group_of}
 use Rattle.tape_writer.proofs.Words.{item_size, items_size, IsSection, used_before}
-use Rattle.tape_label.specs.Kinds.{identifier, trailer, IsSecond}
-use Rattle.tape_label.specs.{declared.values.Kind.Kind, declared.values.Trail1.Trail1}
-use Rattle.tape_label.specs.{declared.values.Format.TheVariants.Fixed}
-use Rattle.tape_label.specs.{declared.values.Format.TheVariants.Counted}
-use Rattle.tape_label.specs.{declared.values.Format.TheVariants.Spanned, Formats.least_record}
-use Rattle.tape_label.specs.{Positions.positions, Vol1.IsVol1, Head1.IsHead1, Head2.IsHead2}
-use Rattle.tape_label.specs.{Head2.Head2Fits, Trail1.IsTrail1, Reading.begins_as, Widths.IsWide}
+use Rattle.tape_writer.proofs.Volumes.{data_items}
+use Rattle.tape_label.specs.{Kinds.identifier, Kinds.trailer, Kinds.IsSecond, Formats.least_record}
+use Rattle.tape_label.specs.{declared.values.Kind.Kind, declared.values.Trail1.Trail1, Vol1.IsVol1}
+use Rattle.tape_label.specs.declared.values.Format.TheVariants.{Fixed, Counted, Spanned}
+use Rattle.tape_label.specs.{Positions.positions, Head1.IsHead1, Head2.IsHead2, Head2.Head2Fits}
+use Rattle.tape_label.specs.{Trail1.IsTrail1, Reading.begins_as, Widths.IsWide}
 use Rattle.tape_label.proofs.Texts.{vol1_text_is, head1_text_is, head2_text_is, trail1_text_is}
 use Rattle.tape_label.proofs.Widths.{vol1_wide, head_wide, head2_wide}
 use Rattle.tape_blocks.specs.Packing.{HasWritableRecords}
 use Rattle.tape_set.specs.Layout.{nth, header_group, data_group, trailer_group, up_to_data}
-use Rattle.tape_set.specs.{Tight.second_of, Layout.ends_file, Sizes.entries_size}
-use Rattle.tape_set.specs.{Lawful.most_blocks}
-use Rattle.tape_writer.specs.declared.{course.Opened.Opened, course.Course.Course}
+use Rattle.tape_set.specs.{Layout.ends_file, Tight.second_of, Sizes.entries_size}
+use Rattle.tape_set.specs.Lawful.{most_blocks}
 use Rattle.tape_writer.specs.Labels.{IsReady, head_at, trailer_at, volume_label, first_label}
 use Rattle.tape_writer.specs.Labels.{second_label, trailer_label, header_items, trailer_items}
-use Rattle.tape_writer.specs.Draft.{data_item, closing, here, body}
+use Rattle.tape_writer.specs.{declared.course.Opened.Opened, declared.course.Course.Course}
 use Rattle.tape_writer.specs.{Labels.second_kind, Told.IsOfFile}
+use Rattle.tape_writer.specs.Draft.{data_item, closing, here, body}
 use Rattle.tape_image.specs.Tape.{IsTapeItem}
 use Rattle.tape_set.proofs.Everywhere.{every-append}
-use Rattle.tape_writer.proofs.Volumes.{data_items}
 use Rattle.tape_label.specs.declared.values.Kind.TheVariants as kinds
 
 -- ---- labels

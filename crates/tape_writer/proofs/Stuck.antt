@@ -2,15 +2,14 @@
 use Rattle.tape_writer.proofs.Words.{◌≡◌, ◌<◌, ◌≤◌, ℕ, ◌+◌, List, [], ◌∷◌, ◌++◌, length, false}
 use Rattle.tape_writer.proofs.Words.{None, refl, sym, ap, ◌∙◌, subst, arith, drop, AllByRecursion}
 use Rattle.tape_writer.proofs.Words.{append-nil, Vol1, Shape, Portion, Filled, Packing, Given}
-use Rattle.tape_writer.proofs.Words.{IsJudged, Offers, offers_shape, Section}
-use Rattle.tape_writer.proofs.Words.{lt-leb}
+use Rattle.tape_writer.proofs.Words.{IsJudged, Offers, offers_shape, Section, lt-leb}
 use Rattle.tape_blocks.specs.Spans.{InOrder, Joined, span_of, join}
 use Rattle.tape_blocks.specs.{declared.offer.Offer.TheVariants.BlockReady, Run.Run, Run.Going}
-use Rattle.tape_blocks.specs.{Tight.parts_of_all}
+use Rattle.tape_blocks.specs.Tight.{parts_of_all}
 use Rattle.tape_blocks.proofs.RunLaws.{filled_of, going_block, run_last}
 use Rattle.tape_blocks.proofs.{JoinLaws.join_ends, JoinLaws.leaves_of, LongerRuns.order_part}
-use Rattle.tape_blocks.proofs.{TightLaws.chain_of}
-use Rattle.tape_writer.specs.declared.{course.Opened.Opened, course.Course.Course}
+use Rattle.tape_blocks.proofs.TightLaws.{chain_of}
+use Rattle.tape_writer.specs.{declared.course.Opened.Opened, declared.course.Course.Course}
 use Rattle.tape_writer.specs.Inside.{IsInside, IsPacking, IsFlat, IsStuck, IsLeftOut, Continues}
 use Rattle.tape_writer.specs.{Tapes.Tapes, Draft.open_blocks}
 use Rattle.tape_blocks.specs.Tight as packing

@@ -5,19 +5,18 @@ use Rattle.tape_image.specs.Tape.{TapeItem}
 use Rattle.tape_label.specs.{declared.values.Head1.Head1, declared.values.Vol1.Vol1}
 use Rattle.tape_blocks.specs.{declared.parts.Shape.Shape, Packing.Packing}
 use Rattle.tape_set.specs.Layout.{Section}
-use Rattle.tape_writer.specs.declared.{course.Course.Course, course.Opened.Opened}
-use Rattle.tape_writer.specs.declared.{inputs.cut.Cut.Cut, inputs.set.SetPlan.SetPlan}
-use Rattle.tape_writer.specs.declared.{fault.SetFault.SetFault, fault.SetFault.TheVariants.Write}
-use Rattle.tape_writer.specs.declared.{fault.SetFault.TheVariants.ReadFailed}
-use Rattle.tape_writer.specs.declared.{fault.WriteFault.TheVariants.OutOfMemory}
-use Rattle.tape_writer.specs.declared.{fault.WriteFault.TheVariants.RecordLength}
-use Rattle.tape_writer.specs.Inside.{IsInside, IsPacking, IsFlat, IsWaiting}
-use Rattle.tape_writer.specs.Told.{Told, AreFiled, IsWrittenSet, with_file}
 use Rattle.tape_writer.specs.Front.{Item, Change, Close, behind_steps, HoldsFront, IsMidRecord}
 use Rattle.tape_writer.specs.Front.{IsPartly, IsInLast, IsEndingLast, IsLeftInside, IsLeftBehind}
+use Rattle.tape_writer.specs.{declared.course.Course.Course, declared.course.Opened.Opened}
+use Rattle.tape_writer.specs.{declared.inputs.cut.Cut.Cut, declared.inputs.set.SetPlan.SetPlan}
+use Rattle.tape_writer.specs.{declared.fault.SetFault.SetFault, Front.IsLeftWhole, State.SetState}
+use Rattle.tape_writer.specs.declared.fault.SetFault.TheVariants.{Write, ReadFailed}
+use Rattle.tape_writer.specs.declared.fault.WriteFault.TheVariants.{OutOfMemory, RecordLength}
+use Rattle.tape_writer.specs.Inside.{IsInside, IsPacking, IsFlat, IsWaiting}
+use Rattle.tape_writer.specs.Told.{Told, AreFiled, IsWrittenSet, with_file}
 use Rattle.tape_writer.specs.LeftOf.{IsLeftOf, IsLeftIn, IsLeftOfAll, IsLeftSet, IsLeftUnbegun}
-use Rattle.tape_writer.specs.{Records.records_of, State.SetState, ToldFiles.with_records}
-use Rattle.tape_writer.specs.{Tapes.Tapes, Tapes.Ended, Tapes.UnderWay, Front.IsLeftWhole}
+use Rattle.tape_writer.specs.{Records.records_of, ToldFiles.with_records}
+use Rattle.tape_writer.specs.Tapes.{Tapes, Ended, UnderWay}
 
 -- prefixes, and contents that remain
 pub record CasesOfFronts : Type 0 where

@@ -3,10 +3,9 @@ use Rattle.std.specs.Prelude.{◌≡◌, ◌⊎◌, ℕ, List, [], ◌++◌, Res
 use Rattle.tape_image.specs.Tape.{TapeItem}
 use Rattle.tape_label.specs.declared.values.Vol1.{Vol1}
 use Rattle.tape_set.specs.Sizes.{items_size}
-use Rattle.tape_writer.specs.declared.{fault.WriteFault.WriteFault, out.TapeOut.Ghosts}
-use Rattle.tape_writer.specs.declared.{tape.Tape.Tape}
-use Rattle.tape_writer.specs.Tapes.{Tapes, UnderWay, Failures, Grows, WasAsked}
-use Rattle.tape_writer.specs.Tapes.{Ended}
+use Rattle.tape_writer.specs.{declared.fault.WriteFault.WriteFault, declared.out.TapeOut.Ghosts}
+use Rattle.tape_writer.specs.declared.tape.Tape.{Tape}
+use Rattle.tape_writer.specs.Tapes.{Tapes, UnderWay, Failures, Grows, WasAsked, Ended}
 
 -- There is a current volume of the counted size, and the given volumes ended first.
 pub record Lasts (H : Tapes → Type 0) (used : ℕ) (volumes : List (List TapeItem)) : Type 0 where

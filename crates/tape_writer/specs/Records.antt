@@ -5,8 +5,7 @@ use Rattle.std.specs.Io.KnownBytes.{prepend_known}
 use Rattle.tape_label.specs.declared.values.Format.{Format}
 use Rattle.tape_label.specs.declared.values.Format.TheVariants.{Fixed, Counted, Spanned}
 use Rattle.tape_blocks.specs.declared.parts.Shape.{Shape}
-use Rattle.tape_writer.specs.declared.inputs.cut.Cut.{Cut}
-use Rattle.tape_writer.specs.declared.inputs.records.Records.{Records}
+use Rattle.tape_writer.specs.{declared.inputs.cut.Cut.Cut, declared.inputs.records.Records.Records}
 use Rattle.tape_writer.specs.declared.inputs.cut.Cut.TheVariants.{Lines, Length, Whole}
 
 -- The maximum length of a record, by format and record length. In format D the record length

@@ -8,16 +8,13 @@ use Rattle.tape_set.specs.Tight.{least_capacity}
 use Rattle.tape_writer.specs.declared.fault.WriteFault.TheVariants.{BadField, BadShape, NoFile}
 use Rattle.tape_writer.specs.declared.fault.WriteFault.TheVariants.{CapacityTooSmall, TooMany}
 use Rattle.tape_writer.specs.declared.fault.WriteFault.TheVariants.{RecordLength, OutOfVolumes}
-use Rattle.tape_writer.specs.declared.{phase.Phase.Phase, phase.OpenFile.OpenFile}
-use Rattle.tape_writer.specs.declared.{phase.Phase.TheVariants.Filing, course.Opened.Opened}
-use Rattle.tape_writer.specs.declared.{fault.WriteFault.WriteFault}
-use Rattle.tape_writer.specs.declared.{fault.WriteFault.TheVariants.Device}
-use Rattle.tape_writer.specs.declared.{fault.WriteFault.TheVariants.OutOfMemory}
-use Rattle.tape_writer.specs.declared.phase.Phase.TheVariants.{Between, Failed, Finished}
-use Rattle.tape_writer.specs.declared.fault.WriteFault.TheVariants.{FileBegun}
-use Rattle.tape_writer.specs.declared.fault.WriteFault.TheVariants as faults
+use Rattle.tape_writer.specs.declared.fault.WriteFault.TheVariants.{Device, OutOfMemory, FileBegun}
+use Rattle.tape_writer.specs.{declared.phase.Phase.Phase, declared.phase.OpenFile.OpenFile}
+use Rattle.tape_writer.specs.declared.phase.Phase.TheVariants.{Filing, Between, Failed, Finished}
+use Rattle.tape_writer.specs.{declared.course.Opened.Opened, declared.fault.WriteFault.WriteFault}
 use Rattle.tape_writer.specs.Fields.{IsText, IsTextVolume, IsTextHead}
 use Rattle.tape_writer.specs.State.{HasLength}
+use Rattle.tape_writer.specs.declared.fault.WriteFault.TheVariants as faults
 
 -- the given file is the current file
 abbrev pub IsInFile : Opened → Phase → Type 0

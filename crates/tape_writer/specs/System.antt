@@ -1,7 +1,6 @@
 -- The names of files in their directories, and why a set was not written to image files.
 use Rattle.std.specs.Prelude.{◌≡◌, ◌≢◌, ◌⊎◌, ◌<◌, ℕ, List, [], ◌∷◌, ◌++◌, length, get_or, codes}
-use Rattle.std.specs.Prelude.{Bool, true, false}
-use Rattle.std.specs.declared.io.ErrorKind.{ErrorKind}
+use Rattle.std.specs.{Prelude.Bool, Prelude.true, Prelude.false, declared.io.ErrorKind.ErrorKind}
 use Rattle.std.specs.declared.io.ErrorKind.TheVariants.{InvalidInput, Unsupported}
 use Rattle.tape_writer.specs.declared.fault.SetFault.{SetFault}
 use Rattle.tape_writer.specs.declared.system.fault.SystemFault.{SystemFault}

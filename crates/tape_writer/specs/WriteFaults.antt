@@ -5,14 +5,13 @@ use Rattle.tape_label.specs.declared.values.Head1.{Head1}
 use Rattle.tape_blocks.specs.{declared.parts.Shape.Shape, Packing.HasRecordLength}
 use Rattle.tape_writer.specs.declared.fault.WriteFault.TheVariants.{BadShape, RecordLength}
 use Rattle.tape_writer.specs.declared.fault.WriteFault.TheVariants.{OutOfVolumes, Device}
-use Rattle.tape_writer.specs.declared.{fault.WriteFault.WriteFault, fault.SetFault.SetFault}
-use Rattle.tape_writer.specs.declared.{inputs.cut.Cut.Cut, inputs.records.InputFault.InputFault}
-use Rattle.tape_writer.specs.declared.{inputs.set.SetPlan.SetPlan}
-use Rattle.tape_writer.specs.declared.{fault.WriteFault.TheVariants.OutOfMemory}
-use Rattle.tape_writer.specs.declared.{fault.SetFault.TheVariants.Write}
-use Rattle.tape_writer.specs.declared.{fault.SetFault.TheVariants.ReadFailed}
+use Rattle.tape_writer.specs.{declared.fault.WriteFault.TheVariants.OutOfMemory, Records.records_of}
+use Rattle.tape_writer.specs.{declared.fault.WriteFault.WriteFault, declared.inputs.cut.Cut.Cut}
+use Rattle.tape_writer.specs.{declared.fault.SetFault.SetFault, declared.inputs.set.SetPlan.SetPlan}
+use Rattle.tape_writer.specs.{declared.inputs.records.InputFault.InputFault, WriteSet.cut_of}
+use Rattle.tape_writer.specs.declared.fault.SetFault.TheVariants.{Write, ReadFailed}
 use Rattle.tape_writer.specs.Refusals.{IsNewFault, IsBeginFault, IsFinishFault}
-use Rattle.tape_writer.specs.{Records.records_of, Tapes.Failures, Tapes.Rose, WriteSet.cut_of}
+use Rattle.tape_writer.specs.Tapes.{Failures, Rose}
 use Rattle.tape_writer.specs.declared.inputs.records.InputFault.TheVariants as inputs
 
 -- the fault that is returned for the fault of an input

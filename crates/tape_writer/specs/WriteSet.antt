@@ -1,7 +1,6 @@
 -- The result of `write_set`.
 use Rattle.std.specs.Prelude.{ℕ, List, Bool, Option, Some, None}
-use Rattle.tape_label.specs.declared.values.Format.{Format}
-use Rattle.tape_label.specs.declared.values.Vol1.{Vol1}
+use Rattle.tape_label.specs.{declared.values.Format.Format, declared.values.Vol1.Vol1}
 use Rattle.tape_label.specs.declared.values.Format.TheVariants.{Fixed, Counted, Spanned}
 use Rattle.tape_blocks.specs.{declared.parts.Shape.Shape, declared.parts.Form.Form}
 use Rattle.tape_writer.specs.{Images.AreImages, Told.Told, Told.IsWrittenSet}

@@ -1,8 +1,7 @@
 //! Blank volumes: their labels, made from a prefix and a number, and their images.
 ghost use Rattle.std.specs.Prelude.{◌≡◌, ◌<◌, ◌≤◌, ◌+◌, ◌++◌, ◌↔◌, length, IsSome, IfSome, IsTrue};
 ghost use Rattle.arrayvec.specs.ArrayVec.{array_vec_len};
-ghost use Rattle.tape_writer.specs.Blank.{IsPrefixByte, IsPrefix, blank_volume};
-ghost use Rattle.tape_writer.specs.Blank.{blank_image};
+ghost use Rattle.tape_writer.specs.Blank.{IsPrefixByte, IsPrefix, blank_volume, blank_image};
 
 use arrayvec::ArrayVec;
 use tape_label::{Field, Vol1, digits_of, write_vol1};

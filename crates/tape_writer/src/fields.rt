@@ -1,7 +1,6 @@
 //! Checks the fields of labels.
 
-ghost use Rattle.std.specs.Prelude.{◌↔◌, IsTrue};
-ghost use Rattle.std.specs.List.{AllByRecursion};
+ghost use Rattle.std.specs.{Prelude.◌↔◌, Prelude.IsTrue, List.AllByRecursion};
 ghost use Rattle.tape_label.specs.Widths.{IsWideVolume};
 ghost use Rattle.tape_writer.specs.Fields.{IsText, IsTextVolume, IsTextHead};
 

@@ -1,7 +1,6 @@
 //! Volumes as images, one after another.
 
-ghost use Rattle.std.specs.Prelude.{◌≡◌, ◌⊎◌, ◌≤◌, ◌<◌, [], None, Option, false, OnOk};
-ghost use Rattle.tape_image.specs.Writer.{Writer};
+ghost use Rattle.std.specs.Prelude.{◌≡◌, ◌≤◌, ◌<◌, [], None, Option, false, OnOk};
 ghost use Rattle.tape_label.specs.declared.values.Vol1.{Vol1};
 ghost use Rattle.tape_writer.specs.Tapes.{Ended, Rose, Closes, Keeps, HasCause};
 ghost use Rattle.tape_writer.specs.Images.{Holds, HasStopped, device_failures};

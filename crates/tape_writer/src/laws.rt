@@ -1,14 +1,12 @@
 //! Laws about the definitions that the contracts cite, each as the contract of a function that does
 //! nothing.
 
-ghost use Rattle.tape_writer.specs.RecordLaws.{LinesAreCut, PiecesAreCut, WholeIsOne};
 ghost use Rattle.tape_writer.specs.Cases.{CasesOfTapes, CasesOfImages, CasesOfSets};
-ghost use Rattle.tape_writer.specs.Cases.{CasesOfRefusals};
-ghost use Rattle.tape_writer.specs.CasesOfInputs.{CasesOfInputs, CasesOfSetFaults};
-ghost use Rattle.tape_writer.specs.CasesOfInputs.{CasesOfWritten, CasesOfRecordLaws};
-ghost use Rattle.tape_writer.specs.CasesOfFronts.{CasesOfFronts};
+ghost use Rattle.tape_writer.specs.CasesOfInputs.{CasesOfInputs, CasesOfSetFaults, CasesOfWritten};
+ghost use Rattle.tape_writer.specs.RecordLaws.{LinesAreCut, PiecesAreCut, WholeIsOne};
+ghost use Rattle.tape_writer.specs.{Cases.CasesOfRefusals, CasesOfInputs.CasesOfRecordLaws};
+ghost use Rattle.tape_writer.specs.{CasesOfFronts.CasesOfFronts, CasesOfHolding.CasesOfHolding};
 ghost use Rattle.tape_writer.specs.CasesOfDrafts.{CasesOfDrafts, CasesOfInside};
-ghost use Rattle.tape_writer.specs.CasesOfHolding.{CasesOfHolding};
 
 /// An input is cut into lines at the line feeds, and the last line may have no line feed; an input
 /// that consists of pieces of a fixed length is cut into these pieces, and a shorter rest is the

@@ -1,6 +1,6 @@
 //! The output of the writer: volumes, item by item.
 
-ghost use Rattle.std.specs.Prelude.{◌<◌, ◌≤◌, ◌∷◌, [], length, OnOk};
+ghost use Rattle.std.specs.Prelude.{◌<◌, ◌∷◌, [], OnOk};
 ghost use Rattle.tape_image.specs.Tape.{IsTapeItem, block, mark};
 ghost use Rattle.tape_writer.specs.Tapes.{Tapes, Takes, Changes, Closes, Keeps, HasCause};
 ghost use Rattle.tape_label.specs.declared.values.Vol1.{Vol1};

@@ -1,28 +1,22 @@
-//! Begins files, writes records into their blocks, ends the files, each on the current volume if it
-//! has room and otherwise on the next volume, and ends the set.
+//! Begins files, writes records into their blocks, and ends the files, each on the current volume
+//! if it has room and otherwise on the next volume.
 
-ghost use Rattle.std.specs.Prelude.{◌≡◌, ◌≢◌, ◌<◌, ◌≤◌, ◌+◌, ◌++◌, ◌∷◌, [], ℕ, List, length};
-ghost use Rattle.std.specs.Prelude.{OnOk, IfErr, Ok, Err, false};
+ghost use Rattle.std.specs.Prelude.{◌≡◌, ◌≢◌, ◌<◌, ◌≤◌, ◌+◌, ◌++◌, ◌∷◌, [], ℕ, List, length, OnOk};
+ghost use Rattle.std.specs.Prelude.{IfErr, Ok, Err, false};
 ghost use Rattle.std.specs.List.{AllByRecursion};
-ghost use Rattle.tape_image.specs.Tape.{TapeItem, mark as mark_item};
 ghost use Rattle.tape_blocks.specs.Packing.{emptied, HasRecordLength};
 ghost use Rattle.tape_label.specs.Widths.{IsWideVolume};
 ghost use Rattle.tape_set.specs.Tight.{least_capacity};
-ghost use Rattle.tape_writer.specs.declared.course.Course.{Course};
+ghost use Rattle.tape_writer.specs.Inside.{IsBetween, IsFiling, IsInside, IsStuck, IsLeftOut};
+ghost use Rattle.tape_writer.specs.{declared.course.Course.Course, Labels.IsReady, Draft.IsRoomy};
 ghost use Rattle.tape_writer.specs.Front.{HoldsFront, IsEndingLast, IsMidRecord};
 ghost use Rattle.tape_writer.specs.Lasting.{LastsFirst, TapeLasts, StaysAsked};
-ghost use Rattle.tape_writer.specs.Faults.{FailsWith, IsEnding, IsOfOut};
-ghost use Rattle.tape_writer.specs.Labels.{IsReady};
-ghost use Rattle.tape_writer.specs.Draft.{IsRoomy};
-ghost use Rattle.tape_writer.specs.Inside.{IsBetween, IsFiling, IsInside, IsStuck, IsLeftOut};
+ghost use Rattle.tape_writer.specs.{Faults.FailsWith, Faults.IsEnding, Faults.IsOfOut, Tapes.Ended};
 ghost use Rattle.tape_writer.specs.Inside.{IsWaiting, Flushed, IfInside, IfNext, IfOpen};
-ghost use Rattle.tape_writer.specs.Room.{room_of};
-ghost use Rattle.tape_writer.specs.State.{IsSoundRest};
-ghost use Rattle.tape_writer.specs.Tapes.{Ended, UnderWay, Grows};
-ghost use Rattle.tape_writer.specs.Told.{Told, IsWrittenSet};
+ghost use Rattle.tape_writer.specs.{Room.room_of, State.IsSoundRest, Told.Told};
 
 use crate::course::Opened;
-use crate::fault::{WriteFault, fault_of};
+use crate::fault::WriteFault;
 use crate::out::TapeOut;
 use crate::tape::Tape;
 use tape_blocks::{Offer, Packer};
@@ -233,40 +227,4 @@ pub(crate) fn begin<T: TapeOut>(
         tape.begin_volume(&volumes[0])?;
     }
     tape.begin_section(file, 1)
-}
-
-/// Ends the last volume: writes its second mark and the end-of-medium marker.
-#[tactic(auto, using(crate::proofs::Last::kept))]
-pub(crate) fn end_set<T: TapeOut>(
-    tape: &mut Tape<T>,
-    volumes: &[Vol1],
-    capacity: u32,
-) -> Result<(), WriteFault>
-    requires wide { AllByRecursion IsWideVolume volumes.now }
-    requires room { tape.old.course.used + 372 ≤ capacity }
-    ensures written { (set_id : List ℕ) (told : List Told) → told ≢ []
-        → IsBetween (T.holds tape.old.out) volumes.now capacity set_id tape.old.course told
-        → OnOk result (IsWrittenSet (T.holds tape.new.out) volumes.now capacity set_id told) }
-    ensures front { (set_id : List ℕ) (told : List Told) → told ≢ []
-        → IsBetween (T.holds tape.old.out) volumes.now capacity set_id tape.old.course told
-        → IsWrittenSet (HoldsFront (T.holds tape.new.out)) volumes.now capacity set_id told }
-    ensures closes { (past : List (List TapeItem)) (items : List TapeItem)
-        → T.holds tape.old.out (UnderWay past items)
-        → OnOk result (T.holds tape.new.out
-        (Ended (past ++ (items ++ mark_item ∷ []) ∷ []))) }
-    ensures used { OnOk result (tape.new.course ≡ record tape.old.course {
-      used = tape.old.course.used + 8;
-    }) }
-    ensures count { Grows (T.failures tape.old.out) (T.failures tape.new.out) }
-    ensures asked { StaysAsked T.TapeOut volumes.now tape.old result tape.new }
-    ensures out { IfErr result IsOfOut }
-    ensures lasting { IfErr result (λ _. TapeLasts T.TapeOut tape.old tape.new) }
-    ensures cause { FailsWith (T.failures tape.old.out) result (T.failures tape.new.out) }
-{
-    tape.mark()?;
-    if let Err(fault) = tape.out.close() {
-        return Err(fault_of(fault));
-    }
-    tape.course.used += 4;
-    Ok(())
 }

@@ -2,10 +2,8 @@
 
 ghost use Rattle.std.specs.Prelude.{◌≡◌, ◌<◌, ◌≤◌, [], length, IfOk, IfErr, IsOk, Err};
 ghost use Rattle.std.specs.List.{AllByRecursion};
-ghost use Rattle.tape_writer.specs.Tapes.{Ended};
-ghost use Rattle.tape_writer.specs.Fields.{IsText, IsTextVolume};
-ghost use Rattle.tape_writer.specs.State.{IsWriting, HasAsked};
-ghost use Rattle.tape_writer.specs.Refusals.{IsNewFault};
+ghost use Rattle.tape_writer.specs.{Tapes.Ended, Fields.IsText, Fields.IsTextVolume};
+ghost use Rattle.tape_writer.specs.{State.IsWriting, State.HasAsked, Refusals.IsNewFault};
 
 mod begin;
 mod write;

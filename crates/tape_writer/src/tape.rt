@@ -1,21 +1,17 @@
 //! Writes items, sections and volumes, and counts their sizes.
 
-ghost use Rattle.std.specs.Prelude.{◌≡◌, ◌<◌, ◌≤◌, ◌+◌, ◌++◌, ◌∷◌, [], List, length, OnOk, IfErr};
-ghost use Rattle.std.specs.Prelude.{true, false};
-ghost use Rattle.tape_image.specs.Begins.{image_limit};
+ghost use Rattle.std.specs.Prelude.{◌≡◌, ◌<◌, ◌≤◌, ◌+◌, ◌++◌, ◌∷◌, [], List, OnOk, IfErr, true};
+ghost use Rattle.std.specs.Prelude.{false};
 ghost use Rattle.tape_image.specs.Tape.{TapeItem, IsTapeItem, block as block_item};
-ghost use Rattle.tape_image.specs.Tape.{mark as mark_item};
-ghost use Rattle.tape_label.specs.Kinds.{IsSecond};
-ghost use Rattle.tape_label.specs.declared.values.Vol1.{Vol1};
+ghost use Rattle.tape_image.specs.{Begins.image_limit, Tape.mark as mark_item};
+ghost use Rattle.tape_label.specs.{Kinds.IsSecond, declared.values.Vol1.Vol1};
 ghost use Rattle.tape_set.specs.Sizes.{item_size};
 ghost use Rattle.tape_writer.specs.Tapes.{Tapes, Ended, UnderWay, Takes, Keeps, Changes};
-ghost use Rattle.tape_writer.specs.Tapes.{all_volumes};
-ghost use Rattle.tape_writer.specs.Front.{HoldsFront};
-ghost use Rattle.tape_writer.specs.Lasting.{TapeLasts};
-ghost use Rattle.tape_writer.specs.Draft.{added_course, changed_course, changed_tapes};
-ghost use Rattle.tape_writer.specs.Lasting.{LastsFirst};
-ghost use Rattle.tape_writer.specs.Faults.{FailsWith, IsOfOut};
 ghost use Rattle.tape_writer.specs.Labels.{IsReady, header_items, trailer_items, volume_label};
+ghost use Rattle.tape_writer.specs.{Tapes.all_volumes, Front.HoldsFront};
+ghost use Rattle.tape_writer.specs.Lasting.{TapeLasts, LastsFirst};
+ghost use Rattle.tape_writer.specs.Draft.{added_course, changed_course, changed_tapes};
+ghost use Rattle.tape_writer.specs.Faults.{FailsWith, IsOfOut};
 ghost use Rattle.tape_writer.specs.Labels.{second_label, second_kind, trailer_label};
 
 use crate::course::{Course, Opened};
@@ -40,7 +36,7 @@ impl<T: TapeOut> Tape<T> {
         u64::from(self.course.used) + u64::from(more) <= u64::from(capacity)
     }
 
-    /// Writes a block.
+    /// Writes a block: a label or data.
     fn block(&mut self, bytes: &[u8]) -> Result<(), WriteFault>
         requires sized { IsTapeItem (block_item bytes.now) }
         requires room { self.old.course.used + item_size (block_item bytes.now) ≤ image_limit }
@@ -83,23 +79,6 @@ impl<T: TapeOut> Tape<T> {
             }
             Err(fault) => Err(fault_of(fault)),
         }
-    }
-
-    /// Writes a label.
-    #[tactic(auto, using(crate::proofs::Last::lasting_then, crate::proofs::Last::rose_from))]
-    pub(crate) fn label(&mut self, label: [u8; 80]) -> Result<(), WriteFault>
-        requires room { self.old.course.used + 88 ≤ image_limit }
-        ensures ok { Takes (block_item label ∷ [])
-            (T.holds self.old.out) result (T.holds self.new.out) }
-        ensures err { Keeps (T.holds self.old.out) result (T.holds self.new.out) }
-        ensures course { OnOk result (self.new.course
-            ≡ record self.old.course { used = self.old.course.used + 88 }) }
-        ensures lasting { TapeLasts T.TapeOut self.old self.new }
-        ensures cause { FailsWith (T.failures self.old.out) result (T.failures self.new.out) }
-        ensures asked { (v : Vol1) → T.asked self.old.out v → T.asked self.new.out v }
-        ensures out { IfErr result IsOfOut }
-    {
-        self.block(&label)
     }
 
     /// Writes a data block of the current section.
@@ -148,8 +127,8 @@ impl<T: TapeOut> Tape<T> {
         ensures asked { (v : Vol1) → T.asked self.old.out v → T.asked self.new.out v }
         ensures out { IfErr result IsOfOut }
     {
-        self.label(write_head1(&file.head_at(sect)))?;
-        self.label(second_label(file, Kind::Hdr2))?;
+        self.block(&write_head1(&file.head_at(sect)))?;
+        self.block(&second_label(file, Kind::Hdr2))?;
         self.mark()?;
         self.course.sect = sect;
         self.course.count = 0;
@@ -178,8 +157,8 @@ impl<T: TapeOut> Tape<T> {
         ensures out { IfErr result IsOfOut }
     {
         self.mark()?;
-        self.label(trailer_label(file, self.course.sect, self.course.count, eof))?;
-        self.label(second_label(file, second_kind(eof)))?;
+        self.block(&trailer_label(file, self.course.sect, self.course.count, eof))?;
+        self.block(&second_label(file, second_kind(eof)))?;
         self.mark()
     }
 
@@ -206,7 +185,7 @@ impl<T: TapeOut> Tape<T> {
         }
         self.course.volume += 1;
         self.course.used = 0;
-        self.label(write_vol1(volume))
+        self.block(&write_vol1(volume))
     }
 
     /// Ends the section with EOV1 and EOV2, and continues on the next volume, with the label

@@ -5,14 +5,12 @@ use Rattle.tape_writer.proofs.Words.{if◌then◌else◌, inl, inr, ◌⊎◌, �
 use Rattle.tape_writer.proofs.Words.{zero, suc, take, get_or, subst, ◌-◌, drop, Option, Some, None}
 use Rattle.tape_writer.proofs.Words.{prepend_known, IfKnown, refl, Format, Shape, HasRecordLength}
 use Rattle.std.proofs.Common.{append-nil, ◌==◌, flat_map, min, slice_range, length-take, drop-drop}
-use Rattle.std.proofs.Common.{take-append-drop}
-use Rattle.std.proofs.KnownBytes.{Consumes-trans, Consumes-kept}
-use Rattle.tape_writer.specs.declared.inputs.cut.Cut.TheVariants.{Lines, Length, Whole}
-use Rattle.tape_writer.specs.declared.inputs.cut.Cut.{Cut}
-use Rattle.tape_writer.specs.Records.{records_from, records_of, Adds, to_come, given, longest_by}
-use Rattle.tape_writer.specs.Records.{longest}
-use Rattle.tape_writer.specs.RecordLaws.{IsLine, ended_line, LinesAreCut, PiecesAreCut, WholeIsOne}
+use Rattle.std.proofs.{Common.take-append-drop, KnownBytes.Consumes-trans, KnownBytes.Consumes-kept}
 use Rattle.std.proofs.lemmas.List.{take_all, drop-take, drop_min}
+use Rattle.tape_writer.specs.Records.{records_from, records_of, Adds, to_come, given, longest_by}
+use Rattle.tape_writer.specs.declared.inputs.cut.Cut.TheVariants.{Lines, Length, Whole}
+use Rattle.tape_writer.specs.{declared.inputs.cut.Cut.Cut, Records.longest}
+use Rattle.tape_writer.specs.RecordLaws.{IsLine, ended_line, LinesAreCut, PiecesAreCut, WholeIsOne}
 use Rattle.std.specs.Io.KnownBytes.{Consumes, Keeps}
 use Rattle.tape_label.specs.declared.values.Format.TheVariants.{Fixed, Counted, Spanned}
 

@@ -3,17 +3,16 @@ use Rattle.tape_writer.proofs.Words.{◌≡◌, ℕ, List, [], ◌∷◌, Bool, 
 use Rattle.tape_writer.proofs.Words.{subst, ◌∙◌, IfSome, false, ap, Vol1, Head1, Writer, IfKnown}
 use Rattle.tape_writer.proofs.Words.{suc, ◌+◌, ◌<◌, ◌++◌, length, map, drop, get_or, arith}
 use Rattle.tape_writer.proofs.Words.{append_assoc, length-append, drop_more, map-append, Shape}
-use Rattle.std.proofs.Common.{slice_set, append-nil}
-use Rattle.tape_writer.specs.declared.{inputs.set.SetPlan.SetPlan, phase.Phase.TheVariants.Finished}
-use Rattle.tape_writer.specs.declared.{inputs.cut.Cut.Cut}
-use Rattle.tape_writer.specs.State.{SameSet, SetState, IsWriting, Stands}
-use Rattle.tape_writer.specs.Told.{Told, IsWrittenSet, opened_by}
-use Rattle.tape_writer.specs.ToldFiles.{IfAllKnown, with_records, told_files, InOne}
-use Rattle.tape_writer.specs.{LeftOf.WroteBy, WriteSet.cut_of, WriteSet.IsSetOfImages, Tapes.Tapes}
-use Rattle.tape_writer.specs.{Images.Images, Images.AreImages, Images.Holds, Records.to_come}
-use Rattle.tape_writer.specs.{Records.records_of}
-use Rattle.std.proofs.lemmas.List.{drop-set-lt}
+use Rattle.std.proofs.{Common.slice_set, Common.append-nil, lemmas.List.drop-set-lt}
 use Rattle.std.proofs.lemmas.Option.{IfSome_then}
+use Rattle.tape_writer.specs.{declared.inputs.set.SetPlan.SetPlan, declared.inputs.cut.Cut.Cut}
+use Rattle.tape_writer.specs.{declared.phase.Phase.TheVariants.Finished, LeftOf.WroteBy}
+use Rattle.tape_writer.specs.State.{SameSet, SetState, IsWriting, Stands}
+use Rattle.tape_writer.specs.{Told.Told, Told.IsWrittenSet, Told.opened_by, Tapes.Tapes}
+use Rattle.tape_writer.specs.ToldFiles.{IfAllKnown, with_records, told_files, InOne}
+use Rattle.tape_writer.specs.WriteSet.{cut_of, IsSetOfImages}
+use Rattle.tape_writer.specs.Images.{Images, AreImages, Holds}
+use Rattle.tape_writer.specs.Records.{to_come, records_of}
 
 -- ---- a finished writer of images, and known inputs
 

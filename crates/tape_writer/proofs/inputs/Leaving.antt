@@ -1,30 +1,26 @@
 -- The contents of the tapes after a fault, in terms of the files and their inputs.
-use Rattle.tape_writer.proofs.Words.{◌≡◌, ℕ, ◌≤◌, List, [], ◌∷◌, ◌++◌, Bool, true, false}
-use Rattle.tape_writer.proofs.Words.{Option, Some, None, length, refl, sym, ap}
-use Rattle.tape_writer.proofs.Words.{subst, ◌∙◌, inl, inr, ◌⊎◌, IfSome}
-use Rattle.tape_writer.proofs.Words.{IfKnown, Head1, Shape, AllByRecursion, every}
-use Rattle.std.proofs.Common.{append-nil}
-use Rattle.tape_writer.specs.declared.{fault.WriteFault.WriteFault, fault.SetFault.SetFault}
-use Rattle.tape_writer.specs.declared.{fault.SetFault.TheVariants.Write}
-use Rattle.tape_writer.specs.declared.{inputs.records.InputFault.InputFault, inputs.cut.Cut.Cut}
-use Rattle.tape_writer.specs.declared.{course.Opened.Opened, phase.Phase.Phase}
-use Rattle.tape_writer.specs.declared.{phase.Phase.TheVariants.Between}
-use Rattle.tape_writer.specs.declared.{phase.Phase.TheVariants.Filing}
-use Rattle.tape_writer.specs.Told.{Told, with_record}
+use Rattle.tape_writer.proofs.Words.{◌≡◌, ℕ, ◌≤◌, List, [], ◌∷◌, ◌++◌, Bool, true, false, Option}
+use Rattle.tape_writer.proofs.Words.{Some, None, length, refl, sym, ap, subst, ◌∙◌, inl, inr, ◌⊎◌}
+use Rattle.tape_writer.proofs.inputs.Putting.{Put, PutWithin, known_one, known_then}
+use Rattle.tape_writer.proofs.Words.{IfSome, IfKnown, Head1, Shape, AllByRecursion, every}
+use Rattle.tape_writer.proofs.inputs.Filing.{all_known, in_input, known_all}
+use Rattle.tape_writer.proofs.{inputs.Putting.with_records-one, inputs.Refusing.less_long}
+use Rattle.tape_writer.proofs.Fronts.{inside_writing, behind_writing, front_here}
+use Rattle.std.proofs.{Common.append-nil, lemmas.Option.IfSome_then}
+use Rattle.tape_writer.specs.{declared.fault.WriteFault.WriteFault, declared.inputs.cut.Cut.Cut}
+use Rattle.tape_writer.specs.{declared.fault.SetFault.SetFault, declared.course.Opened.Opened}
+use Rattle.tape_writer.specs.{declared.fault.SetFault.TheVariants.Write, declared.phase.Phase.Phase}
+use Rattle.tape_writer.specs.{declared.inputs.records.InputFault.InputFault, Tapes.Tapes}
+use Rattle.tape_writer.specs.declared.phase.Phase.TheVariants.{Between, Filing}
+use Rattle.tape_writer.specs.{Told.Told, Told.with_record, Faults.IsEnding, ToldFiles.with_records}
 use Rattle.tape_writer.specs.State.{SetState, IsWriting, IfFiling, Leaves}
 use Rattle.tape_writer.specs.Refusals.{IsInFile, IsBeginFault, IsFinishFault}
 use Rattle.tape_writer.specs.Front.{IsInLast, IsLeftInside, IsLeftBehind, HoldsFront}
 use Rattle.tape_writer.specs.Records.{to_come, records_of, given, IsFirstLong}
 use Rattle.tape_writer.specs.LeftOf.{IsLeftOf, IsLeftOfAll, IsLeftUnbegun}
-use Rattle.tape_writer.specs.{WriteFaults.told_as, WriteFaults.IsOfInput, Tapes.Tapes}
-use Rattle.tape_writer.specs.{Faults.IsEnding, ToldFiles.with_records}
-use Rattle.tape_writer.proofs.inputs.Filing.{all_known, in_input, known_all}
-use Rattle.tape_writer.proofs.inputs.Putting.{Put, PutWithin, known_one, known_then}
-use Rattle.tape_writer.proofs.inputs.{Refusing.less_long, Putting.with_records-one}
-use Rattle.tape_writer.proofs.Fronts.{inside_writing, behind_writing, front_here}
+use Rattle.tape_writer.specs.WriteFaults.{told_as, IsOfInput}
 use Rattle.tape_writer.specs.declared.fault.WriteFault.TheVariants as faults
 use Rattle.tape_writer.specs.declared.inputs.records.InputFault.TheVariants as inputs
-use Rattle.std.proofs.lemmas.Option.{IfSome_then}
 
 -- a fault ends the writer, or leaves it unchanged
 is_ending : {T : Type 0} (f : WriteFault)

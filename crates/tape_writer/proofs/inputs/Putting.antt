@@ -2,17 +2,13 @@
 use Rattle.tape_writer.proofs.Words.{◌≡◌, ℕ, List, [], ◌∷◌, ◌++◌, Bool, true, false, Option, Some}
 use Rattle.tape_writer.proofs.Words.{None, refl, sym, ap, subst, ◌∙◌, append_assoc, ◌≤◌, length}
 use Rattle.tape_writer.proofs.Words.{arith, IfSome, AllByRecursion, every, IfKnown}
-use Rattle.std.proofs.Common.{append-nil}
-use Rattle.tape_writer.proofs.{Volumes.all_push, Calls.with_last, Last.rose_from}
+use Rattle.tape_writer.proofs.{Volumes.all_push, Calls.with_last}
 use Rattle.tape_writer.proofs.inputs.Filing.{in_input, known_all}
-use Rattle.tape_writer.specs.declared.{course.Opened.Opened, inputs.cut.Cut.Cut}
-use Rattle.tape_writer.specs.declared.{fault.WriteFault.WriteFault}
-use Rattle.tape_writer.specs.declared.{fault.WriteFault.TheVariants.Device, fault.SetFault.SetFault}
-use Rattle.tape_writer.specs.declared.{fault.SetFault.TheVariants.Write}
-use Rattle.tape_writer.specs.Told.{Told, with_record}
-use Rattle.tape_writer.specs.Tapes.{Tapes, Failures, Grows, Rose}
-use Rattle.tape_writer.specs.{ToldFiles.with_records, Records.to_come, Records.records_of}
-use Rattle.tape_writer.specs.{Records.given, State.SetState, State.IsOutOfVolumes, LeftOf.GaveUp}
+use Rattle.std.proofs.Common.{append-nil}
+use Rattle.tape_writer.specs.{declared.course.Opened.Opened, declared.inputs.cut.Cut.Cut}
+use Rattle.tape_writer.specs.{Told.Told, Told.with_record, Tapes.Tapes, Tapes.Failures, Tapes.Grows}
+use Rattle.tape_writer.specs.{ToldFiles.with_records, State.SetState, State.IsOutOfVolumes}
+use Rattle.tape_writer.specs.{Records.to_come, Records.records_of, Records.given, LeftOf.GaveUp}
 
 -- records were returned and written, which moved the writer from `old` to `new`
 pub record Put (cut : Cut) (over over' : Bool) (all left : Option (List ℕ))
@@ -166,11 +162,3 @@ grows_then a b c k l = (omega (arith, k.0, l.0), omega (arith, k.1, l.1))
 
 pub grows_self : (a : Failures) → Grows a a
 grows_self a = (omega arith, omega arith)
-
--- a call of the writer after other calls
-pub stops : (a b c : Failures) (fault : WriteFault) (told : SetFault)
-    → Grows a b → (fault ≡ Device → Rose b.device c.device) → told ≡ Write fault
-    → told ≡ Write Device → Rose a.device c.device
-stops a b c fault told grew rose is e =
-    let same : fault ≡ Device = cc in
-    rose_from a.device b.device c.device grew.0 (rose same)

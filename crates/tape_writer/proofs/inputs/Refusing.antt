@@ -5,29 +5,26 @@ use Rattle.tape_writer.proofs.Words.{true, false, length, take, drop, get_or, sy
 use Rattle.tape_writer.proofs.Words.{arith, append_assoc, length-append, IfSome, if◌then◌else◌}
 use Rattle.tape_writer.proofs.Words.{prepend_known, length-take-le, drop_more, map-append}
 use Rattle.tape_writer.proofs.Words.{length-map, IfKnown, HasRecordLength}
-use Rattle.std.proofs.Common.{take-append-drop}
-use Rattle.tape_label.specs.Characters.{first_other}
-use Rattle.tape_writer.specs.declared.{fault.WriteFault.TheVariants.BadField}
-use Rattle.tape_writer.specs.declared.{fault.SetFault.TheVariants.Write}
-use Rattle.tape_writer.specs.declared.{fault.SetFault.TheVariants.ReadFailed, inputs.cut.Cut.Cut}
-use Rattle.tape_writer.specs.declared.{course.Opened.Opened, phase.Phase.Phase}
-use Rattle.tape_writer.specs.declared.{phase.Phase.TheVariants.Filing, phase.OpenFile.OpenFile}
-use Rattle.tape_writer.specs.declared.{fault.WriteFault.WriteFault, fault.SetFault.SetFault}
-use Rattle.tape_writer.specs.declared.{inputs.records.InputFault.InputFault}
-use Rattle.tape_writer.specs.declared.{inputs.cut.Cut.TheVariants.Lines}
-use Rattle.tape_writer.specs.declared.{inputs.cut.Cut.TheVariants.Length}
-use Rattle.tape_writer.specs.declared.{inputs.cut.Cut.TheVariants.Whole}
-use Rattle.tape_writer.specs.WriteFaults.{IsFilesFault, told_as, IsOther, OneIsOther}
-use Rattle.tape_writer.specs.WriteFaults.{IsPuttingFault, IsInputFault, IsFileFault}
-use Rattle.tape_writer.specs.Records.{records_from, records_of, to_come, given, longest}
-use Rattle.tape_writer.specs.Records.{ends_before, is_full, Adds, IsFirstLong, GrowsLong}
-use Rattle.tape_writer.specs.{Fields.IsText, Fields.IsTextHead, Told.Told, Faults.IsEnding}
-use Rattle.tape_writer.specs.{State.IfFiling, State.HasLength, Refusals.IsInFile}
-use Rattle.tape_writer.specs.{Refusals.IsPutFault}
-use Rattle.std.specs.Io.KnownBytes.{Consumes, Keeps}
 use Rattle.tape_writer.proofs.inputs.Filing.{in_input, Wrote}
 use Rattle.tape_writer.proofs.inputs.Cutting.{SoFar, read_ahead, within_longest}
 use Rattle.tape_writer.proofs.inputs.Putting.{Put, known_then}
+use Rattle.std.proofs.Common.{take-append-drop}
+use Rattle.tape_label.specs.Characters.{first_other}
+use Rattle.tape_writer.specs.WriteFaults.{IsFilesFault, told_as, IsOther, OneIsOther}
+use Rattle.tape_writer.specs.Records.{records_from, records_of, to_come, given, longest}
+use Rattle.tape_writer.specs.{declared.fault.WriteFault.TheVariants.BadField, Told.Told}
+use Rattle.tape_writer.specs.declared.fault.SetFault.TheVariants.{Write, ReadFailed}
+use Rattle.tape_writer.specs.{declared.inputs.cut.Cut.Cut, declared.course.Opened.Opened}
+use Rattle.tape_writer.specs.{declared.phase.Phase.Phase, declared.phase.Phase.TheVariants.Filing}
+use Rattle.tape_writer.specs.{declared.phase.OpenFile.OpenFile, declared.fault.SetFault.SetFault}
+use Rattle.tape_writer.specs.{declared.fault.WriteFault.WriteFault, Faults.IsEnding}
+use Rattle.tape_writer.specs.declared.inputs.records.InputFault.{InputFault}
+use Rattle.tape_writer.specs.declared.inputs.cut.Cut.TheVariants.{Lines, Length, Whole}
+use Rattle.tape_writer.specs.WriteFaults.{IsPuttingFault, IsInputFault, IsFileFault}
+use Rattle.tape_writer.specs.Records.{ends_before, is_full, Adds, IsFirstLong, GrowsLong}
+use Rattle.tape_writer.specs.{Fields.IsText, Fields.IsTextHead, State.IfFiling, State.HasLength}
+use Rattle.tape_writer.specs.Refusals.{IsInFile, IsPutFault}
+use Rattle.std.specs.Io.KnownBytes.{Consumes, Keeps}
 use Rattle.tape_writer.specs.declared.fault.WriteFault.TheVariants as faults
 use Rattle.tape_writer.specs.declared.inputs.records.InputFault.TheVariants as inputs
 

@@ -1,21 +1,19 @@
 //! Writes files from inputs.
-ghost use Rattle.std.specs.Prelude.{◌≡◌, ◌<◌, ◌≤◌, ◌++◌, ◌+◌, ◌∷◌, [], List, length, map};
-ghost use Rattle.std.specs.Prelude.{◌⊎◌, OnOk, IfErr, IfSome, Some, Ok, Err};
+ghost use Rattle.std.specs.Prelude.{◌≡◌, ◌<◌, ◌≤◌, ◌++◌, ◌+◌, ◌∷◌, [], List, length, map, ◌⊎◌};
+ghost use Rattle.std.specs.Prelude.{OnOk, IfErr, IfSome, Some, Ok, Err};
 ghost use Rattle.tape_image.specs.Reader.{IfKnown};
 ghost use Rattle.tape_blocks.specs.Packing.{IsWritable};
 ghost use Rattle.tape_set.specs.Tight.{least_capacity};
-ghost use Rattle.tape_writer.specs.Tapes.{Grows, Rose};
+ghost use Rattle.tape_writer.specs.WriteFaults.{OneIsOther, IsInputFault, IsFileFault};
+ghost use Rattle.tape_writer.specs.{Tapes.Grows, Tapes.Rose, State.IsWriting, State.SameSet};
 ghost use Rattle.tape_writer.specs.Told.{Told, opened_by, with_file};
-ghost use Rattle.tape_writer.specs.State.{IsWriting, SameSet};
 ghost use Rattle.tape_writer.specs.Refusals.{IsInFile, closed_by};
 ghost use Rattle.tape_writer.specs.declared.fault.WriteFault.{WriteFault};
 ghost use Rattle.tape_writer.specs.declared.course.Opened.{Opened};
 ghost use Rattle.tape_writer.specs.declared.phase.Phase.TheVariants.{Between};
 ghost use Rattle.tape_writer.specs.Records.{records_of, to_come, left_of, longest as longest_of};
 ghost use Rattle.tape_writer.specs.ToldFiles.{with_records, told_files, IfAllKnown};
-ghost use Rattle.tape_writer.specs.LeftOf.{GaveUp, GaveUpIn};
-ghost use Rattle.tape_writer.specs.LeftOf.{IsLeftOf, IsLeftIn, IsLeftUnbegun};
-ghost use Rattle.tape_writer.specs.WriteFaults.{OneIsOther, IsInputFault, IsFileFault};
+ghost use Rattle.tape_writer.specs.LeftOf.{GaveUp, GaveUpIn, IsLeftOf, IsLeftIn, IsLeftUnbegun};
 ghost use Rattle.tape_writer.specs.WriteFaults.{IsFilesFault, told_as, StopsByDevice};
 
 use crate::fault::{SetFault, WriteFault};

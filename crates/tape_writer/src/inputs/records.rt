@@ -1,6 +1,5 @@
 //! The records of an input, one after another.
-ghost use Rattle.std.specs.Prelude.{◌≡◌, ◌≤◌, ◌++◌, [], length, IfOk, IfErr};
-ghost use Rattle.std.specs.Prelude.{OnErr, vec_capacity};
+ghost use Rattle.std.specs.Prelude.{◌≡◌, ◌≤◌, ◌++◌, [], length, IfOk, IfErr, OnErr, vec_capacity};
 ghost use Rattle.std.specs.Prelude.{IfSome, true, false};
 ghost use Rattle.tape_image.specs.Reader.{IfKnown};
 ghost use Rattle.tape_writer.specs.Records.{to_come, given, left_of, IsFirstLong};

@@ -1,14 +1,13 @@
 //! Writes a set as images.
-ghost use Rattle.std.specs.Prelude.{◌≡◌, ◌≢◌, ◌<◌, ◌≤◌, ◌++◌, ◌+◌, [], List, length, map, None};
-ghost use Rattle.std.specs.Prelude.{◌⊎◌, ◌↔◌, IfOk, IfErr, IfSome, IsTrue, OnOk, false};
+ghost use Rattle.std.specs.Prelude.{◌≡◌, ◌≢◌, ◌<◌, ◌≤◌, ◌+◌, [], length, map, None, ◌⊎◌, ◌↔◌, IfOk};
+ghost use Rattle.std.specs.Prelude.{IfErr, IfSome, IsTrue, OnOk, false};
 ghost use Rattle.std.specs.List.{AllByRecursion};
 ghost use Rattle.tape_blocks.specs.Packing.{IsWritable};
 ghost use Rattle.tape_set.specs.Tight.{least_capacity};
 ghost use Rattle.tape_writer.specs.Fields.{IsText, IsTextVolume, IsTextHead};
 ghost use Rattle.tape_writer.specs.Images.{Holds, HasStopped};
 ghost use Rattle.tape_writer.specs.ToldFiles.{IfAllKnown, told_files};
-ghost use Rattle.tape_writer.specs.LeftOf.{HasNoVolume};
-ghost use Rattle.tape_writer.specs.LeftOf.{IsLeftSet};
+ghost use Rattle.tape_writer.specs.LeftOf.{HasNoVolume, IsLeftSet};
 ghost use Rattle.tape_writer.specs.WriteSet.{IsSetOfImages, cut_of as cut_by};
 ghost use Rattle.tape_writer.specs.WriteFaults.{IsSetFault, IsOfInput};
 

@@ -1,17 +1,15 @@
 //! Begins files.
 
-ghost use Rattle.std.specs.Prelude.{◌≡◌, ◌≢◌, ◌<◌, ◌≤◌, ◌+◌, [], List, length, OnOk};
-ghost use Rattle.std.specs.Prelude.{◌⊎◌, IfErr, Err, Some, false};
+ghost use Rattle.std.specs.Prelude.{◌≡◌, ◌≢◌, ◌<◌, ◌≤◌, ◌+◌, [], List, length, OnOk, ◌⊎◌, IfErr};
+ghost use Rattle.std.specs.Prelude.{Err, Some};
 ghost use Rattle.tape_blocks.specs.Packing.{IsWritable};
 ghost use Rattle.tape_set.specs.Tight.{least_capacity};
-ghost use Rattle.tape_writer.specs.Fields.{IsTextHead};
-ghost use Rattle.tape_writer.specs.Tapes.{Ended, Rose};
+ghost use Rattle.tape_writer.specs.{Fields.IsTextHead, Tapes.Ended, Tapes.Rose};
 ghost use Rattle.tape_writer.specs.Lasting.{LastsFirst, TapeLasts};
-ghost use Rattle.tape_writer.specs.Faults.{FailsByDevice, IsEnding, IsOfOut};
+ghost use Rattle.tape_writer.specs.Faults.{FailsByDevice, IsEnding};
 ghost use Rattle.tape_writer.specs.Front.{IsLeftBehind, IsLeftInside};
 ghost use Rattle.tape_writer.specs.Told.{Told, opened_by, with_file};
-ghost use Rattle.tape_writer.specs.State.{IsWriting, Leaves, Refuses, tape_of, HasAsked};
-ghost use Rattle.tape_writer.specs.State.{SameSet};
+ghost use Rattle.tape_writer.specs.State.{IsWriting, Leaves, Refuses, tape_of, HasAsked, SameSet};
 ghost use Rattle.tape_writer.specs.Refusals.{IsBeginFault, IsInFile, closed_by};
 ghost use Rattle.tape_writer.specs.declared.phase.Phase.TheVariants.{Between};
 ghost use Rattle.tape_writer.specs.declared.fault.WriteFault.{WriteFault};

@@ -2,22 +2,19 @@
 
 ghost use Rattle.std.specs.Prelude.{◌≡◌, ◌⊎◌, ◌<◌, ◌+◌, ◌++◌, ◌∷◌, [], List, OnOk, IfErr};
 ghost use Rattle.tape_image.specs.Tape.{TapeItem, mark as mark_item};
-ghost use Rattle.tape_writer.specs.Tapes.{Ended, UnderWay};
-ghost use Rattle.tape_writer.specs.Front.{IsLeftInside, IsLeftBehind, IsLeftWhole};
-ghost use Rattle.tape_writer.specs.Lasting.{TapeLasts};
-ghost use Rattle.tape_writer.specs.Faults.{FailsWith, IsEnding};
-ghost use Rattle.tape_writer.specs.Told.{Told, with_record};
 ghost use Rattle.tape_writer.specs.State.{IsWriting, Leaves, Refuses, IfFiling, HasLength, tape_of};
+ghost use Rattle.tape_writer.specs.{Tapes.Ended, Tapes.UnderWay, Lasting.TapeLasts, Room.room_left};
+ghost use Rattle.tape_writer.specs.Front.{IsLeftInside, IsLeftBehind, IsLeftWhole};
+ghost use Rattle.tape_writer.specs.{Faults.FailsWith, Faults.IsEnding, Told.Told, Told.with_record};
 ghost use Rattle.tape_writer.specs.State.{IsOutOfVolumes, HasAsked, SameSet};
-ghost use Rattle.tape_writer.specs.Room.{room_left};
 ghost use Rattle.tape_writer.specs.Refusals.{IsPutFault, IsFinishFault, IsInFile};
 ghost use Rattle.tape_writer.specs.declared.course.Opened.{Opened};
 ghost use Rattle.tape_writer.specs.declared.phase.Phase.TheVariants.{Between, Failed, Finished};
 
-use crate::fault::WriteFault;
+use crate::fault::{WriteFault, fault_of};
 use crate::out::TapeOut;
 use crate::phase::Phase;
-use crate::records::{end_set, put_record};
+use crate::records::put_record;
 use crate::set::SetWriter;
 
 impl<T: TapeOut + Drop> SetWriter<T> {
@@ -153,7 +150,7 @@ impl<T: TapeOut + Drop> SetWriter<T> {
     /// Returns `Failed` or `Finished` depending on the writer's state; `FileBegun` inside a file;
     /// `NoFile` before the first file; after these faults the writer is unchanged. Then `Device` or
     /// `OutOfMemory`, whichever happens first.
-    #[tactic(auto, using(crate::proofs::Last::lasting_self, crate::proofs::Calls::leaves_failed))]
+    #[tactic(auto, using(crate::proofs::Last::kept, crate::proofs::Calls::leaves_failed))]
     pub fn finish(&mut self) -> Result<(), WriteFault>
         ensures same { SameSet self.old self.new }
         ensures failed { self.old.phase ≡ Failed
@@ -195,15 +192,14 @@ impl<T: TapeOut + Drop> SetWriter<T> {
         if self.tape.course.volume == 0 {
             return Err(WriteFault::NoFile);
         }
-        match end_set(&mut self.tape, &self.volumes, self.capacity) {
-            Ok(()) => {
-                self.phase = Phase::Finished;
-                Ok(())
-            }
-            Err(fault) => {
-                self.phase = Phase::Failed;
-                Err(fault)
-            }
+        // From here on every fault ends the writer.
+        self.phase = Phase::Failed;
+        self.tape.mark()?;
+        if let Err(fault) = self.tape.out.close() {
+            return Err(fault_of(fault));
         }
+        self.tape.course.used += 4;
+        self.phase = Phase::Finished;
+        Ok(())
     }
 }

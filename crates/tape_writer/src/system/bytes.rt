@@ -1,6 +1,5 @@
 //! Writes bytes, in pieces as the system accepts them.
-ghost use Rattle.std.specs.Prelude.{OnOk, OnErr, IsOkUnless};
-ghost use Rattle.std.specs.Io.KnownBytes.{Appends};
+ghost use Rattle.std.specs.{Prelude.OnOk, Prelude.OnErr, Prelude.IsOkUnless, Io.KnownBytes.Appends};
 ghost use Rattle.tape_image.specs.Written.{AppendsFront};
 
 use crate::system::fault::FileFault;

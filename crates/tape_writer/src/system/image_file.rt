@@ -1,8 +1,6 @@
 //! Image files, each created when it is first written to.
-ghost use Rattle.std.specs.Prelude.{◌≡◌, ◌⊎◌, [], length, None, Some, IsSome, OnSome};
-ghost use Rattle.std.specs.Prelude.{OnOk, OnErr, IfOk, IsErr};
-ghost use Rattle.std.specs.Option.{option_map_or};
-ghost use Rattle.std.specs.Io.{WritesAtMost};
+ghost use Rattle.std.specs.Prelude.{◌≡◌, ◌⊎◌, [], length, None, Some, IsSome, OnSome, OnOk, OnErr};
+ghost use Rattle.std.specs.{Prelude.IfOk, Prelude.IsErr, Option.option_map_or, Io.WritesAtMost};
 ghost use Rattle.std.specs.Io.KnownBytes.{WriteAppends};
 ghost use Rattle.tape_writer.specs.Holding.{Opens, FilePasses, FileStops, FileTakes};
 

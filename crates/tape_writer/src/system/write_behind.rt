@@ -1,8 +1,6 @@
 //! A write buffer for a device.
-ghost use Rattle.std.specs.Prelude.{◌≡◌, ◌⊎◌, ◌≤◌, ◌+◌, [], Err, false, length, vec_capacity};
-ghost use Rattle.std.specs.Prelude.{OnOk, OnErr, IsOkUnless};
-ghost use Rattle.std.specs.Bool.{OnTrue};
-ghost use Rattle.std.specs.Io.KnownBytes.{Appends};
+ghost use Rattle.std.specs.Prelude.{◌≡◌, ◌⊎◌, ◌≤◌, ◌+◌, [], Err, false, length, vec_capacity, OnOk};
+ghost use Rattle.std.specs.{Prelude.OnErr, Prelude.IsOkUnless, Bool.OnTrue, Io.KnownBytes.Appends};
 ghost use Rattle.tape_writer.specs.Holding.{fresh, taken, TakesAll, PassesOn, MakesRoom, Stops};
 
 use crate::system::bytes::put_all;

@@ -1,7 +1,6 @@
 //! Writes a set to image files in a directory.
 ghost use Rattle.std.specs.Prelude.{◌≡◌, ◌≢◌, IfOk};
-ghost use Rattle.tape_writer.specs.Blank.{blank_volumes, volume_id};
-ghost use Rattle.tape_writer.specs.System.{of_set};
+ghost use Rattle.tape_writer.specs.{Blank.blank_volumes, Blank.volume_id, System.of_set};
 
 use crate::blank::{Prefix, blank_volume};
 use crate::fault::{SetFault, WriteFault};

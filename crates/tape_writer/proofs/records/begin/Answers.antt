@@ -1,14 +1,12 @@
 use Rattle.tape_writer.proofs.Words.{refl, sym, subst, rules, arith, ◌+◌, ℕ, List, Ok, IsWideVolume}
-use Rattle.tape_writer.proofs.Words.{every_at}
-use Rattle.tape_writer.specs.declared.{course.Course.Course, tape.Tape.Tape}
-use Rattle.tape_writer.specs.{Draft.begun_course, Front.HoldsFront, Inside.IsBetween}
-use Rattle.tape_writer.specs.{Inside.IsWaiting, Labels.header_items, Tapes.Ended, Told.Told}
+use Rattle.tape_writer.proofs.{Words.every_at, Ends.between_first, Ends.filing_begun, Held.got}
 use Rattle.tape_writer.proofs.records.begin.Goals.{then-tape-eq0+in_ok-begin_volume, else-tape-eq0}
-use Rattle.tape_writer.proofs.{Ends.between_first, Ends.filing_begun, Fronts.front_items}
-use Rattle.tape_writer.proofs.{Fronts.err_any, Held.got, Left.unbegun, Left.is_begun}
-use Rattle.std.proofs.Common.{◌≡◌, ap, [], inr}
-use Rattle.tape_writer.specs.{Lasting.Lasts}
+use Rattle.tape_writer.proofs.{Fronts.front_items, Fronts.err_any, Left.unbegun, Left.is_begun}
 use Rattle.tape_writer.proofs.Last.{first_lasts, lasts_then}
+use Rattle.tape_writer.specs.{declared.course.Course.Course, declared.tape.Tape.Tape, Tapes.Ended}
+use Rattle.tape_writer.specs.{Draft.begun_course, Front.HoldsFront, Labels.header_items, Told.Told}
+use Rattle.tape_writer.specs.{Inside.IsBetween, Inside.IsWaiting, Lasting.Lasts}
+use Rattle.std.proofs.Common.{◌≡◌, ap, [], inr}
 use Rattle.tape_writer.proofs.records.begin.Goals as goal
 
 pub returns-in_err-begin_volume-clause-front : goal.returns-in_err-begin_volume-clause-front
@@ -61,7 +59,7 @@ under_way g c set_id told k =
           (subst (λ z. IsBetween H vs c.args.capacity set_id new z) (sym empty) between)
       | else-tape-eq0 w ↦ subst IsNow (sym w.tape-is)
           (is_begun (g.T.TapeOut.holds c.args.tape.now.out) vs c.args.capacity set_id old told
-          (search rules) k)
+          (search rules) k).0
     ]
 
 pub returns-clause-filing : goal.returns-clause-filing

@@ -1,11 +1,9 @@
 -- The current block is written, in the current section or after a change of the volume.
-use Rattle.tape_writer.proofs.Words.{rules, arith, refl, ◌∷◌, [], Ok}
-use Rattle.tape_writer.proofs.Words.{err_from_is_err_and, block, item_size}
+use Rattle.tape_writer.proofs.Words.{rules, arith, refl, ◌∷◌, [], Ok, err_from_is_err_and, block}
+use Rattle.tape_writer.proofs.{Words.item_size, Words.lt-leb, Held.write_here, Held.write_next}
+use Rattle.tape_writer.proofs.{Room.flushed_here, Fronts.took, Fronts.front_items, Fronts.err_any}
+use Rattle.tape_writer.proofs.Last.{lasting_self}
 use Rattle.tape_writer.specs.{Draft.added_course, Draft.changed_course, Front.HoldsFront}
-use Rattle.tape_writer.proofs.Held.{write_here, write_next}
-use Rattle.tape_writer.proofs.Room.{flushed_here}
-use Rattle.tape_writer.proofs.{Fronts.took, Fronts.front_items, Fronts.err_any, Last.lasting_self}
-use Rattle.tape_writer.proofs.Words.{lt-leb}
 use Rattle.tape_writer.proofs.records.flush.Goals as goal
 
 pub returns-in_default-clause-lasting : goal.returns-in_default-clause-lasting

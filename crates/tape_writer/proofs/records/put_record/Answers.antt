@@ -1,14 +1,13 @@
 -- The record's end, and one more block.
 use Rattle.tape_writer.proofs.Words.{rules, arith, length, ◌≡◌, refl, ◌∙◌, ◌++◌, ◌∷◌, [], sym}
 use Rattle.tape_writer.proofs.Words.{subst, ap, inl, inr, err_from_is_err_and, Packing, IsWritable}
-use Rattle.tape_writer.proofs.Words.{offers_shape}
+use Rattle.tape_writer.proofs.Packed.{packing_first, packing_last, packing_with, judged_next}
+use Rattle.tape_writer.proofs.{Words.offers_shape, Packed.judged_more, Stuck.stuck_put}
+use Rattle.tape_writer.proofs.Room.{begun_spanned, offered_room, taken_room}
+use Rattle.tape_writer.proofs.{Left.mid_left, Last.lasting_then, Last.lasting_self}
 use Rattle.std.proofs.lemmas.List.{take_rest}
 use Rattle.tape_writer.specs.Inside.{IsStuck}
 use Rattle.tape_blocks.specs.declared.offer.Offer.TheVariants.{BlockReady}
-use Rattle.tape_writer.proofs.Packed.{packing_first, packing_last, packing_with, judged_next}
-use Rattle.tape_writer.proofs.Room.{begun_spanned, offered_room, taken_room}
-use Rattle.tape_writer.proofs.{Packed.judged_more, Stuck.stuck_put, Left.mid_left}
-use Rattle.tape_writer.proofs.{Last.lasting_then, Last.lasting_self}
 use Rattle.tape_label.specs.declared.values.Format.TheVariants.{Spanned}
 use Rattle.tape_writer.proofs.records.put_record.Goals as goal
 

@@ -1,6 +1,5 @@
-use Rattle.tape_writer.proofs.Words.{sym, subst}
+use Rattle.tape_writer.proofs.{Words.sym, Words.subst, Written.begun_at}
 use Rattle.tape_writer.specs.{Tapes.Ended, Tapes.all_volumes, Images.AreImages}
-use Rattle.tape_writer.proofs.Written.{begun_at}
 use Rattle.tape_writer.proofs.images.ImageTapesTapeOut.change_volume.Goals as goal
 
 pub returns-clause-ok : goal.returns-clause-ok

@@ -1,12 +1,11 @@
-use Rattle.tape_writer.proofs.Words.{◌∙◌, ◌≡◌, refl, sym, subst}
-use Rattle.tape_writer.specs.declared.fault.WriteFault.TheVariants.{OutOfVolumes}
-use Rattle.tape_writer.specs.{Told.with_record, Front.IsLeftInside, State.IsWriting}
-use Rattle.tape_writer.specs.{State.IsOutOfVolumes}
 use Rattle.tape_writer.proofs.inputs.Putting.{within_none, within_one, given_cut, same_record}
-use Rattle.tape_writer.proofs.inputs.Putting.{gave_up, grows_self, grows_then}
 use Rattle.tape_writer.proofs.inputs.Refusing.{not_told, put_fault, put_other, next_fault}
-use Rattle.tape_writer.proofs.inputs.{Leaving.read_left, Leaving.put_left, Refusing.next_long}
-use Rattle.tape_writer.proofs.Last.{rose_from}
+use Rattle.tape_writer.proofs.Words.{◌∙◌, ◌≡◌, refl, sym, subst}
+use Rattle.tape_writer.proofs.inputs.Putting.{gave_up, grows_self, grows_then}
+use Rattle.tape_writer.proofs.{inputs.Refusing.next_long, Last.rose_from}
+use Rattle.tape_writer.proofs.inputs.Leaving.{read_left, put_left}
+use Rattle.tape_writer.specs.{declared.fault.WriteFault.TheVariants.OutOfVolumes, Told.with_record}
+use Rattle.tape_writer.specs.{Front.IsLeftInside, State.IsWriting, State.IsOutOfVolumes}
 use Rattle.tape_writer.proofs.inputs.files.put_records.Goals as goal
 
 pub records-preserved : goal.records-preserved

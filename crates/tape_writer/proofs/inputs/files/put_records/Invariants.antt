@@ -1,8 +1,6 @@
-use Rattle.tape_writer.proofs.Words.{◌≡◌, vec_capacity}
-use Rattle.tape_writer.specs.declared.course.Opened.{Opened}
-use Rattle.tape_writer.specs.{State.IsWriting, Refusals.IsInFile, Records.left_of, Room.room_left}
-use Rattle.tape_writer.specs.{Tapes.Grows}
-use Rattle.tape_writer.proofs.inputs.Putting.{PutWithin}
+use Rattle.tape_writer.proofs.{Words.◌≡◌, Words.vec_capacity, inputs.Putting.PutWithin}
+use Rattle.tape_writer.specs.{declared.course.Opened.Opened, State.IsWriting, Refusals.IsInFile}
+use Rattle.tape_writer.specs.{Records.left_of, Room.room_left, Tapes.Grows}
 use Rattle.tape_writer.proofs.inputs.files.put_records.Given as goal
 
 abbrev pub invariant-records : goal.invariant-records

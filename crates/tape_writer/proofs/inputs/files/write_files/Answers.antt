@@ -1,15 +1,13 @@
 use Rattle.tape_writer.proofs.Words.{rules, arith, get_or, ◌+◌, ◌++◌, ◌∷◌, [], length, refl, subst}
 use Rattle.tape_writer.proofs.Words.{◌∙◌, ◌≤◌, IfSome, ◌⊎◌, least_capacity, err_from_is_err_and}
-use Rattle.tape_writer.proofs.Last.{rose_from}
+use Rattle.tape_writer.proofs.{Last.rose_from, inputs.Refusing.wrote_fault, inputs.Leaving.all_more}
 use Rattle.tape_writer.proofs.inputs.Filing.{wrote_none, wrote_one, wrote_in}
-use Rattle.tape_writer.proofs.inputs.{Refusing.wrote_fault, Leaving.all_more, Putting.grows_self}
-use Rattle.tape_writer.proofs.inputs.{Putting.grows_then}
-use Rattle.tape_writer.specs.{LeftOf.GaveUp, LeftOf.IsLeftOf, LeftOf.IsLeftUnbegun, Told.with_file}
-use Rattle.tape_writer.specs.{Told.opened_by, Tapes.Rose, State.IsWriting, Records.records_of}
-use Rattle.std.proofs.Common.{◌≡◌, sym}
-use Rattle.std.proofs.Common.{Some}
-use Rattle.tape_writer.specs.declared.fault.WriteFault.{WriteFault}
-use Rattle.tape_writer.specs.{State.SetState, Refusals.closed_by}
+use Rattle.tape_writer.proofs.inputs.Putting.{grows_self, grows_then}
+use Rattle.tape_writer.specs.{LeftOf.GaveUp, LeftOf.IsLeftOf, LeftOf.IsLeftUnbegun, Tapes.Rose}
+use Rattle.tape_writer.specs.{Told.with_file, Told.opened_by, State.IsWriting, State.SetState}
+use Rattle.tape_writer.specs.{Records.records_of, declared.fault.WriteFault.WriteFault}
+use Rattle.tape_writer.specs.Refusals.{closed_by}
+use Rattle.std.proofs.Common.{◌≡◌, sym, Some}
 use Rattle.tape_writer.proofs.inputs.files.write_files.Goals as goal
 
 -- no file can begin in an unchanged writer

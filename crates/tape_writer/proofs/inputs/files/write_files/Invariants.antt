@@ -1,9 +1,8 @@
 use Rattle.tape_writer.proofs.Words.{◌≡◌, ◌<◌, ◌≤◌, ◌+◌, ◌-◌, length, IsWritable, least_capacity}
-use Rattle.std.proofs.Common.{Some}
-use Rattle.tape_writer.specs.declared.phase.Phase.TheVariants.{Between}
-use Rattle.tape_writer.specs.declared.fault.WriteFault.{WriteFault}
-use Rattle.tape_writer.specs.{State.IsWriting, Refusals.closed_by, Tapes.Grows}
 use Rattle.tape_writer.proofs.inputs.Filing.{Wrote}
+use Rattle.std.proofs.Common.{Some}
+use Rattle.tape_writer.specs.{declared.phase.Phase.TheVariants.Between, State.IsWriting}
+use Rattle.tape_writer.specs.{declared.fault.WriteFault.WriteFault, Refusals.closed_by, Tapes.Grows}
 use Rattle.tape_writer.proofs.inputs.files.write_files.Given as goal
 
 abbrev pub invariant-files : goal.invariant-files

@@ -1,13 +1,12 @@
 use Rattle.tape_writer.proofs.Words.{◌≤◌, [], ap, sym, subst, ◌∙◌, map, inl, inr, refl}
-use Rattle.tape_writer.proofs.Words.{least_capacity}
-use Rattle.tape_writer.specs.LeftOf.{GaveUpIn, IsLeftOfAll}
-use Rattle.tape_writer.specs.WriteFaults.{IsFaultOfCut, IsFilesFault, IsOfWriter}
-use Rattle.tape_writer.specs.{Images.Holds, Refusals.IsFinishFault, ToldFiles.IfAllKnown}
-use Rattle.tape_writer.specs.{ToldFiles.told_files, WriteSet.IsSetOfImages}
-use Rattle.tape_writer.proofs.{Last.rose_none, Fronts.behind_writing}
+use Rattle.tape_writer.proofs.{Words.least_capacity, Last.rose_none, Fronts.behind_writing}
 use Rattle.tape_writer.proofs.inputs.Refusing.{head_fault}
 use Rattle.tape_writer.proofs.inputs.Filing.{set_of_images, if_cut, all_known, of_plan}
 use Rattle.tape_writer.proofs.inputs.Leaving.{left_without, refused_left, finish_other}
+use Rattle.tape_writer.specs.{LeftOf.GaveUpIn, LeftOf.IsLeftOfAll, Images.Holds}
+use Rattle.tape_writer.specs.WriteFaults.{IsFaultOfCut, IsFilesFault, IsOfWriter}
+use Rattle.tape_writer.specs.{Refusals.IsFinishFault, ToldFiles.IfAllKnown, ToldFiles.told_files}
+use Rattle.tape_writer.specs.WriteSet.{IsSetOfImages}
 use Rattle.tape_writer.proofs.inputs.set.write_set.Goals as goal
 
 pub returns-clause-written : goal.returns-clause-written

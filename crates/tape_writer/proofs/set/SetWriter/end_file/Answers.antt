@@ -1,6 +1,5 @@
-use Rattle.tape_writer.proofs.Words.{rules}
-use Rattle.tape_writer.proofs.{Last.asked_of, Last.lasting_self, Left.left_end, Calls.end_told}
-use Rattle.tape_writer.proofs.{Calls.stuck_told}
+use Rattle.tape_writer.proofs.{Words.rules, Last.asked_of, Last.lasting_self, Left.left_end}
+use Rattle.tape_writer.proofs.Calls.{end_told, stuck_told}
 use Rattle.tape_writer.proofs.set.SetWriter.end_file.Goals as goal
 
 pub returns-in-Between-clause-lasting : goal.returns-in-Between-clause-lasting

@@ -1,6 +1,38 @@
-use Rattle.tape_writer.proofs.Words.{rules}
-use Rattle.tape_writer.proofs.{Last.asked_of, Last.lasting_self, Left.left_finish}
+use Rattle.tape_writer.proofs.Words.{rules, ◌∷◌, [], Ok, mark, sym, ap, ◌∙◌}
+use Rattle.tape_writer.specs.{Tapes.UnderWay, Front.HoldsFront, declared.course.Course.Course}
+use Rattle.tape_writer.proofs.Fronts.{err_any, front_closed, front_here, front_items, waits}
+use Rattle.tape_writer.proofs.{Ends.end_written, Last.lasting_self, Left.is_begun}
 use Rattle.tape_writer.proofs.set.SetWriter.finish.Goals as goal
+
+pub returns-in_err-mark-clause-front : goal.returns-in_err-mark-clause-front
+returns-in_err-mark-clause-front g c =
+    rw (← c.self.view_is) (λ told k. err_any c.from_residual.result _ (λ f ends.
+    let H = g.T.TapeOut.holds c.mark.new.self.out in
+    let begun = is_begun _ _ _ _ _ told (search rules) (waits _ _ told (search rules) k) in
+    end_written (HoldsFront H) (HoldsFront H) _ _ _ _ told
+    (g.T.TapeOut.holds c.self.inside.tape.out) c.self.invariant.wide begun.1 begun.0 (Ok tt)
+    (λ vs items h. front_items H vs items (mark ∷ []) (front_here H (UnderWay vs items)
+    (c.in_err-mark.ensures.err (UnderWay vs items) h))) (λ t h. front_closed H t h)))
+
+pub returns-in-Err-clause-front : goal.returns-in-Err-clause-front
+returns-in-Err-clause-front g c =
+    rw (← c.self.view_is) (λ told k ends.
+    let H = g.T.TapeOut.holds c.close.new.self in
+    let begun = is_begun _ _ _ _ _ told (search rules) (waits _ _ told (search rules) k) in
+    end_written (g.T.TapeOut.holds c.mark.new.self.out) (HoldsFront H) _ _ _ _ told
+    (g.T.TapeOut.holds c.self.inside.tape.out) c.self.invariant.wide begun.1 begun.0 (Ok tt)
+    c.in_ok-mark.ensures.ok (λ t h. front_closed H t (front_here H t (c.in-Err.ensures.err t h))))
+
+pub returns-clause-told : goal.returns-clause-told
+returns-clause-told g c =
+    rw (← c.self.view_is) (λ told k.
+    let begun = is_begun _ _ _ _ _ told (search rules) (waits _ _ told (search rules) k) in record {
+      kept = k.kept;
+      stands = end_written (g.T.TapeOut.holds c.mark.new.self.out)
+          (g.T.TapeOut.holds c.close.new.self) _ _ _ _ told
+          (g.T.TapeOut.holds c.self.inside.tape.out) c.self.invariant.wide begun.1 begun.0 (Ok tt)
+          c.in_ok-mark.ensures.ok c.in_default.ensures.ok;
+    })
 
 pub returns-in-Filing-clause-lasting : goal.returns-in-Filing-clause-lasting
 returns-in-Filing-clause-lasting g c = lasting_self _ _ _
@@ -14,12 +46,8 @@ returns-in-Finished-clause-lasting g c = lasting_self _ _ _
 pub returns-then-self-eq0-clause-lasting : goal.returns-then-self-eq0-clause-lasting
 returns-then-self-eq0-clause-lasting g c = lasting_self _ _ _
 
-pub returns-in-Ok-clause-asked : goal.returns-in-Ok-clause-asked
-returns-in-Ok-clause-asked g c =
-    rw (← c.self.view_is) (λ w. asked_of _ _ _ _ _ _ (search rules) c.in-Ok.ensures.asked w)
-
-pub returns-in-Err-clause-front : goal.returns-in-Err-clause-front
-returns-in-Err-clause-front g c =
-    rw (← c.self.view_is) (λ told k ends. left_finish (g.T.TapeOut.holds c.self.inside.tape.out)
-    (g.T.TapeOut.holds c.end_set.new.tape.out) _ _ told (search rules) (search rules) (search rules)
-    (λ some x. c.end_set.ensures.front c.self.inside.set_id told some x) k)
+pub returns-clause-asked : goal.returns-clause-asked
+returns-clause-asked g c =
+    rw (← c.self.view_is) (λ w k v number there. c.in_default.ensures.asked v
+    (c.mark.ensures.asked v (w k v
+    (sym (ap (λ (z : Course). z.volume) c.in_ok-mark.ensures.course) ∙ number) there)))

@@ -1,6 +1,5 @@
 use Rattle.tape_writer.proofs.Words.{arith, ◌++◌, take, append_assoc}
-use Rattle.std.proofs.KnownBytes.{Appends-trans}
-use Rattle.std.proofs.lemmas.Grind.{common_steps}
+use Rattle.std.proofs.{KnownBytes.Appends-trans, lemmas.Grind.common_steps}
 use Rattle.tape_writer.proofs.system.bytes.put_all.Goals as goal
 
 pub writes-preserved : goal.writes-preserved

@@ -18,8 +18,8 @@ returns-in-Err-clause-front g c = λ tapes h.
 pub returns-clause-front : goal.returns-clause-front
 unfolding volume_label
 returns-clause-front g c = λ tapes h.
-    let H = g.T.TapeOut.holds c.label.new.self.out in
+    let H = g.T.TapeOut.holds c.block.new.self.out in
     subst (λ z. HoldsFront H (UnderWay (all_volumes tapes) (block z ∷ [])))
     c.write_vol1.ensures.text
     (took (g.T.TapeOut.holds c.change_volume.new.self) H (block c.write_vol1.result ∷ []) _
-    c.label.ensures.ok c.label.ensures.err (all_volumes tapes) [] (c.in_default.ensures.ok tapes h))
+    c.block.ensures.ok c.block.ensures.err (all_volumes tapes) [] (c.in_default.ensures.ok tapes h))

@@ -1,13 +1,11 @@
 -- The last block and the end of a file, in the current section or after a change of the volume.
 use Rattle.tape_writer.proofs.Words.{rules, arith, refl, true, sym, subst, inl, Ok, Err}
-use Rattle.tape_writer.proofs.Words.{err_from_is_err_and}
-use Rattle.tape_writer.specs.declared.fault.WriteFault.TheVariants.{OutOfVolumes}
-use Rattle.tape_writer.specs.Draft.{ended_course, changed_course}
-use Rattle.tape_writer.specs.{Labels.trailer_items, Front.HoldsFront, Inside.IsStuck}
-use Rattle.tape_writer.proofs.{Ends.between_closed, Fronts.front_items, Fronts.err_any}
-use Rattle.tape_writer.proofs.{Held.close_here, Held.close_next, Left.last_left}
-use Rattle.tape_writer.proofs.{Left.end_left, Packed.flat_flushed, Stuck.stuck_last}
-use Rattle.tape_writer.proofs.{Stuck.stuck_end}
+use Rattle.tape_writer.proofs.{Words.err_from_is_err_and, Ends.between_closed, Packed.flat_flushed}
+use Rattle.tape_writer.proofs.{Fronts.front_items, Fronts.err_any, Held.close_here, Held.close_next}
+use Rattle.tape_writer.proofs.{Left.last_left, Left.end_left, Stuck.stuck_last, Stuck.stuck_end}
+use Rattle.tape_writer.specs.{declared.fault.WriteFault.TheVariants.OutOfVolumes, Front.HoldsFront}
+use Rattle.tape_writer.specs.{Draft.ended_course, Draft.changed_course, Labels.trailer_items}
+use Rattle.tape_writer.specs.Inside.{IsStuck}
 use Rattle.std.proofs.lemmas.Result.{IfErr-weaker}
 use Rattle.tape_writer.proofs.tape.Tape.end_file.Goals as goal
 

@@ -11,18 +11,18 @@ returns-in_err-mark-clause-front g c = λ vs items h. front_items
     (g.T.TapeOut.holds c.mark.new.self.out) vs items _ (front_here _ (UnderWay vs items)
     (c.in_err-mark.ensures.err (UnderWay vs items) h))
 
-pub returns-in_err-label-clause-front : goal.returns-in_err-label-clause-front
-returns-in_err-label-clause-front g c = λ vs items h.
+pub returns-in_err-block-clause-front : goal.returns-in_err-block-clause-front
+returns-in_err-block-clause-front g c = λ vs items h.
     let course = c.args.self.now.course in
     let rest : List TapeItem =
     block (trailer_label c.args.file.now course.sect course.count c.args.eof)
     ∷ block (second_label c.args.file.now (second_kind c.args.eof)) ∷ mark ∷ [] in
-    front_behind (g.T.TapeOut.holds c.label.new.self.out) vs items (mark ∷ []) rest
+    front_behind (g.T.TapeOut.holds c.block.new.self.out) vs items (mark ∷ []) rest
     (front_here _ (UnderWay vs (items ++ mark ∷ []))
-    (c.in_err-label.ensures.err _ (c.in_ok-mark.ensures.ok vs items h)))
+    (c.in_err-block.ensures.err _ (c.in_ok-mark.ensures.ok vs items h)))
 
-pub returns-in_err-label-2-clause-front : goal.returns-in_err-label-2-clause-front
-returns-in_err-label-2-clause-front g c = λ vs items h.
+pub returns-in_err-block-2-clause-front : goal.returns-in_err-block-2-clause-front
+returns-in_err-block-2-clause-front g c = λ vs items h.
     let file = c.args.file.now in
     let course = c.args.self.now.course in
     let text = c.trailer_label.ensures
@@ -31,13 +31,13 @@ returns-in_err-label-2-clause-front g c = λ vs items h.
     block (trailer_label file course.sect course.count c.args.eof) ∷ [] in
     let second : List TapeItem = block (second_label file (second_kind c.args.eof)) ∷ mark ∷ [] in
     let one = c.in_ok-mark.ensures.ok vs items h in
-    let two = subst (λ z. g.T.TapeOut.holds c.label.new.self.out
+    let two = subst (λ z. g.T.TapeOut.holds c.block.new.self.out
     (UnderWay vs ((items ++ mark ∷ []) ++ block z ∷ []))) text
-    (c.in_ok-label.ensures.ok vs (items ++ mark ∷ []) one) in
-    front_thrice (g.T.TapeOut.holds c.label-2.new.self.out) vs items (mark ∷ []) trailer second
+    (c.in_ok-block.ensures.ok vs (items ++ mark ∷ []) one) in
+    front_thrice (g.T.TapeOut.holds c.block-2.new.self.out) vs items (mark ∷ []) trailer second
     (front_items _ vs ((items ++ mark ∷ []) ++ trailer) second
     (front_here _ (UnderWay vs ((items ++ mark ∷ []) ++ trailer))
-    (c.in_err-label-2.ensures.err _ two)))
+    (c.in_err-block-2.ensures.err _ two)))
 
 pub returns-clause-front : goal.returns-clause-front
 returns-clause-front g c = λ vs items h.
@@ -50,14 +50,14 @@ returns-clause-front g c = λ vs items h.
     block (trailer_label file course.sect course.count c.args.eof) ∷ [] in
     let second : List TapeItem = block (second_label file (second_kind c.args.eof)) ∷ [] in
     let one = c.in_ok-mark.ensures.ok vs items h in
-    let two = subst (λ z. g.T.TapeOut.holds c.label.new.self.out
+    let two = subst (λ z. g.T.TapeOut.holds c.block.new.self.out
     (UnderWay vs ((items ++ mark ∷ []) ++ block z ∷ []))) text
-    (c.in_ok-label.ensures.ok vs (items ++ mark ∷ []) one) in
-    let three = subst (λ z. g.T.TapeOut.holds c.label-2.new.self.out (UnderWay vs
-    (((items ++ mark ∷ []) ++ trailer) ++ block z ∷ []))) text2 (c.in_ok-label-2.ensures.ok vs
+    (c.in_ok-block.ensures.ok vs (items ++ mark ∷ []) one) in
+    let three = subst (λ z. g.T.TapeOut.holds c.block-2.new.self.out (UnderWay vs
+    (((items ++ mark ∷ []) ++ trailer) ++ block z ∷ []))) text2 (c.in_ok-block-2.ensures.ok vs
     ((items ++ mark ∷ []) ++ trailer) two) in
     let H = g.T.TapeOut.holds c.mark-2.new.self.out in
     front_thrice H vs items (mark ∷ []) trailer (second ++ mark ∷ []) (front_assoc H vs
     ((items ++ mark ∷ []) ++ trailer) second (mark ∷ []) (took
-    (g.T.TapeOut.holds c.label-2.new.self.out) H (mark ∷ []) _ c.mark-2.ensures.ok
+    (g.T.TapeOut.holds c.block-2.new.self.out) H (mark ∷ []) _ c.mark-2.ensures.ok
     c.mark-2.ensures.err vs (((items ++ mark ∷ []) ++ trailer) ++ second) three))

@@ -1,5 +1,4 @@
-use Rattle.tape_writer.proofs.Words.{rules, refl}
-use Rattle.tape_writer.proofs.Last.{lasting_item, lasting_err}
+use Rattle.tape_writer.proofs.{Words.rules, Words.refl, Last.lasting_item, Last.lasting_err}
 use Rattle.tape_writer.proofs.tape.Tape.mark.Goals as goal
 
 pub returns-in-Ok-clause-lasting : goal.returns-in-Ok-clause-lasting

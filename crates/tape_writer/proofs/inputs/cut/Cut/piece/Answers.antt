@@ -1,11 +1,10 @@
 use Rattle.tape_writer.proofs.Words.{◌≡◌, ◌≤◌, ◌+◌, ◌-◌, ◌++◌, length, take, false, true, refl, sym}
+use Rattle.tape_writer.proofs.inputs.Cutting.{line_ended, line_inside, length_passed, length_inside}
 use Rattle.tape_writer.proofs.Words.{subst, arith, length-take-le}
-use Rattle.std.proofs.Common.{eq-eqb}
-use Rattle.std.proofs.lemmas.Bool.{eqb-true}
+use Rattle.tape_writer.proofs.inputs.Cutting.{length_ended, whole_inside, adds_all}
+use Rattle.std.proofs.{Common.eq-eqb, lemmas.Bool.eqb-true}
 use Rattle.tape_writer.specs.declared.inputs.cut.Cut.TheVariants.{Lines, Length, Whole}
 use Rattle.tape_writer.specs.Records.{Adds}
-use Rattle.tape_writer.proofs.inputs.Cutting.{line_ended, line_inside, length_passed, length_inside}
-use Rattle.tape_writer.proofs.inputs.Cutting.{length_ended, whole_inside, adds_all}
 use Rattle.tape_writer.proofs.inputs.cut.Cut.piece.Goals as goal
 
 pub returns-in-Some-clause-adds : goal.returns-in-Some-clause-adds
