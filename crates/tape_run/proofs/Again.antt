@@ -1,31 +1,24 @@
 -- The result of reading images in passes, or of a fault that ended the passes.
-use Rattle.std.proofs.Common.{◌≡◌, ◌⊎◌, Bool, ℕ, ◌<◌, ◌≤◌, List, [], ◌++◌, Option, length}
-use Rattle.std.proofs.Common.{None, refl, sym, ap, subst, ◌∙◌, inl, inr, true}
-use Rattle.std.specs.Io.KnownBytes.{Appends}
+use Rattle.std.proofs.Common.{◌≡◌, ◌⊎◌, Bool, ℕ, ◌<◌, ◌≤◌, List, [], ◌++◌, Option, length, None}
+use Rattle.std.proofs.Common.{refl, sym, ap, subst, ◌∙◌, inl, inr, true}
 use Rattle.std.proofs.KnownBytes.{Appends-trans}
+use Rattle.std.specs.Io.KnownBytes.{Appends}
 use Rattle.tape_blocks.specs.declared.parts.Form.{Form}
-use Rattle.tape_set.specs.declared.position.Position.TheVariants.{Finished}
+use Rattle.tape_set.specs.{declared.position.Position.TheVariants.Finished, Position.want_at}
 use Rattle.tape_set.specs.declared.position.Want.{Want}
-use Rattle.tape_set.specs.Position.{want_at}
-use Rattle.tape_core.specs.declared.sink.PartSink.{Ghosts}
-use Rattle.tape_run.specs.Crash.{IsWalked}
-use Rattle.tape_core.specs.State.{State}
-use Rattle.tape_run.specs.Seen.{Seen, seen}
-use Rattle.tape_run.specs.SessionState.{SessionState}
-use Rattle.tape_run.specs.ReelLine.{last_line}
+use Rattle.tape_core.specs.{declared.sink.PartSink.Ghosts, State.State}
+use Rattle.tape_run.specs.Rounds.{Round, turns_of, core_behind, wanted, IsEnough, FollowsRounds}
+use Rattle.tape_run.specs.{Crash.IsWalked, Seen.Seen, Seen.seen, SessionState.SessionState}
+use Rattle.tape_run.specs.{ReelLine.last_line, Rounds.TakesRounds, Rounds.StopsInRound}
 use Rattle.tape_run.specs.Reeling.{Turn, Follows, goes_back, Mounting}
-use Rattle.tape_run.specs.Rounds.{Round, turns_of, core_behind, wanted, IsEnough}
-use Rattle.tape_run.specs.Rounds.{FollowsRounds, TakesRounds, StopsInRound}
 use Rattle.tape_run.specs.Extracting.{EndsFile, StopsAtEnd}
 use Rattle.tape_run.specs.ExtractingAgain.{ExtractsAgain, StopsAgain}
+use Rattle.tape_run.specs.declared.fault.EngineFault.{EngineFault}
 use Rattle.tape_image.specs.Written.{AppendsFront}
 use Rattle.tape_image.proofs.Pieces.{front_more, front_behind}
 use Rattle.tape_run.proofs.Extracted.{ended, all_read, told_then, tells_then, less_then}
-use Rattle.tape_run.proofs.Extracted.{leaves_more}
-use Rattle.tape_run.proofs.Lasting.{last_then, stood_walked}
-use Rattle.tape_run.proofs.Left.{left_walked, left_behind}
-use Rattle.tape_run.proofs.StoppedThere.{stopped_walked}
-use Rattle.tape_run.specs.declared.fault.EngineFault.{EngineFault}
+use Rattle.tape_run.proofs.{Extracted.leaves_more, Lasting.last_then, Lasting.stood_walked}
+use Rattle.tape_run.proofs.{Left.left_walked, Left.left_behind, StoppedThere.stopped_walked}
 use Rattle.tape_run.proofs.Turns.{follows_then}
 use Rattle.tape_run.proofs.Rounds.{all_turns, lines_of_all, front_of_all}
 

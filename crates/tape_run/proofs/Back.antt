@@ -5,17 +5,16 @@ use Rattle.std.proofs.Common.{arith, IsSome, replicate, min, unwrap_or}
 use Rattle.std.proofs.lemmas.List.{length-replicate}
 use Rattle.tape_blocks.specs.Spans.{join}
 use Rattle.tape_image.specs.Tape.{TapeItem}
-use Rattle.tape_set.specs.declared.position.Position.TheVariants.{Finished}
+use Rattle.tape_set.specs.{declared.position.Position.TheVariants.Finished, Lawful.IsLawful}
 use Rattle.tape_set.specs.Layout.{FileSet, Section, Volume, nth, file_of, items}
-use Rattle.tape_set.specs.{Lawful.IsLawful, Before.before, Before.section_parts, Reach.far}
-use Rattle.tape_set.specs.Reach.{far_over}
+use Rattle.tape_set.specs.{Before.before, Before.section_parts, Reach.far, Reach.far_over}
 use Rattle.tape_set.specs.Reading.{Reading, as_read, whole_reading, whole_readings}
 use Rattle.tape_set.proofs.AllVolumes.{file_is_lawful, there_and_back}
 use Rattle.tape_set.proofs.FileParts.{file_whole}
-use Rattle.tape_run.specs.{Mount.reads, Mount.IsCopy, Mount.IsMountOf, History.Course}
-use Rattle.tape_run.specs.{History.course, History.IsHistory, Seen.Seen, Headline.begins}
-use Rattle.tape_run.specs.{Headline.IsRead, Given.AreGivenBy, Given.failed_of, Given.counted_up}
-use Rattle.tape_run.specs.Back.{reels_of, AreVolumes}
+use Rattle.tape_run.specs.{Mount.reads, Mount.IsCopy, Mount.IsMountOf, Seen.Seen}
+use Rattle.tape_run.specs.History.{Course, course, IsHistory}
+use Rattle.tape_run.specs.{Headline.begins, Headline.IsRead, Back.reels_of, Back.AreVolumes}
+use Rattle.tape_run.specs.Given.{AreGivenBy, failed_of, counted_up}
 
 -- ---- a history of readings
 

@@ -6,8 +6,7 @@ use Rattle.tape_set.proofs.AllVolumes.{has_start}
 use Rattle.tape_core.specs.{Point.Point, State.State, Table.reader_of, Stands.Stands, Follows.IsAt}
 use Rattle.tape_core.specs.Place.{rest_of, place_of, IsPlaced}
 use Rattle.tape_core.proofs.Standing.{rests, stood}
-use Rattle.tape_run.specs.declared.script.Step.{Step}
-use Rattle.tape_run.specs.Seen.{Seen, IsSession, IsKept}
+use Rattle.tape_run.specs.{declared.script.Step.Step, Seen.Seen, Seen.IsSession, Seen.IsKept}
 use Rattle.tape_run.specs.History.{Course, course, course_of, IsHistory}
 use Rattle.tape_run.specs.Headline.{HasRun, begins, IsNew, IsStart, IsRead}
 use Rattle.tape_run.specs.{Given.counted_up, Given.failed_of, Lead.at_start}

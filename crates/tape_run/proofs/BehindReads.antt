@@ -1,33 +1,43 @@
 -- If the table leads over a mount of a valid set, that mount was read.
 use Rattle.std.proofs.Common.{◌≡◌, ◌≢◌, ◌⊎◌, inl, inr, ℕ, ◌+◌, ◌<◌, List, [], ◌∷◌, ◌++◌, length}
-use Rattle.std.proofs.Common.{drop, Some, refl, sym, ap, subst, ◌∙◌, arith, append-nil}
-use Rattle.std.proofs.Common.{append_assoc, length-append, slice_get}
-use Rattle.tape_blocks.specs.Block.{Portion}
+use Rattle.std.proofs.Common.{drop, take, Some, refl, sym, ap, subst, ◌∙◌, arith, append-nil}
+use Rattle.std.proofs.Common.{append_assoc, length-append, length-drop, slice_get}
+use Rattle.tape_blocks.specs.{Block.Portion, Judged.begun_behind}
 use Rattle.tape_image.specs.Tape.{TapeItem, block}
-use Rattle.tape_set.specs.declared.position.Position.{Position}
-use Rattle.tape_set.specs.{Layout.FileSet, Lawful.IsLawful, Position.part_of, Before.before}
-use Rattle.tape_core.specs.declared.event.{Answer.Answer, Phase.Phase, Phase.TheVariants.Broken}
+use Rattle.tape_set.specs.{declared.position.Position.Position, Layout.FileSet, Lawful.IsLawful}
+use Rattle.tape_set.specs.{Before.before, Position.part_of, Position.at_part, Position.next_block}
+use Rattle.tape_core.specs.{declared.event.Answer.Answer, State.State}
 use Rattle.tape_core.specs.declared.event.Answer.TheVariants.{Passed, Deliver}
-use Rattle.tape_core.specs.{State.State, Place.IsPlaced, Place.rest_of, Place.resting}
-use Rattle.tape_core.specs.Table.{step_of, mount_of, mounted}
-use Rattle.tape_set.specs.declared.position.Position.TheVariants.{Awaits, Finished}
+use Rattle.tape_core.specs.Place.{IsPlaced, rest_of, place_of}
+use Rattle.tape_core.specs.Table.{step_of, mount_of, saved}
 use Rattle.tape_core.proofs.OneFile.{step_file}
-use Rattle.tape_run.specs.Mount.{MountEvent, IsMount, cut}
-use Rattle.tape_run.specs.{Reels.behind_items, ByTable.parts_at, ByTable.delivered_parts}
-use Rattle.tape_run.specs.{ByTable.IsLed, GoesBehind.ReadsByHistory, Steps.ReadBy, Under.is_under}
-use Rattle.tape_run.proofs.{ByTable.puts_delivered, ByTable.puts_none, GoesBehind.leads_over_all}
-use Rattle.tape_run.proofs.Places.{gives_block, gives_none}
-use Rattle.tape_run.proofs.Mounts.{Both, both, reached, cut_whole, begins}
+use Rattle.tape_run.specs.Mount.{MountEvent, IsMount, cut, after_mount}
+use Rattle.tape_run.specs.{Reels.behind_items, GoesBehind.ReadsByHistory, Puts.refused_point}
+use Rattle.tape_run.specs.ByTable.{parts_at, delivered_parts, IsLed, IsCutAt}
+use Rattle.tape_run.specs.Steps.{ReadBy, StoppedBy}
+use Rattle.tape_run.proofs.ByTable.{puts_delivered, puts_none, drop_take, resting_mounted}
+use Rattle.tape_run.proofs.{ByTable.resting_twice, GoesBehind.leads_over_all}
+use Rattle.tape_run.proofs.Places.{gives_block, gives_none, refused_place}
+use Rattle.tape_run.proofs.Mounts.{Both, both, reached, cut_whole, begins, is_under}
 
 deliver_or : (a : Answer) → (a ≡ Deliver) ⊎ (a ≢ Deliver)
 deliver_or Deliver = inl refl
 deliver_or Passed = inr (λ e. cc)
 deliver_or _ = inr (λ e. cc)
 
-slice_at : (taken rest : List TapeItem) (x : TapeItem)
-    → slice_get (taken ++ x ∷ rest) (length taken) ≡ Some x
-slice_at [] rest x = refl
-slice_at (y ∷ taken) rest x = slice_at taken rest x
+-- an item among others
+item_here : (taken rest : List TapeItem) (item : TapeItem)
+    → (length taken < length (taken ++ item ∷ rest))
+    × (Some item ≡ slice_get (taken ++ item ∷ rest) (length taken))
+item_here [] rest item = (omega arith, refl)
+item_here (x ∷ taken) rest item =
+    let (lt, is) = item_here taken rest item in (omega (arith, lt), is)
+
+item_at : (xs taken rest : List TapeItem) (item : TapeItem) → xs ≡ taken ++ item ∷ rest
+    → (length taken < length xs) × (Some item ≡ slice_get xs (length taken))
+item_at xs taken rest item e =
+    subst (λ (z : List TapeItem). (length taken < length z)
+    × (Some item ≡ slice_get z (length taken))) (sym e) (item_here taken rest item)
 
 -- an item of a mount under way was processed: the position agrees with the parts delivered
 placed_behind : (core : State) (x : TapeItem) (set : FileSet) (held : List Portion) (p : Position)
@@ -57,62 +67,126 @@ placed_behind core x set held p xs i h at b =
       ];
     }
 
--- the table reads the rest of a mount under way
-read_on : (set : FileSet) (p : Position) (h : MountEvent) (taken rest whole : List TapeItem)
-    (core : State) (held : List Portion) → IsLawful set → whole ≡ taken ++ rest
-    → IsMount set whole h → IsPlaced set (rest_of core) held
-    → is_under core set p whole (length taken) h
-    → ReadBy set core.file p h (rest_of (behind_items core rest))
-    (held ++ delivered_parts core rest)
-read_on set p h taken [] whole core held l is m at under =
-    grind (arith, append-nil, rest_of, reached, cut, cut_whole)
-read_on set p h taken (x ∷ rest) whole core held l is m at under =
-    let here : Some x ≡ slice_get whole (length taken) =
-    sym (ap (λ (z : List TapeItem). slice_get z (length taken)) is ∙ slice_at taken rest x) in
-    let less : length taken < length whole =
-    omega (arith, ap length is, length-append taken (x ∷ rest)) in
-    let b = both _ (step_of core (Some x)) _ refl _ _ _ _ _ _ l m at under less here in
+-- Items of a mount under way were processed.
+record Upto (set : FileSet) (p : Position) (h : MountEvent) (whole : List TapeItem) (i file : ℕ)
+    (core : State) (now : List Portion) : Type 0 where
+  at : IsPlaced set (rest_of core) now
+  under : is_under core set p whole i h
+  same : core.file ≡ file
+
+-- the table leads over more items of a mount under way
+led_on : (set : FileSet) (p : Position) (h : MountEvent) (taken items rest whole : List TapeItem)
+    (core : State) (held : List Portion) → IsLawful set → whole ≡ taken ++ (items ++ rest)
+    → IsMount set whole h → Upto set p h whole (length taken) core.file core held
+    → Upto set p h whole (length (taken ++ items)) core.file (behind_items core items)
+    (held ++ delivered_parts core items)
+led_on set p h taken [] rest whole core held l is m up =
+    rw (append-nil taken, append-nil held) up
+led_on set p h taken (x ∷ items) rest whole core held l is m up =
+    let (less, here) = item_at whole taken (items ++ rest) x is in
+    let b = both _ (step_of core (Some x)) _ refl _ _ _ _ _ _ l m up.at up.under less here in
     let new = (step_of core (Some x)).1 in
-    let more : whole ≡ (taken ++ x ∷ []) ++ rest = is ∙ sym (append_assoc taken (x ∷ []) rest) in
+    let file : new.file ≡ core.file = step_file core (step_of core (Some x)) (Some x) refl in
+    let one = append_assoc taken (x ∷ []) items in
     let count : length taken + 1 ≡ length (taken ++ x ∷ []) =
     sym (length-append taken (x ∷ [])) in
-    let then = read_on set p h (taken ++ x ∷ []) rest whole new (held ++ parts_at core x) l more m
-    (placed_behind _ _ _ _ _ _ _ _ at b) (subst (λ n. is_under new set p whole n h) count b.under)
-    in
-    let file : new.file ≡ core.file = step_file core (step_of core (Some x)) (Some x) refl in
-    subst (λ (q : List Portion). ReadBy set core.file p h (rest_of (behind_items new rest)) q)
-    (append_assoc held (parts_at core x) (delivered_parts new rest)) (subst (λ (f : ℕ). ReadBy set f
-    p h (rest_of (behind_items new rest)) ((held ++ parts_at core x) ++ delivered_parts new rest))
-    file then)
+    let then = led_on set p h (taken ++ x ∷ []) items rest whole new (held ++ parts_at core x) l
+    (is ∙ sym (append_assoc taken (x ∷ []) (items ++ rest))) m (record {
+      at = placed_behind _ _ _ _ _ _ _ _ up.at b;
+      under = subst (λ n. is_under new set p whole n h) count b.under;
+      same = refl;
+    }) in
+    record {
+      at = subst (λ (q : List Portion). IsPlaced set (rest_of (behind_items new items)) q)
+          (append_assoc held (parts_at core x) (delivered_parts new items)) then.at;
+      under = subst (λ (z : List TapeItem). is_under (behind_items new items) set p whole (length z)
+          h) one then.under;
+      same = then.same ∙ file;
+    }
 
-rest_mounted : (p : Phase) (q : Position) → resting (mounted p q) ≡ resting p
-rest_mounted Broken q = refl
-rest_mounted _ Finished = refl
-rest_mounted _ (Awaits sect b part) = refl
-
-pub rest_twice : (p : Phase) → resting (resting p) ≡ resting p
-rest_twice Broken = refl
-rest_twice _ = refl
+-- the first items of a mount
+led_front : (set : FileSet) (h : MountEvent) (items rest xs : List TapeItem) (place : State)
+    (held : List Portion) → IsLawful set → xs ≡ items ++ rest → IsMount set xs h
+    → place ≡ rest_of place → IsPlaced set place held
+    → Upto set place.position h xs (length items) place.file (behind_items (mount_of place) items)
+    (held ++ delivered_parts (mount_of place) items)
+led_front set h items rest xs place held l is m resting at =
+    let same : rest_of (mount_of place) ≡ rest_of place = ap (λ f. record place { phase = f })
+    (resting_mounted place.phase place.position) in
+    let there : place ≡ rest_of (mount_of place) = resting ∙ sym same in
+    led_on set place.position h [] items rest xs (mount_of place) held l is m (record {
+      at = subst (λ (z : State). IsPlaced set z held) there at;
+      under = begins place (mount_of place) refl same set held xs h l m
+          (subst (λ (z : State). IsPlaced set z held) resting at);
+      same = refl;
+    })
 
 -- a mount that the table leads over was read
 pub led_reads : (set : FileSet) (h : MountEvent) (xs : List TapeItem) (place new : State)
     (held now : List Portion) → IsLawful set → IsMount set xs h → place ≡ rest_of place
     → IsPlaced set place held → IsLed xs (mount_of place) new held now
     → ReadBy set place.file place.position h new now
-led_reads set h xs place new held now l m rest at led =
-    let under = begins place (mount_of place) refl
-    (ap (λ f. record place { phase = f }) (rest_mounted place.phase place.position))
-    set held xs h l m (subst (λ (z : State). IsPlaced set z held) rest at) in
-    let there : place ≡ rest_of (mount_of place) = rest
-    ∙ ap (λ f. record place { phase = f }) (sym (rest_mounted place.phase place.position)) in
-    let r = read_on set place.position h [] xs xs (mount_of place) held l refl m
-    (subst (λ (z : State). IsPlaced set z held) there at) under in
-    subst (λ (q : List Portion). ReadBy set place.file place.position h new q) (sym led.parts)
-    (subst (λ (z : State). ReadBy set place.file place.position h z
-    (held ++ delivered_parts (mount_of place) xs)) (sym led.place) r)
+led_reads set h xs place new held now l m resting at led =
+    let up = led_front set h xs [] xs place held l (sym (append-nil xs)) m resting at in
+    let there = reached _ set place.position xs (length xs) h l m up.under in
+    rw (led.place, led.parts) (record {
+      at = up.at;
+      position = there ∙ (ap (λ f. after_mount set f place.position (cut (length xs) h)) up.same
+          ∙ ap (after_mount set place.file place.position) (cut_whole set xs h m));
+    })
+
+-- and one that it leads over up to a refused part was read up to that part
+pub cut_reads : (set : FileSet) (h : MountEvent) (xs : List TapeItem) (place new : State)
+    (held now : List Portion) → IsLawful set → IsMount set xs h → place ≡ rest_of place
+    → IsPlaced set place held → IsCutAt xs (mount_of place) new held now
+    → StoppedBy set place.file place.position xs h new now
+cut_reads set h xs place new held now l m resting at c =
+    let p = place.position in
+    let i = length c.before in
+    let up = led_front set h c.before (c.item ∷ c.behind) xs place held l c.all m resting at in
+    let core = behind_items (mount_of place) c.before in
+    let out = step_of core (Some c.item) in
+    let s = c.stops in
+    let n = part_of core.position + s.more in
+    let (less, here) = item_at xs c.before c.behind c.item c.all in
+    let b = both core out (Some c.item) refl set _ p xs i h l m up.at up.under less here in
+    let (x, came, gives) = b.took.gives in
+    let d = gives_block set x out.0 (rest_of core) (rest_of out.1) s.delivers gives in
+    let same : out.1.file ≡ core.file = step_file core out (Some c.item) refl in
+    let is : Some c.item ≡ Some (block d.filled.bytes) = came ∙ ap Some d.is_block in
+    let part : d.part ≡ part_of core.position = sym (ap part_of d.awaited) in
+    let all : drop d.part d.filled.parts ≡ parts_at core c.item =
+    puts_delivered core out.1 out.0 (Some c.item) d.filled.bytes d.form d.filled.parts d.part refl
+    s.delivers is d.is_known d.holds part in
+    let put : drop d.part (take n d.filled.parts) ≡ take s.more (parts_at core c.item) =
+    ap (λ k. drop k (take n d.filled.parts)) part
+    ∙ (drop_take (part_of core.position) s.more d.filled.parts
+    ∙ ap (take s.more) (ap (λ k. drop k d.filled.parts) (sym part) ∙ all)) in
+    let upto : core.position ≡ after_mount set place.file p (cut i h) =
+    reached core set p xs i h l m up.under
+    ∙ ap (λ f. after_mount set f p (cut i h)) up.same in
+    let behind : out.1.position ≡ after_mount set place.file p (cut (i + 1) h) =
+    reached out.1 set p xs (i + 1) h l m b.under
+    ∙ ap (λ f. after_mount set f p (cut (i + 1) h)) (same ∙ up.same) in
+    record {
+      at = rw (s.place, s.parts) (subst (λ (q : List Portion). IsPlaced set (place_of (refused_point
+          (saved core 0) (saved out.1 0) n (begun_behind core.begun q)))
+          ((held ++ delivered_parts (mount_of place) c.before) ++ q)) put
+          (refused_place set x (rest_of core) (rest_of out.1)
+          (held ++ delivered_parts (mount_of place) c.before) n d up.at b.took.at same
+          (omega (arith, part))
+          (omega (arith, part, s.within, length-drop d.part d.filled.parts, ap length all))));
+      n = i;
+      content = d.filled.bytes;
+      refused = sym here ∙ is;
+      awaited = sym behind ∙ d.behind ∙ ap next_block (sym d.awaited ∙ upto);
+      part = n;
+      position = s.position ∙ ap (at_part n) upto;
+    }
 
 pub reads_by_history : ReadsByHistory
 reads_by_history set h old new core bytes left failed front more end stop l rest m at over r b =
     led_reads _ _ _ _ _ _ _ l m (rest ∙ (ap (λ f. record core { phase = f })
-    (sym (rest_twice core.phase)) ∙ ap rest_of (sym rest))) at (leads_over_all old.place new.place
-    front more old.parts new.parts over (r.table more end stop b))
+    (sym (resting_twice core.phase)) ∙ ap rest_of (sym rest))) at
+    (leads_over_all old.place new.place front more old.parts new.parts over
+    (r.table more end stop b))

@@ -1,14 +1,13 @@
 -- The parts of a block, put one after another.
 use Rattle.std.proofs.Common.{◌≡◌, ℕ, zero, suc, ◌<◌, ◌≤◌, Bool, List, [], ◌∷◌, ◌++◌, length, map}
 use Rattle.std.proofs.Common.{◌+◌, take, drop, refl, sym, ap, ◌∙◌, arith, append_assoc}
-use Rattle.std.proofs.Common.{append-nil, length-append}
-use Rattle.tape_blocks.specs.declared.parts.{Part.Part, Parts.Parts}
-use Rattle.tape_blocks.specs.{Block.Portion, Spans.leaves, Parts.view, PartsLeft.parts_left}
-use Rattle.tape_blocks.specs.Judged.{begun_behind}
+use Rattle.std.proofs.Common.{length-append}
+use Rattle.tape_blocks.specs.{declared.parts.Part.Part, declared.parts.Parts.Parts, Block.Portion}
+use Rattle.tape_blocks.specs.{Spans.leaves, Parts.view, PartsLeft.parts_left, Judged.begun_behind}
 use Rattle.std.specs.Iterator.{YieldsFirstBy, Yields}
 use Rattle.tape_blocks.proofs.YieldLaws.{yielded_parts}
 use Rattle.tape_core.specs.declared.sink.PartSink.{Ghosts}
-use Rattle.tape_core.proofs.{Crashes.only_same, StateLaws.one_more}
+use Rattle.tape_core.proofs.StateLaws.{one_more}
 use Rattle.tape_run.specs.Crash.{BringsNoMore}
 use Rattle.tape_run.proofs.Crashes.{adds_then}
 
@@ -38,10 +37,6 @@ pub record PutSoFar {S : Type 0} (g : Ghosts S) (old new : S) (first seen : ℕ)
 module _ {S : Type 0} (g : Ghosts S) (old : S) (first : ℕ) (begun : Bool) where
   abbrev Puts : S → ℕ → Bool → List Portion → Type 0
   Puts new seen going came = PutSoFar g old new first seen begun going came
-
-  -- before the first part is put
-  pub none_put : Puts old 0 begun []
-  none_put = grind (arith, drop_all, append-nil, only_same)
 
   -- a part before the first changes nothing
   pub one_passed : (new : S) (seen : ℕ) (going : Bool) (came : List Portion) (p : Portion)

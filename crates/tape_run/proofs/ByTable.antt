@@ -7,18 +7,17 @@ use Rattle.tape_blocks.specs.{Block.Portion, Block.Holds, Judged.begun_behind}
 use Rattle.tape_image.specs.Tape.{TapeItem, block}
 use Rattle.tape_set.specs.{Lawful.FileForm, Position.part_of, Position.at_part}
 use Rattle.tape_set.specs.declared.position.Position.{Position}
-use Rattle.tape_core.specs.declared.event.{Answer.Answer, Phase.Phase, Phase.TheVariants.Broken}
+use Rattle.tape_set.specs.declared.position.Position.TheVariants.{Awaits, Finished}
+use Rattle.tape_core.specs.{declared.event.Answer.Answer, declared.event.Phase.Phase, State.State}
+use Rattle.tape_core.specs.{declared.event.Phase.TheVariants.Broken, Parts.parts_in}
 use Rattle.tape_core.specs.declared.event.Answer.TheVariants.{Passed, Deliver}
-use Rattle.tape_core.specs.{State.State, Parts.parts_in, Follows.IsFinal}
-use Rattle.tape_core.specs.Place.{rest_of, place_of, resting}
+use Rattle.tape_core.specs.{Follows.IsFinal, Place.rest_of, Place.place_of, Place.resting}
 use Rattle.tape_core.specs.Table.{step_of, saved, mount_of, mounted}
 use Rattle.tape_core.proofs.BlockLaws.{parts_in_it}
-use Rattle.tape_run.specs.{Reels.behind_items, Puts.refused_point}
 use Rattle.tape_run.specs.ByTable.{parts_by, parts_at, parts_of_arrival, delivered_parts, IsLed}
-use Rattle.tape_run.specs.ByTable.{StopsInside}
+use Rattle.tape_run.specs.{Reels.behind_items, Puts.refused_point, ByTable.StopsInside}
 use Rattle.tape_run.proofs.Places.{refused_position}
 use Rattle.tape_run.proofs.Finals.{IsIdle, behind_final, idle_items}
-use Rattle.tape_set.specs.declared.position.Position.TheVariants.{Awaits, Finished}
 
 -- ---- one item
 
@@ -138,12 +137,12 @@ mounted_resting Broken p = refl
 mounted_resting _ Finished = refl
 mounted_resting _ (Awaits sect b part) = refl
 
-resting_mounted : (phase : Phase) (p : Position) → resting (mounted phase p) ≡ resting phase
+pub resting_mounted : (phase : Phase) (p : Position) → resting (mounted phase p) ≡ resting phase
 resting_mounted Broken p = refl
 resting_mounted _ Finished = refl
 resting_mounted _ (Awaits sect b part) = refl
 
-resting_twice : (phase : Phase) → resting (resting phase) ≡ resting phase
+pub resting_twice : (phase : Phase) → resting (resting phase) ≡ resting phase
 resting_twice Broken = refl
 resting_twice _ = refl
 
@@ -167,7 +166,7 @@ led_nowhere core held xs e =
 
 -- ---- a part that was refused
 
-drop_take : (f m : ℕ) (xs : List Portion) → drop f (take (f + m) xs) ≡ take m (drop f xs)
+pub drop_take : (f m : ℕ) (xs : List Portion) → drop f (take (f + m) xs) ≡ take m (drop f xs)
 drop_take zero m xs = let e : zero + m ≡ m = omega arith in rw e refl
 drop_take (suc f) m [] = rw (take-nil {A = Portion} (suc f + m), take-nil {A = Portion} m) refl
 drop_take (suc f) m (x ∷ xs) =
@@ -175,42 +174,38 @@ drop_take (suc f) m (x ∷ xs) =
     rw e (drop_take f m xs)
 
 -- the parts of a block before the refused one
-pub puts_front : (core new : State) (answer : Answer) (came : Option TapeItem) (item : TapeItem)
-    (bytes : List ℕ) (form : FileForm) (parts held : List Portion) (first n : ℕ) (place : State)
-    → (answer, new) ≡ step_of core came → answer ≡ Deliver → came ≡ Some (block bytes)
-    → new.known ≡ Some form → Holds form.format form.rec_len form.offset bytes parts
-    → first ≡ part_of core.position → first ≤ n → n < length parts
+pub puts_front : (core new : State) (bytes : List ℕ) (form : FileForm) (parts held : List Portion)
+    (first n : ℕ) (place : State)
+    → (Deliver, new) ≡ step_of core (Some (block bytes)) → new.known ≡ Some form
+    → Holds form.format form.rec_len form.offset bytes parts → first ≡ part_of core.position
+    → first ≤ n → n < length parts
     → place ≡ place_of (refused_point (saved core 0) (saved new 0) n
     (begun_behind core.begun (drop first (take n parts))))
-    → came ≡ Some item
-    → StopsInside core place item held (held ++ drop first (take n parts))
-puts_front core new answer came item bytes form parts held first n place step is e known h at le
-    lt back i =
+    → StopsInside core place (block bytes) held (held ++ drop first (take n parts))
+puts_front core new bytes form parts held first n place step known h at le lt back =
     let more = n - first in
     let up : n ≡ first + more = omega (arith, le) in
-    let all : drop first parts ≡ parts_at core item =
-    puts_delivered core new answer came bytes form parts first step is e known h at
-    ∙ ap (parts_of_arrival core) i in
-    let put : drop first (take n parts) ≡ take more (parts_at core item) =
+    let all : drop first parts ≡ parts_at core (block bytes) =
+    puts_delivered core new Deliver (Some (block bytes)) bytes form parts first step refl refl known
+    h at in
+    let put : drop first (take n parts) ≡ take more (parts_at core (block bytes)) =
     ap (λ (k : ℕ). drop first (take k parts)) up
     ∙ (drop_take first more parts ∙ ap (take more) all) in
     let number : n ≡ part_of core.position + more = up ∙ ap (λ (f : ℕ). f + more) at in
-    let behind : new ≡ (step_of core (Some item)).1 = ap (λ (z : Answer × State). z.1) step
-    ∙ ap (λ (z : Option TapeItem). (step_of core z).1) i in
     record {
-      delivers = sym (ap (λ (z : Answer × State). z.0) step
-          ∙ ap (λ (z : Option TapeItem). (step_of core z).0) i) ∙ is;
+      delivers = sym (ap (λ (z : Answer × State). z.0) step);
       more = more;
       within = omega (arith, le, lt, length-drop first parts, ap length all);
       parts = ap (λ (l : List Portion). held ++ l) put;
       position = ap (λ (z : State). z.position) back
           ∙ (refused_position core new n _ ∙ ap (λ (k : ℕ). at_part k core.position) number);
       place = back ∙ (ap (λ (z : State). place_of (refused_point (saved core 0) (saved z 0) n
-          (begun_behind core.begun (drop first (take n parts))))) behind
+          (begun_behind core.begun (drop first (take n parts)))))
+          (ap (λ (z : Answer × State). z.1) step)
           ∙ (ap (λ (k : ℕ). place_of (refused_point (saved core 0)
-          (saved (step_of core (Some item)).1 0) k
+          (saved (step_of core (Some (block bytes))).1 0) k
           (begun_behind core.begun (drop first (take n parts))))) number
           ∙ ap (λ (l : List Portion). place_of (refused_point (saved core 0)
-          (saved (step_of core (Some item)).1 0) (part_of core.position + more)
+          (saved (step_of core (Some (block bytes))).1 0) (part_of core.position + more)
           (begun_behind core.begun l))) put));
     }

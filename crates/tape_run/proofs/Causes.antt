@@ -1,61 +1,26 @@
 -- The causes for which records were not written: the cause of one call, if no call before it was
 -- refused.
-use Rattle.std.proofs.Common.{◌≡◌, ◌<◌, ℕ, suc, ◌+◌, List, [], ◌∷◌, ◌++◌, take}
+use Rattle.std.proofs.Common.{◌≡◌, ◌<◌, ℕ, suc, ◌+◌, List, [], ◌∷◌, ◌++◌, take, Bool, false, refl}
+use Rattle.std.proofs.Common.{sym, inl, inr, subst, ◌∙◌, arith}
 use Rattle.std.specs.Prelude.{◌≢◌, ◌⊎◌}
-use Rattle.std.proofs.Common.{Bool, false, Result, Ok, Err, OnOk, IfErr}
-use Rattle.std.proofs.Common.{refl, sym, ap, inl, inr, subst, ◌∙◌, arith}
-use Rattle.std.proofs.lemmas.Result.{IfErr-weaker}
-use Rattle.tape_blocks.specs.Block.{Portion}
-use Rattle.tape_core.specs.Weight.{Rose}
-use Rattle.tape_run.specs.declared.extract.out_sink.OutSink.{OutSink}
-use Rattle.tape_run.specs.declared.fault.RunFault.{RunFault}
+use Rattle.tape_blocks.specs.{Block.Portion, declared.parts.Form.Form}
+use Rattle.tape_core.specs.{Weight.Rose, Weight.IsFront, Crash.lost, Point.Point}
+use Rattle.tape_core.specs.{declared.sink.PartSink.Ghosts, declared.sink.SinkFault.SinkFault}
+use Rattle.tape_run.specs.declared.fault.RunFault.TheVariants.{Sink, NoSuchPoint, TooFewReels}
+use Rattle.tape_run.specs.{declared.extract.out_sink.OutSink.OutSink, SessionState.SessionState}
 use Rattle.tape_run.specs.declared.fault.EngineFault.{EngineFault}
 use Rattle.tape_run.specs.declared.fault.EngineFault.TheVariants.{Run, WriteFailed}
-use Rattle.tape_run.specs.declared.fault.RunFault.TheVariants.{Sink, NoSuchPoint, TooFewReels}
 use Rattle.tape_run.specs.declared.fault.RunFault.TheVariants.{OutOfMemory, OtherFile}
-use Rattle.tape_set.specs.declared.position.Position.TheVariants.{Finished}
-use Rattle.tape_core.specs.Crash.{lost}
-use Rattle.tape_core.specs.Point.{Point}
-use Rattle.tape_core.specs.Weight.{IsFront}
-use Rattle.tape_core.specs.declared.sink.PartSink.{Ghosts}
-use Rattle.tape_core.specs.declared.sink.SinkFault.{SinkFault}
-use Rattle.tape_blocks.specs.declared.parts.Form.{Form}
-use Rattle.tape_run.specs.Causes.{WritingFails, EndingFails, ExtractFails, ReadingFails}
-use Rattle.tape_run.specs.Causes.{RefusesAny, IsCalm}
-use Rattle.tape_run.specs.Crash.{IsWalked}
+use Rattle.tape_run.specs.Causes.{EndingFails, ExtractFails, ReadingFails, RefusesAny, IsCalm}
 use Rattle.tape_run.specs.Seen.{seen, IsKept, IfSeen, IsSeen}
-use Rattle.tape_run.specs.Steps.{IsRefused, Refuses, Saved, WentBack}
-use Rattle.tape_run.specs.SessionState.{SessionState}
+use Rattle.tape_run.specs.Steps.{IsRefused, Saved, WentBack}
+use Rattle.tape_set.specs.declared.position.Position.TheVariants.{Finished}
 
 -- no call was refused before
 pub refused_then : {S : Type 0} (refusals : S → ℕ) (refuses : S → SinkFault → S → Type 0)
     (old mid new : S) (fault : SinkFault) → refusals mid ≡ refusals old
     → IsRefused refusals refuses mid fault new → IsRefused refusals refuses old fault new
 refused_then refusals refuses old mid new fault calm r = grind (arith)
-
--- a call was refused, and no call before it
-pub refused_at : {S : Type 0} (refusals : S → ℕ) (refuses : S → SinkFault → S → Type 0)
-    (old mid new : S) (fault : SinkFault) → refusals mid ≡ refusals old → refuses mid fault new
-    → Rose (refusals mid) (refusals new) → IsRefused refusals refuses old fault new
-refused_at refusals refuses old mid new fault calm why rose = grind (arith)
-
--- no call was refused before, and the contents are unchanged
-pub fails_behind : {S : Type 0} (holds mid_holds : S → List Portion → Type 0) (refusals : S → ℕ)
-    (refuses : S → SinkFault → S → Type 0) (fault : EngineFault) (old mid new : S)
-    → refusals mid ≡ refusals old
-    → ((parts : List Portion) → holds old parts → (rest : List Portion) × mid_holds mid rest)
-    → WritingFails mid_holds refusals refuses mid new fault
-    → WritingFails holds refusals refuses old new fault
-fails_behind holds mid_holds refusals refuses (Run (Sink cause)) old mid new calm has (inl r) =
-    inl (refused_then refusals refuses old mid new cause calm r)
-fails_behind holds mid_holds refusals refuses (Run (Sink cause)) old mid new calm has
-    (inr (is, none)) =
-    inr (is, λ parts was. let (rest, there) = has parts was in none rest there)
-fails_behind holds mid_holds refusals refuses (Run NoSuchPoint) old mid new calm has h = h
-fails_behind holds mid_holds refusals refuses (Run TooFewReels) old mid new calm has h = h
-fails_behind holds mid_holds refusals refuses (Run OutOfMemory) old mid new calm has h = h
-fails_behind holds mid_holds refusals refuses (Run OtherFile) old mid new calm has h = h
-fails_behind holds mid_holds refusals refuses WriteFailed old mid new calm has h = h ∙ calm
 
 -- ---- images
 
@@ -70,17 +35,6 @@ pub calm_then : {S : Type 0} (g : Ghosts S) (old mid new : SessionState S) → I
     → IsCalm g mid new → IsCalm g old new
 calm_then g old mid new a b = grind (arith)
 
--- afterwards the sink was only read
-pub calm_ended : {S V : Type 0} (g : Ghosts S) (old mid new : SessionState S)
-    (result : Result V EngineFault) → IsCalm g old mid → IsWalked g mid new
-    → OnOk result (g.refusals new.sink ≡ g.refusals mid.sink) → OnOk result (IsCalm g old new)
-calm_ended g old mid new (Ok value) a w calm = calm_then g old mid new a (record {
-  calm = calm;
-  notes = λ none. sym w.notes ∙ none;
-  kept = λ held was kept. (held, w.kept held was, rw (w.core, w.notes) kept);
-})
-calm_ended g old mid new (Err fault) a w calm = tt
-
 -- a call after others none of which was refused
 pub then_fails : {S : Type 0} (g : Ghosts S) (refuses : S → SinkFault → S → Type 0) (back : Bool)
     (fault : EngineFault) (old mid new : SessionState S) → IsCalm g old mid
@@ -94,16 +48,6 @@ then_fails g refuses back (Run TooFewReels) old mid new a h = h
 then_fails g refuses back (Run OutOfMemory) old mid new a h = h ∙ a.calm
 then_fails g refuses back (Run OtherFile) old mid new a h = h
 then_fails g refuses back WriteFailed old mid new a h = h ∙ a.calm
-
--- a reel was not read to its end, or no checkpoint was made
-pub step_fails : {S : Type 0} (g : Ghosts S) (back : Bool) (fault : RunFault)
-    (old new : SessionState S)
-    → Refuses g fault old new → ReadingFails g back (Run fault) old new
-step_fails g back (Sink cause) old new h = inl h.1
-step_fails g back NoSuchPoint old new h = absurd h
-step_fails g back TooFewReels old new h = absurd h
-step_fails g back OutOfMemory old new h = ap (λ s. g.refusals s.sink) h
-step_fails g back OtherFile old new h = absurd h
 
 -- after one more checkpoint there is one
 no_longer_none : (notes : List Point) (point : Point) → notes ++ point ∷ [] ≡ [] → notes ≡ []
@@ -140,29 +84,6 @@ pub calm_reel : {S : Type 0} (g : Ghosts S) (old new : SessionState S)
     × (IsKept (seen g old held) → IsKept (seen g new now)) × so held now))
     → IsCalm g old new
 calm_reel g old new so calm notes ok = grind (arith)
-
--- the records were not written
-pub writing_fails : {S : Type 0} (g : Ghosts S) (walk : S → SinkFault → S → Type 0) (back : Bool)
-    (fault : EngineFault) (old new : SessionState S)
-    → WritingFails g.holds g.refusals walk old.sink new.sink fault
-    → ExtractFails g (RefusesAny g walk) back fault old new
-writing_fails g walk back (Run (Sink cause)) old new (inl r) = grind (arith)
-writing_fails g walk back (Run (Sink cause)) old new (inr (is, none)) =
-    inr (is, λ held was kept. none held was)
-writing_fails g walk back (Run NoSuchPoint) old new h = absurd h
-writing_fails g walk back (Run TooFewReels) old new h = absurd h
-writing_fails g walk back (Run OutOfMemory) old new h = absurd h
-writing_fails g walk back (Run OtherFile) old new h = absurd h
-writing_fails g walk back WriteFailed old new h = h
-
--- the file was not written after the images were read
-pub file_fails : {S A : Type 0} (g : Ghosts S) (walk : S → SinkFault → S → Type 0) (back : Bool)
-    (old mid new : SessionState S) (r : Result A EngineFault) → IsCalm g old mid
-    → IfErr r (WritingFails g.holds g.refusals walk mid.sink new.sink)
-    → IfErr r (λ fault. ExtractFails g (RefusesAny g walk) back fault old new)
-file_fails g walk back old mid new r calm h =
-    IfErr-weaker r _ _ (λ fault w. then_fails g (RefusesAny g walk) back fault old mid new calm
-    (writing_fails g walk back fault mid new w)) h
 
 -- the images were not read
 pub images_fail : {S : Type 0} (g : Ghosts S) (walk : S → SinkFault → S → Type 0)

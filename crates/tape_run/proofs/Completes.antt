@@ -2,30 +2,28 @@
 use Rattle.std.proofs.Common.{◌≡◌, ℕ, ◌+◌, Bool, true, false, List, Option, Some, None, Result, Ok}
 use Rattle.std.proofs.Common.{Err, refl, sym, ap, ◌∙◌, if◌then◌else◌, not, nat_lt, ◌==◌}
 use Rattle.std.specs.Str.{bytes_eq}
-use Rattle.tape_label.specs.{VolumeLabels.is_volume_label, Kinds.kind_at}
-use Rattle.tape_core.specs.Labels.{other_file_id, other_shape, form_at}
-use Rattle.tape_image.specs.Tape.{TapeItem, block, bad, mark}
-use Rattle.tape_label.specs.declared.values.{Kind.Kind, Head1.Head1, Head2.Head2, Trail1.Trail1}
-use Rattle.tape_label.specs.declared.label.LabelFault.{LabelFault}
 use Rattle.tape_label.specs.declared.values.Kind.TheVariants.{Vol1 as AVol1, Hdr1 as AHdr1}
+use Rattle.tape_label.specs.{VolumeLabels.is_volume_label, Kinds.kind_at, declared.values.Kind.Kind}
+use Rattle.tape_label.specs.{declared.values.Head1.Head1, declared.values.Head2.Head2}
+use Rattle.tape_label.specs.{declared.values.Trail1.Trail1, declared.label.LabelFault.LabelFault}
 use Rattle.tape_label.specs.declared.values.Kind.TheVariants.{Hdr2 as AHdr2}
 use Rattle.tape_label.specs.Reading.{head1_at, head2_at, trail1_at}
-use Rattle.tape_blocks.specs.declared.check.BlockFault.{BlockFault}
-use Rattle.tape_blocks.specs.Judged.{judged}
+use Rattle.tape_core.specs.declared.event.Phase.TheVariants.{Over, Volume, VolumeLabels, Header2}
+use Rattle.tape_core.specs.declared.event.Phase.TheVariants.{DataWanted, TrailerPassed}
+use Rattle.tape_core.specs.Table.{Outcome, first_label, at_head1, first_labels, at_head2, at_block}
+use Rattle.tape_core.specs.Table.{second_label, at_judged, at_data, at_passed_trailer, at_end}
+use Rattle.tape_core.specs.Table.{at_wanted_trailer, at_mark, at_bad, at_reel_end, at_arrival}
+use Rattle.tape_core.specs.{Labels.other_file_id, Labels.other_shape, Labels.form_at, State.State}
+use Rattle.tape_core.specs.{declared.event.Answer.TheVariants.Complete, declared.event.Phase.Phase}
+use Rattle.tape_core.specs.{declared.event.Heading.Heading, Parts.begun_before, Parts.other_front}
+use Rattle.tape_core.specs.declared.event.Phase.TheVariants.{TrailerWanted, NextFile}
+use Rattle.tape_core.specs.Table.{unless_complete, step_of, other_numbers}
+use Rattle.tape_image.specs.Tape.{TapeItem, block, bad, mark}
+use Rattle.tape_blocks.specs.{declared.check.BlockFault.BlockFault, Judged.judged}
 use Rattle.tape_set.specs.declared.position.Position.{Position}
 use Rattle.tape_set.specs.declared.position.Position.TheVariants.{Awaits, Finished}
 use Rattle.tape_set.specs.Position.{next_block, next_section, sect_of, block_of, part_of}
 use Rattle.tape_set.specs.Lawful.{FileForm, label_count, most_blocks}
-use Rattle.tape_core.specs.declared.event.{Answer.TheVariants.Complete, Heading.Heading}
-use Rattle.tape_core.specs.declared.event.Phase.{Phase}
-use Rattle.tape_core.specs.declared.event.Phase.TheVariants.{Over, Volume, VolumeLabels, Header2}
-use Rattle.tape_core.specs.declared.event.Phase.TheVariants.{DataWanted, TrailerPassed}
-use Rattle.tape_core.specs.declared.event.Phase.TheVariants.{TrailerWanted, NextFile}
-use Rattle.tape_core.specs.{State.State, Parts.begun_before, Parts.other_front}
-use Rattle.tape_core.specs.Table.{Outcome, first_label, at_head1, first_labels, at_head2, at_block}
-use Rattle.tape_core.specs.Table.{second_label, at_judged, at_data, at_passed_trailer, at_end}
-use Rattle.tape_core.specs.Table.{at_wanted_trailer, at_mark, at_bad, at_reel_end, at_arrival}
-use Rattle.tape_core.specs.Table.{unless_complete, step_of, other_numbers}
 
 pub record Tells (out : Outcome) : Type 0 where
   pub told : out.1.position ≡ Finished → out.0 ≡ Complete

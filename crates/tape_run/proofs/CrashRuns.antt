@@ -1,17 +1,16 @@
 -- The state that a crash leaves is valid.
-use Rattle.std.proofs.Common.{Bool, ◌≡◌, ◌⊎◌, ℕ, List, [], ◌∷◌, ◌++◌, Option, Some}
-use Rattle.std.proofs.Common.{length, map, refl, sym, ap, subst, ◌∙◌, inl, inr, slice_get}
+use Rattle.std.proofs.Common.{Bool, ◌≡◌, ◌⊎◌, ℕ, List, [], ◌∷◌, ◌++◌, Option, Some, length, map}
+use Rattle.std.proofs.Common.{refl, sym, ap, subst, ◌∙◌, inl, inr, slice_get}
 use Rattle.std.proofs.lemmas.Option.{slice_get-map}
 use Rattle.tape_blocks.specs.Block.{Portion}
 use Rattle.tape_set.specs.{Layout.FileSet, Lawful.IsLawful, Before.before}
 use Rattle.tape_core.specs.{Point.Point, State.State, Stands.Stands, Crash.OnlyThis, Crash.Returns}
 use Rattle.tape_core.proofs.Standing.{noted}
-use Rattle.tape_run.specs.{Mount.MountEvent, Seen.Seen, Seen.IsSession, Runs.Runs, Crash.IsOf}
-use Rattle.tape_run.specs.Crash.{StoodAt}
-use Rattle.tape_run.specs.declared.script.Step.{Step}
+use Rattle.tape_run.specs.CrashRuns.{IsPlaceOf, ComesBack, CrashRun, IsResumed, Outlives}
+use Rattle.tape_run.specs.{Mount.MountEvent, Seen.Seen, Seen.IsSession, Runs.Runs}
+use Rattle.tape_run.specs.{Crash.IsOf, Crash.StoodAt, declared.script.Step.Step}
 use Rattle.tape_run.specs.declared.script.Step.TheVariants.{Reel, Save, Restart}
 use Rattle.tape_run.specs.History.{Course, course, course_of, IsHistory}
-use Rattle.tape_run.specs.CrashRuns.{IsPlaceOf, ComesBack, CrashRun, IsResumed, Outlives}
 use Rattle.tape_run.specs.CrashRuns.{AreHistories, ResumedGoesOn, LivesOn}
 use Rattle.tape_run.proofs.{Notes.same_front, Notes.note_at, Headline.headline, Begin.is_resumed}
 

@@ -1,23 +1,21 @@
 -- A run that ended with a fault is where its earlier steps lead, or at a part that was refused.
-use Rattle.std.proofs.Common.{Bool, ◌≡◌, ℕ, ◌≤◌, List, [], ◌∷◌, length, map, take, drop}
-use Rattle.std.proofs.Common.{Option, Some, Result, Ok, Err, refl, sym, ap, subst, ◌∙◌, arith}
-use Rattle.std.proofs.Common.{IfErr, IsErrAnd}
-use Rattle.std.proofs.lemmas.List.{drop-map, length-map}
+use Rattle.std.proofs.Common.{Bool, ◌≡◌, ℕ, ◌≤◌, List, [], ◌∷◌, length, map, take, drop, Option}
+use Rattle.std.proofs.Common.{Some, Result, Ok, Err, refl, sym, ap, subst, ◌∙◌, arith, IfErr}
+use Rattle.std.proofs.{Common.IsErrAnd, lemmas.List.drop-map, lemmas.List.length-map}
 use Rattle.tape_image.specs.{Tape.TapeItem, Begins.Stop, Begins.Begins}
-use Rattle.tape_set.specs.{Layout.FileSet, Lawful.IsLawful}
-use Rattle.tape_set.specs.declared.position.Position.{Position}
+use Rattle.tape_set.specs.{Layout.FileSet, Lawful.IsLawful, declared.position.Position.Position}
 use Rattle.tape_core.specs.{Point.Point, State.State, Table.mount_of}
-use Rattle.tape_run.specs.{Mount.MountEvent, Mount.IsMount, Seen.Seen, Seen.AreNotes, Seen.IsKept}
-use Rattle.tape_run.specs.{History.Course, History.course, History.course_of, Runs.RunsUpTo}
-use Rattle.tape_run.specs.{Runs.Fails, ByTable.IsCutAt}
-use Rattle.tape_run.specs.declared.{script.Step.Step, fault.RunFault.RunFault}
-use Rattle.tape_run.specs.declared.script.Step.TheVariants.{Reel, Save, Restart}
 use Rattle.tape_run.specs.declared.fault.RunFault.TheVariants.{Sink, NoSuchPoint, TooFewReels}
+use Rattle.tape_run.specs.{Mount.MountEvent, Mount.IsMount, Seen.Seen, Seen.AreNotes}
+use Rattle.tape_run.specs.{History.Course, History.course, History.course_of, ByTable.IsCutAt}
+use Rattle.tape_run.specs.{Runs.RunsUpTo, Runs.Fails, declared.script.Step.Step}
+use Rattle.tape_run.specs.declared.fault.RunFault.{RunFault}
+use Rattle.tape_run.specs.declared.script.Step.TheVariants.{Reel, Save, Restart}
 use Rattle.tape_run.specs.declared.fault.RunFault.TheVariants.{OutOfMemory, OtherFile}
 use Rattle.tape_run.specs.Headline.{Ran, HasStopped, StopsStep, PutRefused, reels_in}
 use Rattle.tape_run.specs.Steps.{StoppedBy, CutShort, Unmoved, ReelFails, SaveFails, RestartFails}
-use Rattle.tape_blocks.specs.Block.{Portion}
 use Rattle.tape_run.specs.Lead.{Lead, AreNoted, StandsThere, StopsBy}
+use Rattle.tape_blocks.specs.Block.{Portion}
 use Rattle.tape_run.proofs.{Notes.notes_grow, Headline.headline, Lead.noted_grow}
 
 -- ---- results
@@ -235,25 +233,6 @@ stopped which old new steps bytes unread n fault r =
     )
 
 -- ---- the invariant of sessions is preserved
-
-pub kept_unmoved : (old new : Seen) → Unmoved old new → IsKept old → IsKept new
-kept_unmoved old new u k = rw (u.place, u.parts, u.notes) k
-
-pub kept_save_fails : (fault : RunFault) (old new : Seen) → SaveFails fault old new → IsKept old
-    → IsKept new
-kept_save_fails (Sink cause) old new h k = kept_unmoved old new h k
-kept_save_fails NoSuchPoint old new h k = absurd h
-kept_save_fails TooFewReels old new h k = absurd h
-kept_save_fails OutOfMemory old new h k = rw h k
-kept_save_fails OtherFile old new h k = absurd h
-
-pub kept_restart_fails : (n : ℕ) (fault : RunFault) (old new : Seen) → RestartFails n fault old new
-    → IsKept old → IsKept new
-kept_restart_fails n (Sink cause) old new h k = kept_unmoved old new h k
-kept_restart_fails n NoSuchPoint old new h k = rw h.1 k
-kept_restart_fails n TooFewReels old new h k = absurd h
-kept_restart_fails n OutOfMemory old new h k = absurd h
-kept_restart_fails n OtherFile old new h k = absurd h
 
 -- if all readers know their bytes
 pub stopped_so : (which : List Bool) (old new : Seen) (steps : List Step)

@@ -1,30 +1,27 @@
 -- The test cases for sessions and their histories.
 use Rattle.std.proofs.Common.{◌≡◌, ℕ, zero, suc, List, [], ◌∷◌, ◌++◌, ◌∙◌, inr, arith, append-nil}
-use Rattle.std.proofs.Common.{length, true, false, Option, Some, None, refl, ap, subst, inl}
-use Rattle.std.proofs.Common.{◌+◌, length-append, slice_get, slice_index}
+use Rattle.std.proofs.Common.{length, true, false, Option, Some, refl, subst, inl, slice_get}
 use Rattle.std.proofs.lemmas.Option.{slice_get_within}
 use Rattle.tape_image.specs.declared.item.Ending.TheVariants as endings
 use Rattle.tape_image.specs.{Tape.TapeItem, Tape.block, Begins.Begins, Begins.ends}
 use Rattle.tape_label.specs.{Kinds.kind_at, VolumeLabels.is_volume_label}
 use Rattle.tape_label.specs.Reading.{head_at, head1_at}
 use Rattle.tape_blocks.specs.Block.{Portion}
-use Rattle.tape_set.specs.declared.position.Position.{Position}
-use Rattle.tape_set.specs.{Layout.FileSet, Layout.items, Layout.entries, Reach.passes}
-use Rattle.tape_set.specs.{Reading.Reading, Reading.IsReadingOf, Reading.as_read, Lawful.IsLawful}
+use Rattle.tape_set.specs.{declared.position.Position.Position, Reach.passes, Lawful.IsLawful}
+use Rattle.tape_set.specs.Layout.{FileSet, items, entries}
+use Rattle.tape_set.specs.Reading.{Reading, IsReadingOf, as_read}
 use Rattle.tape_core.specs.{Point.Point, Stands.weight_of, Table.saved, Weight.IsFront}
-use Rattle.tape_run.specs.declared.fault.{RunFault.RunFault, RunFault.TheVariants.TooFewReels}
-use Rattle.tape_run.specs.declared.script.Step.{Step}
+use Rattle.tape_run.specs.{declared.fault.RunFault.RunFault, declared.script.Step.Step}
+use Rattle.tape_run.specs.{declared.fault.RunFault.TheVariants.TooFewReels, History.IsHistory}
 use Rattle.tape_run.specs.declared.script.Step.TheVariants.{Reel, Save, Restart}
-use Rattle.tape_run.specs.{Crash.IsOf, Crash.LastAlone, Given.IsGiven, Given.AreGivenBy}
-use Rattle.tape_run.specs.{History.course_of, History.IsHistory, Headline.HasStopped}
-use Rattle.tape_run.specs.{Headline.StopsStep, CrashRuns.IsPlaceOf, Runs.Runs, Runs.RunsUpTo}
-use Rattle.tape_run.specs.{Runs.Fails, WorkedHistory.worked_set, WorkedHistory.vol1}
-use Rattle.tape_run.specs.{WorkedHistory.hdr1, CasesOfSaves.comes_now, CasesOfRuns.CasesOfStops}
+use Rattle.tape_run.specs.{Crash.IsOf, Crash.LastAlone, Headline.HasStopped, Headline.StopsStep}
+use Rattle.tape_run.specs.{CrashRuns.IsPlaceOf, Runs.Runs, Runs.RunsUpTo, Runs.Fails}
+use Rattle.tape_run.specs.WorkedHistory.{worked_set, vol1, hdr1}
+use Rattle.tape_run.specs.{CasesOfSaves.comes_now, CasesOfRuns.CasesOfStops}
 use Rattle.tape_run.specs.Mount.{MountEvent, foreign_reel, reads, IsMount}
-use Rattle.tape_run.specs.Seen.{Seen, IsKept, IsSession, KeepsNotes}
+use Rattle.tape_run.specs.Seen.{Seen, IsSession}
 use Rattle.tape_run.specs.Steps.{Reeled, ReelFails, Saved, WentBack}
-use Rattle.tape_run.specs.Cases.{CasesOfMounts, CasesOfHistories, CasesOfGiven, CasesOfVolumes}
-use Rattle.tape_run.specs.Cases.{CasesOfSessions, CasesOfMade, CasesOfCrashes, came_by}
+use Rattle.tape_run.specs.Cases.{CasesOfMounts, CasesOfMade, CasesOfCrashes, came_by}
 use Rattle.tape_run.proofs.ExamplesOfSaves.{one_note, of_one_note}
 
 -- ---- what may be mounted
@@ -63,70 +60,11 @@ cases_of_mounts = record {
 
 -- ---- histories
 
-pub cases_of_histories : CasesOfHistories
-cases_of_histories = grind (arith)
-
 -- ---- what readers gave
-
-no_other : (left : Option (List ℕ)) → IsGiven true (1 ∷ 2 ∷ []) left (2 ∷ []) → ⊥
-no_other left (rest, is, e) =
-    let two : 1 ≡ 2 = ap (λ l. slice_index l 0) e in
-    absurd (omega (arith, two))
-
-no_less : (given : List ℕ) → IsGiven true (1 ∷ 2 ∷ []) (Some (2 ∷ [])) given → length given ≡ 1
-no_less given (rest, is, e) =
-    let one : rest ≡ 2 ∷ [] = cc is in
-    let sum : 2 ≡ length given + length rest = ap length e ∙ length-append given rest in
-    omega (arith, sum, ap length one)
-
-second_of_two : (b c d e l : List ℕ) → AreGivenBy (false ∷ true ∷ []) (b ∷ c ∷ [])
-    (None ∷ Some l ∷ []) (d ∷ e ∷ []) → (d ≡ b) × (c ≡ e ++ l)
-second_of_two b c d e l (first, ((rest, is, whole), none)) =
-    let same : rest ≡ l = cc is in (first, whole ∙ ap (λ r. e ++ r) same)
-
-pub cases_of_given : CasesOfGiven
-cases_of_given = record {
-  no_other = no_other;
-  front = (2 ∷ [], refl, refl);
-  no_less = no_less;
-  untold = λ bytes given a. absurd (let none = a.1 in cc);
-  calm = refl;
-  one = refl;
-  greatest = refl;
-  two = refl;
-  second_failed = λ b c d. (refl, ((c, refl, refl), refl));
-  just_the_second = second_of_two;
-  not_taken = λ bytes given left e. e;
-  none_there = λ bytes l. (λ a. a, λ a. a, λ a. a);
-  two_of_three = refl;
-  as_far_as_it_reaches = refl;
-  the_rest_stays = refl;
-  device = refl;
-  no_fault = refl;
-  in_the_bytes = refl;
-  of_memory = refl;
-}
 
 -- ---- the images of all volumes
 
-pub cases_of_volumes : CasesOfVolumes
-cases_of_volumes = grind (arith)
-
 -- ---- what a session is
-
-kept_note : (s : Seen) (c : Point) → s.notes ≡ c ∷ [] → IsKept s
-    → (ps : List Portion) × IsFront ps s.parts × (c.set_id ≡ s.place.set_id)
-    × (c.file ≡ s.place.file) × (c.staged ≡ weight_of ps)
-kept_note s c one kept =
-    let k = subst (λ notes. KeepsNotes s.place [] notes s.parts) one kept in
-    (k.0, k.3, k.2.of_set, k.2.of_file, k.2.staged)
-
-its_course : (s : Seen) (c : Point) → s.notes ≡ c ∷ []
-    → course_of s ≡ record { at = s.place.position; notes = c.position ∷ [] }
-its_course s c one = rw one refl
-
-pub cases_of_sessions : CasesOfSessions
-cases_of_sessions = grind (arith)
 
 -- ---- steps that succeeded, and runs that stopped
 

@@ -2,15 +2,12 @@
 use Rattle.std.proofs.Common.{◌≡◌, ℕ, zero, suc, List, [], ◌∷◌, ◌++◌, length, true, refl, ap, inl}
 use Rattle.std.proofs.Common.{inr, arith, ◌∙◌, Some, None, option_map, slice_index, get_or}
 use Rattle.tape_set.specs.Layout.{Volume, Section}
-use Rattle.tape_run.specs.declared.fault.EngineFault.TheVariants.{Run}
-use Rattle.tape_run.specs.declared.fault.RunFault.TheVariants.{NoSuchPoint}
-use Rattle.tape_run.specs.declared.section.{SectionKey.SectionKey, SectionState.TheVariants.Good}
-use Rattle.tape_run.specs.{Cases.on_one_volume, Lacks.IsFirstLack, Lacks.lack_of, Noted.KeepsPlaces}
-use Rattle.tape_run.specs.{Noted.GoodIsShown, Passing.Told, Reeling.Took, Reeling.AreMounted}
-use Rattle.tape_run.specs.{Shown.Shown, WholeSet.HasEach}
-use Rattle.tape_run.specs.Checked.{IsCheckFault, IsReel, Reel}
-use Rattle.tape_run.specs.CasesOfCatalogues.{CasesOfCatalogues, CasesOfImages, CasesOfCopies}
-use Rattle.tape_run.specs.CasesOfCatalogues.{CasesOfReports, met}
+use Rattle.tape_run.specs.{declared.section.SectionKey.SectionKey, Cases.on_one_volume, Shown.Shown}
+use Rattle.tape_run.specs.{declared.section.SectionState.TheVariants.Good, Passing.Told}
+use Rattle.tape_run.specs.{Lacks.IsFirstLack, Lacks.lack_of, Noted.KeepsPlaces, Noted.GoodIsShown}
+use Rattle.tape_run.specs.{Reeling.Took, Reeling.AreMounted, WholeSet.HasEach}
+use Rattle.tape_run.specs.Checked.{IsReel, Reel}
+use Rattle.tape_run.specs.CasesOfCatalogues.{CasesOfCatalogues, CasesOfCopies, CasesOfReports, met}
 
 -- ---- the catalogue
 
@@ -47,35 +44,18 @@ first_good t good is = elim (is t ([], [], refl) good) [
 pub cases_of_catalogues : CasesOfCatalogues
 unfolding lack_of
 cases_of_catalogues = record {
-  line = refl;
   key = λ set x. (refl, refl, refl);
-  new_one = refl;
-  better = refl;
-  worse = refl;
-  other_file = refl;
-  all = refl;
   nothing_known = nothing_known;
   nothing_found = λ id file f. absurd (let e = f.ends in cc e);
   lacks_itself = λ c id file l. l.lacks (omega arith);
   first_goes_on = λ c id file f more. f.goes_on 1 (omega arith) more;
   no_good = λ key good. absurd (let e = good.there in cc e);
-  next_lacks = refl;
-  bad_lacks = refl;
-  count_lacks = refl;
-  none_lacks = refl;
-  file_lacks = refl;
-  found = refl;
-  not_found = refl;
-  nothing_met = refl;
   sections_stay = sections_stay;
   not_moved = not_moved;
   first_good = first_good;
 }
 
 -- ---- images and copies
-
-pub cases_of_images : CasesOfImages
-cases_of_images = grind (arith)
 
 each_volume : (id : List ℕ) (v : Volume) (files : List (List Section))
     → HasEach (on_one_volume id v files) (1 ∷ 1 ∷ [])
@@ -111,10 +91,6 @@ cases_of_copies = record {
 
 -- ---- reports
 
-other_fault : IsCheckFault (Run NoSuchPoint) → ⊥
-other_fault (inl e) = absurd (cc e)
-other_fault (inr e) = absurd (cc e)
-
 same_reel : (reel : Reel) → option_map (λ x. x) reel ≡ reel
 same_reel None = refl
 same_reel (Some x) = refl
@@ -131,10 +107,6 @@ two_mounted a b (x ∷ y ∷ []) left (i, s, (at, then), is, (j, t, (next, last)
     two_reels a b x y (is ∙ same_reel i ∙ at)
     (one ∙ same_reel j ∙ next ∙ ap (λ l. get_or l 1 None) then)
 two_mounted a b (x ∷ y ∷ z ∷ reels) left are e = absurd (omega (arith, e))
-
-first_mounted : (a b : Reel) (left : List Reel)
-    → AreMounted Took (IsReel (λ x. x)) (a ∷ b ∷ []) 0 (a ∷ []) left → left ≡ None ∷ b ∷ []
-first_mounted a b left (i, s, (at, then), is, same) = same ∙ then
 
 pub cases_of_reports : CasesOfReports
 cases_of_reports = grind (arith, two_mounted)

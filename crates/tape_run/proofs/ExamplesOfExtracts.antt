@@ -1,124 +1,16 @@
 -- The test cases for recovered files.
-use Rattle.std.proofs.Common.{◌≡◌, ◌⊎◌, inl, inr, ℕ, List, [], ◌∷◌, Some, None, refl, sym, ap}
-use Rattle.std.proofs.Common.{subst, ◌∙◌, false, true, length, arith, Bool, Option, get_or, map}
-use Rattle.std.proofs.Common.{set, slice_get, ◌-◌}
-use Rattle.tape_run.specs.Reeling.{IsNoted, goes_back, IsKeptFor}
-use Rattle.tape_run.specs.Reeling.{Turn, IsTurn, Took, AreTurns, AreFirstTurns, answer_of}
-use Rattle.tape_run.specs.{Stopping.StopsAt, Seen.Seen, Seen.seen}
-use Rattle.tape_run.specs.{Steps.WentBack, ReelLine.reel_lines, RecordText.output_of}
-use Rattle.tape_run.specs.{Causes.CannotEnd, Extracting.IsWritten, Extracting.TellsEnd}
-use Rattle.tape_core.specs.{Stands.weight_of, Table.saved, Point.Point, Weight.Rose}
-use Rattle.tape_run.proofs.Noting.{noted_here}
-use Rattle.tape_blocks.specs.Spans.{join}
+use Rattle.std.proofs.Common.{◌≡◌, ◌⊎◌, inl, inr, ℕ, [], Some, None, refl, sym, ap, subst, ◌∙◌}
+use Rattle.std.proofs.Common.{length, arith, Option, map}
+use Rattle.tape_run.specs.CasesOfExtracts.{CasesOfOutputs, Listed, as_sink, Known, Readers}
+use Rattle.tape_run.specs.Reeling.{goes_back, IsKeptFor, answer_of}
+use Rattle.tape_run.specs.{Seen.Seen, Seen.seen, ReelLine.reel_lines, RecordText.output_of}
+use Rattle.tape_run.specs.Extracting.{IsWritten, TellsEnd}
+use Rattle.tape_run.specs.CasesOfExtracts.{ExtractsListed, StopsListed, StopsListedNow}
+use Rattle.tape_blocks.specs.{Spans.join, declared.parts.Form.Form}
 use Rattle.tape_image.specs.Written.{AppendsFront}
-use Rattle.tape_blocks.specs.declared.parts.Form.{Form}
-use Rattle.tape_set.specs.declared.position.{Position.TheVariants.Finished, Want.Want}
-use Rattle.tape_run.specs.CasesOfExtracts.{CasesOfTurns, CasesOfOutputs, Listed, as_sink, Known}
-use Rattle.tape_run.specs.CasesOfExtracts.{Readers, ExtractsListed, StopsListed, StopsListedNow}
-use Rattle.tape_run.specs.CasesOfExtracts.{CasesOfCauses, FailsEmpty, FailsUnknown}
+use Rattle.tape_set.specs.{declared.position.Position.TheVariants.Finished, Position.want_at}
+use Rattle.tape_set.specs.declared.position.Want.{Want}
 use Rattle.tape_run.proofs.Fitting.{whole_text}
-use Rattle.tape_core.specs.declared.sink.SinkFault.{SinkFault}
-use Rattle.tape_core.specs.declared.sink.SinkFault.TheVariants.{Device, Failed}
-use Rattle.tape_run.specs.declared.fault.EngineFault.TheVariants.{Run}
-use Rattle.tape_run.specs.declared.fault.RunFault.TheVariants.{Sink, OutOfMemory}
-use Rattle.tape_set.specs.Position.{want_at}
-
--- the last of two checkpoints is the second
-went_to_last : (old new : Seen) (c d : Point) → old.notes ≡ c ∷ d ∷ []
-    → IsNoted true false true false old new → WentBack 1 old new
-went_to_last old new c d two (n, many, went) =
-    let one : n ≡ 1 = omega (arith, many, ap length two) in
-    subst (λ m. WentBack m old new) one went
-
-noted_before : (back : Bool) (old new : Seen) (c : Point) → old.notes ≡ c ∷ []
-    → IsNoted back true false false old new
-    → (new ≡ old) × (c ≡ saved old.place (weight_of old.parts))
-noted_before back old new c one (spares, (n, count, (is, front, weighs)), same) =
-    let first : n ≡ 0 = omega (arith, count, ap length one) in
-    let at : Some c ≡ Some (saved old.place (weight_of old.parts)) =
-    ap (λ l. slice_get l 0) (sym one) ∙ (ap (λ m. slice_get old.notes m) (sym first) ∙ is) in
-    (same, (let e = at in cc))
-
-noted_anew : (back : Bool) (old new : Seen) (c : Point) → old.notes ≡ c ∷ []
-    → c ≡ saved old.place (weight_of old.parts) → IsNoted back true false true old new → ⊥
-noted_anew back old new c one is (elsewhere, saved) = elsewhere refl (noted_here old c
-    (omega (arith, ap length one)) (subst (λ l. slice_get l (length l - 1) ≡ Some c) (sym one) refl)
-    is)
-
-took : (a b c d : Option Known) → Took (a ∷ b ∷ []) 1 c (d ∷ None ∷ []) → (c ≡ b) × (d ≡ a)
-took a b c d (is, left) = (is, cc left)
-
-two_mounted : (a b : Option Known) (s t : Turn) (left : List (Option Known))
-    → AreTurns Took (λ r. r) (a ∷ b ∷ []) 0 (s ∷ t ∷ []) left
-    → IsTurn (λ r. r) a s × IsTurn (λ r. r) b t × (left ≡ None ∷ None ∷ [])
-two_mounted a b s t left (i, x, (at, then), first, (j, y, (next, last), second, same)) = (
-  subst (λ z. IsTurn (λ r. r) z s) at first,
-  subst (λ z. IsTurn (λ r. r) z t) (next ∙ ap (λ l. get_or l 1 None) then) second,
-  same ∙ (last ∙ ap (λ l. set l 1 None) then),
-)
-
-one_more : (a b c : Option Known) (left : List (Option Known))
-    → AreFirstTurns Took (λ r. r) (a ∷ b ∷ []) [] c left
-    → ((c ≡ None) × (left ≡ a ∷ b ∷ [])) ⊎ ((c ≡ a) × (left ≡ None ∷ b ∷ []))
-one_more a b c left (mid, are, inl (none, same)) = inl (none, same ∙ are)
-one_more a b c left (mid, are, inr (is, then)) =
-    inr (is ∙ ap (λ l. get_or l 0 None) are, then ∙ ap (λ l. set l 0 None) are)
-
-first_turn : (a b c : Option Known) (t : Turn) (left : List (Option Known))
-    → AreFirstTurns Took (λ r. r) (a ∷ b ∷ []) (t ∷ []) c left → IsTurn (λ r. r) a t
-    × ((left ≡ None ∷ b ∷ []) ⊎ (left ≡ None ∷ None ∷ []))
-first_turn a b c t left (mid, (i, x, (at, then), first, same), inl (none, rest)) =
-    (subst (λ z. IsTurn (λ r. r) z t) at first, inl (rest ∙ (same ∙ then)))
-first_turn a b c t left (mid, (i, x, (at, then), first, same), inr (is, last)) = (
-  subst (λ z. IsTurn (λ r. r) z t) at first,
-  inr (last ∙ ap (λ l. set l 1 None) (same ∙ then)),
-)
-
-stopped_in_reel : (bytes : List ℕ) (old new : Seen)
-    → StopsAt (λ (r : Known). r) false old (Some (Some bytes)) (Run OutOfMemory) new
-    → new.notes ≡ old.notes
-stopped_in_reel bytes old new (inl same) = ap (λ (s : Seen). s.notes) same
-stopped_in_reel bytes old new (inr (left, answer, mid, r, n)) = grind (arith)
-
-pub cases_of_turns : CasesOfTurns
-cases_of_turns = record {
-  no_turn = λ a o. (λ x. x, λ x. x);
-  a_turn = λ a o t. t.0;
-  left_known = λ a b o had left. (had, (Some b, left));
-  not_there = tt;
-  took = took;
-  took_none = λ a t. t.0;
-  none_mounted = λ shelf left are. are;
-  two_mounted = two_mounted;
-  one_more = one_more;
-  first_turn = first_turn;
-  doubtful = refl;
-  broken = refl;
-  sure = (refl, refl);
-  not_noted = λ spares noted old new n. n;
-  is_noted = λ back spares old new n. n.1;
-  noted_each_time = λ back old new n. absurd (let e = n.0 in cc);
-  noted_before = noted_before;
-  noted_anew = noted_anew;
-  has_note = λ c. (refl, refl);
-  went_to_last = went_to_last;
-  its_own_notes = λ s k. k;
-  not_saved = λ back cause old new n. n;
-  not_back = λ cause old new n. n;
-  no_point = λ old new c one n. omega (arith, n.0, ap length one);
-  not_asked = λ fault old new n. n;
-  stopped_in_reel = stopped_in_reel;
-  stopped_behind = λ bytes old new none. none;
-  steps_behind = (refl, refl, refl, refl, refl);
-  counted = (refl, refl, refl);
-  steps = λ o p. refl;
-  by_its_line = λ back o b old new had are. are (b ∷ []) (had, refl);
-  told = λ o b are. are.0;
-  none_told = λ o are. are;
-  told_alone = λ b are. absurd (cc are);
-  reel_read = λ back spares core next old new o r. (r.waits, r.answers, r.place);
-  waits = λ back spares core last old new f. (f.0, f.1.0, f.1.1);
-}
 
 -- a session without checkpoints keeps its own
 none_kept : (session : Listed) → session.notes ≡ []
@@ -251,20 +143,3 @@ cases_of_outputs = record {
   writer_kept = λ still. (λ r. r.1, λ r. r);
   no_memory_taken = λ works still weight r. r;
 }
-
-refused_writing : (cause : SinkFault) (old new : ℕ) → FailsEmpty (Run (Sink cause)) old new
-    → Rose old new × (cause ≡ Device)
-refused_writing cause old new (inl r) = (r.counted, r.why)
-refused_writing cause old new (inr (is, none)) = absurd (none [] refl)
-
-only_failed : (cause : SinkFault) (old new : ℕ) → FailsUnknown (Run (Sink cause)) old new
-    → (Rose old new × (cause ≡ Device)) ⊎ (cause ≡ Failed)
-only_failed cause old new (inl r) = inl (r.counted, r.why)
-only_failed cause old new (inr (is, none)) = inr is
-
-ends_but_for_it : (form : Form) → CannotEnd false form form → ⊥
-ends_but_for_it form (inl e) = cc e
-ends_but_for_it form (inr other) = other refl
-
-pub cases_of_causes : CasesOfCauses
-cases_of_causes = grind (arith)

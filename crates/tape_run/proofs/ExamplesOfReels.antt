@@ -1,23 +1,13 @@
 -- The examples for a reel's answer, and for where the table leads for any tapes.
-use Rattle.std.proofs.Common.{◌≡◌, [], ◌∷◌, refl, inl, inr, arith}
-use Rattle.tape_image.specs.declared.item.Ending.TheVariants.{Physical}
-use Rattle.tape_image.specs.Begins.{ends}
+use Rattle.std.proofs.Common.{◌≡◌, [], ◌∷◌, refl, arith}
+use Rattle.tape_image.specs.{declared.item.Ending.TheVariants.Physical, Begins.ends}
 use Rattle.tape_label.specs.{Kinds.kind_at, VolumeLabels.is_volume_label}
 use Rattle.tape_label.specs.Reading.{head_at, head1_at, head2_at, format_at, offset_at}
 use Rattle.tape_blocks.specs.{Units.unit_at, Parts.parts_by, Judged.judged}
-use Rattle.tape_core.specs.declared.event.Answer.TheVariants.{Complete}
 use Rattle.tape_run.specs.declared.script.Step.TheVariants.{Save, Restart}
-use Rattle.tape_run.specs.{Lead.Lead, Lead.lead, Reels.GoesOn}
-use Rattle.tape_run.proofs.Examples.{empty_begins}
-use Rattle.tape_run.proofs.Places.{refused_position, stands_first, stands_behind}
-use Rattle.tape_run.specs.CasesOfReels.{CasesOfAnswers, CasesOfTable, CasesOfLeads}
-
-ended : GoesOn Complete → ⊥
-ended (inl e) = absurd (cc e)
-ended (inr e) = absurd (cc e)
-
-pub cases_of_answers : CasesOfAnswers
-cases_of_answers = grind (arith, ended, refused_position)
+use Rattle.tape_run.specs.Lead.{Lead, lead}
+use Rattle.tape_run.specs.CasesOfReels.{CasesOfTable, CasesOfLeads}
+use Rattle.tape_run.proofs.{Examples.empty_begins, Places.stands_first, Places.stands_behind}
 
 pub cases_of_table : CasesOfTable
 unfolding kind_at head_at head1_at head2_at format_at offset_at is_volume_label parts_by

@@ -1,8 +1,7 @@
 -- The cases of rounds.
 use Rattle.std.proofs.Common.{◌≡◌, ◌⊎◌, List, [], ◌∷◌, inl, inr, refl, sym, ap, subst, ◌∙◌, arith}
 use Rattle.std.proofs.Common.{Option, Bool, None, true}
-use Rattle.tape_set.specs.declared.position.Want.{Want}
-use Rattle.tape_set.specs.Position.{want_at}
+use Rattle.tape_set.specs.{declared.position.Want.Want, Position.want_at}
 use Rattle.tape_core.specs.State.{State}
 use Rattle.tape_run.specs.Reeling.{Turn, AreTurns, Follows, Took}
 use Rattle.tape_run.specs.Rounds.{Round, AreRounds, IsEnough, GoesRound}

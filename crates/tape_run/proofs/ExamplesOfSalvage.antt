@@ -1,25 +1,19 @@
 -- The cases of `salvage`.
 use Rattle.std.proofs.Common.{◌≡◌, ℕ, suc, zero, ◌+◌, Bool, true, false, List, [], ◌∷◌, ◌++◌}
 use Rattle.std.proofs.Common.{length, Option, Some, None, refl, sym, ap, subst, ◌∙◌, arith, inl}
-use Rattle.std.proofs.Common.{inr, length-append}
+use Rattle.std.proofs.{Common.inr, Common.length-append, lemmas.Bool.Decides.nat_tests}
 use Rattle.std.specs.Prelude.{◌==◌, ◌&&◌, ◌||◌, slice_get, get_or}
-use Rattle.std.proofs.lemmas.Bool.Decides.{nat_tests}
 use Rattle.std.specs.Fmt.{digits}
 use Rattle.tape_image.specs.Tape.{TapeItem, block, bad, mark}
 use Rattle.tape_label.proofs.First.{head1_found, trail1_found}
-use Rattle.tape_set.specs.Layout.{all_numbered}
-use Rattle.tape_set.specs.Reading.{Reading}
-use Rattle.tape_set.specs.Reach.{passes}
-use Rattle.tape_run.specs.declared.salvage.copies.SectionCopy.{SectionCopy}
-use Rattle.tape_run.specs.SalvageChoice.{IsBest}
-use Rattle.tape_run.specs.SalvageCopies.{rank}
-use Rattle.tape_run.specs.SalvageBlocks.{Salvaged, none_salvaged}
-use Rattle.tape_run.specs.SalvageGaps.{Gap, AreGaps, IsReadable, StartsReadable, salvaged_data}
-use Rattle.tape_run.specs.SalvageSets.{HasBlocks, items_read}
-use Rattle.tape_run.specs.SalvagedSets.{IsImage, HasOpened}
+use Rattle.tape_set.specs.{Layout.all_numbered, Reading.Reading, Reach.passes}
 use Rattle.tape_run.specs.CasesOfSalvage.{CasesOfConflicts, CasesOfGaps, CasesOfClosed}
 use Rattle.tape_run.specs.CasesOfSalvage.{CasesOfDamaged, CasesOfSalvagedSets, CasesOfSalvage}
-use Rattle.tape_run.specs.CasesOfSalvage.{gives_again}
+use Rattle.tape_run.specs.{declared.salvage.copies.SectionCopy.SectionCopy, SalvageChoice.IsBest}
+use Rattle.tape_run.specs.{SalvageCopies.rank, SalvageBlocks.Salvaged, SalvageBlocks.none_salvaged}
+use Rattle.tape_run.specs.SalvageGaps.{Gap, AreGaps, IsReadable, StartsReadable, salvaged_data}
+use Rattle.tape_run.specs.SalvageSets.{HasBlocks, items_read}
+use Rattle.tape_run.specs.{SalvagedSets.IsImage, SalvagedSets.HasOpened, CasesOfSalvage.gives_again}
 
 -- the first of two equally good copies is the best
 first_is_best : (a b : SectionCopy) (o : Option SectionCopy) → rank a ≡ rank b

@@ -4,13 +4,12 @@ use Rattle.std.proofs.Common.{◌∙◌, length, arith, slice_get, Option, None}
 use Rattle.std.specs.Prelude.{⊤}
 use Rattle.tape_core.specs.{Place.rest_of, Stands.weight_of, Weight.IsFront, Table.saved}
 use Rattle.tape_core.specs.{Point.Point, State.State}
-use Rattle.tape_run.specs.Stopping.{RefusesSave}
-use Rattle.tape_run.specs.declared.fault.EngineFault.TheVariants.{Run}
-use Rattle.tape_run.specs.declared.fault.RunFault.TheVariants.{OutOfMemory}
+use Rattle.tape_run.specs.{Stopping.RefusesSave, declared.fault.EngineFault.TheVariants.Run}
+use Rattle.tape_run.specs.{declared.fault.RunFault.TheVariants.OutOfMemory, Reeling.StoodSaved}
 use Rattle.tape_run.specs.Crash.{IsNoteOf, IsLast, BringsLast, KeepsLast, LeavesSaved}
-use Rattle.tape_run.specs.{Reeling.StoodSaved, Seen.Seen, Seen.seen, SessionState.SessionState}
-use Rattle.tape_blocks.specs.Block.{Portion}
+use Rattle.tape_run.specs.{Seen.Seen, Seen.seen, SessionState.SessionState}
 use Rattle.tape_run.specs.CasesOfSaves.{CasesOfSaved, brings, comes_now, comes_since, weighing}
+use Rattle.tape_blocks.specs.Block.{Portion}
 
 only_first : (s : Seen) (c d back : Point) (there : List Portion) → s.notes ≡ c ∷ d ∷ []
     → IsNoteOf 0 s back there → (back ≡ c) × IsFront there s.parts × (weight_of there ≡ back.staged)

@@ -1,33 +1,21 @@
 -- The result if all images were read, or if a fault ended the run.
-use Rattle.std.proofs.Common.{◌≡◌, ◌≢◌, ◌⊎◌, Bool, ℕ, ◌<◌, ◌≤◌, List, [], Option, append-nil}
-use Rattle.std.proofs.Common.{None, refl, sym, ap, subst, ◌∙◌, inl, inr, false}
+use Rattle.std.proofs.Common.{◌≡◌, ◌⊎◌, Bool, ℕ, ◌<◌, ◌≤◌, List, [], Option, append-nil, None, refl}
+use Rattle.std.proofs.Common.{sym, ap, subst, ◌∙◌, inl, inr, false}
+use Rattle.std.proofs.{KnownBytes.Appends-trans, Math.Nat.eq-or-lt_of_le}
 use Rattle.std.specs.Io.KnownBytes.{Appends}
-use Rattle.std.proofs.KnownBytes.{Appends-trans}
-use Rattle.std.proofs.Math.Nat.{eq-or-lt_of_le}
-use Rattle.tape_blocks.specs.Block.{Portion}
-use Rattle.tape_set.specs.declared.position.Position.{Position}
+use Rattle.tape_blocks.specs.{Block.Portion, declared.parts.Form.Form}
+use Rattle.tape_set.specs.{declared.position.Position.Position, declared.position.Want.Want}
 use Rattle.tape_set.specs.declared.position.Position.TheVariants.{Awaits, Finished}
-use Rattle.tape_set.specs.declared.position.Want.{Want}
 use Rattle.tape_set.specs.Position.{want_at}
-use Rattle.tape_core.specs.declared.sink.PartSink.{Ghosts}
-use Rattle.tape_run.specs.Crash.{IsWalked}
-use Rattle.tape_core.specs.State.{State}
-use Rattle.tape_run.specs.Seen.{Seen, seen, IfSeen}
-use Rattle.tape_run.specs.SessionState.{SessionState}
-use Rattle.tape_blocks.specs.declared.parts.Form.{Form}
-use Rattle.tape_image.specs.Written.{AppendsFront}
-use Rattle.tape_run.specs.ReelLine.{last_line}
-use Rattle.tape_run.specs.Reeling.{Turn, TakesAll, Follows, goes_back}
-use Rattle.tape_run.specs.Stopping.{StopsReading}
+use Rattle.tape_core.specs.{declared.sink.PartSink.Ghosts, State.State}
+use Rattle.tape_run.specs.{Crash.IsWalked, Seen.Seen, Seen.seen, SessionState.SessionState}
+use Rattle.tape_run.specs.{ReelLine.last_line, Stopping.StopsReading}
+use Rattle.tape_run.specs.Reeling.{Turn, TakesAll, Follows, goes_back, Mounting}
 use Rattle.tape_run.specs.declared.fault.EngineFault.{EngineFault}
-use Rattle.tape_run.specs.declared.fault.EngineFault.TheVariants.{WriteFailed}
-use Rattle.tape_run.specs.Reeling.{Mounting}
-use Rattle.tape_run.specs.Extracting.{Ends, Extracts, Stops, EndsFile, StopsAtEnd, TellsEnd}
-use Rattle.tape_run.specs.Extracting.{Leaves, LeavesOutput}
+use Rattle.tape_run.specs.Extracting.{Ends, Extracts, Stops, EndsFile, StopsAtEnd, TellsEnd, Leaves}
+use Rattle.tape_image.specs.Written.{AppendsFront}
 use Rattle.tape_image.proofs.Pieces.{front_more, front_behind}
-use Rattle.tape_run.proofs.Lasting.{stood_walked}
-use Rattle.tape_run.proofs.Left.{left_walked}
-use Rattle.tape_run.proofs.StoppedThere.{stopped_walked}
+use Rattle.tape_run.proofs.{Lasting.stood_walked, Left.left_walked, StoppedThere.stopped_walked}
 use Rattle.tape_run.proofs.TurnSteps.{are_steps}
 
 -- A session that ended its file is where its images lead.
@@ -202,28 +190,6 @@ stops_at_end {S} {L} {R} {W} gs size gives remaining old mid new
             leaves_more _ _ e.want _ _ _ _ (less_then said between says _ t.lines)
                 (e.is_written now has),
           );
-    }
-
--- the last line, or the output, was only partly written
-pub ends_in_part : {S W : Type 0} (g : Ghosts S) (session : SessionState S)
-    (form : Form) (contents : W → Option (List ℕ)) (out written : W)
-    (said says : Option (List ℕ)) (want : Option Want) (records : ℕ) (fault : EngineFault)
-    → AppendsFront said says (last_line want records)
-    → (fault ≢ WriteFailed → says ≡ said)
-    → AppendsFront said says [] ⊎ (want ≡ want_at session.core.file session.core.position)
-    → IfSeen g session (TellsEnd (AppendsFront said says []) want records)
-    → IfSeen g session (LeavesOutput (AppendsFront said says []) want form contents out written)
-    → StopsAtEnd g session form contents out written said says fault
-ends_in_part g session form contents out written said says want records fault line told wants
-    tells wrote =
-    record {
-      want = want;
-      records = records;
-      line = line;
-      told = told;
-      wants = wants;
-      tells = tells;
-      is_written = wrote;
     }
 
 pub none_finished : (file : ℕ) (p : Position) → None ≡ want_at file p → p ≡ Finished

@@ -2,31 +2,30 @@
 use Rattle.std.proofs.Common.{◌≡◌, ℕ, Bool, true, false, List, [], ◌∷◌, ◌++◌, Option, Some, Result}
 use Rattle.std.proofs.Common.{Ok, Err, refl, sym, ap, ◌∙◌, subst, if◌then◌else◌, not, nat_lt, ◌==◌}
 use Rattle.std.specs.{Prelude.⊤, Str.bytes_eq}
-use Rattle.tape_label.specs.{VolumeLabels.is_volume_label, Kinds.kind_at}
-use Rattle.tape_core.specs.{Labels.other_file_id, Labels.other_shape, Labels.form_at, State.State}
-use Rattle.tape_core.specs.{Parts.begun_before, Parts.other_front, Follows.IsFinal, Place.rest_of}
-use Rattle.tape_blocks.specs.{Block.Portion, Judged.judged}
-use Rattle.tape_image.specs.Tape.{TapeItem, block, bad, mark}
-use Rattle.tape_label.specs.declared.values.{Kind.Kind, Head1.Head1, Head2.Head2, Trail1.Trail1}
-use Rattle.tape_label.specs.declared.label.LabelFault.{LabelFault}
 use Rattle.tape_label.specs.declared.values.Kind.TheVariants.{Vol1 as AVol1, Hdr1 as AHdr1}
+use Rattle.tape_label.specs.{VolumeLabels.is_volume_label, Kinds.kind_at, declared.values.Kind.Kind}
+use Rattle.tape_label.specs.{declared.values.Head1.Head1, declared.values.Head2.Head2}
+use Rattle.tape_label.specs.{declared.values.Trail1.Trail1, declared.label.LabelFault.LabelFault}
 use Rattle.tape_label.specs.declared.values.Kind.TheVariants.{Hdr2 as AHdr2}
 use Rattle.tape_label.specs.Reading.{head1_at, head2_at, trail1_at}
-use Rattle.tape_blocks.specs.declared.check.BlockFault.{BlockFault}
+use Rattle.tape_core.specs.declared.event.Phase.TheVariants.{Over, Broken, Volume, VolumeLabels}
+use Rattle.tape_core.specs.declared.event.Phase.TheVariants.{Header2, Headers, DataPassed}
+use Rattle.tape_core.specs.declared.event.Phase.TheVariants.{DataWanted, TrailerPassed}
+use Rattle.tape_core.specs.Table.{Outcome, passed, useless, broken, first_label, at_head1, at_block}
+use Rattle.tape_core.specs.Table.{first_labels, at_head2, second_label, at_judged, at_data}
+use Rattle.tape_core.specs.Table.{at_passed_trailer, at_end, at_wanted_trailer, at_mark, at_bad}
+use Rattle.tape_core.specs.{Labels.other_file_id, Labels.other_shape, Labels.form_at, State.State}
+use Rattle.tape_core.specs.{Parts.begun_before, Parts.other_front, Follows.IsFinal, Place.rest_of}
+use Rattle.tape_core.specs.{declared.event.Answer.Answer, declared.event.Reason.Reason}
+use Rattle.tape_core.specs.{declared.event.Heading.Heading, declared.event.Phase.Phase}
+use Rattle.tape_core.specs.declared.event.Phase.TheVariants.{TrailerWanted, Trailers, NextFile}
+use Rattle.tape_core.specs.Table.{at_item, unless_complete, step_of, other_numbers}
+use Rattle.tape_blocks.specs.{Block.Portion, Judged.judged, declared.check.BlockFault.BlockFault}
+use Rattle.tape_image.specs.Tape.{TapeItem, block, bad, mark}
 use Rattle.tape_set.specs.declared.position.Position.{Position}
 use Rattle.tape_set.specs.declared.position.Position.TheVariants.{Awaits, Finished}
 use Rattle.tape_set.specs.Position.{next_section, sect_of, block_of, part_of}
 use Rattle.tape_set.specs.Lawful.{FileForm, label_count, most_blocks}
-use Rattle.tape_core.specs.declared.event.{Answer.Answer, Reason.Reason, Heading.Heading}
-use Rattle.tape_core.specs.declared.event.Phase.{Phase}
-use Rattle.tape_core.specs.declared.event.Phase.TheVariants.{Over, Broken, Volume, VolumeLabels}
-use Rattle.tape_core.specs.declared.event.Phase.TheVariants.{Header2, Headers, DataPassed}
-use Rattle.tape_core.specs.declared.event.Phase.TheVariants.{DataWanted, TrailerPassed}
-use Rattle.tape_core.specs.declared.event.Phase.TheVariants.{TrailerWanted, Trailers, NextFile}
-use Rattle.tape_core.specs.Table.{Outcome, passed, useless, broken, first_label, at_head1, at_block}
-use Rattle.tape_core.specs.Table.{first_labels, at_head2, second_label, at_judged, at_data}
-use Rattle.tape_core.specs.Table.{at_passed_trailer, at_end, at_wanted_trailer, at_mark, at_bad}
-use Rattle.tape_core.specs.Table.{at_item, unless_complete, step_of, other_numbers}
 use Rattle.tape_run.specs.{Reels.behind_items, ByTable.parts_at, ByTable.delivered_parts}
 
 -- no reading is under way

@@ -1,8 +1,7 @@
 -- Faults, and prefixes of texts, in the forms that occur in answers.
-use Rattle.std.proofs.Common.{◌≡◌, ℕ, Bool, true, false, List, [], Option}
-use Rattle.std.proofs.Common.{Some, None, refl, sym, ◌∙◌, append-nil, if◌then◌else◌}
+use Rattle.std.proofs.Common.{◌≡◌, ℕ, Bool, true, false, List, [], Option, Some, None, refl, sym}
+use Rattle.std.proofs.{Common.◌∙◌, Common.append-nil, Common.if◌then◌else◌, KnownBytes.Appends-nil}
 use Rattle.std.specs.Io.KnownBytes.{Appends, Keeps}
-use Rattle.std.proofs.KnownBytes.{Appends-nil}
 use Rattle.tape_image.specs.Written.{AppendsFront}
 
 -- the text after a part that ends its record

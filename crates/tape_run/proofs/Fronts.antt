@@ -6,19 +6,14 @@ use Rattle.tape_image.specs.{Tape.TapeItem, Tape.block, Tape.bad, Tape.mark, Beg
 use Rattle.tape_image.proofs.{Leads.Leads-before, Existence.Begins-some, Callers.walked_front}
 use Rattle.tape_label.specs.{VolumeLabels.is_volume_label, Reading.head1_at}
 use Rattle.tape_core.specs.Foreign.{starts_set, labels_of_set, is_of_set}
-use Rattle.tape_set.specs.Layout.{FileSet, items, entries}
-use Rattle.tape_set.specs.{Reading.Reading, Reading.as_read, Reach.passes}
+use Rattle.tape_set.specs.{Layout.FileSet, Layout.items, Layout.entries, Reach.passes}
+use Rattle.tape_set.specs.Reading.{Reading, as_read}
 use Rattle.tape_run.specs.Mount.{MountEvent, reads, foreign_reel, saves, restarts, IsCopy, IsMount}
-use Rattle.tape_run.specs.Mount.{IsMountOf, cut}
+use Rattle.tape_run.specs.{Mount.IsMountOf, Mount.cut, Given.IsGiven, History.IsHistory}
 use Rattle.tape_run.specs.Fronts.{FrontsAreMounts, GivenIsHistory}
-use Rattle.tape_run.specs.{Given.IsGiven, History.IsHistory}
 use Rattle.tape_run.specs.declared.script.Step.TheVariants.{Reel, Save, Restart}
 
 -- ---- copies
-
-abbrev head_of : List TapeItem → TapeItem
-head_of [] = bad
-head_of (x ∷ xs) = x
 
 -- a prefix of items that were read like this
 record Front (is : List TapeItem) (good : List Bool) (ys more : List TapeItem) : Type 0 where

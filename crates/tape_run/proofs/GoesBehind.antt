@@ -6,20 +6,19 @@ use Rattle.tape_blocks.specs.Block.{Portion}
 use Rattle.tape_image.specs.Tape.{TapeItem}
 use Rattle.tape_set.specs.declared.position.Position.{Position}
 use Rattle.tape_set.specs.declared.position.Position.TheVariants.{Awaits, Finished}
-use Rattle.tape_core.specs.declared.event.{Answer.Answer, Phase.Phase}
 use Rattle.tape_core.specs.declared.event.Answer.TheVariants.{Passed, Deliver, SectionDone}
+use Rattle.tape_core.specs.Behind.{passed_over, expected_over, PassesTo, AreInOrder, behind_of}
+use Rattle.tape_core.specs.{declared.event.Answer.Answer, declared.event.Phase.Phase, State.State}
 use Rattle.tape_core.specs.declared.event.Answer.TheVariants.{Complete, Useless}
 use Rattle.tape_core.specs.declared.event.Phase.TheVariants.{Over, Broken, Volume, Trailers}
-use Rattle.tape_core.specs.Behind.{passed_over, expected_over, PassesTo, AreInOrder, behind_of}
-use Rattle.tape_core.specs.Behind.{mounted_behind}
-use Rattle.tape_core.specs.{Known.is_finished, State.State, Point.Point, Weight.IsFront}
+use Rattle.tape_core.specs.{Behind.mounted_behind, Known.is_finished, Point.Point, Weight.IsFront}
 use Rattle.tape_core.specs.Table.{Outcome, in_phase, passed, step_of, mount_of, mounted}
-use Rattle.tape_core.proofs.{OneFile.step_set_id, OneFile.step_file, Behind.step_law}
-use Rattle.tape_run.specs.Reels.{behind_items, answers_to, GoesOn}
-use Rattle.tape_run.specs.ByTable.{delivered_parts, parts_by, parts_at, IsLed}
 use Rattle.tape_core.specs.Place.{rest_of, resting}
+use Rattle.tape_core.proofs.{OneFile.step_set_id, OneFile.step_file, Behind.step_law}
+use Rattle.tape_run.specs.{Reels.behind_items, Reels.answers_to, Reels.GoesOn, Seen.Seen}
+use Rattle.tape_run.specs.ByTable.{delivered_parts, parts_by, parts_at, IsLed}
 use Rattle.tape_run.specs.GoesBehind.{EndsSection, PassesFiles, LeadsOverAll, ReeledBehind}
-use Rattle.tape_run.specs.{Given.counted, Given.IsGiven, Seen.Seen, Taking.ReadsImage}
+use Rattle.tape_run.specs.{Given.counted, Given.IsGiven, Taking.ReadsImage}
 use Rattle.tape_run.proofs.ByTable.{behind_app, delivered_app, led_nowhere}
 use Rattle.tape_run.proofs.{Notes.front_self, Completes.step_tells}
 

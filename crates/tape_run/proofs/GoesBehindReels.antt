@@ -5,9 +5,8 @@ use Rattle.std.specs.List.{AllByRecursion}
 use Rattle.tape_image.specs.{Tape.TapeItem, Begins.Walks}
 use Rattle.tape_set.specs.declared.position.Position.{Position}
 use Rattle.tape_set.specs.declared.position.Position.TheVariants.{Awaits, Finished}
-use Rattle.tape_core.specs.declared.event.{Answer.TheVariants.Passed, Phase.Phase}
-use Rattle.tape_core.specs.declared.event.Phase.TheVariants.{Broken}
-use Rattle.tape_core.specs.{Known.is_finished, State.State}
+use Rattle.tape_core.specs.{declared.event.Answer.TheVariants.Passed, declared.event.Phase.Phase}
+use Rattle.tape_core.specs.{declared.event.Phase.TheVariants.Broken, Known.is_finished, State.State}
 use Rattle.tape_core.specs.Table.{Outcome, passed, step_of, mount_of, unless_complete, at_reel_end}
 use Rattle.tape_run.specs.Reels.{behind_items, answers_to, GoesOn, ReadsReel}
 use Rattle.tape_run.specs.GoesBehind.{EndsSection, LeavesBehind, LeavesBehindAgain}

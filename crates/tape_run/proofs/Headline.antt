@@ -1,19 +1,16 @@
 -- A run is where its history leads.
-use Rattle.std.proofs.Common.{◌≡◌, ℕ, ◌+◌, ◌<◌, Bool, true, false, List, [], ◌∷◌, length}
-use Rattle.std.proofs.Common.{map, take, Option, Some, refl, sym, ap, subst, ◌∙◌, arith}
-use Rattle.std.proofs.Common.{length-append, slice_get}
-use Rattle.std.proofs.lemmas.{List.map-append, List.take-map, Option.slice_get-map}
-use Rattle.std.proofs.lemmas.List.{length-take-le}
-use Rattle.tape_set.specs.{Layout.FileSet, Lawful.IsLawful}
-use Rattle.tape_set.specs.declared.position.Position.{Position}
+use Rattle.std.proofs.Common.{◌≡◌, ℕ, ◌+◌, ◌<◌, Bool, true, false, List, [], ◌∷◌, length, map, take}
+use Rattle.std.proofs.Common.{Option, Some, refl, sym, ap, subst, ◌∙◌, arith, length-append}
+use Rattle.std.proofs.{Common.slice_get, lemmas.Option.slice_get-map}
+use Rattle.std.proofs.lemmas.List.{map-append, take-map, length-take-le}
+use Rattle.tape_set.specs.{Layout.FileSet, Lawful.IsLawful, declared.position.Position.Position}
 use Rattle.tape_core.specs.{Point.Point, State.State, Stands.Stands, Stands.weight_of, Table.saved}
 use Rattle.tape_run.specs.Mount.{MountEvent, reads, foreign_reel, saves, restarts, IsMountOf}
-use Rattle.tape_run.specs.Mount.{after_mount}
-use Rattle.tape_run.specs.declared.script.Step.{Step}
+use Rattle.tape_run.specs.{Mount.after_mount, declared.script.Step.Step, Runs.Runs}
 use Rattle.tape_run.specs.declared.script.Step.TheVariants.{Reel, Save, Restart}
-use Rattle.tape_run.specs.{Given.failed_of, Given.counted, Given.counted_up, Seen.Seen}
-use Rattle.tape_run.specs.{Seen.AreNotes, Seen.IsSession, Steps.Reeled, Steps.Saved, Steps.WentBack}
-use Rattle.tape_run.specs.{Runs.Runs, Headline.Ran, Headline.HasRun}
+use Rattle.tape_run.specs.Given.{failed_of, counted, counted_up}
+use Rattle.tape_run.specs.{Seen.Seen, Seen.AreNotes, Seen.IsSession, Headline.Ran, Headline.HasRun}
+use Rattle.tape_run.specs.Steps.{Reeled, Saved, WentBack}
 use Rattle.tape_run.specs.History.{after, course_of, IsHistory}
 use Rattle.tape_core.proofs.Standing.{stood, noted}
 use Rattle.tape_run.proofs.Lead.{led_nothing, led_reel, led_save, led_restart}

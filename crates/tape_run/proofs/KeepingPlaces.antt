@@ -1,15 +1,14 @@
 -- The parts of a catalogue that adding sections does not change.
 use Rattle.std.proofs.Common.{◌≡◌, ◌⊎◌, inl, inr, ℕ, Bool, true, false, List, [], ◌∷◌, ◌++◌, refl}
 use Rattle.std.proofs.Common.{sym, ap, subst, ◌∙◌, append_assoc, append-nil, arith, ⊎_elim, map}
-use Rattle.std.proofs.Common.{if◌then◌else◌, ◌==◌, ◌&&◌}
+use Rattle.std.proofs.{Common.if◌then◌else◌, Common.◌==◌, Common.◌&&◌, lemmas.Bool.and_parts}
+use Rattle.std.proofs.{lemmas.Slice.Eq.bytes_eq-Decides, lemmas.Bool.Decides.nat_tests}
 use Rattle.std.specs.{List.AllByRecursion, Str.bytes_eq}
-use Rattle.std.proofs.lemmas.{Bool.and_parts, Slice.Eq.bytes_eq-Decides, Bool.Decides.nat_tests}
 use Rattle.tape_image.specs.Tape.{TapeItem}
-use Rattle.tape_run.specs.declared.section.{SectionKey.SectionKey, Entry.Entry}
-use Rattle.tape_run.specs.declared.section.SectionState.TheVariants.{Good}
-use Rattle.tape_run.specs.{Passing.Told, Passing.met_in, Shown.Shown}
 use Rattle.tape_run.specs.Noted.{same_key, better, noted, noted_all, StandsIn, KeepsPlaces}
-use Rattle.tape_run.specs.Noted.{GoodIsShown}
+use Rattle.tape_run.specs.{declared.section.SectionKey.SectionKey, declared.section.Entry.Entry}
+use Rattle.tape_run.specs.{declared.section.SectionState.TheVariants.Good, Shown.Shown}
+use Rattle.tape_run.specs.{Passing.Told, Passing.met_in, Noted.GoodIsShown}
 use Rattle.tape_run.proofs.ShownSections.{good_are_shown}
 
 pub noted_all-append : (c ts us : List Told)

@@ -1,11 +1,9 @@
 -- The search for a missing section.
 use Rattle.std.proofs.Common.{◌≡◌, ⊎_elim, ℕ, zero, suc, ◌+◌, ◌-◌, ◌<◌, ◌≤◌, Bool, true, false}
 use Rattle.std.proofs.Common.{List, Option, Some, None, refl, sym, ap, subst, ◌∙◌, arith}
-use Rattle.std.proofs.Common.{MatchOption}
-use Rattle.tape_run.specs.Passing.{Told}
-use Rattle.std.proofs.lemmas.Bool.{cases_eq}
+use Rattle.std.proofs.{Common.MatchOption, lemmas.Bool.cases_eq}
 use Rattle.tape_run.specs.Lacks.{entry_at, key_at, good_end, lack_by, first_lack, lack_of, GoesOnTo}
-use Rattle.tape_run.specs.Lacks.{IsFoundWhole, IsFirstLack, LackIsFirst}
+use Rattle.tape_run.specs.{Passing.Told, Lacks.IsFoundWhole, Lacks.IsFirstLack, Lacks.LackIsFirst}
 
 -- after a good section that does not end its file
 pub lacks_behind : (c : List Told) (set_id : List ℕ) (file sect left : ℕ) → 0 < left

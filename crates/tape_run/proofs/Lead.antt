@@ -3,13 +3,12 @@ use Rattle.std.proofs.Common.{◌≡◌, ℕ, zero, suc, ◌+◌, List, [], ◌�
 use Rattle.std.proofs.Common.{ap, ◌∙◌, arith, Bool, Option, slice_get}
 use Rattle.tape_blocks.specs.Block.{Portion}
 use Rattle.tape_image.specs.{Tape.TapeItem, Begins.Stop, Begins.Begins}
-use Rattle.tape_core.specs.{Point.Point, State.State, Place.rest_of, Place.place_of, Table.saved}
-use Rattle.tape_core.specs.{Table.mount_of, Stands.weight_of, Weight.IsFront}
-use Rattle.tape_run.specs.declared.script.Step.{Step}
-use Rattle.tape_run.specs.declared.script.Step.TheVariants.{Reel, Save, Restart}
-use Rattle.tape_run.specs.{Reels.behind_items, ByTable.delivered_parts, Seen.Seen}
-use Rattle.tape_run.specs.Steps.{Reeled, Saved, WentBack}
+use Rattle.tape_core.specs.{Point.Point, State.State, Place.rest_of, Place.place_of, Weight.IsFront}
+use Rattle.tape_core.specs.{Table.saved, Table.mount_of, Stands.weight_of}
 use Rattle.tape_run.specs.Lead.{Noted, Lead, over_reel, over_save, back_to, AreItems, AreNoted}
+use Rattle.tape_run.specs.{declared.script.Step.Step, Reels.behind_items, ByTable.delivered_parts}
+use Rattle.tape_run.specs.declared.script.Step.TheVariants.{Reel, Save, Restart}
+use Rattle.tape_run.specs.{Seen.Seen, Steps.Reeled, Steps.Saved, Steps.WentBack}
 use Rattle.tape_run.specs.Lead.{StandsThere, LeadsBy, ItemsAreThere}
 use Rattle.tape_image.proofs.{Existence.Begins-some, Uniqueness.Begins-one}
 use Rattle.tape_run.proofs.Notes.{front_self, front_trans, same_front}

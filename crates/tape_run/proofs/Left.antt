@@ -1,32 +1,23 @@
 -- The states that a crash leaves of a session in which a step failed.
 use Rattle.std.proofs.Common.{◌≡◌, ◌⊎◌, ℕ, ◌+◌, ◌-◌, Bool, true, false, List, [], ◌∷◌, length}
-use Rattle.std.proofs.Common.{Option, Some, None, IfSome}
-use Rattle.std.proofs.Common.{slice_get, refl, sym, ap, subst, ◌∙◌, inl, inr, arith}
+use Rattle.std.proofs.Common.{Option, Some, None, IfSome, slice_get, refl, sym, ap, subst, ◌∙◌, inl}
+use Rattle.std.proofs.Common.{inr, arith}
 use Rattle.tape_blocks.specs.Block.{Portion}
-use Rattle.tape_core.specs.Crash.{AddsNothing, AddsOnly}
-use Rattle.tape_core.proofs.Crashes.{only_among, only_same, only_then}
-use Rattle.tape_core.specs.Place.{rest_of}
-use Rattle.tape_core.specs.Point.{Point}
-use Rattle.tape_core.specs.Stands.{weight_of}
-use Rattle.tape_core.specs.Table.{saved}
-use Rattle.tape_core.specs.Weight.{IsFront}
+use Rattle.tape_core.specs.{Crash.AddsNothing, Crash.AddsOnly, Place.rest_of, Point.Point}
+use Rattle.tape_core.specs.{Stands.weight_of, Table.saved, Weight.IsFront}
 use Rattle.tape_core.specs.declared.sink.PartSink.{Ghosts}
-use Rattle.tape_run.specs.Crash.{IsHere, IsNoteOf, IsLast, IsHeld, KeepsLast}
-use Rattle.tape_run.specs.Crash.{LeavesStep, LeavesSaved, IsWalked}
-use Rattle.tape_run.specs.Given.{is_device}
-use Rattle.tape_run.specs.Reeling.{IsKeptFor, counts_differ}
-use Rattle.tape_run.specs.Seen.{Seen, seen, IsKept}
-use Rattle.tape_run.specs.SessionState.{SessionState}
-use Rattle.tape_run.specs.Steps.{Reeled, SaveFails}
-use Rattle.tape_run.specs.Stopping.{RefusesSave}
+use Rattle.tape_core.proofs.Crashes.{only_among, only_same, only_then}
+use Rattle.tape_run.specs.Crash.{IsHere, IsNoteOf, IsLast, IsHeld, KeepsLast, LeavesStep}
+use Rattle.tape_run.specs.declared.fault.RunFault.TheVariants.{Sink, NoSuchPoint, TooFewReels}
+use Rattle.tape_run.specs.{Crash.LeavesSaved, Crash.IsWalked, Given.is_device, Stopping.RefusesSave}
+use Rattle.tape_run.specs.{Reeling.IsKeptFor, Reeling.counts_differ, SessionState.SessionState}
+use Rattle.tape_run.specs.{Seen.Seen, Seen.seen, Seen.IsKept, Steps.Reeled, Steps.SaveFails}
 use Rattle.tape_run.specs.declared.fault.EngineFault.TheVariants.{Run}
 use Rattle.tape_run.specs.declared.fault.RunFault.{RunFault}
-use Rattle.tape_run.specs.declared.fault.RunFault.TheVariants.{Sink, NoSuchPoint, TooFewReels}
 use Rattle.tape_run.specs.declared.fault.RunFault.TheVariants.{OutOfMemory, OtherFile}
 use Rattle.tape_run.specs.declared.reel_reader.ReelAnswer.{ReelAnswer}
-use Rattle.tape_run.proofs.Crashes.{only_nothing}
+use Rattle.tape_run.proofs.{Crashes.only_nothing, Sessions.kept_at}
 use Rattle.tape_run.proofs.Notes.{front_self, front_trans, same_front}
-use Rattle.tape_run.proofs.Sessions.{kept_at}
 
 -- ---- one step
 

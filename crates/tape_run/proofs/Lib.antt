@@ -5,7 +5,6 @@ pub mod Finals
 pub mod ByTable
 pub mod Images
 pub mod Mounts
-pub mod Taken
 pub mod Reels
 pub mod Ended
 pub mod Lead
@@ -56,7 +55,6 @@ mod ListExamples
 mod PlacedExamples
 mod WithoutOffsets
 mod Reporting
-pub mod SurveyGaps
 pub mod SurveyChain
 pub mod SurveyDigest
 pub mod SurveyCompared
@@ -74,9 +72,6 @@ mod SurveyTexts
 mod SurveyOrder
 mod SurveyStands
 mod SurveyVolumes
-mod ExamplesOfSurveys
-mod ExamplesOfCompared
-mod ExamplesOfForms
 mod ExamplesOfUnpacking
 mod ExamplesOfSalvage
 mod UnpackedFiles
@@ -145,7 +140,6 @@ mod SalvagedSets
 mod Examples
 mod ExamplesOfReels
 mod ExamplesOfCatalogues
-mod ExamplesOfSections
 mod ExamplesOfExtracts
 mod ExamplesOfSaves
 mod ExamplesOfSeen

@@ -1,28 +1,16 @@
 -- What a listing has done after some items, and its result from there.
-use Rattle.std.proofs.Common.{◌≡◌, ◌≢◌, ◌≤◌, ℕ, ◌+◌, ◌-◌, List, [], ◌∷◌, ◌++◌, length, Option}
-use Rattle.std.proofs.Common.{Result, Err, IfErr, refl, sym, ap, subst, ◌∙◌, arith}
-use Rattle.std.proofs.Common.{append-nil, append_assoc, length-append}
-use Rattle.std.specs.Prelude.{Bool, unwrap_or}
-use Rattle.std.specs.Io.KnownBytes.{Appends, Keeps}
-use Rattle.std.proofs.KnownBytes.{Appends-trans}
-use Rattle.tape_image.specs.declared.item.Ending.{Ending}
-use Rattle.tape_image.specs.declared.item.ImageCause.{ImageCause}
-use Rattle.tape_image.specs.declared.item.ImageCause.TheVariants.{Truncated, LengthsDiffer}
-use Rattle.tape_image.specs.declared.item.ImageCause.TheVariants.{Reserved, TooLong, Device}
-use Rattle.tape_image.specs.declared.item.ImageCause.TheVariants.{OutOfMemory}
-use Rattle.tape_image.specs.declared.item.ImageFault.{ImageFault}
-use Rattle.tape_image.specs.Tape.{TapeItem}
-use Rattle.tape_image.specs.Begins.{image_limit}
-use Rattle.tape_image.specs.Reader.{IfKnown}
-use Rattle.tape_image.specs.Step.{TakesItem, TakesEnd, TakesFault}
-use Rattle.tape_image.specs.Written.{AppendsFront}
+use Rattle.std.proofs.Common.{◌≡◌, ◌≤◌, ℕ, ◌+◌, ◌-◌, List, [], ◌∷◌, ◌++◌, length, Option, Result}
+use Rattle.std.proofs.Common.{Err, IfErr, refl, sym, ap, subst, ◌∙◌, arith, append-nil}
+use Rattle.std.proofs.{Common.append_assoc, Common.length-append, KnownBytes.Appends-trans}
+use Rattle.std.specs.{Prelude.Bool, Prelude.unwrap_or, Io.KnownBytes.Appends, Io.KnownBytes.Keeps}
+use Rattle.tape_image.specs.{declared.item.Ending.Ending, declared.item.ImageFault.ImageFault}
+use Rattle.tape_image.specs.{Tape.TapeItem, Begins.image_limit, Reader.IfKnown}
+use Rattle.tape_image.specs.{Step.TakesItem, Step.TakesEnd, Step.TakesFault, Written.AppendsFront}
 use Rattle.tape_image.proofs.Walks.{known_then, IfKnown-map}
-use Rattle.tape_run.specs.declared.fault.ListFault.{ListFault}
-use Rattle.tape_run.specs.declared.fault.ListFault.TheVariants.{WriteFailed}
-use Rattle.tape_run.specs.ListLine.{line_of}
-use Rattle.tape_run.specs.Listed.{AppendsInto, Outcome, FitsCause}
 use Rattle.tape_run.specs.Placed.{PlacedItem, Places, item_extent, shown_line, placed_line}
 use Rattle.tape_run.specs.Placed.{placed_lines, placed_end, PlacesToEnd, PlacesToFault}
+use Rattle.tape_run.specs.{declared.fault.ListFault.ListFault, ListLine.line_of, Listed.AppendsInto}
+use Rattle.tape_run.specs.declared.fault.ListFault.TheVariants.{WriteFailed}
 use Rattle.tape_run.specs.Placed.{StopsPlacing, at_item, at_end, at_fault, FitsPlaces}
 use Rattle.tape_run.proofs.Fitting.{kept}
 
@@ -116,18 +104,6 @@ pub fails_at : (offsets : Bool) (all left next : Option (List ℕ))
     → IfKnown all next (PlacesToFault offsets fault old new)
 fails_at offsets all left next p count fault old mid new s near takes keeps =
     grind (arith, known_then, kept)
-
--- any cause except lack of memory
-pub fits_cause : (to_fault : ImageFault → Outcome) (cause : ImageCause) (fault : ImageFault)
-    (before after old new : Option (List ℕ))
-    → cause ≢ OutOfMemory → IfKnown before after (to_fault fault old new)
-    → FitsCause to_fault cause fault before after old new
-fits_cause to_fault OutOfMemory fault before after old new other h = absurd (other refl)
-fits_cause to_fault Truncated fault before after old new other h = h
-fits_cause to_fault LengthsDiffer fault before after old new other h = h
-fits_cause to_fault (Reserved w) fault before after old new other h = h
-fits_cause to_fault TooLong fault before after old new other h = h
-fits_cause to_fault Device fault before after old new other h = h
 
 -- further text was written after the earlier text
 into : (old mid new : Option (List ℕ)) (all part : List ℕ) → Appends old mid all

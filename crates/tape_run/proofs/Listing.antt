@@ -1,16 +1,13 @@
 -- The lines, sets and missing sections of a catalogue, index by index.
 use Rattle.std.proofs.Common.{◌≡◌, ℕ, zero, suc, ◌+◌, ◌-◌, ◌<◌, ◌≤◌, Bool, true, false, List, []}
-use Rattle.std.proofs.Common.{◌∷◌, ◌++◌, map, take, drop, slice_get, Some, refl, sym, ap}
-use Rattle.std.proofs.Common.{◌∙◌, arith, append_assoc}
-use Rattle.std.specs.Map.{lookup}
-use Rattle.std.specs.Str.{bytes_eq}
-use Rattle.std.proofs.Math.Seq.{take-suc}
+use Rattle.std.proofs.Common.{◌∷◌, ◌++◌, map, take, drop, slice_get, Some, refl, sym, ap, ◌∙◌}
+use Rattle.std.proofs.{Common.arith, Common.append_assoc, Math.Seq.take-suc}
 use Rattle.std.proofs.lemmas.Option.{slice_get_within, get_or_from_slice_get}
 use Rattle.std.proofs.lemmas.List.{map-append, drop_more}
+use Rattle.std.specs.{Map.lookup, Str.bytes_eq}
 use Rattle.indexmap.specs.IndexMap.{insert_entry}
-use Rattle.tape_run.specs.declared.section.SectionLine.{SectionLine}
-use Rattle.tape_run.specs.Passing.{Told}
 use Rattle.tape_run.specs.Lacks.{line_of, SetFiles, greatest, with_file, sets_from, lack_of}
+use Rattle.tape_run.specs.{declared.section.SectionLine.SectionLine, Passing.Told}
 use Rattle.tape_run.specs.Lacks.{one_lack, file_lacks, set_lacks}
 use Rattle.tape_run.specs.NextLack.{lacks_after, lacks_from}
 

@@ -11,7 +11,7 @@ use Rattle.tape_run.specs.ExtractingLocated.{BeginsOn, NextBeginsOn}
 use Rattle.tape_run.specs.{Reeling.Mounting, SessionState.SessionState, SurveyLocations.Located}
 use Rattle.tape_run.specs.Seen.{seen, IfSeen, IsSeen}
 use Rattle.tape_run.specs.declared.extract.located.Mounted.{Mounted}
-use Rattle.tape_run.proofs.BehindReads.{rest_twice}
+use Rattle.tape_run.proofs.ByTable.{resting_twice}
 use Rattle.tape_run.proofs.LocatedParts.{FollowsOn, follows_more, gathers_of}
 
 -- ---- which images
@@ -201,7 +201,7 @@ sections_read {S} {L} {R} g gives remaining locations complete session now shelf
             is,
             has,
             gathers_of (seen g session parts) s.stretches (seen g now is)
-                (ap (λ p. in_phase session.core p) (sym (rest_twice session.core.phase))) f,
+                (ap (λ p. in_phase session.core p) (sym (resting_twice session.core.phase))) f,
           );
       ends = ends;
     }

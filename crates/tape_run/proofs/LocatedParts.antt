@@ -16,7 +16,7 @@ use Rattle.tape_run.specs.ExtractingLocated.{AreTapesOf, AreMountsOf, GathersOf,
 use Rattle.tape_run.specs.ExtractingLocated.{Arrives, over_tapes, IsThere}
 use Rattle.tape_run.specs.Seen.{Seen, seen, IfSeen, IsSeen}
 use Rattle.tape_run.specs.declared.{extract.located.Mounted.Mounted, survey.files.FileKey.FileKey}
-use Rattle.tape_run.proofs.BehindReads.{led_reads, rest_twice}
+use Rattle.tape_run.proofs.{BehindReads.led_reads, ByTable.resting_twice}
 use Rattle.tape_run.proofs.LocatedReaders.{leads_on, front_of}
 
 -- ---- what was read
@@ -171,7 +171,7 @@ arrives_of set old (s ∷ ss) new (mid, r, f) (xs ∷ tapes) (h ∷ hs) lawful r
     (subst (λ l. IsMount set l h) whole mount) rest placed led in
     let again : mid.place ≡ rest_of mid.place =
     led.place ∙ (ap (λ p. in_phase (behind_items (mount_of old.place) (s.front ++ more)) p)
-    (sym (rest_twice (behind_items (mount_of old.place) (s.front ++ more)).phase))
+    (sym (resting_twice (behind_items (mount_of old.place) (s.front ++ more)).phase))
     ∙ ap rest_of (sym led.place)) in
     arrives_more set old mid new h hs
     (record { at = by.at; same_file = r.same_file some; position = by.position })

@@ -4,12 +4,11 @@ use Rattle.std.proofs.Common.{Option, Some, None, ◌≤◌, length, take, IfSom
 use Rattle.std.proofs.Common.{subst, ◌<◌, arith, append-nil, ◌++◌, slice_set, slice_get}
 use Rattle.std.proofs.lemmas.List.{append_assoc, take-append-drop, drop_all}
 use Rattle.tape_core.specs.{Crash.AddsNothing, Crash.Crashes, Weight.IsFront}
-use Rattle.tape_run.specs.{Crash.LastAlone, Given.written, Headline.LosesParts}
-use Rattle.tape_run.specs.{Made.HasMade, Made.IsMade, Made.WritesFrom, Runs.Runs, Runs.RunsUpTo}
-use Rattle.tape_run.specs.{Runs.Fails, Seen.Seen}
-use Rattle.tape_run.specs.declared.{fault.RunFault.RunFault, script.Step.Step}
+use Rattle.tape_run.specs.{Crash.LastAlone, Given.written, Headline.LosesParts, Seen.Seen}
+use Rattle.tape_run.specs.{Made.HasMade, Made.IsMade, Made.WritesFrom, declared.script.Step.Step}
+use Rattle.tape_run.specs.{Runs.Runs, Runs.RunsUpTo, Runs.Fails, declared.fault.RunFault.RunFault}
 use Rattle.tape_run.specs.declared.script.Step.TheVariants.{Reel, Save, Restart}
-use Rattle.tape_run.specs.Steps.{Reeled, Saved, WentBack, ReelFails}
+use Rattle.tape_run.specs.Steps.{Reeled, Saved, WentBack}
 use Rattle.tape_run.proofs.Lasting.{alone_still}
 
 -- ---- one step
@@ -70,18 +69,7 @@ restart_made old mid k w readers was now = record {
   stays = λ saved before. (false, λ rest. refl, λ is. absurd (cc));
 }
 
--- a reel that was not read to its end
-pub reel_failed : (old new : Seen) (o : Option (List ℕ)) (readers : List (Option (List ℕ)))
-    (fault : RunFault) → IfSome o (λ bytes. ReelFails bytes fault old new)
-    → Fails Reel (o ∷ readers) fault old new
-reel_failed old new None readers fault h = tt
-reel_failed old new (Some bytes) readers fault h = h
-
 -- ---- one after another
-
-pub made_none : (s : Seen) (steps : List Step) (readers : List (Option (List ℕ)))
-    → HasMade 0 [] s steps readers [] s steps readers
-made_none s steps readers = grind (arith)
 
 pub made_more : (made : ℕ) (which one : List Bool) (old mid new : Seen)
     (steps left rest : List Step) (step : Step)

@@ -2,22 +2,20 @@
 -- best item.
 use Rattle.std.proofs.Common.{◌≡◌, ◌≢◌, ℕ, ◌+◌, ◌-◌, ◌<◌, ◌≤◌, List, [], ◌∷◌, ◌++◌, length, take}
 use Rattle.std.proofs.Common.{Option, Some, None, refl, sym, ap, subst, ◌∙◌, length-append, arith}
+use Rattle.std.proofs.{lemmas.Option.slice_get_past, lemmas.List.take_all, lemmas.List.take_at}
 use Rattle.std.specs.Prelude.{slice_get}
-use Rattle.std.proofs.lemmas.Option.{slice_get_past}
-use Rattle.std.proofs.lemmas.List.{take_all, take_at}
 use Rattle.tape_image.specs.Tape.{TapeItem}
 use Rattle.tape_image.specs.Reader.{Status, going, ended, failed}
+use Rattle.tape_run.specs.MergeSteps.{joined, best_items, Asked, gives, stops, AskedAll, column}
 use Rattle.tape_run.specs.declared.merge.reading.Reading.{Reading}
 use Rattle.tape_run.specs.Merging.{IsReadFrom, AreReadFrom}
-use Rattle.tape_run.specs.MergeSteps.{joined, best_items, Asked, gives, stops, AskedAll, column}
 use Rattle.tape_run.specs.MergeSteps.{HasTaken, HaveTaken, AllStopped, AreUpTo, Judges, StopsAs}
+use Rattle.tape_run.proofs.MergeVerdicts.{none_yet, Keeps, judges, judges_stop, agreed_alone}
 use Rattle.tape_run.proofs.MergeReadings.{reads_self, reads_front, reads_trans, are_better}
 use Rattle.tape_run.proofs.MergePlaces.{best_better, reads_best, best_least}
 use Rattle.tape_run.proofs.MergeTaken.{has_given, has_stopped, stopped_off, get_front, get_last}
-use Rattle.tape_run.proofs.MergeVerdicts.{none_yet, Keeps, judges, judges_stop, agreed_alone}
 use Rattle.tape_run.proofs.MergeVerdicts.{later_other, SeenAs, seen_item, seen_none}
-use Rattle.tape_run.proofs.MergeFirsts.{ComparesIf}
-use Rattle.tape_run.proofs.MergeRows.{AreSeenAs}
+use Rattle.tape_run.proofs.{MergeFirsts.ComparesIf, MergeRows.AreSeenAs}
 
 -- ---- readings at a place of a tape
 

@@ -1,28 +1,20 @@
 -- The bytes that readers returned, of images whose bytes are known.
-use Rattle.std.proofs.Common.{◌≡◌, ℕ, ◌+◌, ◌*◌, ◌≤◌, List, [], ◌∷◌, ◌++◌, length, map}
-use Rattle.std.specs.Prelude.{IfOk, IfErr, OnOk, ◌≢◌}
-use Rattle.std.proofs.Common.{Option, Some, Result, Ok, Err, sym, ap, subst, refl, inr, suc}
-use Rattle.std.proofs.Common.{arith}
-use Rattle.tape_image.specs.Tape.{TapeItem}
+use Rattle.std.proofs.Common.{◌≡◌, ℕ, ◌+◌, ◌*◌, ◌≤◌, List, [], ◌∷◌, ◌++◌, length, map, Option, Some}
+use Rattle.std.proofs.Common.{Result, Ok, Err, sym, ap, subst, inr, arith}
+use Rattle.std.specs.Prelude.{IfOk, IfErr}
+use Rattle.tape_image.specs.{Tape.TapeItem, Reader.Reader, Calls.Gave, Writer.Writer}
 use Rattle.tape_image.specs.Begins.{image_limit, Stop, Begins, Walks}
-use Rattle.tape_image.specs.Reader.{Reader}
-use Rattle.tape_image.specs.Calls.{Gave}
-use Rattle.tape_image.specs.Writer.{Writer}
-use Rattle.tape_image.proofs.Callers.{Gave-walks, front_of_image}
-use Rattle.tape_run.specs.declared.merge.Merged.{Merged}
-use Rattle.tape_run.specs.declared.merge.MergeFault.{MergeFault}
-use Rattle.tape_run.specs.declared.merge.MergeFault.TheVariants as faults
-use Rattle.tape_run.specs.declared.merge.reading.Reading.{Reading}
-use Rattle.tape_run.specs.MergeSteps.{HasRead, HasTaken, HaveTaken, TookLast, nothing, last}
-use Rattle.tape_run.specs.MergeSteps.{bads, is_bad_one}
-use Rattle.tape_run.specs.MergeCalls.{AreAtFront, IfImages, Merges, FitsFault}
+use Rattle.tape_image.proofs.{Callers.Gave-walks, Callers.front_of_image, Steps.least_four}
+use Rattle.tape_run.specs.MergeSteps.{HasRead, HasTaken, HaveTaken, TookLast, nothing, last, bads}
 use Rattle.tape_run.specs.MergedImages.{LastIsAt, no_item, last_item, TakesImage, TakeImages}
+use Rattle.tape_run.specs.{declared.merge.Merged.Merged, declared.merge.MergeFault.MergeFault}
+use Rattle.tape_run.specs.{declared.merge.reading.Reading.Reading, MergeSteps.is_bad_one}
+use Rattle.tape_run.specs.MergeCalls.{AreAtFront, IfImages, Merges, FitsFault}
 use Rattle.tape_run.specs.MergedImages.{AllBegin, MergesImages, FaultsImages}
 use Rattle.tape_run.specs.MergeLaws.{AreFronts, TakesAs}
-use Rattle.tape_run.proofs.MergeGiven.{readers_give_images}
-use Rattle.tape_run.proofs.MergeJoins.{differ_for_good}
+use Rattle.tape_run.specs.declared.merge.MergeFault.TheVariants as faults
+use Rattle.tape_run.proofs.{MergeGiven.readers_give_images, MergeJoins.differ_for_good}
 use Rattle.tape_run.proofs.MergeCounts.{one_at_most}
-use Rattle.tape_image.proofs.Steps.{least_four}
 
 -- ---- how long readings are
 
@@ -202,29 +194,3 @@ err_images (Err fault) firsts nows old new h =
     λ images front. faults_images images firsts nows old new fault front h
 
 -- ---- as many readings as before
-
-same_many : {R : Type 0} (firsts nows : List (Reading R)) (rs : List (List TapeItem))
-    → HaveTaken firsts nows rs → length nows ≡ length firsts
-same_many [] [] [] h = refl
-same_many (f ∷ firsts) (n ∷ nows) (r ∷ rs) h =
-    ap (λ (k : ℕ). suc k) (same_many firsts nows rs h.1)
-same_many _ _ _ h = absurd h
-
-pub ok_many : {R : Type 0} (result : Result Merged MergeFault) (firsts nows : List (Reading R))
-    (old new : Writer) (log logged : Option (List ℕ))
-    → IfOk result (λ m. Merges firsts nows m old new log logged)
-    → OnOk result (length nows ≡ length firsts)
-ok_many (Ok m) firsts nows old new log logged h = same_many firsts nows h.readings h.have
-ok_many (Err fault) firsts nows old new log logged h = tt
-
-pub err_many : {R : Type 0} (result : Result Merged MergeFault) (firsts nows : List (Reading R))
-    (old new : Writer) → IfErr result (FitsFault firsts nows old new)
-    → IfErr result (λ fault. fault ≢ faults.OutOfMemory → length nows ≡ length firsts)
-err_many (Ok m) firsts nows old new h = tt
-err_many (Err faults.OutOfMemory) firsts nows old new h = λ other. absurd (other refl)
-err_many (Err (faults.Differ n)) firsts nows old new h =
-    λ other. same_many firsts nows h.readings h.have
-err_many (Err faults.Log) firsts nows old new h =
-    λ other. same_many firsts nows h.readings h.taken
-err_many (Err (faults.Write fault)) firsts nows old new h =
-    λ other. same_many firsts nows h.readings h.taken

@@ -1,22 +1,19 @@
 -- Readings that are asked for one item, one after another, if at least one does not agree.
-use Rattle.std.proofs.Common.{◌≡◌, ◌≢◌, ℕ, ◌+◌, ◌-◌, ◌≤◌, List, [], ◌∷◌, ◌++◌, length, take}
-use Rattle.std.proofs.Common.{Option, Some, None, refl, sym, ap, subst, map, ◌∙◌}
-use Rattle.std.proofs.Common.{length-append, arith}
+use Rattle.std.proofs.Common.{◌≡◌, ◌≢◌, ℕ, ◌+◌, ◌-◌, ◌≤◌, List, [], ◌∷◌, ◌++◌, length, take, Option}
+use Rattle.std.proofs.Common.{Some, None, refl, sym, ap, subst, map, ◌∙◌, length-append, arith}
+use Rattle.std.proofs.{lemmas.Option.slice_get_past, lemmas.List.take_all, lemmas.List.take_at}
 use Rattle.std.specs.Prelude.{slice_get}
-use Rattle.std.proofs.lemmas.Option.{slice_get_past}
-use Rattle.std.proofs.lemmas.List.{take_all, take_at}
-use Rattle.tape_image.specs.Tape.{TapeItem}
-use Rattle.tape_image.specs.Reader.{going}
-use Rattle.tape_run.specs.declared.merge.reading.{Reading.Reading, Verdict.Verdict}
-use Rattle.tape_run.specs.Merging.{IsReadFrom, AreReadFrom}
+use Rattle.tape_image.specs.{Tape.TapeItem, Reader.going}
 use Rattle.tape_run.specs.MergeSteps.{best_items, Asked, gives, stops, AskedAll, column, HasTaken}
+use Rattle.tape_run.specs.declared.merge.reading.Reading.{Reading}
+use Rattle.tape_run.specs.declared.merge.reading.Verdict.{Verdict}
+use Rattle.tape_run.specs.Merging.{IsReadFrom, AreReadFrom}
 use Rattle.tape_run.specs.MergeSteps.{HaveTaken, AreUpTo, Judges, AreJudged, Compares, agrees}
-use Rattle.tape_run.proofs.MergeReadings.{reads_front, are_better}
-use Rattle.tape_run.proofs.MergePlaces.{best_differs}
-use Rattle.tape_run.proofs.MergeTaken.{has_given, has_stopped, stopped_off, get_last}
 use Rattle.tape_run.proofs.MergeVerdicts.{IsOther, none_yet, Keeps, judges, judges_stop}
+use Rattle.tape_run.proofs.MergeReadings.{reads_front, are_better}
+use Rattle.tape_run.proofs.{MergePlaces.best_differs, MergeAsking.within_up, MergeAsking.one_best}
+use Rattle.tape_run.proofs.MergeTaken.{has_given, has_stopped, stopped_off, get_last}
 use Rattle.tape_run.proofs.MergeVerdicts.{second_alone, all_keep, next_other}
-use Rattle.tape_run.proofs.MergeAsking.{within_up, one_best}
 use Rattle.tape_run.proofs.MergeFirsts.{ComparesIf, AreCompared}
 
 -- a reading that was asked consists of the same items, or of one more

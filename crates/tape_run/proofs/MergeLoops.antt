@@ -2,32 +2,27 @@
 use Rattle.std.proofs.Common.{◌≡◌, ◌≢◌, ℕ, ◌+◌, ◌≤◌, List, [], ◌∷◌, ◌++◌, length, Option, Some}
 use Rattle.std.proofs.Common.{None, Bool, true, false, Result, Err, refl, sym, ap, subst, ◌∙◌, inl}
 use Rattle.std.proofs.Common.{length-append, append-nil, arith}
+use Rattle.std.proofs.KnownBytes.{Appends-nil, Appends-trans}
 use Rattle.std.specs.Prelude.{◌==◌, ◌||◌, nat_lt, is_some, IfSome, IfErr}
 use Rattle.std.specs.Io.KnownBytes.{Appends}
-use Rattle.std.proofs.KnownBytes.{Appends-nil, Appends-trans}
-use Rattle.tape_image.specs.declared.item.ImageWriteFault.{ImageWriteFault}
-use Rattle.tape_image.specs.Tape.{TapeItem}
+use Rattle.tape_image.specs.{declared.item.ImageWriteFault.ImageWriteFault, Tape.TapeItem}
 use Rattle.tape_image.specs.Begins.{image_limit}
 use Rattle.tape_image.specs.Writer.{Writer, writing, PutItem, PutItems}
-use Rattle.tape_run.specs.declared.merge.Merged.{Merged}
-use Rattle.tape_run.specs.declared.merge.MergeFault.{MergeFault}
-use Rattle.tape_run.specs.declared.merge.MergeFault.TheVariants as faults
-use Rattle.tape_run.specs.declared.passing.Phase.{Phase}
-use Rattle.tape_run.specs.declared.passing.Phase.TheVariants.{Volume}
+use Rattle.tape_run.specs.MergeSteps.{best_items, AskedAll, HaveTaken, AreUpTo, nothing, is_bad_one}
+use Rattle.tape_run.specs.MergeCalls.{Counts, firsts_in, miscounted_of, Puts, Merges, DiffersAt}
+use Rattle.tape_run.specs.{declared.merge.Merged.Merged, declared.merge.MergeFault.MergeFault}
+use Rattle.tape_run.specs.{declared.passing.Phase.Phase, declared.passing.Phase.TheVariants.Volume}
 use Rattle.tape_run.specs.Passing.{Told, step, phase_after, blocks_of}
 use Rattle.tape_run.specs.Merging.{IsReadFrom, AreReadFrom, IsMerged}
 use Rattle.tape_run.specs.declared.merge.reading.Reading.{Reading}
-use Rattle.tape_run.specs.MergeSteps.{best_items, AskedAll, HaveTaken, AreUpTo, nothing}
-use Rattle.tape_run.specs.MergeSteps.{is_bad_one, one_if, goods_in}
+use Rattle.tape_run.specs.MergeSteps.{one_if, goods_in}
 use Rattle.tape_run.specs.MergeLog.{log_rows, row_now, has_bad_verdict}
-use Rattle.tape_run.specs.MergeCalls.{Counts, firsts_in, miscounted_of, Puts}
-use Rattle.tape_run.specs.MergeCalls.{Merges, DiffersAt, FitsFault, RefusesCandidate}
-use Rattle.tape_run.proofs.NotedSoFar.{one_block}
-use Rattle.tape_run.proofs.MergeRefusals.{best_fits, refuses_puts}
-use Rattle.tape_run.proofs.MergeAsking.{HaveCandidate, all_best}
-use Rattle.tape_run.proofs.MergeDiffers.{all_differ}
-use Rattle.tape_run.proofs.MergeFirsts.{first_is, second_is}
+use Rattle.tape_run.specs.MergeCalls.{FitsFault, RefusesCandidate}
+use Rattle.tape_run.specs.declared.merge.MergeFault.TheVariants as faults
 use Rattle.tape_run.proofs.MergeCounts.{put_one_more, put_moves, was_put, was_none, CountsOne}
+use Rattle.tape_run.proofs.{NotedSoFar.one_block, MergeAsking.HaveCandidate, MergeAsking.all_best}
+use Rattle.tape_run.proofs.MergeRefusals.{best_fits, refuses_puts}
+use Rattle.tape_run.proofs.{MergeDiffers.all_differ, MergeFirsts.first_is, MergeFirsts.second_is}
 use Rattle.tape_run.proofs.MergeCounts.{counts_more, phase_more, alone_kept}
 use Rattle.tape_run.proofs.MergeRows.{goods_seen, rows_kept, rows_more, due_seen}
 

@@ -1,15 +1,12 @@
 -- What holds of the readings of images holds of the images of a source, all of which were mounted.
-use Rattle.std.proofs.Common.{◌≡◌, ◌⊎◌, ℕ, suc, List, [], ◌∷◌, length, map, Option}
-use Rattle.std.proofs.Common.{Result, Ok, Err, IfOk, IfErr, refl, ap, subst, ◌∙◌, inl, inr}
-use Rattle.tape_run.specs.declared.merge.now.MergeEnd.{MergeEnd}
+use Rattle.std.proofs.Common.{◌≡◌, ◌⊎◌, ℕ, suc, List, [], ◌∷◌, length, map, Option, Result, Ok, Err}
+use Rattle.std.proofs.Common.{IfErr, refl, ap, subst, ◌∙◌, inl, inr}
+use Rattle.tape_run.specs.{declared.merge.now.MergeEnd.MergeEnd, Reeling.Mounting}
 use Rattle.tape_run.specs.declared.merge.now.MergeStop.{MergeStop}
-use Rattle.tape_run.specs.declared.merge.now.MergeStop.TheVariants as stops
 use Rattle.tape_run.specs.declared.merge.reading.Reading.{Reading}
-use Rattle.tape_run.specs.Reeling.{Mounting}
 use Rattle.tape_run.specs.MergeCalls.{AreAtFront, IfImages}
-use Rattle.tape_run.specs.MergeNow.{MountsAll, IfMounted, Misses, LeavesPlace}
-use Rattle.tape_run.specs.MergeNow.{ReportsNoImage, ReportsImage}
-use Rattle.tape_run.proofs.MergeNow.{err_misses}
+use Rattle.tape_run.specs.MergeNow.{MountsAll, IfMounted, LeavesPlace, ReportsNoImage, ReportsImage}
+use Rattle.tape_run.specs.declared.merge.now.MergeStop.TheVariants as stops
 
 if_mounted : {L R : Type 0} (size : L → ℕ) (gives : Mounting L R) (remaining : R → Option (List ℕ))
     (shelf left : L) (devices : List R) (firsts : List (Reading R)) (holds : List (List ℕ) → Type 0)
@@ -21,26 +18,6 @@ if_mounted size gives remaining shelf left devices firsts holds mounts front h =
   comes = λ images is. h images
       (subst (λ (l : List (Option (List ℕ))). AreAtFront l firsts) is front);
 }
-
-pub ok_now : {L R : Type 0} (result : Result MergeEnd MergeStop) (size : L → ℕ)
-    (gives : Mounting L R) (remaining : R → Option (List ℕ)) (shelf left : L) (devices : List R)
-    (firsts : List (Reading R)) (holds : MergeEnd → List (List ℕ) → Type 0)
-    → MountsAll size gives shelf left devices → AreAtFront (map remaining devices) firsts
-    → IfOk result (λ end. IfImages firsts (holds end))
-    → IfOk result (λ end. IfMounted size gives remaining shelf left (holds end))
-ok_now (Ok end) size gives remaining shelf left devices firsts holds mounts front h =
-    if_mounted size gives remaining shelf left devices firsts (holds end) mounts front h
-ok_now (Err stop) size gives remaining shelf left devices firsts holds mounts front h = tt
-
-pub cause_now : {L R : Type 0} (result : Result MergeEnd MergeStop) (missing : ℕ → Type 0)
-    (size : L → ℕ) (gives : Mounting L R) (remaining : R → Option (List ℕ)) (shelf left : L)
-    (devices : List R) (firsts : List (Reading R)) (long : ℕ → List (List ℕ) → Type 0)
-    → MountsAll size gives shelf left devices → AreAtFront (map remaining devices) firsts
-    → IfErr result (Misses (λ _. ⊥) (λ n. IfImages firsts (long n)))
-    → IfErr result (Misses missing (λ n. IfMounted size gives remaining shelf left (long n)))
-cause_now result missing size gives remaining shelf left devices firsts long mounts front h =
-    err_misses result (λ _. ⊥) missing (λ n. IfImages firsts (long n)) _ (λ n no. absurd no)
-    (λ n k. if_mounted size gives remaining shelf left devices firsts (long n) mounts front k) h
 
 leaves_more : {O : Type 0} (stands : O → Option (List ℕ)) (old new : O) (said says P Q : Type 0)
     (stop : MergeStop) → (said → says) → (P → Q) → LeavesPlace stands old new said P stop

@@ -1,5 +1,5 @@
 -- The meaning of a call of `ImageReader::next` for a reading that is asked for an item.
-use Rattle.std.proofs.Common.{◌≡◌, ◌≢◌, ℕ, Option, Some, None, Result, Ok, true, false, refl, ap}
+use Rattle.std.proofs.Common.{◌≡◌, ◌≢◌, ℕ, Option, Some, None, Result, Ok, false, refl, ap}
 use Rattle.std.proofs.Common.{subst, sym, ◌∙◌}
 use Rattle.tape_image.specs.declared.item.{Item.Item, ImageFault.ImageFault}
 use Rattle.tape_image.specs.Tape.{TapeItem, block, bad, mark}
@@ -9,7 +9,7 @@ use Rattle.tape_run.specs.declared.merge.reading.{Reading.Reading, Verdict.Verdi
 use Rattle.tape_run.specs.declared.merge.reading.Verdict.TheVariants as verdicts
 use Rattle.tape_run.specs.MergeSteps.{agrees, Compares, StopsAs, Answered, with_item, is_stop}
 use Rattle.tape_run.specs.MergeSteps.{bad_count, without, RisesBy, is_bad_one, one_if, block_length}
-use Rattle.tape_run.specs.MergeSteps.{CountsNothing, Asked, gives, stops}
+use Rattle.tape_run.specs.MergeSteps.{Asked, gives}
 
 status_gives : (s : Status) (old new : Reader) (r : Result (Option TapeItem) ImageFault)
     (x : TapeItem) → Answers s old r new → r ≡ Ok (Some x) → (s ≡ going) × GivesItem old x new
@@ -69,13 +69,6 @@ item_never verdicts.Ended s is h = absurd (cc is)
 item_never (verdicts.Failed fault) s is h = absurd (cc is)
 item_never _ s is h = h
 
-stop_never : (v : Verdict) (x : TapeItem) (best now other beside : Option TapeItem)
-    → is_stop v ≡ true → Compares v x best now other beside → ⊥
-stop_never verdicts.First x best now other beside is h = absurd (cc is)
-stop_never verdicts.Ended x best now other beside is h = h
-stop_never (verdicts.Failed fault) x best now other beside is h = h
-stop_never _ x best now other beside is h = absurd (cc is)
-
 -- the reading returned an item, with this verdict
 pub asked_item : {R : Type 0} (old new : Reading R) (verdict : Verdict) (len badly : ℕ)
     (best now other beside : Option TapeItem)
@@ -96,16 +89,3 @@ asked_item old new verdict len badly best now other beside
 asked_item old new verdict len badly best now other beside
     (without stopped how kept left) is no_stop same fields =
     absurd (item_never verdict new.image.status no_stop how)
-
--- the reading stopped, with this verdict
-pub asked_stop : {R : Type 0} (old new : Reading R) (verdict : Verdict) (len : ℕ)
-    (best now other beside : Option TapeItem)
-    → Answered old.image new.image verdict len best now other beside → new.verdict ≡ verdict
-    → is_stop verdict ≡ true → CountsNothing old new
-    → Asked old new best now other beside
-asked_stop old new verdict len best now other beside
-    (with_item x on given compares long) is a_stop same =
-    absurd (stop_never verdict x best now other beside a_stop compares)
-asked_stop old new verdict len best now other beside
-    (without stopped how kept left) is a_stop same =
-    stops stopped (subst (λ (v : Verdict). StopsAs v new.image.status) (sym is) how) same kept left

@@ -1,34 +1,28 @@
 -- What merging readings comes to, and what a fault leaves.
-use Rattle.std.proofs.Common.{◌≡◌, ◌≢◌, ◌⊎◌, ℕ, zero, suc, ◌+◌, List, [], ◌∷◌, ◌++◌, length}
-use Rattle.std.proofs.Common.{map, Option, Some, Result, Ok, Err, IfErr}
-use Rattle.std.proofs.Common.{refl, sym, subst, ◌∙◌, inl, inr, arith, length-append}
-use Rattle.std.proofs.Common.{append_assoc, append-nil}
-use Rattle.std.specs.List.{flat_map}
-use Rattle.std.specs.Io.KnownBytes.{Appends, Keeps}
+use Rattle.std.proofs.Common.{◌≡◌, ◌≢◌, ◌⊎◌, ℕ, zero, suc, ◌+◌, List, [], ◌∷◌, ◌++◌, length, map}
+use Rattle.std.proofs.Common.{Option, Some, Result, Ok, Err, IfErr, refl, sym, subst, ◌∙◌, inl, inr}
+use Rattle.std.proofs.Common.{arith, length-append, append_assoc, append-nil}
 use Rattle.std.proofs.KnownBytes.{Appends-nil, Appends-trans}
-use Rattle.tape_image.specs.Tape.{TapeItem}
-use Rattle.tape_image.specs.Written.{written, AppendsFront}
+use Rattle.std.specs.{List.flat_map, Io.KnownBytes.Appends, Io.KnownBytes.Keeps}
+use Rattle.tape_image.specs.{Tape.TapeItem, Written.written, Written.AppendsFront}
 use Rattle.tape_image.specs.Writer.{Writer, writing, PutItems}
-use Rattle.tape_image.proofs.Pieces.{front_more}
-use Rattle.tape_image.proofs.WrittenItems.{put_item}
-use Rattle.tape_run.specs.declared.merge.Merged.{Merged}
-use Rattle.tape_run.specs.declared.merge.MergeFault.{MergeFault}
+use Rattle.tape_image.proofs.{Pieces.front_more, WrittenItems.put_item}
+use Rattle.tape_run.specs.MergeNow.{EndsAs, end_bytes, FitsEnd, HoldsMerged, ComesTo, Misses}
+use Rattle.tape_run.specs.{declared.merge.Merged.Merged, declared.merge.MergeFault.MergeFault}
 use Rattle.tape_run.specs.declared.merge.line.MergedEnd.{MergedEnd}
 use Rattle.tape_run.specs.declared.merge.line.MergedEnd.TheVariants.{Marked, Physical, Cut}
 use Rattle.tape_run.specs.declared.merge.now.MergeEnd.{MergeEnd}
 use Rattle.tape_run.specs.declared.merge.now.MergeEnd.TheVariants.{Whole, Partial, Differs}
 use Rattle.tape_run.specs.declared.merge.now.MergeStop.{MergeStop}
-use Rattle.tape_run.specs.declared.merge.now.MergeStop.TheVariants as stops
-use Rattle.tape_run.specs.declared.merge.MergeFault.TheVariants as faults
 use Rattle.tape_run.specs.declared.merge.reading.Reading.{Reading}
 use Rattle.tape_run.specs.MergeCalls.{AreAtFront, IfImages}
 use Rattle.tape_run.specs.MergedImages.{MergesImages, FaultsImages, DifferImages}
 use Rattle.tape_run.specs.MergeLines.{lines_from, reading_line, has_line, merged_line, differ_line}
-use Rattle.tape_run.specs.MergeNow.{EndsAs, end_bytes, FitsEnd, HoldsMerged, ComesTo}
-use Rattle.tape_run.specs.MergeNow.{Misses, ReportsNoImage, LeavesPlace}
+use Rattle.tape_run.specs.MergeNow.{ReportsNoImage, LeavesPlace}
 use Rattle.tape_run.specs.MergeLog.{log_head, log_rows}
-use Rattle.tape_run.proofs.Fitting.{kept}
-use Rattle.tape_run.proofs.Reporting.{front_then}
+use Rattle.tape_run.specs.declared.merge.now.MergeStop.TheVariants as stops
+use Rattle.tape_run.specs.declared.merge.MergeFault.TheVariants as faults
+use Rattle.tape_run.proofs.{Fitting.kept, Reporting.front_then}
 
 -- ---- what was written
 
@@ -244,23 +238,6 @@ all_logged a b c d names text head is named wrote flushed rows more =
     kept a c d (log_head names ++ rows)
     (Appends-trans a b c (log_head names) rows (subst (λ t. Appends a b t) (is ∙ named) wrote) more)
     flushed
-
-pub differed : {R : Type 0} (firsts nows : List (Reading R)) (old new : Writer) (number : ℕ)
-    (fault : MergeFault) (out stands : Option (List ℕ)) (names : List (List ℕ))
-    (logs says : List ℕ → Type 0)
-    → IfImages firsts (λ images. FaultsImages images nows old new fault)
-    → fault ≡ faults.Differ number
-    → says (lines_from (reading_line names) 0 nows ++ differ_line number
-    ++ lines_from (has_line names) 0 nows)
-    → IfImages firsts (λ images. ComesTo R images names out stands logs says Differs)
-differed firsts nows old new number fault out stands names logs says faulted is lines =
-    λ images front. record {
-      nows = nows;
-      number = number;
-      differ = (subst (λ (f : MergeFault). FaultsImages images nows old new f) is
-          (faulted images front)).0;
-      lines = lines;
-    }
 
 -- readings at the beginning of images, as a borrow of the devices and of themselves
 pub at_front : {R D : Type 0} (remaining : D → Option (List ℕ)) (devices lent : List D)

@@ -4,9 +4,8 @@ use Rattle.std.proofs.Common.{◌≡◌, ℕ, List, [], ◌∷◌, ◌++◌, len
 use Rattle.std.proofs.Common.{subst, ◌+◌, ◌∙◌, Some, arith, append_assoc, append-nil, length-append}
 use Rattle.std.proofs.lemmas.List.{map-append, nil_from_length}
 use Rattle.tape_image.specs.Reader.{going}
-use Rattle.tape_run.specs.declared.merge.reading.Reading.{Reading}
-use Rattle.tape_run.specs.{MergeCalls.AreAtFront, MergeNow.IsOn}
-use Rattle.tape_run.specs.Reeling.{Mounting, AreMounted}
+use Rattle.tape_run.specs.{declared.merge.reading.Reading.Reading, MergeCalls.AreAtFront}
+use Rattle.tape_run.specs.{MergeNow.IsOn, Reeling.Mounting, Reeling.AreMounted}
 use Rattle.tape_run.proofs.Turns.{one_mounted}
 
 front_more : {R : Type 0} (bs : List (Option (List ℕ))) (rs : List (Reading R))

@@ -1,20 +1,19 @@
 -- The lines of readings, one after another, and how the merged image ends.
 use Rattle.std.proofs.Common.{◌≡◌, ℕ, zero, suc, ◌+◌, ◌<◌, ◌≤◌, List, [], ◌∷◌, length, drop, get_or}
-use Rattle.std.proofs.Common.{Option, Some, None, refl, sym, ap, subst, ◌∙◌, inl, inr, ◌++◌, arith}
-use Rattle.std.proofs.Common.{append_assoc, append-nil}
-use Rattle.std.specs.Io.KnownBytes.{Appends}
-use Rattle.std.proofs.KnownBytes.{Appends-nil, Appends-trans}
+use Rattle.std.proofs.Common.{Option, Some, None, sym, ap, subst, ◌∙◌, inl, inr, ◌++◌, arith}
+use Rattle.std.proofs.{Common.append_assoc, Common.append-nil, KnownBytes.Appends-trans}
 use Rattle.std.proofs.lemmas.List.{drop_all, drop_more}
-use Rattle.tape_image.specs.declared.item.Ending.{Ending}
-use Rattle.tape_image.specs.declared.item.Ending.TheVariants as endings
+use Rattle.std.specs.Io.KnownBytes.{Appends}
+use Rattle.tape_image.specs.{declared.item.Ending.Ending, Written.AppendsFront}
 use Rattle.tape_image.specs.Reader.{Status, going, ended, failed, ending_of}
-use Rattle.tape_run.specs.declared.merge.{line.MergedEnd.MergedEnd, reading.Reading.Reading}
-use Rattle.tape_run.specs.declared.merge.{line.HasLine.HasLine, line.ReadingLine.ReadingLine}
-use Rattle.tape_run.specs.declared.merge.line.MergedEnd.TheVariants.{Marked, Physical, Cut}
+use Rattle.tape_image.specs.declared.item.Ending.TheVariants as endings
 use Rattle.tape_run.specs.MergeLines.{lines_from, reading_text, line_of, reading_line, name_at}
+use Rattle.tape_run.specs.{declared.merge.line.MergedEnd.MergedEnd, MergeNow.SomeEnds}
+use Rattle.tape_run.specs.declared.merge.reading.Reading.{Reading}
+use Rattle.tape_run.specs.declared.merge.line.HasLine.{HasLine}
+use Rattle.tape_run.specs.declared.merge.line.ReadingLine.{ReadingLine}
+use Rattle.tape_run.specs.declared.merge.line.MergedEnd.TheVariants.{Marked, Physical, Cut}
 use Rattle.tape_run.specs.MergeLines.{has_of, has_line, item_line, with_name, has_text}
-use Rattle.tape_image.specs.Written.{AppendsFront}
-use Rattle.tape_run.specs.MergeNow.{SomeEnds}
 use Rattle.tape_run.proofs.Reporting.{front_then}
 
 -- ---- lines
@@ -30,10 +29,6 @@ pub record ReportsFirst {A : Type 0} (line : ℕ → A → List ℕ) (number : �
   pub done : List ℕ
   pub wrote : Appends old mid done
   pub rest : lines_from line 0 xs ≡ done ++ lines_from line number (drop number xs)
-
-pub reports_none : {A : Type 0} (line : ℕ → A → List ℕ) (xs : List A) (old : Option (List ℕ))
-    → ReportsFirst line 0 xs old old
-reports_none line xs old = record { done = []; wrote = Appends-nil old; rest = refl }
 
 -- the lines of the others, after one more
 rest_after : {A : Type 0} (line : ℕ → A → List ℕ) (number : ℕ) (xs : List A) (x : A)
@@ -54,11 +49,6 @@ reports_more line number xs x old mid next text lt is this h wrote = record {
   wrote = Appends-trans old mid next h.done text h.wrote wrote;
   rest = rest_after line number xs x h.done text lt is this h.rest;
 }
-
-pub reports_so_far : {A : Type 0} (line : ℕ → A → List ℕ) (number : ℕ) (xs : List A)
-    (old mid : Option (List ℕ)) → ReportsFirst line number xs old mid
-    → AppendsFront old mid (lines_from line 0 xs)
-reports_so_far line number xs old mid h = (h.done, _, h.wrote, h.rest)
 
 -- a prefix of the next line was reported
 pub reports_part : {A : Type 0} (line : ℕ → A → List ℕ) (number : ℕ) (xs : List A) (x : A)

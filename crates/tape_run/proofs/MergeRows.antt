@@ -1,17 +1,13 @@
 -- The rows of the log, as items are merged one after another.
-use Rattle.std.proofs.Common.{◌≡◌, ℕ, ◌+◌, ◌<◌, ◌≤◌, List, [], ◌∷◌, ◌++◌, length, map}
-use Rattle.std.proofs.Common.{Option, Some, refl, sym, ap, ◌∙◌, arith}
-use Rattle.std.proofs.Common.{append_assoc, append-nil, drop}
-use Rattle.std.specs.Prelude.{◌||◌, nat_lt, if◌then◌else◌, ⊤}
-use Rattle.std.specs.List.{flat_map}
+use Rattle.std.proofs.Common.{◌≡◌, ℕ, ◌+◌, ◌<◌, ◌≤◌, List, [], ◌∷◌, ◌++◌, length, map, Option, Some}
+use Rattle.std.proofs.Common.{refl, sym, ap, ◌∙◌, arith, append_assoc, append-nil, drop}
 use Rattle.std.proofs.lemmas.List.{drop_all}
+use Rattle.std.specs.{Prelude.◌||◌, Prelude.nat_lt, Prelude.if◌then◌else◌, Prelude.⊤, List.flat_map}
 use Rattle.tape_image.specs.Tape.{TapeItem}
-use Rattle.tape_run.specs.declared.merge.reading.Reading.{Reading}
-use Rattle.tape_run.specs.MergeSteps.{column, goods_in}
-use Rattle.tape_run.specs.MergeCalls.{firsts_in}
 use Rattle.tape_run.specs.MergeLog.{has_bad, has_bad_verdict, is_logged, seen_cell, verdict_cells}
+use Rattle.tape_run.specs.{declared.merge.reading.Reading.Reading, MergeCalls.firsts_in}
+use Rattle.tape_run.specs.{MergeSteps.column, MergeSteps.goods_in, MergeLines.lines_from}
 use Rattle.tape_run.specs.MergeLog.{row_text, kind_at, log_row, log_rows, row_now}
-use Rattle.tape_run.specs.MergeLines.{lines_from}
 use Rattle.tape_run.proofs.MergeVerdicts.{SeenAs}
 
 -- ---- one item

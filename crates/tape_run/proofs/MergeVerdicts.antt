@@ -3,14 +3,12 @@ use Rattle.std.proofs.Common.{◌≡◌, ◌≢◌, ◌⊎◌, inl, inr, List, [
 use Rattle.std.proofs.Common.{Bool, true, false, refl, sym, ap, subst, ◌∙◌}
 use Rattle.tape_image.specs.Tape.{TapeItem, block, bad, mark}
 use Rattle.tape_image.specs.Reader.{Status, going}
-use Rattle.tape_run.specs.declared.merge.reading.Reading.{Reading}
+use Rattle.tape_run.specs.MergeSteps.{agrees, joined, is_less, Takes, Compares, Asked, gives, stops}
+use Rattle.tape_run.specs.{declared.merge.reading.Reading.Reading, MergeCalls.has_first}
 use Rattle.tape_run.specs.declared.merge.reading.Verdict.{Verdict}
-use Rattle.tape_run.specs.declared.merge.reading.Verdict.TheVariants as verdicts
-use Rattle.tape_run.specs.MergeSteps.{agrees, joined, is_less, Takes, Compares, Asked, gives}
-use Rattle.tape_run.specs.MergeSteps.{stops, AskedAll, StopsAs, Judges, is_good_one, is_bad_one}
-use Rattle.tape_run.specs.MergeSteps.{one_if}
+use Rattle.tape_run.specs.MergeSteps.{AskedAll, StopsAs, Judges, is_good_one, is_bad_one, one_if}
 use Rattle.tape_run.specs.MergeLog.{seen_cell, verdict_cell, is_bad_verdict}
-use Rattle.tape_run.specs.MergeCalls.{has_first}
+use Rattle.tape_run.specs.declared.merge.reading.Verdict.TheVariants as verdicts
 use Rattle.tape_run.proofs.MergeNext.{disagrees_good}
 
 -- ---- the best item and the other one

@@ -1,17 +1,16 @@
 -- The merged items of copies of a volume are a copy of it.
-use Rattle.std.proofs.Common.{◌≡◌, ◌≢◌, ◌⊎◌, inl, inr, ◌<◌, ◌≤◌, ℕ, List, [], ◌∷◌, ◌++◌}
-use Rattle.std.proofs.Common.{length, drop, map, Bool, true, false, cond, refl, sym, ap, subst, ◌∙◌}
-use Rattle.std.proofs.Common.{arith, append-nil, length-append}
-use Rattle.std.proofs.lemmas.Bool.{cases_lt}
+use Rattle.std.proofs.Common.{◌≡◌, ◌≢◌, ◌⊎◌, inl, inr, ◌<◌, ◌≤◌, ℕ, List, [], ◌∷◌, ◌++◌, length}
+use Rattle.std.proofs.Common.{drop, map, Bool, true, false, cond, refl, sym, ap, subst, ◌∙◌, arith}
+use Rattle.std.proofs.{Common.append-nil, Common.length-append, lemmas.Bool.cases_lt}
 use Rattle.tape_image.specs.Tape.{TapeItem, bad}
 use Rattle.tape_set.specs.Layout.{FileSet, Entry, a_label, a_data_block, a_mark, items, entries}
-use Rattle.tape_set.specs.Layout.{item_of}
-use Rattle.tape_set.specs.{Reading.Reading, Reading.as_read, Reach.passes, Reach.IsWithin}
+use Rattle.tape_set.specs.{Layout.item_of, Reading.Reading, Reading.as_read}
+use Rattle.tape_set.specs.Reach.{passes, IsWithin}
 use Rattle.tape_run.specs.{Mount.IsCopy, MergeLaws.longest}
 use Rattle.tape_run.specs.Merging.{IsReadAs, IsReadFrom, AreReadFrom}
-use Rattle.tape_run.proofs.MergeReadings.{reads_more, reads_front}
-use Rattle.tape_run.proofs.{MergeBest.as_long, Mounts.as_read_length}
 use Rattle.tape_run.specs.MergedCopies.{AreCopies, AreWithin, MergedIsCopy}
+use Rattle.tape_run.proofs.{MergeReadings.reads_more, MergeReadings.reads_front, MergeBest.as_long}
+use Rattle.tape_run.proofs.Mounts.{as_read_length}
 use Rattle.tape_set.proofs.Reaching.{passes_better}
 
 -- ---- items as they were read

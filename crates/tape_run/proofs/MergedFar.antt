@@ -3,17 +3,16 @@
 use Rattle.std.proofs.Common.{◌≡◌, ◌<◌, ◌≤◌, ◌⊎◌, inl, inr, ℕ, zero, suc, ◌+◌, ◌-◌, List, [], ◌∷◌}
 use Rattle.std.proofs.Common.{length, take, drop, Bool, true, false, cond, ltb, Option, Some, None}
 use Rattle.std.proofs.Common.{refl, sym, ap, subst, ◌∙◌, arith, ◌==◌, ◌&&◌}
-use Rattle.std.specs.List.{AllByRecursion}
 use Rattle.std.proofs.lemmas.Bool.Decides.{nat_tests}
-use Rattle.tape_set.specs.declared.position.Position.{Position}
+use Rattle.std.specs.List.{AllByRecursion}
+use Rattle.tape_set.specs.Reach.{far, far_in, far_over, before_data, passes, good_run, first_unread}
+use Rattle.tape_set.specs.{declared.position.Position.Position, Laws.GoesOnOnNext, Reading.Reading}
 use Rattle.tape_set.specs.declared.position.Position.TheVariants.{Awaits, Finished}
 use Rattle.tape_set.specs.Position.{awaiting, next_section, IsUpTo}
 use Rattle.tape_set.specs.Layout.{FileSet, Section, section_of, ends_file}
-use Rattle.tape_set.specs.{Laws.GoesOnOnNext, Reading.Reading}
-use Rattle.tape_set.specs.Reach.{far, far_in, far_over, before_data, passes, good_run, first_unread}
 use Rattle.tape_set.specs.Reach.{both_good, stopped, moved, behind}
-use Rattle.tape_set.proofs.{Orders.up_to_same, Orders.up_to_end, AllVolumes.goes_on_on_next}
 use Rattle.tape_set.proofs.Reaching.{and_left, first_unread_most, far_never_falls, up_to_behind}
+use Rattle.tape_set.proofs.{Orders.up_to_same, Orders.up_to_end, AllVolumes.goes_on_on_next}
 use Rattle.tape_set.proofs.Reaching.{far_better}
 use Rattle.tape_run.specs.MergedCopies.{IsBetter, OnceIsEnough}
 use Rattle.tape_run.proofs.MergedOrders.{up_trans, up_both, up_sect, up_block}

@@ -1,9 +1,8 @@
 -- Wrong answers that the contracts of a session exclude.
-use Rattle.std.proofs.Common.{◌≡◌, List, [], ◌∷◌, sym, ap, ◌∙◌, arith, inl}
-use Rattle.std.proofs.Common.{inr, Some, Ok, Err, slice_get}
+use Rattle.std.proofs.Common.{◌≡◌, List, [], ◌∷◌, sym, ap, ◌∙◌, arith, inl, inr, Some, Ok, Err}
+use Rattle.std.proofs.Common.{slice_get}
 use Rattle.tape_blocks.specs.Block.{Portion}
-use Rattle.tape_set.specs.declared.position.Position.TheVariants.{Awaits}
-use Rattle.tape_set.specs.Position.{block_of}
+use Rattle.tape_set.specs.{declared.position.Position.TheVariants.Awaits, Position.block_of}
 use Rattle.tape_core.specs.{Point.Point, Place.rest_of, Stands.weight_of}
 use Rattle.tape_run.specs.declared.fault.RunFault.TheVariants as run
 use Rattle.tape_run.specs.Seen.{seen, IsKept}

@@ -6,12 +6,10 @@ use Rattle.tape_blocks.specs.Block.{Portion}
 use Rattle.tape_core.specs.declared.sink.SinkFault.TheVariants as sink
 use Rattle.tape_set.specs.declared.position.Position.TheVariants.{Finished}
 use Rattle.tape_run.specs.declared.fault.EngineFault.TheVariants.{Run, WriteFailed}
-use Rattle.tape_run.specs.declared.fault.RunFault.TheVariants.{Sink}
+use Rattle.tape_run.specs.{declared.fault.RunFault.TheVariants.Sink, ReelLine.reel_lines}
+use Rattle.tape_run.specs.{OutSinks.HasTaken, OutSinks.TellsAlways, Reeling.answer_of}
 use Rattle.tape_core.specs.declared.sink.SinkFault.{SinkFault}
 use Rattle.tape_image.specs.Written.{AppendsFront}
-use Rattle.tape_run.specs.OutSinks.{HasTaken, TellsAlways}
-use Rattle.tape_run.specs.ReelLine.{reel_lines}
-use Rattle.tape_run.specs.Reeling.{answer_of}
 use Rattle.tape_run.proofs.Causes.{not_rose}
 use Rattle.tape_run.proofs.extract.write_file.Reads as write_file
 use Rattle.tape_run.proofs.extract.now.extract_streaming.Reads as streaming

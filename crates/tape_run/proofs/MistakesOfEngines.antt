@@ -1,24 +1,21 @@
 -- Wrong answers that the contracts of the engines exclude.
 use Rattle.std.proofs.Common.{◌≡◌, ◌≢◌, ◌⊎◌, ℕ, ◌+◌, List, [], ◌∷◌, ◌++◌, length, map, refl, ap}
-use Rattle.std.proofs.Common.{◌∙◌, true, false, inl, inr}
-use Rattle.std.proofs.Common.{arith, codes, Bool, Option, Some, None, Ok, option_map, ◌<◌}
-use Rattle.std.proofs.Common.{if◌then◌else◌}
+use Rattle.std.proofs.Common.{◌∙◌, true, false, inl, inr, arith, codes, Bool, Option, Some, None}
+use Rattle.std.proofs.Common.{Ok, option_map, ◌<◌, if◌then◌else◌}
 use Rattle.std.proofs.lemmas.Bool.{lt-ltb}
-use Rattle.std.specs.{Fmt.digits}
+use Rattle.std.specs.Fmt.{digits}
 use Rattle.tape_blocks.specs.declared.parts.Form.{Form}
 use Rattle.tape_core.specs.declared.sink.PartSink.{Ghosts}
 use Rattle.tape_image.specs.Written.{AppendsFront}
 use Rattle.tape_set.specs.declared.position.Want.{Want}
-use Rattle.tape_run.specs.declared.fault.EngineFault.{EngineFault}
-use Rattle.tape_run.specs.{Extracting.Stops, ExtractingNow.StopsNow, ExtractingAgain.StopsAgain}
-use Rattle.tape_run.specs.{ReelLine.reel_lines, Reeling.answer_of, SessionState.SessionState}
+use Rattle.tape_run.specs.{declared.fault.EngineFault.EngineFault, Extracting.Stops, Passing.Told}
+use Rattle.tape_run.specs.{ExtractingNow.StopsNow, ExtractingAgain.StopsAgain, ReelLine.reel_lines}
+use Rattle.tape_run.specs.Reeling.{answer_of, Mounting, AreMounted}
+use Rattle.tape_run.specs.{SessionState.SessionState, declared.section.ImageLine.ImageLine}
 use Rattle.tape_run.specs.Rounds.{turns_of, core_behind, wanted}
-use Rattle.tape_run.specs.declared.section.ImageLine.{ImageLine}
-use Rattle.tape_run.specs.{Passing.Told, Reeling.Mounting}
-use Rattle.tape_run.specs.{Reeling.AreMounted, SalvageCopies.believed, SalvageBlocks.Salvaged}
+use Rattle.tape_run.specs.{SalvageCopies.believed, SalvageBlocks.Salvaged, SalvageEnds.read_again}
 use Rattle.tape_run.specs.Checked.{Reel, IsReel, AddsImages, Reports}
 use Rattle.tape_run.specs.declared.salvage.copies.SectionCopy.{SectionCopy}
-use Rattle.tape_run.specs.SalvageEnds.{read_again}
 use Rattle.tape_run.proofs.check.check_to.Reads as check_to
 use Rattle.tape_run.proofs.extract.extract_to.Reads as extract_to
 

@@ -1,9 +1,8 @@
 -- Wrong answers that the contract of listing excludes.
 use Rattle.std.proofs.Common.{◌≡◌, ℕ, List, [], ◌∷◌, length, ap, ◌∙◌, subst, arith, codes, Some, Ok}
 use Rattle.std.specs.Io.KnownBytes.{Appends}
-use Rattle.tape_image.specs.declared.item.Ending.TheVariants.{Physical}
-use Rattle.tape_image.specs.{Tape.TapeItem, Tape.mark, Reader.IfKnown}
-use Rattle.tape_image.specs.Begins.{Begins, ends, faults}
+use Rattle.tape_image.specs.{declared.item.Ending.TheVariants.Physical, Tape.TapeItem, Tape.mark}
+use Rattle.tape_image.specs.{Reader.IfKnown, Begins.Begins, Begins.ends, Begins.faults}
 use Rattle.tape_image.proofs.Uniqueness.{Begins-one}
 use Rattle.tape_run.specs.{Listing.listing_of, Listed.ListsToEnd}
 use Rattle.tape_run.proofs.list.list_to.Reads as list_to

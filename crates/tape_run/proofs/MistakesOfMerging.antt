@@ -1,23 +1,17 @@
 -- Wrong answers that the contracts of merging exclude.
 use Rattle.std.proofs.Common.{◌≡◌, ◌≢◌, ◌⊎◌, inl, inr, ℕ, suc, ◌+◌, ◌<◌, List, [], ◌∷◌, ◌++◌}
-use Rattle.std.proofs.Common.{length, Some, None}
-use Rattle.std.specs.Prelude.{codes}
-use Rattle.std.specs.List.{flat_map}
-use Rattle.tape_image.proofs.WrittenItems.{known_after}
-use Rattle.tape_image.proofs.Pieces.{front_more}
-use Rattle.std.proofs.Common.{refl, sym, ap, subst, ◌∙◌, get_or, arith, false}
-use Rattle.tape_image.specs.Tape.{TapeItem, block, bad, mark}
-use Rattle.tape_image.specs.Begins.{image_limit}
+use Rattle.std.proofs.Common.{length, Some, None, refl, sym, ap, subst, ◌∙◌, get_or, arith, false}
+use Rattle.std.specs.{Prelude.codes, List.flat_map}
+use Rattle.tape_image.proofs.{WrittenItems.known_after, Pieces.front_more}
+use Rattle.tape_image.specs.{Tape.TapeItem, Tape.block, Tape.bad, Tape.mark, Begins.image_limit}
 use Rattle.tape_image.specs.Written.{written, AppendsFront}
-use Rattle.tape_run.specs.declared.merge.line.MergedEnd.{MergedEnd}
-use Rattle.tape_run.specs.declared.merge.line.MergedEnd.TheVariants.{Marked}
+use Rattle.tape_run.specs.{declared.merge.line.MergedEnd.MergedEnd, MergedImages.TakeImages}
+use Rattle.tape_run.specs.{declared.merge.line.MergedEnd.TheVariants.Marked, MergeCalls.alone_in}
 use Rattle.tape_run.specs.declared.merge.now.MergeEnd.TheVariants.{Whole}
 use Rattle.tape_run.specs.declared.merge.reading.Reading.{Reading}
 use Rattle.tape_run.specs.Merging.{IsReadAs, IsReadFrom, IsMerged, Differ}
 use Rattle.tape_run.specs.declared.merge.reading.Verdict.TheVariants.{Third}
 use Rattle.tape_run.specs.MergeSteps.{AllStopped, IsFirst, Judges, AreJudgedAt}
-use Rattle.tape_run.specs.MergedImages.{TakeImages}
-use Rattle.tape_run.specs.MergeCalls.{alone_in}
 use Rattle.tape_run.specs.MergeNow.{FitsEnd, EndsAs, end_bytes, IsTooLong, ReportsNoImage}
 use Rattle.tape_run.specs.MergeLines.{lines_from, reading_line, has_line, differ_line}
 use Rattle.tape_run.specs.MergeLog.{is_logged, log_row, seen_cell}

@@ -1,17 +1,11 @@
 -- Wrong answers that the contract of a listing with offsets excludes.
-use Rattle.std.proofs.Common.{◌≡◌, ℕ, List, [], ◌∷◌, ◌++◌, length, map, sym, refl}
-use Rattle.std.proofs.Common.{ap, ◌∙◌, subst, arith, codes}
-use Rattle.std.proofs.lemmas.List.{length-map}
-use Rattle.std.specs.Prelude.{Some, Ok, slice_index, true}
-use Rattle.std.specs.Fmt.{digits}
+use Rattle.std.proofs.Common.{◌≡◌, ℕ, List, [], ◌∷◌, ◌++◌, length, map, sym, refl, ap, ◌∙◌, subst}
+use Rattle.std.proofs.{Common.arith, Common.codes, lemmas.List.length-map}
+use Rattle.std.specs.{Prelude.Some, Prelude.Ok, Prelude.slice_index, Prelude.true, Fmt.digits}
 use Rattle.std.specs.Io.KnownBytes.{Appends}
-use Rattle.tape_image.specs.declared.item.Ending.TheVariants.{Physical}
-use Rattle.tape_image.specs.Tape.{mark}
-use Rattle.tape_image.specs.Begins.{Begins, ends}
-use Rattle.tape_image.specs.Reader.{IfKnown}
-use Rattle.tape_image.specs.Step.{TakesEnd}
-use Rattle.tape_image.proofs.Uniqueness.{Begins-one}
-use Rattle.tape_image.proofs.Walks.{TakesEnd-behind}
+use Rattle.tape_image.specs.{declared.item.Ending.TheVariants.Physical, Tape.mark, Reader.IfKnown}
+use Rattle.tape_image.specs.{Begins.Begins, Begins.ends, Step.TakesEnd}
+use Rattle.tape_image.proofs.{Uniqueness.Begins-one, Walks.TakesEnd-behind}
 use Rattle.tape_run.specs.Placed.{PlacedItem, Places, PlacesToEnd, placed_lines, placed_end}
 use Rattle.tape_run.proofs.PlacedExamples.{placed_first, one_places}
 use Rattle.tape_run.proofs.list.list_places_to.Reads as list_places_to

@@ -2,18 +2,17 @@
 use Rattle.std.proofs.Common.{◌≡◌, ◌⊎◌, inl, inr, ℕ, List, [], ◌∷◌, map, Bool, false, refl, sym, ap}
 use Rattle.std.proofs.Common.{◌∙◌, subst, arith, Option, Some, None, Ok, IsSome}
 use Rattle.tape_blocks.specs.Block.{Portion}
-use Rattle.tape_set.specs.declared.position.Position.TheVariants.{Awaits}
-use Rattle.tape_set.specs.{Position.part_of, Position.start, Before.before, Layout.FileSet}
-use Rattle.tape_set.specs.{Layout.file_of, Lawful.IsLawful, Reach.far}
+use Rattle.tape_set.specs.{declared.position.Position.TheVariants.Awaits, Before.before, Reach.far}
+use Rattle.tape_set.specs.{Position.part_of, Position.start, Layout.FileSet, Layout.file_of}
+use Rattle.tape_set.specs.Lawful.{IsLawful}
 use Rattle.tape_set.proofs.Reaching.{far_keeps_part}
 use Rattle.tape_core.specs.Stands.{Stands}
-use Rattle.tape_run.specs.declared.script.Step.TheVariants.{Reel}
+use Rattle.tape_run.specs.{declared.script.Step.TheVariants.Reel, Headline.begins, Seen.seen}
 use Rattle.tape_run.specs.Given.{IsGiven, AreGivenBy, counted_up, failed_of}
-use Rattle.tape_run.specs.{Headline.begins, Seen.seen}
 use Rattle.tape_run.specs.History.{Course, IsHistory, course, after}
 use Rattle.tape_run.specs.Mount.{MountEvent, reads, foreign_reel, saves, restarts, IsMountOf}
-use Rattle.tape_run.proofs.Back.{none_failed, none_of}
-use Rattle.tape_run.proofs.{CrashRuns.goes_on, MistakesOfRuns.HoldsOne}
+use Rattle.tape_run.proofs.{Back.none_failed, Back.none_of, CrashRuns.goes_on}
+use Rattle.tape_run.proofs.MistakesOfRuns.{HoldsOne}
 use Rattle.tape_run.proofs.whole.resume_and_run.Reads as resume_and_run
 use Rattle.tape_run.proofs.whole.read_file.Reads as read_file
 

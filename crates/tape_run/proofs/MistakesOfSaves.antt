@@ -1,20 +1,18 @@
 -- Wrong answers that the contracts of `Session::reel` and `Session::save` exclude.
-use Rattle.std.proofs.Common.{◌≡◌, ℕ, List, ◌∷◌, ◌++◌, false, sym, ap, ◌∙◌, subst, arith}
-use Rattle.std.proofs.Common.{Option, Some, None, Ok, IfSome}
+use Rattle.std.proofs.Common.{◌≡◌, ℕ, List, ◌∷◌, ◌++◌, false, sym, ap, ◌∙◌, subst, arith, Option}
+use Rattle.std.proofs.Common.{Some, None, Ok, IfSome}
 use Rattle.tape_blocks.specs.Block.{Portion}
-use Rattle.tape_image.specs.declared.item.ImageFault.{ImageFault}
-use Rattle.tape_image.specs.{Begins.Begins, Begins.Stop, Reader.IfKnown, Tape.TapeItem}
-use Rattle.tape_set.specs.declared.position.Position.{Position}
+use Rattle.tape_image.specs.{declared.item.ImageFault.ImageFault, Begins.Begins, Begins.Stop}
+use Rattle.tape_image.specs.{Reader.IfKnown, Tape.TapeItem}
+use Rattle.tape_set.specs.{declared.position.Position.Position, Position.block_of}
 use Rattle.tape_set.specs.declared.position.Position.TheVariants.{Awaits, Finished}
-use Rattle.tape_set.specs.Position.{block_of}
 use Rattle.tape_core.specs.declared.event.Answer.TheVariants.{SectionDone, Complete, Useless}
-use Rattle.tape_core.specs.declared.event.{Reason.Reason, Reason.TheVariants.BlockCount}
-use Rattle.tape_core.specs.{Place.rest_of, Point.Point, State.State}
+use Rattle.tape_core.specs.{declared.event.Reason.Reason, Place.rest_of, Point.Point, State.State}
+use Rattle.tape_core.specs.declared.event.Reason.TheVariants.{BlockCount}
 use Rattle.tape_core.specs.Table.{step_of, mount_of}
 use Rattle.tape_run.specs.Given as given
 use Rattle.tape_run.specs.{Given.IsGiven, Reels.Reads, Reels.behind_items, Seen.Seen, Seen.seen}
-use Rattle.tape_run.specs.Steps.{Reeled}
-use Rattle.tape_run.specs.declared.reel_reader.ReelAnswer.{ReelAnswer}
+use Rattle.tape_run.specs.{Steps.Reeled, declared.reel_reader.ReelAnswer.ReelAnswer}
 use Rattle.tape_run.proofs.{ByTable.behind_app, Completes.step_tells}
 use Rattle.tape_run.proofs.Finals.{step_ends, idle_items}
 use Rattle.tape_run.proofs.session.Session.reel.Reads as reel

@@ -5,20 +5,27 @@ use Rattle.std.proofs.Common.{subst, ◌∙◌, arith, length-append, slice_get}
 use Rattle.std.proofs.lemmas.List.{take-append-drop, take_all}
 use Rattle.tape_blocks.specs.Block.{Portion}
 use Rattle.tape_image.specs.Tape.{TapeItem, bad}
-use Rattle.tape_set.specs.declared.position.Position.{Position}
-use Rattle.tape_set.specs.{Layout.FileSet, Layout.items, Lawful.IsLawful, Reading.Reading}
-use Rattle.tape_set.specs.{Reading.as_read, Reach.far}
-use Rattle.tape_core.specs.declared.event.Answer.{Answer}
+use Rattle.tape_set.specs.{declared.position.Position.Position, Layout.FileSet, Layout.items}
+use Rattle.tape_set.specs.{Lawful.IsLawful, Reading.Reading, Reading.as_read, Reach.far}
+use Rattle.tape_core.specs.{declared.event.Answer.Answer, State.State}
 use Rattle.tape_core.specs.declared.event.Answer.TheVariants.{Passed, Deliver}
-use Rattle.tape_core.specs.{State.State, Place.rest_of, Place.IsPlaced, Table.Outcome}
-use Rattle.tape_core.specs.{Table.step_of, Table.mount_of, Foreign.IsForeignAt, Foreign.Unmoved}
+use Rattle.tape_core.specs.{Place.rest_of, Place.IsPlaced, Foreign.IsForeignAt, Foreign.Unmoved}
+use Rattle.tape_core.specs.Table.{Outcome, step_of, mount_of}
 use Rattle.tape_core.specs.Follows.{reading, IsAt, IsFinal, IsReading, Kept, Idle, Gives, Delivers}
 use Rattle.tape_core.proofs.Steps.{mounts, step_reads, position_reads}
-use Rattle.tape_core.proofs.{IdleSteps.idle_reads, ForeignLaws.foreign_mount}
-use Rattle.tape_core.proofs.{ForeignLaws.foreign_step, Standing.rests, Standing.rested}
+use Rattle.tape_core.proofs.{IdleSteps.idle_reads, Standing.rests, Standing.rested}
+use Rattle.tape_core.proofs.ForeignLaws.{foreign_mount, foreign_step}
 use Rattle.tape_run.specs.Mount.{MountEvent, reads, foreign_reel, saves, restarts, IsCopy, IsMount}
 use Rattle.tape_run.specs.Mount.{cut, after_mount}
-use Rattle.tape_run.specs.Under.{is_under}
+
+-- The mount of these items, which began at p, is under way, and i of them were processed: the
+-- reader follows the reading, or the rest of a foreign reel is still to come.
+abbrev pub is_under : State → FileSet → Position → List TapeItem → ℕ → MountEvent → Type 0
+is_under core set p xs i (reads r) = IsReading set p r.volume (take i r.good) core
+is_under core set p xs i foreign_reel = (core.position ≡ p)
+    × IsForeignAt set.set_id (drop i xs) core.position core.phase
+is_under core set p xs i saves = ⊥
+is_under core set p xs i (restarts n) = ⊥
 
 -- One item of a mount that began at p: the state agrees with the parts that the step delivered, and
 -- after a final answer no further item of the mount changes the position.

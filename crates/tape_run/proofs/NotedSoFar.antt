@@ -2,25 +2,24 @@
 use Rattle.std.proofs.Common.{◌≡◌, ℕ, ◌+◌, ◌≤◌, List, [], ◌∷◌, ◌++◌, length, Option, Some, None}
 use Rattle.std.proofs.Common.{Result, Ok, Err, Bool, true, false, refl, sym, ap, subst, ◌∙◌, arith}
 use Rattle.std.proofs.Common.{append-nil, append_assoc, length-append, IfSome, if◌then◌else◌}
-use Rattle.tape_image.specs.declared.item.{Ending.Ending, ImageFault.ImageFault}
-use Rattle.tape_image.specs.declared.item.Ending.TheVariants as endings
+use Rattle.tape_image.specs.{declared.item.Ending.Ending, declared.item.ImageFault.ImageFault}
 use Rattle.tape_image.specs.{Tape.TapeItem, Tape.block, Begins.Walks, Reader.IfKnown}
 use Rattle.tape_image.specs.Step.{TakesItem, TakesEnd, TakesFault}
+use Rattle.tape_image.specs.declared.item.Ending.TheVariants as endings
 use Rattle.tape_image.proofs.Walks.{known_start, known_item, known_end, known_fault, IfKnown-map}
 use Rattle.tape_image.proofs.Walks.{IfKnown-some}
-use Rattle.tape_label.specs.declared.values.{Kind.Kind, Vol1.Vol1, Head1.Head1, Trail1.Trail1}
-use Rattle.tape_label.specs.declared.label.LabelFault.{LabelFault}
-use Rattle.tape_label.specs.declared.values.Kind.TheVariants as kinds
-use Rattle.tape_label.specs.{Kinds.kind_at, VolumeLabels.is_volume_label}
+use Rattle.tape_label.specs.{declared.values.Kind.Kind, declared.values.Vol1.Vol1, Kinds.kind_at}
+use Rattle.tape_label.specs.{declared.values.Head1.Head1, declared.values.Trail1.Trail1}
+use Rattle.tape_label.specs.{declared.label.LabelFault.LabelFault, VolumeLabels.is_volume_label}
 use Rattle.tape_label.specs.Reading.{vol1_at, head1_at, trail1_at}
-use Rattle.tape_run.specs.declared.section.{ImageStop.ImageStop, ImageLine.ImageLine}
-use Rattle.tape_run.specs.declared.section.ImageStop.TheVariants.{Fault}
-use Rattle.tape_run.specs.declared.{met.Met.Met, passing.Phase.Phase}
+use Rattle.tape_label.specs.declared.values.Kind.TheVariants as kinds
 use Rattle.tape_run.specs.declared.passing.Phase.TheVariants.{Volume, Labels, Second, Headers, Data}
-use Rattle.tape_run.specs.declared.passing.Phase.TheVariants.{Trailer, Trailers, Next, Over}
 use Rattle.tape_run.specs.Passing.{Told, step, in_list, phase_after, told_from, under_way, met_in}
 use Rattle.tape_run.specs.Passing.{blocks_of, volume_with, header_with, second_with, told_with}
-use Rattle.tape_run.specs.Passing.{closes}
+use Rattle.tape_run.specs.{declared.section.ImageStop.ImageStop, declared.met.Met.Met}
+use Rattle.tape_run.specs.{declared.section.ImageLine.ImageLine, declared.passing.Phase.Phase}
+use Rattle.tape_run.specs.{declared.section.ImageStop.TheVariants.Fault, Passing.closes}
+use Rattle.tape_run.specs.declared.passing.Phase.TheVariants.{Trailer, Trailers, Next, Over}
 use Rattle.tape_run.specs.Noted.{noted, noted_all}
 use Rattle.tape_run.specs.Added.{Adds, AddsInPart, StopsBehind, stop_at}
 use Rattle.tape_run.proofs.ShownSections.{told_if}

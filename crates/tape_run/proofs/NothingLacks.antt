@@ -4,9 +4,8 @@ use Rattle.std.proofs.Common.{Option, Some, None, refl, sym, ap, ◌∙◌, arit
 use Rattle.std.proofs.Common.{not}
 use Rattle.std.specs.{Prelude.⊤, List.AllByRecursion}
 use Rattle.tape_set.specs.{Layout.Section, Layout.ends_file, Lawful.Ends}
-use Rattle.tape_run.specs.declared.section.{SectionKey.SectionKey, SectionState.SectionState}
-use Rattle.tape_run.specs.declared.section.Entry.{Entry}
-use Rattle.tape_run.specs.Passing.{Told}
+use Rattle.tape_run.specs.{declared.section.SectionKey.SectionKey, declared.section.Entry.Entry}
+use Rattle.tape_run.specs.{declared.section.SectionState.SectionState, Passing.Told}
 use Rattle.tape_run.specs.Noted.{same_key, is_good, better, noted, noted_all}
 use Rattle.tape_run.specs.Lacks.{entry_at, key_at, good_end, lack_by, first_lack, IsGoodAt}
 use Rattle.tape_run.proofs.KeepingPlaces.{one_key}

@@ -1,7 +1,7 @@
 -- Whether the last checkpoint has the session's position.
 use Rattle.std.proofs.Common.{◌≡◌, Bool, true, false, ◌+◌, ◌-◌, ◌<◌, List, [], ◌∷◌, length, Some}
-use Rattle.std.proofs.Common.{refl, sym, ap, ◌∙◌, arith, slice_get}
-use Rattle.std.specs.Bool.{OnTrue, OnFalse}
+use Rattle.std.proofs.Common.{refl, ap, ◌∙◌, arith, slice_get}
+use Rattle.std.specs.Bool.{OnTrue}
 use Rattle.tape_core.specs.{Point.Point, Stands.weight_of, Table.saved}
 use Rattle.tape_run.specs.{Reeling.HasNotedHere, Seen.Seen}
 use Rattle.tape_run.proofs.Notes.{front_self}
@@ -16,23 +16,10 @@ noted_here s c some last is = (
   (last ∙ ap Some is, front_self s.parts, refl),
 )
 
--- and if its position is different, it does not
-pub noted_elsewhere : (s : Seen) (c : Point) → slice_get s.notes (length s.notes - 1) ≡ Some c
-    → (c ≡ saved s.place (weight_of s.parts) → ⊥) → HasNotedHere s → ⊥
-noted_elsewhere s c last other (n, count, (is, front, weighs)) =
-    let at : n ≡ length s.notes - 1 = omega (arith, count) in
-    let same : Some c ≡ Some (saved s.place (weight_of s.parts)) =
-    sym last ∙ (ap (λ m. slice_get s.notes m) (sym at) ∙ is) in
-    other (let e = same in cc)
-
 -- a consequence of an answer is true where the answer is returned
 pub true_map : (t : Bool) (A B : Type 0) → (A → B) → OnTrue t A → OnTrue t B
 true_map true A B f a = f a
 true_map false A B f a = a
-
-pub false_map : (t : Bool) (A B : Type 0) → (A → B) → OnFalse t A → OnFalse t B
-false_map true A B f a = a
-false_map false A B f a = f a
 
 pub within : (cs : List Point) (c : Point) → slice_get cs (length cs - 1) ≡ Some c → 0 < length cs
 within [] c last = absurd (cc)

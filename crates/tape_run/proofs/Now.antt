@@ -1,29 +1,19 @@
 -- The result of a run that writes the records while it reads the images.
-use Rattle.std.proofs.Common.{◌≡◌, ◌≢◌, ◌⊎◌, ℕ, List, [], Option, None, refl, ap}
-use Rattle.std.proofs.Common.{◌∙◌, inl, false}
-use Rattle.std.specs.Io.KnownBytes.{Appends}
+use Rattle.std.proofs.Common.{◌≡◌, ◌≢◌, ◌⊎◌, ℕ, List, [], Option, None, refl, ap, ◌∙◌, inl, false}
 use Rattle.std.proofs.KnownBytes.{Appends-trans}
-use Rattle.tape_blocks.specs.Block.{Portion}
+use Rattle.std.specs.Io.KnownBytes.{Appends}
+use Rattle.tape_blocks.specs.{Block.Portion, declared.parts.Form.Form}
 use Rattle.tape_core.specs.declared.sink.PartSink.{Ghosts}
-use Rattle.tape_set.specs.declared.position.Want.{Want}
-use Rattle.tape_set.specs.Position.{want_at}
-use Rattle.tape_run.specs.Seen.{seen, IfSeen}
-use Rattle.tape_run.specs.Extracting.{TellsEnd}
-use Rattle.tape_run.specs.SessionState.{SessionState}
-use Rattle.tape_blocks.specs.declared.parts.Form.{Form}
-use Rattle.tape_image.specs.Written.{AppendsFront}
-use Rattle.tape_run.specs.ReelLine.{last_line}
-use Rattle.tape_run.specs.Crash.{IsWalked}
-use Rattle.tape_run.specs.Reeling.{TakesAll, Mounting}
-use Rattle.tape_run.specs.Stopping.{StopsReading}
-use Rattle.tape_run.specs.declared.fault.EngineFault.{EngineFault}
+use Rattle.tape_set.specs.{declared.position.Want.Want, Position.want_at}
+use Rattle.tape_run.specs.{Seen.seen, Seen.IfSeen, Extracting.TellsEnd, SessionState.SessionState}
+use Rattle.tape_run.specs.{ReelLine.last_line, Crash.IsWalked, Reeling.TakesAll, Reeling.Mounting}
+use Rattle.tape_run.specs.{Stopping.StopsReading, declared.fault.EngineFault.EngineFault}
 use Rattle.tape_run.specs.declared.fault.EngineFault.TheVariants.{WriteFailed}
 use Rattle.tape_run.specs.ExtractingNow.{IsPut, ExtractsNow, LeavesName, StopsNow}
+use Rattle.tape_image.specs.Written.{AppendsFront}
 use Rattle.tape_run.proofs.Extracted.{all_then, told_then, tells_then, less_then, leaves_more}
+use Rattle.tape_run.proofs.{Lasting.walked_seen, StoppedThere.stopped_walked, TurnSteps.are_steps}
 use Rattle.tape_image.proofs.Pieces.{front_more, front_behind}
-use Rattle.tape_run.proofs.Lasting.{walked_seen}
-use Rattle.tape_run.proofs.StoppedThere.{stopped_walked}
-use Rattle.tape_run.proofs.TurnSteps.{are_steps}
 
 pub extracted_now : {S L R : Type 0} (gs : Ghosts S)
     (size : L → ℕ) (gives : Mounting L R) (remaining : R → Option (List ℕ))

@@ -4,13 +4,12 @@ use Rattle.std.proofs.Common.{◌≡◌, ℕ, ◌+◌, Bool, true, false, List, 
 use Rattle.std.proofs.Common.{Some, None, refl, sym, ap, subst, ◌∙◌, arith, append_assoc}
 use Rattle.std.proofs.Common.{append-nil, length-append, if◌then◌else◌, is_some}
 use Rattle.std.specs.Io.KnownBytes.{Appends}
-use Rattle.tape_blocks.specs.Block.{Portion}
+use Rattle.tape_blocks.specs.{Block.Portion, declared.parts.Form.Form}
 use Rattle.tape_blocks.specs.Spans.{leaves, join, content_after, Joined}
 use Rattle.tape_blocks.proofs.JoinLaws.{join_ends, join_goes_on}
 use Rattle.tape_core.specs.Stands.{weight_of}
 use Rattle.tape_image.proofs.WrittenItems.{known_after}
 use Rattle.tape_core.proofs.Weights.{weight_of-one_more, front_of_all}
-use Rattle.tape_blocks.specs.declared.parts.Form.{Form}
 use Rattle.tape_run.specs.RecordText.{record_end, records_text, part_text}
 use Rattle.tape_run.specs.OutSinks.{begun_text, text_so_far, with_end, TellsAlways, HasTaken}
 

@@ -1,10 +1,9 @@
 -- The search that decides whether a word fits a pattern, step by step.
-use Rattle.std.proofs.Common.{◌≡◌, ◌≢◌, ◌⊎◌, inl, inr, ℕ, ◌+◌, ◌*◌, ◌<◌, ◌≤◌, List, [], ◌∷◌}
-use Rattle.std.proofs.Common.{◌++◌, length, drop, refl, sym, ap, subst, ◌∙◌, arith, append_assoc}
+use Rattle.std.proofs.Common.{◌≡◌, ◌≢◌, ◌⊎◌, inl, inr, ℕ, ◌+◌, ◌*◌, ◌<◌, ◌≤◌, List, [], ◌∷◌, ◌++◌}
+use Rattle.std.proofs.Common.{length, drop, refl, sym, ap, subst, ◌∙◌, arith, append_assoc}
 use Rattle.std.proofs.Common.{length-append, mul-le-mul_right, add-mul, one-mul, Bool, true, false}
-use Rattle.std.proofs.Common.{◌==◌}
+use Rattle.std.proofs.{Common.◌==◌, Math.Seq.drop-append_seam}
 use Rattle.std.proofs.lemmas.List.{drop-append-le, length-drop, nil_from_length}
-use Rattle.std.proofs.Math.Seq.{drop-append_seam}
 use Rattle.tape_run.specs.UnpackChoice.{Fits}
 
 -- no character is a star

@@ -1,27 +1,20 @@
 -- Each number of a listing with offsets is the one in the image's bytes.
 use Rattle.std.proofs.Common.{◌≡◌, ℕ, ◌+◌, List, [], ◌∷◌, ◌++◌, length, map, Option, length-append}
 use Rattle.std.proofs.Common.{refl, sym, ap, subst, ◌∙◌, arith, append-nil, append_assoc}
-use Rattle.std.specs.Prelude.{Bool, true, false, if◌then◌else◌, nat_le}
-use Rattle.std.specs.List.{flat_map}
-use Rattle.std.specs.Fmt.{digits}
 use Rattle.std.proofs.lemmas.List.{nil_from_length}
-use Rattle.tape_image.specs.Tape.{TapeItem, block, bad, mark}
-use Rattle.tape_image.specs.Word.{block_extent}
+use Rattle.std.specs.Prelude.{Bool, true, false, if◌then◌else◌, nat_le}
+use Rattle.std.specs.{List.flat_map, Fmt.digits}
 use Rattle.tape_image.specs.Spelling.{Spelling, IsSpelling, IsFramed, item_of, a_mark, a_gap}
-use Rattle.tape_image.specs.Spelling.{a_block}
-use Rattle.tape_image.specs.Begins.{Walks}
-use Rattle.tape_image.specs.declared.item.ImageFault.{ImageFault}
+use Rattle.tape_image.specs.{Tape.TapeItem, Tape.block, Tape.bad, Tape.mark, Word.block_extent}
+use Rattle.tape_image.specs.{Spelling.a_block, Begins.Walks, declared.item.ImageFault.ImageFault}
 use Rattle.tape_image.specs.Step.{TakesItem}
-use Rattle.tape_image.proofs.Spellings.{one_spelling, same_back}
 use Rattle.tape_image.proofs.Walks.{Walks-nil, Walks-trans, Walks-item, TakesEnd-behind}
-use Rattle.tape_image.proofs.Walks.{TakesFault-behind}
+use Rattle.tape_image.proofs.{Spellings.one_spelling, Spellings.same_back, Walks.TakesFault-behind}
 use Rattle.tape_run.specs.Placed.{PlacedItem, Places, placed_line, placed_lines, placed_end}
+use Rattle.tape_run.specs.PlacedExamples.{PlacesAreWorked, PlacedAreFirst, OnePlaces, PlaceIsOfWord}
 use Rattle.tape_run.specs.Placed.{at_item, at_end, at_fault}
-use Rattle.tape_run.specs.PlacedExamples.{PlacesAreWorked, PlacedAreFirst, OnePlaces}
-use Rattle.tape_run.specs.PlacedExamples.{PlaceIsOfWord, items_of}
-use Rattle.tape_run.specs.PlacedExamples.{PlacesEndSays, PlacesFaultSays, PlacesStopSays}
-use Rattle.tape_run.proofs.ListExamples.{into_front}
-use Rattle.tape_run.proofs.ListedSoFar.{met}
+use Rattle.tape_run.specs.PlacedExamples.{items_of, PlacesEndSays, PlacesFaultSays, PlacesStopSays}
+use Rattle.tape_run.proofs.{ListExamples.into_front, ListedSoFar.met}
 
 pub placed_worked : PlacesAreWorked
 unfolding digits

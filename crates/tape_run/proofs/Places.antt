@@ -5,16 +5,14 @@ use Rattle.std.proofs.Common.{None, refl, sym, ap, subst, ◌∙◌, arith, appe
 use Rattle.std.proofs.{lemmas.Bool.Decides.nat_tests, Math.Seq.take-nil}
 use Rattle.tape_blocks.specs.declared.parts.Shape.{Shape}
 use Rattle.tape_blocks.specs.{Block.Portion, Block.Holds, Judged.begun_behind}
-use Rattle.tape_blocks.proofs.JoinLaws.{one_list}
 use Rattle.tape_image.specs.Tape.{TapeItem, block}
 use Rattle.tape_set.specs.Position.{at_part, part_of}
 use Rattle.tape_set.specs.{Layout.FileSet, Lawful.FileForm, Before.before}
-use Rattle.tape_core.specs.declared.event.{Answer.Answer, Event.Event, Phase.TheVariants.Over}
+use Rattle.tape_core.specs.declared.event.{Answer.Answer, Phase.TheVariants.Over}
 use Rattle.tape_core.specs.declared.event.Answer.TheVariants.{Passed, Deliver}
-use Rattle.tape_core.specs.{Arrive.arrival, Point.Point, State.State, Table.saved, Table.Shows}
+use Rattle.tape_core.specs.{Point.Point, State.State, Table.saved, Table.Shows}
 use Rattle.tape_core.specs.{Stands.weight_of, Stands.inside_block, Place.place_of, Place.IsPlaced}
-use Rattle.tape_core.specs.declared.event.Event.TheVariants.{Block, Bad, Mark, ReelEnd}
-use Rattle.tape_core.specs.Follows.{IsAt, Delivers, Gives}
+use Rattle.tape_core.specs.Follows.{IsAt, Delivers, Gives, Checked}
 use Rattle.tape_core.proofs.{Standing.stood, PartPoints.part_stands}
 use Rattle.tape_run.specs.Puts.{refused_point}
 
@@ -63,7 +61,7 @@ at_later set x old new held n begun d a b same lt within is =
     (record { at = there.at; all = there.all })
 
 -- At a refused part of the delivered block the core matches the parts that were put.
-refused_place : (set : FileSet) (x : TapeItem) (old new : State) (held : List Portion) (n : ℕ)
+pub refused_place : (set : FileSet) (x : TapeItem) (old new : State) (held : List Portion) (n : ℕ)
     → (d : Delivers set x old new) → IsPlaced set old held → IsAt set new → new.file ≡ old.file
     → d.part ≤ n → n < length d.filled.parts
     → IsPlaced set (place_of (refused_point (saved old 0) (saved new 0) n (begun_behind old.begun
@@ -98,59 +96,12 @@ stands_behind old new n begun behind = grind (arith, pick_place)
 
 -- ---- a step of a core
 
-same_known : (o : Option FileForm) (k l : FileForm) → o ≡ Some k → o ≡ Some l → k ≡ l
-same_known o k l e f = cc
-
-same_block : (x : TapeItem) (b c : List ℕ) → x ≡ block b → x ≡ block c → b ≡ c
-same_block x b c e f = cc
-
-same_parts : (set : FileSet) (x : TapeItem) (old new : State) (parts : List Portion)
-    (bytes : List ℕ) (k : FileForm)
-    → (d : Delivers set x old new) → x ≡ block bytes → new.known ≡ Some k
-    → Holds k.format k.rec_len k.offset bytes parts → d.filled.parts ≡ parts
-same_parts set x old new parts bytes k d is known holds =
-    let one : d.form ≡ k = same_known new.known d.form k d.is_known known in
-    let two : d.filled.bytes ≡ bytes = same_block x d.filled.bytes bytes d.is_block is in
-    let there =
-    subst (λ (z : FileForm). Holds z.format z.rec_len z.offset d.filled.bytes d.filled.parts)
-    one d.holds in
-    one_list k.format k.rec_len k.offset bytes d.filled.parts parts
-    (subst (λ (b : List ℕ). Holds k.format k.rec_len k.offset b d.filled.parts) two there) holds
-
--- The whole rest of the block was put.
-pub delivered_at : (set : FileSet) (x : TapeItem) (old new : State) (held parts : List Portion)
-    (first : ℕ) (bytes : List ℕ) (k : FileForm)
-    → Delivers set x old new → IsPlaced set old held → IsAt set new
-    → x ≡ block bytes → new.known ≡ Some k → Holds k.format k.rec_len k.offset bytes parts
-    → first ≡ part_of old.position → IsPlaced set new (held ++ drop first parts)
-delivered_at set x old new held parts first bytes k d a b is known holds from =
-    let all = same_parts set x old new parts bytes k d is known holds in
-    let part : first ≡ d.part = from ∙ ap part_of d.awaited in
-    let next : before set new.file new.position ≡ held ++ drop first parts =
-    d.next ∙ (ap (λ (l : List Portion). l ++ drop d.part d.filled.parts) (sym a.all)
-    ∙ (ap (λ (n : ℕ). held ++ drop n d.filled.parts) (sym part)
-    ∙ ap (λ (l : List Portion). held ++ drop first l) all)) in
-    record { at = b; all = sym next }
-
--- A part of the block was refused.
-pub refused_at : (set : FileSet) (x : TapeItem) (old new : State) (held parts : List Portion)
-    (first n : ℕ) (bytes : List ℕ) (k : FileForm)
-    → Delivers set x old new → IsPlaced set old held → IsAt set new
-    → new.file ≡ old.file → x ≡ block bytes → new.known ≡ Some k
-    → Holds k.format k.rec_len k.offset bytes parts → first ≡ part_of old.position → first ≤ n
-    → n < length parts
-    → IsPlaced set (place_of (refused_point (saved old 0) (saved new 0) n
-    (begun_behind old.begun (drop first (take n parts))))) (held ++ drop first (take n parts))
-refused_at set x old new held parts first n bytes k d a b same is known holds from le lt =
-    let all = same_parts set x old new parts bytes k d is known holds in
-    let part : d.part ≡ first = sym (from ∙ ap part_of d.awaited) in
-    let there = refused_place set x old new held n d a b same
-    (omega (arith, le, part)) (subst (λ (l : List Portion). n < length l) (sym all) lt) in
-    subst (λ (l : List Portion). IsPlaced set (place_of (refused_point (saved old 0) (saved new 0) n
-    (begun_behind old.begun (drop first (take n l))))) (held ++ drop first (take n l))) all
-    (subst (λ (f : ℕ). IsPlaced set (place_of (refused_point (saved old 0) (saved new 0) n
-    (begun_behind old.begun (drop f (take n d.filled.parts))))) (held
-    ++ drop f (take n d.filled.parts))) part there)
+-- the parts of a block that was checked
+pub checked_parts : (core new : State) (bytes : List ℕ) (k : Checked (Some (block bytes)) core new)
+    → Holds k.form.format k.form.rec_len k.form.offset bytes k.parts
+checked_parts core new bytes k =
+    let same : k.bytes ≡ bytes = let e = k.came in cc in
+    subst (λ (b : List ℕ). Holds k.form.format k.form.rec_len k.form.offset b k.parts) same k.holds
 
 -- a step that delivers a block, and one that does not
 pub gives_block : (set : FileSet) (x : TapeItem) (answer : Answer) (old new : State)
@@ -163,19 +114,6 @@ pub gives_none : (set : FileSet) (x : TapeItem) (answer : Answer) (old new : Sta
 gives_none set x Passed old new e g = g
 gives_none set x Deliver old new e g = absurd (e refl)
 gives_none set x _ old new e g = g
-
--- the item that came
-pub came_block : (arrived : Option TapeItem) (x : TapeItem) (bytes : List ℕ) → arrived ≡ Some x
-    → arrived ≡ Some (block bytes) → x ≡ block bytes
-came_block arrived x bytes e f = cc
-
--- an event that is not a block delivers nothing
-pub no_block : (e : Event) (bytes : List ℕ) → ((b : _) → e ≡ Block b → ⊥)
-    → arrival e ≡ Some (block bytes) → ⊥
-no_block (Block b) bytes not is = not b refl
-no_block Bad bytes not is = absurd (cc)
-no_block Mark bytes not is = absurd (cc)
-no_block ReelEnd bytes not is = absurd (cc)
 
 -- ---- results
 

@@ -2,19 +2,18 @@
 use Rattle.std.proofs.Common.{◌≡◌, ℕ, ◌+◌, List, [], ◌∷◌, ◌++◌, Option, Some, None, refl, sym, ap}
 use Rattle.std.proofs.Common.{Result, Ok, Err, subst, ◌∙◌, inl, inr, arith}
 use Rattle.std.specs.List.{AllByRecursion}
-use Rattle.tape_image.specs.declared.item.{ImageFault.ImageFault, Ending.Ending}
+use Rattle.tape_image.specs.{declared.item.ImageFault.ImageFault, declared.item.Ending.Ending}
 use Rattle.tape_image.specs.{Tape.TapeItem, Tape.block, Begins.Walks, Reader.Reader, Reader.IfKnown}
-use Rattle.tape_image.specs.Step as image
 use Rattle.tape_image.specs.Step.{TakesEnd, TakesFault, Meets, GivesItem}
+use Rattle.tape_image.specs.Step as image
 use Rattle.tape_image.proofs.Walks.{Walks-nil, Walks-trans, Walks-item, TakesEnd-behind}
 use Rattle.tape_image.proofs.Walks.{TakesFault-behind, known_then, known_same}
-use Rattle.tape_core.specs.declared.event.Answer.{Answer}
 use Rattle.tape_core.specs.declared.event.Answer.TheVariants.{Passed, Deliver, SectionDone}
+use Rattle.tape_core.specs.{declared.event.Answer.Answer, State.State, Place.rest_of}
 use Rattle.tape_core.specs.declared.event.Answer.TheVariants.{Complete, Useless}
-use Rattle.tape_core.specs.{State.State, Place.rest_of, Follows.IsFinal}
-use Rattle.tape_core.specs.Table.{Outcome, step_of, saved}
-use Rattle.tape_run.specs.declared.reel_reader.ReelAnswer.{ReelAnswer}
+use Rattle.tape_core.specs.{Follows.IsFinal, Table.Outcome, Table.step_of, Table.saved}
 use Rattle.tape_run.specs.Reels.{behind_items, answers_to, GoesOn, delivered_by, ReadsReel}
+use Rattle.tape_run.specs.declared.reel_reader.ReelAnswer.{ReelAnswer}
 use Rattle.tape_run.specs.Reels.{ReadsToBlock, IsDelivery, StopsAt}
 use Rattle.tape_run.specs.Taking.{came_of, fault_of}
 use Rattle.tape_run.proofs.ByTable.{core_more}

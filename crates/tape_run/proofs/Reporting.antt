@@ -1,21 +1,16 @@
 -- The part of a report that has been written, and the text that comes next.
-use Rattle.std.proofs.Common.{◌≡◌, inl, inr, ℕ, ◌+◌, ◌-◌, ◌<◌, suc, Bool, List}
-use Rattle.std.proofs.Common.{[], ◌∷◌, ◌++◌, length, Option, option_map}
-use Rattle.std.proofs.Common.{Result, Ok, Err, IfOk, OnOk, refl, sym, ap, subst, ◌∙◌}
-use Rattle.std.proofs.Common.{arith, append_assoc, append-nil, length-append}
-use Rattle.std.specs.List.{flat_map}
-use Rattle.std.specs.Io.KnownBytes.{Appends}
+use Rattle.std.proofs.Common.{◌≡◌, inl, inr, ℕ, ◌+◌, ◌-◌, ◌<◌, suc, Bool, List, [], ◌∷◌, ◌++◌}
+use Rattle.std.proofs.Common.{length, Option, option_map, Result, Ok, Err, IfOk, OnOk, refl, sym}
+use Rattle.std.proofs.Common.{ap, subst, ◌∙◌, arith, append_assoc, append-nil, length-append}
 use Rattle.std.proofs.KnownBytes.{Appends-trans, Appends-nil}
 use Rattle.std.proofs.lemmas.List.Concat.{flat_map-append}
-use Rattle.tape_run.specs.declared.section.ImageLine.{ImageLine}
-use Rattle.tape_run.specs.Passing.{Told}
-use Rattle.tape_run.specs.Lacks.{found_all}
+use Rattle.std.specs.{List.flat_map, Io.KnownBytes.Appends}
+use Rattle.tape_run.specs.Checked.{Reel, IsReel, AddsImage, AddsImages, summary, summary_behind}
+use Rattle.tape_run.specs.{declared.section.ImageLine.ImageLine, Passing.Told, Lacks.found_all}
 use Rattle.tape_run.specs.CheckLine.{image_line, image_lines}
-use Rattle.tape_run.specs.Checked.{Reel, IsReel, AddsImage, AddsImages, summary}
-use Rattle.tape_run.specs.Checked.{summary_behind, Reports, ReportsInPart, TellsImage}
-use Rattle.tape_run.specs.Checked.{TellsImages, StopsAtImage}
-use Rattle.tape_image.specs.Written.{AppendsFront}
+use Rattle.tape_run.specs.Checked.{Reports, ReportsInPart, TellsImage, TellsImages, StopsAtImage}
 use Rattle.tape_run.specs.Reeling.{Mounting, AreMounted}
+use Rattle.tape_image.specs.Written.{AppendsFront}
 use Rattle.tape_run.proofs.Turns.{one_mounted}
 
 -- all of one text was written, and a prefix of the next

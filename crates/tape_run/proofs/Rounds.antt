@@ -2,25 +2,17 @@
 use Rattle.std.proofs.Common.{◌≡◌, ◌⊎◌, inl, inr, Bool, ℕ, ◌+◌, ◌<◌, ◌≤◌, List, [], ◌∷◌, ◌++◌}
 use Rattle.std.proofs.Common.{length, map, Option, None, refl, sym, ap, subst, ◌∙◌, arith, true}
 use Rattle.std.proofs.Common.{append_assoc, append-nil, length-append}
-use Rattle.std.specs.Prelude.{◌≢◌}
-use Rattle.std.proofs.lemmas.Bool.{cases_lt}
-use Rattle.std.specs.Io.KnownBytes.{Appends}
-use Rattle.std.proofs.KnownBytes.{Appends-trans, Appends-nil}
-use Rattle.tape_set.specs.declared.position.Position.TheVariants.{Finished}
+use Rattle.std.proofs.{lemmas.Bool.cases_lt, KnownBytes.Appends-trans, KnownBytes.Appends-nil}
+use Rattle.std.specs.{Prelude.◌≢◌, Io.KnownBytes.Appends}
+use Rattle.tape_set.specs.{declared.position.Position.TheVariants.Finished, Position.want_at}
 use Rattle.tape_set.specs.declared.position.Want.{Want}
-use Rattle.tape_set.specs.Position.{want_at}
-use Rattle.tape_core.specs.declared.sink.PartSink.{Ghosts}
-use Rattle.tape_core.specs.State.{State}
-use Rattle.tape_run.specs.Seen.{Seen, seen}
-use Rattle.tape_run.specs.SessionState.{SessionState}
-use Rattle.tape_run.specs.ReelLine.{reel_lines}
-use Rattle.tape_image.specs.Written.{AppendsFront}
-use Rattle.tape_run.specs.Reeling.{Turn, answer_of, AreTurns, Follows, Mounting, TakesAll}
-use Rattle.tape_run.specs.Stopping.{StopsReading}
-use Rattle.tape_run.specs.declared.fault.EngineFault.{EngineFault}
+use Rattle.tape_core.specs.{declared.sink.PartSink.Ghosts, State.State}
 use Rattle.tape_run.specs.Rounds.{Round, turns_of, core_behind, wanted, AreRounds, IsEnough}
-use Rattle.tape_run.specs.Rounds.{MadeProgress, FollowsRounds, HasGone, TakesRounds}
-use Rattle.tape_run.specs.Rounds.{StopsInRound}
+use Rattle.tape_run.specs.{Seen.Seen, Seen.seen, SessionState.SessionState, ReelLine.reel_lines}
+use Rattle.tape_run.specs.Reeling.{Turn, answer_of, AreTurns, Follows, Mounting, TakesAll}
+use Rattle.tape_run.specs.{Stopping.StopsReading, declared.fault.EngineFault.EngineFault}
+use Rattle.tape_run.specs.Rounds.{MadeProgress, FollowsRounds, HasGone, TakesRounds, StopsInRound}
+use Rattle.tape_image.specs.Written.{AppendsFront}
 use Rattle.tape_image.proofs.Pieces.{front_behind}
 use Rattle.tape_run.proofs.Lasting.{last_same, last_then}
 use Rattle.tape_run.proofs.Turns.{lines_more, follows_then}
@@ -183,16 +175,6 @@ gone_on {S} {L} {R} gs size before gives remaining back old mid new
             );
       },
     )
-
--- if a pass recovered something, there are images
-pub some_images : {S L R : Type 0} (gs : Ghosts S)
-    (size before : ℕ) (gives : Mounting L R) (remaining : R → Option (List ℕ)) (back : Bool)
-    (mid new : SessionState S) (between left : L) (told says : Option (List ℕ))
-    → TakesAll gs size before gives remaining back true mid new between left
-    told says
-    → wanted new.core ≢ wanted mid.core → 0 < size
-some_images {S} {L} {R} gs size before gives remaining back mid new between left told says t other =
-    grind (arith, cases_lt)
 
 -- one more pass was made, and it was the last
 pub takes_rounds : {S L R : Type 0} (gs : Ghosts S)

@@ -1,18 +1,17 @@
 -- A run, up to a step.
 use Rattle.std.proofs.Common.{◌≡◌, ℕ, ◌+◌, ◌≤◌, Bool, true, false, List, [], ◌∷◌, ◌++◌, length, map}
-use Rattle.std.proofs.Common.{take, drop, Option, refl, sym, ap, subst, ◌∙◌, arith}
+use Rattle.std.proofs.Common.{take, drop, Option, sym, ap, subst, ◌∙◌, arith}
 use Rattle.std.proofs.lemmas.List.{drop_all, drop-drop, map-append, take-append-drop, append_assoc}
 use Rattle.std.proofs.Math.Seq.{take-add}
 use Rattle.tape_blocks.specs.Block.{Portion}
-use Rattle.tape_core.specs.Crash.{AddsOnly, Crashes}
-use Rattle.tape_core.proofs.Crashes.{only_same, only_then}
-use Rattle.tape_core.specs.declared.sink.PartSink.{Ghosts}
-use Rattle.tape_run.specs.{Headline.reels_in, Made.HasMade, Made.IsMade, Runs.Runs, Seen.seen}
-use Rattle.tape_run.specs.{Seen.IsKept, SessionState.SessionState}
+use Rattle.tape_core.specs.{Crash.AddsOnly, Crash.Crashes, declared.sink.PartSink.Ghosts}
+use Rattle.tape_core.proofs.Crashes.{only_then}
+use Rattle.tape_run.specs.{Headline.reels_in, Made.HasMade, Made.IsMade, Runs.Runs}
+use Rattle.tape_run.specs.{Seen.seen, Seen.IsKept, SessionState.SessionState}
 use Rattle.tape_run.specs.declared.script.Step.{Step}
 use Rattle.tape_run.specs.declared.script.Step.TheVariants.{Reel, Save, Restart}
 use Rattle.tape_run.specs.Crash.{IsOf, StoodAt, LastAlone, is_saved}
-use Rattle.tape_run.proofs.{Crashes.stood_here, Made.made_none, Made.made_more, Made.all_made}
+use Rattle.tape_run.proofs.{Crashes.stood_here, Made.made_more, Made.all_made}
 
 -- The first n steps succeeded, in a session whose sink contained these parts before: the current
 -- contents of its sink, the effects of the steps, the states that a crash leaves, and whether these
@@ -31,21 +30,6 @@ pub record HasCome {S : Type 0} (g : Ghosts S) (which : List Bool) (old : Sessio
   pub saved : Bool
   pub same : is_saved false steps ≡ is_saved saved (drop n steps)
   pub brings : saved ≡ true → LastAlone (g.crashes new.sink) (seen g new now)
-
-pub none_made : {S : Type 0} {g : Ghosts S} {old : SessionState S} {held : List Portion}
-    {steps : List Step} {readers : List (Option (List ℕ))} → g.holds old.sink held
-    → IsKept (seen g old held)
-    → HasCome g [] old held steps readers 0 old [] readers
-none_made {held = held} was kept = record {
-  now = held;
-  has = was;
-  kept = kept;
-  made = made_none _ _ _;
-  adds = λ behind. only_same _ _;
-  saved = false;
-  same = refl;
-  brings = λ is. absurd (cc);
-}
 
 -- the states that a crash may leave after the next step, in addition to the earlier ones
 pub adds_more : {S : Type 0} {g : Ghosts S} {which : List Bool} {old mid : SessionState S}

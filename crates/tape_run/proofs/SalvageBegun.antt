@@ -1,32 +1,26 @@
 -- A section that was being recovered when an error came, and the sections before it.
-use Rattle.std.proofs.Common.{◌≡◌, inl, inr, ℕ, ◌+◌, ◌<◌, true, false, List, []}
-use Rattle.std.proofs.Common.{◌++◌, length, Option, Some, None, refl, sym, subst, ◌∙◌, arith}
-use Rattle.std.specs.Prelude.{if◌then◌else◌}
-use Rattle.std.specs.Io.KnownBytes.{Appends}
-use Rattle.tape_image.specs.Tape.{TapeItem}
-use Rattle.tape_image.specs.Written.{AppendsFront}
-use Rattle.tape_image.proofs.Walks.{known_start}
-use Rattle.tape_image.proofs.Pieces.{front_more, front_behind}
+use Rattle.std.proofs.Common.{◌≡◌, inl, inr, ℕ, ◌+◌, ◌<◌, true, false, List, [], ◌++◌, length}
+use Rattle.std.proofs.Common.{Option, Some, None, refl, sym, subst, ◌∙◌, arith}
+use Rattle.std.specs.{Prelude.if◌then◌else◌, Io.KnownBytes.Appends}
+use Rattle.tape_image.specs.{Tape.TapeItem, Written.AppendsFront}
+use Rattle.tape_image.proofs.{Walks.known_start, Pieces.front_more, Pieces.front_behind}
 use Rattle.tape_set.specs.Lawful.{FileForm}
-use Rattle.tape_run.specs.declared.salvage.Content.{Content}
-use Rattle.tape_run.specs.declared.salvage.ending.SectionEnd.{SectionEnd}
+use Rattle.tape_run.specs.SalvageTaking.{MountsIf, MountsTaken, StopsCopy, StopsSection}
+use Rattle.tape_run.specs.SalvageTaking.{StopsTaking, form_for, has_form, copy_text, taken_text}
+use Rattle.tape_run.specs.SalvageTaking.{AreTaken, GoOn, after_all, all_text, last_end, last_text}
+use Rattle.tape_run.specs.{declared.salvage.Content.Content, Reeling.Mounting}
+use Rattle.tape_run.specs.{declared.salvage.ending.SectionEnd.SectionEnd, SalvageLine.section_line}
 use Rattle.tape_run.specs.declared.salvage.ending.SectionEnd.TheVariants.{Continues}
 use Rattle.tape_run.specs.declared.salvage.copies.SectionCopy.{SectionCopy}
 use Rattle.tape_run.specs.declared.salvage.recovery.Recovery.{Recovery}
 use Rattle.tape_run.specs.declared.salvage.walk.Expected.{Expected}
-use Rattle.tape_run.specs.Reeling.{Mounting}
 use Rattle.tape_run.specs.SalvageCopies.{believed, start_of}
-use Rattle.tape_run.specs.SalvageLine.{section_line}
 use Rattle.tape_run.specs.SalvageBlocks.{Salvaged, ReportsFront}
 use Rattle.tape_run.specs.SalvageChoice.{firsts, IsBest, last_section, form_of_file}
 use Rattle.tape_run.specs.SalvageImage.{RecoversSection, BeginsWith, salvaged_from, text_from}
 use Rattle.tape_run.specs.SalvageEnds.{no_section_text, no_form_text, read_again_text}
-use Rattle.tape_run.specs.SalvageTaking.{MountsIf, MountsTaken, StopsCopy, StopsSection}
-use Rattle.tape_run.specs.SalvageTaking.{StopsTaking, form_for, has_form, copy_text, taken_text}
-use Rattle.tape_run.specs.SalvageTaking.{AreTaken, GoOn, after_all, all_text, last_end, last_text}
 use Rattle.tape_run.specs.SalvageTaking.{file_text, next_section, image_number, items_text}
-use Rattle.tape_run.proofs.Fitting.{no_text}
-use Rattle.tape_run.proofs.SalvageTaking.{TakenSoFar}
+use Rattle.tape_run.proofs.{Fitting.no_text, SalvageTaking.TakenSoFar}
 
 pub begins_empty : (before : Option (List ℕ)) → BeginsWith before []
 begins_empty None = tt

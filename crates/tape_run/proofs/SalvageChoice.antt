@@ -1,13 +1,11 @@
 -- The best copy of a section, and what the copies say about the file.
-use Rattle.std.proofs.Common.{◌≡◌, ℕ, ◌+◌, ◌<◌, ◌≤◌, Bool, true, false, max, take, get_or, List}
-use Rattle.std.proofs.Common.{[], ◌∷◌, ◌++◌, length, Option, Some, None, refl, sym, ap, subst}
-use Rattle.std.proofs.Common.{◌∙◌, arith, append_assoc, append-nil, ◌⊎◌, inl, inr}
-use Rattle.std.specs.Prelude.{if◌then◌else◌}
-use Rattle.std.specs.List.{AllByRecursion}
+use Rattle.std.proofs.Common.{◌≡◌, ℕ, ◌+◌, ◌<◌, ◌≤◌, Bool, true, false, max, take, get_or, List, []}
+use Rattle.std.proofs.Common.{◌∷◌, ◌++◌, length, Option, Some, None, refl, sym, ap, subst, ◌∙◌}
+use Rattle.std.proofs.Common.{arith, append_assoc, append-nil, ◌⊎◌, inl, inr}
 use Rattle.std.proofs.lemmas.List.{take_more}
-use Rattle.tape_run.specs.declared.salvage.copies.SectionCopy.{SectionCopy}
-use Rattle.tape_run.specs.SalvageCopies.{rank}
+use Rattle.std.specs.{Prelude.if◌then◌else◌, List.AllByRecursion}
 use Rattle.tape_run.specs.SalvageChoice.{is_considered, firsts, last_image, IsBest, IsChoice}
+use Rattle.tape_run.specs.{declared.salvage.copies.SectionCopy.SectionCopy, SalvageCopies.rank}
 use Rattle.tape_run.specs.SalvageChoice.{last_section}
 
 -- ---- the best copy
@@ -172,10 +170,3 @@ pub last_up_to : (cs : List SectionCopy) (place : ℕ) (c : SectionCopy) (old ne
 last_up_to cs place c old new within is before more =
     more ∙ ap (λ n. max n c.section.key.sect) before
     ∙ sym (ap last_section (taken_more cs place c c within is) ∙ last_more (take place cs) c)
-
-pub choice_up_to : (sect : ℕ) (cs : List SectionCopy) (place : ℕ) (c : SectionCopy)
-    (best : Option SectionCopy) (last : Option ℕ) → place < length cs → c ≡ get_or cs place c
-    → IsChoice sect (take place cs ++ c ∷ []) best last
-    → IsChoice sect (take (place + 1) cs) best last
-choice_up_to sect cs place c best last within is h =
-    subst (λ l. IsChoice sect l best last) (sym (taken_more cs place c c within is)) h

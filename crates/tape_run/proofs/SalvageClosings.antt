@@ -4,20 +4,19 @@ use Rattle.std.proofs.Common.{◌++◌, length, Some, refl, sym, ap, ◌∙◌, 
 use Rattle.std.specs.List.{AllByRecursion}
 use Rattle.tape_image.specs.Tape.{TapeItem, mark}
 use Rattle.tape_set.specs.{Layout.Volume, Lawful.IsVolume, Lawful.FileForm}
-use Rattle.tape_run.specs.declared.{section.SectionKey.SectionKey, salvage.walk.Expected.Expected}
-use Rattle.tape_run.specs.{Noted.same_key, SalvageBlocks.Salvaged}
-use Rattle.tape_run.specs.declared.salvage.walk.Expected.TheVariants.{Outside, Second}
-use Rattle.tape_run.specs.declared.salvage.walk.Expected.TheVariants.{Data, Next}
+use Rattle.tape_run.specs.declared.salvage.walk.Expected.TheVariants.{Outside, Second, Data, Next}
+use Rattle.tape_run.specs.SalvageSections.{Labels, SectionRead, IsRead, IsOther, key_of, MayBegin}
+use Rattle.tape_run.specs.SalvageSections.{AreLabels, after_trailers, read_section, read_volume}
+use Rattle.tape_run.specs.{declared.section.SectionKey.SectionKey, Noted.same_key}
+use Rattle.tape_run.specs.{declared.salvage.walk.Expected.Expected, SalvageBlocks.Salvaged}
 use Rattle.tape_run.specs.declared.salvage.walk.Expected.TheVariants.{Over}
 use Rattle.tape_run.specs.SalvageWalk.{step, expected_after}
 use Rattle.tape_run.specs.SalvageImage.{is_in, is_mark, read_in, closings, salvaged_from, EndsData}
-use Rattle.tape_run.specs.SalvageSections.{Labels, SectionRead, IsRead, IsOther, key_of, MayBegin}
-use Rattle.tape_run.specs.SalvageSections.{AreLabels, after_trailers, read_section, read_volume}
 use Rattle.tape_run.specs.SalvageSections.{RecoversFromReading}
+use Rattle.tape_run.proofs.SalvageSteps.{gathered, gathered-append, Walk, Quiet, quiet_data}
 use Rattle.tape_run.proofs.SalvagedSoFar.{expected_after-append, read_at_mark}
 use Rattle.tape_run.proofs.SalvageRest.{rest_has_nothing, none_after, rest_none}
 use Rattle.tape_run.proofs.SalvageSections.{salvaged_blocks, piece_of}
-use Rattle.tape_run.proofs.SalvageSteps.{gathered, gathered-append, Walk, Quiet, quiet_data}
 use Rattle.tape_run.proofs.SalvageSteps.{section_walked}
 use Rattle.tape_run.proofs.SalvageVolumes.{volume_walked, volume_salvaged, recovers_from_volume}
 

@@ -3,14 +3,13 @@ use Rattle.std.proofs.Common.{◌≡◌, ◌≤◌, ◌⊎◌, ℕ, ◌+◌, ◌
 use Rattle.std.proofs.Common.{length, Option, Some, None, Ok, refl, sym, ap, ◌∙◌, arith, min}
 use Rattle.std.specs.List.{AllByRecursion}
 use Rattle.tape_image.specs.Tape.{TapeItem, block, bad, mark}
-use Rattle.tape_label.specs.declared.values.Trail1.{Trail1}
-use Rattle.tape_label.specs.Reading.{trail1_at}
-use Rattle.tape_run.specs.declared.salvage.walk.{OpenSection.OpenSection, Closing.Closing}
+use Rattle.tape_label.specs.{declared.values.Trail1.Trail1, Reading.trail1_at}
+use Rattle.tape_run.specs.declared.salvage.walk.Expected.TheVariants.{Second, Headers, Data}
+use Rattle.tape_run.specs.{declared.salvage.walk.OpenSection.OpenSection, SalvageWalk.first_of}
+use Rattle.tape_run.specs.{declared.salvage.walk.Closing.Closing, SalvageGaps.IsReadable}
 use Rattle.tape_run.specs.declared.salvage.walk.Expected.{Expected}
 use Rattle.tape_run.specs.declared.section.SectionKey.{SectionKey}
-use Rattle.tape_run.specs.declared.salvage.walk.Expected.TheVariants.{Second, Headers, Data}
 use Rattle.tape_run.specs.declared.salvage.walk.Expected.TheVariants.{Trailer, Trailers, Skipping}
-use Rattle.tape_run.specs.{SalvageWalk.first_of, SalvageGaps.IsReadable}
 use Rattle.tape_run.specs.SalvageClosed.{IsNoMark, digest_items, IsClosedIn}
 
 -- the number of blocks after these items

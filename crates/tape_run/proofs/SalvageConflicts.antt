@@ -2,16 +2,14 @@
 use Rattle.std.proofs.Common.{◌≡◌, ◌<◌, ℕ, suc, ◌+◌, ◌||◌, Bool, true, false, take, get_or, List}
 use Rattle.std.proofs.Common.{[], ◌∷◌, ◌++◌, length, Option, Some, None, refl, sym, ap, subst, ◌∙◌}
 use Rattle.std.proofs.Common.{append_assoc, append-nil, arith, zero, drop, ◌-◌}
-use Rattle.std.proofs.lemmas.List.{take-append-drop}
+use Rattle.std.proofs.{lemmas.List.take-append-drop, KnownBytes.Appends-trans}
 use Rattle.std.specs.Io.KnownBytes.{Appends}
-use Rattle.std.proofs.KnownBytes.{Appends-nil, Appends-trans}
+use Rattle.tape_run.specs.SalvageConflicts.{are_conflicting, has_conflict, conflict_text}
 use Rattle.tape_run.specs.declared.salvage.copies.SectionCopy.{SectionCopy}
 use Rattle.tape_run.specs.SalvageChoice.{firsts, IsBest}
-use Rattle.tape_run.specs.SalvageConflicts.{are_conflicting, has_conflict, conflict_text}
 use Rattle.tape_run.specs.SalvageConflicts.{AreConflicts, text_if}
 use Rattle.tape_image.specs.Written.{AppendsFront}
-use Rattle.tape_run.proofs.SalvageChoice.{taken_more, some_best}
-use Rattle.tape_run.proofs.Reporting.{front_then}
+use Rattle.tape_run.proofs.{SalvageChoice.taken_more, SalvageChoice.some_best, Reporting.front_then}
 
 or_none : (b : Bool) → (b || false) ≡ b
 or_none true = refl
@@ -50,10 +48,6 @@ pub record ComparedSoFar (best : SectionCopy) (cs : List SectionCopy) (before an
     (said says : Option (List ℕ)) : Type 0 where
   pub found : any ≡ (has_conflict (Some best) cs || before)
   pub wrote : Appends said says (conflict_text (Some best) cs)
-
-pub none_compared : (best : SectionCopy) (any : Bool) (said : Option (List ℕ))
-    → ComparedSoFar best [] any any said said
-none_compared best any said = record { found = refl; wrote = Appends-nil said }
 
 -- one more copy
 pub compared_more : (best c : SectionCopy) (cs : List SectionCopy) (place : ℕ)
@@ -109,10 +103,6 @@ pub record ReportedSoFar (copies : List SectionCopy) (n : ℕ) (any : Bool)
   pub text : List ℕ
   pub are : AreConflicts copies n text any
   pub wrote : Appends said says text
-
-pub none_reported : (copies : List SectionCopy) (said : Option (List ℕ))
-    → ReportedSoFar copies 0 false said said
-none_reported copies said = record { text = []; are = (refl, refl); wrote = Appends-nil said }
 
 pub next_reported : (copies : List SectionCopy) (n : ℕ) (any now : Bool)
     (best : Option SectionCopy) (said w says : Option (List ℕ))

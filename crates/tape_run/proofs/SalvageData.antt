@@ -1,35 +1,30 @@
 -- The data items of a section among the items that were read of an image.
-use Rattle.std.proofs.Common.{◌≡◌, ◌<◌, ◌≤◌, ℕ, ◌+◌, ◌&&◌, Bool, true, false, List, [], ◌∷◌}
-use Rattle.std.proofs.Common.{◌++◌, length, Option, Some, None, refl, sym, ap, subst, ◌∙◌, arith}
+use Rattle.std.proofs.Common.{◌≡◌, ◌<◌, ◌≤◌, ℕ, ◌+◌, ◌&&◌, Bool, true, false, List, [], ◌∷◌, ◌++◌}
+use Rattle.std.proofs.Common.{length, Option, Some, None, refl, sym, ap, subst, ◌∙◌, arith}
 use Rattle.std.proofs.Common.{append_assoc, append-nil, if◌then◌else◌, nat_lt, min}
+use Rattle.std.proofs.{lemmas.Bool.Decides.nat_tests, lemmas.List.nil_from_length}
 use Rattle.std.specs.List.{AllByRecursion}
-use Rattle.std.proofs.lemmas.Bool.Decides.{nat_tests}
-use Rattle.std.proofs.lemmas.List.{nil_from_length}
 use Rattle.tape_image.specs.Tape.{TapeItem, block, bad, mark}
 use Rattle.tape_set.specs.Lawful.{FileForm}
-use Rattle.tape_run.specs.declared.salvage.walk.{OpenSection.OpenSection, Closing.Closing}
-use Rattle.tape_run.specs.declared.salvage.walk.Expected.{Expected}
-use Rattle.tape_run.specs.declared.salvage.copies.SectionCopy.{SectionCopy}
-use Rattle.tape_run.specs.declared.section.SectionKey.{SectionKey}
-use Rattle.tape_run.specs.{Noted.same_key, SalvageLine.section_line, SalvageTaking.image_number}
-use Rattle.tape_run.specs.declared.salvage.walk.Expected.TheVariants.{Outside}
-use Rattle.tape_run.specs.declared.salvage.walk.Expected.TheVariants.{Data, Trailer}
+use Rattle.tape_run.specs.SalvageImage.{is_in, is_mark, number_in, read_in, closings, salvaged_from}
+use Rattle.tape_run.specs.SalvageEnds.{without_rest, without_gap, with_count, ended, end_from}
+use Rattle.tape_run.specs.{declared.salvage.walk.OpenSection.OpenSection, Noted.same_key}
+use Rattle.tape_run.specs.{declared.salvage.walk.Closing.Closing, SalvageLine.section_line}
+use Rattle.tape_run.specs.{declared.salvage.walk.Expected.Expected, SalvageTaking.image_number}
+use Rattle.tape_run.specs.{declared.salvage.copies.SectionCopy.SectionCopy, SalvageImage.text_from}
+use Rattle.tape_run.specs.{declared.section.SectionKey.SectionKey, SalvageEnds.end_text}
+use Rattle.tape_run.specs.declared.salvage.walk.Expected.TheVariants.{Outside, Data, Trailer}
 use Rattle.tape_run.specs.SalvageWalk.{step, expected_after, with_item, with_data, with_unreadable}
 use Rattle.tape_run.specs.SalvageCopies.{believed, start_of, wrong_count}
 use Rattle.tape_run.specs.SalvageBlocks.{Salvaged, salvaged_at, text_at, gap_text}
-use Rattle.tape_run.specs.SalvageImage.{is_in, is_mark, number_in, read_in, closings, salvaged_from}
-use Rattle.tape_run.specs.SalvageImage.{text_from}
-use Rattle.tape_run.specs.SalvageEnds.{without_rest, without_gap, with_count, ended, end_from}
-use Rattle.tape_run.specs.SalvageEnds.{end_text}
 use Rattle.tape_run.specs.SalvageGaps.{datum, data_in, salvaged_data, AreReadOf, GapsAreRuns}
-use Rattle.tape_run.proofs.SalvageOpened.{one_more}
+use Rattle.tape_run.specs.SalvageClosed.{IsNoMark}
 use Rattle.tape_run.proofs.SalvagedSoFar.{expected_after-append, salvaged_from-append}
+use Rattle.tape_run.proofs.{SalvageOpened.one_more, SalvageGaps.text_data, SalvageGaps.runs}
 use Rattle.tape_run.proofs.SalvagedSoFar.{text_from-append, closings-append, read_at_mark}
 use Rattle.tape_run.proofs.SalvageRest.{no_number, none_by, rest_none}
 use Rattle.tape_run.proofs.SalvageSections.{is_number, no_mark}
 use Rattle.tape_run.proofs.SalvageFresh.{Fresh, enters, not_read, starts}
-use Rattle.tape_run.proofs.SalvageGaps.{text_data, runs}
-use Rattle.tape_run.specs.SalvageClosed.{IsNoMark}
 
 -- ---- the items
 

@@ -5,24 +5,22 @@ use Rattle.std.proofs.Common.{if◌then◌else◌, ◌==◌}
 use Rattle.std.specs.List.{AllByRecursion}
 use Rattle.tape_image.specs.Tape.{TapeItem, block, bad, mark}
 use Rattle.tape_label.specs.declared.values.Kind.TheVariants as kinds
-use Rattle.tape_label.specs.declared.values.{Head1.Head1, Trail1.Trail1}
+use Rattle.tape_label.specs.{declared.values.Head1.Head1, declared.values.Trail1.Trail1}
 use Rattle.tape_label.specs.{Kinds.kind_at, Reading.head1_at, Reading.head2_at, Reading.trail1_at}
 use Rattle.tape_set.specs.{Layout.Volume, Lawful.FileForm, Lawful.IsVolume, Lawful.label_count}
-use Rattle.tape_run.specs.declared.salvage.walk.{OpenSection.OpenSection, Closing.Closing}
-use Rattle.tape_run.specs.declared.salvage.walk.Expected.{Expected}
 use Rattle.tape_run.specs.declared.salvage.walk.Expected.TheVariants.{Outside, Second, Headers}
-use Rattle.tape_run.specs.declared.salvage.walk.Expected.TheVariants.{Trailer, Trailers, Next}
-use Rattle.tape_run.specs.declared.salvage.walk.Expected.TheVariants.{Over}
 use Rattle.tape_run.specs.SalvageWalk.{step, expected_after, found_from, in_list, FoundSection}
 use Rattle.tape_run.specs.SalvageWalk.{FoundAt, read_after, one_further, form_by, open_section}
-use Rattle.tape_run.specs.SalvageWalk.{sections_in}
 use Rattle.tape_run.specs.SalvageSections.{SectionRead, IsRead, Labels, AreLabels, read_labels}
 use Rattle.tape_run.specs.SalvageSections.{read_section, read_sections, read_volume, key_of}
+use Rattle.tape_run.specs.{declared.salvage.walk.OpenSection.OpenSection, SalvageWalk.sections_in}
+use Rattle.tape_run.specs.{declared.salvage.walk.Closing.Closing, SalvageWhole.not_read}
+use Rattle.tape_run.specs.declared.salvage.walk.Expected.{Expected}
+use Rattle.tape_run.specs.declared.salvage.walk.Expected.TheVariants.{Trailer, Trailers, Next, Over}
 use Rattle.tape_run.specs.SalvageSections.{MayBegin, after_trailers, FindsSection}
-use Rattle.tape_run.proofs.{SalvagedSoFar.expected_after-append, SalvageVolumes.volume_no_heads}
-use Rattle.tape_run.specs.SalvageWhole.{not_read}
-use Rattle.tape_run.proofs.SalvageOpened.{trailer_step, may_after, AllRead}
 use Rattle.tape_run.proofs.SalvageSteps.{gathered, Quiet, quiet_data, section_walked, outside}
+use Rattle.tape_run.proofs.{SalvagedSoFar.expected_after-append, SalvageVolumes.volume_no_heads}
+use Rattle.tape_run.proofs.SalvageOpened.{trailer_step, may_after, AllRead}
 use Rattle.tape_run.proofs.SalvageSteps.{FirstIsRead}
 
 pub found_from-append : (s : Expected) (n : ℕ) (xs ys : List TapeItem)

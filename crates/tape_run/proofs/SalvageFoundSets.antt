@@ -1,27 +1,25 @@
 -- The copies that are found on images of a valid set's volumes.
 use Rattle.std.proofs.Common.{◌≡◌, ℕ, ◌+◌, Bool, true, false, List, [], ◌∷◌, ◌++◌, length, Some}
 use Rattle.std.proofs.Common.{None, refl, sym, ap, subst, ◌∙◌, inl, inr, map, append-nil}
-use Rattle.std.proofs.Common.{if◌then◌else◌, ◌==◌}
+use Rattle.std.proofs.{Common.if◌then◌else◌, Common.◌==◌, lemmas.Bool.and_parts}
+use Rattle.std.proofs.lemmas.Slice.Eq.{bytes_eq-Decides}
 use Rattle.std.specs.{Str.bytes_eq, List.AllByRecursion}
-use Rattle.std.proofs.lemmas.{Bool.and_parts, Slice.Eq.bytes_eq-Decides}
 use Rattle.tape_image.specs.{Tape.TapeItem, Tape.block, Begins.Stop, Begins.Begins, Step.IsCause}
 use Rattle.tape_image.specs.declared.item.ImageCause.{ImageCause}
-use Rattle.tape_image.specs.declared.item.ImageCause.TheVariants.{Truncated}
-use Rattle.tape_image.specs.declared.item.ImageCause.TheVariants.{Device}
-use Rattle.tape_image.specs.declared.item.ImageCause.TheVariants.{OutOfMemory}
+use Rattle.tape_image.specs.declared.item.ImageCause.TheVariants.{Truncated, Device, OutOfMemory}
 use Rattle.tape_image.proofs.{Callers.front_of_image, Uniqueness.Begins-one, Walks.IfKnown-at}
 use Rattle.tape_set.specs.Layout.{FileSet, Placed, on, sections}
 use Rattle.tape_set.specs.Lawful.{IsLawful, label_count}
 use Rattle.tape_set.proofs.Everywhere.{every_stands, every_front}
 use Rattle.tape_set.proofs.{Numbering.section_stands, Volumes.IsOn, Volumes.sections_on_are}
-use Rattle.tape_run.specs.declared.section.{SectionKey.SectionKey, ImageStop.ImageStop}
+use Rattle.tape_run.specs.SalvageDamagedSets.{IsPlainSet, AreAnyRead, IsOtherHead, IsAnyCopy}
+use Rattle.tape_run.specs.{declared.section.SectionKey.SectionKey, Added.StopsBehind}
+use Rattle.tape_run.specs.{declared.section.ImageStop.ImageStop, SalvageClosed.IsThere}
 use Rattle.tape_run.specs.declared.salvage.walk.Closing.{Closing}
 use Rattle.tape_run.specs.declared.section.ImageStop.TheVariants.{Marked, Physical, Fault}
-use Rattle.tape_run.specs.{Added.StopsBehind, SalvageClosed.IsThere}
 use Rattle.tape_run.specs.SalvageWalk.{FoundAt, sections_in}
 use Rattle.tape_run.specs.SalvageCopies.{is_of, copy_of, of_file}
 use Rattle.tape_run.specs.SalvageDamaged.{AnySection, IsPlainSection, IsFoundExactly}
-use Rattle.tape_run.specs.SalvageDamagedSets.{IsPlainSet, AreAnyRead, IsOtherHead, IsAnyCopy}
 use Rattle.tape_run.specs.SalvageDamagedSets.{IsExactIf, FoundAreExact}
 use Rattle.tape_run.proofs.{Fronts.walks_before, SalvageClosed.closed_are_there, SalvageOpened.long}
 use Rattle.tape_run.proofs.SalvageDamagedSets.{closed_of_set_are_exact}

@@ -1,17 +1,14 @@
 -- Copies found on the images of a source, one image after another.
 use Rattle.std.proofs.Common.{◌≡◌, ◌⊎◌, ◌<◌, inl, inr, ℕ, ◌+◌, List, [], ◌∷◌, ◌++◌, length, Option}
-use Rattle.std.proofs.Common.{option_map, refl}
-use Rattle.std.proofs.Common.{sym, ap, subst, ◌∙◌, arith, append_assoc, append-nil, length-append}
+use Rattle.std.proofs.Common.{option_map, refl, sym, ap, subst, ◌∙◌, arith, append_assoc}
+use Rattle.std.proofs.{Common.append-nil, Common.length-append, KnownBytes.Appends-trans}
 use Rattle.std.specs.Io.KnownBytes.{Appends}
-use Rattle.std.proofs.KnownBytes.{Appends-trans, Appends-nil}
 use Rattle.tape_run.specs.declared.salvage.copies.SectionCopy.{SectionCopy}
-use Rattle.tape_run.specs.Reeling.{Mounting, AreMounted}
-use Rattle.tape_run.specs.Checked.{Reel, IsReel}
-use Rattle.tape_image.specs.Written.{AppendsFront}
+use Rattle.tape_run.specs.{Reeling.Mounting, Reeling.AreMounted, Checked.Reel, Checked.IsReel}
 use Rattle.tape_run.specs.declared.salvage.SalvageTask.{SalvageTask}
 use Rattle.tape_run.specs.Salvaging.{FindsOn, FindsOnAll, StopsSalvage}
-use Rattle.tape_run.proofs.Turns.{one_mounted}
-use Rattle.tape_run.proofs.Reporting.{front_then}
+use Rattle.tape_image.specs.Written.{AppendsFront}
+use Rattle.tape_run.proofs.{Turns.one_mounted, Reporting.front_then}
 
 -- the images up to a number were read, and the copies on them were found
 pub record FoundSoFar {L R : Type 0} (gives : Mounting L R) (remaining : R → Option (List ℕ))
@@ -23,18 +20,6 @@ pub record FoundSoFar {L R : Type 0} (gives : Mounting L R) (remaining : R → O
   pub text : List ℕ
   pub finds : FindsOnAll set_id file 0 reels [] copies text
   pub wrote : Appends said says text
-
-pub none_found : {L R : Type 0} (gives : Mounting L R) (remaining : R → Option (List ℕ))
-    (set_id : List ℕ) (file : ℕ) (shelf : L) (copies : List SectionCopy) (said : Option (List ℕ))
-    → copies ≡ [] → FoundSoFar gives remaining set_id file shelf shelf 0 copies said said
-none_found gives remaining set_id file shelf copies said none = record {
-  reels = [];
-  counted = refl;
-  mounted = refl;
-  text = [];
-  finds = (none, refl);
-  wrote = Appends-nil said;
-}
 
 found_more : (set_id : List ℕ) (file n : ℕ) (reels : List Reel) (reel : Reel)
     (old mid new : List SectionCopy) (text one : List ℕ)

@@ -2,19 +2,18 @@
 use Rattle.std.proofs.Common.{◌≡◌, ◌<◌, ◌≤◌, ℕ, ◌+◌, ◌-◌, ◌==◌, ◌&&◌, Bool, true, false, List, []}
 use Rattle.std.proofs.Common.{◌∷◌, ◌++◌, length, Option, Some, None, refl, sym, ap, subst, ◌∙◌}
 use Rattle.std.proofs.Common.{arith, suc, zero, inl, inr, if◌then◌else◌, slice_get, not, ◌⊎◌}
-use Rattle.std.specs.List.{AllByRecursion}
 use Rattle.std.proofs.lemmas.Bool.Decides.{nat_tests}
+use Rattle.std.specs.List.{AllByRecursion}
 use Rattle.tape_set.specs.Layout.{FileSet, Section, Placed, on, sections, section_of}
 use Rattle.tape_set.specs.{Lawful.IsLawful, Laws.StandsIn, Reading.Reading}
 use Rattle.tape_set.proofs.Everywhere.{every_stands, stands_behind, stands_before}
 use Rattle.tape_set.proofs.{Numbering.placed, Volumes.IsOn, Volumes.sections_on_are}
-use Rattle.tape_run.specs.declared.salvage.copies.SectionCopy.{SectionCopy}
+use Rattle.tape_run.specs.{declared.salvage.copies.SectionCopy.SectionCopy, SalvageCopies.rank}
 use Rattle.tape_run.specs.SalvageChoice.{firsts, is_considered, IsBest}
-use Rattle.tape_run.specs.{SalvageCopies.rank, SalvageSections.IsRead}
+use Rattle.tape_run.specs.{SalvageSections.IsRead, SalvageWhole.Blocks, SalvageWhole.not_read}
 use Rattle.tape_run.specs.SalvageSets.{IsCompleteOr, copies_on, HasBlocks, rank_of, NoneHasMore}
-use Rattle.tape_run.specs.SalvageWhole.{Blocks, not_read}
-use Rattle.tape_run.proofs.SalvageChoice.{all_append, all_map}
-use Rattle.tape_run.proofs.{SalvageOpened.long, SalvageReadings.placed_of, SalvageSame.same_blocks}
+use Rattle.tape_run.proofs.{SalvageChoice.all_append, SalvageChoice.all_map, SalvageOpened.long}
+use Rattle.tape_run.proofs.{SalvageReadings.placed_of, SalvageSame.same_blocks}
 use Rattle.tape_run.proofs.SalvageAgain.{IsOne, firsts_all}
 use Rattle.tape_run.proofs.SalvageGood.{IsGood, copies_good, good_placed, placed_at, image_has}
 

@@ -4,13 +4,12 @@ use Rattle.std.proofs.Common.{if◌then◌else◌}
 use Rattle.std.specs.List.{AllByRecursion}
 use Rattle.tape_image.specs.Tape.{TapeItem, block, bad, mark}
 use Rattle.tape_label.specs.declared.values.Kind.TheVariants as kinds
-use Rattle.tape_label.specs.declared.values.{Head1.Head1, Trail1.Trail1}
+use Rattle.tape_label.specs.{declared.values.Head1.Head1, declared.values.Trail1.Trail1}
 use Rattle.tape_label.specs.{Kinds.HasKind, Kinds.trailer, Reading.head1_at, Reading.trail1_at}
 use Rattle.tape_label.proofs.{First.head1_found, First.trail1_found, Apart.HasKind-unique}
-use Rattle.tape_run.specs.declared.section.SectionKey.{SectionKey}
-use Rattle.tape_run.specs.{SalvageWhole.Blocks, SalvageClosed.IsNoMark}
+use Rattle.tape_run.specs.{declared.section.SectionKey.SectionKey, SalvageWhole.Blocks}
+use Rattle.tape_run.specs.{SalvageClosed.IsNoMark, SalvageDamaged.if_read, SalvageDamaged.IsPlain}
 use Rattle.tape_run.specs.SalvageSections.{Labels, read_labels, read_blocks}
-use Rattle.tape_run.specs.SalvageDamaged.{if_read, IsPlain}
 
 module _ (set_id : List ℕ) where
   abbrev pub IsNoHead1 : TapeItem → Type 0

@@ -1,28 +1,25 @@
 -- A reading in which only data blocks were unreadable, as labels and sections that were read.
 use Rattle.std.proofs.Common.{◌≡◌, ◌<◌, ℕ, ◌==◌, ◌&&◌, ◌||◌, Bool, true, false, List, [], ◌∷◌, ◌++◌}
 use Rattle.std.proofs.Common.{length, map, Option, Some, refl, sym, ap, subst, ◌∙◌, arith}
-use Rattle.std.proofs.Common.{append_assoc, if◌then◌else◌}
-use Rattle.std.specs.{List.AllByRecursion, Str.bytes_eq}
-use Rattle.std.proofs.lemmas.Bool.Decides.{nat_tests}
+use Rattle.std.proofs.{Common.append_assoc, Common.if◌then◌else◌, lemmas.Bool.Decides.nat_tests}
 use Rattle.std.proofs.lemmas.Bool.{and_parts}
+use Rattle.std.specs.{List.AllByRecursion, Str.bytes_eq}
 use Rattle.tape_image.specs.Tape.{TapeItem, block, bad, mark}
 use Rattle.tape_blocks.specs.Tight.{Filled}
 use Rattle.tape_set.specs.Layout.{FileSet, Volume, Placed, Entry, a_label, a_mark, item_of, is_data}
 use Rattle.tape_set.specs.Layout.{items, entries, entries_on, nth, on, sections, section_entries}
 use Rattle.tape_set.specs.Layout.{all_entries, header_group, data_group, trailer_group}
-use Rattle.tape_set.specs.Layout.{volume_group}
-use Rattle.tape_set.specs.Lawful.{IsLawful, IsVolume, IsSection}
+use Rattle.tape_set.specs.{Layout.volume_group, Lawful.IsLawful, Lawful.IsVolume, Lawful.IsSection}
 use Rattle.tape_set.specs.{Reading.as_read, Reach.passes}
 use Rattle.tape_set.proofs.Everywhere.{every_at, nth_found}
 use Rattle.tape_set.proofs.Volumes.{IsOn, Rising, sections_on_are, sections_on_rise}
-use Rattle.tape_run.specs.SalvageWhole.{Blocks}
 use Rattle.tape_run.specs.SalvageSections.{SectionRead, IsRead, Labels, labels_of, read_labels}
 use Rattle.tape_run.specs.SalvageSections.{read_blocks, filled_of, read_section, read_sections}
+use Rattle.tape_run.specs.SalvageWhole.{Blocks}
 use Rattle.tape_run.specs.SalvageSections.{read_volume, NoneBegins, IsOther, IsReadTo, key_of}
 use Rattle.tape_run.specs.SalvageReadings.{IsReadVolume, RecoversReading}
-use Rattle.tape_run.proofs.{SalvageOpened.AllRead, SalvageSteps.AreHeads}
-use Rattle.tape_run.proofs.{SalvageClosings.recovers_from_reading, StayingGood.key_again}
-use Rattle.tape_run.proofs.WholeVolumes.{some_of}
+use Rattle.tape_run.proofs.{SalvageOpened.AllRead, SalvageSteps.AreHeads, StayingGood.key_again}
+use Rattle.tape_run.proofs.{SalvageClosings.recovers_from_reading, WholeVolumes.some_of}
 
 -- ---- entries as they were read
 

@@ -65,11 +65,6 @@ module _ (key : SectionKey) where
               ++ text_from key most form t (salvaged_at form g m x) xs) n ∙ rest.1,
         )
 
-  after_mark : (s : Expected) → is_in key s ≡ true → is_in key (step s mark).0 ≡ false
-  after_mark (Data u) h = refl
-  after_mark (Outside n) h = absurd (cc h)
-  after_mark _ h = absurd (cc h)
-
 -- the data of the section do not end again
 pub none_after : (key : SectionKey) (o : Expected) (items rest : List TapeItem)
     → EndsData o key items → closings key o (items ++ rest) ≡ 1

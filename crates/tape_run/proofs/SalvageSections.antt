@@ -4,17 +4,16 @@ use Rattle.std.proofs.Common.{Some, None, refl, sym, ap, subst, ◌∙◌, arith
 use Rattle.std.proofs.lemmas.Bool.Decides.{nat_tests}
 use Rattle.tape_image.specs.Tape.{TapeItem, block, bad, mark}
 use Rattle.tape_set.specs.Lawful.{FileForm}
-use Rattle.tape_run.specs.declared.salvage.walk.{OpenSection.OpenSection, Expected.Expected}
-use Rattle.tape_run.specs.declared.section.SectionKey.{SectionKey}
-use Rattle.tape_run.specs.{Noted.same_key, SalvageImage.salvaged_from, SalvageImage.number_in}
-use Rattle.tape_run.specs.SalvageWhole.{Blocks, piece_after}
-use Rattle.tape_run.specs.declared.salvage.walk.Expected.TheVariants.{Outside, Second}
-use Rattle.tape_run.specs.declared.salvage.walk.Expected.TheVariants.{Data, Next}
-use Rattle.tape_run.specs.SalvageWalk.{step, with_item, with_data, with_unreadable}
-use Rattle.tape_run.specs.SalvageBlocks.{Salvaged, salvaged_at, with_block, without_block}
 use Rattle.tape_run.specs.SalvageSections.{SectionRead, IsRead, key_of, read_blocks, read_section}
 use Rattle.tape_run.specs.SalvageSections.{MayBegin, after_trailers, RecoversSectionOf}
-use Rattle.tape_run.specs.SalvageSections.{PassesSection}
+use Rattle.tape_run.specs.{declared.salvage.walk.OpenSection.OpenSection, Noted.same_key}
+use Rattle.tape_run.specs.{declared.salvage.walk.Expected.Expected, SalvageSections.PassesSection}
+use Rattle.tape_run.specs.declared.section.SectionKey.{SectionKey}
+use Rattle.tape_run.specs.SalvageImage.{salvaged_from, number_in}
+use Rattle.tape_run.specs.SalvageWhole.{Blocks, piece_after}
+use Rattle.tape_run.specs.declared.salvage.walk.Expected.TheVariants.{Outside, Second, Data, Next}
+use Rattle.tape_run.specs.SalvageWalk.{step, with_item, with_data, with_unreadable}
+use Rattle.tape_run.specs.SalvageBlocks.{Salvaged, salvaged_at, with_block, without_block}
 use Rattle.tape_run.proofs.SalvageOpened.{section_after, one_more, long}
 use Rattle.tape_run.proofs.SalvageSteps.{gathered, Walk, Quiet, first, quiet_data, section_walked}
 

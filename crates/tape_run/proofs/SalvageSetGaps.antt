@@ -3,20 +3,19 @@ use Rattle.std.proofs.Common.{◌≡◌, ◌≤◌, ℕ, ◌+◌, Bool, true, fa
 use Rattle.std.proofs.Common.{Option, Some, None, refl, sym, ap, subst, ◌∙◌, arith, append-nil}
 use Rattle.std.proofs.Common.{append_assoc}
 use Rattle.tape_image.specs.Tape.{TapeItem, block, bad, mark}
-use Rattle.tape_run.specs.declared.salvage.walk.{Expected.Expected, OpenSection.OpenSection}
-use Rattle.tape_run.specs.declared.section.SectionKey.{SectionKey}
-use Rattle.tape_run.specs.{Noted.same_key, SalvageWhole.Blocks, SalvageFile.ReportsBlocks}
-use Rattle.tape_run.specs.declared.salvage.walk.Expected.TheVariants.{Outside, Second}
-use Rattle.tape_run.specs.declared.salvage.walk.Expected.TheVariants.{Data, Next}
+use Rattle.tape_run.specs.SalvageSections.{SectionRead, IsRead, key_of, read_blocks, read_section}
+use Rattle.tape_run.specs.{declared.salvage.walk.Expected.Expected, Noted.same_key}
+use Rattle.tape_run.specs.{declared.salvage.walk.OpenSection.OpenSection, SalvageWhole.Blocks}
+use Rattle.tape_run.specs.{declared.section.SectionKey.SectionKey, SalvageFile.ReportsBlocks}
+use Rattle.tape_run.specs.declared.salvage.walk.Expected.TheVariants.{Outside, Second, Data, Next}
 use Rattle.tape_run.specs.SalvageWalk.{step, expected_after, with_item, with_data, with_unreadable}
 use Rattle.tape_run.specs.SalvageImage.{is_in, number_in, closings}
 use Rattle.tape_run.specs.SalvageGaps.{datum, data_in}
-use Rattle.tape_run.specs.SalvageSections.{SectionRead, IsRead, key_of, read_blocks, read_section}
 use Rattle.tape_run.specs.SalvageSections.{MayBegin, after_trailers, read_volume}
+use Rattle.tape_run.proofs.SalvageSteps.{gathered, gathered-append, Walk, Quiet, first, quiet_data}
 use Rattle.tape_run.proofs.{SalvagedSoFar.expected_after-append, SalvageSections.is_number}
 use Rattle.tape_run.proofs.{SalvageVolumes.volume_walked, SalvageClosings.volume_once}
 use Rattle.tape_run.proofs.SalvageOpened.{section_after, one_more, long}
-use Rattle.tape_run.proofs.SalvageSteps.{gathered, gathered-append, Walk, Quiet, first, quiet_data}
 use Rattle.tape_run.proofs.SalvageSteps.{section_walked}
 use Rattle.tape_run.proofs.SalvageRest.{no_number, open_to_end, none_after, rest_none}
 

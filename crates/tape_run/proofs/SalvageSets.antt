@@ -5,28 +5,26 @@ use Rattle.std.proofs.Common.{length-append, suc, inl, inr, if◌then◌else◌,
 use Rattle.std.proofs.Common.{option_and_then}
 use Rattle.std.specs.List.{AllByRecursion}
 use Rattle.tape_set.specs.Layout.{FileSet, Section, Placed, nth, numbered, file_of, section_of}
-use Rattle.tape_set.specs.Layout.{ends_file}
+use Rattle.tape_set.specs.{Layout.ends_file, Laws.StandsIn, Reading.Reading}
 use Rattle.tape_set.specs.Lawful.{IsLawful, FileForm, HasForm, Ends}
-use Rattle.tape_set.specs.{Laws.StandsIn, Reading.Reading}
 use Rattle.tape_set.proofs.{Everywhere.nth_found, AllVolumes.file_is_lawful}
-use Rattle.tape_run.specs.declared.salvage.Content.TheVariants.{Records}
+use Rattle.tape_run.specs.declared.salvage.ending.SectionEnd.TheVariants.{FileEnds, Continues}
+use Rattle.tape_run.specs.SalvageTaking.{Taken, after_taken, after_all, end_of_taken, GoOn}
+use Rattle.tape_run.specs.SalvageSets.{IsCompleteOr, copies_on, HasVolume, IsReadAgainIf}
+use Rattle.tape_run.specs.{declared.salvage.Content.TheVariants.Records, SalvageRecords.Piece}
 use Rattle.tape_run.specs.declared.salvage.copies.SectionCopy.{SectionCopy}
 use Rattle.tape_run.specs.declared.salvage.ending.SectionEnd.{SectionEnd}
-use Rattle.tape_run.specs.declared.salvage.ending.SectionEnd.TheVariants.{FileEnds, Continues}
 use Rattle.tape_run.specs.declared.salvage.ending.SectionEnd.TheVariants.{Unknown}
-use Rattle.tape_run.specs.SalvageRecords.{Piece}
 use Rattle.tape_run.specs.SalvageBlocks.{Salvaged, none_salvaged}
 use Rattle.tape_run.specs.SalvageChoice.{firsts, IsBest, last_section, form_of_file}
-use Rattle.tape_run.specs.SalvageTaking.{Taken, after_taken, after_all, end_of_taken, GoOn}
 use Rattle.tape_run.specs.SalvageTaking.{last_end, at_last, after_file}
 use Rattle.tape_run.specs.SalvageWhole.{Blocks, piece_after}
-use Rattle.tape_run.specs.SalvageSets.{IsCompleteOr, copies_on, HasVolume, IsReadAgainIf}
 use Rattle.tape_run.specs.SalvageSets.{AreReadAgain, AreHad, joined, IsRecovered, RecoversSet}
+use Rattle.tape_run.proofs.SalvageAgain.{ranked_are, lost, filled_lost, none_read, lost_done}
 use Rattle.tape_run.proofs.SalvageChoice.{all_append, all_map, last_at, last_most}
 use Rattle.tape_run.proofs.{SalvageGrows.after_append, SalvageFile.AreRead}
 use Rattle.tape_run.proofs.SalvageSetBlocks.{recovered}
 use Rattle.tape_run.proofs.SalvageGood.{IsGood, has_copy, good_on, good_sect}
-use Rattle.tape_run.proofs.SalvageAgain.{ranked_are, lost, filled_lost, none_read, lost_done}
 use Rattle.tape_run.proofs.SalvageAgain.{copies_are, Step, known_step, lost_step, get_less}
 
 -- ---- the end of the file

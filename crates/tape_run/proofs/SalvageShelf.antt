@@ -1,30 +1,19 @@
 -- A file recovered from the images of a shelf.
 use Rattle.std.proofs.Common.{◌≡◌, ℕ, inl, inr, arith, Bool, not, ◌&&◌, List, [], ◌++◌, Option}
-use Rattle.std.proofs.Common.{Some, None, refl, sym, ap, subst, ◌∙◌, append-nil}
-use Rattle.tape_image.specs.Written.{AppendsFront}
-use Rattle.std.specs.Prelude.{option_map}
-use Rattle.std.specs.Io.KnownBytes.{Appends, Keeps}
+use Rattle.std.proofs.Common.{Some, None, refl, sym, ap, subst, ◌∙◌}
 use Rattle.std.proofs.KnownBytes.{Appends-trans}
+use Rattle.tape_image.specs.Written.{AppendsFront}
+use Rattle.std.specs.{Prelude.option_map, Io.KnownBytes.Appends, Io.KnownBytes.Keeps}
 use Rattle.tape_image.proofs.Pieces.{front_more, front_behind}
-use Rattle.tape_run.specs.declared.salvage.copies.SectionCopy.{SectionCopy}
-use Rattle.tape_run.specs.declared.salvage.recovery.Recovery.{Recovery}
-use Rattle.tape_run.specs.Reeling.{Mounting}
-use Rattle.tape_run.specs.SalvageLine.{last_line}
-use Rattle.tape_run.specs.declared.salvage.SalvageTask.{SalvageTask}
+use Rattle.tape_run.specs.{declared.salvage.copies.SectionCopy.SectionCopy, Reeling.Mounting}
+use Rattle.tape_run.specs.{declared.salvage.recovery.Recovery.Recovery, SalvageLine.last_line}
+use Rattle.tape_run.specs.{declared.salvage.SalvageTask.SalvageTask, SalvageConflicts.AreConflicts}
 use Rattle.tape_run.specs.SalvageRecords.{Start, parts_text}
 use Rattle.tape_run.specs.SalvageBlocks.{Salvaged, HasSalvaged, ReportsFront, none_salvaged}
 use Rattle.tape_run.specs.SalvageTaking.{TakesFile, StopsTaking, after_file, file_text, all_text}
 use Rattle.tape_run.specs.SalvageChoice.{last_section, form_of_file}
-use Rattle.tape_run.specs.SalvageConflicts.{AreConflicts}
 use Rattle.tape_run.specs.Salvaging.{FindsAll, Salvages, StopsSalvage}
-use Rattle.tape_run.proofs.Fitting.{whole_text}
-use Rattle.tape_run.proofs.SalvageOne.{three_texts}
-
-kept : (a b c : Option (List ℕ)) (t : List ℕ) → Appends a b t → Keeps b c → Appends a c t
-kept None b c t h k = tt
-kept (Some xs) None c t h k = absurd h
-kept (Some xs) (Some ys) None t h k = absurd k
-kept (Some xs) (Some ys) (Some zs) t h k = k ∙ h
+use Rattle.tape_run.proofs.{Fitting.kept, Fitting.whole_text, SalvageOne.three_texts}
 
 -- the contents of a report after text that might have been written
 abbrev with_line : Option (List ℕ) → List ℕ → Option (List ℕ)
@@ -119,12 +108,6 @@ file_placed contents size gives remaining task out shelf middle left cs ds es ol
           (Appends-trans w says all front rest wrote (grows says rest))) (stays all),
       (rest, grows says rest),
     )
-
--- all of a text was written, but the flush failed
-pub wrote_all : (w one says : Option (List ℕ)) (line : List ℕ) → Appends w one line → Keeps one says
-    → AppendsFront w says line
-wrote_all w one says line wrote keeps =
-    (line, [], kept w one says line wrote keeps, sym (append-nil line))
 
 -- ---- before the output got its name
 

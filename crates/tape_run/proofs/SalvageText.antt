@@ -1,9 +1,8 @@
 -- The text of parts in order is that of the records into which they join.
 use Rattle.std.proofs.Common.{◌≡◌, ℕ, Bool, true, false, List, [], ◌∷◌, ◌++◌, Option, Some, None}
 use Rattle.std.proofs.Common.{refl, sym, ap, ◌∙◌, append-nil, append_assoc, if◌then◌else◌, is_some}
-use Rattle.tape_blocks.specs.{Block.Portion, Spans.leaves, Spans.join, Spans.join_after}
-use Rattle.tape_blocks.specs.Spans.{with_record, content_after, InOrder}
-use Rattle.tape_blocks.specs.declared.parts.Form.{Form}
+use Rattle.tape_blocks.specs.{Block.Portion, declared.parts.Form.Form}
+use Rattle.tape_blocks.specs.Spans.{leaves, join, join_after, with_record, content_after, InOrder}
 use Rattle.tape_run.specs.RecordText.{record_end, records_text, output_of}
 use Rattle.tape_run.specs.{OutSinks.begun_text, SalvageRecords.parts_text}
 use Rattle.tape_run.specs.SalvageWhole.{WritesOutput}

@@ -3,16 +3,15 @@ use Rattle.std.proofs.Common.{◌≡◌, ◌≢◌, ◌≤◌, ◌⊎◌, ℕ, �
 use Rattle.std.proofs.Common.{◌++◌, Option, None, Ok, ap, ◌∙◌, arith, min}
 use Rattle.std.specs.List.{AllByRecursion}
 use Rattle.tape_image.specs.Tape.{TapeItem, block, mark}
-use Rattle.tape_label.specs.declared.values.Trail1.{Trail1}
-use Rattle.tape_label.specs.Reading.{trail1_at}
+use Rattle.tape_label.specs.{declared.values.Trail1.Trail1, Reading.trail1_at}
 use Rattle.tape_set.specs.Lawful.{label_count}
-use Rattle.tape_run.specs.declared.salvage.walk.{OpenSection.OpenSection, Closing.Closing}
-use Rattle.tape_run.specs.declared.salvage.walk.Expected.{Expected}
 use Rattle.tape_run.specs.declared.salvage.walk.Expected.TheVariants.{Outside, Second, Headers}
 use Rattle.tape_run.specs.declared.salvage.walk.Expected.TheVariants.{Data, Trailer, Trailers, Next}
 use Rattle.tape_run.specs.declared.salvage.walk.Expected.TheVariants.{Over, Skipping, Unnamed}
+use Rattle.tape_run.specs.{declared.salvage.walk.OpenSection.OpenSection, SalvageWalk.section_by}
+use Rattle.tape_run.specs.{declared.salvage.walk.Closing.Closing, SalvageClosed.IsNoMark}
+use Rattle.tape_run.specs.declared.salvage.walk.Expected.{Expected}
 use Rattle.tape_run.specs.declared.salvage.walk.Expected.TheVariants.{UnnamedTrailer}
-use Rattle.tape_run.specs.{SalvageWalk.section_by, SalvageClosed.IsNoMark}
 use Rattle.tape_run.specs.SalvageUnnamed.{IsNoFirst, IsUnnamedIn}
 use Rattle.tape_run.proofs.SalvageComing.{counted, all_counted}
 

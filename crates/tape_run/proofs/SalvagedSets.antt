@@ -2,47 +2,29 @@
 use Rattle.std.proofs.Common.{◌≡◌, ◌≤◌, ℕ, ◌+◌, ◌&&◌, Bool, true, false, not, List, [], ◌∷◌, ◌++◌}
 use Rattle.std.proofs.Common.{length, Option, Some, None, option_map, refl, sym, ap, subst, ◌∙◌}
 use Rattle.std.proofs.Common.{arith, suc, append_assoc, append-nil}
-use Rattle.std.specs.Prelude.{slice_get, IfSome}
-use Rattle.std.specs.List.{AllByRecursion}
-use Rattle.std.specs.Io.KnownBytes.{Appends}
-use Rattle.std.proofs.lemmas.Bool.{and_parts}
-use Rattle.std.proofs.lemmas.Option.{slice_get_within}
-use Rattle.tape_image.specs.Tape.{TapeItem}
+use Rattle.std.proofs.{lemmas.Bool.and_parts, lemmas.Option.slice_get_within}
+use Rattle.std.specs.{Prelude.slice_get, Prelude.IfSome, List.AllByRecursion, Io.KnownBytes.Appends}
+use Rattle.tape_image.specs.{Tape.TapeItem, Reader.IfKnown}
 use Rattle.tape_image.specs.Begins.{Stop, Begins, Walks, image_limit}
-use Rattle.tape_image.specs.Reader.{IfKnown}
-use Rattle.tape_image.proofs.Callers.{front_of_image}
-use Rattle.tape_image.proofs.Uniqueness.{Begins-one}
+use Rattle.tape_image.proofs.{Callers.front_of_image, Uniqueness.Begins-one}
 use Rattle.tape_image.proofs.Walks.{IfKnown-at, TakesFault-begins}
-use Rattle.tape_set.specs.Layout.{FileSet}
-use Rattle.tape_set.specs.Lawful.{FileForm}
-use Rattle.tape_set.specs.Before.{section_parts}
-use Rattle.tape_set.specs.Reading.{Reading}
-use Rattle.tape_set.proofs.Everywhere.{every_stands}
-use Rattle.tape_set.proofs.AllVolumes.{file_is_lawful}
-use Rattle.tape_run.specs.declared.salvage.Content.{Content}
-use Rattle.tape_run.specs.declared.salvage.Content.TheVariants.{Records}
-use Rattle.tape_run.specs.declared.salvage.copies.SectionCopy.{SectionCopy}
-use Rattle.tape_run.specs.declared.section.ImageStop.{ImageStop}
-use Rattle.tape_run.specs.declared.section.ImageStop.TheVariants.{Marked, Physical, Fault}
-use Rattle.tape_run.specs.Added.{StopsBehind}
-use Rattle.tape_run.specs.Checked.{Reel, IsReel}
-use Rattle.tape_run.specs.Reeling.{Mounting, AreMounted}
-use Rattle.tape_run.specs.WholeSet.{IsNoDevice}
-use Rattle.tape_run.specs.SalvageWalk.{sections_in}
-use Rattle.tape_run.specs.SalvageCopies.{of_file}
-use Rattle.tape_run.specs.SalvageRecords.{parts_text}
-use Rattle.tape_run.specs.SalvageBlocks.{none_salvaged}
-use Rattle.tape_run.specs.SalvageChoice.{form_of_file, firsts, IsBest}
+use Rattle.tape_set.specs.{Layout.FileSet, Lawful.FileForm, Before.section_parts, Reading.Reading}
+use Rattle.tape_set.proofs.{Everywhere.every_stands, AllVolumes.file_is_lawful}
 use Rattle.tape_run.specs.SalvageTaking.{Taken, AreTaken, AreAllSections, MountsTaken, MountsIf}
+use Rattle.tape_run.specs.SalvagedSets.{IsImage, HasOpened, AreImages, NoneFailed, IsReadToEnd}
+use Rattle.tape_run.specs.{declared.salvage.Content.Content, declared.section.ImageStop.ImageStop}
+use Rattle.tape_run.specs.{declared.salvage.Content.TheVariants.Records, Added.StopsBehind}
+use Rattle.tape_run.specs.{declared.salvage.copies.SectionCopy.SectionCopy, WholeSet.IsNoDevice}
+use Rattle.tape_run.specs.declared.section.ImageStop.TheVariants.{Marked, Physical, Fault}
+use Rattle.tape_run.specs.{Checked.Reel, Checked.IsReel, Reeling.Mounting, Reeling.AreMounted}
+use Rattle.tape_run.specs.{SalvageWalk.sections_in, SalvageCopies.of_file, Salvaging.FindsOnAll}
+use Rattle.tape_run.specs.{SalvageRecords.parts_text, SalvageBlocks.none_salvaged}
+use Rattle.tape_run.specs.SalvageChoice.{form_of_file, firsts, IsBest}
 use Rattle.tape_run.specs.SalvageTaking.{has_form, form_for, after_file, IsReadOf}
 use Rattle.tape_run.specs.SalvageSets.{items_read, copies_on, IsReadAgainIf, AreReadAgain}
-use Rattle.tape_run.specs.SalvagedSets.{IsImage, HasOpened, AreImages, NoneFailed, IsReadToEnd}
 use Rattle.tape_run.specs.SalvagedSets.{RecoversSets}
-use Rattle.tape_run.specs.Salvaging.{FindsOnAll}
-use Rattle.tape_run.proofs.SalvageChoice.{all_map}
-use Rattle.tape_run.proofs.SalvageGood.{IsGood, copies_good}
-use Rattle.tape_run.proofs.SalvageAgain.{IsOne, firsts_all}
-use Rattle.tape_run.proofs.SalvageSets.{recovers_set}
+use Rattle.tape_run.proofs.{SalvageChoice.all_map, SalvageGood.IsGood, SalvageGood.copies_good}
+use Rattle.tape_run.proofs.{SalvageAgain.IsOne, SalvageAgain.firsts_all, SalvageSets.recovers_set}
 use Rattle.tape_run.proofs.SalvageText.{writes_output}
 
 -- if the reader did not fail, all items of the image were read

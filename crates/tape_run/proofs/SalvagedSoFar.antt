@@ -1,33 +1,25 @@
 -- The records recovered after some items of an image.
-use Rattle.std.proofs.Common.{◌≡◌, ℕ, List, [], ◌∷◌, ◌++◌, Option, Some, None}
-use Rattle.std.proofs.Common.{true, false, refl, sym, ap, subst, ◌∙◌, append-nil}
-use Rattle.std.proofs.Common.{append_assoc, arith, ◌+◌, ◌&&◌, Bool}
-use Rattle.std.specs.Prelude.{IfSome, if◌then◌else◌, ◌≤◌}
-use Rattle.std.specs.Io.KnownBytes.{Appends}
-use Rattle.std.proofs.KnownBytes.{Appends-nil, Appends-trans}
-use Rattle.std.proofs.lemmas.Bool.{and_parts}
-use Rattle.tape_image.specs.Tape.{TapeItem, block, bad, mark}
-use Rattle.tape_image.specs.Begins.{Walks, image_limit}
-use Rattle.tape_image.specs.Reader.{IfKnown}
-use Rattle.tape_image.specs.Step.{TakesItem, TakesEnd, TakesFault}
-use Rattle.tape_image.specs.declared.item.Ending.{Ending}
+use Rattle.std.proofs.Common.{◌≡◌, ℕ, List, [], ◌∷◌, ◌++◌, Option, Some, None, true, false, refl}
+use Rattle.std.proofs.Common.{sym, ap, subst, ◌∙◌, append-nil, append_assoc, arith, ◌+◌, ◌&&◌, Bool}
+use Rattle.std.proofs.{KnownBytes.Appends-nil, KnownBytes.Appends-trans, lemmas.Bool.and_parts}
+use Rattle.std.specs.{Prelude.IfSome, Prelude.if◌then◌else◌, Prelude.◌≤◌, Io.KnownBytes.Appends}
+use Rattle.tape_image.specs.{Tape.TapeItem, Tape.block, Tape.bad, Tape.mark, Reader.IfKnown}
+use Rattle.tape_image.specs.{Begins.Walks, Begins.image_limit, declared.item.Ending.Ending}
+use Rattle.tape_image.specs.{Step.TakesItem, Step.TakesEnd, Step.TakesFault, Written.AppendsFront}
 use Rattle.tape_image.specs.declared.item.ImageFault.{ImageFault}
 use Rattle.tape_image.proofs.Walks.{known_start, known_item, known_end, known_fault, IfKnown-map}
-use Rattle.tape_run.specs.declared.section.ImageStop.TheVariants.{Fault}
-use Rattle.tape_run.specs.Added.{StopsBehind, stop_at}
-use Rattle.tape_run.proofs.NotedSoFar.{by_ending}
-use Rattle.tape_set.specs.Lawful.{FileForm}
-use Rattle.tape_run.specs.declared.section.SectionKey.{SectionKey}
+use Rattle.tape_image.proofs.Pieces.{front_behind}
+use Rattle.tape_run.specs.SalvageBlocks.{Salvaged, HasSalvaged, Recovers, salvaged_at, text_at}
+use Rattle.tape_run.specs.SalvageImage.{is_in, read_in, number_in, salvaged_from, text_from}
+use Rattle.tape_run.specs.{declared.section.ImageStop.TheVariants.Fault, SalvageBlocks.ReportsFront}
+use Rattle.tape_run.specs.{Added.StopsBehind, Added.stop_at, declared.section.SectionKey.SectionKey}
 use Rattle.tape_run.specs.declared.salvage.recovery.Recovery.{Recovery}
 use Rattle.tape_run.specs.declared.salvage.walk.Expected.{Expected}
 use Rattle.tape_run.specs.declared.salvage.walk.Expected.TheVariants.{Data}
 use Rattle.tape_run.specs.SalvageWalk.{step, expected_after}
-use Rattle.tape_run.specs.SalvageBlocks.{Salvaged, HasSalvaged, Recovers, salvaged_at, text_at}
-use Rattle.tape_run.specs.SalvageBlocks.{ReportsFront}
-use Rattle.tape_image.specs.Written.{AppendsFront}
-use Rattle.tape_image.proofs.Pieces.{front_behind}
-use Rattle.tape_run.specs.SalvageImage.{is_in, read_in, number_in, salvaged_from, text_from}
 use Rattle.tape_run.specs.SalvageImage.{RecoversSection, BeginsWith, is_mark, closings}
+use Rattle.tape_run.proofs.NotedSoFar.{by_ending}
+use Rattle.tape_set.specs.Lawful.{FileForm}
 
 -- Of the bytes `all` the items up to an offset were read, and `left` is left; the blocks of the
 -- section among these items were processed.

@@ -1,18 +1,17 @@
 -- Reading items that are in their proper order.
 use Rattle.std.proofs.Common.{◌≡◌, ℕ, ◌+◌, Bool, true, false, List, [], ◌∷◌, ◌++◌, length, Option}
 use Rattle.std.proofs.Common.{Some, None, Ok, refl, ap, subst, ◌∙◌, arith, append-nil, map, ◌==◌}
-use Rattle.std.proofs.Common.{not, if◌then◌else◌}
-use Rattle.std.proofs.lemmas.Bool.Decides.{nat_tests}
+use Rattle.std.proofs.{Common.not, Common.if◌then◌else◌, lemmas.Bool.Decides.nat_tests}
 use Rattle.tape_image.specs.Tape.{TapeItem, block, mark}
-use Rattle.tape_label.specs.declared.values.{Kind.Kind, Head1.Head1, Trail1.Trail1}
+use Rattle.tape_label.specs.{declared.values.Kind.Kind, declared.values.Head1.Head1, Kinds.kind_at}
+use Rattle.tape_label.specs.{declared.values.Trail1.Trail1, Reading.head1_at, Reading.trail1_at}
 use Rattle.tape_label.specs.declared.values.Kind.TheVariants as kinds
-use Rattle.tape_label.specs.{Kinds.kind_at, Reading.head1_at, Reading.trail1_at}
-use Rattle.tape_run.specs.declared.{section.SectionKey.SectionKey, met.Met.Met, passing.Phase.Phase}
-use Rattle.tape_run.specs.declared.section.SectionState.TheVariants.{Good, Bad, Count}
 use Rattle.tape_run.specs.declared.passing.Phase.TheVariants.{Second, Headers, Data, Trailer}
-use Rattle.tape_run.specs.declared.passing.Phase.TheVariants.{Trailers, Next, Over}
 use Rattle.tape_run.specs.Passing.{Told, cut, closes, met_by, second_with, step, in_list}
-use Rattle.tape_run.specs.Passing.{phase_after, told_from}
+use Rattle.tape_run.specs.{declared.section.SectionKey.SectionKey, declared.met.Met.Met}
+use Rattle.tape_run.specs.{declared.passing.Phase.Phase, Passing.phase_after, Passing.told_from}
+use Rattle.tape_run.specs.declared.section.SectionState.TheVariants.{Good, Bad, Count}
+use Rattle.tape_run.specs.declared.passing.Phase.TheVariants.{Trailers, Next, Over}
 use Rattle.tape_set.specs.Lawful.{label_count}
 use Rattle.tape_run.proofs.NotedSoFar.{phase_after-append, told_from-append}
 

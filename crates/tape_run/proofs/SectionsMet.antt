@@ -1,28 +1,27 @@
 -- The last items read, according to what is expected next: the labels of a section, its data, or
 -- its end.
-use Rattle.std.proofs.Common.{◌≡◌, ℕ, Bool, true, false, List, [], ◌∷◌, ◌++◌, length, Option}
-use Rattle.std.proofs.Common.{Some, None, Result, Ok, Err, refl, ap, ◌∙◌, arith, append_assoc}
-use Rattle.std.proofs.Common.{append-nil, length-append, map, ◌==◌, ◌||◌, not, if◌then◌else◌}
+use Rattle.std.proofs.Common.{◌≡◌, ℕ, Bool, true, false, List, [], ◌∷◌, ◌++◌, length, Option, Some}
+use Rattle.std.proofs.Common.{None, Result, Ok, Err, refl, ap, ◌∙◌, arith, append_assoc, append-nil}
+use Rattle.std.proofs.Common.{length-append, map, ◌==◌, ◌||◌, not, if◌then◌else◌}
+use Rattle.std.proofs.{lemmas.Bool.Decides.nat_tests, lemmas.List.length-map}
 use Rattle.std.specs.Prelude.{⊤}
-use Rattle.std.proofs.lemmas.Bool.Decides.{nat_tests}
-use Rattle.std.proofs.lemmas.List.{length-map}
 use Rattle.tape_image.specs.Tape.{TapeItem, block, mark}
-use Rattle.tape_label.specs.declared.values.{Kind.Kind, Vol1.Vol1, Head1.Head1, Trail1.Trail1}
-use Rattle.tape_label.specs.declared.label.LabelFault.{LabelFault}
-use Rattle.tape_label.specs.declared.values.Kind.TheVariants as kinds
-use Rattle.tape_label.specs.Kinds.{HasKind, kind_at}
+use Rattle.tape_label.specs.{declared.values.Kind.Kind, declared.values.Vol1.Vol1}
+use Rattle.tape_label.specs.{declared.values.Head1.Head1, declared.values.Trail1.Trail1}
+use Rattle.tape_label.specs.{declared.label.LabelFault.LabelFault, Kinds.HasKind, Kinds.kind_at}
 use Rattle.tape_label.specs.Reading.{vol1_at, head1_at, trail1_at}
+use Rattle.tape_label.specs.declared.values.Kind.TheVariants as kinds
 use Rattle.tape_label.proofs.First.{vol1_found, head1_found, trail1_found}
 use Rattle.tape_label.proofs.Apart.{kind_found}
-use Rattle.tape_run.specs.declared.section.{SectionKey.SectionKey, Entry.Entry}
-use Rattle.tape_run.specs.declared.{met.Met.Met, passing.Phase.Phase}
-use Rattle.tape_run.specs.declared.section.SectionState.TheVariants.{Good, Bad, Count}
 use Rattle.tape_run.specs.declared.passing.Phase.TheVariants.{Volume, Labels, Second, Headers, Data}
-use Rattle.tape_run.specs.declared.passing.Phase.TheVariants.{Trailer, Trailers, Next, Over}
 use Rattle.tape_run.specs.Passing.{Told, with_block, state_by, closes, told, volume_with}
+use Rattle.tape_run.specs.{declared.section.SectionKey.SectionKey, declared.section.Entry.Entry}
+use Rattle.tape_run.specs.{declared.met.Met.Met, declared.passing.Phase.Phase}
+use Rattle.tape_run.specs.declared.section.SectionState.TheVariants.{Good, Bad, Count}
+use Rattle.tape_run.specs.declared.passing.Phase.TheVariants.{Trailer, Trailers, Next, Over}
 use Rattle.tape_run.specs.Passing.{header_with, second_with}
-use Rattle.tape_set.specs.Lawful.{label_count}
 use Rattle.tape_run.specs.Shown.{BeginsVolume, HeadsSection, Shown}
+use Rattle.tape_set.specs.Lawful.{label_count}
 
 -- the last item is a section's first label
 pub record Headed (items : List TapeItem) (met : Met) : Type 0 where

@@ -2,27 +2,20 @@
 use Rattle.std.proofs.Common.{◌≡◌, ℕ, zero, suc, ◌+◌, Bool, true, false, List, [], ◌∷◌, ◌++◌, take}
 use Rattle.std.proofs.Common.{Option, Some, None, IfSome, refl, sym, ap, subst, ◌∙◌, arith, is_some}
 use Rattle.std.proofs.Common.{not, slice_get}
-use Rattle.std.proofs.Math.ListN.{set}
 use Rattle.tape_blocks.specs.Block.{Portion}
-use Rattle.tape_set.specs.{Layout.FileSet, Lawful.IsLawful, Position.want_at}
-use Rattle.tape_image.specs.Tape.{TapeItem}
-use Rattle.tape_set.specs.declared.position.Position.{Position}
+use Rattle.tape_set.specs.{Position.want_at, declared.position.Position.Position}
 use Rattle.tape_set.specs.declared.position.Position.TheVariants.{Awaits, Finished}
-use Rattle.tape_core.specs.{Point.Point, State.State, Place.IsPlaced, Place.place_of, Place.rest_of}
-use Rattle.tape_core.specs.{Table.saved, Table.mount_of, Stands.weight_of, Weight.IsFront}
-use Rattle.tape_run.specs.Mount.{MountEvent, reads, IsMount}
-use Rattle.tape_run.specs.Mount.{after_mount}
-use Rattle.tape_run.specs.{ByTable.IsLed, ByTable.IsCutAt, Under.is_under, Taking.ReadsImage}
-use Rattle.tape_run.specs.{Taking.RefusesImage, Taking.CutsTable, Given.counted, Given.IsGiven}
-use Rattle.tape_run.proofs.ByTable.{led_nowhere}
-use Rattle.tape_run.specs.Seen.{Seen, IsNote, KeepsNotes, IsKept}
-use Rattle.tape_run.specs.Steps.{Reeled, CutShort, Saved, WentBack, ReadBy, StoppedBy}
+use Rattle.tape_image.specs.Tape.{TapeItem}
+use Rattle.tape_core.specs.{Point.Point, State.State, Place.place_of, Place.rest_of, Weight.IsFront}
+use Rattle.tape_core.specs.{Table.saved, Table.mount_of, Stands.weight_of}
+use Rattle.tape_core.specs.declared.sink.PartSink.{Ghosts}
+use Rattle.tape_run.specs.{ByTable.IsLed, ByTable.IsCutAt, Taking.ReadsImage, Taking.CutsTable}
+use Rattle.tape_run.specs.{Given.counted, Given.IsGiven, SessionState.SessionState}
+use Rattle.tape_run.specs.Seen.{Seen, IsNote, KeepsNotes, IsKept, IfSeen, IsSeen, seen}
+use Rattle.tape_run.specs.Steps.{Reeled, CutShort, Saved, WentBack}
+use Rattle.tape_run.proofs.ByTable.{led_nowhere, mount_rest, resting_twice}
+use Rattle.tape_run.proofs.{BehindReads.led_reads, BehindReads.cut_reads, Shown.some_map}
 use Rattle.tape_run.proofs.Notes.{front_self, front_trans, same_front}
-
-pub some_map : (o : Option (List ℕ)) (P Q : List ℕ → Type 0) → ((xs : List ℕ) → P xs → Q xs)
-    → IfSome o P → IfSome o Q
-some_map None P Q f h = tt
-some_map (Some xs) P Q f h = f xs h
 
 -- ---- notes
 
@@ -89,23 +82,31 @@ kept_save old new v k =
 
 -- ---- a reel
 
-pub reeled : (failed : Bool) (mounted new : State) (held now : List Portion) (bytes : List ℕ)
-    (unread left : Option (List ℕ)) (p : State) (notes : List Point) (f1 f2 r1 r2 : ℕ)
-    → left ≡ unread
-    → ((set : FileSet) (parts : List Portion) (xs : List TapeItem) (h : MountEvent) → IsLawful set
-    → IsMount set xs h → IsPlaced set p parts → is_under mounted set p.position xs 0 h)
-    → rest_of mounted ≡ p → (rest_of new).set_id ≡ p.set_id → (rest_of new).file ≡ p.file → r2 ≡ r1
-    → IsFront held now → f2 ≡ counted failed f1 → mounted ≡ mount_of p
-    → ReadsImage failed mounted new held now unread bytes → Reeled bytes left failed (record {
-      place = p;
-      parts = held;
-      notes = notes;
-      failures = f1;
-      refusals = r1;
-    })
-    (record { place = rest_of new; parts = now; notes = notes; failures = f2; refusals = r2 })
-reeled failed mounted new held now bytes unread left p notes f1 f2 r1 r2 same_left begins same
-    set_id file calm grows count mount r = record {
+-- a session in this state, with its numbers of failed readers and of refusals
+abbrev pub session_of : State → List Portion → List Point → ℕ → ℕ → Seen
+session_of place parts notes failures refusals = record {
+  place = place;
+  parts = parts;
+  notes = notes;
+  failures = failures;
+  refusals = refusals;
+}
+
+rest_again : (core : State) → rest_of core ≡ rest_of (rest_of core)
+rest_again core = ap (λ f. record core { phase = f }) (sym (resting_twice core.phase))
+
+-- the bytes of a reel whose parts were put as the table says
+pub reeled : (failed : Bool) (core mounted new : State) (held now : List Portion) (bytes : List ℕ)
+    (unread left : Option (List ℕ)) (notes : List Point) (f1 f2 r1 r2 : ℕ) → left ≡ unread
+    → new.set_id ≡ core.set_id → new.file ≡ core.file → r2 ≡ r1 → IsFront held now
+    → f2 ≡ counted failed f1 → mounted ≡ mount_of core
+    → ReadsImage failed mounted new held now unread bytes
+    → Reeled bytes left failed (session_of (rest_of core) held notes f1 r1)
+    (session_of (rest_of new) now notes f2 r2)
+reeled failed core mounted new held now bytes unread left notes f1 f2 r1 r2 same_left set_id file
+    calm grows count mount r =
+    let there : mounted ≡ mount_of (rest_of core) = mount ∙ mount_rest core in
+    record {
       given = r.given;
       is_given = subst (λ l. IsGiven failed bytes l r.given) (sym same_left) r.is_given;
       count = count;
@@ -114,83 +115,101 @@ reeled failed mounted new held now bytes unread left p notes f1 f2 r1 r2 same_le
       same_file = file;
       calm = calm;
       grows = grows;
-      reads = λ set h l (xs, end, stop, b, m) at.
-          subst (λ (f : ℕ). ReadBy set f p.position h (rest_of new) now) file
-          (r.reads set p.position xs end stop h l b m (rw same at) (begins set held xs h l m at));
-      table = λ xs end stop b. subst (λ (z : State). IsLed xs z (rest_of new) held now) mount
+      reads = λ set h l (xs, end, stop, b, m) at. led_reads set h xs (rest_of core) (rest_of new)
+          held now l m (rest_again core) at (subst (λ (z : State). IsLed xs z (rest_of new) held
+          now) there (r.table xs end stop b));
+      table = λ xs end stop b. subst (λ (z : State). IsLed xs z (rest_of new) held now) there
           (r.table xs end stop b);
     }
 
-pub cut_short : (mounted new : State) (held now : List Portion) (bytes : List ℕ) (p : State)
-    (notes : List Point) (f1 r1 r2 : ℕ)
-    → ((set : FileSet) (parts : List Portion) (xs : List TapeItem) (h : MountEvent) → IsLawful set
-    → IsMount set xs h → IsPlaced set p parts → is_under mounted set p.position xs 0 h)
-    → rest_of mounted ≡ p → (rest_of new).set_id ≡ p.set_id → (rest_of new).file ≡ p.file
-    → IsFront held now → mounted ≡ mount_of p → CutsTable mounted (rest_of new) held now bytes
-    → RefusesImage mounted new held now bytes → CutShort bytes (record {
-      place = p;
-      parts = held;
-      notes = notes;
-      failures = f1;
-      refusals = r1;
-    }) (record { place = rest_of new; parts = now; notes = notes; failures = f1; refusals = r2 })
-cut_short mounted new held now bytes p notes f1 r1 r2 begins same set_id file grows
-    mount cuts r = record {
+pub cut_short : (core mounted new : State) (held now : List Portion) (bytes : List ℕ)
+    (notes : List Point) (f r1 r2 : ℕ) → new.set_id ≡ core.set_id → new.file ≡ core.file
+    → IsFront held now → mounted ≡ mount_of core → CutsTable mounted (rest_of new) held now bytes
+    → CutShort bytes (session_of (rest_of core) held notes f r1)
+    (session_of (rest_of new) now notes f r2)
+cut_short core mounted new held now bytes notes f r1 r2 set_id file grows mount cuts =
+    let there : mounted ≡ mount_of (rest_of core) = mount ∙ mount_rest core in
+    record {
       count = refl;
       notes = refl;
       same_set = set_id;
       same_file = file;
       grows = grows;
-      stops = λ set xs end stop h l b m at.
-          subst (λ (f : ℕ). StoppedBy set f p.position xs h (rest_of new) now) file
-          (r set p.position xs end stop h l b m (rw same at) (begins set held xs h l m at));
-      table = λ xs end stop b. subst (λ (z : State). IsCutAt xs z (rest_of new) held now) mount
+      stops = λ set xs end stop h l b m at. cut_reads set h xs (rest_of core) (rest_of new) held now
+          l m (rest_again core) at (subst (λ (z : State). IsCutAt xs z (rest_of new) held now) there
+          (cuts xs end stop b));
+      table = λ xs end stop b. subst (λ (z : State). IsCutAt xs z (rest_of new) held now) there
           (cuts xs end stop b);
     }
 
-stays_finished : (set : FileSet) (file : ℕ) (h : MountEvent)
-    → after_mount set file Finished h ≡ Finished
-stays_finished set file (reads r) = refl
-stays_finished set file _ = refl
-
-not_read_so : (bytes : List ℕ) (left : Option (List ℕ)) (s : Seen) (core : State)
-    → s.place ≡ rest_of core → s.place.position ≡ Finished → Reeled bytes left false s s
-not_read_so bytes left s core rest e = record {
-  given = bytes;
-  is_given = refl;
-  count = refl;
-  notes = refl;
-  same_set = refl;
-  same_file = refl;
-  calm = refl;
-  grows = front_self s.parts;
-  reads = λ set h l m at. record {
-    at = at;
-    position = e ∙ sym (ap (λ (p : Position). after_mount set s.place.file p h) e
-        ∙ stays_finished set s.place.file h);
-  };
-  table = λ xs end stop b. subst (λ (z : State). IsLed xs (mount_of z) z s.parts s.parts) (sym rest)
-      (led_nowhere core s.parts xs (sym (ap (λ (z : State). z.position) rest) ∙ e));
-}
-
+-- nothing is read of a file that is complete
 pub not_read : (bytes : List ℕ) (left : Option (List ℕ)) (s : Seen) (core : State)
     (failed : Bool) → failed ≡ false
     → s.place ≡ rest_of core → s.place.position ≡ Finished → Reeled bytes left failed s s
-not_read bytes left s core failed f rest e =
-    subst (λ (b : Bool). Reeled bytes left b s s) (sym f) (not_read_so bytes left s core rest e)
+not_read bytes left s core failed f place e =
+    let resting : s.place ≡ rest_of s.place =
+    place ∙ (rest_again core ∙ ap rest_of (sym place)) in
+    let table : (xs : List TapeItem) → IsLed xs (mount_of s.place) s.place s.parts s.parts =
+    λ xs. subst (λ (z : State). IsLed xs (mount_of z) z s.parts s.parts) (sym place)
+    (led_nowhere core s.parts xs (sym (ap (λ (z : State). z.position) place) ∙ e)) in
+    subst (λ (b : Bool). Reeled bytes left b s s) (sym f) (record {
+      given = bytes;
+      is_given = refl;
+      count = refl;
+      notes = refl;
+      same_set = refl;
+      same_file = refl;
+      calm = refl;
+      grows = front_self s.parts;
+      reads = λ set h l (xs, end, stop, b, m) at. led_reads set h xs s.place s.place s.parts s.parts
+          l m resting at (table xs);
+      table = λ xs end stop b. table xs;
+    })
+
+-- ---- the sessions of a call
 
 pub some_at : (o q : Option (List ℕ)) (P Q : List ℕ → Type 0) → q ≡ o
     → ((xs : List ℕ) → P xs → Q xs) → IfSome q P → IfSome o Q
 some_at o q P Q e f h = subst (λ (z : Option (List ℕ)). IfSome z Q) e (some_map q P Q f h)
 
-pub some_both : (o : Option (List ℕ)) (P Q : List ℕ → Type 0) → IfSome o P → IfSome o Q
-    → IfSome o (λ xs. P xs × Q xs)
-some_both None P Q a b = tt
-some_both (Some xs) P Q a b = (a, b)
-
-pub some_all : (o : Option (List ℕ)) (Q : List ℕ → Type 0) → ((xs : List ℕ) → Q xs) → IfSome o Q
+some_all : (o : Option (List ℕ)) (Q : List ℕ → Type 0) → ((xs : List ℕ) → Q xs) → IfSome o Q
 some_all None Q f = tt
 some_all (Some xs) Q f = f xs
+
+-- a reel was read, to its end or up to a part that the sink refused
+pub reel_seen : {S : Type 0} (g : Ghosts S) (view old new : SessionState S)
+    (device : Option (List ℕ)) (so : List ℕ → Seen → Seen → Type 0) → old ≡ view
+    → new.notes ≡ old.notes → new.core.set_id ≡ old.core.set_id → new.core.file ≡ old.core.file
+    → ((held : List Portion) → g.holds old.sink held → (now : List Portion)
+    × g.holds new.sink now × IsFront held now
+    × IfSome device (λ bytes. so bytes (seen g old held) (seen g new now)))
+    → IfSeen g view (λ was. IsSeen g new (λ is. IsFront was.parts is.parts
+    × (IsKept was → IsKept is) × IfSome device (λ bytes. so bytes was is)))
+reel_seen g view old new device so same notes set_id file reads =
+    subst (λ z. IfSeen g z (λ was. IsSeen g new (λ is. IsFront was.parts is.parts
+    × (IsKept was → IsKept is) × IfSome device (λ bytes. so bytes was is)))) same (λ held was.
+    let (now, has, front, there) = reads held was in (
+      now,
+      has,
+      (
+        front,
+        (λ k. kept_place (rest_of old.core) (rest_of new.core) [] new.notes now set_id file
+            (subst (λ l. KeepsNotes (rest_of old.core) [] l now) (sym notes)
+            (kept_grow (rest_of old.core) [] old.notes held now front k))),
+        there,
+      ),
+    ))
+
+-- no reel was needed
+pub still_seen : {S : Type 0} (g : Ghosts S) (view old : SessionState S)
+    (device : Option (List ℕ)) (so : List ℕ → Seen → Seen → Type 0) → old ≡ view
+    → ((held : List Portion) (bytes : List ℕ) → so bytes (seen g old held) (seen g old held))
+    → IfSeen g view (λ was. IsSeen g view (λ is. IsFront was.parts is.parts
+    × (IsKept was → IsKept is) × IfSome device (λ bytes. so bytes was is)))
+still_seen g view old device so same reads =
+    subst (λ z. IfSeen g z (λ was. IsSeen g z (λ is. IsFront was.parts is.parts
+    × (IsKept was → IsKept is) × IfSome device (λ bytes. so bytes was is)))) same (λ held was.
+    (held, was, (front_self held, (λ k. k), some_all _ _ (reads held))))
 
 -- of a complete file nothing is missing
 pub want_none : (file : ℕ) (p : Position) (b : Bool) → is_some (want_at file p) ≡ not b → b ≡ true
@@ -206,16 +225,6 @@ kept_restart old new n w k =
     kept_place old.place new.place [] new.notes new.parts (ap (λ (p : State). p.set_id) w.place
     ∙ at.note.of_set) (ap (λ (p : State). p.file) w.place ∙ at.note.of_file)
     (rw (w.notes, same) at.left)
-
--- a session in this state, with its numbers of failed readers and of refusals
-abbrev pub session_of : State → List Portion → List Point → ℕ → ℕ → Seen
-session_of place parts notes failures refusals = record {
-  place = place;
-  parts = parts;
-  notes = notes;
-  failures = failures;
-  refusals = refusals;
-}
 
 -- The session is at its checkpoint with this number, with the first parts up to its weight.
 pub record GoesBack (n : ℕ) (point : Point) (old : Seen) (new : List Portion → Seen) : Type 0 where

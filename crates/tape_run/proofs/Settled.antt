@@ -1,22 +1,14 @@
 -- The step after a reel: the session made a checkpoint or none, or rolled back to its last one.
-use Rattle.std.proofs.Common.{◌≡◌, ◌⊎◌, ◌-◌, ℕ, Bool, true, false, List, length}
-use Rattle.std.proofs.Common.{refl, inl, inr}
+use Rattle.std.proofs.Common.{◌≡◌, ◌⊎◌, ◌-◌, ℕ, Bool, true, false, List, length, refl, inl, inr}
 use Rattle.tape_blocks.specs.Block.{Portion}
-use Rattle.tape_core.specs.Crash.{AddsOnly, ThisAlone}
-use Rattle.tape_core.specs.Place.{rest_of}
-use Rattle.tape_core.specs.Point.{Point}
-use Rattle.tape_core.specs.Stands.{weight_of}
-use Rattle.tape_core.specs.Table.{saved}
-use Rattle.tape_core.specs.declared.sink.PartSink.{Ghosts}
-use Rattle.tape_run.specs.Causes.{IsCalm}
-use Rattle.tape_run.specs.Crash.{IsHere, IsNoteOf, KeepsLast}
+use Rattle.tape_core.specs.{Crash.AddsOnly, Crash.ThisAlone, Place.rest_of, Point.Point}
+use Rattle.tape_core.specs.{Stands.weight_of, Table.saved, declared.sink.PartSink.Ghosts}
+use Rattle.tape_run.specs.{Causes.IsCalm, Crash.IsHere, Crash.IsNoteOf, Crash.KeepsLast}
 use Rattle.tape_run.specs.Reeling.{HasNotedHere, IsKeptFor, IsNoted}
 use Rattle.tape_run.specs.Seen.{seen, IsKept, IfSeen, IsSeen}
-use Rattle.tape_run.specs.SessionState.{SessionState}
-use Rattle.tape_run.specs.Steps.{Saved, WentBack}
-use Rattle.tape_run.proofs.Causes.{calm_same}
+use Rattle.tape_run.specs.{SessionState.SessionState, Steps.Saved, Steps.WentBack}
+use Rattle.tape_run.proofs.{Causes.calm_same, Left.last_of}
 use Rattle.tape_run.proofs.Lasting.{last_kept, last_same, last_went}
-use Rattle.tape_run.proofs.Left.{last_of}
 
 -- the session after the step, which led from `a` to `b`
 pub record Settled {S : Type 0} (g : Ghosts S) (back spares suspect : Bool)

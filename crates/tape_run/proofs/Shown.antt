@@ -17,7 +17,7 @@ on_err_shown (Err e) None P made same p = tt
 on_err_shown (Err e) (Some bs) P made same p = subst P same p
 on_err_shown (Ok x) shown P made same p = tt
 
-pub shown_as : (shown : Option (List ℕ)) (P Q : List ℕ → Type 0)
+pub some_map : (shown : Option (List ℕ)) (P Q : List ℕ → Type 0)
     → ((bs : List ℕ) → P bs → Q bs) → IfSome shown P → IfSome shown Q
-shown_as None P Q f p = tt
-shown_as (Some bs) P Q f p = f bs p
+some_map None P Q f p = tt
+some_map (Some bs) P Q f p = f bs p

@@ -3,16 +3,15 @@ use Rattle.std.proofs.Common.{◌≡◌, ℕ, Bool, true, false, List, [], ◌�
 use Rattle.std.proofs.Common.{Result, Ok, Err, refl, sym, subst, append_assoc, ◌||◌, if◌then◌else◌}
 use Rattle.std.specs.List.{AllByRecursion}
 use Rattle.tape_image.specs.Tape.{TapeItem, block, bad, mark}
-use Rattle.tape_label.specs.declared.{label.LabelFault.LabelFault, values.Trail1.Trail1}
+use Rattle.tape_label.specs.{declared.label.LabelFault.LabelFault, declared.values.Trail1.Trail1}
 use Rattle.tape_label.specs.{Kinds.kind_at, VolumeLabels.is_volume_label}
 use Rattle.tape_label.specs.Reading.{vol1_at, head1_at, trail1_at}
-use Rattle.tape_run.specs.declared.{section.SectionState.TheVariants.Good, met.Met.Met}
-use Rattle.tape_run.specs.declared.passing.Phase.{Phase}
 use Rattle.tape_run.specs.declared.passing.Phase.TheVariants.{Volume, Labels, Second, Headers, Data}
-use Rattle.tape_run.specs.declared.passing.Phase.TheVariants.{Trailer, Trailers, Next, Over}
 use Rattle.tape_run.specs.Passing.{Told, cut, closes, told, told_with, volume_with, step, in_list}
+use Rattle.tape_run.specs.{declared.section.SectionState.TheVariants.Good, declared.met.Met.Met}
+use Rattle.tape_run.specs.{declared.passing.Phase.Phase, Shown.Shown, Shown.GoodAreShown}
+use Rattle.tape_run.specs.declared.passing.Phase.TheVariants.{Trailer, Trailers, Next, Over}
 use Rattle.tape_run.specs.Passing.{phase_after, told_from, under_way}
-use Rattle.tape_run.specs.Shown.{Shown, GoodAreShown}
 use Rattle.tape_run.proofs.SectionsMet.{Filled, Stood, ShownIfGood, begins_more, shown_more, headed}
 use Rattle.tape_run.proofs.SectionsMet.{begun, labels_or, seconded, labelled_more, filled_first}
 use Rattle.tape_run.proofs.SectionsMet.{filled_more, filled_closed, shown}

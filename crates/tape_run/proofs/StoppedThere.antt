@@ -1,29 +1,18 @@
 -- Where a session is after a fault.
-use Rattle.std.proofs.Common.{◌≡◌, ◌≢◌, ℕ, Bool, List, [], ◌∷◌, Option, Some, None}
-use Rattle.std.proofs.Common.{IfSome, refl, sym, ap, subst, ◌∙◌}
-use Rattle.std.proofs.Common.{inr}
+use Rattle.std.proofs.Common.{◌≢◌, ℕ, Bool, List, [], ◌∷◌, Option, Some, None, IfSome, refl, ap}
+use Rattle.std.proofs.Common.{◌∙◌, inr}
 use Rattle.tape_blocks.specs.Block.{Portion}
 use Rattle.tape_image.specs.Reader.{IfKnown}
 use Rattle.tape_set.specs.declared.position.Position.TheVariants.{Finished}
 use Rattle.tape_core.proofs.Crashes.{only_same}
-use Rattle.tape_core.specs.Place.{rest_of}
-use Rattle.tape_core.specs.Point.{Point}
-use Rattle.tape_core.specs.State.{State}
-use Rattle.tape_core.specs.Weight.{IsFront}
-use Rattle.tape_core.specs.declared.sink.PartSink.{Ghosts}
-use Rattle.tape_run.specs.Crash.{IsWalked}
-use Rattle.tape_run.specs.Given.{is_device}
+use Rattle.tape_core.specs.{Place.rest_of, declared.sink.PartSink.Ghosts}
+use Rattle.tape_run.specs.{Crash.IsWalked, Given.is_device, Reels.Reads, Seen.Seen, Seen.seen}
 use Rattle.tape_run.specs.Reeling.{Opened, Follows, IsNoted, counts_differ}
-use Rattle.tape_run.specs.Reels.{Reads}
-use Rattle.tape_run.specs.Seen.{Seen, seen, IsKept, KeepsNotes}
-use Rattle.tape_run.specs.SessionState.{SessionState}
-use Rattle.tape_run.specs.Steps.{Reeled}
+use Rattle.tape_run.specs.{SessionState.SessionState, Steps.Reeled}
 use Rattle.tape_run.specs.Stopping.{IsStopped, NotNoted, ReadsOnly, StopsInReel}
-use Rattle.tape_run.specs.declared.fault.EngineFault.{EngineFault}
-use Rattle.tape_run.specs.declared.fault.RunFault.{RunFault}
+use Rattle.tape_run.specs.{declared.fault.EngineFault.EngineFault, declared.fault.RunFault.RunFault}
 use Rattle.tape_run.specs.declared.reel_reader.ReelAnswer.{ReelAnswer}
-use Rattle.tape_run.proofs.Notes.{front_self, front_trans}
-use Rattle.tape_run.proofs.Turns.{noted}
+use Rattle.tape_run.proofs.{Notes.front_self, Notes.front_trans, Turns.noted}
 
 -- a walk over its sink leaves a session unmoved
 pub stopped_walked : {S R : Type 0} (g : Ghosts S) (remaining : R → Option (List ℕ))
@@ -116,44 +105,5 @@ reads_then g a b c first then held was =
         same_set = two.same_set ∙ one.same_set;
         same_file = two.same_file ∙ one.same_file;
         kept = λ kept. two.kept (one.kept kept);
-      },
-    )
-
-pub reads_walked : {S : Type 0} (g : Ghosts S) (a b c : SessionState S) → ReadsOnly g a b
-    → IsWalked g b c → ReadsOnly g a c
-reads_walked g a b c read w held was =
-    let (now, has, one) = read held was in
-    let place : rest_of c.core ≡ rest_of b.core = ap rest_of w.core in
-    let keeps : IsKept (seen g b now) → IsKept (seen g c now) = λ (kept : IsKept (seen g b now)).
-    subst (λ (s : State). KeepsNotes s [] c.notes now) (sym place)
-    (subst (λ (ns : List Point). KeepsNotes (rest_of b.core) [] ns now) (sym w.notes) kept) in (
-      now,
-      w.kept now has,
-      record {
-        grows = one.grows;
-        notes = w.notes ∙ one.notes;
-        same_set = ap (λ (s : State). s.set_id) w.core ∙ one.same_set;
-        same_file = ap (λ (s : State). s.file) w.core ∙ one.same_file;
-        kept = λ kept. keeps (one.kept kept);
-      },
-    )
-
--- a reel, whether it was read to its end or not
-pub reads_reel : {S : Type 0} (g : Ghosts S) (a b : SessionState S)
-    (P : List Portion → List Portion → Type 0)
-    → b.notes ≡ a.notes → (b.core.set_id ≡ a.core.set_id) × (b.core.file ≡ a.core.file)
-    → ((held : List Portion) → g.holds a.sink held → (now : List Portion) × g.holds b.sink now
-    × (IsFront held now × (IsKept (seen g a held) → IsKept (seen g b now)) × P held now))
-    → ReadsOnly g a b
-reads_reel g a b P notes file h held was =
-    let (now, has, (front, keeps, rest)) = h held was in (
-      now,
-      has,
-      record {
-        grows = front;
-        notes = notes;
-        same_set = file.0;
-        same_file = file.1;
-        kept = keeps;
       },
     )

@@ -2,10 +2,9 @@
 use Rattle.std.proofs.Common.{◌≡◌, ℕ, zero, suc, ◌+◌, ◌-◌, ◌<◌, Bool, true, false, List, [], ◌++◌}
 use Rattle.std.proofs.Common.{Option, Some, None, refl, ap, sym, ◌∙◌, arith, append_assoc}
 use Rattle.std.proofs.Common.{append-nil, if◌then◌else◌}
-use Rattle.tape_run.specs.Lacks.{entry_at, key_at}
-use Rattle.tape_run.specs.{Passing.Told, SurveyProblems.first_after, SurveyRead.Found}
 use Rattle.tape_run.specs.SurveyChain.{link_of, is_last, next_first, sections_chain, file_chain}
-use Rattle.tape_run.specs.SurveyChain.{files_chain}
+use Rattle.tape_run.specs.{Lacks.entry_at, Lacks.key_at, Passing.Told, SurveyProblems.first_after}
+use Rattle.tape_run.specs.{SurveyRead.Found, SurveyChain.files_chain}
 
 -- ---- the sections of a file
 
@@ -96,12 +95,6 @@ file_linked d set_id old new goal before greatest within put was =
     ap (λ ls. ls ++ rest (greatest - (before + 1))) put ∙ append_assoc old here
     (rest (greatest - (before + 1))) ∙ ap (λ n. old ++ (here ++ rest n)) fewer ∙ ap
     (λ ls. old ++ ls) (sym (files_behind d set_id (before + 1) _ some)) ∙ was
-
--- nothing is left
-pub files_over : (d : Found) (set_id : List ℕ) (all goal : List (Option (List ℕ))) (file left : ℕ)
-    → left ≡ 0 → all ++ files_chain d set_id file left ≡ goal → all ≡ goal
-files_over d set_id all goal file left none was =
-    sym (append-nil all) ∙ ap (λ n. all ++ files_chain d set_id file n) (sym none) ∙ was
 
 -- ---- volumes
 

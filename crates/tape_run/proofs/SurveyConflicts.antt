@@ -2,17 +2,16 @@
 use Rattle.std.proofs.Common.{◌≡◌, ℕ, ◌+◌, Bool, true, false, List, [], ◌∷◌, ◌++◌, length, Option}
 use Rattle.std.proofs.Common.{Some, None, refl, sym, ap, subst, ◌∙◌, arith, append_assoc}
 use Rattle.std.proofs.Common.{append-nil, map, ◌==◌, ◌&&◌, if◌then◌else◌, option_map, cond}
-use Rattle.std.specs.List.{AllByRecursion}
 use Rattle.std.proofs.lemmas.Bool.Decides.{nat_tests}
+use Rattle.std.specs.List.{AllByRecursion}
 use Rattle.indexmap.specs.IndexMap.{insert_entry}
 use Rattle.tape_image.specs.Tape.{TapeItem}
-use Rattle.tape_run.specs.declared.survey.{copies.CopyNote.CopyNote, view.ImageSurvey.ImageSurvey}
-use Rattle.tape_run.specs.declared.section.SectionKey.{SectionKey}
-use Rattle.tape_run.specs.{Checked.Reel, Noted.same_key, Reeling.Mounting, SurveyDigest.digest_of}
-use Rattle.tape_run.specs.SurveyGlance.{or_else}
 use Rattle.tape_run.specs.SurveyConflicts.{Placed, placed_on, placed_in, all_placed, IsIn}
-use Rattle.tape_run.specs.SurveyConflicts.{CopiesDiffer}
 use Rattle.tape_run.specs.SurveyCopies.{Copy, copies_on, Noted, Copied, with_same, with_other}
+use Rattle.tape_run.specs.{declared.survey.copies.CopyNote.CopyNote, Checked.Reel, Noted.same_key}
+use Rattle.tape_run.specs.{declared.survey.view.ImageSurvey.ImageSurvey, Reeling.Mounting}
+use Rattle.tape_run.specs.{declared.section.SectionKey.SectionKey, SurveyDigest.digest_of}
+use Rattle.tape_run.specs.{SurveyGlance.or_else, SurveyConflicts.CopiesDiffer}
 use Rattle.tape_run.specs.SurveyCopies.{copy_note, noted_at, with_good, with_copies}
 use Rattle.tape_run.specs.SurveyRead.{Found, nothing_found, IsViewed, AreViewed}
 use Rattle.tape_run.proofs.KeepingPlaces.{one_key}

@@ -1,14 +1,13 @@
 -- The good copies of sections, as they are read.
-use Rattle.std.proofs.Common.{◌≡◌, ℕ, Bool, true, false, List, [], ◌∷◌, ◌++◌, Option, Some}
-use Rattle.std.proofs.Common.{None, refl, sym, ap, ◌∙◌, append_assoc, append-nil, if◌then◌else◌}
+use Rattle.std.proofs.Common.{◌≡◌, ℕ, Bool, true, false, List, [], ◌∷◌, ◌++◌, Option, Some, None}
+use Rattle.std.proofs.Common.{refl, sym, ap, ◌∙◌, append_assoc, append-nil, if◌then◌else◌}
 use Rattle.tape_image.specs.Tape.{TapeItem, block}
-use Rattle.tape_run.specs.declared.passing.Phase.{Phase}
-use Rattle.tape_run.specs.declared.passing.Phase.TheVariants.{Volume, Data}
-use Rattle.tape_run.specs.{Noted.is_good, SurveyDigest.digest_of, SurveyDigest.digest_with}
-use Rattle.tape_run.specs.Passing.{Told, step, phase_after}
 use Rattle.tape_run.specs.SurveyCopies.{Copy, blocks_with, good_told, copies_from, copies_on}
 use Rattle.tape_run.specs.SurveyCopies.{Copied, with_good, with_told, with_copies, copied_in}
-use Rattle.tape_run.specs.SurveyCopies.{digest_in}
+use Rattle.tape_run.specs.{declared.passing.Phase.Phase, Noted.is_good, SurveyCopies.digest_in}
+use Rattle.tape_run.specs.declared.passing.Phase.TheVariants.{Volume, Data}
+use Rattle.tape_run.specs.SurveyDigest.{digest_of, digest_with}
+use Rattle.tape_run.specs.Passing.{Told, step, phase_after}
 use Rattle.tape_run.proofs.SurveyDigest.{digest_all-append}
 
 -- the data blocks of the section that is being read, after these items

@@ -2,12 +2,11 @@
 use Rattle.std.proofs.Common.{◌≡◌, ◌⊎◌, inl, inr, ℕ, ◌+◌, Bool, true, false, List, [], ◌∷◌, ◌++◌}
 use Rattle.std.proofs.Common.{Option, Some, None, refl, sym, ap, ◌∙◌, arith, append_assoc}
 use Rattle.std.proofs.Common.{append-nil, map, subst, ◌==◌, if◌then◌else◌, option_map, flat_map}
-use Rattle.std.proofs.lemmas.{Bool.Decides.nat_tests, List.map-append}
-use Rattle.tape_run.specs.declared.section.SectionKey.{SectionKey}
-use Rattle.tape_run.specs.declared.survey.view.ImageSurvey.{ImageSurvey}
-use Rattle.tape_run.specs.{Checked.Reel, Reeling.Mounting, SurveyDigest.digest_of}
-use Rattle.tape_run.specs.SurveyConflicts.{Placed, placed_in, all_placed, IsIn, TellsDispute}
+use Rattle.std.proofs.{lemmas.Bool.Decides.nat_tests, lemmas.List.map-append}
 use Rattle.tape_run.specs.SurveyCopies.{Copy, copies_on, Noted, Held, Copied, noted_at, differs}
+use Rattle.tape_run.specs.{declared.section.SectionKey.SectionKey, Checked.Reel, Reeling.Mounting}
+use Rattle.tape_run.specs.{declared.survey.view.ImageSurvey.ImageSurvey, SurveyDigest.digest_of}
+use Rattle.tape_run.specs.SurveyConflicts.{Placed, placed_in, all_placed, IsIn, TellsDispute}
 use Rattle.tape_run.specs.SurveyCopies.{with_good, with_copies, disputed_by, disputed, disputed_on}
 use Rattle.tape_run.specs.SurveyRead.{Found, nothing_found, IsViewed, AreViewed}
 use Rattle.tape_run.proofs.SurveySound.{same_nat}

@@ -1,17 +1,16 @@
 -- The volumes of a set are those of its sections, and one for each gap between two of them.
-use Rattle.std.proofs.Common.{◌≡◌, ℕ, zero, suc, ◌+◌, ◌<◌, ◌≤◌, Bool, true, false, List, []}
-use Rattle.std.proofs.Common.{◌∷◌, ◌++◌, Option, Some, None, refl, ap, sym, ◌∙◌, arith}
-use Rattle.std.proofs.Common.{append_assoc, subst, ◌⊎◌, inl, inr, if◌then◌else◌, replicate, nat_lt}
-use Rattle.std.specs.Str.{bytes_eq}
+use Rattle.std.proofs.Common.{◌≡◌, ℕ, zero, suc, ◌+◌, ◌<◌, ◌≤◌, Bool, true, false, List, [], ◌∷◌}
+use Rattle.std.proofs.Common.{◌++◌, Option, Some, None, refl, ap, sym, ◌∙◌, arith, append_assoc}
+use Rattle.std.proofs.Common.{subst, ◌⊎◌, inl, inr, if◌then◌else◌, replicate, nat_lt}
 use Rattle.std.proofs.lemmas.Slice.Eq.{bytes_eq-Decides}
-use Rattle.tape_run.specs.declared.{section.Entry.Entry, survey.volumes.VolumeItem.VolumeItem}
-use Rattle.tape_run.specs.declared.survey.volumes.VolumeItem.TheVariants.{Named, MissingAfter}
-use Rattle.tape_run.specs.Lacks.{entry_at, key_at}
-use Rattle.tape_run.specs.{Passing.Told, SurveyConflicts.IsIn, SurveyLaws.VolumesAreListed}
-use Rattle.tape_run.specs.{SurveyProblems.first_after, SurveyRead.Found}
+use Rattle.std.specs.Str.{bytes_eq}
 use Rattle.tape_run.specs.SurveyChain.{gap_if, link_of, is_last, sections_chain, found_chain}
 use Rattle.tape_run.specs.SurveyChain.{file_chain, files_chain, is_same, missing_if, items_to}
-use Rattle.tape_run.specs.SurveyChain.{volumes_from}
+use Rattle.tape_run.specs.{declared.section.Entry.Entry, Lacks.entry_at, Lacks.key_at, Passing.Told}
+use Rattle.tape_run.specs.{declared.survey.volumes.VolumeItem.VolumeItem, SurveyConflicts.IsIn}
+use Rattle.tape_run.specs.declared.survey.volumes.VolumeItem.TheVariants.{Named, MissingAfter}
+use Rattle.tape_run.specs.{SurveyLaws.VolumesAreListed, SurveyProblems.first_after}
+use Rattle.tape_run.specs.{SurveyRead.Found, SurveyChain.volumes_from}
 use Rattle.tape_run.proofs.SurveyConflicts.{in_more}
 
 -- ---- lists

@@ -1,29 +1,27 @@
 -- The items of an image that have been examined so far.
 use Rattle.std.proofs.Common.{◌≡◌, ℕ, ◌+◌, List, [], ◌∷◌, ◌++◌, Option, refl, sym, ap, subst, ◌∙◌}
-use Rattle.std.proofs.Common.{append-nil}
-use Rattle.tape_image.specs.declared.item.{Ending.Ending, ImageFault.ImageFault}
+use Rattle.std.proofs.{Common.append-nil, lemmas.Grind.flat_map-append}
+use Rattle.tape_image.specs.{declared.item.Ending.Ending, declared.item.ImageFault.ImageFault}
 use Rattle.tape_image.specs.{Tape.TapeItem, Reader.IfKnown}
 use Rattle.tape_image.specs.Step.{TakesItem, TakesEnd, TakesFault}
 use Rattle.tape_image.proofs.Walks.{known_end, known_fault, IfKnown-map}
-use Rattle.tape_label.specs.declared.values.{Head1.Head1, Head2.Head2}
-use Rattle.tape_run.specs.declared.survey.{files.FileKey.FileKey, glance.ImageSummary.ImageSummary}
-use Rattle.tape_run.specs.declared.survey.view.ImageSurvey.{ImageSurvey}
-use Rattle.tape_run.specs.declared.passing.{Phase.Phase, Phase.TheVariants.Volume}
-use Rattle.tape_run.specs.declared.section.{ImageStop.ImageStop, SectionLine.SectionLine}
+use Rattle.tape_label.specs.{declared.values.Head1.Head1, declared.values.Head2.Head2}
+use Rattle.tape_run.specs.SurveyFiles.{Filed, with_met, with_form, form_in, with_label, with_all}
+use Rattle.tape_run.specs.SurveyGlance.{blank_glance, head_in, look_to, look_all, glance_of}
+use Rattle.tape_run.specs.{declared.survey.files.FileKey.FileKey, declared.passing.Phase.Phase}
+use Rattle.tape_run.specs.{declared.survey.glance.ImageSummary.ImageSummary, Noted.noted_all}
+use Rattle.tape_run.specs.{declared.survey.view.ImageSurvey.ImageSurvey, SurveyRead.ViewsItems}
+use Rattle.tape_run.specs.{declared.passing.Phase.TheVariants.Volume, SurveyFiles.filed_in}
+use Rattle.tape_run.specs.{declared.section.ImageStop.ImageStop, Added.StopsBehind, Added.stop_at}
+use Rattle.tape_run.specs.declared.section.SectionLine.{SectionLine}
 use Rattle.tape_run.specs.declared.section.ImageStop.TheVariants.{Fault}
-use Rattle.tape_run.specs.{Added.StopsBehind, Added.stop_at, Noted.noted_all, SurveyRead.ViewsItems}
 use Rattle.tape_run.specs.Passing.{Told, step, in_list, phase_after, told_from, under_way, met_in}
 use Rattle.tape_run.specs.SurveyCopies.{Copied, with_told, digest_in}
-use Rattle.tape_run.specs.SurveyFiles.{Filed, with_met, with_form, form_in, with_label, with_all}
-use Rattle.tape_run.specs.SurveyFiles.{filed_in}
-use Rattle.tape_run.specs.SurveyGlance.{blank_glance, head_in, look_to, look_all, glance_of}
 use Rattle.tape_run.specs.SurveyGlance.{damage_in, damages_in}
 use Rattle.tape_run.specs.SurveyLocations.{Located, with_location, locate_all, located_in}
-use Rattle.tape_run.proofs.KeepingPlaces.{noted_all-append}
-use Rattle.tape_run.proofs.SurveyCopies.{CopiedSoFar, copied_none, copied_more}
 use Rattle.tape_run.proofs.NotedSoFar.{SoFar, starts, one_more, by_ending, all_noted}
-use Rattle.tape_run.proofs.NotedSoFar.{told_from-append}
-use Rattle.std.proofs.lemmas.Grind.{flat_map-append}
+use Rattle.tape_run.proofs.{KeepingPlaces.noted_all-append, NotedSoFar.told_from-append}
+use Rattle.tape_run.proofs.SurveyCopies.{CopiedSoFar, copied_none, copied_more}
 
 -- one more item was examined
 pub look_all-append : (g : ImageSummary) (p : Phase) (xs : List TapeItem) (x : TapeItem)

@@ -2,15 +2,14 @@
 use Rattle.std.proofs.Common.{◌≡◌, ℕ, ◌+◌, Bool, true, false, List, [], ◌∷◌, ◌++◌, length, refl}
 use Rattle.std.proofs.Common.{sym, ap, subst, ◌∙◌, arith, append_assoc}
 use Rattle.tape_image.specs.Tape.{TapeItem, block, bad, mark}
-use Rattle.tape_run.specs.declared.survey.course.{ExpectedItem.ExpectedItem, LabelOrder.LabelOrder}
-use Rattle.tape_run.specs.declared.survey.glance.ImageSummary.{ImageSummary}
-use Rattle.tape_run.specs.declared.passing.Phase.{Phase}
-use Rattle.tape_run.specs.declared.passing.Phase.TheVariants.{Volume, Labels, Second}
-use Rattle.tape_run.specs.declared.passing.Phase.TheVariants.{Next, Over}
 use Rattle.tape_run.specs.declared.survey.course.LabelOrder.TheVariants.{Follows, Blank, Ended}
-use Rattle.tape_run.specs.declared.survey.course.LabelOrder.TheVariants.{Leaves}
-use Rattle.tape_run.specs.Passing.{step, phase_after}
 use Rattle.tape_run.specs.SurveyGlance.{blank_glance, look_to, look_all, glance_of, left_by}
+use Rattle.tape_run.specs.declared.survey.course.ExpectedItem.{ExpectedItem}
+use Rattle.tape_run.specs.declared.survey.course.LabelOrder.{LabelOrder}
+use Rattle.tape_run.specs.declared.survey.glance.ImageSummary.{ImageSummary}
+use Rattle.tape_run.specs.{declared.passing.Phase.Phase, Passing.step, Passing.phase_after}
+use Rattle.tape_run.specs.declared.passing.Phase.TheVariants.{Volume, Labels, Second, Next, Over}
+use Rattle.tape_run.specs.declared.survey.course.LabelOrder.TheVariants.{Leaves}
 use Rattle.tape_run.specs.SurveyGlance.{behind_mark, behind, course_with}
 use Rattle.tape_run.specs.SurveyLaws.{course_of, has_left, IsFirstAstray, LeavesThere}
 use Rattle.tape_run.proofs.{NotedSoFar.phase_after-append, SurveyLooks.look_all-append}

@@ -1,23 +1,21 @@
 -- The good copies that are compared are shown by the items, with their data blocks.
 use Rattle.std.proofs.Common.{◌≡◌, ℕ, Bool, true, false, List, [], ◌∷◌, ◌++◌, Option, Some, None}
 use Rattle.std.proofs.Common.{Result, Ok, Err, refl, ap, subst, ◌∙◌, append_assoc, map, ◌||◌}
-use Rattle.std.proofs.Common.{if◌then◌else◌}
+use Rattle.std.proofs.{Common.if◌then◌else◌, lemmas.Bool.or_parts}
 use Rattle.std.specs.{Prelude.⊤, List.AllByRecursion}
-use Rattle.std.proofs.lemmas.Bool.{or_parts}
 use Rattle.tape_image.specs.Tape.{TapeItem, block, bad, mark}
-use Rattle.tape_label.specs.declared.values.{Kind.Kind, Vol1.Vol1, Head1.Head1, Trail1.Trail1}
-use Rattle.tape_label.specs.declared.label.LabelFault.{LabelFault}
-use Rattle.tape_label.specs.declared.values.Kind.TheVariants as kinds
-use Rattle.tape_label.specs.{Kinds.kind_at, VolumeLabels.is_volume_label}
+use Rattle.tape_label.specs.{declared.values.Kind.Kind, declared.values.Vol1.Vol1, Kinds.kind_at}
+use Rattle.tape_label.specs.{declared.values.Head1.Head1, declared.values.Trail1.Trail1}
+use Rattle.tape_label.specs.{declared.label.LabelFault.LabelFault, VolumeLabels.is_volume_label}
 use Rattle.tape_label.specs.Reading.{vol1_at, head1_at, trail1_at}
-use Rattle.tape_run.specs.declared.{section.SectionState.SectionState, met.Met.Met}
-use Rattle.tape_run.specs.declared.passing.Phase.{Phase}
-use Rattle.tape_run.specs.declared.section.SectionState.TheVariants.{Good, Bad, Count, Cut}
+use Rattle.tape_label.specs.declared.values.Kind.TheVariants as kinds
 use Rattle.tape_run.specs.declared.passing.Phase.TheVariants.{Volume, Labels, Second, Headers, Data}
-use Rattle.tape_run.specs.declared.passing.Phase.TheVariants.{Trailer, Trailers, Next, Over}
-use Rattle.tape_run.specs.{Noted.is_good, SurveyConflicts.ShownAs, SurveyConflicts.CopiesAreShown}
 use Rattle.tape_run.specs.Passing.{Told, closes, told_with, volume_with, header_with, second_with}
-use Rattle.tape_run.specs.Passing.{step}
+use Rattle.tape_run.specs.{declared.section.SectionState.SectionState, declared.met.Met.Met}
+use Rattle.tape_run.specs.{declared.passing.Phase.Phase, Noted.is_good, Passing.step}
+use Rattle.tape_run.specs.declared.section.SectionState.TheVariants.{Good, Bad, Count, Cut}
+use Rattle.tape_run.specs.declared.passing.Phase.TheVariants.{Trailer, Trailers, Next, Over}
+use Rattle.tape_run.specs.SurveyConflicts.{ShownAs, CopiesAreShown}
 use Rattle.tape_run.specs.SurveyCopies.{Copy, blocks_with, good_told, copies_from}
 use Rattle.tape_run.proofs.SectionsMet.{Stood, begins_more, shown_more, filled_first, filled_more}
 use Rattle.tape_run.proofs.SectionsMet.{filled_closed, state_good, shown_as, map_push}

@@ -1,22 +1,21 @@
 -- If a survey reports that everything exists, it does.
 use Rattle.std.proofs.Common.{◌≡◌, ◌≢◌, ℕ, ◌+◌, Bool, true, false, List, [], ◌∷◌, ◌++◌, Option}
 use Rattle.std.proofs.Common.{Some, None, refl, sym, ap, subst, ◌∙◌, arith, append_assoc}
-use Rattle.std.proofs.Common.{append-nil, map, ◌==◌, ◌&&◌, not, if◌then◌else◌, option_map}
-use Rattle.std.proofs.Common.{cond, is_some}
-use Rattle.std.specs.{List.AllByRecursion, Map.lookup}
-use Rattle.std.proofs.lemmas.Bool.Decides.{nat_tests}
+use Rattle.std.proofs.Common.{append-nil, map, ◌==◌, ◌&&◌, not, if◌then◌else◌, option_map, cond}
+use Rattle.std.proofs.{Common.is_some, lemmas.Bool.Decides.nat_tests}
 use Rattle.std.proofs.lemmas.Bool.{and_parts, or_parts}
+use Rattle.std.specs.{List.AllByRecursion, Map.lookup}
 use Rattle.indexmap.specs.IndexMap.{insert_entry}
-use Rattle.tape_run.specs.declared.section.{Lack.Lack, SectionKey.SectionKey}
-use Rattle.tape_run.specs.declared.section.SectionState.TheVariants.{Good}
-use Rattle.tape_run.specs.declared.survey.{copies.CopyNote.CopyNote, view.ImageSurvey.ImageSurvey}
-use Rattle.tape_run.specs.{Checked.Reel, Noted.same_key, Noted.is_good, Passing.Told}
+use Rattle.tape_run.specs.SurveyCopies.{Copy, copies_on, Noted, Disputed, Copied, with_same}
+use Rattle.tape_run.specs.SurveyCopies.{with_other, copy_note, noted_at, with_conflict, with_good}
+use Rattle.tape_run.specs.{declared.section.Lack.Lack, declared.section.SectionKey.SectionKey}
+use Rattle.tape_run.specs.{declared.section.SectionState.TheVariants.Good, Checked.Reel}
+use Rattle.tape_run.specs.{declared.survey.copies.CopyNote.CopyNote, Noted.same_key, Noted.is_good}
+use Rattle.tape_run.specs.{declared.survey.view.ImageSurvey.ImageSurvey, Passing.Told}
 use Rattle.tape_run.specs.{Reeling.Mounting, SurveyDigest.digest_of, SurveyGlance.or_else}
 use Rattle.tape_run.specs.{SurveyTally.is_whole_sight, SurveySets.all_good, SurveySets.is_all}
 use Rattle.tape_run.specs.Lacks.{lacks, is_none_lacking, found_all}
 use Rattle.tape_run.specs.SurveyConflicts.{Placed, placed_on, placed_in, all_placed}
-use Rattle.tape_run.specs.SurveyCopies.{Copy, copies_on, Noted, Disputed, Copied, with_same}
-use Rattle.tape_run.specs.SurveyCopies.{with_other, copy_note, noted_at, with_conflict, with_good}
 use Rattle.tape_run.specs.SurveyCopies.{with_copies, is_agreed}
 use Rattle.tape_run.specs.SurveyFiles.{Filed, any_differs}
 use Rattle.tape_run.specs.SurveyRead.{Found, nothing_found, IsViewed, AreViewed}

@@ -2,23 +2,22 @@
 use Rattle.std.proofs.Common.{◌≡◌, ℕ, Bool, true, false, List, [], ◌∷◌, ◌++◌, Option, Some, None}
 use Rattle.std.proofs.Common.{Result, Ok, Err, refl, sym, ap, ◌∙◌, append_assoc, append-nil, ◌≢◌}
 use Rattle.std.proofs.Common.{map, if◌then◌else◌, flat_map}
-use Rattle.std.specs.{Prelude.⊤, List.AllByRecursion}
 use Rattle.std.proofs.lemmas.Grind.{flat_map-append}
+use Rattle.std.specs.{Prelude.⊤, List.AllByRecursion}
 use Rattle.tape_image.specs.Tape.{TapeItem, block, mark}
-use Rattle.tape_label.specs.declared.values.{Kind.Kind, Vol1.Vol1, Head1.Head1}
-use Rattle.tape_label.specs.declared.label.LabelFault.{LabelFault}
+use Rattle.tape_label.specs.{declared.values.Kind.Kind, declared.values.Vol1.Vol1, Head1.IsHead1}
+use Rattle.tape_label.specs.{declared.values.Head1.Head1, declared.label.LabelFault.LabelFault}
+use Rattle.tape_label.specs.{Kinds.HasKind, Kinds.kind_at, Reading.vol1_at, Reading.head1_at}
+use Rattle.tape_label.specs.VolumeLabels.{is_volume_label}
 use Rattle.tape_label.specs.declared.values.Kind.TheVariants as kinds
-use Rattle.tape_label.specs.{Kinds.HasKind, Kinds.kind_at, Head1.IsHead1, Reading.vol1_at}
-use Rattle.tape_label.specs.{Reading.head1_at, VolumeLabels.is_volume_label}
 use Rattle.tape_label.proofs.{First.vol1_found, First.head1_found, Apart.kind_found}
-use Rattle.tape_run.specs.declared.{met.Met.Met, passing.Phase.Phase}
-use Rattle.tape_run.specs.declared.survey.course.LabelOrder.{LabelOrder}
 use Rattle.tape_run.specs.declared.passing.Phase.TheVariants.{Volume, Labels, Second, Headers, Data}
-use Rattle.tape_run.specs.declared.passing.Phase.TheVariants.{Trailer, Trailers, Next, Over}
 use Rattle.tape_run.specs.declared.survey.course.LabelOrder.TheVariants.{Follows, Blank, Ended}
+use Rattle.tape_run.specs.{declared.met.Met.Met, declared.passing.Phase.Phase, SurveyGlance.left_by}
+use Rattle.tape_run.specs.declared.survey.course.LabelOrder.{LabelOrder}
+use Rattle.tape_run.specs.declared.passing.Phase.TheVariants.{Trailer, Trailers, Next, Over}
 use Rattle.tape_run.specs.declared.survey.course.LabelOrder.TheVariants.{Leaves}
 use Rattle.tape_run.specs.Passing.{volume_with, header_with, second_with}
-use Rattle.tape_run.specs.SurveyGlance.{left_by}
 use Rattle.tape_run.specs.SurveyLaws.{IsSectionInOrder, IsBegun, IsVolumeInOrder, end_marks}
 use Rattle.tape_run.proofs.SectionsMet.{map_push}
 

@@ -1,21 +1,19 @@
 -- The texts of a survey, image by image and file by file.
-use Rattle.std.proofs.Common.{◌≡◌, inr, ℕ, zero, suc, ◌+◌, ◌-◌, ◌<◌, ◌≤◌, Bool, List}
-use Rattle.std.proofs.Common.{[], ◌∷◌, ◌++◌, length, take, drop, get_or, slice_get, Option, Some}
-use Rattle.std.proofs.Common.{refl, sym, ap, subst, ◌∙◌, arith, append_assoc, append-nil, map}
-use Rattle.std.proofs.Common.{flat_map}
-use Rattle.std.proofs.lemmas.List.{get_or-map, at_drop_more, at_drop_all}
-use Rattle.std.specs.Io.KnownBytes.{Appends}
+use Rattle.std.proofs.Common.{◌≡◌, inr, ℕ, zero, suc, ◌+◌, ◌-◌, ◌<◌, Bool, List, [], ◌∷◌, ◌++◌}
+use Rattle.std.proofs.Common.{length, take, drop, get_or, slice_get, Option, Some, refl, sym, ap}
+use Rattle.std.proofs.Common.{subst, ◌∙◌, arith, append_assoc, append-nil, map, flat_map}
+use Rattle.std.proofs.lemmas.List.{get_or-map, at_drop_more}
 use Rattle.std.proofs.lemmas.Grind.{flat_map-append}
-use Rattle.tape_run.specs.declared.{section.SectionKey.SectionKey, survey.Wording.Wording}
-use Rattle.tape_run.specs.declared.{survey.tally.Tally.Tally, survey.view.ImageSurvey.ImageSurvey}
-use Rattle.tape_run.specs.{Lacks.SetFiles, Reeling.Mounting, SurveyCopies.Held}
-use Rattle.tape_run.specs.SurveyCopies.{disputed_on}
-use Rattle.tape_run.specs.SurveySets.{is_all}
-use Rattle.tape_image.specs.Written.{AppendsFront}
+use Rattle.std.specs.Io.KnownBytes.{Appends}
+use Rattle.tape_run.specs.{declared.section.SectionKey.SectionKey, declared.survey.Wording.Wording}
+use Rattle.tape_run.specs.{declared.survey.tally.Tally.Tally, Lacks.SetFiles, Reeling.Mounting}
+use Rattle.tape_run.specs.{declared.survey.view.ImageSurvey.ImageSurvey, SurveySets.is_all}
+use Rattle.tape_run.specs.SurveyCopies.{Held, disputed_on}
 use Rattle.tape_run.specs.Survey.{image_texts, survey_text, Surveys, SurveysInPart}
 use Rattle.tape_run.specs.SurveyWording.{image_text, file_text, file_texts, set_text, set_texts}
 use Rattle.tape_run.specs.SurveyRead.{Found, nothing_found, IsViewed, AreViewed}
 use Rattle.tape_run.specs.SurveyTally.{with_state, state_at, tally_from}
+use Rattle.tape_image.specs.Written.{AppendsFront}
 use Rattle.tape_run.proofs.{Listing.take_get, SurveyConflicts.conflicts_are_real}
 use Rattle.tape_run.proofs.{SurveyDisputes.disputes_are_told, SurveySound.all_is_sound}
 
@@ -43,12 +41,6 @@ text_added y d set_id old new goal before greatest within put was =
     ∙ append_assoc old here (file_texts y d set_id (before + 1 + 1) (greatest - (before + 1))) ∙ ap
     (λ n. old ++ (here ++ file_texts y d set_id (before + 1 + 1) n)) fewer ∙ ap (λ ls. old ++ ls)
     (sym (texts_behind y d set_id (before + 1) _ some)) ∙ was
-
--- and if no file is left
-pub texts_all : (y : Wording) (d : Found) (set_id new goal : List ℕ) (file left : ℕ) → left ≡ 0
-    → new ++ file_texts y d set_id file left ≡ goal → new ≡ goal
-texts_all y d set_id new goal file left none was =
-    sym (append-nil new) ∙ ap (λ n. new ++ file_texts y d set_id file n) (sym none) ∙ was
 
 -- the text of the file at an index was added
 pub flat_more : {X Y : Type 0} (f : X → List Y) (xs : List X) (old new : List Y) (i : ℕ) (x : X)
@@ -109,19 +101,6 @@ image_counted held sights old new goal sight other i key there seen on is was =
     ∙ ap (λ (k : Option SectionKey). tally_from held
     (with_state old (state_at (get_or sights i other) k)) (i + 1) rest) on
     ∙ sym (at_drop_more (tally_from held old i) sights i other there) ∙ was
-
--- no image is left
-pub images_all : (y : Wording) (held : List Held) (names : List (List ℕ))
-    (sights : List (Option ImageSurvey)) (new goal : List ℕ) (i : ℕ) → length names ≤ i
-    → new ++ image_texts y held i (drop i names) (drop i sights) ≡ goal → new ≡ goal
-images_all y held names sights new goal i none was =
-    sym (append-nil new)
-    ∙ sym (at_drop_all (λ ns. new ++ image_texts y held i ns (drop i sights)) names i none) ∙ was
-
-pub all_counted : (held : List Held) (sights : List (Option ImageSurvey)) (t goal : Tally) (i : ℕ)
-    → length sights ≤ i → tally_from held t i (drop i sights) ≡ goal → t ≡ goal
-all_counted held sights t goal i none was =
-    sym (at_drop_all (tally_from held t i) sights i none) ∙ was
 
 -- one more image was opened and read
 pub viewed_more : {L R : Type 0} (gives : Mounting L R) (remaining : R → Option (List ℕ))

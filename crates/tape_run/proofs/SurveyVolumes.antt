@@ -1,26 +1,24 @@
 -- If a summary says that a volume ended, the items are a volume.
 use Rattle.std.proofs.Common.{◌≡◌, ℕ, ◌+◌, Bool, true, false, List, [], ◌∷◌, ◌++◌, Result, Ok, Err}
 use Rattle.std.proofs.Common.{refl, sym, ap, subst, ◌∙◌, append_assoc, append-nil, arith, ◌≢◌, map}
-use Rattle.std.proofs.Common.{flat_map}
-use Rattle.std.proofs.lemmas.Bool.Decides.{nat_tests}
+use Rattle.std.proofs.{Common.flat_map, lemmas.Bool.Decides.nat_tests}
 use Rattle.tape_image.specs.Tape.{TapeItem, block, bad, mark}
-use Rattle.tape_label.specs.declared.{label.LabelFault.LabelFault, values.Trail1.Trail1}
+use Rattle.tape_label.specs.{declared.label.LabelFault.LabelFault, declared.values.Trail1.Trail1}
 use Rattle.tape_label.specs.{Kinds.kind_at, Trail1.IsTrail1, VolumeLabels.is_volume_label}
 use Rattle.tape_label.specs.Reading.{vol1_at, head1_at, trail1_at}
 use Rattle.tape_label.proofs.First.{trail1_found}
-use Rattle.tape_run.specs.declared.survey.course.LabelOrder.{LabelOrder}
-use Rattle.tape_run.specs.declared.survey.glance.ImageSummary.{ImageSummary}
-use Rattle.tape_run.specs.declared.{met.Met.Met, passing.Phase.Phase}
 use Rattle.tape_run.specs.declared.passing.Phase.TheVariants.{Volume, Labels, Second, Headers, Data}
+use Rattle.tape_run.specs.{declared.survey.course.LabelOrder.LabelOrder, declared.met.Met.Met}
+use Rattle.tape_run.specs.declared.survey.glance.ImageSummary.{ImageSummary}
+use Rattle.tape_run.specs.declared.passing.Phase.{Phase}
 use Rattle.tape_run.specs.declared.passing.Phase.TheVariants.{Trailer, Trailers, Next, Over}
 use Rattle.tape_run.specs.declared.survey.course.LabelOrder.TheVariants.{Follows, Blank, Ended}
 use Rattle.tape_run.specs.Passing.{step, volume_with, header_with, told_with, closes}
 use Rattle.tape_run.specs.SurveyGlance.{blank_glance, look_to, look_all, left_by, course_with}
-use Rattle.tape_run.proofs.{ShownSections.told_if, SectionsMet.map_push}
 use Rattle.tape_run.specs.SurveyLaws.{IsVolumeInOrder, EndedIsVolume}
 use Rattle.tape_run.proofs.SurveyStands.{Heads, Fills, Closes, Follow, Marked, At, all_more}
 use Rattle.tape_run.proofs.SurveyStands.{joined_push, one_mark, first_label, head_read, label_read}
-use Rattle.tape_run.proofs.SurveyStands.{second_read}
+use Rattle.tape_run.proofs.{ShownSections.told_if, SectionsMet.map_push, SurveyStands.second_read}
 
 -- the same labels, followed by other items
 heads_then : (items : List TapeItem) (met met2 : Met) (behind more : List TapeItem)

@@ -1,18 +1,15 @@
 -- Images that were read one after another.
-use Rattle.std.proofs.Common.{◌≡◌, Bool, ℕ, ◌+◌, List, [], ◌∷◌, ◌++◌}
-use Rattle.std.proofs.Common.{length, map, Option, Some, None, IfSome, refl, sym}
-use Rattle.std.proofs.Common.{ap, subst, ◌∙◌, arith, append_assoc, append-nil, true, false}
+use Rattle.std.proofs.Common.{◌≡◌, Bool, ℕ, ◌+◌, List, [], ◌∷◌, ◌++◌, length, map, Option, Some}
+use Rattle.std.proofs.Common.{None, IfSome, refl, sym, ap, subst, ◌∙◌, arith, append_assoc}
+use Rattle.std.proofs.{Common.append-nil, Common.true, Common.false, KnownBytes.Appends-trans}
 use Rattle.std.specs.Io.KnownBytes.{Appends}
-use Rattle.std.proofs.KnownBytes.{Appends-trans}
 use Rattle.tape_image.specs.Written.{AppendsFront}
 use Rattle.tape_core.specs.State.{State}
-use Rattle.tape_run.specs.Given.{is_device}
-use Rattle.tape_run.specs.Seen.{Seen, IsKept}
-use Rattle.tape_run.proofs.Sessions.{kept_save, kept_restart}
-use Rattle.tape_run.specs.Steps.{Reeled}
+use Rattle.tape_run.specs.Reeling.{counts_differ, IsNoted, IsKeptFor, Turn, Opened, answer_of}
+use Rattle.tape_run.specs.{Given.is_device, Seen.Seen, Seen.IsKept, Steps.Reeled}
 use Rattle.tape_run.specs.ReelLine.{reel_line, reel_lines}
-use Rattle.tape_run.specs.Reeling.{counts_differ, IsNoted, IsKeptFor}
-use Rattle.tape_run.specs.Reeling.{Turn, Opened, answer_of, Follows, Mounting, AreMounted}
+use Rattle.tape_run.specs.Reeling.{Follows, Mounting, AreMounted}
+use Rattle.tape_run.proofs.Sessions.{kept_save, kept_restart}
 
 -- ---- lines
 

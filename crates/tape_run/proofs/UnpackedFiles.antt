@@ -1,6 +1,6 @@
 -- The files on the images of a source, image by image and file by file.
 use Rattle.std.proofs.Common.{◌≡◌, ℕ, zero, suc, ◌+◌, ◌-◌, ◌<◌, List, [], ◌∷◌, ◌++◌, length, take}
-use Rattle.std.proofs.Common.{slice_get, Option, Some, refl, sym, ap, subst, ◌∙◌, arith}
+use Rattle.std.proofs.Common.{slice_get, Option, Some, sym, ap, subst, ◌∙◌, arith}
 use Rattle.std.proofs.Common.{append_assoc, append-nil, length-append, option_map}
 use Rattle.std.proofs.lemmas.Grind.{flat_map-append}
 use Rattle.tape_run.specs.declared.{survey.view.ImageSurvey.ImageSurvey, unpack.SetFile.SetFile}
@@ -14,13 +14,6 @@ pub record ViewedSoFar {L R : Type 0} (gives : Mounting L R) (remaining : R → 
     (shelf left : L) (number : ℕ) (d : Found) (sights : List (Option ImageSurvey)) : Type 0 where
   pub counted : length sights ≡ number
   pub viewed : AreViewed gives remaining shelf 0 sights nothing_found left d
-
-pub views_none : {L R : Type 0} (gives : Mounting L R) (remaining : R → Option (List ℕ))
-    (shelf : L) (d : Found) (sights : List (Option ImageSurvey)) → d ≡ nothing_found → sights ≡ []
-    → ViewedSoFar gives remaining shelf shelf 0 d sights
-views_none gives remaining shelf d sights none empty =
-    subst (λ l. ViewedSoFar gives remaining shelf shelf 0 d l) (sym empty)
-    (record { counted = refl; viewed = (refl, none) })
 
 pub views_more : {L R : Type 0} (gives : Mounting L R) (remaining : R → Option (List ℕ))
     (shelf left next : L) (number : ℕ) (mid d : Found) (image : Option R)
@@ -60,12 +53,6 @@ file_added d set_id old new goal before greatest within put was =
     ∙ append_assoc old here (files_from d set_id (before + 1 + 1) (greatest - (before + 1))) ∙ ap
     (λ n. old ++ (here ++ files_from d set_id (before + 1 + 1) n)) fewer ∙ ap (λ ls. old ++ ls)
     (sym (files_behind d set_id (before + 1) _ some)) ∙ was
-
--- and none is left
-pub files_all : (d : Found) (set_id : List ℕ) (new goal : List SetFile) (file left : ℕ) → left ≡ 0
-    → new ++ files_from d set_id file left ≡ goal → new ≡ goal
-files_all d set_id new goal file left none was =
-    sym (append-nil new) ∙ ap (λ n. new ++ files_from d set_id file n) (sym none) ∙ was
 
 -- the files of the set at an index were added
 pub set_added : (d : Found) (sets : List SetFiles) (old new : List SetFile) (i : ℕ) (x : SetFiles)

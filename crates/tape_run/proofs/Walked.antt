@@ -1,25 +1,16 @@
 -- Sinks that were walked.
-use Rattle.std.proofs.Common.{◌≡◌, ℕ, List, Option, Result, Ok, Err, IfErr, refl, subst, ◌∙◌}
-use Rattle.tape_blocks.specs.Block.{Portion}
-use Rattle.tape_blocks.specs.declared.parts.Part.{Part}
-use Rattle.tape_core.proofs.Crashes.{only_same}
-use Rattle.tape_core.specs.Walks.{Counts, HasGiven}
-use Rattle.tape_core.specs.declared.sink.{PartSink.Ghosts, SinkFault.SinkFault}
-use Rattle.tape_run.specs.{Crash.BringsNoMore, Steps.IsRefused}
-use Rattle.tape_run.proofs.{Causes.refused_at, Crashes.adds_then}
+use Rattle.std.proofs.Common.{◌≡◌, ℕ, List, Option, Result, Ok, subst, ◌∙◌}
+use Rattle.tape_blocks.specs.{Block.Portion, declared.parts.Part.Part}
+use Rattle.tape_core.specs.{Walks.Counts, Walks.HasGiven, declared.sink.PartSink.Ghosts}
+use Rattle.tape_core.specs.declared.sink.SinkFault.{SinkFault}
+use Rattle.tape_run.specs.Crash.{BringsNoMore}
+use Rattle.tape_run.proofs.Crashes.{adds_then}
 
 -- The sink's contents are unchanged, a crash leaves nothing new, and no call was refused.
 pub record Walked {S : Type 0} (g : Ghosts S) (old new : S) : Type 0 where
   pub calm : g.refusals new ≡ g.refusals old
   pub kept : (parts : List Portion) → g.holds old parts → g.holds new parts
   pub crash : BringsNoMore g old new
-
-pub walked_same : {S : Type 0} (g : Ghosts S) (s : S) → Walked g s s
-walked_same g s = record {
-  calm = refl;
-  kept = λ parts was. was;
-  crash = λ parts was. only_same _ _;
-}
 
 -- whatever the next call returned, a crash leaves nothing new
 pub walk_crash : {S : Type 0} {g : Ghosts S} {ahead : S → List Portion → Type 0}
@@ -44,16 +35,3 @@ walk_on {S} {g} old mid new result given is w h = record {
   kept = λ parts was. h.kept parts (w.kept parts was);
   crash = walk_crash old mid new result w h;
 }
-
--- the next call was refused
-pub walk_refused : {S : Type 0} {g : Ghosts S} {ahead : S → List Portion → Type 0}
-    {left : S → ℕ} {refuses : S → SinkFault → S → Type 0} (old mid new : S)
-    (result : Result (Option Part) SinkFault)
-    (fault : SinkFault) → result ≡ Err fault
-    → Walked g old mid
-    → HasGiven g.holds g.weighs g.refusals g.crashes ahead left refuses mid result new
-    → IsRefused g.refusals refuses old fault new
-walk_refused {S} {g} {ahead} {left} {refuses} old mid new result fault is w h =
-    refused_at g.refusals refuses old mid new fault w.calm
-    (subst (λ r. IfErr r (λ f. refuses mid f new)) is h.why)
-    (subst (λ r. Counts r (g.refusals mid) (g.refusals new)) is h.counts)

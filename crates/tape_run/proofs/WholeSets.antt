@@ -3,24 +3,22 @@
 use Rattle.std.proofs.Common.{max, ◌≡◌, ℕ, zero, suc, ◌+◌, ◌≤◌, Bool, true, false, List, [], ◌∷◌}
 use Rattle.std.proofs.Common.{◌++◌, length, Option, Some, None, refl, sym, ap, subst, ◌∙◌, arith}
 use Rattle.std.proofs.Common.{map, if◌then◌else◌, IsSome, slice_get, option_and_then, ◌-◌}
+use Rattle.std.proofs.lemmas.Option.{slice_get_within}
 use Rattle.std.specs.{List.AllByRecursion, Str.bytes_eq}
 use Rattle.tape_set.specs.Layout.{FileSet, Section, Placed, Volume, item_of, nth, sections}
 use Rattle.tape_set.specs.Layout.{section_of, on, entries_on, items, ends_file, file_of}
 use Rattle.tape_set.specs.Lawful.{IsLawful, IsSection, IsFile, Ends}
 use Rattle.tape_set.specs.Laws.{StandsIn}
 use Rattle.tape_set.proofs.Everywhere.{every, every_at, every_stands, nth_found, nth_there}
-use Rattle.tape_set.proofs.Everywhere.{is_there}
-use Rattle.tape_set.proofs.{Forms.all_four_digits, AllVolumes.has_start}
+use Rattle.tape_set.proofs.{Everywhere.is_there, Forms.all_four_digits, AllVolumes.has_start}
 use Rattle.tape_set.proofs.Numbering.{section_stands, section_found}
 use Rattle.tape_set.proofs.Volumes.{IsOn, sections_on_are, over_volumes}
-use Rattle.tape_run.specs.declared.section.{SectionKey.SectionKey, Lack.Lack}
-use Rattle.tape_run.specs.Passing.{Told, met_in}
-use Rattle.tape_run.specs.Noted.{same_key, better, noted, noted_all}
-use Rattle.std.proofs.lemmas.Option.{slice_get_within}
 use Rattle.tape_run.specs.Lacks.{IsGoodAt, key_at, SetFiles, with_file, sets_from, lack_of}
-use Rattle.tape_run.specs.Lacks.{one_lack, file_lacks, set_lacks, lacks, is_none_lacking, found_all}
 use Rattle.tape_run.specs.WholeSet.{key_in, behind_copies, WholeSetIsGood, WholeSetLacksNothing}
-use Rattle.tape_run.specs.WholeSet.{WholeSetIsFound}
+use Rattle.tape_run.specs.{declared.section.SectionKey.SectionKey, declared.section.Lack.Lack}
+use Rattle.tape_run.specs.{Passing.Told, Passing.met_in, WholeSet.WholeSetIsFound}
+use Rattle.tape_run.specs.Noted.{same_key, better, noted, noted_all}
+use Rattle.tape_run.specs.Lacks.{one_lack, file_lacks, set_lacks, lacks, is_none_lacking, found_all}
 use Rattle.tape_run.proofs.NothingLacks.{KindIs, noted_all_kind, GoodAs, FileGood, whole_file}
 use Rattle.tape_run.proofs.StayingGood.{stays_good}
 use Rattle.tape_run.proofs.WholeVolumes.{AreGood, some_of, volume_tells, whole_volume}

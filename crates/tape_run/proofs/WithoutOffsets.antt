@@ -3,31 +3,22 @@ use Rattle.std.proofs.Common.{◌≡◌, ◌≤◌, ℕ, ◌+◌, List, [], ◌�
 use Rattle.std.proofs.Common.{IfSome, IfErr, OnOk, OnErr, Result, Ok, Err, refl, sym, ap, subst}
 use Rattle.std.proofs.Common.{◌∙◌, append_assoc, append-nil, arith}
 use Rattle.std.proofs.lemmas.List.{map-append, length-map}
-use Rattle.std.specs.Prelude.{false}
-use Rattle.std.specs.Io.KnownBytes.{Appends, Keeps}
-use Rattle.tape_image.specs.declared.item.ImageCause.{ImageCause}
-use Rattle.tape_image.specs.declared.item.ImageCause.TheVariants.{OutOfMemory}
+use Rattle.std.specs.{Prelude.false, Io.KnownBytes.Appends, Io.KnownBytes.Keeps}
+use Rattle.tape_image.specs.{declared.item.ImageCause.ImageCause, Tape.TapeItem, Reader.IfKnown}
+use Rattle.tape_image.specs.{declared.item.ImageCause.TheVariants.OutOfMemory, Written.AppendsFront}
 use Rattle.tape_image.specs.declared.item.ImageFault.{ImageFault}
-use Rattle.tape_image.specs.Tape.{TapeItem}
 use Rattle.tape_image.specs.Begins.{image_limit, ends, faults, Walks}
-use Rattle.tape_image.specs.Reader.{IfKnown}
-use Rattle.tape_image.specs.Written.{AppendsFront}
-use Rattle.tape_image.proofs.Existence.{Begins-some}
-use Rattle.tape_image.proofs.Walks.{Walks-begins, TakesEnd-behind}
-use Rattle.tape_image.proofs.Walks.{TakesFault-begins, IfKnown-map, known_all}
-use Rattle.tape_run.specs.declared.fault.ListFault.{ListFault}
-use Rattle.tape_run.specs.declared.fault.ListFault.TheVariants.{Image, WriteFailed}
-use Rattle.tape_run.specs.ListLine.{line_of}
-use Rattle.tape_run.specs.Listing.{lines_from, end_line, last_line, listing_of}
-use Rattle.tape_run.specs.Listed as listed
-use Rattle.tape_run.specs.Listed.{ListsToEnd, ListsToFault, ListsInPart, StopsWriting}
-use Rattle.tape_run.specs.Listed.{AppendsInto, FitsCause, FitsFault}
+use Rattle.tape_image.proofs.Walks.{Walks-begins, TakesEnd-behind, TakesFault-begins, IfKnown-map}
+use Rattle.tape_image.proofs.{Existence.Begins-some, Walks.known_all}
+use Rattle.tape_run.specs.Listed.{ListsToEnd, ListsToFault, ListsInPart, StopsWriting, AppendsInto}
 use Rattle.tape_run.specs.Placed.{PlacedItem, Places, placed_lines, PlacesToEnd, PlacesToFault}
+use Rattle.tape_run.specs.{declared.fault.ListFault.ListFault, ListLine.line_of}
+use Rattle.tape_run.specs.declared.fault.ListFault.TheVariants.{Image, WriteFailed}
+use Rattle.tape_run.specs.Listing.{lines_from, end_line, last_line, listing_of}
+use Rattle.tape_run.specs.{Listed.FitsCause, Listed.FitsFault, PlacedExamples.items_of}
 use Rattle.tape_run.specs.Placed.{StopsPlacing, at_item, at_end, at_fault, FitsPlaces}
-use Rattle.tape_run.specs.PlacedExamples.{items_of}
-use Rattle.tape_run.proofs.Fitting.{no_front}
-use Rattle.tape_run.proofs.ListLines.{lines_from-append}
-use Rattle.tape_run.proofs.ListExamples.{into_front}
+use Rattle.tape_run.specs.Listed as listed
+use Rattle.tape_run.proofs.{Fitting.no_front, ListLines.lines_from-append, ListExamples.into_front}
 use Rattle.tape_run.proofs.ListedSoFar.{one_line}
 use Rattle.tape_run.proofs.PlacedExamples.{placed_first, ended, faulted}
 

@@ -1,28 +1,27 @@
 -- The example set if a reader fails, if a part is refused, and if the session is resumed on another
 -- day.
 use Rattle.std.proofs.Common.{◌≡◌, ◌≤◌, ℕ, zero, suc, ◌+◌, List, [], ◌∷◌, true, false, refl, sym}
-use Rattle.std.proofs.Common.{ap, ◌∙◌, subst, inl, lit≤, arith, take, Option, Some, length}
-use Rattle.std.proofs.Common.{Bool, replicate, min}
+use Rattle.std.proofs.Common.{ap, ◌∙◌, subst, inl, lit≤, arith, take, Option, Some, length, Bool}
+use Rattle.std.proofs.{Common.replicate, Common.min, lemmas.List.take_all}
+use Rattle.std.proofs.lemmas.Option.{slice_get_within}
 use Rattle.std.specs.Prelude.{⊤}
-use Rattle.std.proofs.lemmas.{List.take_all, Option.slice_get_within}
 use Rattle.tape_set.proofs.Worked as w
 use Rattle.tape_set.proofs.{Worked.made_form, WorkedFile.fit_of}
 use Rattle.tape_set.proofs.WorkedSpan as sp
-use Rattle.tape_set.specs.declared.position.{Position.Position, Position.TheVariants.Finished}
-use Rattle.tape_set.specs.{Before.before, Layout.Section, Layout.section_of, Lawful.TellsForm}
-use Rattle.tape_set.specs.{Position.start, Position.at_part, Position.want_at, Reach.far}
-use Rattle.tape_core.specs.Stands.{Stands}
-use Rattle.tape_core.specs.declared.sink.SinkFault.{SinkFault}
-use Rattle.tape_run.specs.declared.script.{Step.Step, Step.TheVariants.Reel}
-use Rattle.tape_run.specs.declared.fault.RunFault.TheVariants.{Sink}
-use Rattle.tape_run.specs.Mount.{MountEvent, IsMountOf, reads, cut}
+use Rattle.tape_set.specs.{declared.position.Position.Position, Before.before, Lawful.TellsForm}
+use Rattle.tape_set.specs.{declared.position.Position.TheVariants.Finished, Reach.far}
+use Rattle.tape_set.specs.Layout.{Section, section_of}
+use Rattle.tape_set.specs.Position.{start, at_part, want_at}
+use Rattle.tape_core.specs.{Stands.Stands, declared.sink.SinkFault.SinkFault}
+use Rattle.tape_run.specs.{declared.script.Step.Step, declared.script.Step.TheVariants.Reel}
+use Rattle.tape_run.specs.{declared.fault.RunFault.TheVariants.Sink, CrashRuns.IsResumed}
+use Rattle.tape_run.specs.{Mount.MountEvent, Mount.IsMountOf, Mount.reads, Mount.cut, Back.reels_of}
 use Rattle.tape_run.specs.History.{Course, course, course_of, IsHistory}
 use Rattle.tape_run.specs.Given.{AreGivenBy, failed_of, counted_up}
 use Rattle.tape_run.specs.Headline.{begins, HasRun, HasStopped, StopsStep}
-use Rattle.tape_run.specs.{CrashRuns.IsResumed, Seen.Seen, Seen.IsSession, Back.reels_of}
+use Rattle.tape_run.specs.Seen.{Seen, IsSession}
 use Rattle.tape_run.specs.WorkedHistory.{worked_set, section_1, section_2, first, reel_1, reading}
-use Rattle.tape_run.specs.WorkedDays.{DaysAreWorked, IsWhole, once, twice, two_reels}
-use Rattle.tape_run.specs.WorkedDays.{behind_one}
+use Rattle.tape_run.specs.WorkedDays.{DaysAreWorked, IsWhole, once, twice, two_reels, behind_one}
 use Rattle.tape_run.proofs.{Back.none_of, CrashRuns.goes_on, Fronts.fronts_are_mounts}
 use Rattle.tape_run.proofs.{WorkedHistory.is_lawful, WorkedReels.whole_1, WorkedReels.whole_2}
 

@@ -6,13 +6,12 @@ use Rattle.tape_set.proofs.Worked as w
 use Rattle.tape_set.proofs.{Worked.made_section, Worked.made_form, WorkedFile.fit_of}
 use Rattle.tape_set.proofs.WorkedSpan as sp
 use Rattle.tape_set.specs.{Layout.FileSet, Lawful.IsLawful, Position.want_at}
-use Rattle.tape_run.specs.{History.Course, History.IsHistory, Given.failed_of}
-use Rattle.tape_run.specs.{Seen.Seen, Headline.IsRead}
-use Rattle.tape_run.proofs.Back.{none_failed, none_of}
-use Rattle.tape_run.proofs.WorkedReels.{whole_1, whole_2, cut_1, bad_0, bad_1, short_2, blank}
-use Rattle.tape_run.proofs.WorkedReels.{other}
 use Rattle.tape_run.specs.WorkedHistory.{worked_set, worked_steps, worked_reels, worked_history}
+use Rattle.tape_run.specs.{History.Course, History.IsHistory, Given.failed_of, Seen.Seen}
+use Rattle.tape_run.specs.Headline.{IsRead}
 use Rattle.tape_run.specs.WorkedHistory.{HistoryIsWorked, first, middle, last}
+use Rattle.tape_run.proofs.WorkedReels.{whole_1, whole_2, cut_1, bad_0, bad_1, short_2, blank}
+use Rattle.tape_run.proofs.{Back.none_failed, Back.none_of, WorkedReels.other}
 
 -- ---- the set is lawful
 

@@ -6,32 +6,28 @@ use Rattle.tape_image.specs.declared.item.ImageCause.TheVariants.{Truncated, Dev
 use Rattle.tape_image.specs.declared.item.ImageCause.TheVariants.{OutOfMemory as NoMemory}
 use Rattle.tape_image.specs.{Tape.TapeItem, Tape.block, Tape.mark, Begins.Stop, Begins.Begins}
 use Rattle.tape_blocks.specs.Block.{Portion}
-use Rattle.tape_set.specs.declared.position.Position.{Position}
+use Rattle.tape_set.specs.{declared.position.Position.Position, Lawful.IsLawful, Before.before}
 use Rattle.tape_set.specs.Position.{start, awaiting, at_part, next_block}
 use Rattle.tape_set.specs.Layout.{FileSet, Volume, Section, items, entries, file_of}
-use Rattle.tape_set.specs.{Lawful.IsLawful, Before.before, Reach.passes}
-use Rattle.tape_set.specs.Reading.{Reading, IsReadingOf, as_read}
-use Rattle.tape_core.specs.declared.sink.SinkFault.{SinkFault}
-use Rattle.tape_core.specs.{Crash.Crashes, Place.IsPlaced, Place.place_of, Point.Point}
-use Rattle.tape_core.specs.{Stands.Stands, Stands.weight_of, Table.saved, Table.reader_of}
-use Rattle.tape_core.specs.Weight.{IsFront}
-use Rattle.tape_run.specs.declared.{fault.RunFault.RunFault, script.Step.Step}
+use Rattle.tape_set.specs.{Reach.passes, Reading.Reading, Reading.IsReadingOf, Reading.as_read}
+use Rattle.tape_core.specs.{declared.sink.SinkFault.SinkFault, Crash.Crashes, Point.Point}
+use Rattle.tape_core.specs.{Place.IsPlaced, Place.place_of, Stands.Stands, Stands.weight_of}
+use Rattle.tape_core.specs.{Table.saved, Table.reader_of, Weight.IsFront}
 use Rattle.tape_run.specs.declared.fault.RunFault.TheVariants.{Sink, NoSuchPoint, TooFewReels}
+use Rattle.tape_run.specs.Given.{is_device, IsGiven, AreGivenBy, counted, counted_up, failed_of}
+use Rattle.tape_run.specs.Mount.{MountEvent, reads, foreign_reel, saves, restarts, IsMount}
+use Rattle.tape_run.specs.Steps.{Reeled, ReelFails, SaveFails, RestartFails, WentBack, Saved}
+use Rattle.tape_run.specs.{declared.fault.RunFault.RunFault, declared.script.Step.Step}
 use Rattle.tape_run.specs.declared.fault.RunFault.TheVariants.{OutOfMemory, OtherFile}
 use Rattle.tape_run.specs.declared.script.Step.TheVariants.{Reel, Save, Restart}
-use Rattle.tape_run.specs.{Back.reels_of, Back.AreVolumes, CasesOfSaves.brings}
-use Rattle.tape_run.specs.{CasesOfSaves.comes_now, Crash.IsOf, Crash.LastAlone, Crash.StoodAt}
-use Rattle.tape_run.specs.Runs.{Runs, RunsUpTo, Fails}
-use Rattle.tape_run.specs.Given.{is_device, IsGiven, AreGivenBy, counted, counted_up, failed_of}
-use Rattle.tape_run.specs.Given.{written}
+use Rattle.tape_run.specs.{Back.reels_of, Back.AreVolumes, Runs.Runs, Runs.RunsUpTo, Runs.Fails}
+use Rattle.tape_run.specs.{CasesOfSaves.brings, CasesOfSaves.comes_now, Given.written}
+use Rattle.tape_run.specs.{Crash.IsOf, Crash.LastAlone, Crash.StoodAt, Steps.StoppedBy}
 use Rattle.tape_run.specs.Headline.{Ran, HasRun, IsStart, IsRead, begins}
 use Rattle.tape_run.specs.History.{Course, IsHistory, course, course_of}
 use Rattle.tape_run.specs.CrashRuns.{IsPlaceOf, ComesBack, IsResumed, AreHistories}
-use Rattle.tape_run.specs.Mount.{MountEvent, reads, foreign_reel, saves, restarts, IsMount}
 use Rattle.tape_run.specs.Mount.{IsMountOf, after_mount, cut}
 use Rattle.tape_run.specs.Seen.{Seen, AreNotes, IsSession, IsKept}
-use Rattle.tape_run.specs.Steps.{Reeled, ReelFails, SaveFails, RestartFails, WentBack, Saved}
-use Rattle.tape_run.specs.Steps.{StoppedBy}
 use Rattle.tape_run.specs.WorkedHistory.{worked_set, vol1, hdr1, reading}
 
 -- ---- what may be mounted

@@ -3,28 +3,27 @@
 use Rattle.std.specs.Prelude.{◌≡◌, ◌<◌, ◌≤◌, ◌+◌, ℕ, zero, suc, Bool, true, false, List, [], ◌∷◌}
 use Rattle.std.specs.Prelude.{◌++◌, length, map, Option, Some, None, codes}
 use Rattle.std.specs.{List.AllByRecursion, List.flat_map, Io.KnownBytes.Appends}
-use Rattle.tape_image.specs.declared.item.{Ending.Ending, ImageFault.ImageFault}
-use Rattle.tape_image.specs.declared.item.Ending.TheVariants as endings
+use Rattle.tape_image.specs.{declared.item.Ending.Ending, declared.item.ImageFault.ImageFault}
 use Rattle.tape_image.specs.{Step.TakesEnd, Step.TakesFault, Tape.TapeItem, Tape.block, Tape.mark}
 use Rattle.tape_image.specs.{Begins.Begins, Begins.ends, Reader.IfKnown}
 use Rattle.tape_image.specs.declared.item.ImageCause.TheVariants.{Truncated, Device}
+use Rattle.tape_image.specs.declared.item.Ending.TheVariants as endings
 use Rattle.tape_label.specs.declared.values.Kind.TheVariants as kinds
 use Rattle.tape_label.specs.{Kinds.HasKind, Head1.IsHead1, Trail1.IsTrail1, Vol1.IsVol1}
 use Rattle.tape_set.specs.Layout.{FileSet, Volume, Section, Placed, items, sections}
+use Rattle.tape_run.specs.Checked.{Reel, IsReel, AddsImage, AddsImages, IsReport, ReportsInPart}
+use Rattle.tape_run.specs.Lacks.{IsFirstLack, IsFoundWhole, IsGoodAt, found_all, key_at, good_end}
 use Rattle.tape_run.specs.declared.fault.EngineFault.TheVariants.{Run, WriteFailed}
 use Rattle.tape_run.specs.declared.fault.RunFault.TheVariants.{NoSuchPoint, OutOfMemory}
-use Rattle.tape_run.specs.declared.section.{Entry.Entry, ImageLine.ImageLine, Lack.Lack}
-use Rattle.tape_run.specs.declared.section.{SectionKey.SectionKey, SectionState.SectionState}
+use Rattle.tape_run.specs.{declared.section.Entry.Entry, declared.section.ImageLine.ImageLine}
+use Rattle.tape_run.specs.{declared.section.SectionKey.SectionKey, Added.Adds, Added.StopsBehind}
+use Rattle.tape_run.specs.{declared.section.SectionState.SectionState, Cases.on_one_volume}
 use Rattle.tape_run.specs.declared.section.ImageStop.TheVariants.{Marked, Physical, Fault}
-use Rattle.tape_run.specs.declared.section.SectionState.TheVariants.{Good, Bad, Count, Cut}
-use Rattle.tape_run.specs.{Added.Adds, Added.StopsBehind, Cases.on_one_volume, Passing.Told}
-use Rattle.tape_run.specs.{Passing.met_in, Reeling.Took, Reeling.AreMounted}
+use Rattle.tape_run.specs.{declared.section.SectionState.TheVariants.Good, Lacks.entry_at}
+use Rattle.tape_run.specs.{Passing.Told, Passing.met_in, Reeling.Took, Reeling.AreMounted}
 use Rattle.tape_run.specs.CheckLine.{image_line, image_lines, section_line, found_line}
-use Rattle.tape_run.specs.Checked.{Reel, IsReel, AddsImage, AddsImages, IsReport, ReportsInPart}
 use Rattle.tape_run.specs.Checked.{IsCheckFault, summary, summary_behind, TellsImage, Reports}
-use Rattle.tape_run.specs.Lacks.{IsFirstLack, IsFoundWhole, IsGoodAt, lacks, found_all, key_at}
-use Rattle.tape_run.specs.Lacks.{line_of, good_end, entry_at}
-use Rattle.tape_run.specs.Noted.{noted, noted_all, KeepsPlaces, GoodIsShown}
+use Rattle.tape_run.specs.Noted.{noted_all, KeepsPlaces, GoodIsShown}
 use Rattle.tape_run.specs.Shown.{Shown, BeginsVolume, HeadsSection, EndsSection}
 use Rattle.tape_run.specs.WholeReels.{AreWholeCopies, IsToldWhole, IsShownOn, IsListedGood}
 use Rattle.tape_run.specs.WholeSet.{HasEach, IsWholeCopy, IsNoDevice, key_in}
@@ -38,30 +37,10 @@ met file sect eof state = (
   record { volume = codes "ABC001"; blocks = 3; eof = eof; state = state },
 )
 
-abbrev pub lack : ℕ → ℕ → Lack
-lack file sect = record { set_id = codes "ABC001"; file = file; sect = sect }
-
 -- sections that are added to a catalogue, and sections missing from it
 pub record CasesOfCatalogues : Type 0 where
-  pub line : line_of (met 1 2 true Bad) ≡ record {
-    set_id = codes "ABC001";
-    file = 1;
-    sect = 2;
-    volume = codes "ABC001";
-    blocks = 3;
-    state = Bad;
-  }
   pub key : (set : FileSet) (x : Placed) → ((key_in set x).set_id ≡ set.set_id)
       × ((key_in set x).file ≡ x.file) × ((key_in set x).sect ≡ x.sect)
-  -- a new section goes last, a good one replaces another, and nothing replaces a good one
-  pub new_one : noted (met 1 1 false Good ∷ []) (met 1 2 true Cut)
-      ≡ met 1 1 false Good ∷ met 1 2 true Cut ∷ []
-  pub better : noted (met 1 1 false Cut ∷ met 1 2 true Cut ∷ []) (met 1 1 false Good)
-      ≡ met 1 1 false Good ∷ met 1 2 true Cut ∷ []
-  pub worse : noted (met 1 1 false Good ∷ []) (met 1 1 false Cut) ≡ met 1 1 false Good ∷ []
-  pub other_file : noted (met 1 1 false Good ∷ []) (met 2 1 true Good)
-      ≡ met 1 1 false Good ∷ met 2 1 true Good ∷ []
-  pub all : noted_all [] (met 1 1 true Cut ∷ met 1 1 true Good ∷ []) ≡ met 1 1 true Good ∷ []
   -- if no section of a file is known, its first section is missing
   pub nothing_known : (id : List ℕ) (file sect : ℕ) → IsFirstLack [] id file sect → sect ≡ 1
   pub nothing_found : (id : List ℕ) (file : ℕ) → IsFoundWhole [] id file → ⊥
@@ -71,16 +50,6 @@ pub record CasesOfCatalogues : Type 0 where
   pub first_goes_on : (c : List Told) (id : List ℕ) (file : ℕ) (f : IsFoundWhole c id file)
       → 1 < f.sect → good_end (entry_at c (key_at id file 1)) ≡ Some false
   pub no_good : (key : SectionKey) → IsGoodAt [] key → ⊥
-  -- the missing sections: the one after a section that continues, one that is not good, and the
-  -- first of each file before the last file found
-  pub next_lacks : lacks (met 1 1 false Good ∷ []) ≡ lack 1 2 ∷ []
-  pub bad_lacks : lacks (met 1 1 true Bad ∷ []) ≡ lack 1 1 ∷ []
-  pub count_lacks : lacks (met 1 1 true Count ∷ []) ≡ lack 1 1 ∷ []
-  pub none_lacks : lacks (met 1 2 true Good ∷ met 1 1 false Good ∷ []) ≡ []
-  pub file_lacks : lacks (met 2 1 true Good ∷ []) ≡ lack 1 1 ∷ []
-  pub found : found_all (met 1 1 true Good ∷ []) ≡ true
-  pub not_found : found_all (met 1 1 true Cut ∷ []) ≡ false
-  pub nothing_met : found_all [] ≡ false
   -- sections keep their places
   pub sections_stay : (t : Told) → KeepsPlaces (t ∷ []) [] → ⊥
   pub not_moved : KeepsPlaces (met 1 1 true Good ∷ []) (met 1 2 true Good ∷ met 1 1 true Good ∷ [])

@@ -1,35 +1,33 @@
 -- Examples for the definitions of recovered files. They are the contract of the call `laws::cases`.
-use Rattle.std.specs.Prelude.{◌≡◌, ◌≢◌, ◌<◌, ◌≤◌, ◌⊎◌, ℕ, List, [], ◌∷◌, ◌++◌, length, map}
-use Rattle.std.specs.Prelude.{Option, Some, None, Bool, true, false, ⊤, is_some}
+use Rattle.std.specs.Prelude.{◌≡◌, ◌≢◌, ◌<◌, ◌≤◌, ◌⊎◌, ℕ, List, [], ◌∷◌, ◌++◌, length, map, Option}
+use Rattle.std.specs.Prelude.{Some, None, Bool, true, false, ⊤, is_some}
 use Rattle.std.specs.Io.KnownBytes.{Appends}
-use Rattle.tape_blocks.specs.declared.parts.Form.{Form}
-use Rattle.tape_blocks.specs.{Block.Portion, Spans.join}
+use Rattle.tape_blocks.specs.{declared.parts.Form.Form, Block.Portion, Spans.join}
 use Rattle.tape_image.specs.{Reader.IfKnown, Written.AppendsFront}
-use Rattle.tape_set.specs.declared.position.{Position.TheVariants.Finished, Want.Want}
-use Rattle.tape_set.specs.Position.{want_at}
+use Rattle.tape_set.specs.{declared.position.Position.TheVariants.Finished, Position.want_at}
+use Rattle.tape_set.specs.declared.position.Want.{Want}
 use Rattle.tape_core.specs.declared.event.Answer.TheVariants.{SectionDone, Useless}
 use Rattle.tape_core.specs.declared.event.Reason.TheVariants.{BlockCount, Broken, BadItem}
 use Rattle.tape_core.specs.{Crash.lost, Place.rest_of, State.State, Weight.Rose, Point.Point}
-use Rattle.tape_core.specs.{Stands.weight_of, Table.saved}
-use Rattle.tape_core.specs.declared.sink.{PartSink.Ghosts, SinkFault.SinkFault}
+use Rattle.tape_core.specs.{Stands.weight_of, Table.saved, declared.sink.PartSink.Ghosts}
+use Rattle.tape_core.specs.declared.sink.SinkFault.{SinkFault}
 use Rattle.tape_core.specs.declared.sink.SinkFault.TheVariants.{Device, Failed}
 use Rattle.tape_core.specs.declared.sink.SinkFault.TheVariants as sink
-use Rattle.tape_run.specs.declared.fault.{EngineFault.EngineFault, RunFault.RunFault}
-use Rattle.tape_run.specs.declared.fault.EngineFault.TheVariants.{Run, WriteFailed}
 use Rattle.tape_run.specs.declared.fault.RunFault.TheVariants.{Sink, NoSuchPoint, TooFewReels}
-use Rattle.tape_run.specs.declared.fault.RunFault.TheVariants.{OutOfMemory, OtherFile}
-use Rattle.tape_run.specs.{Causes.WritingFails, Causes.EndingFails, Given.is_device}
-use Rattle.tape_run.specs.{Headline.HasRun, RecordText.output_of, ReelLine.reel_lines}
-use Rattle.tape_run.specs.{ReelLine.last_line, Reels.Reads, Seen.Seen, Seen.IsKept, Seen.seen}
-use Rattle.tape_run.specs.{Steps.Saved, Steps.Unmoved, Steps.WentBack, Stopping.IsStopped}
-use Rattle.tape_run.specs.{Stopping.NotNoted, Stopping.StopsAt, SessionState.SessionState}
-use Rattle.tape_run.specs.Extracting.{IsWritten, Ends, Extracts, Stops, TellsEnd}
-use Rattle.tape_run.specs.ExtractingNow.{IsPut, EndsNow, ExtractsNow, StopsNow}
 use Rattle.tape_run.specs.OutSinks.{HasTaken, IsText, RefusesText, TellsAlways, text_so_far}
-use Rattle.tape_run.specs.OutSinks.{with_end}
 use Rattle.tape_run.specs.Reeling.{Opened, Turn, answer_of, AreTurns, IsTurn, Follows}
 use Rattle.tape_run.specs.Reeling.{counts_differ, IsNoted, ReadsAndNotes, goes_back, IsKeptFor}
 use Rattle.tape_run.specs.Reeling.{AreFirstTurns, Took, step_behind, notes_behind, steps_of}
+use Rattle.tape_run.specs.{declared.fault.EngineFault.EngineFault, declared.fault.RunFault.RunFault}
+use Rattle.tape_run.specs.declared.fault.EngineFault.TheVariants.{Run, WriteFailed}
+use Rattle.tape_run.specs.declared.fault.RunFault.TheVariants.{OutOfMemory, OtherFile}
+use Rattle.tape_run.specs.{Causes.WritingFails, Causes.EndingFails, Given.is_device, Reels.Reads}
+use Rattle.tape_run.specs.{Headline.HasRun, RecordText.output_of, Seen.Seen, Seen.IsKept, Seen.seen}
+use Rattle.tape_run.specs.{ReelLine.reel_lines, ReelLine.last_line, SessionState.SessionState}
+use Rattle.tape_run.specs.{Steps.Saved, Steps.Unmoved, Steps.WentBack, OutSinks.with_end}
+use Rattle.tape_run.specs.Stopping.{IsStopped, NotNoted, StopsAt}
+use Rattle.tape_run.specs.Extracting.{IsWritten, Ends, Extracts, Stops, TellsEnd}
+use Rattle.tape_run.specs.ExtractingNow.{IsPut, EndsNow, ExtractsNow, StopsNow}
 use Rattle.tape_run.specs.Reeling.{AreTold, AreSteps}
 use Rattle.tape_run.specs.declared.script.Step.TheVariants.{Reel, Save, Restart}
 

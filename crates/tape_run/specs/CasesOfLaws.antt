@@ -1,36 +1,34 @@
 -- What a caller can conclude from each law, which shows that the premises of each law can be true.
 -- They are the contract of the call `laws::cases`.
 use Rattle.std.specs.Prelude.{◌≡◌, ℕ, true, false, List, [], ◌∷◌, ◌++◌, length, map, Option, Some}
-use Rattle.std.specs.Prelude.{None, IsSome, Bool}
-use Rattle.std.specs.List.{AllByRecursion}
+use Rattle.std.specs.{Prelude.None, Prelude.IsSome, Prelude.Bool, List.AllByRecursion}
 use Rattle.tape_image.specs.Tape.{TapeItem}
 use Rattle.tape_blocks.specs.Block.{Portion}
 use Rattle.tape_set.specs.Layout.{FileSet, nth, file_of, sections, items, on}
 use Rattle.tape_set.specs.{Lawful.IsLawful, Before.before, Reach.far, Reading.Reading}
-use Rattle.tape_core.specs.declared.sink.SinkFault.{SinkFault}
-use Rattle.tape_core.specs.{Point.Point, Stands.Stands}
-use Rattle.tape_run.specs.declared.script.{Step.Step, Step.TheVariants.Reel}
-use Rattle.tape_run.specs.declared.{fault.RunFault.RunFault, section.ImageLine.ImageLine}
+use Rattle.tape_core.specs.{declared.sink.SinkFault.SinkFault, Point.Point, Stands.Stands}
 use Rattle.tape_run.specs.declared.fault.RunFault.TheVariants.{Sink, NoSuchPoint, TooFewReels}
+use Rattle.tape_run.specs.CrashRuns.{StoodComesBack, StandsAcrossCrashes, ComesBack, CrashRun}
+use Rattle.tape_run.specs.WholeReels.{WholeSetIsTold, GoodWasSeen, AreWholeCopies, IsToldWhole}
+use Rattle.tape_run.specs.WholeSet.{HasEach, AreAllGood, behind_copies, WholeVolumeIsGood}
+use Rattle.tape_run.specs.WholeSet.{WholeSetIsGood, WholeSetLacksNothing, WholeSetIsFound}
+use Rattle.tape_run.specs.{declared.script.Step.Step, declared.script.Step.TheVariants.Reel}
+use Rattle.tape_run.specs.{declared.fault.RunFault.RunFault, declared.section.ImageLine.ImageLine}
 use Rattle.tape_run.specs.declared.fault.RunFault.TheVariants.{OutOfMemory, OtherFile}
 use Rattle.tape_run.specs.declared.section.SectionState.TheVariants.{Good, Cut}
 use Rattle.tape_run.specs.{Added.Adds, CasesOfCatalogues.met, Checked.IsReport, Crash.StoodAt}
 use Rattle.tape_run.specs.{Fronts.FrontsAreMounts, Fronts.GivenIsHistory, Given.AreGivenBy}
-use Rattle.tape_run.specs.{History.IsHistory, Lead.AreItems, Lead.ItemsAreThere, Listing.OneListing}
-use Rattle.tape_run.specs.{Listing.IsListing, Headline.HasRun, Noted.noted_all, Noted.StandsIn}
-use Rattle.tape_run.specs.{OneEntry.HasOneEach, OneEntry.OneEntryASection, Passing.Told}
-use Rattle.tape_run.specs.{Passing.met_in, Seen.Seen, Shown.Shown, Shown.GoodAreShown}
-use Rattle.tape_run.specs.Checked as checked
+use Rattle.tape_run.specs.{History.IsHistory, Lead.AreItems, Lead.ItemsAreThere, Headline.HasRun}
+use Rattle.tape_run.specs.{Listing.OneListing, Listing.IsListing, Noted.noted_all, Noted.StandsIn}
+use Rattle.tape_run.specs.{OneEntry.HasOneEach, OneEntry.OneEntryASection, Seen.Seen}
+use Rattle.tape_run.specs.{Passing.Told, Passing.met_in, Shown.Shown, Shown.GoodAreShown}
 use Rattle.tape_run.specs.Lacks.{LackIsFirst, IsFoundWhole, IsFirstLack, lack_of, found_all}
-use Rattle.tape_run.specs.CrashRuns.{StoodComesBack, StandsAcrossCrashes, ComesBack, CrashRun}
 use Rattle.tape_run.specs.CrashRuns.{Outlives, AreHistories, IsResumed, ResumedGoesOn}
 use Rattle.tape_run.specs.Mount.{MountEvent, IsMountOf, cut, reads}
 use Rattle.tape_run.specs.Runs.{RunsUpTo, OnlyRefusalsStop, IsRefusal}
-use Rattle.tape_run.specs.WholeReels.{WholeSetIsTold, GoodWasSeen, AreWholeCopies, IsToldWhole}
 use Rattle.tape_run.specs.WholeReels.{IsShownOn}
-use Rattle.tape_run.specs.WholeSet.{HasEach, AreAllGood, behind_copies, WholeVolumeIsGood}
-use Rattle.tape_run.specs.WholeSet.{WholeSetIsGood, WholeSetLacksNothing, WholeSetIsFound}
 use Rattle.tape_run.specs.WholeSet.{WholeCopiesAreAdded, IsWholeCopy, IsNoDevice}
+use Rattle.tape_run.specs.Checked as checked
 
 -- of laws of runs
 pub record CasesOfRunLaws : Type 0 where

@@ -3,33 +3,30 @@
 use Rattle.std.specs.Prelude.{◌≡◌, ◌<◌, ◌≤◌, ◌+◌, ℕ, List, [], ◌∷◌, ◌++◌, length, take, drop, codes}
 use Rattle.std.specs.Prelude.{Option, Some, None, false}
 use Rattle.std.specs.List.{AllByRecursion}
-use Rattle.tape_image.specs.Tape.{TapeItem, block, bad, mark}
+use Rattle.tape_image.specs.{Tape.TapeItem, Tape.block, Tape.bad, Tape.mark, Reader.IfKnown}
 use Rattle.tape_image.specs.Begins.{Stop, Begins, Walks}
-use Rattle.tape_image.specs.{Reader.IfKnown, Step.TakesEnd, Step.TakesFault}
+use Rattle.tape_image.specs.Step.{TakesEnd, TakesFault}
 use Rattle.tape_label.specs.declared.values.Format.TheVariants.{Spanned}
 use Rattle.tape_blocks.specs.{Block.Portion, Judged.begun_behind}
-use Rattle.tape_set.specs.Lawful.{FileForm}
-use Rattle.tape_set.specs.declared.position.Position.{Position}
+use Rattle.tape_set.specs.{Lawful.FileForm, declared.position.Position.Position}
 use Rattle.tape_set.specs.declared.position.Position.TheVariants.{Awaits, Finished}
 use Rattle.tape_set.specs.Position.{start, awaiting, part_of, at_part}
 use Rattle.tape_core.specs.declared.event.Answer.TheVariants.{Passed, Deliver, Complete}
-use Rattle.tape_core.specs.declared.{event.Phase.TheVariants.Over, sink.SinkFault.SinkFault}
-use Rattle.tape_core.specs.{Follows.IsFinal, Place.rest_of, Point.Point, State.State}
+use Rattle.tape_core.specs.{declared.event.Phase.TheVariants.Over, Follows.IsFinal, Place.rest_of}
+use Rattle.tape_core.specs.{declared.sink.SinkFault.SinkFault, Point.Point, State.State}
 use Rattle.tape_core.specs.{Stands.weight_of, Weight.IsFront}
 use Rattle.tape_core.specs.Table.{step_of, mount_of, reader_of, saved}
-use Rattle.tape_run.specs.declared.{reel_reader.ReelAnswer.ReelAnswer, fault.RunFault.RunFault}
-use Rattle.tape_run.specs.declared.script.Step.{Step}
-use Rattle.tape_run.specs.declared.fault.RunFault.TheVariants.{Sink, OutOfMemory}
-use Rattle.tape_run.specs.declared.script.Step.TheVariants.{Reel, Save, Restart}
 use Rattle.tape_run.specs.ByTable.{parts_from, parts_by, parts_at, delivered_parts, IsLed}
-use Rattle.tape_run.specs.ByTable.{StopsInside, IsCutAt}
-use Rattle.tape_run.specs.Headline.{HasRun, IsRead, HasStopped, reels_in}
 use Rattle.tape_run.specs.Lead.{Noted, Lead, at_start, lead, AreItems, AreNoted, StandsThere}
-use Rattle.tape_run.specs.Lead.{StopsBy}
 use Rattle.tape_run.specs.Reels.{Reads, ReadsReel, ReadsToBlock, EndedByItem, EndedByMedium}
 use Rattle.tape_run.specs.Reels.{EndedByFault, Leaves, StopsAt, GoesOn, answers_to, behind_items}
-use Rattle.tape_run.specs.Reels.{delivered_by}
-use Rattle.tape_run.specs.{Seen.Seen, Steps.Reeled, Steps.CutShort}
+use Rattle.tape_run.specs.{declared.reel_reader.ReelAnswer.ReelAnswer, declared.script.Step.Step}
+use Rattle.tape_run.specs.{declared.fault.RunFault.RunFault, ByTable.StopsInside, ByTable.IsCutAt}
+use Rattle.tape_run.specs.declared.fault.RunFault.TheVariants.{Sink, OutOfMemory}
+use Rattle.tape_run.specs.declared.script.Step.TheVariants.{Reel, Save, Restart}
+use Rattle.tape_run.specs.Headline.{HasRun, IsRead, HasStopped, reels_in}
+use Rattle.tape_run.specs.{Lead.StopsBy, Reels.delivered_by, Seen.Seen}
+use Rattle.tape_run.specs.Steps.{Reeled, CutShort}
 use Rattle.tape_run.specs.WorkedHistory.{block_0, block_1, vol1, hdr1, hdr2, first}
 
 -- ---- what a reel answers

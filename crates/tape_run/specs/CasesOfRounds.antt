@@ -1,23 +1,20 @@
 -- Examples for the definitions of passes. They are the contract of the call `laws::cases`.
-use Rattle.std.specs.Prelude.{◌≡◌, ◌≢◌, ◌⊎◌, ◌<◌, ◌≤◌, List, [], ◌∷◌, ◌++◌, length, map}
-use Rattle.std.specs.Prelude.{Option, Some, None, Bool, true}
-use Rattle.std.specs.Io.KnownBytes.{Appends}
+use Rattle.std.specs.Prelude.{◌≡◌, ◌≢◌, ◌⊎◌, ◌<◌, ◌≤◌, List, [], ◌∷◌, ◌++◌, length, map, Option}
+use Rattle.std.specs.{Prelude.Some, Prelude.None, Prelude.Bool, Prelude.true, Io.KnownBytes.Appends}
 use Rattle.tape_blocks.specs.declared.parts.Form.{Form}
 use Rattle.tape_set.specs.declared.position.Position.TheVariants.{Awaits, Finished}
 use Rattle.tape_set.specs.declared.position.Want.{Want}
 use Rattle.tape_core.specs.State.{State}
+use Rattle.tape_run.specs.Reeling.{Turn, answer_of, AreTurns, AreFirstTurns, Follows, Took}
+use Rattle.tape_run.specs.Rounds.{Round, turns_of, core_behind, wanted, AreRounds, MadeProgress}
 use Rattle.tape_run.specs.CasesOfExtracts.{Listed, as_sink, Known, Readers, StopsListed}
 use Rattle.tape_run.specs.Extracting.{Ends, EndsFile, StopsAtEnd, IsWritten, TellsEnd}
 use Rattle.tape_run.specs.ExtractingAgain.{ExtractsAgain, StopsAgain}
-use Rattle.tape_image.specs.Written.{AppendsFront}
-use Rattle.tape_run.specs.RecordText.{output_of}
-use Rattle.tape_run.specs.ReelLine.{reel_lines, last_line}
-use Rattle.tape_run.specs.Reeling.{Turn, answer_of, AreTurns, AreFirstTurns, Follows, Took}
-use Rattle.tape_run.specs.Reeling.{IsKeptFor, goes_back}
-use Rattle.tape_run.specs.Rounds.{Round, turns_of, core_behind, wanted, AreRounds}
-use Rattle.tape_run.specs.Rounds.{MadeProgress, IsEnough, FollowsRounds, GoesRound}
-use Rattle.tape_run.specs.Seen.{Seen, seen}
+use Rattle.tape_run.specs.{RecordText.output_of, ReelLine.reel_lines, ReelLine.last_line}
+use Rattle.tape_run.specs.{Reeling.IsKeptFor, Reeling.goes_back, Seen.Seen, Seen.seen}
+use Rattle.tape_run.specs.Rounds.{IsEnough, FollowsRounds, GoesRound}
 use Rattle.tape_run.specs.declared.fault.EngineFault.TheVariants.{WriteFailed}
+use Rattle.tape_image.specs.Written.{AppendsFront}
 
 -- what `extract` promises for passes over readers in a list
 abbrev pub AgainListed : Listed → Listed → Readers → Readers → Form → Known → Known → Known → Known

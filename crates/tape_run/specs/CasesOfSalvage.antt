@@ -6,25 +6,19 @@ use Rattle.tape_image.specs.Begins.{Stop, Begins}
 use Rattle.tape_blocks.specs.Tight.{Filled}
 use Rattle.tape_set.specs.Layout.{FileSet, Placed, Entry, nth, entries, is_data}
 use Rattle.tape_set.specs.Reading.{Reading}
-use Rattle.tape_run.specs.declared.salvage.copies.SectionCopy.{SectionCopy}
-use Rattle.tape_run.specs.declared.salvage.walk.Closing.{Closing}
-use Rattle.tape_run.specs.declared.salvage.walk.OpenSection.{OpenSection}
+use Rattle.tape_run.specs.SalvageSets.{copies_on, HasVolume, IsReadAgain, HasBlocks, IsOnNone}
+use Rattle.tape_run.specs.{declared.salvage.copies.SectionCopy.SectionCopy, SalvageWhole.Blocks}
+use Rattle.tape_run.specs.{declared.salvage.walk.Closing.Closing, SurveyDigest.digest_with}
+use Rattle.tape_run.specs.{declared.salvage.walk.OpenSection.OpenSection, SalvageSections.filled_of}
 use Rattle.tape_run.specs.declared.salvage.walk.Expected.TheVariants.{Data}
-use Rattle.tape_run.specs.SurveyDigest.{digest_with}
-use Rattle.tape_run.specs.SalvageBlocks.{none_salvaged}
+use Rattle.tape_run.specs.{SalvageBlocks.none_salvaged, SalvageConflicts.AreConflicts}
 use Rattle.tape_run.specs.SalvageClosed.{IsNoMark, IsClosedIn, IsThere, digest_items}
-use Rattle.tape_run.specs.SalvageConflicts.{are_conflicting, has_conflict, conflict_text}
-use Rattle.tape_run.specs.SalvageConflicts.{AreConflicts}
 use Rattle.tape_run.specs.SalvageDamaged.{AnySection, any_volume, IsPlain, AreApart, IsExact}
 use Rattle.tape_run.specs.SalvageDamagedSets.{IsAnyImage, IsExactCopy}
 use Rattle.tape_run.specs.SalvageGaps.{Gap, AreGaps, data_in, StartsReadable}
-use Rattle.tape_run.specs.SalvageReadings.{IsReadVolume}
-use Rattle.tape_run.specs.SalvageSets.{copies_on, HasVolume, IsReadAgain, HasBlocks, IsOnNone}
+use Rattle.tape_run.specs.{SalvageReadings.IsReadVolume, Reeling.Mounting, Reeling.Took}
 use Rattle.tape_run.specs.SalvageSets.{AreHad, joined, IsComplete, rank_of, items_read}
 use Rattle.tape_run.specs.SalvageUnnamed.{IsNoFirst, IsUnnamedIn}
-use Rattle.tape_run.specs.SalvageSections.{filled_of}
-use Rattle.tape_run.specs.SalvageWhole.{Blocks}
-use Rattle.tape_run.specs.Reeling.{Mounting, Took}
 use Rattle.tape_run.specs.SalvagedSets.{AreItemsOf, IsImage, AreImages, IsReadToEnd}
 
 -- ---- copies
@@ -58,21 +52,6 @@ unclosed c = record { image = c.image; section = c.section; closed = None; skip 
 -- Complete copies of one section that differ in their number of blocks or their digest conflict; no
 -- others do.
 pub record CasesOfConflicts : Type 0 where
-  pub same : are_conflicting (copy_on 0 1 2 7) (copy_on 1 1 2 7) ≡ false
-  pub other_digest : are_conflicting (copy_on 0 1 2 7) (copy_on 1 1 2 8) ≡ true
-  pub other_number : are_conflicting (copy_on 0 1 2 7) (copy_on 1 1 3 7) ≡ true
-  pub other_section : are_conflicting (copy_on 0 1 2 7) (copy_on 1 2 2 8) ≡ false
-  pub incomplete : are_conflicting (copy_on 0 1 2 7) (unclosed (copy_on 1 1 2 8)) ≡ false
-  pub incomplete_best : are_conflicting (unclosed (copy_on 0 1 2 7)) (copy_on 1 1 2 8) ≡ false
-  pub one_differs : has_conflict (Some (copy_on 0 1 2 7))
-      (copy_on 0 1 2 7 ∷ copy_on 1 1 2 8 ∷ copy_on 2 1 2 7 ∷ []) ≡ true
-  pub none_differs : has_conflict (Some (copy_on 0 1 2 7))
-      (copy_on 0 1 2 7 ∷ copy_on 1 1 2 7 ∷ []) ≡ false
-  pub no_best : has_conflict None (copy_on 0 1 2 7 ∷ copy_on 1 1 2 8 ∷ []) ≡ false
-  -- images are counted from 1, the one that is used first
-  pub lines : conflict_text (Some (copy_on 1 3 2 7))
-      (copy_on 0 3 2 8 ∷ copy_on 1 3 2 7 ∷ copy_on 4 3 2 9 ∷ [])
-      ≡ codes "CONFLICT 3 2 1\nCONFLICT 3 2 5\n"
   -- each section is reported, and none after the last
   pub no_sections : (cs : List SectionCopy) (text : List ℕ) (any : Bool)
       → AreConflicts cs 0 text any → (text ≡ []) × (any ≡ false)

@@ -1,16 +1,14 @@
 -- Examples for the definitions of saves, and of the states that a crash leaves of a session. They
 -- are the contract of the call `laws::cases`.
-use Rattle.std.specs.Prelude.{◌≡◌, ◌≤◌, ◌⊎◌, ℕ, List, [], ◌∷◌, length, true, false, ⊤}
-use Rattle.std.specs.Prelude.{Option, Some}
+use Rattle.std.specs.Prelude.{◌≡◌, ◌≤◌, ◌⊎◌, ℕ, List, [], ◌∷◌, length, true, false, ⊤, Option, Some}
 use Rattle.tape_blocks.specs.Block.{Portion}
 use Rattle.tape_set.specs.declared.position.Position.TheVariants.{Finished}
 use Rattle.tape_core.specs.{Crash.Crashes, Place.rest_of, Point.Point, Stands.weight_of}
-use Rattle.tape_core.specs.{State.State, Table.saved, Weight.IsFront}
-use Rattle.tape_core.specs.declared.sink.{PartSink.Ghosts, SinkFault.SinkFault}
+use Rattle.tape_core.specs.{State.State, Table.saved, Weight.IsFront, declared.sink.PartSink.Ghosts}
+use Rattle.tape_core.specs.declared.sink.SinkFault.{SinkFault}
 use Rattle.tape_run.specs.Crash.{IsNoteOf, BringsLast, KeepsLast, LeavesSaved, is_saved}
-use Rattle.tape_run.specs.{Reeling.StoodSaved, Seen.Seen, SessionState.SessionState}
-use Rattle.tape_run.specs.{Given.is_device, Reeling.counts_differ, Steps.Reeled}
-use Rattle.tape_run.specs.Stopping.{RefusesSave}
+use Rattle.tape_run.specs.{Reeling.StoodSaved, Reeling.counts_differ, Seen.Seen, Given.is_device}
+use Rattle.tape_run.specs.{SessionState.SessionState, Steps.Reeled, Stopping.RefusesSave}
 use Rattle.tape_run.specs.declared.fault.EngineFault.TheVariants.{Run}
 use Rattle.tape_run.specs.declared.fault.RunFault.TheVariants.{OutOfMemory, Sink}
 use Rattle.tape_run.specs.declared.reel_reader.ReelAnswer.{ReelAnswer}

@@ -1,23 +1,17 @@
 -- Further examples for the definitions of sections, and of lines about them. They are the contract
 -- of the call `laws::cases`.
-use Rattle.std.specs.Prelude.{◌≡◌, ℕ, true, false, List, [], ◌∷◌, ◌++◌, Option, IfSome}
+use Rattle.std.specs.Prelude.{◌≡◌, ℕ, List, [], ◌∷◌, ◌++◌, Option, IfSome}
 use Rattle.std.specs.Io.KnownBytes.{Appends}
 use Rattle.tape_image.specs.{Begins.Walks, Written.AppendsFront}
 use Rattle.tape_set.specs.Layout.{FileSet, Placed}
-use Rattle.tape_run.specs.declared.section.{SectionKey.SectionKey, SectionLine.SectionLine}
-use Rattle.tape_run.specs.declared.passing.Phase.TheVariants.{Volume}
-use Rattle.tape_run.specs.declared.section.SectionState.TheVariants.{Good, Bad, Cut}
-use Rattle.tape_run.specs.{Added.AddsInPart, CasesOfCatalogues.met, CasesOfCatalogues.lack}
-use Rattle.tape_run.specs.{Lacks.IsGoodAt, Lacks.lacks, Noted.noted, Noted.noted_all, Passing.Told}
-use Rattle.tape_run.specs.{Passing.told_from, WholeReels.IsListedGood, WholeSet.AreAllGood}
-use Rattle.tape_run.specs.WholeSet.{key_in}
+use Rattle.tape_run.specs.{declared.section.SectionKey.SectionKey, Added.AddsInPart, Lacks.IsGoodAt}
+use Rattle.tape_run.specs.{declared.section.SectionLine.SectionLine, Noted.noted_all}
+use Rattle.tape_run.specs.{declared.passing.Phase.TheVariants.Volume, WholeReels.IsListedGood}
+use Rattle.tape_run.specs.declared.section.SectionState.TheVariants.{Good}
+use Rattle.tape_run.specs.{Passing.Told, Passing.told_from, WholeSet.AreAllGood, WholeSet.key_in}
 
 -- single sections
 pub record CasesOfSections : Type 0 where
-  -- if two copies are not good, the one found first is kept
-  pub first_stays : noted (met 1 1 false Cut ∷ []) (met 1 1 true Bad) ≡ met 1 1 false Cut ∷ []
-  -- each file up to the greatest number is examined, whichever was found last
-  pub last_file : lacks (met 3 1 true Good ∷ met 1 1 true Good ∷ []) ≡ lack 2 1 ∷ []
   -- if all of them are good, so is the given one
   pub all_good : (set : FileSet) (c : List Told) (x : Placed) → AreAllGood set c (x ∷ [])
       → IsGoodAt c (key_in set x)

@@ -4,20 +4,19 @@ use Rattle.std.specs.Prelude.{◌≡◌, ◌⊎◌, ◌≤◌, ℕ, ◌+◌, Lis
 use Rattle.std.specs.Prelude.{None}
 use Rattle.tape_blocks.specs.Block.{Portion}
 use Rattle.tape_core.specs.{Crash.lost, Place.rest_of, Point.Point, Weight.Rose}
-use Rattle.tape_core.specs.declared.sink.{PartSink.Ghosts, SinkFault.SinkFault}
+use Rattle.tape_core.specs.{declared.sink.PartSink.Ghosts, declared.sink.SinkFault.SinkFault}
 use Rattle.tape_core.specs.declared.sink.SinkFault.TheVariants.{Device, Full, Failed}
 use Rattle.tape_run.specs.declared.fault.RunFault.TheVariants.{Sink, NoSuchPoint, TooFewReels}
 use Rattle.tape_run.specs.declared.fault.RunFault.TheVariants.{OutOfMemory, OtherFile}
-use Rattle.tape_run.specs.declared.fault.EngineFault.TheVariants as engine
 use Rattle.tape_run.specs.Causes.{ExtractFails, ReadingFails, RefusesAny, IsCalm}
 use Rattle.tape_run.specs.CasesOfSaves.{comes_now, weighing, holding_none}
-use Rattle.tape_run.specs.Crash.{BringsNoMore, IsWalked, KeepsLast}
-use Rattle.tape_run.specs.{Given.IfTold, Reeling.Carries, Reeling.IsKeptFor, Runs.RefusesStep}
-use Rattle.tape_run.specs.{Runs.StopsFor, SessionState.SessionState}
+use Rattle.tape_run.specs.{Crash.BringsNoMore, Crash.IsWalked, Crash.KeepsLast, Given.IfTold}
+use Rattle.tape_run.specs.{Reeling.Carries, Reeling.IsKeptFor, Runs.RefusesStep, Runs.StopsFor}
+use Rattle.tape_run.specs.{SessionState.SessionState, declared.fault.RunFault.RunFault}
 use Rattle.tape_run.specs.Seen.{Seen, seen, IsKept, IfSeen, IsSeen, IsSeenUnless}
 use Rattle.tape_run.specs.Steps.{IsRefused, Refuses, RefusesRestart}
-use Rattle.tape_run.specs.declared.fault.RunFault.{RunFault}
 use Rattle.tape_run.specs.declared.script.Step.TheVariants.{Reel, Save, Restart}
+use Rattle.tape_run.specs.declared.fault.EngineFault.TheVariants as engine
 
 -- a sink that consists of a number: it contains any list of as many parts, and has refused as many
 -- calls, each with Device

@@ -1,15 +1,13 @@
 -- Why records were not written.
 use Rattle.std.specs.Prelude.{◌≡◌, ◌≢◌, ◌⊎◌, ℕ, Bool, true, List, []}
-use Rattle.tape_blocks.specs.Block.{Portion}
-use Rattle.tape_blocks.specs.declared.parts.Form.{Form}
-use Rattle.tape_core.specs.declared.sink.{PartSink.Ghosts, SinkFault.SinkFault}
+use Rattle.tape_blocks.specs.{Block.Portion, declared.parts.Form.Form}
+use Rattle.tape_core.specs.{declared.sink.PartSink.Ghosts, declared.sink.SinkFault.SinkFault}
 use Rattle.tape_core.specs.declared.sink.SinkFault.TheVariants.{Failed}
-use Rattle.tape_run.specs.declared.fault.EngineFault.{EngineFault}
-use Rattle.tape_run.specs.declared.fault.EngineFault.TheVariants.{Run, WriteFailed}
 use Rattle.tape_run.specs.declared.fault.RunFault.TheVariants.{Sink, NoSuchPoint, TooFewReels}
+use Rattle.tape_run.specs.{declared.fault.EngineFault.EngineFault, SessionState.SessionState}
+use Rattle.tape_run.specs.declared.fault.EngineFault.TheVariants.{Run, WriteFailed}
 use Rattle.tape_run.specs.declared.fault.RunFault.TheVariants.{OutOfMemory, OtherFile}
-use Rattle.tape_run.specs.Seen.{IsKept, IfSeen, IsSeen}
-use Rattle.tape_run.specs.{SessionState.SessionState, Steps.IsRefused}
+use Rattle.tape_run.specs.{Seen.IsKept, Seen.IfSeen, Seen.IsSeen, Steps.IsRefused}
 
 -- why the records of a sink were not written: it refused a call with this fault; or it returned
 -- fewer than were counted, which is only possible if its contents are unknown; or a write failed,

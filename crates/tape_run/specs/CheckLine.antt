@@ -1,13 +1,12 @@
 -- The lines of `check`. Numbers are plain decimals, and identifiers have their full width.
 use Rattle.std.specs.Prelude.{ℕ, ◌+◌, List, [], ◌∷◌, ◌++◌, codes, decimal, Option, Some, None}
-use Rattle.tape_image.specs.Fault.{number_of}
-use Rattle.tape_image.specs.declared.item.ImageFault.{ImageFault}
-use Rattle.tape_run.specs.declared.section.{ImageStop.ImageStop, ImageLine.ImageLine}
-use Rattle.tape_run.specs.declared.section.{SectionState.SectionState, SectionLine.SectionLine}
-use Rattle.tape_run.specs.declared.section.Lack.{Lack}
+use Rattle.tape_image.specs.{Fault.number_of, declared.item.ImageFault.ImageFault}
+use Rattle.tape_run.specs.{declared.section.ImageStop.ImageStop, declared.section.Lack.Lack}
+use Rattle.tape_run.specs.{declared.section.ImageLine.ImageLine, Identifier.identifier_text}
+use Rattle.tape_run.specs.declared.section.SectionState.{SectionState}
+use Rattle.tape_run.specs.declared.section.SectionLine.{SectionLine}
 use Rattle.tape_run.specs.declared.section.ImageStop.TheVariants.{Marked, Physical, Fault}
 use Rattle.tape_run.specs.declared.section.SectionState.TheVariants.{Good, Bad, Count, Cut}
-use Rattle.tape_run.specs.Identifier.{identifier_text}
 
 -- a fault of an image: the number of its cause, and its offset
 abbrev pub stop_fault : ImageFault → List ℕ

@@ -1,20 +1,16 @@
 -- What `check` reports of images.
 use Rattle.std.specs.Prelude.{◌≡◌, ◌⊎◌, ℕ, zero, suc, ◌+◌, ◌≤◌, Bool, if◌then◌else◌, List, [], ◌∷◌}
 use Rattle.std.specs.Prelude.{◌++◌, map, length, Option, option_map, Some, None}
-use Rattle.std.specs.List.{flat_map}
-use Rattle.std.specs.Io.KnownBytes.{Appends}
-use Rattle.tape_run.specs.declared.section.ImageLine.{ImageLine}
-use Rattle.tape_run.specs.declared.section.SectionLine.{SectionLine}
-use Rattle.tape_run.specs.declared.section.Lack.{Lack}
-use Rattle.tape_run.specs.declared.fault.RunFault.TheVariants as run
-use Rattle.tape_run.specs.Passing.{Told}
-use Rattle.tape_run.specs.Added.{Adds}
+use Rattle.std.specs.{List.flat_map, Io.KnownBytes.Appends}
+use Rattle.tape_run.specs.{declared.section.ImageLine.ImageLine, declared.section.Lack.Lack}
+use Rattle.tape_run.specs.{declared.section.SectionLine.SectionLine, Passing.Told, Added.Adds}
 use Rattle.tape_run.specs.Lacks.{line_of, lacks, found_all}
 use Rattle.tape_run.specs.declared.fault.EngineFault.{EngineFault}
 use Rattle.tape_run.specs.declared.fault.EngineFault.TheVariants.{Run, WriteFailed}
 use Rattle.tape_run.specs.CheckLine.{image_line, image_lines, section_line, lack_line, found_line}
-use Rattle.tape_image.specs.Written.{AppendsFront}
 use Rattle.tape_run.specs.Reeling.{Mounting, AreMounted}
+use Rattle.tape_run.specs.declared.fault.RunFault.TheVariants as run
+use Rattle.tape_image.specs.Written.{AppendsFront}
 
 -- an image: `None` if it was not opened, otherwise the bytes of its reader, if known
 abbrev pub Reel : Type 0

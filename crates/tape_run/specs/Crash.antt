@@ -4,12 +4,10 @@ use Rattle.std.specs.Prelude.{slice_get, ⊤, Bool, true, false}
 use Rattle.tape_blocks.specs.Block.{Portion}
 use Rattle.tape_core.specs.Crash.{Returns, Crashes, AddsNothing, AddsOnly}
 use Rattle.tape_core.specs.{Place.rest_of, Point.Point, Stands.weight_of, Table.saved}
-use Rattle.tape_core.specs.Weight.{IsFront}
-use Rattle.tape_core.specs.declared.sink.PartSink.{Ghosts}
-use Rattle.tape_run.specs.declared.script.Step.{Step}
+use Rattle.tape_core.specs.{Weight.IsFront, declared.sink.PartSink.Ghosts}
+use Rattle.tape_run.specs.{declared.script.Step.Step, Seen.Seen, Seen.seen}
 use Rattle.tape_run.specs.declared.script.Step.TheVariants.{Reel, Save, Restart}
-use Rattle.tape_run.specs.{Seen.Seen, Seen.seen, SessionState.SessionState}
-use Rattle.tape_run.specs.Steps.{Reeled, Saved, WentBack}
+use Rattle.tape_run.specs.{SessionState.SessionState, Steps.Reeled, Steps.Saved, Steps.WentBack}
 
 -- the session's position and the parts before it
 abbrev pub IsHere : Seen → Point → List Portion → Type 0

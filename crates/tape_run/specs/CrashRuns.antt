@@ -4,11 +4,10 @@ use Rattle.std.specs.Prelude.{Option}
 use Rattle.tape_blocks.specs.Block.{Portion}
 use Rattle.tape_set.specs.{Layout.FileSet, Lawful.IsLawful, Before.before}
 use Rattle.tape_set.specs.declared.position.Position.{Position}
-use Rattle.tape_core.specs.Crash.{Returns, OnlyThis}
-use Rattle.tape_core.specs.{Point.Point, Place.place_of, Stands.Stands}
+use Rattle.tape_core.specs.{Crash.Returns, Crash.OnlyThis, Point.Point, Place.place_of}
+use Rattle.tape_core.specs.Stands.{Stands}
 use Rattle.tape_run.specs.{Mount.MountEvent, Given.AreGivenBy, Headline.HasRun, Crash.StoodAt}
-use Rattle.tape_run.specs.declared.script.Step.{Step}
-use Rattle.tape_run.specs.Seen.{Seen, IsSession}
+use Rattle.tape_run.specs.{declared.script.Step.Step, Seen.Seen, Seen.IsSession}
 use Rattle.tape_run.specs.History.{Course, course, course_of, IsHistory}
 
 -- the position of the history, or one of its checkpoints

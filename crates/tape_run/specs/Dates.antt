@@ -2,8 +2,7 @@
 -- day of the year.
 use Rattle.std.specs.Prelude.{ℕ, ◌+◌, ◌-◌, ◌/◌, ◌%◌, ◌==◌, ◌&&◌, ◌||◌, not, nat_lt, nat_le, Bool}
 use Rattle.std.specs.Prelude.{if◌then◌else◌, List, [], ◌∷◌, ◌++◌, Option, Some, None, codes}
-use Rattle.std.specs.Prelude.{decimal, length}
-use Rattle.std.specs.Str.{all_ascii_digits}
+use Rattle.std.specs.{Prelude.decimal, Prelude.length, Str.all_ascii_digits}
 use Rattle.tape_label.specs.Digits.{number_of}
 use Rattle.tape_run.specs.declared.survey.dates.Date.{Date}
 

@@ -1,26 +1,17 @@
 -- What `extract` leaves.
-use Rattle.std.specs.Prelude.{◌≡◌, ◌≢◌, ◌⊎◌, ℕ, ◌<◌, ◌≤◌, List, [], ◌++◌, length, map, Option}
-use Rattle.std.specs.Prelude.{Some, None, ⊤, Bool, false}
-use Rattle.std.specs.Io.KnownBytes.{Appends}
-use Rattle.tape_blocks.specs.Block.{Portion}
-use Rattle.tape_blocks.specs.Spans.{join}
-use Rattle.tape_set.specs.declared.position.Position.TheVariants.{Finished}
+use Rattle.std.specs.Prelude.{◌≡◌, ◌≢◌, ◌⊎◌, ℕ, ◌<◌, ◌≤◌, List, [], ◌++◌, length, map, Option, Some}
+use Rattle.std.specs.{Prelude.None, Prelude.⊤, Prelude.Bool, Prelude.false, Io.KnownBytes.Appends}
+use Rattle.tape_blocks.specs.{Block.Portion, Spans.join, declared.parts.Form.Form}
+use Rattle.tape_set.specs.{declared.position.Position.TheVariants.Finished, Position.want_at}
 use Rattle.tape_set.specs.declared.position.Want.{Want}
-use Rattle.tape_set.specs.Position.{want_at}
-use Rattle.tape_core.specs.{Place.rest_of, State.State}
-use Rattle.tape_core.specs.declared.sink.PartSink.{Ghosts}
-use Rattle.tape_run.specs.Crash.{LeavesSaved}
-use Rattle.tape_run.specs.Stopping.{IsStopped, RefusesSave}
-use Rattle.tape_run.specs.declared.fault.EngineFault.{EngineFault}
-use Rattle.tape_run.specs.declared.fault.EngineFault.TheVariants.{WriteFailed}
-use Rattle.tape_run.specs.Seen.{Seen, IfSeen}
-use Rattle.tape_run.specs.SessionState.{SessionState}
-use Rattle.tape_blocks.specs.declared.parts.Form.{Form}
-use Rattle.tape_image.specs.Written.{AppendsFront}
-use Rattle.tape_run.specs.RecordText.{output_of}
-use Rattle.tape_run.specs.ReelLine.{reel_lines, last_line}
+use Rattle.tape_core.specs.{Place.rest_of, State.State, declared.sink.PartSink.Ghosts}
 use Rattle.tape_run.specs.Reeling.{Turn, answer_of, AreTurns, Follows, AreSteps, goes_back}
+use Rattle.tape_run.specs.{Crash.LeavesSaved, Stopping.IsStopped, Stopping.RefusesSave}
+use Rattle.tape_run.specs.{declared.fault.EngineFault.EngineFault, Seen.Seen, Seen.IfSeen}
+use Rattle.tape_run.specs.{declared.fault.EngineFault.TheVariants.WriteFailed, RecordText.output_of}
+use Rattle.tape_run.specs.{SessionState.SessionState, ReelLine.reel_lines, ReelLine.last_line}
 use Rattle.tape_run.specs.Reeling.{IsKeptFor, AreFirstTurns, Mounting, StoodSaved}
+use Rattle.tape_image.specs.Written.{AppendsFront}
 
 -- the output if something is missing, and if nothing is: the records, which were counted
 abbrev pub IsWritten : Option Want → ℕ → Form → Option (List ℕ) → Option (List ℕ) → List Portion

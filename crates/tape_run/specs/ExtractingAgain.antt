@@ -1,24 +1,18 @@
 -- What `extract` leaves after several passes over the images.
-use Rattle.std.specs.Prelude.{◌≡◌, ◌≢◌, ◌⊎◌, ℕ, ◌<◌, ◌≤◌, List, ◌++◌, length, map, Option}
-use Rattle.std.specs.Prelude.{None, true}
-use Rattle.std.specs.Io.KnownBytes.{Appends}
+use Rattle.std.specs.Prelude.{◌≡◌, ◌≢◌, ◌⊎◌, ℕ, ◌<◌, ◌≤◌, List, ◌++◌, length, map, Option, None}
+use Rattle.std.specs.{Prelude.true, Io.KnownBytes.Appends}
 use Rattle.tape_blocks.specs.declared.parts.Form.{Form}
 use Rattle.tape_set.specs.declared.position.Want.{Want}
-use Rattle.tape_core.specs.{Place.rest_of, State.State}
-use Rattle.tape_core.specs.declared.sink.PartSink.{Ghosts}
-use Rattle.tape_run.specs.Crash.{LeavesSaved}
-use Rattle.tape_run.specs.Stopping.{IsStopped, RefusesSave}
-use Rattle.tape_run.specs.declared.fault.EngineFault.{EngineFault}
+use Rattle.tape_core.specs.{Place.rest_of, State.State, declared.sink.PartSink.Ghosts}
+use Rattle.tape_run.specs.Reeling.{Turn, answer_of, AreTurns, AreFirstTurns, Mounting, goes_back}
+use Rattle.tape_run.specs.Rounds.{Round, turns_of, core_behind, wanted, AreRounds, MadeProgress}
+use Rattle.tape_run.specs.{Crash.LeavesSaved, Stopping.IsStopped, Stopping.RefusesSave}
+use Rattle.tape_run.specs.{declared.fault.EngineFault.EngineFault, Seen.Seen, Seen.IfSeen}
 use Rattle.tape_run.specs.declared.fault.EngineFault.TheVariants.{WriteFailed}
 use Rattle.tape_run.specs.Extracting.{Ends, TellsEnd, LeavesOutput}
+use Rattle.tape_run.specs.{ReelLine.reel_lines, ReelLine.last_line, SessionState.SessionState}
+use Rattle.tape_run.specs.{Reeling.IsKeptFor, Reeling.StoodSaved, Rounds.IsEnough, Rounds.GoesRound}
 use Rattle.tape_image.specs.Written.{AppendsFront}
-use Rattle.tape_run.specs.ReelLine.{reel_lines, last_line}
-use Rattle.tape_run.specs.Reeling.{Turn, answer_of, AreTurns, AreFirstTurns, Mounting, goes_back}
-use Rattle.tape_run.specs.Reeling.{IsKeptFor, StoodSaved}
-use Rattle.tape_run.specs.Rounds.{Round, turns_of, core_behind, wanted, AreRounds}
-use Rattle.tape_run.specs.Rounds.{MadeProgress, IsEnough, GoesRound}
-use Rattle.tape_run.specs.Seen.{Seen, IfSeen}
-use Rattle.tape_run.specs.SessionState.{SessionState}
 
 -- Images were read pass by pass: passes that recovered something, and a last one, of all images or
 -- up to the one that completed the file. A line was reported for each image of each pass, numbered

@@ -2,21 +2,20 @@
 use Rattle.std.specs.Prelude.{◌≡◌, ◌≢◌, ◌⊎◌, ℕ, ◌<◌, Bool, true, false, List, [], ◌∷◌, ◌++◌, Option}
 use Rattle.std.specs.Prelude.{Some, None, IsSome, is_some, ⊤}
 use Rattle.std.specs.Map.{lookup}
-use Rattle.tape_blocks.specs.Block.{Portion}
-use Rattle.tape_blocks.specs.declared.parts.Form.{Form}
-use Rattle.tape_image.specs.Begins.{Stop, Begins, Walks}
-use Rattle.tape_image.specs.{Reader.IfKnown, Tape.TapeItem}
-use Rattle.tape_set.specs.{Layout.FileSet, Lawful.IsLawful}
-use Rattle.tape_set.specs.declared.position.Position.{Position}
+use Rattle.tape_blocks.specs.{Block.Portion, declared.parts.Form.Form}
+use Rattle.tape_image.specs.{Begins.Stop, Begins.Begins, Begins.Walks, Reader.IfKnown}
+use Rattle.tape_image.specs.Tape.{TapeItem}
+use Rattle.tape_set.specs.{Layout.FileSet, Lawful.IsLawful, declared.position.Position.Position}
 use Rattle.tape_set.specs.declared.position.Position.TheVariants.{Awaits, Finished}
 use Rattle.tape_core.specs.{Known.is_finished, Place.IsPlaced, State.State, Table.mount_of}
-use Rattle.tape_core.specs.declared.{event.Phase.TheVariants.Broken, sink.PartSink.Ghosts}
+use Rattle.tape_core.specs.{declared.event.Phase.TheVariants.Broken, declared.sink.PartSink.Ghosts}
 use Rattle.tape_run.specs.{ByTable.IsLed, Crash.IsWalked, ExtractingNow.IsPut, Given.IsGiven}
 use Rattle.tape_run.specs.{GoesBehind.PassedOver, Lead.Lead, Lead.over_reel, Lacks.key_at}
 use Rattle.tape_run.specs.{Mount.MountEvent, Mount.IsMount, Mount.after_mount, Noted.same_key}
 use Rattle.tape_run.specs.{Reeling.Mounting, Seen.Seen, Seen.IfSeen, Seen.IsSeen}
 use Rattle.tape_run.specs.{SessionState.SessionState, SurveyLocations.Located}
-use Rattle.tape_run.specs.declared.{extract.located.Mounted.Mounted, survey.files.FileKey.FileKey}
+use Rattle.tape_run.specs.declared.extract.located.Mounted.{Mounted}
+use Rattle.tape_run.specs.declared.survey.files.FileKey.{FileKey}
 
 -- ---- an image that stays open
 

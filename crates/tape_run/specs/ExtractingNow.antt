@@ -1,26 +1,17 @@
 -- What `extract` leaves if the records are written while the images are read.
-use Rattle.std.specs.Prelude.{◌≡◌, ◌≢◌, ◌⊎◌, ℕ, ◌<◌, ◌≤◌, List, ◌++◌, length, map, Option}
-use Rattle.std.specs.Prelude.{Some, None, ⊤, false}
-use Rattle.std.specs.Io.KnownBytes.{Appends}
-use Rattle.tape_blocks.specs.Block.{Portion}
-use Rattle.tape_blocks.specs.Spans.{join}
-use Rattle.tape_set.specs.declared.position.Position.TheVariants.{Finished}
+use Rattle.std.specs.Prelude.{◌≡◌, ◌≢◌, ◌⊎◌, ℕ, ◌<◌, ◌≤◌, List, ◌++◌, length, map, Option, Some}
+use Rattle.std.specs.{Prelude.None, Prelude.⊤, Prelude.false, Io.KnownBytes.Appends}
+use Rattle.tape_blocks.specs.{Block.Portion, Spans.join, declared.parts.Form.Form}
+use Rattle.tape_set.specs.{declared.position.Position.TheVariants.Finished, Position.want_at}
 use Rattle.tape_set.specs.declared.position.Want.{Want}
-use Rattle.tape_set.specs.Position.{want_at}
-use Rattle.tape_core.specs.State.{State}
-use Rattle.tape_core.specs.declared.sink.PartSink.{Ghosts}
-use Rattle.tape_run.specs.Seen.{Seen, IfSeen, IsSeen}
-use Rattle.tape_run.specs.SessionState.{SessionState}
-use Rattle.tape_blocks.specs.declared.parts.Form.{Form}
-use Rattle.tape_run.specs.Extracting.{TellsEnd, Leaves}
-use Rattle.tape_run.specs.Stopping.{IsStopped}
-use Rattle.tape_run.specs.declared.fault.EngineFault.{EngineFault}
-use Rattle.tape_run.specs.declared.fault.EngineFault.TheVariants.{WriteFailed}
-use Rattle.tape_image.specs.Written.{AppendsFront}
-use Rattle.tape_run.specs.RecordText.{output_of}
-use Rattle.tape_run.specs.ReelLine.{reel_lines, last_line}
+use Rattle.tape_core.specs.{State.State, declared.sink.PartSink.Ghosts}
 use Rattle.tape_run.specs.Reeling.{Turn, answer_of, AreTurns, AreFirstTurns, Follows, AreSteps}
-use Rattle.tape_run.specs.Reeling.{Mounting}
+use Rattle.tape_run.specs.{Seen.Seen, Seen.IfSeen, Seen.IsSeen, SessionState.SessionState}
+use Rattle.tape_run.specs.{Extracting.TellsEnd, Extracting.Leaves, Stopping.IsStopped}
+use Rattle.tape_run.specs.{declared.fault.EngineFault.EngineFault, RecordText.output_of}
+use Rattle.tape_run.specs.{declared.fault.EngineFault.TheVariants.WriteFailed, Reeling.Mounting}
+use Rattle.tape_run.specs.ReelLine.{reel_lines, last_line}
+use Rattle.tape_image.specs.Written.{AppendsFront}
 
 -- the contents of the output's name: unchanged if something is missing; otherwise exactly the
 -- records, which were counted, if the writer knows its bytes

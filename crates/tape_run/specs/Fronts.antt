@@ -1,8 +1,7 @@
 -- A prefix of a mount is a mount.
 use Rattle.std.specs.Prelude.{Bool, ℕ, List, Option, ◌++◌}
 use Rattle.tape_set.specs.Layout.{FileSet}
-use Rattle.tape_run.specs.declared.script.Step.{Step}
-use Rattle.tape_run.specs.Mount.{MountEvent, IsMountOf, cut}
+use Rattle.tape_run.specs.{declared.script.Step.Step, Mount.MountEvent, Mount.IsMountOf, Mount.cut}
 use Rattle.tape_run.specs.{History.IsHistory, Given.AreGivenBy}
 
 -- The part of a reel that a reader returned before it failed is a mount: of a prefix of the same

@@ -1,22 +1,21 @@
 -- A reading of a later file continues after that of an earlier one, in the same image.
 use Rattle.std.specs.Prelude.{◌≡◌, ◌≢◌, ◌⊎◌, ℕ, Bool, false, List, [], ◌∷◌, ◌++◌, Option, Some}
-use Rattle.std.specs.Prelude.{None}
-use Rattle.std.specs.List.{AllByRecursion}
+use Rattle.std.specs.{Prelude.None, List.AllByRecursion}
 use Rattle.tape_blocks.specs.Block.{Portion}
 use Rattle.tape_image.specs.{Begins.Stop, Begins.Begins, Begins.Walks, Tape.TapeItem}
-use Rattle.tape_set.specs.declared.position.Position.{Position}
+use Rattle.tape_set.specs.{declared.position.Position.Position, Layout.FileSet, Lawful.IsLawful}
 use Rattle.tape_set.specs.declared.position.Position.TheVariants.{Awaits, Finished}
-use Rattle.tape_core.specs.declared.event.{Answer.Answer, Phase.TheVariants.Broken}
+use Rattle.tape_core.specs.{declared.event.Answer.Answer, declared.event.Phase.TheVariants.Broken}
 use Rattle.tape_core.specs.declared.event.Answer.TheVariants.{Passed, SectionDone, Complete}
-use Rattle.tape_core.specs.{Behind.AreInOrder, Behind.behind_of, State.State, Table.step_of}
-use Rattle.tape_core.specs.{Table.mount_of, Known.is_finished, Place.IsPlaced, Place.rest_of}
+use Rattle.tape_core.specs.{Behind.AreInOrder, Behind.behind_of, State.State, Known.is_finished}
+use Rattle.tape_core.specs.{Table.step_of, Table.mount_of, Place.IsPlaced, Place.rest_of}
 use Rattle.tape_core.specs.Weight.{IsFront}
-use Rattle.tape_set.specs.{Layout.FileSet, Lawful.IsLawful}
-use Rattle.tape_run.specs.{Mount.MountEvent, Mount.IsMount, Steps.ReadBy, ByTable.delivered_parts}
-use Rattle.tape_run.specs.{ByTable.IsLed, ByTable.IsCutAt, Given.IsGiven, Given.counted, Seen.Seen}
-use Rattle.tape_run.specs.declared.{reel_reader.ReelAnswer.ReelAnswer, fault.RunFault.RunFault}
-use Rattle.tape_run.specs.Reels.{behind_items, answers_to, GoesOn, ReadsReel}
 use Rattle.tape_run.specs.declared.fault.RunFault.TheVariants.{Sink, NoSuchPoint, TooFewReels}
+use Rattle.tape_run.specs.{Mount.MountEvent, Mount.IsMount, Steps.ReadBy, Seen.Seen}
+use Rattle.tape_run.specs.ByTable.{delivered_parts, IsLed, IsCutAt}
+use Rattle.tape_run.specs.{Given.IsGiven, Given.counted, declared.reel_reader.ReelAnswer.ReelAnswer}
+use Rattle.tape_run.specs.declared.fault.RunFault.{RunFault}
+use Rattle.tape_run.specs.Reels.{behind_items, answers_to, GoesOn, ReadsReel}
 use Rattle.tape_run.specs.declared.fault.RunFault.TheVariants.{OutOfMemory, OtherFile}
 
 -- the answer completes a section

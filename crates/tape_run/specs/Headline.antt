@@ -8,18 +8,17 @@
 use Rattle.std.specs.Prelude.{◌≡◌, ℕ, suc, ◌≤◌, List, [], ◌∷◌, length, take, drop, IsSome, Bool}
 use Rattle.std.specs.Prelude.{Option, Some, slice_get}
 use Rattle.tape_image.specs.{Tape.TapeItem, Begins.Stop, Begins.Begins}
-use Rattle.tape_core.specs.declared.sink.SinkFault.TheVariants.{Device}
+use Rattle.tape_core.specs.{declared.sink.SinkFault.TheVariants.Device, Table.reader_of}
 use Rattle.tape_set.specs.{Position.start, Lawful.IsLawful, Before.before}
 use Rattle.tape_set.specs.Layout.{FileSet, file_of}
-use Rattle.tape_run.specs.declared.{script.Step.Step, fault.RunFault.RunFault}
-use Rattle.tape_run.specs.declared.script.Step.TheVariants.{Reel, Save, Restart}
 use Rattle.tape_run.specs.declared.fault.RunFault.TheVariants.{Sink, NoSuchPoint, TooFewReels}
-use Rattle.tape_run.specs.declared.fault.RunFault.TheVariants.{OutOfMemory}
-use Rattle.tape_run.specs.{Mount.MountEvent, Mount.IsMount, Given.AreGivenBy, Given.failed_of}
-use Rattle.tape_run.specs.{Given.counted_up, Seen.Seen, Seen.IsSession, Steps.StoppedBy}
+use Rattle.tape_run.specs.{declared.script.Step.Step, declared.fault.RunFault.RunFault}
+use Rattle.tape_run.specs.declared.script.Step.TheVariants.{Reel, Save, Restart}
+use Rattle.tape_run.specs.{declared.fault.RunFault.TheVariants.OutOfMemory, Steps.StoppedBy}
+use Rattle.tape_run.specs.{Mount.MountEvent, Mount.IsMount, Seen.Seen, Seen.IsSession}
+use Rattle.tape_run.specs.Given.{AreGivenBy, failed_of, counted_up}
 use Rattle.tape_run.specs.History.{Course, course, course_of, IsHistory}
 use Rattle.tape_run.specs.Lead.{Lead, lead, at_start, AreItems, StandsThere, LeadsBy, StopsBy}
-use Rattle.tape_core.specs.Table.{reader_of}
 
 -- ---- all steps succeeded
 

@@ -1,12 +1,10 @@
 -- Histories, and the position that they lead to.
 use Rattle.std.specs.Prelude.{◌≡◌, ℕ, ◌+◌, ◌<◌, List, [], ◌∷◌, ◌++◌, map, take, Option, Some, None}
 use Rattle.std.specs.Prelude.{slice_get, ⊤}
-use Rattle.tape_set.specs.{Layout.FileSet, Reach.far}
-use Rattle.tape_set.specs.declared.position.Position.{Position}
+use Rattle.tape_set.specs.{Layout.FileSet, Reach.far, declared.position.Position.Position}
 use Rattle.tape_run.specs.Mount.{MountEvent, reads, foreign_reel, saves, restarts, IsMountOf}
-use Rattle.tape_run.specs.declared.script.Step.{Step}
+use Rattle.tape_run.specs.{declared.script.Step.Step, Seen.Seen}
 use Rattle.tape_run.specs.declared.script.Step.TheVariants.{Reel, Save, Restart}
-use Rattle.tape_run.specs.Seen.{Seen}
 
 -- a position, and the checkpoints, the oldest first
 pub record Course : Type 0 where

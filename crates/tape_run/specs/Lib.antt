@@ -18,7 +18,6 @@ pub mod Runs
 pub mod Crash
 pub mod CrashRuns
 -- Of private functions only.
-pub mod Under
 pub mod Made
 pub mod Puts
 pub mod Taking
@@ -139,7 +138,5 @@ pub mod CasesOfSeen
 pub mod CasesOfRounds
 pub mod CasesOfLaws
 pub mod CasesOfSurveys
-pub mod CasesOfCompared
-pub mod CasesOfForms
 pub mod CasesOfUnpacking
 pub mod CasesOfSalvage

@@ -1,18 +1,13 @@
 -- A worked listing, and the meaning of each outcome of listing, clause by clause.
 use Rattle.std.specs.Prelude.{◌≡◌, ◌≢◌, ℕ, List, [], ◌∷◌, ◌++◌, Option, codes}
 use Rattle.std.specs.Io.KnownBytes.{Appends, Keeps}
-use Rattle.tape_image.specs.declared.item.Ending.TheVariants.{Marked}
+use Rattle.tape_image.specs.{declared.item.Ending.TheVariants.Marked, Tape.bad, Tape.mark}
 use Rattle.tape_image.specs.declared.item.ImageCause.TheVariants.{Device, OutOfMemory}
-use Rattle.tape_image.specs.declared.item.ImageFault.{ImageFault}
-use Rattle.tape_image.specs.Tape.{bad, mark}
-use Rattle.tape_image.specs.Begins.{ends}
-use Rattle.tape_image.specs.Reader.{IfKnown}
-use Rattle.tape_image.specs.Step.{TakesEnd, TakesFault}
-use Rattle.tape_run.specs.declared.fault.ListFault.TheVariants.{WriteFailed}
-use Rattle.tape_run.specs.Listing.{lines_from, listing_of, IsListing}
-use Rattle.tape_image.specs.Written.{AppendsFront}
+use Rattle.tape_image.specs.{declared.item.ImageFault.ImageFault, Begins.ends, Reader.IfKnown}
+use Rattle.tape_image.specs.{Step.TakesEnd, Step.TakesFault, Written.AppendsFront}
 use Rattle.tape_run.specs.Listed.{ListsToEnd, ListsToFault, ListsInPart, StopsWriting, FitsFault}
-use Rattle.tape_run.specs.Listed.{FitsCause}
+use Rattle.tape_run.specs.{declared.fault.ListFault.TheVariants.WriteFailed, Listed.FitsCause}
+use Rattle.tape_run.specs.Listing.{lines_from, listing_of, IsListing}
 
 -- a worked listing
 pub record ListingIsWorked : Type 0 where

@@ -1,19 +1,14 @@
 -- The state after a run of `list`; the writer contained `old` before and contains `new` after.
 use Rattle.std.specs.Prelude.{◌≡◌, ◌≢◌, ℕ, ◌+◌, List, [], ◌∷◌, ◌++◌, length, Option}
 use Rattle.std.specs.Io.KnownBytes.{Appends, Keeps}
-use Rattle.tape_image.specs.declared.item.Ending.{Ending}
-use Rattle.tape_image.specs.declared.item.ImageCause.{ImageCause}
+use Rattle.tape_image.specs.{declared.item.Ending.Ending, declared.item.ImageCause.ImageCause}
 use Rattle.tape_image.specs.declared.item.ImageCause.TheVariants.{Device, OutOfMemory}
-use Rattle.tape_image.specs.declared.item.ImageFault.{ImageFault}
-use Rattle.tape_image.specs.Tape.{TapeItem}
-use Rattle.tape_image.specs.Begins.{ends, Walks}
-use Rattle.tape_image.specs.Reader.{IfKnown}
-use Rattle.tape_image.specs.Step.{TakesEnd, TakesFault}
-use Rattle.tape_run.specs.declared.fault.ListFault.{ListFault}
-use Rattle.tape_run.specs.declared.fault.ListFault.TheVariants.{Image, WriteFailed}
-use Rattle.tape_run.specs.ListLine.{line_of}
-use Rattle.tape_run.specs.Listing.{lines_from, end_line, listing_of, IsListing}
+use Rattle.tape_image.specs.{declared.item.ImageFault.ImageFault, Tape.TapeItem, Reader.IfKnown}
+use Rattle.tape_image.specs.{Begins.ends, Begins.Walks, Step.TakesEnd, Step.TakesFault}
 use Rattle.tape_image.specs.Written.{AppendsFront}
+use Rattle.tape_run.specs.{declared.fault.ListFault.ListFault, ListLine.line_of}
+use Rattle.tape_run.specs.declared.fault.ListFault.TheVariants.{Image, WriteFailed}
+use Rattle.tape_run.specs.Listing.{lines_from, end_line, listing_of, IsListing}
 
 -- The items that the bytes begin with, up to the end of the medium, were read, and the listing of
 -- the image was written. The rest of the bytes begins after the end-of-medium marker, if there is

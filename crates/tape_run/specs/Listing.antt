@@ -1,8 +1,7 @@
 -- The listing of an image.
 use Rattle.std.specs.Prelude.{◌≡◌, ℕ, ◌+◌, List, [], ◌∷◌, ◌++◌, codes}
-use Rattle.tape_image.specs.declared.item.Ending.{Ending}
+use Rattle.tape_image.specs.{declared.item.Ending.Ending, Tape.TapeItem}
 use Rattle.tape_image.specs.declared.item.Ending.TheVariants.{Marked, Physical}
-use Rattle.tape_image.specs.Tape.{TapeItem}
 use Rattle.tape_image.specs.Begins.{Stop, ends, faults, Begins}
 use Rattle.tape_run.specs.ListLine.{line_of}
 

@@ -1,29 +1,22 @@
 -- What the calls of merging do.
-use Rattle.std.specs.Prelude.{[], ◌∷◌, ◌++◌, ◌≡◌, ℕ, zero, suc, ◌+◌, ◌==◌, Bool, true, false}
-use Rattle.std.specs.Prelude.{List}
+use Rattle.std.specs.Prelude.{[], ◌∷◌, ◌++◌, ◌≡◌, ℕ, zero, suc, ◌+◌, ◌==◌, Bool, true, false, List}
 use Rattle.std.specs.Prelude.{length, map, take, Option, Some, None, Err, ⊤}
 use Rattle.std.specs.Io.KnownBytes.{Appends}
-use Rattle.tape_image.specs.Tape.{TapeItem, block, bad, mark}
-use Rattle.tape_image.specs.Reader.{going}
-use Rattle.tape_image.specs.declared.item.ImageWriteFault.{ImageWriteFault}
-use Rattle.tape_image.specs.Written.{written}
+use Rattle.tape_image.specs.{Tape.TapeItem, Tape.block, Tape.bad, Tape.mark, Reader.going}
+use Rattle.tape_image.specs.{declared.item.ImageWriteFault.ImageWriteFault, Written.written}
 use Rattle.tape_image.specs.Writer.{Writer, writing, PutsFrom, BlockFrom, PutItem, PutItems}
-use Rattle.tape_run.specs.declared.merge.candidate.Kind.{Kind}
+use Rattle.tape_run.specs.MergeSteps.{bads, one_if, column, goods_in, HaveTaken, AllStopped}
+use Rattle.tape_run.specs.{declared.merge.candidate.Kind.Kind, declared.merge.MergeFault.MergeFault}
 use Rattle.tape_run.specs.declared.merge.candidate.Kind.TheVariants.{Nothing, Bad, Mark, Block}
-use Rattle.tape_run.specs.declared.merge.reading.Reading.{Reading}
-use Rattle.tape_run.specs.declared.merge.reading.Verdict.{Verdict}
-use Rattle.tape_run.specs.declared.merge.reading.Verdict.TheVariants as verdicts
-use Rattle.tape_run.specs.declared.merge.MergeFault.{MergeFault}
-use Rattle.tape_run.specs.declared.merge.MergeFault.TheVariants as faults
-use Rattle.tape_run.specs.declared.merge.Merged.{Merged}
-use Rattle.tape_run.specs.declared.section.SectionState.TheVariants as states
+use Rattle.tape_run.specs.{declared.merge.reading.Reading.Reading, declared.merge.Merged.Merged}
+use Rattle.tape_run.specs.{declared.merge.reading.Verdict.Verdict, Passing.Told, Passing.told_from}
 use Rattle.tape_run.specs.declared.section.SectionState.{SectionState}
 use Rattle.tape_run.specs.declared.passing.Phase.TheVariants.{Volume}
-use Rattle.tape_run.specs.Passing.{Told, told_from}
-use Rattle.tape_run.specs.Merging.{IsMerged, Differ}
-use Rattle.tape_run.specs.MergeSteps.{bads, one_if, column, goods_in, HaveTaken, AllStopped}
+use Rattle.tape_run.specs.{Merging.IsMerged, Merging.Differ, MergeLog.is_logged, MergeLog.log_rows}
 use Rattle.tape_run.specs.MergeSteps.{AreUpTo, AreJudgedAt}
-use Rattle.tape_run.specs.MergeLog.{is_logged, log_rows}
+use Rattle.tape_run.specs.declared.merge.reading.Verdict.TheVariants as verdicts
+use Rattle.tape_run.specs.declared.merge.MergeFault.TheVariants as faults
+use Rattle.tape_run.specs.declared.section.SectionState.TheVariants as states
 
 -- the item of this kind and content
 abbrev pub candidate_of : Kind → List ℕ → Option TapeItem

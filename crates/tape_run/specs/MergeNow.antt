@@ -1,30 +1,20 @@
 -- What `merge_now` leaves: all images opened, the merged one under the output's name, and the
 -- report.
-use Rattle.std.specs.Prelude.{◌≡◌, ◌≢◌, ◌⊎◌, ℕ, ◌+◌, ◌<◌, List, [], ◌∷◌, ◌++◌, length, map}
-use Rattle.std.specs.Prelude.{Option, Some, None, ⊤}
-use Rattle.std.specs.List.{flat_map}
-use Rattle.std.specs.Io.KnownBytes.{Appends}
-use Rattle.tape_image.specs.declared.item.Ending.{Ending}
+use Rattle.std.specs.Prelude.{◌≡◌, ◌≢◌, ◌⊎◌, ℕ, ◌+◌, ◌<◌, List, [], ◌∷◌, ◌++◌, length, map, Option}
+use Rattle.std.specs.{Prelude.Some, Prelude.None, Prelude.⊤, List.flat_map, Io.KnownBytes.Appends}
+use Rattle.tape_image.specs.{declared.item.Ending.Ending, Tape.TapeItem, Reader.ended}
+use Rattle.tape_image.specs.{Begins.image_limit, Written.written, Written.AppendsFront}
 use Rattle.tape_image.specs.declared.item.Ending.TheVariants as endings
-use Rattle.tape_image.specs.Tape.{TapeItem}
-use Rattle.tape_image.specs.Reader.{ended}
-use Rattle.tape_image.specs.Begins.{image_limit}
-use Rattle.tape_image.specs.Written.{written, AppendsFront}
-use Rattle.tape_run.specs.declared.merge.Merged.{Merged}
-use Rattle.tape_run.specs.declared.merge.line.MergedEnd.{MergedEnd}
+use Rattle.tape_run.specs.{declared.merge.Merged.Merged, declared.merge.line.MergedEnd.MergedEnd}
 use Rattle.tape_run.specs.declared.merge.line.MergedEnd.TheVariants.{Marked, Physical, Cut}
-use Rattle.tape_run.specs.declared.merge.now.MergeEnd.{MergeEnd}
+use Rattle.tape_run.specs.{declared.merge.now.MergeEnd.MergeEnd, Merging.IsMerged}
 use Rattle.tape_run.specs.declared.merge.now.MergeEnd.TheVariants.{Whole, Partial, Differs}
-use Rattle.tape_run.specs.declared.merge.now.MergeStop.{MergeStop}
-use Rattle.tape_run.specs.declared.merge.now.MergeStop.TheVariants as stops
-use Rattle.tape_run.specs.declared.merge.reading.Reading.{Reading}
-use Rattle.tape_run.specs.Reeling.{Mounting, AreMounted}
-use Rattle.tape_run.specs.Merging.{IsMerged}
-use Rattle.tape_run.specs.MergeSteps.{AllStopped}
-use Rattle.tape_run.specs.MergeCalls.{Counts}
+use Rattle.tape_run.specs.{declared.merge.now.MergeStop.MergeStop, MergeSteps.AllStopped}
+use Rattle.tape_run.specs.{declared.merge.reading.Reading.Reading, MergeCalls.Counts}
+use Rattle.tape_run.specs.{Reeling.Mounting, Reeling.AreMounted, MergeLog.log_text}
 use Rattle.tape_run.specs.MergeLines.{reading_line, has_line, lines_from, merged_line, differ_line}
-use Rattle.tape_run.specs.MergeLog.{log_text}
 use Rattle.tape_run.specs.MergedImages.{TakeImages, DifferImages}
+use Rattle.tape_run.specs.declared.merge.now.MergeStop.TheVariants as stops
 
 -- ---- the images of a source
 

@@ -1,19 +1,14 @@
 -- Merging, in terms of the bytes of images.
 use Rattle.std.specs.Prelude.{◌≡◌, ◌⊎◌, ℕ, ◌+◌, List, [], ◌∷◌, ◌++◌, length, map, take, Option}
-use Rattle.std.specs.Prelude.{Some, ⊤}
-use Rattle.std.specs.Io.KnownBytes.{Appends}
-use Rattle.tape_image.specs.Tape.{TapeItem}
-use Rattle.tape_image.specs.Begins.{Stop, Begins, Walks}
+use Rattle.std.specs.{Prelude.Some, Prelude.⊤, Io.KnownBytes.Appends}
+use Rattle.tape_image.specs.{Tape.TapeItem, Begins.Stop, Begins.Begins, Begins.Walks}
 use Rattle.tape_image.specs.Writer.{Writer, PutItems}
-use Rattle.tape_run.specs.declared.merge.Merged.{Merged}
-use Rattle.tape_run.specs.declared.merge.MergeFault.{MergeFault}
-use Rattle.tape_run.specs.declared.merge.MergeFault.TheVariants as faults
-use Rattle.tape_run.specs.declared.merge.reading.Reading.{Reading}
-use Rattle.tape_run.specs.Merging.{IsMerged, Differ}
+use Rattle.tape_run.specs.{declared.merge.Merged.Merged, declared.merge.MergeFault.MergeFault}
+use Rattle.tape_run.specs.{declared.merge.reading.Reading.Reading, Merging.IsMerged, Merging.Differ}
 use Rattle.tape_run.specs.MergeSteps.{bads, block_length, AllStopped, AreUpTo, AreJudgedAt}
-use Rattle.tape_run.specs.MergeLaws.{TakesAs}
-use Rattle.tape_run.specs.MergeLog.{log_rows}
+use Rattle.tape_run.specs.{MergeLaws.TakesAs, MergeLog.log_rows}
 use Rattle.tape_run.specs.MergeCalls.{Counts, HasWritten, RefusesLast, StopsLogging}
+use Rattle.tape_run.specs.declared.merge.MergeFault.TheVariants as faults
 
 -- The fields record where the last item of the image begins, and its length.
 pub data LastIsAt {R : Type 0} (bytes : List ℕ) (now : Reading R) (items : List TapeItem) : Type 0

@@ -1,7 +1,6 @@
 -- The missing sections of a catalogue, one after another.
 use Rattle.std.specs.Prelude.{◌≡◌, ℕ, ◌+◌, ◌-◌, List, [], ◌∷◌, ◌++◌, drop, Option, Some, None}
-use Rattle.tape_run.specs.declared.section.Lack.{Lack}
-use Rattle.tape_run.specs.Passing.{Told}
+use Rattle.tape_run.specs.{declared.section.Lack.Lack, Passing.Told}
 use Rattle.tape_run.specs.Lacks.{SetFiles, file_lacks, set_lacks}
 
 -- the missing sections of these sets, of the first of which this many files are left out

@@ -4,10 +4,9 @@ use Rattle.std.specs.Prelude.{◌≡◌, ◌⊎◌, ◌==◌, ◌&&◌, not, Boo
 use Rattle.std.specs.Prelude.{Some, None, List, [], ◌∷◌, ◌++◌, map}
 use Rattle.std.specs.Str.{bytes_eq}
 use Rattle.tape_image.specs.Tape.{TapeItem}
-use Rattle.tape_run.specs.declared.section.{SectionKey.SectionKey, SectionState.SectionState}
-use Rattle.tape_run.specs.declared.section.Entry.{Entry}
+use Rattle.tape_run.specs.{declared.section.SectionKey.SectionKey, declared.section.Entry.Entry}
+use Rattle.tape_run.specs.{declared.section.SectionState.SectionState, Passing.Told, Shown.Shown}
 use Rattle.tape_run.specs.declared.section.SectionState.TheVariants.{Good, Bad, Count, Cut}
-use Rattle.tape_run.specs.{Passing.Told, Shown.Shown}
 
 -- one section
 abbrev pub same_key : SectionKey → SectionKey → Bool

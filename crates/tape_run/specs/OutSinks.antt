@@ -2,10 +2,9 @@
 use Rattle.std.specs.Prelude.{◌≡◌, ℕ, ◌+◌, ◌<◌, ⊤, Bool, true, false, List, [], ◌++◌, length}
 use Rattle.std.specs.Prelude.{Option, Some, None, IsSome, is_some}
 use Rattle.tape_blocks.specs.{Block.Portion, Spans.join, Packing.longest_block}
-use Rattle.tape_core.specs.{Known.most_staged, Stands.weight_of}
-use Rattle.tape_core.specs.declared.sink.SinkFault.{SinkFault}
-use Rattle.tape_core.specs.declared.sink.SinkFault.TheVariants.{OutOfMemory, Device, Full, Failed}
 use Rattle.tape_blocks.specs.declared.parts.Form.{Form}
+use Rattle.tape_core.specs.{Known.most_staged, Stands.weight_of, declared.sink.SinkFault.SinkFault}
+use Rattle.tape_core.specs.declared.sink.SinkFault.TheVariants.{OutOfMemory, Device, Full, Failed}
 use Rattle.tape_run.specs.RecordText.{output_of}
 
 -- the bytes of an unfinished record, if there is one

@@ -3,16 +3,11 @@
 use Rattle.std.specs.Prelude.{◌≡◌, ◌≤◌, ℕ, ◌+◌, ◌-◌, List, [], ◌∷◌, ◌++◌, length, Option, Some}
 use Rattle.std.specs.Prelude.{None, Bool, if◌then◌else◌, codes, decimal, unwrap_or}
 use Rattle.std.specs.Io.KnownBytes.{Appends}
-use Rattle.tape_image.specs.declared.item.Ending.{Ending}
-use Rattle.tape_image.specs.declared.item.ImageFault.{ImageFault}
-use Rattle.tape_image.specs.Tape.{TapeItem, block, bad, mark}
-use Rattle.tape_image.specs.Word.{block_extent}
-use Rattle.tape_image.specs.Spelling.{end_len}
-use Rattle.tape_image.specs.Begins.{image_limit}
+use Rattle.tape_image.specs.{declared.item.Ending.Ending, declared.item.ImageFault.ImageFault}
+use Rattle.tape_image.specs.{Tape.TapeItem, Tape.block, Tape.bad, Tape.mark, Word.block_extent}
+use Rattle.tape_image.specs.{Spelling.end_len, Begins.image_limit}
 use Rattle.tape_image.specs.Step.{TakesItem, TakesEnd, TakesFault}
-use Rattle.tape_run.specs.declared.fault.ListFault.{ListFault}
-use Rattle.tape_run.specs.ListLine.{line_of}
-use Rattle.tape_run.specs.Listing.{end_line}
+use Rattle.tape_run.specs.{declared.fault.ListFault.ListFault, ListLine.line_of, Listing.end_line}
 use Rattle.tape_run.specs.Listed.{AppendsInto, FitsBy}
 
 -- an item, the end of the item before it, and its own end

@@ -1,20 +1,15 @@
 -- Examples for the listing with offsets: a worked one, in which each number is the one in the
 -- image's bytes.
 use Rattle.std.specs.Prelude.{◌≡◌, ℕ, ◌+◌, ◌-◌, Bool, true, List, [], ◌∷◌, ◌++◌, length, map, codes}
-use Rattle.std.specs.Prelude.{Option}
-use Rattle.std.specs.Io.KnownBytes.{Appends, Keeps}
-use Rattle.tape_image.specs.declared.item.Ending.TheVariants.{Marked}
-use Rattle.tape_image.specs.declared.item.ImageCause.TheVariants.{OutOfMemory}
+use Rattle.std.specs.{Prelude.Option, Io.KnownBytes.Appends, Io.KnownBytes.Keeps}
+use Rattle.tape_image.specs.{declared.item.Ending.TheVariants.Marked, Begins.Walks, Reader.IfKnown}
+use Rattle.tape_image.specs.{declared.item.ImageCause.TheVariants.OutOfMemory, Written.AppendsFront}
 use Rattle.tape_image.specs.declared.item.ImageFault.{ImageFault}
 use Rattle.tape_image.specs.Tape.{TapeItem, block, bad, mark}
-use Rattle.tape_image.specs.Begins.{Walks}
-use Rattle.tape_image.specs.Reader.{IfKnown}
 use Rattle.tape_image.specs.Step.{TakesItem, TakesEnd, TakesFault}
-use Rattle.tape_run.specs.declared.fault.ListFault.TheVariants.{WriteFailed}
-use Rattle.tape_image.specs.Written.{AppendsFront}
 use Rattle.tape_run.specs.Placed.{PlacedItem, Places, item_size, placed_lines, placed_end}
+use Rattle.tape_run.specs.{declared.fault.ListFault.TheVariants.WriteFailed, Listed.FitsCause}
 use Rattle.tape_run.specs.Placed.{PlacesToEnd, PlacesToFault, StopsPlacing, FitsPlaces}
-use Rattle.tape_run.specs.Listed.{FitsCause}
 
 -- a gap, a mark, a gap and a bad block of nine bytes, and an end-of-medium marker
 abbrev pub some_items : List PlacedItem

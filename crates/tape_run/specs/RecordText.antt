@@ -1,7 +1,6 @@
 -- What `extract` writes: the records of a file, by the form.
 use Rattle.std.specs.Prelude.{ℕ, List, [], ◌∷◌, ◌++◌, codes, if◌then◌else◌}
-use Rattle.tape_blocks.specs.{Block.Portion, Spans.leaves, Spans.join}
-use Rattle.tape_blocks.specs.declared.parts.Form.{Form}
+use Rattle.tape_blocks.specs.{Block.Portion, Spans.leaves, Spans.join, declared.parts.Form.Form}
 use Rattle.tape_blocks.specs.declared.parts.Form.TheVariants.{Lines, Raw}
 
 -- the terminator of each record

@@ -1,30 +1,19 @@
 -- The work of `extract` on images, one after another.
 use Rattle.std.specs.Prelude.{◌≡◌, ◌≢◌, ◌⊎◌, ℕ, zero, suc, ◌+◌, ◌<◌, ◌≤◌, List, [], ◌∷◌, ◌++◌}
-use Rattle.std.specs.Prelude.{length, map, Option, get_or, set}
-use Rattle.std.specs.Prelude.{Some, None, IfSome, ⊤, Bool, true, false}
-use Rattle.std.specs.Io.KnownBytes.{Appends}
+use Rattle.std.specs.Prelude.{length, map, Option, get_or, set, Some, None, IfSome, ⊤, Bool, true}
+use Rattle.std.specs.{Prelude.false, Io.KnownBytes.Appends}
 use Rattle.tape_blocks.specs.Block.{Portion}
 use Rattle.tape_image.specs.Reader.{IfKnown}
 use Rattle.tape_set.specs.declared.position.Position.TheVariants.{Finished}
-use Rattle.tape_core.specs.State.{State}
-use Rattle.tape_core.specs.declared.event.Answer.{Answer}
-use Rattle.tape_core.specs.declared.event.Answer.TheVariants.{Useless}
+use Rattle.tape_core.specs.{State.State, declared.event.Answer.Answer, Place.rest_of, Point.Point}
+use Rattle.tape_core.specs.{declared.event.Answer.TheVariants.Useless, Stands.weight_of}
 use Rattle.tape_core.specs.declared.event.Reason.TheVariants.{BlockCount, Broken}
-use Rattle.tape_core.specs.Place.{rest_of}
-use Rattle.tape_core.specs.Point.{Point}
-use Rattle.tape_core.specs.declared.sink.PartSink.{Ghosts}
-use Rattle.tape_run.specs.declared.reel_reader.ReelAnswer.{ReelAnswer}
-use Rattle.tape_core.specs.Stands.{weight_of}
-use Rattle.tape_core.specs.Table.{saved}
-use Rattle.tape_run.specs.Crash.{KeepsLast, IsLast}
-use Rattle.tape_run.specs.Given.{is_device}
-use Rattle.tape_run.specs.Reels.{Reads}
+use Rattle.tape_core.specs.{declared.sink.PartSink.Ghosts, Table.saved}
+use Rattle.tape_run.specs.{declared.reel_reader.ReelAnswer.ReelAnswer, Given.is_device, Reels.Reads}
+use Rattle.tape_run.specs.{Crash.KeepsLast, Crash.IsLast, Steps.Reeled, Steps.Saved, Steps.WentBack}
 use Rattle.tape_run.specs.Seen.{Seen, seen, IsKept, IfSeen, IsSeen}
-use Rattle.tape_run.specs.Steps.{Reeled, Saved, WentBack}
-use Rattle.tape_run.specs.Headline.{HasRun}
-use Rattle.tape_run.specs.declared.script.Step.{Step}
+use Rattle.tape_run.specs.{Headline.HasRun, declared.script.Step.Step, SessionState.SessionState}
 use Rattle.tape_run.specs.declared.script.Step.TheVariants.{Reel, Save, Restart}
-use Rattle.tape_run.specs.SessionState.{SessionState}
 use Rattle.tape_run.specs.ReelLine.{reel_lines}
 
 -- An image that was opened: the bytes that its reader had and has left, if these are known, the

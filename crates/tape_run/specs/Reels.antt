@@ -1,21 +1,19 @@
 -- The answer of a reel: the core's answers to the items that the reader returned, one after
 -- another.
 use Rattle.std.specs.Prelude.{◌≡◌, ◌⊎◌, ℕ, ◌+◌, ◌≤◌, Bool, List, [], ◌∷◌, ◌++◌, Option, Some, None}
-use Rattle.std.specs.Prelude.{⊤}
-use Rattle.std.specs.List.{AllByRecursion}
-use Rattle.tape_image.specs.declared.item.{ImageFault.ImageFault, Ending.Ending}
-use Rattle.tape_image.specs.{Tape.TapeItem, Tape.block, Begins.Walks, Reader.IfKnown, Step.TakesEnd}
-use Rattle.tape_image.specs.Step.{TakesFault}
-use Rattle.tape_core.specs.declared.event.Answer.{Answer}
+use Rattle.std.specs.{Prelude.⊤, List.AllByRecursion}
+use Rattle.tape_image.specs.{declared.item.ImageFault.ImageFault, declared.item.Ending.Ending}
+use Rattle.tape_image.specs.{Tape.TapeItem, Tape.block, Begins.Walks, Reader.IfKnown}
+use Rattle.tape_image.specs.Step.{TakesEnd, TakesFault}
+use Rattle.tape_core.specs.{declared.event.Answer.Answer, State.State, Point.Point, Follows.IsFinal}
 use Rattle.tape_core.specs.declared.event.Answer.TheVariants.{Passed, Deliver, Complete}
-use Rattle.tape_set.specs.Position.{part_of}
-use Rattle.tape_set.specs.declared.position.Position.{Position}
+use Rattle.tape_core.specs.Place.{rest_of, place_of}
+use Rattle.tape_core.specs.Table.{step_of, mount_of, saved}
+use Rattle.tape_set.specs.{Position.part_of, declared.position.Position.Position}
 use Rattle.tape_set.specs.declared.position.Position.TheVariants.{Awaits, Finished}
-use Rattle.tape_core.specs.{State.State, Place.rest_of, Place.place_of, Point.Point, Table.step_of}
-use Rattle.tape_core.specs.{Table.mount_of, Table.saved, Follows.IsFinal}
-use Rattle.tape_run.specs.declared.{reel_reader.ReelAnswer.ReelAnswer, fault.RunFault.RunFault}
+use Rattle.tape_run.specs.{declared.reel_reader.ReelAnswer.ReelAnswer, Puts.refused_point}
+use Rattle.tape_run.specs.declared.fault.RunFault.{RunFault}
 use Rattle.tape_run.specs.declared.fault.RunFault.TheVariants.{Sink, OutOfMemory}
-use Rattle.tape_run.specs.Puts.{refused_point}
 
 -- the core after these items
 abbrev pub behind_items : State → List TapeItem → State

@@ -1,15 +1,11 @@
 -- The work of `extract` on images, in several passes.
 use Rattle.std.specs.Prelude.{◌≡◌, ◌≢◌, ◌⊎◌, ℕ, ◌+◌, ◌<◌, List, [], ◌∷◌, ◌++◌, length, map, Option}
-use Rattle.std.specs.Prelude.{None, ⊤, Bool, true}
-use Rattle.std.specs.Io.KnownBytes.{Appends}
-use Rattle.tape_set.specs.declared.position.Want.{Want}
-use Rattle.tape_set.specs.Position.{want_at}
-use Rattle.tape_core.specs.State.{State}
-use Rattle.tape_core.specs.declared.sink.PartSink.{Ghosts}
+use Rattle.std.specs.{Prelude.None, Prelude.⊤, Prelude.Bool, Prelude.true, Io.KnownBytes.Appends}
+use Rattle.tape_set.specs.{declared.position.Want.Want, Position.want_at}
+use Rattle.tape_core.specs.{State.State, declared.sink.PartSink.Ghosts}
 use Rattle.tape_run.specs.{ReelLine.reel_lines, Stopping.StopsReading, Seen.Seen}
-use Rattle.tape_run.specs.SessionState.{SessionState}
+use Rattle.tape_run.specs.{SessionState.SessionState, declared.fault.EngineFault.EngineFault}
 use Rattle.tape_run.specs.Reeling.{Turn, answer_of, AreTurns, Follows, Mounting, Carries, TakesAll}
-use Rattle.tape_run.specs.declared.fault.EngineFault.{EngineFault}
 
 -- A pass over the images: the outcome of each, and the reader's state after the last one.
 pub record Round : Type 0 where

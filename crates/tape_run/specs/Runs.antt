@@ -2,14 +2,13 @@
 use Rattle.std.specs.Prelude.{◌≡◌, ℕ, Bool, List, [], ◌∷◌, length, map, take, drop, Option, Some}
 use Rattle.std.specs.Prelude.{None, slice_get, ⊤, ◌⊎◌}
 use Rattle.tape_set.specs.Layout.{FileSet}
-use Rattle.tape_run.specs.declared.{fault.RunFault.RunFault, script.Step.Step}
 use Rattle.tape_run.specs.declared.fault.RunFault.TheVariants.{Sink, NoSuchPoint, TooFewReels}
+use Rattle.tape_run.specs.Steps.{Reeled, Saved, WentBack, ReelFails, SaveFails, RestartFails}
+use Rattle.tape_run.specs.{declared.fault.RunFault.RunFault, declared.script.Step.Step, Seen.Seen}
 use Rattle.tape_run.specs.declared.fault.RunFault.TheVariants.{OutOfMemory, OtherFile}
 use Rattle.tape_run.specs.declared.script.Step.TheVariants.{Reel, Save, Restart}
-use Rattle.tape_run.specs.{Headline.reels_in, Mount.MountEvent, History.IsHistory, Seen.Seen}
-use Rattle.tape_run.specs.{Causes.IsCalm, SessionState.SessionState}
-use Rattle.tape_run.specs.Steps.{Reeled, Saved, WentBack, ReelFails, SaveFails, RestartFails}
-use Rattle.tape_run.specs.Steps.{Refuses, RefusesRestart}
+use Rattle.tape_run.specs.{Headline.reels_in, Mount.MountEvent, History.IsHistory, Causes.IsCalm}
+use Rattle.tape_run.specs.{SessionState.SessionState, Steps.Refuses, Steps.RefusesRestart}
 use Rattle.tape_core.specs.declared.sink.PartSink.{Ghosts}
 
 -- All steps succeeded, one after another, each reel with the next reader; the lists say whether the

@@ -2,13 +2,11 @@
 use Rattle.std.specs.Prelude.{◌≡◌, ℕ, ◌-◌, ◌||◌, Bool, true, false, if◌then◌else◌, List, [], ◌++◌}
 use Rattle.std.specs.Prelude.{is_some, Option, Some, None}
 use Rattle.std.specs.Io.KnownBytes.{Appends}
-use Rattle.tape_image.specs.Tape.{TapeItem, block, bad, mark}
-use Rattle.tape_image.specs.Written.{AppendsFront}
+use Rattle.tape_image.specs.{Tape.TapeItem, Tape.block, Tape.bad, Tape.mark, Written.AppendsFront}
 use Rattle.tape_blocks.specs.declared.check.BlockFault.{BlockFault}
 use Rattle.tape_set.specs.Lawful.{FileForm}
-use Rattle.tape_run.specs.SalvageWalk.{first_of}
 use Rattle.tape_run.specs.SalvageRecords.{Piece, Start, HasPiece, nothing, mended, found_fault}
-use Rattle.tape_run.specs.SalvageRecords.{torn, is_cut}
+use Rattle.tape_run.specs.{SalvageWalk.first_of, SalvageRecords.torn, SalvageRecords.is_cut}
 use Rattle.tape_run.specs.SalvageLine.{gap_line, torn_line, refused_line}
 use Rattle.tape_run.specs.declared.salvage.recovery.Recovery.{Recovery}
 

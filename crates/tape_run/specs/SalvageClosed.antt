@@ -1,12 +1,11 @@
 -- The items of a section that closes.
 use Rattle.std.specs.Prelude.{◌≡◌, ℕ, min, ◌==◌, ◌&&◌, true, List, [], ◌∷◌, ◌++◌, length, Some}
-use Rattle.std.specs.Prelude.{None, Ok}
-use Rattle.std.specs.List.{AllByRecursion}
+use Rattle.std.specs.{Prelude.None, Prelude.Ok, List.AllByRecursion}
 use Rattle.tape_image.specs.Tape.{TapeItem, block, bad, mark}
-use Rattle.tape_label.specs.declared.values.{Head1.Head1, Trail1.Trail1}
+use Rattle.tape_label.specs.{declared.values.Head1.Head1, declared.values.Trail1.Trail1}
 use Rattle.tape_label.specs.Reading.{head1_at, trail1_at}
-use Rattle.tape_run.specs.declared.salvage.walk.{OpenSection.OpenSection, Closing.Closing}
-use Rattle.tape_run.specs.{SurveyDigest.digest_with, SalvageGaps.IsReadable}
+use Rattle.tape_run.specs.{declared.salvage.walk.OpenSection.OpenSection, SurveyDigest.digest_with}
+use Rattle.tape_run.specs.{declared.salvage.walk.Closing.Closing, SalvageGaps.IsReadable}
 use Rattle.tape_run.specs.SalvageWalk.{FoundAt, section_by, sections_in}
 
 abbrev pub IsNoMark : TapeItem → Type 0

@@ -3,16 +3,15 @@ use Rattle.std.specs.Prelude.{◌≡◌, ◌≢◌, ℕ, ◌==◌, ◌&&◌, Boo
 use Rattle.std.specs.Prelude.{◌++◌, length, Some, None, Ok}
 use Rattle.std.specs.List.{AllByRecursion}
 use Rattle.tape_image.specs.Tape.{TapeItem, block, bad, mark}
-use Rattle.tape_label.specs.declared.values.{Head1.Head1, Trail1.Trail1}
+use Rattle.tape_label.specs.{declared.values.Head1.Head1, declared.values.Trail1.Trail1}
 use Rattle.tape_label.specs.Reading.{head1_at, trail1_at}
 use Rattle.tape_set.specs.{Layout.Placed, Layout.Volume, Laws.StandsIn}
 use Rattle.tape_set.specs.Lawful.{IsSection, IsVolume, label_count}
-use Rattle.tape_run.specs.declared.salvage.walk.{OpenSection.OpenSection, Closing.Closing}
-use Rattle.tape_run.specs.declared.section.SectionKey.{SectionKey}
-use Rattle.tape_run.specs.SalvageWalk.{FoundAt, sections_in}
-use Rattle.tape_run.specs.{SalvageWhole.Blocks, SalvageClosed.digest_items}
 use Rattle.tape_run.specs.SalvageSections.{Labels, read_labels, labels_of, read_blocks, filled_of}
-use Rattle.tape_run.specs.SalvageSections.{AreLabels}
+use Rattle.tape_run.specs.{declared.salvage.walk.OpenSection.OpenSection, SalvageWhole.Blocks}
+use Rattle.tape_run.specs.{declared.salvage.walk.Closing.Closing, SalvageClosed.digest_items}
+use Rattle.tape_run.specs.{declared.section.SectionKey.SectionKey, SalvageSections.AreLabels}
+use Rattle.tape_run.specs.SalvageWalk.{FoundAt, sections_in}
 
 -- which items of a section were read
 pub record AnySection : Type 0 where

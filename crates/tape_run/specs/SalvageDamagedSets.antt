@@ -4,14 +4,13 @@ use Rattle.std.specs.Prelude.{◌≡◌, ◌≢◌, ◌⊎◌, ℕ, List, ◌++�
 use Rattle.std.specs.List.{AllByRecursion}
 use Rattle.tape_image.specs.Tape.{TapeItem, block, bad, mark}
 use Rattle.tape_image.specs.Begins.{Stop, Begins}
-use Rattle.tape_label.specs.declared.values.Head1.{Head1}
-use Rattle.tape_label.specs.Reading.{head1_at}
+use Rattle.tape_label.specs.{declared.values.Head1.Head1, Reading.head1_at}
 use Rattle.tape_set.specs.Layout.{FileSet, Placed, items, on, sections}
 use Rattle.tape_set.specs.{Lawful.IsLawful, Lawful.label_count, Laws.StandsIn}
 use Rattle.tape_set.specs.Reading.{Reading, IsReadingOf, as_read}
-use Rattle.tape_run.specs.declared.salvage.{copies.SectionCopy.SectionCopy, walk.Closing.Closing}
-use Rattle.tape_run.specs.{Checked.Reel, SalvageWalk.sections_in, SalvageWhole.Blocks}
-use Rattle.tape_run.specs.{SalvageClosed.digest_items, Salvaging.FindsOnAll}
+use Rattle.tape_run.specs.{declared.salvage.copies.SectionCopy.SectionCopy, Checked.Reel}
+use Rattle.tape_run.specs.{declared.salvage.walk.Closing.Closing, SalvageWalk.sections_in}
+use Rattle.tape_run.specs.{SalvageWhole.Blocks, SalvageClosed.digest_items, Salvaging.FindsOnAll}
 use Rattle.tape_run.specs.SalvageSections.{read_blocks, filled_of}
 use Rattle.tape_run.specs.SalvageDamaged.{AnySection, IsPlain, IsPlainSection, IsFoundExactly}
 

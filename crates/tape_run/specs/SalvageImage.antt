@@ -1,14 +1,11 @@
 -- A section recovered from one image.
 use Rattle.std.specs.Prelude.{◌≡◌, ◌≤◌, ℕ, ◌+◌, ◌&&◌, nat_lt, Bool, true, false, List, [], ◌∷◌}
 use Rattle.std.specs.Prelude.{◌++◌, Option, Some, None, IfSome, if◌then◌else◌}
-use Rattle.tape_image.specs.Tape.{TapeItem, mark}
-use Rattle.tape_image.specs.Begins.{Walks, image_limit}
+use Rattle.tape_image.specs.{Tape.TapeItem, Tape.mark, Begins.Walks, Begins.image_limit}
 use Rattle.tape_image.specs.Reader.{IfKnown}
 use Rattle.tape_set.specs.Lawful.{FileForm}
-use Rattle.tape_run.specs.declared.section.SectionKey.{SectionKey}
-use Rattle.tape_run.specs.declared.section.ImageStop.{ImageStop}
-use Rattle.tape_run.specs.Added.{StopsBehind}
-use Rattle.tape_run.specs.Noted.{same_key}
+use Rattle.tape_run.specs.{declared.section.SectionKey.SectionKey, Added.StopsBehind}
+use Rattle.tape_run.specs.{declared.section.ImageStop.ImageStop, Noted.same_key}
 use Rattle.tape_run.specs.declared.salvage.recovery.Recovery.{Recovery}
 use Rattle.tape_run.specs.declared.salvage.walk.Expected.{Expected}
 use Rattle.tape_run.specs.declared.salvage.walk.Expected.TheVariants.{Data, Trailer}

@@ -1,7 +1,6 @@
 -- The lines of `salvage`. Numbers are plain decimals.
 use Rattle.std.specs.Prelude.{ℕ, Bool, if◌then◌else◌, List, ◌++◌, codes, decimal}
-use Rattle.tape_blocks.specs.declared.check.BlockFault.{BlockFault}
-use Rattle.tape_blocks.specs.Numbers.{cause_number}
+use Rattle.tape_blocks.specs.{declared.check.BlockFault.BlockFault, Numbers.cause_number}
 
 -- a space and a number
 abbrev pub number_text : ℕ → List ℕ

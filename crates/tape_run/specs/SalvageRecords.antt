@@ -2,13 +2,12 @@
 use Rattle.std.specs.Prelude.{◌≡◌, ℕ, ◌+◌, ◌&&◌, min, Bool, true, false, if◌then◌else◌, List, []}
 use Rattle.std.specs.Prelude.{◌∷◌, ◌++◌, Option, Some, None, Result, Ok, Err}
 use Rattle.std.specs.{List.flat_map, Io.KnownBytes.Appends}
-use Rattle.tape_blocks.specs.declared.parts.{Form.Form, Span.TheVariants.Whole}
-use Rattle.tape_blocks.specs.declared.check.BlockFault.{BlockFault}
-use Rattle.tape_blocks.specs.{Block.Portion, Judged.judged, Spans.continues, Spans.leaves}
+use Rattle.tape_blocks.specs.{declared.parts.Form.Form, declared.parts.Span.TheVariants.Whole}
+use Rattle.tape_blocks.specs.{declared.check.BlockFault.BlockFault, Block.Portion, Judged.judged}
+use Rattle.tape_blocks.specs.Spans.{continues, leaves}
 use Rattle.tape_set.specs.Lawful.{FileForm}
 use Rattle.tape_core.specs.Parts.{goes_on_at, parts_in}
-use Rattle.tape_run.specs.RecordText.{part_text}
-use Rattle.tape_run.specs.declared.salvage.mender.Mender.{Mender}
+use Rattle.tape_run.specs.{RecordText.part_text, declared.salvage.mender.Mender.Mender}
 
 -- The parts of the complete records, those of an unfinished record after them, and whether
 -- something is missing and no record has begun since.

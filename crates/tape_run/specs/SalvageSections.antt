@@ -1,20 +1,19 @@
 -- The records recovered of a section of a valid set of which HDR1, the trailer label and the tape
 -- marks were read; any of its blocks, and any of its other labels, may be unreadable.
 use Rattle.std.specs.Prelude.{◌≡◌, ◌⊎◌, ℕ, nat_lt, Bool, true, false, if◌then◌else◌, List, [], ◌∷◌}
-use Rattle.std.specs.Prelude.{◌++◌, length, Some, Err}
-use Rattle.std.specs.List.{AllByRecursion}
+use Rattle.std.specs.{Prelude.◌++◌, Prelude.length, Prelude.Some, Prelude.Err, List.AllByRecursion}
 use Rattle.tape_image.specs.Tape.{TapeItem, block, bad, mark}
-use Rattle.tape_label.specs.declared.label.LabelFault.{LabelFault}
-use Rattle.tape_label.specs.Reading.{head1_at}
+use Rattle.tape_label.specs.{declared.label.LabelFault.LabelFault, Reading.head1_at}
 use Rattle.tape_blocks.specs.Tight.{Filled}
 use Rattle.tape_set.specs.Layout.{Placed, Volume}
 use Rattle.tape_set.specs.Lawful.{IsSection, IsVolume, FileForm, label_count}
-use Rattle.tape_run.specs.declared.salvage.walk.{Expected.Expected, OpenSection.OpenSection}
+use Rattle.tape_run.specs.{declared.salvage.walk.Expected.Expected, Noted.same_key}
+use Rattle.tape_run.specs.{declared.salvage.walk.OpenSection.OpenSection, SalvageBlocks.Salvaged}
 use Rattle.tape_run.specs.declared.salvage.walk.Closing.{Closing}
 use Rattle.tape_run.specs.declared.section.SectionKey.{SectionKey}
-use Rattle.tape_run.specs.{Noted.same_key, SalvageWalk.expected_after, SalvageWalk.found_from}
-use Rattle.tape_run.specs.{SalvageBlocks.Salvaged, SalvageImage.salvaged_from}
-use Rattle.tape_run.specs.{SalvageImage.EndsData, SalvageWhole.Blocks, SalvageWhole.piece_after}
+use Rattle.tape_run.specs.SalvageWalk.{expected_after, found_from}
+use Rattle.tape_run.specs.SalvageImage.{salvaged_from, EndsData}
+use Rattle.tape_run.specs.SalvageWhole.{Blocks, piece_after}
 use Rattle.tape_run.specs.declared.salvage.walk.Expected.TheVariants.{Outside, Next}
 
 -- ---- what was read

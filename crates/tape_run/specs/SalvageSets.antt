@@ -6,19 +6,17 @@ use Rattle.std.specs.List.{AllByRecursion}
 use Rattle.tape_image.specs.Tape.{TapeItem}
 use Rattle.tape_blocks.specs.Block.{Portion}
 use Rattle.tape_set.specs.Layout.{FileSet, Section, Placed, items, entries, numbered, file_of}
-use Rattle.tape_set.specs.Layout.{section_of}
-use Rattle.tape_set.specs.Lawful.{IsLawful, FileForm, HasForm}
+use Rattle.tape_set.specs.{Layout.section_of, Lawful.IsLawful, Lawful.FileForm, Lawful.HasForm}
 use Rattle.tape_set.specs.{Before.section_parts, Reach.passes, Laws.StandsIn}
 use Rattle.tape_set.specs.Reading.{Reading, IsReadingOf, as_read}
-use Rattle.tape_run.specs.declared.salvage.Content.TheVariants.{Records}
-use Rattle.tape_run.specs.declared.salvage.copies.SectionCopy.{SectionCopy}
-use Rattle.tape_run.specs.{SalvageWalk.sections_in, SalvageRecords.nothing, SalvageImage.EndsData}
-use Rattle.tape_run.specs.SalvageReadings.{IsReadVolume}
+use Rattle.tape_run.specs.SalvageWhole.{Blocks, parts_with, whole_parts, piece_after, all_parts}
+use Rattle.tape_run.specs.{declared.salvage.Content.TheVariants.Records, SalvageWalk.sections_in}
+use Rattle.tape_run.specs.{declared.salvage.copies.SectionCopy.SectionCopy, SalvageRecords.nothing}
+use Rattle.tape_run.specs.{SalvageImage.EndsData, SalvageReadings.IsReadVolume}
 use Rattle.tape_run.specs.SalvageCopies.{of_file, start_of, rank}
 use Rattle.tape_run.specs.SalvageBlocks.{Salvaged, none_salvaged}
 use Rattle.tape_run.specs.SalvageChoice.{firsts, IsBest, form_of_file}
 use Rattle.tape_run.specs.SalvageTaking.{Taken, AreAllSections, after_file}
-use Rattle.tape_run.specs.SalvageWhole.{Blocks, parts_with, whole_parts, piece_after, all_parts}
 use Rattle.tape_run.specs.SalvageWhole.{not_read}
 use Rattle.tape_run.specs.SalvageSections.{SectionRead, filled_of}
 

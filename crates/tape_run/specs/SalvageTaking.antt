@@ -4,23 +4,18 @@ use Rattle.std.specs.Prelude.{List, [], ◌∷◌, ◌++◌, length, Option, Som
 use Rattle.std.specs.List.{AllByRecursion}
 use Rattle.tape_image.specs.Tape.{TapeItem}
 use Rattle.tape_set.specs.Lawful.{FileForm}
-use Rattle.tape_run.specs.declared.salvage.Content.{Content}
-use Rattle.tape_run.specs.declared.salvage.Content.TheVariants.{Records, Blocks}
-use Rattle.tape_run.specs.declared.salvage.ending.SectionEnd.{SectionEnd}
 use Rattle.tape_run.specs.declared.salvage.ending.SectionEnd.TheVariants.{FileEnds, Continues}
+use Rattle.tape_run.specs.SalvageEnds.{without_rest, no_section_text, no_form_text, read_again}
+use Rattle.tape_run.specs.{declared.salvage.Content.Content, declared.salvage.walk.Closing.Closing}
+use Rattle.tape_run.specs.declared.salvage.Content.TheVariants.{Records, Blocks}
+use Rattle.tape_run.specs.{declared.salvage.ending.SectionEnd.SectionEnd, Reeling.Mounting}
 use Rattle.tape_run.specs.declared.salvage.ending.SectionEnd.TheVariants.{Unknown}
 use Rattle.tape_run.specs.declared.salvage.copies.SectionCopy.{SectionCopy}
-use Rattle.tape_run.specs.declared.salvage.recovery.Recovery.{Recovery}
-use Rattle.tape_run.specs.declared.salvage.walk.Closing.{Closing}
-use Rattle.tape_run.specs.Reeling.{Mounting}
+use Rattle.tape_run.specs.{declared.salvage.recovery.Recovery.Recovery, SalvageLine.section_line}
 use Rattle.tape_run.specs.SalvageCopies.{believed, start_of}
-use Rattle.tape_run.specs.SalvageLine.{section_line}
 use Rattle.tape_run.specs.SalvageBlocks.{Salvaged, Recovers}
-use Rattle.tape_run.specs.SalvageWalk.{expected_after}
-use Rattle.tape_run.specs.SalvageImage.{ReadsSection, BeginsWith, read_in}
-use Rattle.tape_run.specs.SalvageImage.{salvaged_from, text_from}
-use Rattle.tape_run.specs.SalvageEnds.{without_rest, no_section_text, no_form_text}
-use Rattle.tape_run.specs.SalvageEnds.{read_again, read_again_text}
+use Rattle.tape_run.specs.{SalvageWalk.expected_after, SalvageEnds.read_again_text}
+use Rattle.tape_run.specs.SalvageImage.{ReadsSection, BeginsWith, read_in, salvaged_from, text_from}
 use Rattle.tape_run.specs.SalvageChoice.{firsts, IsBest, form_of_file, last_section}
 
 -- the form in which a section's blocks are read: its own, otherwise that of the file

@@ -2,12 +2,11 @@
 use Rattle.std.specs.Prelude.{◌≡◌, ◌≢◌, ℕ, min, List, [], ◌∷◌, ◌++◌, length, Some, None, Ok}
 use Rattle.std.specs.List.{AllByRecursion}
 use Rattle.tape_image.specs.Tape.{TapeItem, block, bad, mark}
-use Rattle.tape_label.specs.declared.values.Trail1.{Trail1}
-use Rattle.tape_label.specs.Reading.{trail1_at}
+use Rattle.tape_label.specs.{declared.values.Trail1.Trail1, Reading.trail1_at}
 use Rattle.tape_set.specs.Lawful.{label_count}
-use Rattle.tape_run.specs.declared.salvage.walk.{OpenSection.OpenSection, Closing.Closing}
+use Rattle.tape_run.specs.{declared.salvage.walk.OpenSection.OpenSection, SalvageSections.IsNoHead}
+use Rattle.tape_run.specs.{declared.salvage.walk.Closing.Closing, SalvageClosed.IsNoMark}
 use Rattle.tape_run.specs.SalvageWalk.{FoundAt, section_by, sections_in}
-use Rattle.tape_run.specs.{SalvageSections.IsNoHead, SalvageClosed.IsNoMark}
 
 -- the item does not read as HDR1
 abbrev pub IsNoFirst : TapeItem → Type 0

@@ -1,11 +1,10 @@
 -- The records recovered of a file with missing blocks: exactly those that lie entirely in blocks
 -- that were read.
 use Rattle.std.specs.Prelude.{◌≡◌, ◌≢◌, ℕ, ◌+◌, ◌&&◌, Bool, true, false, List, [], ◌∷◌, ◌++◌, Some}
-use Rattle.std.specs.Prelude.{if◌then◌else◌}
-use Rattle.std.specs.List.{AllByRecursion}
+use Rattle.std.specs.{Prelude.if◌then◌else◌, List.AllByRecursion}
 use Rattle.tape_blocks.specs.{Block.Portion, Block.Holds, Spans.leaves, Spans.InOrder, Tight.Filled}
-use Rattle.tape_set.specs.Lawful.{FileForm}
 use Rattle.tape_blocks.specs.declared.parts.Form.{Form}
+use Rattle.tape_set.specs.Lawful.{FileForm}
 use Rattle.tape_run.specs.RecordText.{output_of}
 use Rattle.tape_run.specs.SalvageRecords.{Piece, nothing, mended, torn, parts_text}
 

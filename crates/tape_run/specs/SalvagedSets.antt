@@ -1,27 +1,15 @@
 -- A file of a valid set as a call of `salvage_to` recovers it from images of the set's volumes.
 use Rattle.std.specs.Prelude.{◌≡◌, ◌<◌, ℕ, ◌+◌, Bool, true, List, [], ◌∷◌, length, Option, Some}
-use Rattle.std.specs.Prelude.{None, slice_get}
-use Rattle.std.specs.List.{AllByRecursion}
-use Rattle.std.specs.Io.KnownBytes.{Appends}
-use Rattle.tape_image.specs.Tape.{TapeItem}
-use Rattle.tape_image.specs.Begins.{Stop, Begins}
+use Rattle.std.specs.{Prelude.None, Prelude.slice_get, List.AllByRecursion, Io.KnownBytes.Appends}
+use Rattle.tape_image.specs.{Tape.TapeItem, Begins.Stop, Begins.Begins}
 use Rattle.tape_set.specs.Layout.{FileSet, Section, numbered, file_of}
-use Rattle.tape_set.specs.Lawful.{IsLawful}
-use Rattle.tape_set.specs.Before.{section_parts}
-use Rattle.tape_set.specs.Reading.{Reading}
-use Rattle.tape_run.specs.declared.salvage.Content.TheVariants.{Records}
-use Rattle.tape_run.specs.declared.salvage.SalvageTask.{SalvageTask}
-use Rattle.tape_run.specs.declared.salvage.copies.SectionCopy.{SectionCopy}
-use Rattle.tape_run.specs.Checked.{Reel}
-use Rattle.tape_run.specs.Reeling.{Mounting}
-use Rattle.tape_run.specs.RecordText.{output_of}
-use Rattle.tape_run.specs.WholeSet.{IsNoDevice}
-use Rattle.tape_run.specs.SalvageWalk.{sections_in}
-use Rattle.tape_run.specs.SalvageCopies.{of_file, start_of}
-use Rattle.tape_run.specs.SalvageRecords.{parts_text}
-use Rattle.tape_run.specs.SalvageBlocks.{Salvaged}
-use Rattle.tape_run.specs.SalvageImage.{EndsData}
-use Rattle.tape_run.specs.SalvageTaking.{Taken}
+use Rattle.tape_set.specs.{Lawful.IsLawful, Before.section_parts, Reading.Reading}
+use Rattle.tape_run.specs.{declared.salvage.Content.TheVariants.Records, Checked.Reel}
+use Rattle.tape_run.specs.{declared.salvage.SalvageTask.SalvageTask, Reeling.Mounting}
+use Rattle.tape_run.specs.{declared.salvage.copies.SectionCopy.SectionCopy, RecordText.output_of}
+use Rattle.tape_run.specs.{WholeSet.IsNoDevice, SalvageWalk.sections_in, SalvageRecords.parts_text}
+use Rattle.tape_run.specs.{SalvageCopies.of_file, SalvageCopies.start_of, SalvageBlocks.Salvaged}
+use Rattle.tape_run.specs.{SalvageImage.EndsData, SalvageTaking.Taken}
 use Rattle.tape_run.specs.SalvageSets.{items_read, IsCompleteOr, HasVolume, IsRecovered}
 use Rattle.tape_run.specs.Salvaging.{FindsOnAll, Salvages}
 

@@ -3,17 +3,14 @@ use Rattle.std.specs.Prelude.{◌≡◌, ◌⊎◌, ◌<◌, ◌≤◌, ℕ, ◌
 use Rattle.std.specs.Prelude.{length, Option, Some, None}
 use Rattle.std.specs.Io.KnownBytes.{Appends}
 use Rattle.tape_image.specs.Written.{AppendsFront}
+use Rattle.tape_run.specs.SalvageTaking.{Taken, AreTaken, AreAllSections, after_file, file_text}
 use Rattle.tape_run.specs.declared.salvage.copies.SectionCopy.{SectionCopy}
-use Rattle.tape_run.specs.Reeling.{Mounting, AreMounted}
-use Rattle.tape_run.specs.Checked.{Reel, IsReel}
-use Rattle.tape_run.specs.declared.salvage.SalvageTask.{SalvageTask}
-use Rattle.tape_run.specs.SalvageCopies.{FindsCopies}
-use Rattle.tape_run.specs.SalvageRecords.{parts_text}
+use Rattle.tape_run.specs.{Reeling.Mounting, Reeling.AreMounted, Checked.Reel, Checked.IsReel}
+use Rattle.tape_run.specs.{declared.salvage.SalvageTask.SalvageTask, SalvageCopies.FindsCopies}
+use Rattle.tape_run.specs.{SalvageRecords.parts_text, SalvageConflicts.AreConflicts}
 use Rattle.tape_run.specs.SalvageLine.{not_opened_line, last_line}
 use Rattle.tape_run.specs.SalvageBlocks.{Salvaged, none_salvaged}
 use Rattle.tape_run.specs.SalvageChoice.{form_of_file, last_section}
-use Rattle.tape_run.specs.SalvageConflicts.{AreConflicts}
-use Rattle.tape_run.specs.SalvageTaking.{Taken, AreTaken, AreAllSections, after_file, file_text}
 use Rattle.tape_run.specs.SalvageTaking.{StopsTaking}
 
 -- An image was read, and the file's sections on it were found; or it could not be opened, and its

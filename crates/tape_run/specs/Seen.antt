@@ -2,9 +2,8 @@
 use Rattle.std.specs.Prelude.{◌≡◌, ℕ, List, [], ◌∷◌}
 use Rattle.tape_blocks.specs.Block.{Portion}
 use Rattle.tape_set.specs.Layout.{FileSet}
-use Rattle.tape_core.specs.{Point.Point, State.State, Place.IsPlaced, Place.rest_of, Stands.Stands}
-use Rattle.tape_core.specs.{Stands.weight_of, Weight.IsFront}
-use Rattle.tape_core.specs.declared.sink.PartSink.{Ghosts}
+use Rattle.tape_core.specs.{Point.Point, State.State, Place.IsPlaced, Place.rest_of, Weight.IsFront}
+use Rattle.tape_core.specs.{Stands.Stands, Stands.weight_of, declared.sink.PartSink.Ghosts}
 use Rattle.tape_run.specs.SessionState.{SessionState}
 
 -- a session between two calls: its core, the parts that its sink contains, its checkpoints, how

@@ -1,16 +1,15 @@
 -- What `survey` prints of images.
 use Rattle.std.specs.Prelude.{◌≡◌, ◌⊎◌, ◌+◌, ℕ, Bool, true, List, [], ◌∷◌, ◌++◌, length, Option}
-use Rattle.std.specs.Prelude.{Some}
-use Rattle.std.specs.Io.KnownBytes.{Appends}
-use Rattle.tape_run.specs.declared.{section.SectionKey.SectionKey, survey.copies.CopyNote.CopyNote}
-use Rattle.tape_run.specs.declared.{survey.Wording.Wording, survey.view.ImageSurvey.ImageSurvey}
-use Rattle.tape_image.specs.Written.{AppendsFront}
-use Rattle.tape_run.specs.{Reeling.Mounting, SurveySound.IsSound, SurveySets.is_all}
-use Rattle.tape_run.specs.SurveyWording.{image_text, summary}
+use Rattle.std.specs.{Prelude.Some, Io.KnownBytes.Appends}
+use Rattle.tape_run.specs.{declared.section.SectionKey.SectionKey, declared.survey.Wording.Wording}
+use Rattle.tape_run.specs.{declared.survey.copies.CopyNote.CopyNote, Reeling.Mounting}
+use Rattle.tape_run.specs.{declared.survey.view.ImageSurvey.ImageSurvey, SurveySound.IsSound}
+use Rattle.tape_run.specs.{SurveySets.is_all, SurveyWording.image_text, SurveyWording.summary}
 use Rattle.tape_run.specs.SurveyConflicts.{IsIn, CopiesDiffer, TellsDispute, all_placed}
 use Rattle.tape_run.specs.SurveyCopies.{Noted, Held, disputed, disputed_on}
 use Rattle.tape_run.specs.SurveyRead.{Found, nothing_found, AreViewed}
 use Rattle.tape_run.specs.SurveyTally.{no_images, tally_from}
+use Rattle.tape_image.specs.Written.{AppendsFront}
 
 -- the texts about images, of which the first has this number, with the good copies of sections
 -- whose good copies differ

@@ -7,7 +7,6 @@ use Rattle.tape_run.specs.declared.survey.{copies.CopyNote.CopyNote, Wording.Wor
 use Rattle.tape_run.specs.declared.section.SectionKey.{SectionKey}
 use Rattle.tape_run.specs.declared.survey.Wording.TheVariants.{Words, Rows}
 use Rattle.tape_run.specs.{SurveyCopies.Noted, Quoting.name_text, SurveyLine.trimmed_text}
-use Rattle.tape_run.specs.SurveyRows.{key_cells}
 
 -- the name of image number `image`, if it exists
 abbrev pub name_at : List (List ℕ) → ℕ → List ℕ
@@ -15,12 +14,12 @@ name_at names image = name_text (get_or names image [])
 
 -- the section of a line
 abbrev pub section_front : SectionKey → List ℕ
-section_front key = trimmed_text key.set_id ++ codes " file " ++ decimal key.file
-    ++ codes " section " ++ decimal key.sect ++ codes ": "
+section_front key = trimmed_text key.set_id ++ (codes " file " ++ (decimal key.file
+    ++ (codes " section " ++ (decimal key.sect ++ codes ": "))))
 
 -- the number of copies that agree
 abbrev pub agreed_text : ℕ → List ℕ
-agreed_text copies = codes "good, " ++ decimal copies ++ codes " copies agree\n"
+agreed_text copies = codes "good, " ++ (decimal copies ++ codes " copies agree\n")
 
 -- the copies on two images differ
 abbrev pub conflict_text : List (List ℕ) → ℕ → ℕ → List ℕ
@@ -41,22 +40,19 @@ copy_line names x = section_front x.0 ++ verdict_text names x.1
 
 -- the first columns of a section's row
 abbrev pub row_front : SectionKey → ℕ → List ℕ
-row_front key copies = codes "COPIES\t" ++ key_cells key.set_id key.file key.sect ++ codes "\t"
-    ++ decimal copies ++ codes "\t"
+row_front key copies = codes "COPIES\t" ++ (trimmed_text key.set_id ++ (codes "\t"
+    ++ (decimal key.file ++ (codes "\t" ++ (decimal key.sect ++ (codes "\t" ++ (decimal copies
+    ++ codes "\t")))))))
 
--- the name of the image whose copy differs, if any
-abbrev pub other_name : List (List ℕ) → Option ℕ → List ℕ
-other_name names None = []
-other_name names (Some other) = name_at names other
-
--- the last column
-abbrev pub verdict_cell : Bool → List ℕ
-verdict_cell differs = if differs then codes "\tCONFLICT\n" else codes "\tAGREE\n"
+-- the last columns: the name of the image whose copy differs, if any, and the result
+abbrev pub other_cells : List (List ℕ) → Option ℕ → List ℕ
+other_cells names None = codes "\tAGREE\n"
+other_cells names (Some other) = name_at names other ++ codes "\tCONFLICT\n"
 
 -- the row of a section
 abbrev pub copy_row : List (List ℕ) → Noted → List ℕ
 copy_row names x = row_front x.0 x.1.copies ++ name_at names x.1.image ++ codes "\t"
-    ++ other_name names x.1.other ++ verdict_cell (is_some x.1.other)
+    ++ other_cells names x.1.other
 
 -- the section has only one good copy
 abbrev pub is_alone : CopyNote → Bool

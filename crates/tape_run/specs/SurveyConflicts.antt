@@ -1,13 +1,11 @@
 -- The consequences for the images if good copies are reported to agree or to differ.
 use Rattle.std.specs.Prelude.{◌≡◌, ◌≢◌, ℕ, ◌+◌, true, false, List, [], ◌∷◌, ◌++◌, map, Option, Some}
-use Rattle.std.specs.Prelude.{None, option_map}
-use Rattle.std.specs.List.{AllByRecursion}
+use Rattle.std.specs.{Prelude.None, Prelude.option_map, List.AllByRecursion}
 use Rattle.tape_image.specs.Tape.{TapeItem}
-use Rattle.tape_run.specs.declared.section.SectionKey.{SectionKey}
-use Rattle.tape_run.specs.declared.survey.view.ImageSurvey.{ImageSurvey}
-use Rattle.tape_run.specs.{Checked.Reel, Passing.Told, Reeling.Mounting, Shown.Shown}
+use Rattle.tape_run.specs.{declared.section.SectionKey.SectionKey, Checked.Reel, Passing.Told}
+use Rattle.tape_run.specs.{declared.survey.view.ImageSurvey.ImageSurvey, Reeling.Mounting}
+use Rattle.tape_run.specs.{Shown.Shown, SurveyRead.Found, SurveyRead.IsViewed, SurveyRead.AreViewed}
 use Rattle.tape_run.specs.SurveyCopies.{Copy, Noted, copies_on, noted_at, differs}
-use Rattle.tape_run.specs.SurveyRead.{Found, IsViewed, AreViewed}
 
 -- ---- a good copy
 

@@ -1,17 +1,16 @@
 -- The facts about files in their header labels.
 use Rattle.std.specs.Prelude.{ℕ, ◌==◌, ◌&&◌, ◌||◌, not, Bool, false, List, [], ◌∷◌, Option, Some}
-use Rattle.std.specs.Prelude.{None, Result, Ok}
-use Rattle.std.specs.{Map.lookup, Str.bytes_eq}
+use Rattle.std.specs.{Prelude.None, Prelude.Result, Prelude.Ok, Map.lookup, Str.bytes_eq}
 use Rattle.indexmap.specs.IndexMap.{insert_entry}
 use Rattle.tape_image.specs.Tape.{TapeItem, block, bad, mark}
-use Rattle.tape_label.specs.declared.values.{Head1.Head1, Head2.Head2, Kind.Kind}
-use Rattle.tape_label.specs.declared.values.Kind.TheVariants.{Hdr2}
-use Rattle.tape_label.specs.declared.label.LabelFault.{LabelFault}
-use Rattle.tape_label.specs.{Kinds.kind_at, Reading.head2_at}
-use Rattle.tape_run.specs.declared.survey.files.{FileKey.FileKey, FileNote.FileNote}
-use Rattle.tape_run.specs.declared.{passing.Phase.Phase, section.SectionKey.SectionKey}
+use Rattle.tape_label.specs.{declared.values.Head1.Head1, declared.values.Head2.Head2}
+use Rattle.tape_label.specs.{declared.values.Kind.Kind, declared.values.Kind.TheVariants.Hdr2}
+use Rattle.tape_label.specs.{declared.label.LabelFault.LabelFault, Kinds.kind_at, Reading.head2_at}
+use Rattle.tape_run.specs.{declared.survey.files.FileKey.FileKey, declared.passing.Phase.Phase}
+use Rattle.tape_run.specs.{declared.survey.files.FileNote.FileNote, Passing.step}
+use Rattle.tape_run.specs.declared.section.SectionKey.{SectionKey}
 use Rattle.tape_run.specs.declared.passing.Phase.TheVariants.{Volume, Second}
-use Rattle.tape_run.specs.{Passing.step, SurveyGlance.head_in, SurveyGlance.or_else}
+use Rattle.tape_run.specs.SurveyGlance.{head_in, or_else}
 
 -- a file, and its record
 abbrev pub Filed : Type 0

@@ -1,9 +1,8 @@
 -- The description of an image in a survey. The text is for people, and may change.
 use Rattle.std.specs.Prelude.{Bool, true, false, length, take, ◌-◌, ℕ, ◌==◌, nat_lt, map}
 use Rattle.std.specs.Prelude.{if◌then◌else◌, List, [], ◌++◌, codes, decimal, Option, Some, None}
-use Rattle.std.specs.Prelude.{replicate}
 use Rattle.tape_image.specs.declared.item.ImageFault.{ImageFault}
-use Rattle.std.specs.List.{flat_map, suffix_len}
+use Rattle.std.specs.List.{flat_map, repeat, suffix_len}
 use Rattle.tape_image.specs.Fault.{number_of}
 use Rattle.tape_label.specs.declared.values.Head1.{Head1}
 use Rattle.tape_run.specs.declared.section.{ImageStop.ImageStop, SectionKey.SectionKey}
@@ -43,15 +42,12 @@ first_text (firsts.Block n) =
 first_text firsts.Bad = codes "does not begin with a label"
 first_text firsts.Mark = codes "begins with a tape mark"
 
--- the system that wrote it, unless the label has spaces there
-abbrev pub written_text : List ℕ → List ℕ
-written_text system =
-    if nat_lt 0 (trimmed_len system) then codes ", written by " ++ trimmed_text system else []
-
--- the name of the system, if a header label gives it
+-- the system that wrote it, if a header label names one
 abbrev pub system_text : Option Head1 → List ℕ
 system_text None = []
-system_text (Some head) = written_text head.implementation
+system_text (Some head) =
+    if nat_lt 0 (trimmed_len head.implementation)
+    then codes ", written by " ++ trimmed_text head.implementation else []
 
 -- the text of the number of sections
 abbrev pub files_text : ℕ → List ℕ
@@ -152,18 +148,14 @@ abbrev pub guess_text : ImageFault → List ℕ
 guess_text fault =
     if is_no_image fault then codes ": not a SIMH image, or compressed (try zcat)" else []
 
--- a fault's number and offset, and what the image probably is
-abbrev pub fault_at : List ℕ → ℕ → ℕ → List ℕ → List ℕ
-fault_at between number place guess = between ++ (codes "image fault " ++ (decimal number
-    ++ (codes " at byte " ++ (decimal place ++ guess))))
+-- a fault of the image, and what an image that stops before its first item probably is
+abbrev pub fault_text : ImageFault → List ℕ
+fault_text fault = codes "image fault " ++ (decimal (number_of fault.cause)
+    ++ (codes " at byte " ++ (decimal fault.place ++ guess_text fault)))
 
--- a fault, with its offset
-abbrev pub fault_text : List ℕ → ImageFault → List ℕ
-fault_text between fault = fault_at between (number_of fault.cause) fault.place (guess_text fault)
-
--- the fault with which it ends
+-- the number and offset of the fault with which it ends, and what the image probably is
 abbrev pub stop_text : List ℕ → ImageStop → List ℕ
-stop_text between (Fault fault) = fault_text between fault
+stop_text between (Fault fault) = between ++ fault_text fault
 stop_text between Marked = []
 stop_text between Physical = []
 
@@ -189,20 +181,15 @@ state_word states.Unsupported = codes "unsupported  "
 state_word states.Empty = codes "empty        "
 state_word states.NotTape = codes "not a tape   "
 
--- its state and what it is, each fact after the first on a line of its own
-abbrev pub opened_text : ImageSurvey → Option SectionKey → List ℕ
-opened_text s key = state_word (state_of s key) ++ (seen_text (codes "\n    ") s key ++ codes "\n")
-
--- the description of an image, or the text that it was not opened
+-- its state and what it is, each fact after the first on a line of its own, or the text that it was
+-- not opened
 abbrev pub sight_text : Option ImageSurvey → Option SectionKey → List ℕ
-sight_text (Some s) key = opened_text s key
+sight_text (Some s) key =
+    state_word (state_of s key) ++ (seen_text (codes "\n    ") s key ++ codes "\n")
 sight_text None key = codes "not opened\n"
 
--- the line about an image after its printed name, given the length of the name: the next column is
--- aligned for all names of at most 24 bytes
-abbrev pub line_end : ℕ → Option ImageSurvey → Option SectionKey → List ℕ
-line_end named sight key = replicate (24 - named) 32 ++ (codes "  " ++ sight_text sight key)
-
--- the line of an image
+-- the line of an image: the column after its printed name is aligned for all names of at most 24
+-- bytes
 abbrev pub image_line : List ℕ → Option ImageSurvey → Option SectionKey → List ℕ
-image_line name sight key = name_text name ++ line_end (length (name_text name)) sight key
+image_line name sight key = let shown = name_text name in
+    shown ++ (repeat (24 - length shown) (codes " ") ++ (codes "  " ++ sight_text sight key))

@@ -4,10 +4,9 @@ use Rattle.std.specs.Prelude.{is_some}
 use Rattle.indexmap.specs.IndexMap.{insert_entry}
 use Rattle.tape_image.specs.Tape.{TapeItem}
 use Rattle.tape_label.specs.declared.values.Head1.{Head1}
-use Rattle.tape_run.specs.declared.passing.{Phase.Phase, Phase.TheVariants.Volume}
-use Rattle.tape_run.specs.declared.section.SectionKey.{SectionKey}
-use Rattle.tape_run.specs.Lacks.{good_end, entry_at, key_at}
-use Rattle.tape_run.specs.{Noted.same_key, Noted.noted_all, SurveyGlance.head_in}
+use Rattle.tape_run.specs.{declared.passing.Phase.Phase, declared.passing.Phase.TheVariants.Volume}
+use Rattle.tape_run.specs.{declared.section.SectionKey.SectionKey, Noted.same_key, Noted.noted_all}
+use Rattle.tape_run.specs.{Lacks.good_end, Lacks.entry_at, Lacks.key_at, SurveyGlance.head_in}
 use Rattle.tape_run.specs.Passing.{Told, step, in_list}
 
 -- a section, and the number of an image on which it begins

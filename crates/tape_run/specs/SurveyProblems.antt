@@ -2,13 +2,12 @@
 -- change; or, in the last column of its row, its number and its state.
 use Rattle.std.specs.Prelude.{ℕ, zero, suc, ◌+◌, ◌-◌, nat_lt, Bool, true, false, ◌||◌}
 use Rattle.std.specs.Prelude.{if◌then◌else◌, List, [], ◌++◌, codes, decimal, Option, Some, None}
-use Rattle.tape_run.specs.declared.section.{Entry.Entry, SectionState.SectionState}
-use Rattle.tape_run.specs.declared.survey.Wording.{Wording}
+use Rattle.tape_run.specs.{declared.section.Entry.Entry, declared.section.SectionState.SectionState}
+use Rattle.tape_run.specs.{declared.survey.Wording.Wording, CheckLine.state_text, Noted.is_good}
 use Rattle.tape_run.specs.declared.section.SectionState.TheVariants.{Good, Bad, Count, Cut}
 use Rattle.tape_run.specs.declared.survey.Wording.TheVariants.{Words, Rows}
-use Rattle.tape_run.specs.{CheckLine.state_text, Lacks.entry_at, Lacks.key_at, Noted.is_good}
-use Rattle.tape_run.specs.{Passing.Told, SurveyGaps.numbers_text, SurveyLine.trimmed_text}
-use Rattle.tape_run.specs.SurveyLine.{damage_text}
+use Rattle.tape_run.specs.{Lacks.entry_at, Lacks.key_at, Passing.Told, SurveyGaps.numbers_text}
+use Rattle.tape_run.specs.SurveyLine.{trimmed_text, damage_text}
 
 -- a damaged section
 abbrev pub damage_line : Wording → ℕ → Entry → List ℕ

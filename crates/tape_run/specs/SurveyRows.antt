@@ -35,43 +35,38 @@ owner_cell _ = []
 
 -- the set and the system, if a section was found
 abbrev pub head_cells : Option Head1 → List ℕ
-head_cells (Some head) = trimmed_text head.set_id ++ codes "\t" ++ trimmed_text head.implementation
+head_cells (Some head) =
+    trimmed_text head.set_id ++ (codes "\t" ++ trimmed_text head.implementation)
 head_cells None = codes "\t"
 
 -- the numbers of items, sections and bad blocks
 abbrev pub count_cells : ImageSummary → List ℕ
-count_cells g = decimal g.items ++ codes "\t" ++ decimal g.files ++ codes "\t" ++ decimal g.bad
+count_cells g =
+    decimal g.items ++ (codes "\t" ++ (decimal g.files ++ (codes "\t" ++ decimal g.bad)))
 
--- the description of an image, which has a good copy of a section whose good copies differ or not
-abbrev pub seen_cells : ImageSurvey → Bool → List ℕ
-seen_cells s disputed =
-    whole_cell disputed (is_sound s) ++ codes "\t" ++ volume_cell s.glance.first ++ codes "\t"
-    ++ head_cells s.glance.head ++ codes "\t" ++ count_cells s.glance ++ codes "\t"
-    ++ stop_text s.stop ++ codes "\t" ++ owner_cell s.glance.first
-
--- the description of the image, or that it was not opened
+-- the description of an image, which has a good copy of a section whose good copies differ or not,
+-- or that it was not opened
 abbrev pub sight_cells : Option ImageSurvey → Bool → List ℕ
-sight_cells (Some s) disputed = seen_cells s disputed
+sight_cells (Some s) disputed =
+    whole_cell disputed (is_sound s) ++ (codes "\t" ++ (volume_cell s.glance.first ++ (codes "\t"
+    ++ (head_cells s.glance.head ++ (codes "\t" ++ (count_cells s.glance ++ codes "\t"))))))
+    ++ stop_text s.stop ++ codes "\t" ++ owner_cell s.glance.first
 sight_cells None disputed = codes "NOT OPENED\t\t\t\t\t\t\t\t"
-
--- the columns after a name, except the words at the end
-abbrev pub middle_cells : Option ImageSurvey → Bool → List ℕ
-middle_cells sight disputed = codes "\t" ++ sight_cells sight disputed ++ codes "\t"
 
 -- the description of an image in words, at the end of its row
 abbrev pub words_cell : Option ImageSurvey → Option SectionKey → List ℕ
-words_cell (Some s) key = seen_text (codes "; ") s key ++ codes "\n"
-words_cell None key = codes "not opened\n"
+words_cell (Some s) key = codes "\t" ++ (seen_text (codes "; ") s key ++ codes "\n")
+words_cell None key = codes "\tnot opened\n"
 
 -- the row of an image
 abbrev pub image_row : List ℕ → Option ImageSurvey → Option SectionKey → List ℕ
-image_row name sight key =
-    codes "IMAGE\t" ++ name_text name ++ middle_cells sight (is_some key) ++ words_cell sight key
+image_row name sight key = codes "IMAGE\t" ++ name_text name ++ codes "\t"
+    ++ sight_cells sight (is_some key) ++ words_cell sight key
 
 -- the numbers of the section
 abbrev pub key_cells : List ℕ → ℕ → ℕ → List ℕ
 key_cells set_id file sect =
-    trimmed_text set_id ++ codes "\t" ++ decimal file ++ codes "\t" ++ decimal sect
+    trimmed_text set_id ++ (codes "\t" ++ (decimal file ++ (codes "\t" ++ decimal sect)))
 
 -- its trailer label ends the file
 abbrev pub eof_cell : Bool → List ℕ
@@ -80,45 +75,49 @@ eof_cell eof = if eof then codes "EOF" else []
 -- the row of a section
 abbrev pub section_row : Told → List ℕ
 section_row (key, entry) =
-    codes "SECTION\t" ++ key_cells key.set_id key.file key.sect ++ codes "\t"
-    ++ trimmed_text entry.volume ++ codes "\t" ++ decimal entry.blocks ++ codes "\t"
-    ++ state_text entry.state ++ codes "\t" ++ eof_cell entry.eof ++ codes "\n"
+    codes "SECTION\t" ++ (key_cells key.set_id key.file key.sect ++ (codes "\t"
+    ++ (trimmed_text entry.volume ++ (codes "\t" ++ (decimal entry.blocks ++ (codes "\t"
+    ++ (state_text entry.state ++ (codes "\t" ++ (eof_cell entry.eof ++ codes "\n")))))))))
 
 -- the facts about a file in its labels
 abbrev pub known_cells : Option FileNote → List ℕ
 known_cells (Some note) =
-    trimmed_text note.head.file_id ++ codes "\t" ++ date_cell (date_of note.head.created)
+    trimmed_text note.head.file_id ++ (codes "\t" ++ date_cell (date_of note.head.created))
 known_cells None = codes "\t"
 
--- a section, in this state, and a volume
-abbrev pub wanted_cells : List ℕ → ℕ → List ℕ → List ℕ
-wanted_cells state sect volume =
-    state ++ codes "\t" ++ decimal sect ++ codes "\t" ++ trimmed_text volume
-
--- the state of a file
+-- the state of a file, with the number of a section and a volume
 abbrev pub standing_cells : Standing → List ℕ
 standing_cells Complete = codes "COMPLETE\t\t"
-standing_cells (Damaged sect entry) = wanted_cells (state_text entry.state) sect entry.volume
-standing_cells (Behind sect volume) = wanted_cells (codes "MISSING") sect volume
-standing_cells (Missing sect) = wanted_cells (codes "MISSING") sect []
+standing_cells (Damaged sect entry) = state_text entry.state ++ (codes "\t" ++ (decimal sect
+    ++ (codes "\t" ++ trimmed_text entry.volume)))
+standing_cells (Behind sect volume) =
+    codes "MISSING\t" ++ (decimal sect ++ (codes "\t" ++ trimmed_text volume))
+standing_cells (Missing sect) = codes "MISSING\t" ++ (decimal sect ++ codes "\t")
 
 -- labels of different files were found under its number, or good copies of a section differ
 abbrev pub conflict_cell : Bool → List ℕ
 conflict_cell differs = if differs then codes "\tCONFLICT\t" else codes "\t\t"
 
+-- what was found of a file: its labels, its state, and whether labels or copies differ
+abbrev pub found_cells : Option FileNote → Standing → Bool → List ℕ
+found_cells note standing disputed = known_cells note ++ (codes "\t"
+    ++ (standing_cells standing ++ conflict_cell (is_mixed note || disputed)))
+
+-- the row of a file with these columns
+abbrev pub file_text : List ℕ → ℕ → List ℕ → List ℕ
+file_text set_id file found = codes "FILE\t" ++ (trimmed_text set_id
+    ++ (codes "\t" ++ (decimal file ++ (codes "\t" ++ found))))
+
 -- the columns of a file, up to the last one
 abbrev pub file_cells : Found → List ℕ → ℕ → List ℕ
-file_cells d set_id file =
-    let key = file_key set_id file in
-    let note = note_at d.files key in
-    codes "FILE\t" ++ trimmed_text set_id ++ codes "\t" ++ decimal file ++ codes "\t"
-    ++ known_cells note ++ codes "\t" ++ standing_cells (standing_of d.sections set_id file)
-    ++ conflict_cell (is_mixed note || is_some (dispute_at d.copies key))
+file_cells d set_id file = let key = file_key set_id file in
+    file_text set_id file (found_cells (note_at d.files key) (standing_of d.sections set_id file)
+    (is_some (dispute_at d.copies key)))
 
 -- the record format, the block length and the record length, if a second label states them
 abbrev pub form_by : Option Head2 → List ℕ
-form_by (Some form) = codes "\t" ++ letter form.format ∷ codes "\t" ++ decimal form.block_len
-    ++ codes "\t" ++ decimal form.rec_len
+form_by (Some form) = codes "\t" ++ letter form.format ∷ (codes "\t"
+    ++ (decimal form.block_len ++ (codes "\t" ++ decimal form.rec_len)))
 form_by None = codes "\t\t\t"
 
 -- those of a file

@@ -1,18 +1,16 @@
 -- What a survey says of sets and their files. The text is for people, and may change.
 use Rattle.std.specs.Prelude.{ℕ, zero, suc, ◌+◌, ◌-◌, ◌&&◌, ◌||◌, not, nat_lt, Bool, true, false}
 use Rattle.std.specs.Prelude.{if◌then◌else◌, List, [], ◌∷◌, ◌++◌, codes, decimal, Option, Some}
-use Rattle.std.specs.Prelude.{None, is_some}
-use Rattle.std.specs.List.{flat_map}
-use Rattle.tape_run.specs.declared.{section.Entry.Entry, survey.files.FileNote.FileNote}
-use Rattle.tape_run.specs.declared.{survey.sets.Standing.Standing, survey.Wording.Wording}
+use Rattle.std.specs.{Prelude.None, Prelude.is_some, List.flat_map}
 use Rattle.tape_run.specs.declared.survey.sets.Standing.TheVariants.{Complete, Damaged, Behind}
-use Rattle.tape_run.specs.declared.survey.sets.Standing.TheVariants.{Missing}
+use Rattle.tape_run.specs.{declared.section.Entry.Entry, declared.survey.files.FileNote.FileNote}
+use Rattle.tape_run.specs.{declared.survey.sets.Standing.Standing, declared.survey.Wording.Wording}
+use Rattle.tape_run.specs.{declared.survey.sets.Standing.TheVariants.Missing, Noted.is_good}
 use Rattle.tape_run.specs.declared.survey.Wording.TheVariants.{Words, Rows}
-use Rattle.tape_run.specs.{Dates.date_of, Dates.date_text, Identifier.identifier_text}
-use Rattle.tape_run.specs.{Noted.is_good, Passing.Told, SurveyCopies.dispute_at}
-use Rattle.tape_run.specs.{SurveyCopies.is_agreed, SurveyLine.trimmed_text, SurveyLine.damage_text}
-use Rattle.tape_run.specs.{SurveyGlance.one_if, SurveyProblems.problem_lines, SurveyRead.Found}
-use Rattle.tape_run.specs.SurveyTally.{is_none}
+use Rattle.tape_run.specs.{Dates.date_of, Dates.date_text, Identifier.identifier_text, Passing.Told}
+use Rattle.tape_run.specs.{SurveyCopies.dispute_at, SurveyCopies.is_agreed, SurveyGlance.one_if}
+use Rattle.tape_run.specs.{SurveyLine.trimmed_text, SurveyLine.damage_text, SurveyRead.Found}
+use Rattle.tape_run.specs.{SurveyProblems.problem_lines, SurveyTally.is_none}
 use Rattle.tape_run.specs.Lacks.{entry_at, key_at, lack_of, found_all}
 use Rattle.tape_run.specs.SurveyFiles.{note_at, file_key, any_differs}
 

@@ -1,10 +1,9 @@
 -- The consequences if a survey reports that nothing is missing, damaged or in conflict.
 use Rattle.std.specs.Prelude.{◌≡◌, ◌≢◌, ℕ, true, false, List, [], Option, Some, None}
 use Rattle.std.specs.List.{AllByRecursion}
-use Rattle.tape_run.specs.declared.section.SectionState.TheVariants.{Good}
-use Rattle.tape_run.specs.declared.survey.view.ImageSurvey.{ImageSurvey}
-use Rattle.tape_run.specs.{Lacks.lacks, Reeling.Mounting, SurveyDigest.digest_of}
-use Rattle.tape_run.specs.SurveyTally.{is_whole_sight}
+use Rattle.tape_run.specs.{declared.section.SectionState.TheVariants.Good, Lacks.lacks}
+use Rattle.tape_run.specs.{declared.survey.view.ImageSurvey.ImageSurvey, Reeling.Mounting}
+use Rattle.tape_run.specs.{SurveyDigest.digest_of, SurveyTally.is_whole_sight}
 use Rattle.tape_run.specs.SurveyConflicts.{Placed, all_placed, IsIn}
 use Rattle.tape_run.specs.SurveyRead.{Found, nothing_found, AreViewed}
 

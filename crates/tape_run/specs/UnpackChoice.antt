@@ -1,9 +1,8 @@
 -- The found files that `unpack` is to recover.
 use Rattle.std.specs.Prelude.{◌≡◌, ◌≢◌, ◌⊎◌, ℕ, List, [], ◌∷◌, ◌++◌, length, decimal, Option}
-use Rattle.std.specs.Prelude.{IfSome}
-use Rattle.std.specs.{Borrow.Bor, List.Any}
-use Rattle.tape_run.specs.declared.unpack.{SetFile.SetFile, choice.FileChoice.FileChoice}
-use Rattle.tape_run.specs.SurveyLine.{trimmed_text}
+use Rattle.std.specs.{Prelude.IfSome, Borrow.Bor, List.Any}
+use Rattle.tape_run.specs.{declared.unpack.SetFile.SetFile, SurveyLine.trimmed_text}
+use Rattle.tape_run.specs.declared.unpack.choice.FileChoice.{FileChoice}
 
 -- the piece of a word that a character of a pattern represents: any piece for `*` (42), otherwise
 -- the character itself

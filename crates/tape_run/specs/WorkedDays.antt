@@ -3,12 +3,10 @@
 use Rattle.std.specs.Prelude.{◌≡◌, ℕ, true, List, [], ◌∷◌, Option, None, Some, codes}
 use Rattle.tape_label.specs.declared.values.Format.TheVariants.{Spanned}
 use Rattle.tape_set.specs.Position.{awaiting, want_at}
-use Rattle.tape_core.specs.{Point.Point, Stands.Stands}
-use Rattle.tape_core.specs.declared.sink.SinkFault.{SinkFault}
-use Rattle.tape_run.specs.declared.script.{Step.Step, Step.TheVariants.Reel}
-use Rattle.tape_run.specs.declared.fault.RunFault.TheVariants.{Sink}
+use Rattle.tape_core.specs.{Point.Point, Stands.Stands, declared.sink.SinkFault.SinkFault}
+use Rattle.tape_run.specs.{declared.script.Step.Step, declared.script.Step.TheVariants.Reel}
+use Rattle.tape_run.specs.{declared.fault.RunFault.TheVariants.Sink, CrashRuns.IsResumed, Seen.Seen}
 use Rattle.tape_run.specs.Headline.{IsStart, IsRead, HasRun, HasStopped}
-use Rattle.tape_run.specs.{CrashRuns.IsResumed, Seen.Seen}
 use Rattle.tape_run.specs.WorkedHistory.{worked_set, first, middle, last, reel_1, reel_2}
 
 -- the sink contains the whole file, and nothing is missing

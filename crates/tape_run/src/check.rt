@@ -2,13 +2,11 @@
 //! missing.
 
 ghost use Rattle.std.specs.Prelude.{◌≡◌, [], map, option_map, IfOk, IfErr, OnOk, OnErr};
-ghost use Rattle.std.specs.List.{flat_map};
-ghost use Rattle.std.specs.Io.KnownBytes.{Appends};
+ghost use Rattle.std.specs.{List.flat_map, Io.KnownBytes.Appends};
+ghost use Rattle.tape_run.specs.Checked.{AddsImage, TellsImage, TellsImages, StopsAtImage};
 ghost use Rattle.tape_run.specs.Lacks.{line_of, set_lacks, found_all};
 ghost use Rattle.tape_run.specs.CheckLine.{section_line, lack_line};
-ghost use Rattle.tape_run.specs.Checked.{AddsImage, TellsImage, TellsImages, StopsAtImage};
-ghost use Rattle.tape_run.specs.Checked.{last_line, summary, Reports};
-ghost use Rattle.tape_run.specs.Checked.{ReportsInPart, IsCheckFault};
+ghost use Rattle.tape_run.specs.Checked.{last_line, summary, Reports, ReportsInPart, IsCheckFault};
 ghost use Rattle.tape_image.specs.Written.{AppendsFront};
 
 use crate::catalogue::Catalogue;

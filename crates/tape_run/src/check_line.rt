@@ -1,7 +1,7 @@
 //! The lines of `check`, built without allocating.
 ghost use Rattle.std.specs.Prelude.{◌≡◌, ◌≤◌, ◌++◌, length};
 ghost use Rattle.arrayvec.specs.ArrayVec.{array_vec_len};
-ghost use Rattle.tape_run.specs.CheckLine.{stop_fault, stop_text, items_text, met_text, lack_line};
+ghost use Rattle.tape_run.specs.CheckLine.{stop_fault, stop_text, met_text, lack_line};
 ghost use Rattle.tape_run.specs.CheckLine.{image_line, state_text, section_text, section_line};
 
 use crate::section::{ImageLine, ImageStop, Lack, SectionLine, SectionState};
@@ -34,20 +34,13 @@ fn put_met(line: &mut CheckLine, met: &Option<ImageLine>)
     ensures len { array_vec_len line.new ≤ 190 }
 {
     match met {
-        Some(met) => put_items(line, met),
+        Some(met) => {
+            put_decimal(line, u64::from(met.items));
+            put(line, b" ");
+            put_stop(line, &met.stop);
+        }
         None => put(line, b"0 NOT OPENED"),
     }
-}
-
-/// Appends the number of an image's items, and how it ended.
-fn put_items(line: &mut CheckLine, met: &ImageLine)
-    requires room { array_vec_len line.old ≤ 50 }
-    ensures items { line.new.items ≡ line.old.items ++ items_text met.now }
-    ensures len { array_vec_len line.new ≤ 190 }
-{
-    put_decimal(line, u64::from(met.items));
-    put(line, b" ");
-    put_stop(line, &met.stop);
 }
 
 /// Returns how an image ended, without the rest of its line.
@@ -98,7 +91,7 @@ pub fn section_line(section: &SectionLine) -> CheckLine
     put(&mut line, b" ");
     put_decimal(&mut line, u64::from(section.blocks));
     put(&mut line, b" ");
-    put(&mut line, state_text(section.state));
+    put(&mut line, state_text(section.state).as_bytes());
     put(&mut line, b"\n");
     line
 }
@@ -128,14 +121,14 @@ fn put_section(line: &mut CheckLine, set_id: &Field<6>, file: u16, sect: u16)
 }
 
 /// Returns the state of a section.
-pub(crate) fn state_text(state: SectionState) -> &'static [u8]
+pub(crate) fn state_text(state: SectionState) -> &'static str
     ensures text { result.now ≡ state_text state }
     ensures short { length result.now ≤ 5 }
 {
     match state {
-        SectionState::Good => b"GOOD",
-        SectionState::Bad => b"BAD",
-        SectionState::Count => b"COUNT",
-        SectionState::Cut => b"CUT",
+        SectionState::Good => "GOOD",
+        SectionState::Bad => "BAD",
+        SectionState::Count => "COUNT",
+        SectionState::Cut => "CUT",
     }
 }

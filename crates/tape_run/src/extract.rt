@@ -11,15 +11,13 @@ mod out_sink;
 
 ghost use Rattle.std.specs.Prelude.{◌≡◌, ◌≢◌, None, List, OnOk, IfOk, OnErr, IfErr};
 ghost use Rattle.std.specs.Io.KnownBytes.{Appends};
-ghost use Rattle.tape_blocks.specs.Block.{Portion};
-ghost use Rattle.tape_blocks.specs.Parts.{view};
+ghost use Rattle.tape_blocks.specs.{Block.Portion, Parts.view};
 ghost use Rattle.tape_run.specs.Causes.{WritingFails, ExtractFails, RefusesAny, IsCalm};
-ghost use Rattle.tape_run.specs.Crash.{IsWalked, BringsNoMore};
-ghost use Rattle.tape_image.specs.Written.{AppendsFront};
+ghost use Rattle.tape_run.specs.{Crash.IsWalked, Crash.BringsNoMore, Reeling.goes_back};
 ghost use Rattle.tape_run.specs.Extracting.{Extracts, Stops, EndsFile, StopsAtEnd, IsWritten};
 ghost use Rattle.tape_run.specs.RecordText.{output_of, record_end, part_text};
-ghost use Rattle.tape_run.specs.Reeling.{goes_back};
 ghost use Rattle.tape_run.specs.ReelLine.{last_line};
+ghost use Rattle.tape_image.specs.Written.{AppendsFront};
 
 use crate::extract::images::ImageSource;
 use crate::fault::{EngineFault, RunFault, WriteFailed};

@@ -1,7 +1,7 @@
 //! The missing sections of a catalogue.
 
 ghost use Rattle.std.specs.Prelude.{◌≡◌, ◌+◌, ◌≤◌};
-ghost use Rattle.tape_run.specs.Lacks.{entry_at, key_at, good_end, first_lack, lack_of};
+ghost use Rattle.tape_run.specs.Lacks.{entry_at, good_end, first_lack, lack_of};
 
 use crate::section::SectionKey;
 use crate::sections::Sections;

@@ -2,40 +2,27 @@
 //! nothing.
 
 ghost use Rattle.tape_run.specs.GoesBehind.{LeavesBehind, LeavesBehindAgain, PassesFiles};
-ghost use Rattle.tape_run.specs.GoesBehind.{LeadsOverAll, ReadsByHistory};
 ghost use Rattle.tape_run.specs.Cases.{CasesOfMounts, CasesOfHistories, CasesOfGiven};
 ghost use Rattle.tape_run.specs.Cases.{CasesOfVolumes, CasesOfSessions, CasesOfMade};
-ghost use Rattle.tape_run.specs.Cases.{CasesOfCrashes};
-ghost use Rattle.tape_run.specs.CasesOfReels.{CasesOfAnswers, CasesOfTable, CasesOfLeads};
 ghost use Rattle.tape_run.specs.CasesOfCatalogues.{CasesOfCatalogues, CasesOfImages, CasesOfCopies};
-ghost use Rattle.tape_run.specs.CasesOfCatalogues.{CasesOfReports};
-ghost use Rattle.tape_run.specs.CasesOfSections.{CasesOfSections};
-ghost use Rattle.tape_run.specs.CasesOfExtracts.{CasesOfTurns, CasesOfOutputs, CasesOfCauses};
-ghost use Rattle.tape_run.specs.CasesOfSaves.{CasesOfSaved};
-ghost use Rattle.tape_run.specs.CasesOfSeen.{CasesOfSeen};
-ghost use Rattle.tape_run.specs.CasesOfRuns.{CasesOfStops};
-ghost use Rattle.tape_run.specs.CasesOfRounds.{CasesOfRounds};
-ghost use Rattle.tape_run.specs.CasesOfLaws.{CasesOfRunLaws, CasesOfCatalogueLaws};
-ghost use Rattle.tape_run.specs.CasesOfSurveys.{CasesOfGlances, CasesOfWholes, CasesOfSurveys};
-ghost use Rattle.tape_run.specs.CasesOfCompared.{CasesOfCompared};
-ghost use Rattle.tape_run.specs.CasesOfForms.{CasesOfForms};
-ghost use Rattle.tape_run.specs.CasesOfUnpacking.{CasesOfUnpacking};
-ghost use Rattle.tape_run.specs.CasesOfSalvage.{CasesOfSalvage};
-ghost use Rattle.tape_run.specs.Fronts.{FrontsAreMounts, GivenIsHistory};
-ghost use Rattle.tape_run.specs.Lead.{ItemsAreThere};
-ghost use Rattle.tape_run.specs.CrashRuns.{StoodComesBack, StandsAcrossCrashes, ResumedGoesOn};
-ghost use Rattle.tape_run.specs.Runs.{OnlyRefusalsStop};
-ghost use Rattle.tape_run.specs.WorkedDays.{DaysAreWorked};
-ghost use Rattle.tape_run.specs.WorkedHistory.{HistoryIsWorked};
-ghost use Rattle.tape_run.specs.ListExamples.{ListingIsWorked, OutcomesSay};
-ghost use Rattle.tape_run.specs.Listing.{OneListing};
-ghost use Rattle.tape_run.specs.PlacedExamples.{PlacesSay};
-ghost use Rattle.tape_run.specs.CheckExamples.{ReportIsWorked};
-ghost use Rattle.tape_run.specs.WholeReels.{WholeSetIsTold, GoodWasSeen};
-ghost use Rattle.tape_run.specs.Lacks.{LackIsFirst};
-ghost use Rattle.tape_run.specs.OneEntry.{OneEntryASection};
-ghost use Rattle.tape_run.specs.Shown.{GoodAreShown};
 ghost use Rattle.tape_run.specs.WholeSet.{WholeVolumeIsGood, WholeSetIsGood, WholeCopiesAreAdded};
+ghost use Rattle.tape_run.specs.GoesBehind.{LeadsOverAll, ReadsByHistory};
+ghost use Rattle.tape_run.specs.{Cases.CasesOfCrashes, CasesOfCatalogues.CasesOfReports};
+ghost use Rattle.tape_run.specs.CasesOfReels.{CasesOfAnswers, CasesOfTable, CasesOfLeads};
+ghost use Rattle.tape_run.specs.{CasesOfSections.CasesOfSections, CasesOfSaves.CasesOfSaved};
+ghost use Rattle.tape_run.specs.CasesOfExtracts.{CasesOfTurns, CasesOfOutputs, CasesOfCauses};
+ghost use Rattle.tape_run.specs.{CasesOfSeen.CasesOfSeen, CasesOfRuns.CasesOfStops};
+ghost use Rattle.tape_run.specs.{CasesOfRounds.CasesOfRounds, CasesOfSurveys.CasesOfSurveys};
+ghost use Rattle.tape_run.specs.CasesOfLaws.{CasesOfRunLaws, CasesOfCatalogueLaws};
+ghost use Rattle.tape_run.specs.{CasesOfUnpacking.CasesOfUnpacking, CasesOfSalvage.CasesOfSalvage};
+ghost use Rattle.tape_run.specs.{Fronts.FrontsAreMounts, Fronts.GivenIsHistory, Lead.ItemsAreThere};
+ghost use Rattle.tape_run.specs.CrashRuns.{StoodComesBack, StandsAcrossCrashes, ResumedGoesOn};
+ghost use Rattle.tape_run.specs.{Runs.OnlyRefusalsStop, WorkedDays.DaysAreWorked};
+ghost use Rattle.tape_run.specs.{WorkedHistory.HistoryIsWorked, Listing.OneListing};
+ghost use Rattle.tape_run.specs.ListExamples.{ListingIsWorked, OutcomesSay};
+ghost use Rattle.tape_run.specs.{PlacedExamples.PlacesSay, CheckExamples.ReportIsWorked};
+ghost use Rattle.tape_run.specs.WholeReels.{WholeSetIsTold, GoodWasSeen};
+ghost use Rattle.tape_run.specs.{Lacks.LackIsFirst, OneEntry.OneEntryASection, Shown.GoodAreShown};
 ghost use Rattle.tape_run.specs.WholeSet.{WholeSetLacksNothing, WholeSetIsFound};
 ghost use Rattle.tape_run.specs.ExtractExamples.{ExtractIsWorked};
 ghost use Rattle.tape_run.specs.UnpackLaws.{NamesDiffer, NamesStay, NamesFit};
@@ -48,6 +35,7 @@ pub fn only_refusals_stop()
 
 /// The state that a crash leaves of a session is valid, if the reels read before it were those of
 /// the set.
+#[tactic(auto, using(crate::proofs::CrashRuns::comes_back))]
 pub fn stood_comes_back()
     ensures { StoodComesBack }
 {}
@@ -70,6 +58,7 @@ pub fn fronts_are_mounts()
 {}
 
 /// Whichever readers failed, the returned bytes are a history if all bytes of the readers are one.
+#[tactic(auto, using(crate::proofs::Fronts::given_is_history))]
 pub fn given_is_history()
     ensures { GivenIsHistory }
 {}
@@ -83,6 +72,7 @@ pub fn worked_history()
 {}
 
 /// The bytes of any reader begin with a list of items, and with no other list.
+#[tactic(auto, using(crate::proofs::Lead::items_are_there))]
 pub fn items_are_there()
     ensures { ItemsAreThere }
 {}
@@ -107,11 +97,7 @@ pub fn cases()
     ensures sections { CasesOfSections }
     ensures copies { CasesOfCopies }
     ensures reports { CasesOfReports }
-    ensures glances { CasesOfGlances }
-    ensures wholes { CasesOfWholes }
     ensures surveys { CasesOfSurveys }
-    ensures compared { CasesOfCompared }
-    ensures forms { CasesOfForms }
     ensures unpacking { CasesOfUnpacking }
     ensures salvage { CasesOfSalvage }
     ensures turns { CasesOfTurns }
@@ -171,6 +157,7 @@ pub fn reports_are_worked()
 {}
 
 /// A section that is reported as good is complete in the items that report it.
+#[tactic(auto, using(crate::proofs::ShownSections::good_are_shown))]
 pub fn good_sections_are_shown()
     ensures { GoodAreShown }
 {}
@@ -189,16 +176,19 @@ pub fn whole_sets_are_good()
 
 /// The missing section of a file is its first section that is not good. Nothing is missing if its
 /// sections are good up to one that ends it.
+#[tactic(auto, using(crate::proofs::Lacking::first_one))]
 pub fn what_lacks_comes_first()
     ensures { LackIsFirst }
 {}
 
 /// And if nothing else was found, no file of the set has a missing section.
+#[tactic(auto, using(crate::proofs::WholeSets::nothing_lacks))]
 pub fn whole_sets_lack_nothing()
     ensures { WholeSetLacksNothing }
 {}
 
 /// So if the set has a file, all of it is found: something was found, and nothing is missing.
+#[tactic(auto, using(crate::proofs::WholeSets::all_found))]
 pub fn whole_sets_are_found()
     ensures { WholeSetIsFound }
 {}
@@ -211,6 +201,7 @@ pub fn whole_copies_are_added()
 
 /// Whatever images are added to a catalogue, it has one entry for each section, and a report has
 /// one line for each.
+#[tactic(auto, using(crate::proofs::OneEntry::one_entry))]
 pub fn one_entry_a_section()
     ensures { OneEntryASection }
 {}
@@ -222,11 +213,13 @@ pub fn extract_is_worked()
 
 /// Files with different numbers, or in different sets, never have the same name, even if case is
 /// ignored; the same is true of their stages.
+#[tactic(auto, using(crate::proofs::UnpackedNames::names_differ))]
 pub fn names_differ()
     ensures { NamesDiffer }
 {}
 
 /// No name leads out of its directory, and every file system accepts and keeps each name.
+#[tactic(auto, using(crate::proofs::UnpackedFits::names_stay))]
 pub fn names_stay()
     ensures { NamesStay }
 {}
@@ -237,16 +230,19 @@ pub fn names_fit()
 {}
 
 /// No character of a printed name is a control character or an invisible one.
+#[tactic(auto, using(crate::proofs::QuotedNames::names_show))]
 pub fn names_show()
     ensures { NamesShow }
 {}
 
 /// Different names are printed differently.
+#[tactic(auto, using(crate::proofs::QuotedNames::names_tell_apart))]
 pub fn names_tell_apart()
     ensures { NamesTellApart }
 {}
 
 /// A name without `\` and hidden characters is printed unchanged.
+#[tactic(auto, using(crate::proofs::QuotedNames::names_keep))]
 pub fn names_keep()
     ensures { NamesKeep }
 {}

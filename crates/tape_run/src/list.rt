@@ -2,14 +2,11 @@
 
 ghost use Rattle.std.specs.Prelude.{◌≡◌, ◌≤◌, true, length, IfErr, IfSome, OnOk, OnErr};
 ghost use Rattle.std.specs.Io.KnownBytes.{Appends};
-ghost use Rattle.tape_image.specs.Reader.{IfKnown, going, tape_item};
-ghost use Rattle.tape_image.specs.Spelling.{end_len};
-ghost use Rattle.tape_image.specs.Tape.{IsTapeItem};
-ghost use Rattle.tape_image.specs.Written.{AppendsFront};
-ghost use Rattle.tape_run.specs.Listing.{end_line};
-ghost use Rattle.tape_run.specs.Listed.{ListsToEnd, ListsInPart, FitsFault};
+ghost use Rattle.tape_image.specs.{Reader.IfKnown, Reader.going, Reader.tape_item, Tape.IsTapeItem};
+ghost use Rattle.tape_image.specs.{Spelling.end_len, Written.AppendsFront};
 ghost use Rattle.tape_run.specs.Placed.{item_extent, shown_line, placed_end, PlacesToEnd};
-ghost use Rattle.tape_run.specs.Placed.{FitsPlaces};
+ghost use Rattle.tape_run.specs.{Listing.end_line, Placed.FitsPlaces};
+ghost use Rattle.tape_run.specs.Listed.{ListsToEnd, ListsInPart, FitsFault};
 
 use crate::fault::{ListFault, WriteFailed};
 use crate::list_line::line_of;

@@ -1,25 +1,18 @@
 //! The line of one item, built without allocating.
 
-ghost use Rattle.std.specs.Prelude.{◌≡◌, ◌<◌, ◌≤◌, ◌+◌, ◌-◌, ◌^◌, ◌++◌, [], ◌∷◌, ℕ, List, length};
-ghost use Rattle.std.specs.Prelude.{codes, map};
+ghost use Rattle.std.specs.Prelude.{◌≡◌, ◌<◌, ◌≤◌, ◌+◌, ◌-◌, ◌^◌, ◌++◌, ℕ, List, length};
 ghost use Rattle.arrayvec.specs.ArrayVec.{array_vec_len};
-ghost use Rattle.tape_image.specs.Reader.{tape_item};
-ghost use Rattle.tape_image.specs.Tape.{IsTapeItem};
-ghost use Rattle.tape_label.specs.Digits.{digits};
-ghost use Rattle.tape_label.specs.Head1.{HeadFits};
-ghost use Rattle.tape_label.specs.Head2.{Head2Fits};
-ghost use Rattle.tape_label.specs.Trail1.{TrailFits};
+ghost use Rattle.tape_image.specs.{Reader.tape_item, Tape.IsTapeItem};
+ghost use Rattle.tape_label.specs.{Digits.digits, Head1.HeadFits, Head2.Head2Fits, Labels.IsLabel};
 ghost use Rattle.tape_label.specs.Kinds.{identifier};
-ghost use Rattle.tape_label.specs.Labels.{IsLabel};
 ghost use Rattle.tape_blocks.specs.Packing.{longest_block};
-ghost use Rattle.tape_run.specs.ListLine.{item_number, vol1_text, head_text, head1_text};
-ghost use Rattle.tape_run.specs.ListLine.{trail1_text, head2_text, label_text, plain_text};
+ghost use Rattle.tape_run.specs.ListLine.{item_number, head_text, head2_text, label_text};
 ghost use Rattle.tape_run.specs.ListLine.{block_text, item_text, line_of};
 
 use crate::text::{put, put_identifier};
 use arrayvec::ArrayVec;
 use tape_image::Item;
-use tape_label::{Head1, Head2, Kind, Label, Trail1, Vol1, digits_of};
+use tape_label::{Head1, Head2, Kind, Label, digits_of};
 
 /// The length of the longest line, which is that of a trailer.
 pub type Line = ArrayVec<u8, 64>;
@@ -77,7 +70,10 @@ fn put_block(line: &mut Line, bytes: &[u8])
 {
     match tape_label::read_label(bytes) {
         Ok(label) => put_label(line, &label),
-        Err(_) => put_plain(line, bytes),
+        Err(_) => {
+            put(line, b"BLOCK ");
+            put_number::<5>(line, bytes.len() as u64);
+        }
     }
 }
 
@@ -89,56 +85,22 @@ fn put_label(line: &mut Line, label: &Label)
     ensures len { array_vec_len line.new ≤ 63 }
 {
     match label {
-        Label::Vol1(label) => put_vol1(line, label),
-        Label::Head1(label) => put_head1(line, label),
+        Label::Vol1(label) => {
+            put(line, b"VOL1 ");
+            put_identifier(line, &label.volume);
+        }
+        Label::Head1(label) => {
+            put(line, b"HDR1 ");
+            put_head(line, label);
+        }
         Label::Second(kind, label) => put_head2(line, *kind, label),
-        Label::Trail1(label) => put_trail1(line, label),
+        Label::Trail1(label) => {
+            put(line, if label.eof { b"EOF1 " } else { b"EOV1 " });
+            put_head(line, &label.head);
+            put(line, b" ");
+            put_number::<6>(line, u64::from(label.blocks));
+        }
     }
-}
-
-/// Appends a block that cannot be read as a label.
-fn put_plain(line: &mut Line, bytes: &[u8])
-    requires room { array_vec_len line.old ≤ 11 }
-    requires fits { length bytes.now ≤ longest_block }
-    ensures items { line.new.items ≡ line.old.items ++ plain_text bytes.now }
-    ensures len { array_vec_len line.new ≤ 63 }
-{
-    put(line, b"BLOCK ");
-    put_number::<5>(line, bytes.len() as u64);
-}
-
-/// Appends the volume's identifier.
-fn put_vol1(line: &mut Line, label: &Vol1)
-    requires { array_vec_len line.old ≤ 11 }
-    ensures items { line.new.items ≡ line.old.items ++ vol1_text label.now }
-    ensures len { array_vec_len line.new ≤ 63 }
-{
-    put(line, b"VOL1 ");
-    put_identifier(line, &label.volume);
-}
-
-/// Appends a first header label.
-fn put_head1(line: &mut Line, label: &Head1)
-    requires room { array_vec_len line.old ≤ 11 }
-    requires fits { HeadFits label.now }
-    ensures items { line.new.items ≡ line.old.items ++ head1_text label.now }
-    ensures len { array_vec_len line.new ≤ 63 }
-{
-    put(line, b"HDR1 ");
-    put_head(line, label);
-}
-
-/// Appends a first trailer label: like the header, followed by the number of blocks.
-fn put_trail1(line: &mut Line, label: &Trail1)
-    requires room { array_vec_len line.old ≤ 11 }
-    requires fits { TrailFits label.now }
-    ensures items { line.new.items ≡ line.old.items ++ trail1_text label.now }
-    ensures len { array_vec_len line.new ≤ 63 }
-{
-    put(line, if label.eof { b"EOF1 " } else { b"EOV1 " });
-    put_head(line, &label.head);
-    put(line, b" ");
-    put_number::<6>(line, u64::from(label.blocks));
 }
 
 /// Appends file, file set, section and sequence number.

@@ -19,6 +19,7 @@ pub fn readings_make_one_tape_or_differ()
 
 /// The merged tape is as long as the longest reading, and an item of it is bad only if it is bad in
 /// every reading that reaches it.
+#[tactic(auto, using(crate::proofs::MergeBest::as_long, crate::proofs::MergeBest::bad_where))]
 pub fn merged_is_as_good_as_each()
     ensures long { AsLongAsLongest }
     ensures bad { BadWhereAllBad }
@@ -30,6 +31,7 @@ pub fn order_does_not_matter()
 {}
 
 /// The items that a reader returns until it stops are those that the bytes of its image begin with.
+#[tactic(auto, using(crate::proofs::MergeGiven::readers_give_images))]
 pub fn readers_give_images()
     ensures { ReadersGiveImages }
 {}

@@ -1,8 +1,7 @@
 //! Reads a reel with every section skipped: what is expected next, and which sections were found.
 
 ghost use Rattle.std.specs.Prelude.{◌≡◌, ◌<◌};
-ghost use Rattle.tape_image.specs.Reader.{tape_item};
-ghost use Rattle.tape_image.specs.Tape.{block, bad, mark};
+ghost use Rattle.tape_image.specs.{Reader.tape_item, Tape.block, Tape.bad, Tape.mark};
 ghost use Rattle.tape_label.specs.Kinds.{kind_at};
 ghost use Rattle.tape_set.specs.Lawful.{most_blocks};
 ghost use Rattle.tape_run.specs.Passing.{under_way, blocks_of, volume_phase, labels_phase};

@@ -1,24 +1,17 @@
 //! Reads a reel into a sink, and returns the outcome.
 
-ghost use Rattle.std.specs.Prelude.{◌≡◌, ℕ, ◌+◌, ◌++◌, ◌<◌, ◌≤◌, List, Some};
-ghost use Rattle.std.specs.Prelude.{None, OnOk, OnErr, IfOk, IfErr, IfSome, length, drop, Bool};
+ghost use Rattle.std.specs.Prelude.{◌≡◌, ℕ, ◌+◌, ◌++◌, ◌<◌, ◌≤◌, List, Some, None, OnOk, OnErr};
+ghost use Rattle.std.specs.Prelude.{IfOk, IfErr, IfSome, length, drop, Bool};
 ghost use Rattle.tape_image.specs.Reader.{going, seen, IfKnown};
-ghost use Rattle.tape_blocks.specs.Block.{Portion, Holds};
-ghost use Rattle.tape_blocks.specs.Spans.{InOrder};
+ghost use Rattle.tape_blocks.specs.{Block.Portion, Block.Holds, Spans.InOrder};
 ghost use Rattle.tape_blocks.specs.Packing.{longest_block};
-ghost use Rattle.tape_set.specs.Lawful.{FileForm};
-ghost use Rattle.tape_set.specs.Position.{part_of};
-ghost use Rattle.tape_core.specs.Follows.{IsAwaited};
-ghost use Rattle.tape_core.specs.Place.{rest_of, place_of};
-ghost use Rattle.tape_core.specs.Arrive.{arrival};
-ghost use Rattle.tape_core.specs.Table.{saved, after_block};
-ghost use Rattle.tape_core.specs.Weight.{IsFront};
-ghost use Rattle.tape_run.specs.Crash.{BringsNoMore};
-ghost use Rattle.tape_run.specs.Given.{is_device};
+ghost use Rattle.tape_set.specs.{Lawful.FileForm, Position.part_of};
+ghost use Rattle.tape_core.specs.{Follows.IsAwaited, Place.rest_of, Place.place_of, Arrive.arrival};
+ghost use Rattle.tape_core.specs.{Table.saved, Table.after_block, Weight.IsFront};
+ghost use Rattle.tape_run.specs.{Crash.BringsNoMore, Given.is_device, Steps.IsRefused};
 ghost use Rattle.tape_run.specs.Puts.{refused_point, PutUpTo, PutsFew};
 ghost use Rattle.tape_run.specs.Reels.{ReadsReel, ReadsToBlock, StopsAt};
-ghost use Rattle.tape_run.specs.Steps.{IsRefused};
-ghost use Rattle.tape_run.specs.Taking.{ReadsImage, RefusesImage, CutsTable, came_of, fault_of};
+ghost use Rattle.tape_run.specs.Taking.{ReadsImage, CutsTable, came_of, fault_of};
 
 use std::io::Read;
 use tape_blocks::{Parts, Shape};
@@ -230,8 +223,6 @@ impl<S: PartSink> ReelReader<S> {
             self.new.core held now image.new.left)) }
         ensures err { OnErr result ((held : List Portion) → S.holds self.old.sink held
             → (now : List Portion) × S.holds self.new.sink now × IsFront held now
-            × IfSome image.old.left
-            (RefusesImage self.old.core self.new.core held now)
             × IfSome image.old.left
             (CutsTable self.old.core (rest_of self.new.core) held now)) }
         ensures cause { IfErr result (λ fault. IsRefused S.refusals S.refuses_change

@@ -1,12 +1,9 @@
 //! The sections of a catalogue, and the missing ones.
 
 ghost use Rattle.std.specs.Prelude.{◌≡◌, ◌<◌, ◌+◌, [], length, map, take, IfOk, OnOk};
-ghost use Rattle.std.specs.Map.{lookup};
-ghost use Rattle.std.specs.Result.{IsOkUnless};
-ghost use Rattle.std.specs.Str.{bytes_eq};
+ghost use Rattle.std.specs.{Map.lookup, Result.IsOkUnless, Str.bytes_eq};
 ghost use Rattle.tape_run.specs.Lacks.{line_of, greatest, with_file, sets_from, set_lacks, lacks};
-ghost use Rattle.tape_run.specs.Lacks.{is_none_lacking, found_all};
-ghost use Rattle.tape_run.specs.NextLack.{IsNext};
+ghost use Rattle.tape_run.specs.{Lacks.found_all, NextLack.IsNext};
 ghost use Rattle.tape_run.specs.declared.fault.RunFault.TheVariants as faults;
 
 use crate::catalogue::Catalogue;
@@ -151,19 +148,12 @@ pub(crate) fn next_lack(
     None
 }
 
-/// Returns whether no section of the given sets is missing.
-fn lacks_none(sections: &Sections, sets: &Sets) -> bool
-    ensures { result ≡ is_none_lacking (set_lacks sections.now.entries sets.now.entries) }
-{
-    next_lack(sections, sets, 0, 0).is_none()
-}
-
 /// Returns whether sections were found, in these sets, and none is missing.
 pub(crate) fn found_all(sections: &Sections, sets: &Sets) -> bool
     requires { sets.now.entries ≡ sets_from [] sections.now.entries }
     ensures { result ≡ found_all sections.now.entries }
 {
-    !sections.is_empty() && lacks_none(sections, sets)
+    !sections.is_empty() && next_lack(sections, sets, 0, 0).is_none()
 }
 
 /// Returns the first missing section of each incomplete file of the given sets.

@@ -1,12 +1,11 @@
 //! `salvage`: recovers the readable parts of a file that no image has completely.
 
 ghost use Rattle.std.specs.Prelude.{◌≡◌, ◌<◌, ◌⊎◌, ◌&&◌, not, Bool, Option, Some, List, ℕ, OnOk};
-ghost use Rattle.std.specs.Prelude.{option_map};
-ghost use Rattle.std.specs.Prelude.{OnErr, IfOk, IfErr};
+ghost use Rattle.std.specs.Prelude.{option_map, OnErr, IfOk, IfErr};
 ghost use Rattle.std.specs.Io.KnownBytes.{Appends};
 ghost use Rattle.tape_run.specs.Checked.{IsCheckFault};
-ghost use Rattle.tape_image.specs.Written.{AppendsFront};
 ghost use Rattle.tape_run.specs.Salvaging.{FindsOn, FindsAll, Salvages, StopsSalvage};
+ghost use Rattle.tape_image.specs.Written.{AppendsFront};
 
 mod conflicts;
 mod copies;

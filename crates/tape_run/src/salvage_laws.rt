@@ -1,17 +1,13 @@
 //! Laws that connect the definitions of `salvage`.
 
 ghost use Rattle.tape_run.specs.SalvageWhole.{RecoversWhole, AllWhole, FirstStays, NeverLess};
-ghost use Rattle.tape_run.specs.SalvageWhole.{WritesOutput};
-ghost use Rattle.tape_run.specs.SalvageImage.{RestHasNothing};
 ghost use Rattle.tape_run.specs.SalvageSections.{RecoversSectionOf, PassesSection, FindsSection};
-ghost use Rattle.tape_run.specs.SalvageSections.{RecoversFromVolume, RecoversFromReading};
-ghost use Rattle.tape_run.specs.SalvageReadings.{RecoversReading};
-ghost use Rattle.tape_run.specs.SalvageGaps.{GapsAreRuns};
-ghost use Rattle.tape_run.specs.SalvageClosed.{ClosedAreThere};
-ghost use Rattle.tape_run.specs.SalvageDamaged.{ClosedAreExact};
-ghost use Rattle.tape_run.specs.SalvageUnnamed.{UnnamedAreThere};
 ghost use Rattle.tape_run.specs.SalvageFile.{RecoversBlocks, RecoversFile, RecoversUpToGap};
-ghost use Rattle.tape_run.specs.SalvageFile.{ReportsBlocks};
+ghost use Rattle.tape_run.specs.{SalvageWhole.WritesOutput, SalvageImage.RestHasNothing};
+ghost use Rattle.tape_run.specs.SalvageSections.{RecoversFromVolume, RecoversFromReading};
+ghost use Rattle.tape_run.specs.{SalvageReadings.RecoversReading, SalvageGaps.GapsAreRuns};
+ghost use Rattle.tape_run.specs.{SalvageClosed.ClosedAreThere, SalvageDamaged.ClosedAreExact};
+ghost use Rattle.tape_run.specs.{SalvageUnnamed.UnnamedAreThere, SalvageFile.ReportsBlocks};
 ghost use Rattle.tape_run.specs.SalvageSets.{RecoversSet, NoneHasMore};
 ghost use Rattle.tape_run.specs.SalvageDamagedSets.{ClosedOfSetAreExact, FoundAreExact};
 ghost use Rattle.tape_run.specs.SalvagedSets.{RecoversSets};
@@ -21,11 +17,13 @@ use std::io::{Read, Write};
 
 /// If the parts of a file are in order, and any of its blocks are missing, the recovered records
 /// are exactly those that lie entirely in blocks that were read.
+#[tactic(auto, using(crate::proofs::SalvageWhole::gives_whole))]
 pub fn whole_records_are_recovered()
     ensures { RecoversWhole }
 {}
 
 /// If no block is missing, all parts of the file are recovered.
+#[tactic(auto, using(crate::proofs::SalvageWhole::all_whole))]
 pub fn all_records_are_recovered()
     ensures { AllWhole }
 {}
@@ -50,11 +48,13 @@ pub fn sections_are_found()
 /// From a volume of a valid set of which HDR1, the trailer label and the tape marks of each section
 /// were read, exactly the records of the section's blocks that were read are recovered. VOL1, HDR2,
 /// EOF2 and further labels need not be readable.
+#[tactic(auto, using(crate::proofs::SalvageVolumes::recovers_from_volume))]
 pub fn volumes_are_recovered()
     ensures { RecoversFromVolume }
 {}
 
 /// Recovered records remain a prefix of the result, whatever follows.
+#[tactic(auto, using(crate::proofs::SalvageGrows::first_stays))]
 pub fn recovered_records_stay()
     ensures { FirstStays }
 {}
@@ -67,6 +67,7 @@ pub fn never_less_than_up_to_the_gap()
 
 /// The parts of a file are written as `extract` writes them, so a file without missing blocks is
 /// the same, byte for byte.
+#[tactic(auto, using(crate::proofs::SalvageText::writes_output))]
 pub fn parts_are_written_as_extracted()
     ensures { WritesOutput }
 {}
@@ -79,6 +80,7 @@ pub fn the_rest_has_nothing_more()
 
 /// From a reading of such a volume, which ends at the mark after the section's data or has all
 /// items, exactly the records of the section's blocks that were read are recovered.
+#[tactic(auto, using(crate::proofs::SalvageClosings::recovers_from_reading))]
 pub fn readings_are_recovered()
     ensures { RecoversFromReading }
 {}
@@ -119,6 +121,7 @@ pub fn gaps_are_the_missing_blocks()
 /// On any image, a section that is found by its HDR1 and closes is exactly the items between the
 /// tape mark after its labels and the one before its trailer label: its number of blocks and its
 /// digest are theirs.
+#[tactic(auto, using(crate::proofs::SalvageClosed::closed_are_there))]
 pub fn closed_sections_are_there()
     ensures { ClosedAreThere }
 {}
@@ -126,12 +129,14 @@ pub fn closed_sections_are_there()
 /// On a volume of a valid set of which any items may be unreadable, also labels and tape marks, a
 /// section of the set that is found by its HDR1 and closes has exactly its blocks, provided that no
 /// other block reads as HDR1, EOF1 or EOV1.
+#[tactic(auto, using(crate::proofs::SalvageDamaged::closed_are_exact))]
 pub fn closed_sections_are_exact()
     ensures { ClosedAreExact }
 {}
 
 /// On any image, a section that is found without its HDR1 has exactly the items between two tape
 /// marks; its trailer label follows, has its numbers, and counts exactly these items.
+#[tactic(auto, using(crate::proofs::SalvageUnnamed::unnamed_are_there))]
 pub fn sections_without_hdr1_are_there()
     ensures { UnnamedAreThere }
 {}
@@ -159,6 +164,7 @@ pub fn closed_sections_of_sets_are_exact()
 /// So `salvage_to` recovers a file of a valid set from such images, if each is the same whenever it
 /// is opened, and no reader failed: what it writes is what `files_of_sets_are_recovered` says. If
 /// it returns that nothing is missing, this is what `extract` writes of the complete file.
+#[tactic(auto, using(crate::proofs::SalvagedSets::recovers_sets))]
 pub fn salvaged_sets_are_recovered<W: Write + Drop, R: Read + Drop, L: ImageSource<R>>()
     ensures { RecoversSets W.contents L.size L.gives R.remaining }
 {}

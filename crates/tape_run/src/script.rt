@@ -1,22 +1,16 @@
 //! Scripts: steps of a session, one after another.
 
-ghost use Rattle.std.specs.Prelude.{◌≡◌, ◌+◌, [], ◌∷◌, ℕ, Bool, List, Some, None, OnOk};
-ghost use Rattle.std.specs.Prelude.{OnErr, IfOk, IfErr, map, take, drop, true, false, ◌++◌};
-ghost use Rattle.std.specs.Prelude.{Option};
+ghost use Rattle.std.specs.Prelude.{◌≡◌, ◌+◌, [], ◌∷◌, ℕ, Bool, List, Some, None, OnOk, OnErr};
+ghost use Rattle.std.specs.Prelude.{IfOk, IfErr, map, take, drop, true, false, ◌++◌, Option};
 ghost use Rattle.tape_blocks.specs.Spans.{join};
-ghost use Rattle.tape_set.specs.declared.position.Position.TheVariants.{Finished};
+ghost use Rattle.tape_set.specs.{declared.position.Position.TheVariants.Finished, Lawful.IsLawful};
 ghost use Rattle.tape_set.specs.Layout.{FileSet, Section, file_of};
-ghost use Rattle.tape_set.specs.Lawful.{IsLawful};
 ghost use Rattle.tape_set.specs.Before.{section_parts};
-ghost use Rattle.tape_core.specs.Place.{rest_of};
-ghost use Rattle.tape_core.specs.Crash.{AddsOnly};
-ghost use Rattle.tape_run.specs.Back.{reels_of, AreVolumes};
-ghost use Rattle.tape_run.specs.Crash.{IsOf, StoodAt, LastAlone, is_saved};
+ghost use Rattle.tape_core.specs.{Place.rest_of, Crash.AddsOnly};
 ghost use Rattle.tape_run.specs.Headline.{IsStart, IsRead, HasRun, HasStopped, LosesParts};
-ghost use Rattle.tape_run.specs.Headline.{reels_in};
-ghost use Rattle.tape_run.specs.Given.{written, IfTold};
-ghost use Rattle.tape_run.specs.Made.{IsMade, WritesFrom};
-ghost use Rattle.tape_run.specs.Causes.{IsCalm};
+ghost use Rattle.tape_run.specs.{Back.reels_of, Back.AreVolumes, Headline.reels_in, Causes.IsCalm};
+ghost use Rattle.tape_run.specs.Crash.{IsOf, StoodAt, LastAlone, is_saved};
+ghost use Rattle.tape_run.specs.{Given.written, Given.IfTold, Made.IsMade, Made.WritesFrom};
 ghost use Rattle.tape_run.specs.Runs.{Runs, RunsUpTo, Fails, RefusesStep, StopsFor};
 ghost use Rattle.tape_run.specs.Seen.{seen, IsKept, IfSeen, IsSeen, IsSeenUnless};
 

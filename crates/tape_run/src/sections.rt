@@ -1,9 +1,8 @@
 //! The sections that were found, in the order in which they were found first.
 
-ghost use Rattle.std.specs.Result.{IsOkUnless};
-ghost use Rattle.tape_run.specs.declared.fault.RunFault.TheVariants as faults;
+ghost use Rattle.std.specs.{Result.IsOkUnless, Map.lookup};
 ghost use Rattle.std.specs.Prelude.{◌≡◌, ◌≢◌, ◌<◌, None, OnOk, OnErr, IfOk, IsOk};
-ghost use Rattle.std.specs.Map.{lookup};
+ghost use Rattle.tape_run.specs.declared.fault.RunFault.TheVariants as faults;
 ghost use Rattle.indexmap.specs.IndexMap.{spare};
 ghost use Rattle.tape_run.specs.Noted.{same_key, is_good, better, kept, noted, noted_all};
 ghost use Rattle.tape_run.specs.Passing.{in_list, under_way, blocks_of, step};

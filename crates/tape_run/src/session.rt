@@ -8,21 +8,15 @@ ghost use Rattle.std.specs.Prelude.{◌≡◌, [], ◌≢◌, List, Option, None
 ghost use Rattle.std.specs.Prelude.{IfErr, IfSome, OnErr, length, take, ◌++◌, ◌∷◌, ◌+◌};
 ghost use Rattle.tape_image.specs.Reader.{IfKnown};
 ghost use Rattle.tape_blocks.specs.Block.{Portion};
-ghost use Rattle.tape_set.specs.Layout.{FileSet};
-ghost use Rattle.tape_set.specs.Position.{want_at};
-ghost use Rattle.tape_core.specs.Known.{IsFileNumber};
-ghost use Rattle.tape_core.specs.Place.{rest_of};
-ghost use Rattle.tape_core.specs.Stands.{Stands, weight_of};
+ghost use Rattle.tape_set.specs.{Layout.FileSet, Position.want_at};
+ghost use Rattle.tape_core.specs.{Known.IsFileNumber, Place.rest_of, Weight.IsFront};
+ghost use Rattle.tape_core.specs.{Stands.Stands, Stands.weight_of, Crash.AddsOnly, Crash.ThisAlone};
 ghost use Rattle.tape_core.specs.Table.{saved, reader_of, mount_of};
-ghost use Rattle.tape_core.specs.Crash.{AddsOnly, ThisAlone};
-ghost use Rattle.tape_core.specs.Weight.{IsFront};
-ghost use Rattle.tape_run.specs.Crash.{IsHere, IsNoteOf, BringsNoMore};
-ghost use Rattle.tape_run.specs.Given.{is_device, counted};
-ghost use Rattle.tape_run.specs.Headline.{IsStart};
-ghost use Rattle.tape_run.specs.CrashRuns.{IsResumed};
-ghost use Rattle.tape_run.specs.Reels.{Reads, Leaves};
-ghost use Rattle.tape_run.specs.Seen.{seen, IsKept, IsSession, IfSeen, IsSeen};
 ghost use Rattle.tape_run.specs.Steps.{Reeled, ReelFails, Refuses, Saved, SaveFails, WentBack};
+ghost use Rattle.tape_run.specs.Crash.{IsHere, IsNoteOf, BringsNoMore};
+ghost use Rattle.tape_run.specs.{Given.is_device, Given.counted, Headline.IsStart};
+ghost use Rattle.tape_run.specs.{CrashRuns.IsResumed, Reels.Reads, Reels.Leaves};
+ghost use Rattle.tape_run.specs.Seen.{seen, IsKept, IsSession, IfSeen, IsSeen};
 ghost use Rattle.tape_run.specs.Steps.{RestartFails, RefusesRestart, IsAtNote};
 
 use crate::fault::RunFault;

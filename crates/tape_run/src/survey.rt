@@ -1,17 +1,12 @@
 //! `survey`: describes images, by their names, and the sets and files on them.
-ghost use Rattle.std.specs.Prelude.{◌≡◌, ◌++◌, [], length, map, is_some, IfOk, OnOk, OnErr, IfErr};
-ghost use Rattle.std.specs.Prelude.{Option};
+ghost use Rattle.std.specs.Prelude.{◌≡◌, ◌++◌, length, map, IfOk, OnOk, OnErr, IfErr, Option};
 ghost use Rattle.std.specs.Io.KnownBytes.{Appends};
-ghost use Rattle.tape_run.specs.Checked.{IsCheckFault};
-ghost use Rattle.tape_image.specs.Written.{AppendsFront};
+ghost use Rattle.tape_run.specs.{Checked.IsCheckFault, SurveyLine.image_line, SurveyRows.image_row};
 ghost use Rattle.tape_run.specs.SurveyWording.{image_text, end_text, summary};
-ghost use Rattle.tape_run.specs.SurveyLine.{image_line};
-ghost use Rattle.tape_run.specs.SurveyRows.{image_row};
-ghost use Rattle.tape_run.specs.SurveyRead.{AreViewed, nothing_found};
-ghost use Rattle.tape_run.specs.SurveySets.{is_all, last_text};
-ghost use Rattle.tape_run.specs.SurveyCopies.{disputed};
+ghost use Rattle.tape_run.specs.{SurveySets.is_all, SurveySets.last_text, SurveyCopies.disputed};
 ghost use Rattle.tape_run.specs.SurveyTally.{no_images, tally_from};
 ghost use Rattle.tape_run.specs.Survey.{Surveys, SurveysInPart, image_texts, survey_text};
+ghost use Rattle.tape_image.specs.Written.{AppendsFront};
 
 mod compared;
 pub(crate) mod copies;
@@ -37,13 +32,12 @@ mod volumes;
 use crate::check::pass_on;
 use crate::extract::images::ImageSource;
 use crate::fault::{EngineFault, NO_MEMORY};
-use crate::quoting::name_text;
 use crate::section::SectionKey;
 use crate::text::append;
 use compared::copies_text;
 use copies::{Held, disputed_on};
-use line::{LineEnd, WordsCell, state_at};
-use rows::middle_cells;
+use line::{image_line, state_at};
+use rows::image_row;
 use sets::is_all;
 use std::alloc::{AllocError, Global};
 use std::io::{Read, Write};
@@ -195,39 +189,6 @@ fn add_image(
         Wording::Rows => image_row(alloc, name, sight, *dispute)?,
     };
     text.extend_from_slice(line.as_slice())
-}
-
-/// Returns the row for the image named `name`.
-fn image_row(
-    alloc: Global,
-    name: &str,
-    sight: &Option<ImageSurvey>,
-    dispute: Option<SectionKey>,
-) -> Result<Vec<u8>, AllocError>
-    ensures { IfOk result (λ row. row.items ≡ image_row name.now sight.now dispute) }
-{
-    let mut row = Vec::from_slice(alloc, b"IMAGE\t")?;
-    let name = name_text(alloc, name)?;
-    row.extend_from_slice(name.as_slice())?;
-    let cells = middle_cells(sight, dispute.is_some());
-    row.extend_from_slice(&cells)?;
-    append(alloc, &mut row, WordsCell(sight, dispute))?;
-    Ok(row)
-}
-
-/// Returns the line about the image named `name`.
-fn image_line(
-    alloc: Global,
-    name: &str,
-    sight: &Option<ImageSurvey>,
-    dispute: Option<SectionKey>,
-) -> Result<Vec<u8>, AllocError>
-    ensures { IfOk result (λ line. line.items ≡ image_line name.now sight.now dispute) }
-{
-    let mut line = name_text(alloc, name)?;
-    let named = line.len();
-    append(alloc, &mut line, LineEnd(named, sight, dispute))?;
-    Ok(line)
 }
 
 /// Appends the part of the survey that follows the lines of the images.

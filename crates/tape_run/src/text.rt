@@ -1,10 +1,8 @@
 //! Texts of limited length, built without allocating, and their output.
 
 ghost use Rattle.std.specs.Prelude.{◌≡◌, ◌≤◌, ◌+◌, ◌++◌, length, decimal, OnOk, OnErr, IfSome};
-ghost use Rattle.std.specs.Prelude.{Some};
-ghost use Rattle.std.specs.Io.KnownBytes.{Appends, Keeps};
-ghost use Rattle.arrayvec.specs.ArrayString.{array_string_len};
-ghost use Rattle.arrayvec.specs.ArrayVec.{array_vec_len};
+ghost use Rattle.std.specs.{Prelude.Some, Io.KnownBytes.Appends, Io.KnownBytes.Keeps};
+ghost use Rattle.arrayvec.specs.{ArrayString.array_string_len, ArrayVec.array_vec_len};
 ghost use Rattle.tape_run.specs.Identifier.{printed, identifier_text};
 ghost use Rattle.tape_run.specs.SurveyLine.{trimmed_len, trimmed_text};
 ghost use Rattle.tape_image.specs.Written.{AppendsFront};

@@ -2,16 +2,12 @@
 
 ghost use Rattle.std.specs.Prelude.{◌≡◌, [], List, Err, IsOk, IfOk, OnOk, IfErr, map};
 ghost use Rattle.tape_blocks.specs.Block.{Portion};
-ghost use Rattle.tape_core.specs.Known.{IsFileNumber};
-ghost use Rattle.tape_core.specs.Place.{rest_of};
-ghost use Rattle.tape_core.specs.Memory.{portions};
+ghost use Rattle.tape_core.specs.{Known.IsFileNumber, Place.rest_of, Memory.portions};
 ghost use Rattle.tape_core.specs.Table.{reader_of};
 ghost use Rattle.tape_run.specs.Headline.{IsRead, IsStart, HasRun, HasStopped, LosesParts};
-ghost use Rattle.tape_run.specs.CrashRuns.{IsResumed, LivesOn};
-ghost use Rattle.tape_run.specs.Given.{IfTold};
-ghost use Rattle.tape_run.specs.Runs.{StopsFor};
+ghost use Rattle.tape_run.specs.{CrashRuns.IsResumed, CrashRuns.LivesOn, Given.IfTold};
+ghost use Rattle.tape_run.specs.{Runs.StopsFor, SessionState.SessionState};
 ghost use Rattle.tape_run.specs.Seen.{Seen, seen, IsKept, IsSeen, IsSeenUnless};
-ghost use Rattle.tape_run.specs.SessionState.{SessionState};
 
 use crate::fault::Stopped;
 use crate::script::{Step, run};

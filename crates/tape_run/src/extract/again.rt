@@ -1,11 +1,10 @@
 //! `extract` in several passes over its images.
 
-ghost use Rattle.std.specs.Prelude.{◌≡◌, ◌≢◌, ◌⊎◌, None, OnOk, IfOk, OnErr, IfErr};
+ghost use Rattle.std.specs.Prelude.{◌≡◌, ◌≢◌, ◌⊎◌, None, OnOk, IfOk, IfErr};
 ghost use Rattle.std.specs.Bool.{OnTrue, OnFalse};
 ghost use Rattle.tape_run.specs.ExtractingAgain.{ExtractsAgain, StopsAgain};
 ghost use Rattle.tape_run.specs.Causes.{ExtractFails, ReadingFails, RefusesAny, IsCalm};
-ghost use Rattle.tape_run.specs.Reeling.{goes_back};
-ghost use Rattle.tape_run.specs.Rounds.{TakesRounds, StopsInRound};
+ghost use Rattle.tape_run.specs.{Reeling.goes_back, Rounds.TakesRounds, Rounds.StopsInRound};
 
 use crate::extract::images::{ImageSource, read_round};
 use crate::extract::{end_file, has_note};

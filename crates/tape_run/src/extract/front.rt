@@ -2,12 +2,10 @@
 //! record.
 ghost use Rattle.std.specs.Prelude.{◌≡◌, List, length, take, drop, OnOk, OnErr, IfOk, IfErr};
 ghost use Rattle.std.specs.Io.KnownBytes.{Appends};
-ghost use Rattle.tape_blocks.specs.Block.{Portion};
-ghost use Rattle.tape_blocks.specs.Spans.{join};
-ghost use Rattle.tape_run.specs.Causes.{WritingFails};
-ghost use Rattle.tape_run.specs.Crash.{BringsNoMore};
-ghost use Rattle.tape_image.specs.Written.{AppendsFront};
+ghost use Rattle.tape_blocks.specs.{Block.Portion, Spans.join};
+ghost use Rattle.tape_run.specs.{Causes.WritingFails, Crash.BringsNoMore};
 ghost use Rattle.tape_run.specs.RecordText.{output_of, records_text};
+ghost use Rattle.tape_image.specs.Written.{AppendsFront};
 
 use crate::extract::{walk_fault, write_part};
 use crate::fault::EngineFault;

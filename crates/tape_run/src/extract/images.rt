@@ -3,10 +3,8 @@
 ghost use Rattle.std.specs.Prelude.{◌≡◌, ◌≢◌, ◌≤◌, ◌+◌, ℕ, length, OnOk, OnErr, IfOk, IfErr};
 ghost use Rattle.tape_set.specs.declared.position.Position.TheVariants.{Finished};
 ghost use Rattle.tape_core.specs.Place.{rest_of};
-ghost use Rattle.tape_run.specs.Causes.{ReadingFails, IsCalm};
-ghost use Rattle.tape_run.specs.Crash.{LeavesStep};
+ghost use Rattle.tape_run.specs.{Causes.ReadingFails, Causes.IsCalm, Crash.LeavesStep, Seen.IfSeen};
 ghost use Rattle.tape_run.specs.Reeling.{Takes, TakesAll, counts_differ, IsKeptFor, Mounting, Took};
-ghost use Rattle.tape_run.specs.Seen.{IfSeen};
 ghost use Rattle.tape_run.specs.Stopping.{IsStopped, RefusesSave, StopsReading};
 
 use crate::extract::line::ReelLine;

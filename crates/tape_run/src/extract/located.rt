@@ -4,12 +4,10 @@ ghost use Rattle.std.specs.Prelude.{◌≡◌, ◌≢◌, ◌<◌, ◌⊎◌, Li
 ghost use Rattle.std.specs.Prelude.{OnErr, IfErr, is_some, true, false};
 ghost use Rattle.std.specs.Bool.{OnTrue, OnFalse};
 ghost use Rattle.tape_set.specs.declared.position.Position.TheVariants.{Finished};
+ghost use Rattle.tape_run.specs.ExtractingLocated.{IsHeld, ReadsPart, ReadsLocated, ReadsSections};
 ghost use Rattle.tape_run.specs.Causes.{ReadingFails, EndingFails, IsCalm};
-ghost use Rattle.tape_run.specs.ExtractingLocated.{IsHeld, ReadsPart, ReadsLocated};
-ghost use Rattle.tape_run.specs.ExtractingLocated.{ReadsSections, ExtractsLocated};
-ghost use Rattle.tape_run.specs.GoesBehind.{EndsSection};
-ghost use Rattle.tape_run.specs.OutSinks.{TellsAlways};
-ghost use Rattle.tape_run.specs.Stopping.{ReadsOnly};
+ghost use Rattle.tape_run.specs.{ExtractingLocated.ExtractsLocated, GoesBehind.EndsSection};
+ghost use Rattle.tape_run.specs.{OutSinks.TellsAlways, Stopping.ReadsOnly};
 ghost use Rattle.tape_run.specs.declared.fault.EngineFault.TheVariants as engine;
 
 use crate::extract::images::ImageSource;

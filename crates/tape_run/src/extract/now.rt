@@ -1,10 +1,9 @@
 //! `extract` without a stage: writes the records while it reads the images.
 
-ghost use Rattle.std.specs.Prelude.{◌≡◌, ◌≢◌, ◌⊎◌, ℕ, List, Option, None, OnOk, IfOk, OnErr};
-ghost use Rattle.std.specs.Prelude.{IfErr, false};
+ghost use Rattle.std.specs.Prelude.{◌≡◌, ◌≢◌, ◌⊎◌, ℕ, List, Option, None, OnOk, IfOk, OnErr, IfErr};
+ghost use Rattle.std.specs.Prelude.{false};
 ghost use Rattle.tape_set.specs.declared.position.Position.TheVariants.{Finished};
-ghost use Rattle.tape_run.specs.Causes.{ReadingFails, EndingFails};
-ghost use Rattle.tape_run.specs.OutSinks.{TellsAlways};
+ghost use Rattle.tape_run.specs.{Causes.ReadingFails, Causes.EndingFails, OutSinks.TellsAlways};
 ghost use Rattle.tape_run.specs.ExtractingNow.{ExtractsNow, StopsNow};
 
 use crate::extract::end_report;

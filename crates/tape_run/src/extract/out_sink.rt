@@ -1,19 +1,11 @@
 //! A sink that writes the records of a file as its parts come, and stores none of them.
 
 ghost use Rattle.std.specs.Prelude.{◌≡◌, ◌≢◌, ◌≤◌, ◌<◌, ◌+◌, ◌++◌, ◌∷◌, [], List, Some, None};
-ghost use Rattle.std.specs.Prelude.{is_some, length, true};
-ghost use Rattle.std.specs.Prelude.{OnOk, OnErr, IfOk, IfErr, Ok, Err};
-ghost use Rattle.std.specs.Io.KnownBytes.{Appends};
-ghost use Rattle.tape_blocks.specs.Block.{Portion};
-ghost use Rattle.tape_blocks.specs.Packing.{longest_block};
-ghost use Rattle.tape_blocks.specs.Parts.{view};
+ghost use Rattle.std.specs.Prelude.{is_some, length, true, OnOk, OnErr, IfOk, IfErr, Ok, Err};
+ghost use Rattle.tape_blocks.specs.{Block.Portion, Packing.longest_block, Parts.view};
 ghost use Rattle.tape_blocks.specs.Spans.{leaves, join};
-ghost use Rattle.tape_core.specs.Crash.{lost};
-ghost use Rattle.tape_core.specs.Known.{most_staged};
-ghost use Rattle.tape_core.specs.Stands.{weight_of};
-ghost use Rattle.tape_core.specs.Weight.{Rose};
-ghost use Rattle.tape_run.specs.Causes.{CannotEnd, EndingFails};
-ghost use Rattle.tape_run.specs.RecordText.{part_text, output_of};
+ghost use Rattle.tape_core.specs.{Crash.lost, Known.most_staged, Stands.weight_of, Weight.Rose};
+ghost use Rattle.tape_run.specs.{Causes.CannotEnd, Causes.EndingFails, RecordText.output_of};
 ghost use Rattle.tape_run.specs.OutSinks.{TellsAlways, with_end, HasTaken, RefusesText};
 
 use crate::extract::{walk_fault, write_part};

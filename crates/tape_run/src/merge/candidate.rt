@@ -4,8 +4,7 @@ ghost use Rattle.std.specs.Prelude.{◌≡◌, ◌<◌, ◌↔◌, Some, None, i
 ghost use Rattle.std.specs.Prelude.{IfSome};
 ghost use Rattle.tape_image.specs.Reader.{tape_item};
 ghost use Rattle.tape_run.specs.MergeSteps.{agrees, Takes, is_less, is_bad_one};
-ghost use Rattle.tape_run.specs.MergeCalls.{Puts, RefusesCandidate};
-ghost use Rattle.tape_run.specs.MergeLog.{kind_at};
+ghost use Rattle.tape_run.specs.{MergeCalls.Puts, MergeCalls.RefusesCandidate, MergeLog.kind_at};
 ghost use Rattle.tape_run.specs.Passing.{blocks_of, step};
 ghost use Rattle.tape_set.specs.Lawful.{most_blocks};
 

@@ -1,12 +1,10 @@
 //! The log of a merge: a row for each item that fewer than two readings have, or that is bad in
 //! one.
 
-ghost use Rattle.std.specs.Prelude.{◌≡◌, ◌++◌, ◌||◌, nat_lt, true, codes, decimal, map, IfOk};
-ghost use Rattle.std.specs.Prelude.{OnOk, OnErr};
-ghost use Rattle.std.specs.Io.KnownBytes.{Appends};
-ghost use Rattle.tape_run.specs.MergeLines.{kind_text};
-ghost use Rattle.tape_run.specs.MergeLog.{log_head, verdict_cell, verdict_cells, is_bad_verdict};
-ghost use Rattle.tape_run.specs.MergeLog.{has_bad_verdict, row_now};
+ghost use Rattle.std.specs.Prelude.{◌≡◌, ◌++◌, ◌||◌, nat_lt, true, codes, decimal, map, IfOk, OnOk};
+ghost use Rattle.std.specs.{Prelude.OnErr, Io.KnownBytes.Appends};
+ghost use Rattle.tape_run.specs.MergeLog.{log_head, verdict_cell, verdict_cells, has_bad_verdict};
+ghost use Rattle.tape_run.specs.{MergeLines.kind_text, MergeLog.row_now};
 
 use super::candidate::Candidate;
 use super::line::{ItemKind, put_kind};

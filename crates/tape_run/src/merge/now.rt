@@ -4,15 +4,13 @@
 ghost use Rattle.std.specs.Prelude.{◌≡◌, ◌⊎◌, ◌<◌, ◌+◌, map, length, IfOk, OnOk, IfErr, OnErr};
 ghost use Rattle.std.specs.Io.KnownBytes.{Appends};
 ghost use Rattle.tape_image.specs.declared.item.ImageWriteFault.TheVariants.{TooLong};
-ghost use Rattle.tape_image.specs.Begins.{image_limit};
-ghost use Rattle.tape_image.specs.Written.{AppendsFront};
-ghost use Rattle.tape_run.specs.MergeLines.{lines_from, reading_line, has_line};
-ghost use Rattle.tape_run.specs.MergeCalls.{IfImages};
+ghost use Rattle.tape_image.specs.{Begins.image_limit, Written.AppendsFront};
 ghost use Rattle.tape_run.specs.MergeNow.{MountsAll, IsMissing, Misses, IfMounted, LeavesPlace};
 ghost use Rattle.tape_run.specs.MergeNow.{ReportsNoImage, ReportsImage, HoldsMerged, ComesTo};
+ghost use Rattle.tape_run.specs.MergeLines.{lines_from, reading_line, has_line};
+ghost use Rattle.tape_run.specs.{MergeCalls.IfImages, declared.merge.now.MergeEnd.MergeEnd};
 ghost use Rattle.tape_run.specs.MergeNow.{IsTooLong, EndsAs, FitsEnd, end_bytes};
 ghost use Rattle.tape_run.specs.declared.merge.line.MergedEnd.TheVariants.{Marked};
-ghost use Rattle.tape_run.specs.declared.merge.now.MergeEnd.{MergeEnd};
 ghost use Rattle.tape_run.specs.declared.merge.now.MergeEnd.TheVariants.{Differs};
 ghost use Rattle.tape_run.specs.declared.merge.now.MergeStop.TheVariants as stops;
 

@@ -2,9 +2,8 @@
 
 ghost use Rattle.std.specs.Prelude.{◌≡◌, IfOk, OnOk};
 ghost use Rattle.tape_image.specs.Reader.{tape_item};
-ghost use Rattle.tape_run.specs.MergeSteps.{Compares, block_length, is_stop, bad_count};
-ghost use Rattle.tape_run.specs.MergeSteps.{Answered, Asked};
-ghost use Rattle.tape_run.specs.MergeCalls.{has_first};
+ghost use Rattle.tape_run.specs.MergeSteps.{Compares, block_length, is_stop, bad_count, Answered};
+ghost use Rattle.tape_run.specs.{MergeSteps.Asked, MergeCalls.has_first};
 
 use super::candidate::Candidate;
 use std::alloc::AllocError;

@@ -2,12 +2,10 @@
 
 ghost use Rattle.std.specs.Prelude.{◌≡◌, ◌++◌, ◌∷◌, max, min, [], List, OnOk, IfErr, None, Some};
 ghost use Rattle.tape_image.specs.Reader.{going};
-ghost use Rattle.tape_run.specs.Checked.{IsCheckFault};
-ghost use Rattle.tape_run.specs.SalvageWalk.{in_list};
-ghost use Rattle.tape_run.specs.SalvageCopies.{FindsCopies, believed, of_file, is_of};
-ghost use Rattle.tape_run.specs.SalvageCopies.{wrong_count, rank, start_of, skip_of};
-ghost use Rattle.tape_run.specs.SalvageCopies.{is_complete};
+ghost use Rattle.tape_run.specs.SalvageCopies.{FindsCopies, believed, of_file, is_of, wrong_count};
 ghost use Rattle.tape_run.specs.SalvageChoice.{IsBest, IsChoice, firsts, is_considered};
+ghost use Rattle.tape_run.specs.{Checked.IsCheckFault, SalvageWalk.in_list};
+ghost use Rattle.tape_run.specs.SalvageCopies.{rank, start_of, skip_of, is_complete};
 ghost use Rattle.tape_run.specs.SalvageChoice.{last_section, form_of_file};
 ghost use Rattle.tape_run.specs.declared.salvage.copies.SectionCopy.{SectionCopy};
 

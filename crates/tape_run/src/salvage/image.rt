@@ -1,13 +1,10 @@
 //! A section recovered from one image.
 
 ghost use Rattle.std.specs.Prelude.{◌≡◌, ◌&&◌, List, IfOk, IfErr, OnErr};
-ghost use Rattle.tape_image.specs.Reader.{going, tape_item};
-ghost use Rattle.tape_image.specs.Tape.{TapeItem};
-ghost use Rattle.tape_run.specs.Checked.{IsCheckFault};
-ghost use Rattle.tape_run.specs.Noted.{same_key};
-ghost use Rattle.tape_run.specs.SalvageImage.{number_in, is_in, is_mark, read_in};
-ghost use Rattle.tape_run.specs.SalvageBlocks.{ReportsFront};
-ghost use Rattle.tape_run.specs.SalvageImage.{RecoversSection, BeginsWith, text_from};
+ghost use Rattle.tape_image.specs.{Reader.going, Reader.tape_item, Tape.TapeItem};
+ghost use Rattle.tape_run.specs.SalvageImage.{number_in, is_in, is_mark, read_in, RecoversSection};
+ghost use Rattle.tape_run.specs.{Checked.IsCheckFault, Noted.same_key, SalvageBlocks.ReportsFront};
+ghost use Rattle.tape_run.specs.SalvageImage.{BeginsWith, text_from};
 
 use crate::fault::EngineFault;
 use crate::salvage::recovery::Recovery;

@@ -1,11 +1,10 @@
 //! The lines that `salvage` reports. Building them does not allocate.
 
-ghost use Rattle.std.specs.Prelude.{◌≡◌, ◌≤◌, ◌+◌, ◌++◌, length};
+ghost use Rattle.std.specs.Prelude.{◌≡◌, ◌≤◌, ◌+◌, ◌++◌};
 ghost use Rattle.arrayvec.specs.ArrayVec.{array_vec_len};
 ghost use Rattle.tape_run.specs.SalvageLine.{gap_line, open_gap_line, no_section_line};
-ghost use Rattle.tape_run.specs.SalvageLine.{refused_line};
-ghost use Rattle.tape_run.specs.SalvageLine.{torn_line, count_line, unsure_line, section_line};
-ghost use Rattle.tape_run.specs.SalvageLine.{last_line, number_text, no_form_line};
+ghost use Rattle.tape_run.specs.SalvageLine.{refused_line, torn_line, count_line, unsure_line};
+ghost use Rattle.tape_run.specs.SalvageLine.{section_line, last_line, number_text, no_form_line};
 ghost use Rattle.tape_run.specs.SalvageLine.{not_opened_line, conflict_line};
 
 use crate::text::{put, put_decimal};

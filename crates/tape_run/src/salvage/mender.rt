@@ -1,12 +1,10 @@
 //! The complete records in blocks, some of which are missing.
 
 ghost use Rattle.std.specs.Prelude.{◌≡◌, ◌≤◌, length, IfOk, IfErr, OnOk, Ok, Bool, Some};
-ghost use Rattle.tape_blocks.specs.Judged.{judged};
-ghost use Rattle.tape_blocks.specs.Parts.{view};
-ghost use Rattle.tape_blocks.specs.Packing.{longest_block};
+ghost use Rattle.tape_blocks.specs.{Judged.judged, Parts.view, Packing.longest_block};
 ghost use Rattle.tape_core.specs.Parts.{goes_on_at, parts_in};
-ghost use Rattle.tape_run.specs.Checked.{IsCheckFault};
 ghost use Rattle.tape_run.specs.SalvageRecords.{Piece, Start, HasPiece, nothing, with_part};
+ghost use Rattle.tape_run.specs.Checked.{IsCheckFault};
 ghost use Rattle.tape_run.specs.SalvageRecords.{with_parts, torn, mended, found_fault, is_cut};
 
 use crate::extract::write_part;

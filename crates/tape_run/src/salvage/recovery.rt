@@ -2,18 +2,14 @@
 
 ghost use Rattle.std.specs.Prelude.{◌≡◌, ◌≤◌, length, OnOk, OnErr, IfErr};
 ghost use Rattle.std.specs.Io.KnownBytes.{Appends};
-ghost use Rattle.tape_image.specs.Reader.{tape_item};
-ghost use Rattle.tape_image.specs.Tape.{IsTapeItem};
-ghost use Rattle.tape_image.specs.Written.{AppendsFront};
+ghost use Rattle.tape_image.specs.{Reader.tape_item, Tape.IsTapeItem, Written.AppendsFront};
 ghost use Rattle.tape_blocks.specs.Packing.{longest_block};
-ghost use Rattle.tape_run.specs.Checked.{IsCheckFault};
 ghost use Rattle.tape_run.specs.SalvageBlocks.{HasSalvaged, Recovers, none_salvaged, gap_text};
-ghost use Rattle.tape_run.specs.SalvageBlocks.{ReportsFront};
-ghost use Rattle.tape_run.specs.SalvageBlocks.{torn_text, refused_text, without_block};
-ghost use Rattle.tape_run.specs.SalvageBlocks.{without_block_text, with_block, with_block_text};
-ghost use Rattle.tape_run.specs.SalvageBlocks.{salvaged_at, text_at};
+ghost use Rattle.tape_run.specs.SalvageBlocks.{ReportsFront, torn_text, refused_text};
+ghost use Rattle.tape_run.specs.SalvageBlocks.{without_block, without_block_text, with_block};
 ghost use Rattle.tape_run.specs.SalvageEnds.{without_rest, rest_text, without_gap, with_count};
-ghost use Rattle.tape_run.specs.SalvageEnds.{count_text};
+ghost use Rattle.tape_run.specs.{Checked.IsCheckFault, SalvageEnds.count_text};
+ghost use Rattle.tape_run.specs.SalvageBlocks.{with_block_text, salvaged_at, text_at};
 
 use crate::fault::{EngineFault, WriteFailed};
 use crate::salvage::line::{count_line, gap_line, refused_line, torn_line};

@@ -2,8 +2,7 @@
 //! of its blocks it is.
 
 ghost use Rattle.std.specs.Prelude.{◌≡◌};
-ghost use Rattle.tape_image.specs.Reader.{tape_item};
-ghost use Rattle.tape_image.specs.Tape.{block, bad, mark};
+ghost use Rattle.tape_image.specs.{Reader.tape_item, Tape.block, Tape.bad, Tape.mark};
 ghost use Rattle.tape_run.specs.SalvageWalk as Walk;
 
 use crate::salvage::outside::{begun_by, outside_by, unnamed_after};

@@ -2,14 +2,10 @@
 
 ghost use Rattle.std.specs.Prelude.{◌≡◌, IfOk, IfErr, IfSome};
 ghost use Rattle.tape_image.specs.Reader.{IfKnown};
-ghost use Rattle.tape_core.specs.Behind.{behind_of};
-ghost use Rattle.tape_core.specs.Weight.{IsFront};
-ghost use Rattle.tape_run.specs.Crash.{BringsNoMore};
-ghost use Rattle.tape_run.specs.Given.{is_device, counted};
+ghost use Rattle.tape_core.specs.{Behind.behind_of, Weight.IsFront};
+ghost use Rattle.tape_run.specs.{Crash.BringsNoMore, Given.is_device, Given.counted, Reels.Leaves};
 ghost use Rattle.tape_run.specs.GoesBehind.{ReeledBehind, ReadsBehind, ReelFailsBehind};
-ghost use Rattle.tape_run.specs.Reels.{Leaves};
-ghost use Rattle.tape_run.specs.Seen.{IsKept, IfSeen, IsSeen};
-ghost use Rattle.tape_run.specs.Steps.{Refuses};
+ghost use Rattle.tape_run.specs.{Seen.IsKept, Seen.IfSeen, Seen.IsSeen, Steps.Refuses};
 
 use super::{Session, counted};
 use crate::fault::RunFault;

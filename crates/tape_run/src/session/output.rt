@@ -1,13 +1,10 @@
 //! Writes the parts that a session contains as records.
 ghost use Rattle.std.specs.Prelude.{◌≡◌, ◌≢◌, List, None, OnOk, OnErr, IfOk, IfErr};
-ghost use Rattle.tape_run.specs.OutSinks.{TellsAlways, HasTaken};
+ghost use Rattle.tape_run.specs.{OutSinks.TellsAlways, OutSinks.HasTaken, Crash.IsWalked};
+ghost use Rattle.tape_run.specs.{Causes.WritingFails, Causes.EndingFails, Extracting.IsWritten};
+ghost use Rattle.tape_run.specs.{ExtractingNow.IsPut, RecordText.output_of};
 ghost use Rattle.tape_blocks.specs.Block.{Portion};
-ghost use Rattle.tape_run.specs.Causes.{WritingFails, EndingFails};
-ghost use Rattle.tape_run.specs.Crash.{IsWalked};
-ghost use Rattle.tape_run.specs.Extracting.{IsWritten};
-ghost use Rattle.tape_run.specs.ExtractingNow.{IsPut};
 ghost use Rattle.tape_image.specs.Written.{AppendsFront};
-ghost use Rattle.tape_run.specs.RecordText.{output_of};
 
 use super::Session;
 use crate::extract::{OutSink, Place, write_file};

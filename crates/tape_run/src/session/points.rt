@@ -1,9 +1,7 @@
 //! Comparisons of checkpoints with the session's position.
 
-ghost use Rattle.std.specs.Prelude.{◌≡◌, ◌≢◌};
-ghost use Rattle.std.specs.Bool.{OnTrue, OnFalse};
-ghost use Rattle.tape_run.specs.Reeling.{HasNotedHere};
-ghost use Rattle.tape_run.specs.Seen.{IfSeen};
+ghost use Rattle.std.specs.{Prelude.◌≡◌, Prelude.◌≢◌, Bool.OnTrue, Bool.OnFalse};
+ghost use Rattle.tape_run.specs.{Reeling.HasNotedHere, Seen.IfSeen};
 
 use super::Session;
 use tape_core::{Checkpoint, Known, PartSink};

@@ -1,45 +1,18 @@
 //! The report of a survey on sections with more than one complete copy.
-ghost use Rattle.std.specs.Prelude.{◌≡◌, ◌<◌, ◌+◌, ◌++◌, length, take, map, IfOk, OnOk};
-ghost use Rattle.tape_run.specs.SurveyCompared.{section_front, row_front, name_at};
-ghost use Rattle.tape_run.specs.SurveyCompared.{agreed_text, conflict_text, verdict_text};
-ghost use Rattle.tape_run.specs.SurveyCompared.{other_name};
-ghost use Rattle.tape_run.specs.SurveyCompared.{verdict_cell, copy_line, copy_row, is_alone};
-ghost use Rattle.tape_run.specs.SurveyCompared.{copy_text, copies_text};
+ghost use Rattle.std.specs.Prelude.{◌≡◌, ◌++◌, map, IfOk, OnOk};
+ghost use Rattle.tape_run.specs.SurveyCompared.{name_at, conflict_text, verdict_text, copy_line};
+ghost use Rattle.tape_run.specs.SurveyCompared.{other_cells, copy_row};
+ghost use Rattle.tape_run.specs.SurveyCompared.{is_alone, copy_text, copies_text};
 
 use super::Wording;
 use super::copies::{CopyNote, CopyNotes};
 use crate::quoting::name_text;
 use crate::section::SectionKey;
-use crate::text::{Text, put, put_decimal, put_trimmed};
+use crate::text::Trimmed;
 use std::alloc::{AllocError, Global};
 
-/// Returns the section of a line.
-fn section_front(key: &SectionKey) -> Text
-    ensures { result.items ≡ section_front key.now }
-{
-    let mut text = Text::new();
-    put_trimmed(&mut text, &key.set_id);
-    put(&mut text, b" file ");
-    put_decimal(&mut text, u64::from(key.file));
-    put(&mut text, b" section ");
-    put_decimal(&mut text, u64::from(key.sect));
-    put(&mut text, b": ");
-    text
-}
-
-/// Returns how many copies agree.
-fn agreed_text(copies: u32) -> Text
-    ensures { result.items ≡ agreed_text copies }
-{
-    let mut text = Text::new();
-    put(&mut text, b"good, ");
-    put_decimal(&mut text, u64::from(copies));
-    put(&mut text, b" copies agree\n");
-    text
-}
-
 /// Appends the name of image number `image`.
-#[tactic(auto, using(crate::proofs::SurveyCompared::is_name, crate::proofs::SurveyCompared::no_name))]
+#[tactic(auto, using(crate::proofs::SurveyCompared::is_name))]
 fn add_name(
     alloc: Global,
     text: &mut Vec<u8>,
@@ -87,44 +60,32 @@ fn add_verdict(
 {
     match note.other {
         Some(other) => add_conflict(alloc, line, names, note.image, other),
-        None => line.extend_from_slice(&agreed_text(note.copies)),
+        None => {
+            let copies = note.copies;
+            let text = format!(in alloc; "good, {copies} copies agree\n")?;
+            line.extend_from_slice(text.as_bytes())
+        }
     }
 }
 
-/// Returns the line about a section.
-fn copy_line(
+/// Appends the line about a section.
+fn add_line(
     alloc: Global,
+    texts: &mut Vec<u8>,
     names: &[&str],
     key: &SectionKey,
     note: &CopyNote,
-) -> Result<Vec<u8>, AllocError>
-    ensures { IfOk result (λ line. line.items
-        ≡ copy_line (map (λ n. n.now) names.now) (key.now, note.now)) }
+) -> Result<(), AllocError>
+    ensures { OnOk result (texts.new.items ≡ texts.old.items
+        ++ copy_line (map (λ n. n.now) names.now) (key.now, note.now)) }
 {
-    let front = section_front(key);
-    let mut line = Vec::from_slice(alloc, &front)?;
-    add_verdict(alloc, &mut line, names, note)?;
-    Ok(line)
+    let (set_id, file, sect) = (Trimmed(&key.set_id), key.file, key.sect);
+    let front = format!(in alloc; "{set_id} file {file} section {sect}: ")?;
+    texts.extend_from_slice(front.as_bytes())?;
+    add_verdict(alloc, texts, names, note)
 }
 
-/// Returns the first columns of a section's row.
-fn row_front(key: &SectionKey, copies: u32) -> Text
-    ensures { result.items ≡ row_front key.now copies }
-{
-    let mut text = Text::new();
-    put(&mut text, b"COPIES\t");
-    put_trimmed(&mut text, &key.set_id);
-    put(&mut text, b"\t");
-    put_decimal(&mut text, u64::from(key.file));
-    put(&mut text, b"\t");
-    put_decimal(&mut text, u64::from(key.sect));
-    put(&mut text, b"\t");
-    put_decimal(&mut text, u64::from(copies));
-    put(&mut text, b"\t");
-    text
-}
-
-/// Appends the name of the image whose copy differs, if any.
+/// Appends the name of the image whose copy differs, if any, and the result.
 fn add_other(
     alloc: Global,
     row: &mut Vec<u8>,
@@ -132,22 +93,14 @@ fn add_other(
     other: Option<usize>,
 ) -> Result<(), AllocError>
     ensures { OnOk result (row.new.items
-        ≡ row.old.items ++ other_name (map (λ n. n.now) names.now) other) }
+        ≡ row.old.items ++ other_cells (map (λ n. n.now) names.now) other) }
 {
     match other {
-        Some(other) => add_name(alloc, row, names, other),
-        None => Ok(()),
-    }
-}
-
-/// Returns the last column of a section's row.
-fn verdict_cell(differs: bool) -> &'static [u8]
-    ensures { result.now ≡ verdict_cell differs }
-{
-    if differs {
-        b"\tCONFLICT\n"
-    } else {
-        b"\tAGREE\n"
+        Some(other) => {
+            add_name(alloc, row, names, other)?;
+            row.extend_from_slice(b"\tCONFLICT\n")
+        }
+        None => row.extend_from_slice(b"\tAGREE\n"),
     }
 }
 
@@ -161,12 +114,14 @@ fn copy_row(
     ensures { IfOk result (λ row. row.items
         ≡ copy_row (map (λ n. n.now) names.now) (key.now, note.now)) }
 {
-    let front = row_front(key, note.copies);
-    let mut row = Vec::from_slice(alloc, &front)?;
+    let (set_id, file, sect) = (Trimmed(&key.set_id), key.file, key.sect);
+    let copies = note.copies;
+    let rest = format!(in alloc; "{sect}\t{copies}\t")?;
+    let front = format!(in alloc; "COPIES\t{set_id}\t{file}\t{rest}")?;
+    let mut row = Vec::from_slice(alloc, front.as_bytes())?;
     add_name(alloc, &mut row, names, note.image)?;
     row.push(b'\t')?;
     add_other(alloc, &mut row, names, note.other)?;
-    row.extend_from_slice(verdict_cell(note.other.is_some()))?;
     Ok(row)
 }
 
@@ -177,47 +132,28 @@ fn is_alone(note: &CopyNote) -> bool
     note.copies == 1 && note.other.is_none()
 }
 
-/// Returns the text for a section.
-fn copy_text(
-    alloc: Global,
-    wording: Wording,
-    names: &[&str],
-    key: &SectionKey,
-    note: &CopyNote,
-) -> Result<Vec<u8>, AllocError>
-    ensures { IfOk result (λ text. text.items
-        ≡ copy_text wording (map (λ n. n.now) names.now) (key.now, note.now)) }
-{
-    if is_alone(note) {
-        return Ok(Vec::new(alloc));
-    }
-    match wording {
-        Wording::Words => copy_line(alloc, names, key, note),
-        Wording::Rows => copy_row(alloc, names, key, note),
-    }
-}
-
-/// Appends the text for the section at index `place`.
-fn add_place(
+/// Appends the text for a section, unless it has only one complete copy.
+fn add_text(
     alloc: Global,
     texts: &mut Vec<u8>,
     wording: Wording,
     names: &[&str],
-    notes: &CopyNotes,
-    place: usize,
+    key: &SectionKey,
+    note: &CopyNote,
 ) -> Result<(), AllocError>
-    requires { place < length notes.now.entries }
-    ensures { OnOk result (texts.old.items
-        ≡ copies_text wording (map (λ n. n.now) names.now) (take place notes.now.entries)
-        → texts.new.items
-        ≡ copies_text wording (map (λ n. n.now) names.now) (take (place + 1) notes.now.entries)) }
+    ensures { OnOk result (texts.new.items ≡ texts.old.items
+        ++ copy_text wording (map (λ n. n.now) names.now) (key.now, note.now)) }
 {
-    let Some((key, note)) = notes.get_index(place) else {
-        unreachable!()
-    };
-    let text = copy_text(alloc, wording, names, key, note)?;
-    texts.extend_from_slice(text.as_slice())?;
-    Ok(())
+    if is_alone(note) {
+        return Ok(());
+    }
+    match wording {
+        Wording::Words => add_line(alloc, texts, names, key, note),
+        Wording::Rows => {
+            let row = copy_row(alloc, names, key, note)?;
+            texts.extend_from_slice(row.as_slice())
+        }
+    }
 }
 
 /// Returns the text for each section with more than one complete copy.
@@ -231,8 +167,8 @@ pub(crate) fn copies_text(
         ≡ copies_text wording (map (λ n. n.now) names.now) notes.now.entries) }
 {
     let mut texts = Vec::new(alloc);
-    for place in 0..notes.len() {
-        add_place(alloc, &mut texts, wording, names, notes, place)?;
+    for (key, note) in notes {
+        add_text(alloc, &mut texts, wording, names, key, note)?;
     }
     Ok(texts)
 }

@@ -1,9 +1,8 @@
 //! The complete copies of sections, compared by their data blocks.
-ghost use Rattle.std.specs.Result.{IsOkUnless};
-ghost use Rattle.std.specs.Prelude.{◌≡◌, ◌∷◌, [], ◌++◌, OnOk, IfOk, is_some};
-ghost use Rattle.tape_run.specs.SurveyCopies.{no_copies, copy_note, noted_at, with_conflict};
-ghost use Rattle.tape_run.specs.SurveyCopies.{with_good, with_told, dispute_at, is_agreed};
-ghost use Rattle.tape_run.specs.SurveyCopies.{differs, disputed, disputed_on};
+ghost use Rattle.std.specs.{Result.IsOkUnless, Prelude.◌≡◌, Prelude.OnOk, Prelude.IfOk};
+ghost use Rattle.tape_run.specs.SurveyCopies.{no_copies, copy_note, noted_at, with_good, with_told};
+ghost use Rattle.tape_run.specs.SurveyCopies.{dispute_at, is_agreed, differs, disputed};
+ghost use Rattle.tape_run.specs.SurveyCopies.{disputed_on};
 ghost use Rattle.tape_run.specs.declared.fault.RunFault.TheVariants as faults;
 
 use super::files::FileKey;
@@ -90,40 +89,33 @@ impl Copies {
         if !entry.state.is_good() {
             return Ok(());
         }
-        self.note_good(image, key, entry.blocks, digest)
+        match self.note_good(image, key, entry.blocks, digest) {
+            Ok(()) => Ok(()),
+            Err(_) => Err(RunFault::OutOfMemory),
+        }
     }
 
-    /// Adds a complete copy.
+    /// Adds a complete copy, and its file if it differs from other copies of its section.
     fn note_good(
         &mut self,
         image: usize,
         key: SectionKey,
         blocks: u32,
         digest: u64,
-    ) -> Result<(), RunFault>
-        ensures fault { IsOkUnless result faults.OutOfMemory }
-        ensures ok { OnOk result (self.new ≡ with_good self.old image key blocks digest) }
+    ) -> Result<(), AllocError>
+        ensures { OnOk result (self.new ≡ with_good self.old image key blocks digest) }
     {
-        self.note_held(image, key)?;
+        self.held.push((image, key))?;
         let note = self.note_of(image, &key, blocks, digest);
-        self.note_conflict(&key, note.other.is_some())?;
-        match self.notes.insert(key, note) {
-            Ok(_) => Ok(()),
-            Err(_) => Err(RunFault::OutOfMemory),
+        self.notes.insert(key, note)?;
+        if note.other.is_some() {
+            let file = FileKey {
+                set_id: key.set_id,
+                file: key.file,
+            };
+            self.conflicts.insert(file, key.sect)?;
         }
-    }
-
-    /// Adds a section of which an image has a complete copy.
-    fn note_held(&mut self, image: usize, key: SectionKey) -> Result<(), RunFault>
-        ensures fault { IsOkUnless result faults.OutOfMemory }
-        ensures notes { self.new.notes ≡ self.old.notes }
-        ensures conflicts { self.new.conflicts ≡ self.old.conflicts }
-        ensures ok { OnOk result (self.new.held ≡ self.old.held ++ (image, key) ∷ []) }
-    {
-        match self.held.push((image, key)) {
-            Ok(()) => Ok(()),
-            Err(_) => Err(RunFault::OutOfMemory),
-        }
+        Ok(())
     }
 
     /// Returns the record of section `key` after one more complete copy.
@@ -146,27 +138,6 @@ impl Copies {
                 copies: 1,
                 other: None,
             },
-        }
-    }
-
-    /// Adds the file of a section, if copies of the section differ.
-    fn note_conflict(&mut self, key: &SectionKey, differs: bool) -> Result<(), RunFault>
-        ensures fault { IsOkUnless result faults.OutOfMemory }
-        ensures notes { self.new.notes ≡ self.old.notes }
-        ensures held { self.new.held ≡ self.old.held }
-        ensures ok { OnOk result (self.new.conflicts
-            ≡ with_conflict self.old.conflicts key.now differs) }
-    {
-        if !differs {
-            return Ok(());
-        }
-        let file = FileKey {
-            set_id: key.set_id,
-            file: key.file,
-        };
-        match self.conflicts.insert(file, key.sect) {
-            Ok(_) => Ok(()),
-            Err(_) => Err(RunFault::OutOfMemory),
         }
     }
 

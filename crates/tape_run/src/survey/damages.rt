@@ -1,8 +1,9 @@
 //! The part of a survey about the damaged sections on an image.
-ghost use Rattle.std.specs.Prelude.{◌≡◌, Some};
+ghost use Rattle.std.specs.Prelude.{◌≡◌, IfOk, Some, string_bytes};
 ghost use Rattle.tape_run.specs.SurveyLine.{damage_text, damaged_text, damages_text, dispute_text};
 
 use crate::section::{SectionKey, SectionLine, SectionState};
+use std::alloc::{AllocError, Global};
 use std::fmt;
 
 /// Returns the fault of a section in the given state.
@@ -19,7 +20,7 @@ pub(super) fn damage_text(state: SectionState) -> &'static str
 
 /// A damaged section.
 #[derive(Clone, Copy)]
-struct DamagedText<'a>(&'static str, &'a SectionLine);
+struct DamagedText<'a>(&'a str, &'a SectionLine);
 
 impl fmt::Display for DamagedText<'_> {
     ghost output = { λ text. Some (damaged_text text.0.now text.1.now) };
@@ -37,7 +38,7 @@ impl fmt::Display for DamagedText<'_> {
 
 /// The damaged sections on an image.
 #[derive(Clone, Copy)]
-pub(super) struct DamagesText<'a>(pub(super) &'static str, pub(super) &'a [SectionLine]);
+pub(super) struct DamagesText<'a>(pub(super) &'a str, pub(super) &'a [SectionLine]);
 
 impl fmt::Display for DamagesText<'_> {
     ghost output = { λ text. Some (damages_text text.0.now text.1.now) };
@@ -51,24 +52,16 @@ impl fmt::Display for DamagesText<'_> {
     }
 }
 
-/// A section on the image whose complete copies differ, if any.
-#[derive(Clone, Copy)]
-pub(super) struct DisputeText(pub(super) &'static str, pub(super) Option<SectionKey>);
-
-impl fmt::Display for DisputeText {
-    ghost output = { λ text. Some (dispute_text text.0.now text.1) };
-
-    fn fmt<W: fmt::Write>(&self, f: &mut fmt::Formatter<W>) -> fmt::Result {
-        let between = self.0;
-        match self.1 {
-            Some(key) => {
-                let (file, sect) = (key.file, key.sect);
-                write!(
-                    f,
-                    "{between}section {sect} of file {file}: good copies differ"
-                )
-            }
-            None => Ok(()),
-        }
-    }
+/// Returns the section on an image whose complete copies differ, if any, after the text `between`.
+pub(super) fn dispute_text(
+    alloc: Global,
+    between: &str,
+    dispute: Option<SectionKey>,
+) -> Result<String, AllocError>
+    ensures { IfOk result (λ text. string_bytes text ≡ dispute_text between.now dispute) }
+{
+    let Some(SectionKey { file, sect, .. }) = dispute else {
+        return Ok(String::new(alloc));
+    };
+    format!(in alloc; "{between}section {sect} of file {file}: good copies differ")
 }

@@ -1,14 +1,12 @@
 //! The dates of labels.
-ghost use Rattle.std.specs.Prelude.{◌≡◌, ◌≤◌, ◌+◌, ◌++◌, IfSome, Some};
-ghost use Rattle.arrayvec.specs.ArrayVec.{array_vec_len};
+ghost use Rattle.std.specs.Prelude.{◌≡◌, ◌≤◌, IfSome, Some};
 ghost use Rattle.tape_run.specs.Dates.{century, is_leap, february, in_months, in_year, in_century};
-ghost use Rattle.tape_run.specs.Dates.{date_of, date_text, date_cell, two_digits};
+ghost use Rattle.tape_run.specs.Dates.{date_of, day_text, date_text, two_digits};
 
-use crate::text::{Text, put, put_decimal};
 use std::fmt;
 use tape_label::{Field, digits_value};
 
-/// A day of the calendar.
+/// A day of the calendar, which is printed as 1985-04-23, for example.
 #[derive(Clone, Copy)]
 pub(crate) struct Date {
     year: u16,
@@ -83,7 +81,7 @@ fn in_century(first: Option<u16>, digits: u64) -> Option<Date>
 }
 
 /// Returns the date in the six characters of a label, if they are a date.
-fn date_of(field: &Field<6>) -> Option<Date>
+pub(crate) fn date_of(field: &Field<6>) -> Option<Date>
     ensures { result ≡ date_of field.now }
 {
     match field.bytes() {
@@ -92,6 +90,17 @@ fn date_of(field: &Field<6>) -> Option<Date>
             Some(digits) => in_century(century(*first), digits),
             None => None,
         },
+    }
+}
+
+impl fmt::Display for Date {
+    ghost output = { λ date. Some (day_text date) };
+
+    fn fmt<W: fmt::Write>(&self, f: &mut fmt::Formatter<W>) -> fmt::Result {
+        let year = self.year;
+        let month = TwoDigits(self.month);
+        let day = TwoDigits(self.day);
+        write!(f, "{year}-{month}-{day}")
     }
 }
 
@@ -104,31 +113,10 @@ impl fmt::Display for DateText<'_> {
 
     fn fmt<W: fmt::Write>(&self, f: &mut fmt::Formatter<W>) -> fmt::Result {
         match date_of(self.0) {
-            Some(date) => {
-                let year = date.year;
-                let month = TwoDigits(date.month);
-                let day = TwoDigits(date.day);
-                write!(f, "{year}-{month}-{day}")
-            }
+            Some(date) => write!(f, "{date}"),
             None => write!(f, "          "),
         }
     }
-}
-
-/// Appends the date of a label, for example 1985-04-23, if there is one.
-pub(crate) fn put_date(text: &mut Text, field: &Field<6>)
-    requires room { array_vec_len text.old ≤ 900 }
-    ensures items { text.new.items ≡ text.old.items ++ date_cell (date_of field.now) }
-    ensures len { array_vec_len text.new ≤ array_vec_len text.old + 64 }
-{
-    let Some(date) = date_of(field) else {
-        return;
-    };
-    put_decimal(text, u64::from(date.year));
-    put(text, if date.month < 10 { b"-0" } else { b"-" });
-    put_decimal(text, u64::from(date.month));
-    put(text, if date.day < 10 { b"-0" } else { b"-" });
-    put_decimal(text, u64::from(date.day));
 }
 
 /// A number in at least two digits.

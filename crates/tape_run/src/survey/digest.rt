@@ -1,6 +1,5 @@
 //! A digest of the data blocks of a section, by which its copies are compared.
-ghost use Rattle.std.specs.Prelude.{◌≡◌, map};
-ghost use Rattle.std.specs.Int.{w64, from_le_bytes};
+ghost use Rattle.std.specs.{Prelude.◌≡◌, Prelude.map, Int.w64, Int.from_le_bytes};
 ghost use Rattle.tape_run.specs.SurveyDigest.{digest_by, digest_with, in_turn, side_by, side_over};
 ghost use Rattle.tape_run.specs.SurveyDigest.{no_chains, words_of};
 ghost use Rattle.tape_run.specs.SurveyCopies.{digest_in};

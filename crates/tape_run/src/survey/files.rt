@@ -1,7 +1,5 @@
 //! The files whose header labels were found, by their numbers.
-ghost use Rattle.std.specs.Result.{IsOkUnless};
-ghost use Rattle.std.specs.Prelude.{◌≡◌, OnOk};
-ghost use Rattle.std.specs.Map.{lookup};
+ghost use Rattle.std.specs.{Result.IsOkUnless, Prelude.◌≡◌, Prelude.OnOk, Map.lookup};
 ghost use Rattle.tape_run.specs.SurveyFiles.{same_file, is_other, note_of, with_met, form_in};
 ghost use Rattle.tape_run.specs.SurveyFiles.{with_form, any_differs};
 ghost use Rattle.tape_image.specs.Reader.{tape_item};

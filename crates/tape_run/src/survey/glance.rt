@@ -1,8 +1,7 @@
 //! A summary of an image, from its items alone.
 ghost use Rattle.std.specs.Result.{IsOkUnless};
 ghost use Rattle.std.specs.Prelude.{◌≡◌, ◌<◌, ◌≤◌, ◌++◌, OnOk};
-ghost use Rattle.tape_image.specs.Reader.{tape_item};
-ghost use Rattle.tape_image.specs.Begins.{image_limit};
+ghost use Rattle.tape_image.specs.{Reader.tape_item, Begins.image_limit};
 ghost use Rattle.tape_run.specs.SurveyGlance.{blank_glance, is_ebcdic, first_of, is_vol1, head_in};
 ghost use Rattle.tape_run.specs.SurveyGlance.{unread_in, one_if, or_else, damages_in, look_to};
 ghost use Rattle.tape_run.specs.Passing.{in_list};

@@ -1,16 +1,15 @@
 //! The line of an image in a survey.
-ghost use Rattle.std.specs.Prelude.{◌≡◌, Some, replicate};
-ghost use Rattle.tape_run.specs.SurveyLine.{opened_text};
+ghost use Rattle.std.specs.Prelude.{◌≡◌, IfOk, string_bytes};
 ghost use Rattle.tape_run.specs.SurveyTally.{volume_state, empty_state, state_by, state_of};
 ghost use Rattle.tape_run.specs.SurveyTally.{state_at};
-ghost use Rattle.tape_run.specs.SurveyLine.{state_word, line_end};
-ghost use Rattle.tape_run.specs.SurveyRows.{words_cell};
+ghost use Rattle.tape_run.specs.SurveyLine.{state_word, sight_text, image_line};
 
-use super::facts::{SeenText, is_no_image};
+use super::facts::{is_no_image, seen_text};
 use super::glance::First;
 use super::view::{ImageSurvey, is_end, is_ended};
+use crate::quoting::name_text;
 use crate::section::{ImageStop, SectionKey};
-use std::fmt;
+use std::alloc::{AllocError, Global};
 
 /// The minimum width of a name in columns.
 const NAME: usize = 24;
@@ -75,8 +74,8 @@ fn state_by(sight: &ImageSurvey) -> ImageState
 }
 
 /// Returns the state of an image; `dispute` is a section on it whose complete copies differ.
-fn state_of(sight: &ImageSurvey, dispute: Option<SectionKey>) -> ImageState
-    ensures { result ≡ state_of sight.now dispute }
+fn state_of(sight: &ImageSurvey, dispute: &Option<SectionKey>) -> ImageState
+    ensures { result ≡ state_of sight.now dispute.now }
 {
     match dispute {
         Some(_) => ImageState::Conflict,
@@ -92,7 +91,7 @@ pub(crate) fn state_at(
     ensures { result ≡ state_at sight.now dispute.now }
 {
     match sight {
-        Some(sight) => Some(state_of(sight, *dispute)),
+        Some(sight) => Some(state_of(sight, dispute)),
         None => None,
     }
 }
@@ -112,76 +111,38 @@ fn state_word(state: ImageState) -> &'static str
     }
 }
 
-/// The spaces after a name of a given length, which align the next column.
-#[derive(Clone, Copy)]
-struct Spaces(usize);
-
-impl fmt::Display for Spaces {
-    ghost output = { λ spaces. Some (replicate spaces.0 32) };
-
-    fn fmt<W: fmt::Write>(&self, f: &mut fmt::Formatter<W>) -> fmt::Result {
-        for _space in 0..self.0 {
-            write!(f, " ")?;
-        }
-        Ok(())
-    }
+/// Returns the line about the image named `name`; `dispute` is a section on it whose complete
+/// copies differ, if any. Each fact after the first is on a separate line.
+pub(crate) fn image_line(
+    alloc: Global,
+    name: &str,
+    sight: &Option<ImageSurvey>,
+    dispute: Option<SectionKey>,
+) -> Result<Vec<u8>, AllocError>
+    ensures { IfOk result (λ line. line.items ≡ image_line name.now sight.now dispute) }
+{
+    let mut line = name_text(alloc, name)?;
+    let spaces = " ".repeat(alloc, NAME.saturating_sub(line.len()))?;
+    let sight = sight_text(alloc, sight, dispute)?;
+    let end = format!(in alloc; "{spaces}  {sight}")?;
+    line.extend_from_slice(end.as_bytes())?;
+    Ok(line)
 }
 
-/// The state of an image and its description, with each fact after the first on a separate line.
-#[derive(Clone, Copy)]
-struct OpenedText<'a>(&'a ImageSurvey, Option<SectionKey>);
-
-impl fmt::Display for OpenedText<'_> {
-    ghost output = { λ text. Some (opened_text text.0.now text.1) };
-
-    fn fmt<W: fmt::Write>(&self, f: &mut fmt::Formatter<W>) -> fmt::Result {
-        let state = state_word(state_of(self.0, self.1));
-        let seen = SeenText("\n    ", self.0, self.1);
-        write!(f, "{state}{seen}\n")
-    }
-}
-
-/// The line about an image after its name, with the length of the name, and with a section on the
-/// image whose complete copies differ, if any.
-#[derive(Clone, Copy)]
-pub(crate) struct LineEnd<'a>(
-    pub(crate) usize,
-    pub(crate) &'a Option<ImageSurvey>,
-    pub(crate) Option<SectionKey>,
-);
-
-impl fmt::Display for LineEnd<'_> {
-    ghost output = { λ line. Some (line_end line.0 line.1.now line.2) };
-
-    fn fmt<W: fmt::Write>(&self, f: &mut fmt::Formatter<W>) -> fmt::Result {
-        let spaces = Spaces(NAME.saturating_sub(self.0));
-        match self.1 {
-            Some(sight) => {
-                let opened = OpenedText(sight, self.2);
-                write!(f, "{spaces}  {opened}")
-            }
-            None => write!(f, "{spaces}  not opened\n"),
+/// Returns the description of an image, or that it was not opened.
+fn sight_text(
+    alloc: Global,
+    sight: &Option<ImageSurvey>,
+    dispute: Option<SectionKey>,
+) -> Result<String, AllocError>
+    ensures { IfOk result (λ text. string_bytes text ≡ sight_text sight.now dispute) }
+{
+    match sight {
+        Some(sight) => {
+            let state = state_word(state_of(sight, &dispute));
+            let seen = seen_text(alloc, "\n    ", sight, dispute)?;
+            format!(in alloc; "{state}{seen}\n")
         }
-    }
-}
-
-/// The description of an image at the end of its row, or the text that it was not opened.
-#[derive(Clone, Copy)]
-pub(crate) struct WordsCell<'a>(
-    pub(crate) &'a Option<ImageSurvey>,
-    pub(crate) Option<SectionKey>,
-);
-
-impl fmt::Display for WordsCell<'_> {
-    ghost output = { λ cell. Some (words_cell cell.0.now cell.1) };
-
-    fn fmt<W: fmt::Write>(&self, f: &mut fmt::Formatter<W>) -> fmt::Result {
-        match self.0 {
-            Some(sight) => {
-                let seen = SeenText("; ", sight, self.1);
-                write!(f, "{seen}\n")
-            }
-            None => write!(f, "not opened\n"),
-        }
+        None => format!(in alloc; "not opened\n"),
     }
 }

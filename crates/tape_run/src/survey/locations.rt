@@ -1,6 +1,5 @@
 //! The image on which each section is.
-ghost use Rattle.std.specs.Result.{IsOkUnless};
-ghost use Rattle.std.specs.Prelude.{◌≡◌, OnOk};
+ghost use Rattle.std.specs.{Result.IsOkUnless, Prelude.◌≡◌, Prelude.OnOk};
 ghost use Rattle.tape_run.specs.SurveyLocations.{with_location};
 ghost use Rattle.tape_run.specs.declared.fault.RunFault.TheVariants as faults;
 

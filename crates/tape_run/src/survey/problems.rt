@@ -1,13 +1,10 @@
 //! The sections of a file that are damaged or missing.
-ghost use Rattle.std.specs.Prelude.{◌≡◌, ◌≤◌, ◌<◌, ◌+◌, ◌-◌, ◌++◌, OnOk, IfOk, Some};
-ghost use Rattle.std.specs.Prelude.{None};
+ghost use Rattle.std.specs.Prelude.{◌≡◌, ◌≤◌, ◌<◌, ◌+◌, ◌-◌, ◌++◌, OnOk, IfOk, Some, None};
+ghost use Rattle.tape_run.specs.SurveyProblems.{damage_line, found_line, where_text, missing_line};
+ghost use Rattle.tape_run.specs.SurveyProblems.{missing_text, known_text, is_cut, first_after};
 ghost use Rattle.tape_run.specs.declared.survey.Wording.TheVariants.{Words, Rows};
-ghost use Rattle.tape_run.specs.Lacks.{entry_at, key_at};
-ghost use Rattle.tape_run.specs.SurveyGaps.{numbers_text};
-ghost use Rattle.tape_run.specs.SurveyProblems.{damage_line, found_line, where_text};
-ghost use Rattle.tape_run.specs.SurveyProblems.{missing_line, missing_text, known_text, is_cut};
-ghost use Rattle.tape_run.specs.SurveyProblems.{first_after, ends, next_text, sections_from};
-ghost use Rattle.tape_run.specs.SurveyProblems.{problem_lines};
+ghost use Rattle.tape_run.specs.{Lacks.entry_at, Lacks.key_at, SurveyGaps.numbers_text};
+ghost use Rattle.tape_run.specs.SurveyProblems.{ends, next_text, sections_from, problem_lines};
 
 use super::Wording;
 use super::damages::damage_text;
@@ -122,7 +119,7 @@ fn damage_cell(sect: u16, entry: Entry) -> Text
     let mut text = Text::new();
     put_decimal(&mut text, u64::from(sect));
     put(&mut text, b":");
-    put(&mut text, state_text(entry.state));
+    put(&mut text, state_text(entry.state).as_bytes());
     put(&mut text, b";");
     text
 }

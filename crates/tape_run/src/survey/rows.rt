@@ -1,293 +1,277 @@
 //! The rows of a survey, for scripts, with tab-separated columns.
-ghost use Rattle.std.specs.Prelude.{◌≡◌, ◌≤◌, ◌+◌, ◌++◌, length, decimal, codes, option_map};
-ghost use Rattle.arrayvec.specs.ArrayVec.{array_vec_len};
-ghost use Rattle.tape_run.specs.SurveyRows.{whole_cell, volume_cell, head_cells, count_cells};
-ghost use Rattle.tape_run.specs.SurveyRows.{seen_cells, middle_cells, sight_cells};
-ghost use Rattle.tape_run.specs.SurveyRows.{key_cells, eof_cell, section_row, known_cells};
-ghost use Rattle.tape_run.specs.SurveyRows.{wanted_cells, standing_cells, conflict_cell};
-ghost use Rattle.tape_run.specs.SurveyRows.{file_cells};
-ghost use Rattle.tape_run.specs.SurveyRows.{owner_cell, form_by, form_cells};
+ghost use Rattle.std.specs.Prelude.{◌≡◌, ◌||◌, IfOk, option_map, string_bytes};
+ghost use Rattle.tape_run.specs.SurveyRows.{whole_cell, volume_cell, owner_cell, head_cells};
+ghost use Rattle.tape_run.specs.SurveyRows.{sight_cells, words_cell, section_row, known_cells};
+ghost use Rattle.tape_run.specs.SurveyRows.{standing_cells, found_cells, file_cells, form_cells};
+ghost use Rattle.tape_run.specs.SurveyRows.{eof_cell, conflict_cell, file_text, image_row};
+ghost use Rattle.tape_run.specs.SurveyLine.{trimmed_text};
 
-use super::dates::put_date;
+use super::dates::date_of;
+use super::facts::seen_text;
 use super::files::{FileKey, FileNote};
-use super::glance::{First, ImageSummary};
+use super::glance::First;
 use super::sets::{Standing, is_mixed, standing_of};
 use super::view::{Findings, ImageSurvey};
 use crate::check_line::{state_text, stop_text};
+use crate::quoting::name_text;
 use crate::section::{Entry, SectionKey};
-use crate::text::{Text, put, put_decimal, put_trimmed};
-use tape_label::{Field, Head1, Head2};
+use crate::text::Trimmed;
+use std::alloc::{AllocError, Global};
+use tape_label::{Field, Head1};
 
-/// Appends a tab.
-fn put_tab(text: &mut Text)
-    requires { array_vec_len text.old ≤ 1000 }
-    ensures items { text.new.items ≡ text.old.items ++ codes "\t" }
-    ensures len { array_vec_len text.new ≡ array_vec_len text.old + 1 }
+/// Returns the row for the image named `name`; `dispute` is a section on it whose complete copies
+/// differ, if any.
+pub(crate) fn image_row(
+    alloc: Global,
+    name: &str,
+    sight: &Option<ImageSurvey>,
+    dispute: Option<SectionKey>,
+) -> Result<Vec<u8>, AllocError>
+    ensures { IfOk result (λ row. row.items ≡ image_row name.now sight.now dispute) }
 {
-    put(text, b"\t");
+    let mut row = Vec::from_slice(alloc, b"IMAGE\t")?;
+    row.extend_from_slice(name_text(alloc, name)?.as_slice())?;
+    row.push(b'\t')?;
+    let cells = sight_cells(alloc, sight, dispute.is_some())?;
+    row.extend_from_slice(cells.as_slice())?;
+    let words = words_cell(alloc, sight, dispute)?;
+    row.extend_from_slice(words.as_bytes())?;
+    Ok(row)
 }
 
-/// Appends a number of at most 32 bits.
-fn put_count(text: &mut Text, number: u32)
-    requires { array_vec_len text.old ≤ 980 }
-    ensures items { text.new.items ≡ text.old.items ++ decimal number }
-    ensures len { array_vec_len text.new ≤ array_vec_len text.old + 40 }
+/// Returns the description of an image, or the text that it was not opened, except the words at the
+/// end of its row.
+fn sight_cells(
+    alloc: Global,
+    sight: &Option<ImageSurvey>,
+    disputed: bool,
+) -> Result<Vec<u8>, AllocError>
+    ensures { IfOk result (λ cells. cells.items ≡ sight_cells sight.now disputed) }
 {
-    put_decimal(text, u64::from(number));
-}
-
-/// Returns the columns of an image between its name and the words at the end.
-pub(crate) fn middle_cells(sight: &Option<ImageSurvey>, disputed: bool) -> Text
-    ensures { result.items ≡ middle_cells sight.now disputed }
-{
-    let mut text = Text::new();
-    put_tab(&mut text);
-    put_sight(&mut text, sight, disputed);
-    put_tab(&mut text);
-    text
-}
-
-/// Appends the description of an image, or the text that it was not opened.
-fn put_sight(text: &mut Text, sight: &Option<ImageSurvey>, disputed: bool)
-    requires room { array_vec_len text.old ≤ 1 }
-    ensures items { text.new.items ≡ text.old.items ++ sight_cells sight.now disputed }
-    ensures len { array_vec_len text.new ≤ 900 }
-{
-    match sight {
-        Some(sight) => put_seen(text, sight, disputed),
-        None => put(text, b"NOT OPENED\t\t\t\t\t\t\t\t"),
-    }
-}
-
-/// Appends what an image is.
-fn put_seen(text: &mut Text, sight: &ImageSurvey, disputed: bool)
-    requires room { array_vec_len text.old ≤ 1 }
-    ensures items { text.new.items ≡ text.old.items ++ seen_cells sight.now disputed }
-    ensures len { array_vec_len text.new ≤ 900 }
-{
-    put(text, whole_cell(disputed, sight.is_sound()));
-    put_tab(text);
-    put_volume(text, &sight.glance.first);
-    put_tab(text);
-    put_head(text, &sight.glance.head);
-    put_tab(text);
-    put_counts(text, &sight.glance);
-    put_tab(text);
-    put(text, &stop_text(&sight.stop));
-    put_tab(text);
-    put_owner(text, &sight.glance.first);
+    let Some(sight) = sight else {
+        return Vec::from_slice(alloc, b"NOT OPENED\t\t\t\t\t\t\t\t");
+    };
+    let glance = &sight.glance;
+    let whole = whole_cell(disputed, sight.is_sound());
+    let volume = volume_cell(alloc, &glance.first)?;
+    let head = head_cells(alloc, &glance.head)?;
+    let (items, files, bad) = (glance.items, glance.files, glance.bad);
+    let counts = format!(in alloc; "{items}\t{files}\t{bad}")?;
+    let rest = format!(in alloc; "{head}\t{counts}\t")?;
+    let mut cells = format!(in alloc; "{whole}\t{volume}\t{rest}")?.into_bytes();
+    cells.extend_from_slice(&stop_text(&sight.stop))?;
+    cells.push(b'\t')?;
+    cells.extend_from_slice(owner_cell(alloc, &glance.first)?.as_bytes())?;
+    Ok(cells)
 }
 
 /// Returns the state of an image: whether it has a copy that differs from another, or else was read
 /// completely without damage.
-fn whole_cell(disputed: bool, sound: bool) -> &'static [u8]
-    ensures text { result.now ≡ whole_cell disputed sound }
-    ensures short { length result.now ≤ 9 }
+fn whole_cell(disputed: bool, sound: bool) -> &'static str
+    ensures { result.now ≡ whole_cell disputed sound }
 {
     if disputed {
-        b"CONFLICT"
+        "CONFLICT"
     } else if sound {
-        b"WHOLE"
+        "WHOLE"
     } else {
-        b"PARTIAL"
+        "PARTIAL"
     }
 }
 
-/// Appends the volume, if the first item is a volume label.
-fn put_volume(text: &mut Text, first: &First)
-    requires room { array_vec_len text.old ≤ 20 }
-    ensures items { text.new.items ≡ text.old.items ++ volume_cell first.now }
-    ensures len { array_vec_len text.new ≤ 30 }
+/// Returns the volume, if the first item is a volume label.
+fn volume_cell(alloc: Global, first: &First) -> Result<String, AllocError>
+    ensures { IfOk result (λ cell. string_bytes cell ≡ volume_cell first.now) }
 {
     match first {
-        First::Volume(label) => put_trimmed(text, &label.volume),
-        First::Nothing | First::Ebcdic | First::Block(_) | First::Bad | First::Mark => {}
+        First::Volume(label) => trimmed(alloc, &label.volume),
+        First::Nothing | First::Ebcdic | First::Block(_) | First::Bad | First::Mark => {
+            Ok(String::new(alloc))
+        }
     }
 }
 
-/// Appends the owner, if the first item is a volume label.
-fn put_owner(text: &mut Text, first: &First)
-    requires room { array_vec_len text.old ≤ 900 }
-    ensures items { text.new.items ≡ text.old.items ++ owner_cell first.now }
-    ensures len { array_vec_len text.new ≤ array_vec_len text.old + 14 }
+/// Returns the owner, if the first item is a volume label.
+fn owner_cell(alloc: Global, first: &First) -> Result<String, AllocError>
+    ensures { IfOk result (λ cell. string_bytes cell ≡ owner_cell first.now) }
 {
     match first {
-        First::Volume(label) => put_trimmed(text, &label.owner),
-        First::Nothing | First::Ebcdic | First::Block(_) | First::Bad | First::Mark => {}
+        First::Volume(label) => trimmed(alloc, &label.owner),
+        First::Nothing | First::Ebcdic | First::Block(_) | First::Bad | First::Mark => {
+            Ok(String::new(alloc))
+        }
     }
 }
 
-/// Appends the set and the system, if a section was found.
-fn put_head(text: &mut Text, head: &Option<Head1>)
-    requires room { array_vec_len text.old ≤ 40 }
-    ensures items { text.new.items ≡ text.old.items ++ head_cells head.now }
-    ensures len { array_vec_len text.new ≤ 80 }
+/// Returns the field without trailing spaces.
+fn trimmed<const N: usize>(alloc: Global, field: &Field<N>) -> Result<String, AllocError>
+    ensures { IfOk result (λ text. string_bytes text ≡ trimmed_text field.now) }
+{
+    format!(in alloc; "{}", Trimmed(field))
+}
+
+/// Returns the set and the system, if a section was found.
+fn head_cells(alloc: Global, head: &Option<Head1>) -> Result<String, AllocError>
+    ensures { IfOk result (λ cells. string_bytes cells ≡ head_cells head.now) }
 {
     match head {
         Some(head) => {
-            put_trimmed(text, &head.set_id);
-            put_tab(text);
-            put_trimmed(text, &head.implementation);
+            let set_id = trimmed(alloc, &head.set_id)?;
+            let system = trimmed(alloc, &head.implementation)?;
+            format!(in alloc; "{set_id}\t{system}")
         }
-        None => put_tab(text),
+        None => format!(in alloc; "\t"),
     }
 }
 
-/// Appends how many items, sections and bad blocks there are.
-fn put_counts(text: &mut Text, glance: &ImageSummary)
-    requires room { array_vec_len text.old ≤ 90 }
-    ensures items { text.new.items ≡ text.old.items ++ count_cells glance.now }
-    ensures len { array_vec_len text.new ≤ 300 }
+/// Returns the end of the row of an image: its description in words, or the text that it was not
+/// opened.
+fn words_cell(
+    alloc: Global,
+    sight: &Option<ImageSurvey>,
+    dispute: Option<SectionKey>,
+) -> Result<String, AllocError>
+    ensures { IfOk result (λ cell. string_bytes cell ≡ words_cell sight.now dispute) }
 {
-    put_count(text, glance.items);
-    put_tab(text);
-    put_count(text, glance.files);
-    put_tab(text);
-    put_count(text, glance.bad);
+    match sight {
+        Some(sight) => {
+            let seen = seen_text(alloc, "; ", sight, dispute)?;
+            format!(in alloc; "\t{seen}\n")
+        }
+        None => format!(in alloc; "\tnot opened\n"),
+    }
 }
 
 /// Returns the row for a section.
-pub(crate) fn section_row(key: &SectionKey, entry: &Entry) -> Text
-    ensures { result.items ≡ section_row (key.now, entry.now) }
+pub(crate) fn section_row(
+    alloc: Global,
+    key: &SectionKey,
+    entry: &Entry,
+) -> Result<String, AllocError>
+    ensures { IfOk result (λ row. string_bytes row ≡ section_row (key.now, entry.now)) }
 {
-    let mut text = Text::new();
-    put(&mut text, b"SECTION\t");
-    put_key(&mut text, key);
-    put_tab(&mut text);
-    put_trimmed(&mut text, &entry.volume);
-    put_tab(&mut text);
-    put_count(&mut text, entry.blocks);
-    put_tab(&mut text);
-    put(&mut text, state_text(entry.state));
-    put_tab(&mut text);
-    put(&mut text, eof_cell(entry.eof));
-    put(&mut text, b"\n");
-    text
-}
-
-/// Appends the numbers of the section.
-fn put_key(text: &mut Text, key: &SectionKey)
-    requires room { array_vec_len text.old ≤ 20 }
-    ensures items { text.new.items
-        ≡ text.old.items ++ key_cells key.now.set_id key.now.file key.now.sect }
-    ensures len { array_vec_len text.new ≤ 200 }
-{
-    put_trimmed(text, &key.set_id);
-    put_tab(text);
-    put_count(text, u32::from(key.file));
-    put_tab(text);
-    put_count(text, u32::from(key.sect));
+    let (file, sect, blocks) = (key.file, key.sect, entry.blocks);
+    let state = state_text(entry.state);
+    let eof = eof_cell(entry.eof);
+    let rest = format!(in alloc; "{state}\t{eof}\n")?;
+    let rest = format!(in alloc; "{}\t{blocks}\t{rest}", Trimmed(&entry.volume))?;
+    let key = format!(in alloc; "{}\t{file}\t{sect}", Trimmed(&key.set_id))?;
+    format!(in alloc; "SECTION\t{key}\t{rest}")
 }
 
 /// Returns whether its trailer label ends the file.
-fn eof_cell(eof: bool) -> &'static [u8]
-    ensures text { result.now ≡ eof_cell eof }
-    ensures short { length result.now ≤ 3 }
+fn eof_cell(eof: bool) -> &'static str
+    ensures { result.now ≡ eof_cell eof }
 {
-    if eof { b"EOF" } else { b"" }
+    if eof { "EOF" } else { "" }
 }
 
 /// Returns the columns of a file, up to the last one.
-pub(crate) fn file_cells(findings: &Findings, set_id: Field<6>, file: u16) -> Text
-    ensures { result.items ≡ file_cells findings.now set_id file }
+pub(crate) fn file_cells(
+    findings: &Findings,
+    set_id: Field<6>,
+    file: u16,
+) -> Result<String, AllocError>
+    ensures { IfOk result (λ cells. string_bytes cells ≡ file_cells findings.now set_id file) }
 {
-    let mut text = Text::new();
+    let alloc = findings.alloc;
     let key = FileKey { set_id, file };
     let note = findings.files.get(&key);
-    put(&mut text, b"FILE\t");
-    put_trimmed(&mut text, &set_id);
-    put_tab(&mut text);
-    put_count(&mut text, u32::from(file));
-    put_tab(&mut text);
-    put_known(&mut text, note);
-    put_tab(&mut text);
-    put_standing(&mut text, &standing_of(&findings.sections, set_id, file));
-    let differs = is_mixed(note) || findings.copies.dispute(&key).is_some();
-    put(&mut text, conflict_cell(differs));
-    text
+    let standing = standing_of(&findings.sections, set_id, file);
+    let found = found_cells(
+        alloc,
+        note,
+        &standing,
+        findings.copies.dispute(&key).is_some(),
+    )?;
+    file_text(alloc, &set_id, file, found.as_str())
 }
 
-/// Appends the facts about a file that its labels state.
-fn put_known(text: &mut Text, note: Option<&FileNote>)
-    requires room { array_vec_len text.old ≤ 100 }
-    ensures items { text.new.items
-        ≡ text.old.items ++ known_cells (option_map (λ n. n.now) note.entry) }
-    ensures len { array_vec_len text.new ≤ 200 }
+/// Returns the row of a file up to the columns `found`.
+fn file_text(alloc: Global, set_id: &Field<6>, file: u16, found: &str) -> Result<String, AllocError>
+    ensures { IfOk result (λ text. string_bytes text ≡ file_text set_id.now file found.now) }
 {
-    match note {
-        Some(note) => {
-            put_trimmed(text, &note.head.file_id);
-            put_tab(text);
-            put_date(text, &note.head.created);
-        }
-        None => put_tab(text),
-    }
+    let set = trimmed(alloc, set_id)?;
+    format!(in alloc; "FILE\t{set}\t{file}\t{found}")
 }
 
-/// Appends the state of a file.
-fn put_standing(text: &mut Text, standing: &Standing)
-    requires room { array_vec_len text.old ≤ 210 }
-    ensures items { text.new.items ≡ text.old.items ++ standing_cells standing.now }
-    ensures len { array_vec_len text.new ≤ 300 }
+/// Returns the columns with what was found of a file: its labels, its state, and whether labels of
+/// different files were found, or copies differ.
+fn found_cells(
+    alloc: Global,
+    note: Option<&FileNote>,
+    standing: &Standing,
+    disputed: bool,
+) -> Result<String, AllocError>
+    ensures { IfOk result (λ cells. string_bytes cells
+        ≡ found_cells (option_map (λ n. n.now) note.entry) standing.now disputed) }
 {
-    match standing {
-        Standing::Complete => put(text, b"COMPLETE\t\t"),
-        Standing::Damaged(sect, entry) => {
-            put_wanted(text, state_text(entry.state), *sect, &entry.volume);
-        }
-        Standing::Behind(sect, volume) => put_wanted(text, b"MISSING", *sect, volume),
-        Standing::Missing(sect) => put_wanted(text, b"MISSING", *sect, &Field::of_bytes([b' '; 6])),
-    }
-}
-
-/// Appends the state of a section, its number, and a volume.
-fn put_wanted(text: &mut Text, state: &[u8], sect: u16, volume: &Field<6>)
-    requires room { array_vec_len text.old ≤ 210 }
-    requires short { length state.now ≤ 7 }
-    ensures items { text.new.items ≡ text.old.items ++ wanted_cells state.now sect volume.now }
-    ensures len { array_vec_len text.new ≤ 300 }
-{
-    put(text, state);
-    put_tab(text);
-    put_count(text, u32::from(sect));
-    put_tab(text);
-    put_trimmed(text, volume);
-}
-
-/// Returns the last columns of a file: its record format, block length and record length.
-pub(crate) fn form_cells(note: Option<&FileNote>) -> Text
-    ensures { result.items ≡ form_cells (option_map (λ n. n.now) note.entry) }
-{
-    let mut text = Text::new();
-    match note {
-        Some(note) => put_form(&mut text, &note.form),
-        None => put(&mut text, b"\t\t\t"),
-    }
-    text
-}
-
-/// Appends the record format, the block length and the record length that a label states.
-fn put_form(text: &mut Text, form: &Option<Head2>)
-    requires room { array_vec_len text.old ≤ 900 }
-    ensures items { text.new.items ≡ text.old.items ++ form_by form.now }
-{
-    match form {
-        Some(form) => {
-            put_tab(text);
-            text.push(form.format.letter());
-            put_tab(text);
-            put_count(text, form.block_len);
-            put_tab(text);
-            put_count(text, form.rec_len);
-        }
-        None => put(text, b"\t\t\t"),
-    }
+    let conflict = conflict_cell(is_mixed(note), disputed);
+    let known = known_cells(alloc, note)?;
+    let standing = standing_cells(alloc, standing)?;
+    format!(in alloc; "{known}\t{standing}{conflict}")
 }
 
 /// Returns whether labels of different files were found under its number, or copies differ.
-fn conflict_cell(differs: bool) -> &'static [u8]
-    ensures text { result.now ≡ conflict_cell differs }
-    ensures short { length result.now ≤ 10 }
+fn conflict_cell(mixed: bool, disputed: bool) -> &'static str
+    ensures { result.now ≡ conflict_cell (mixed || disputed) }
 {
-    if differs { b"\tCONFLICT\t" } else { b"\t\t" }
+    if mixed || disputed {
+        "\tCONFLICT\t"
+    } else {
+        "\t\t"
+    }
+}
+
+/// Returns the facts about a file that its labels state.
+fn known_cells(alloc: Global, note: Option<&FileNote>) -> Result<String, AllocError>
+    ensures { IfOk result (λ cells. string_bytes cells
+        ≡ known_cells (option_map (λ n. n.now) note.entry)) }
+{
+    let Some(note) = note else {
+        return format!(in alloc; "\t");
+    };
+    let file_id = trimmed(alloc, &note.head.file_id)?;
+    match date_of(&note.head.created) {
+        Some(date) => format!(in alloc; "{file_id}\t{date}"),
+        None => format!(in alloc; "{file_id}\t"),
+    }
+}
+
+/// Returns the state of a file, the number of its first section that is damaged or missing, and the
+/// volume that this section is on, or follows.
+fn standing_cells(alloc: Global, standing: &Standing) -> Result<String, AllocError>
+    ensures { IfOk result (λ cells. string_bytes cells ≡ standing_cells standing.now) }
+{
+    match standing {
+        Standing::Complete => format!(in alloc; "COMPLETE\t\t"),
+        Standing::Damaged(sect, entry) => {
+            let (state, volume) = (state_text(entry.state), trimmed(alloc, &entry.volume)?);
+            format!(in alloc; "{state}\t{sect}\t{volume}")
+        }
+        Standing::Behind(sect, volume) => {
+            let volume = trimmed(alloc, volume)?;
+            format!(in alloc; "MISSING\t{sect}\t{volume}")
+        }
+        Standing::Missing(sect) => format!(in alloc; "MISSING\t{sect}\t"),
+    }
+}
+
+/// Returns the last columns of a file: its record format, block length and record length.
+pub(crate) fn form_cells(alloc: Global, note: Option<&FileNote>) -> Result<Vec<u8>, AllocError>
+    ensures { IfOk result (λ cells. cells.items
+        ≡ form_cells (option_map (λ n. n.now) note.entry)) }
+{
+    let Some(note) = note else {
+        return Vec::from_slice(alloc, b"\t\t\t");
+    };
+    let Some(form) = note.form else {
+        return Vec::from_slice(alloc, b"\t\t\t");
+    };
+    let (block_len, rec_len) = (form.block_len, form.rec_len);
+    let mut cells = Vec::from_slice(alloc, b"\t")?;
+    cells.push(form.format.letter())?;
+    let lengths = format!(in alloc; "\t{block_len}\t{rec_len}")?;
+    cells.extend_from_slice(lengths.as_bytes())?;
+    Ok(cells)
 }

@@ -1,14 +1,11 @@
 //! The part of a survey about sets and their files.
-ghost use Rattle.std.specs.Prelude.{◌≡◌, ◌++◌, IfOk, OnOk, Some};
-ghost use Rattle.std.specs.Prelude.{is_some, option_map};
-ghost use Rattle.tape_run.specs.Lacks.{entry_at};
-ghost use Rattle.tape_run.specs.SurveyCopies.{dispute_at};
-ghost use Rattle.tape_run.specs.SurveyFiles.{note_at, file_key};
+ghost use Rattle.std.specs.Prelude.{◌≡◌, ◌++◌, IfOk, OnOk, Some, is_some, option_map};
 ghost use Rattle.tape_run.specs.SurveySets.{wanted_at, standing_of, known_text, number_text};
 ghost use Rattle.tape_run.specs.SurveySets.{file_word, head_line, file_lines, set_line, is_all};
 ghost use Rattle.tape_run.specs.SurveySets.{is_sure, sure_files, is_whole_file, rest_lines};
+ghost use Rattle.tape_run.specs.{Lacks.entry_at, SurveyCopies.dispute_at, SurveyRows.file_row};
+ghost use Rattle.tape_run.specs.SurveyFiles.{note_at, file_key};
 ghost use Rattle.tape_run.specs.SurveySets.{behind_by, is_mixed, all_good};
-ghost use Rattle.tape_run.specs.SurveyRows.{file_row};
 
 use super::Wording;
 use super::dates::DateText;
@@ -228,12 +225,15 @@ pub(crate) fn add_file_row(
 ) -> Result<(), AllocError>
     ensures { OnOk result (texts.new.items ≡ texts.old.items ++ file_row findings.now set_id file) }
 {
-    let front = file_cells(findings, set_id, file);
-    texts.extend_from_slice(&front)?;
+    let front = file_cells(findings, set_id, file)?;
+    texts.extend_from_slice(front.as_bytes())?;
     let complete = is_whole_file(&findings.sections, set_id, file);
     add_rest(texts, findings, Wording::Rows, set_id, file, complete)?;
-    let form = form_cells(findings.files.get(&FileKey { set_id, file }));
-    texts.extend_from_slice(&form)?;
+    let form = form_cells(
+        findings.alloc,
+        findings.files.get(&FileKey { set_id, file }),
+    )?;
+    texts.extend_from_slice(form.as_slice())?;
     texts.push(b'\n')?;
     Ok(())
 }
@@ -269,24 +269,6 @@ fn sure_files(findings: &Findings, set_id: Field<6>, greatest: u16) -> u32
     sure
 }
 
-/// The line about a set.
-#[derive(Clone, Copy)]
-struct SetLine {
-    set_id: Field<6>,
-    complete: u32,
-    files: u16,
-}
-
-impl fmt::Display for SetLine {
-    ghost output = { λ line. Some (set_line line.set_id line.complete line.files) };
-
-    fn fmt<W: fmt::Write>(&self, f: &mut fmt::Formatter<W>) -> fmt::Result {
-        let (complete, files) = (self.complete, self.files);
-        let set_id = Trimmed(&self.set_id);
-        write!(f, "Set {set_id}: {complete} of {files} files complete\n")
-    }
-}
-
 /// Appends the line about a set whose greatest file number is `files`.
 pub(crate) fn add_set_line(
     texts: &mut Vec<u8>,
@@ -297,13 +279,11 @@ pub(crate) fn add_set_line(
     ensures { OnOk result (texts.new.items ≡ texts.old.items
         ++ set_line set_id (sure_files findings.now set_id 1 files) files) }
 {
+    let alloc = findings.alloc;
     let complete = sure_files(findings, set_id, files);
-    let line = SetLine {
-        set_id,
-        complete,
-        files,
-    };
-    append(findings.alloc, texts, line)
+    let set_id = Trimmed(&set_id);
+    let line = format!(in alloc; "Set {set_id}: {complete} of {files} files complete\n")?;
+    texts.extend_from_slice(line.as_bytes())
 }
 
 /// Returns whether each section that was found has a complete copy.

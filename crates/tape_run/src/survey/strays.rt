@@ -1,38 +1,14 @@
 //! Damaged sections that follow the end of a complete file.
-ghost use Rattle.std.specs.Prelude.{◌≡◌, ◌<◌, ◌+◌, ◌++◌, length, take, IfOk, OnOk, Some};
-ghost use Rattle.std.specs.List.{flat_map};
-ghost use Rattle.tape_run.specs.SurveySets.{stray_line, stray_text, strays_text};
+ghost use Rattle.std.specs.Prelude.{◌≡◌, ◌++◌, IfOk, OnOk};
+ghost use Rattle.tape_run.specs.SurveySets.{stray_text, strays_text};
 
 use super::Wording;
 use super::damages::damage_text;
 use super::sets::is_whole_file;
 use crate::section::{Entry, SectionKey};
 use crate::sections::Sections;
-use crate::text::{Trimmed, append};
+use crate::text::Trimmed;
 use std::alloc::{AllocError, Global};
-use std::fmt;
-
-/// The line of a damaged section after the end of a complete file.
-#[derive(Clone, Copy)]
-struct StrayLine {
-    key: SectionKey,
-    entry: Entry,
-}
-
-impl fmt::Display for StrayLine {
-    ghost output = { λ line. Some (stray_line (line.key, line.entry)) };
-
-    fn fmt<W: fmt::Write>(&self, f: &mut fmt::Formatter<W>) -> fmt::Result {
-        let (file, sect) = (self.key.file, self.key.sect);
-        let set_id = Trimmed(&self.key.set_id);
-        let damage = damage_text(self.entry.state);
-        let volume = Trimmed(&self.entry.volume);
-        write!(
-            f,
-            "{set_id} file {file} section {sect} {damage} on {volume}: the file ends before it\n"
-        )
-    }
-}
 
 /// Appends the line of a section, if it is damaged and its file is complete without it.
 fn add_stray(
@@ -48,44 +24,11 @@ fn add_stray(
     if entry.state.is_good() || !is_whole_file(sections, key.set_id, key.file) {
         return Ok(());
     }
-    let line = StrayLine {
-        key: *key,
-        entry: *entry,
-    };
-    append(alloc, texts, line)
-}
-
-/// Appends the line of the section at index `place`, if the section is damaged and its file is
-/// complete without it.
-fn add_place(
-    alloc: Global,
-    texts: &mut Vec<u8>,
-    sections: &Sections,
-    place: usize,
-) -> Result<(), AllocError>
-    requires { place < length sections.now.entries }
-    ensures { OnOk result (texts.old.items
-        ≡ flat_map (stray_text sections.now.entries) (take place sections.now.entries)
-        → texts.new.items
-        ≡ flat_map (stray_text sections.now.entries) (take (place + 1) sections.now.entries)) }
-{
-    let Some((key, entry)) = sections.get_index(place) else {
-        unreachable!()
-    };
-    add_stray(alloc, texts, sections, key, entry)?;
-    Ok(())
-}
-
-/// Returns the lines of all such sections.
-fn lines_of(alloc: Global, sections: &Sections) -> Result<Vec<u8>, AllocError>
-    ensures { IfOk result (λ texts. texts.items
-        ≡ flat_map (stray_text sections.now.entries) sections.now.entries) }
-{
-    let mut texts = Vec::new(alloc);
-    for place in 0..sections.len() {
-        add_place(alloc, &mut texts, sections, place)?;
-    }
-    Ok(texts)
+    let (damage, volume) = (damage_text(entry.state), Trimmed(&entry.volume));
+    let rest = format!(in alloc; "{damage} on {volume}: the file ends before it\n")?;
+    let (set_id, file, sect) = (Trimmed(&key.set_id), key.file, key.sect);
+    let line = format!(in alloc; "{set_id} file {file} section {sect} {rest}")?;
+    texts.extend_from_slice(line.as_bytes())
 }
 
 /// Returns the lines of damaged sections whose files are complete. Rows have the states of all
@@ -97,8 +40,14 @@ pub(crate) fn strays_text(
 ) -> Result<Vec<u8>, AllocError>
     ensures { IfOk result (λ texts. texts.items ≡ strays_text wording sections.now.entries) }
 {
+    let mut texts = Vec::new(alloc);
     match wording {
-        Wording::Words => lines_of(alloc, sections),
-        Wording::Rows => Ok(Vec::new(alloc)),
+        Wording::Rows => Ok(texts),
+        Wording::Words => {
+            for (key, entry) in sections {
+                add_stray(alloc, &mut texts, sections, key, entry)?;
+            }
+            Ok(texts)
+        }
     }
 }

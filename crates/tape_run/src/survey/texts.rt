@@ -1,11 +1,9 @@
 //! The part of a survey after its images: sections, sets and files, in words or in rows.
 ghost use Rattle.std.specs.List.{flat_map};
 ghost use Rattle.std.specs.Prelude.{◌≡◌, ◌<◌, ◌+◌, ◌-◌, ◌++◌, length, take, IfOk, OnOk};
-ghost use Rattle.tape_run.specs.SurveyGaps.{gap_first, gap_text};
 ghost use Rattle.tape_run.specs.SurveyWording.{found_text, file_text, file_texts, set_front};
-ghost use Rattle.tape_run.specs.SurveyWording.{set_text};
-ghost use Rattle.tape_run.specs.SurveyWording.{set_texts, sets_text, sections_text};
-ghost use Rattle.tape_run.specs.SurveyRows.{section_row};
+ghost use Rattle.tape_run.specs.{SurveyGaps.gap_first, SurveyGaps.gap_text, SurveyRows.section_row};
+ghost use Rattle.tape_run.specs.SurveyWording.{set_text, set_texts, sets_text, sections_text};
 
 use super::Wording;
 use super::gaps::{gap_first, gap_text, is_found};
@@ -167,8 +165,8 @@ fn texts_of(
 fn put_row(rows: &mut Vec<u8>, key: &SectionKey, entry: &Entry) -> Result<(), AllocError>
     ensures { OnOk result (rows.new.items ≡ rows.old.items ++ section_row (key.now, entry.now)) }
 {
-    let row = section_row(key, entry);
-    rows.extend_from_slice(&row)
+    let row = section_row(*rows.allocator(), key, entry)?;
+    rows.extend_from_slice(row.as_bytes())
 }
 
 /// Appends the row for the section at index `place`.

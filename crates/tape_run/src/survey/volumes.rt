@@ -1,19 +1,18 @@
 //! The volumes of a set, in the order of its sections.
-ghost use Rattle.std.specs.Prelude.{◌≡◌, ◌≤◌, ◌<◌, ◌++◌, ◌∷◌, [], IfOk, OnOk, Some, None, false};
-ghost use Rattle.std.specs.Prelude.{length};
+ghost use Rattle.std.specs.String.{string_bytes};
+ghost use Rattle.std.specs.Prelude.{◌≡◌, ◌≤◌, ◌<◌, ◌++◌, IfOk, OnOk, None, false};
 ghost use Rattle.tape_run.specs.Lacks.{entry_at};
-ghost use Rattle.tape_run.specs.SurveyChain.{gap_if, link_of, next_first, sections_chain};
-ghost use Rattle.tape_run.specs.SurveyChain.{found_chain, file_chain, files_chain, is_same};
-ghost use Rattle.tape_run.specs.SurveyChain.{missing_after, missing_if, items_to, volumes_from};
-ghost use Rattle.tape_run.specs.SurveyChain.{item_text, comma_text, column_after, volumes_line};
-ghost use Rattle.tape_run.specs.SurveyChain.{volumes_of};
+ghost use Rattle.tape_run.specs.SurveyChain.{link_of, next_first, sections_chain, found_chain};
+ghost use Rattle.tape_run.specs.SurveyChain.{file_chain, files_chain, is_same, missing_if};
+ghost use Rattle.tape_run.specs.SurveyChain.{items_to, volumes_from, item_text, comma_text};
+ghost use Rattle.tape_run.specs.SurveyChain.{column_after, volumes_line, volumes_of};
 
 use super::gaps::is_found;
 use super::problems::ends;
 use super::view::Findings;
-use crate::section::{Entry, SectionKey};
+use crate::section::SectionKey;
 use crate::sections::Sections;
-use crate::text::{Text, put, put_trimmed};
+use crate::text::Trimmed;
 use std::alloc::{AllocError, Global};
 use tape_label::Field;
 
@@ -40,48 +39,9 @@ pub(crate) enum VolumeItem {
 /// The volume of each section of a set, in order; `None` where sections are missing.
 type Chain = Vec<Option<Field<6>>>;
 
-/// Appends `link`: a volume, or `None` where sections are missing.
-fn add_one(chain: &mut Chain, link: Option<Field<6>>) -> Result<(), AllocError>
-    ensures { OnOk result (chain.new.items ≡ chain.old.items ++ link ∷ []) }
-{
-    match chain.push(link) {
-        Ok(()) => Ok(()),
-        Err(_) => Err(AllocError),
-    }
-}
-
-/// Appends `None` if sections are missing.
-fn add_gap(chain: &mut Chain, missing: bool) -> Result<(), AllocError>
-    ensures { OnOk result (chain.new.items ≡ chain.old.items ++ gap_if missing) }
-{
-    if missing {
-        return add_one(chain, None);
-    }
-    Ok(())
-}
-
-/// Appends the volume of section `sect`, preceded by `None` if sections from `first` on are missing
-/// before it. Returns the number of the next section, unless this one ends the file.
-fn add_link(
-    chain: &mut Chain,
-    first: u16,
-    sect: u16,
-    entry: &Entry,
-) -> Result<Option<u16>, AllocError>
-    requires { sect < 65535 }
-    ensures next { IfOk result (λ next. next ≡ next_first first sect (Some entry.now)) }
-    ensures chain { IfOk result (λ _. chain.new.items
-        ≡ chain.old.items ++ link_of first sect (Some entry.now)) }
-{
-    add_gap(chain, first < sect)?;
-    add_one(chain, Some(entry.volume))?;
-    if entry.eof {
-        return Ok(None);
-    }
-    Ok(Some(sect + 1))
-}
-
-/// Does the same for section `key`, if it was found.
+/// Appends the volume of section `key`, if it was found, preceded by `None` if sections from
+/// `first` on are missing before it. Returns the number of the first section that may be missing
+/// after it, unless this one ends the file.
 fn add_section(
     chain: &mut Chain,
     sections: &Sections,
@@ -94,10 +54,17 @@ fn add_section(
     ensures chain { IfOk result (λ _. chain.new.items ≡ chain.old.items
         ++ link_of first key.now.sect (entry_at sections.now.entries key.now)) }
 {
-    match sections.get(key) {
-        Some(entry) => add_link(chain, first, key.sect, entry),
-        None => Ok(Some(first)),
+    let Some(entry) = sections.get(key) else {
+        return Ok(Some(first));
+    };
+    if first < key.sect {
+        chain.push(None)?;
     }
+    chain.push(Some(entry.volume))?;
+    if entry.eof {
+        return Ok(None);
+    }
+    Ok(Some(key.sect + 1))
 }
 
 /// Appends the volumes of a file's sections, up to section `most`.
@@ -126,8 +93,10 @@ fn add_sections(
         file,
         sect: first,
     };
-    let missing = !ends(sections, &next);
-    add_gap(chain, missing)
+    if !ends(sections, &next) {
+        chain.push(None)?;
+    }
+    Ok(())
 }
 
 /// Appends the volumes of all sections of a file.
@@ -157,7 +126,8 @@ fn add_file(
     if is_found(findings, set_id, file) {
         return add_found(chain, &findings.sections, set_id, file);
     }
-    add_one(chain, None)
+    chain.push(None)?;
+    Ok(())
 }
 
 /// Returns the chain of a set whose greatest file number is `greatest`.
@@ -181,26 +151,6 @@ fn is_same(last: &Option<Field<6>>, volume: &Field<6>) -> bool
     }
 }
 
-/// Appends `item`.
-fn add_item(items: &mut Vec<VolumeItem>, item: VolumeItem) -> Result<(), AllocError>
-    ensures { OnOk result (items.new.items ≡ items.old.items ++ item ∷ []) }
-{
-    match items.push(item) {
-        Ok(()) => Ok(()),
-        Err(_) => Err(AllocError),
-    }
-}
-
-/// Returns the entry for a missing volume after the volume `last`.
-fn missing_after(last: &Option<Field<6>>) -> VolumeItem
-    ensures { result ≡ missing_after last.now }
-{
-    match last {
-        Some(last) => VolumeItem::MissingAfter(*last),
-        None => VolumeItem::MissingFirst,
-    }
-}
-
 /// Appends the entry for a missing volume after the volume `last`, if one is missing.
 fn add_missing(
     items: &mut Vec<VolumeItem>,
@@ -210,7 +160,10 @@ fn add_missing(
     ensures { OnOk result (items.new.items ≡ items.old.items ++ missing_if missing last.now) }
 {
     if missing {
-        return add_item(items, missing_after(last));
+        items.push(match last {
+            Some(last) => VolumeItem::MissingAfter(*last),
+            None => VolumeItem::MissingFirst,
+        })?;
     }
     Ok(())
 }
@@ -230,7 +183,8 @@ fn add_volume(
         return Ok(());
     }
     add_missing(items, missing, last)?;
-    add_item(items, VolumeItem::Named(*volume))
+    items.push(VolumeItem::Named(*volume))?;
+    Ok(())
 }
 
 /// Returns the volumes of a chain.
@@ -255,62 +209,47 @@ fn items_of(alloc: Global, chain: &[Option<Field<6>>]) -> Result<Vec<VolumeItem>
 }
 
 /// Returns the text of an entry.
-fn item_text(item: &VolumeItem) -> Text
-    ensures items { result.items ≡ item_text item.now }
-    ensures short { length result.items ≤ 40 }
+fn item_text(alloc: Global, item: &VolumeItem) -> Result<String, AllocError>
+    ensures { IfOk result (λ text. string_bytes text ≡ item_text item.now) }
 {
-    let mut text = Text::new();
     match item {
-        VolumeItem::Named(volume) => put_trimmed(&mut text, volume),
-        VolumeItem::MissingFirst => put(&mut text, b"missing"),
+        VolumeItem::Named(volume) => {
+            let volume = Trimmed(volume);
+            format!(in alloc; "{volume}")
+        }
+        VolumeItem::MissingFirst => format!(in alloc; "missing"),
         VolumeItem::MissingAfter(last) => {
-            put(&mut text, b"missing (follows ");
-            put_trimmed(&mut text, last);
-            put(&mut text, b")");
+            let last = Trimmed(last);
+            format!(in alloc; "missing (follows {last})")
         }
     }
-    text
 }
 
 /// Appends the text of `item` to a line of length `column`, or begins another line with it. Returns
 /// the length of the line that it is on.
-fn add_text(line: &mut Vec<u8>, column: usize, item: &VolumeItem) -> Result<usize, AllocError>
-    requires { column ≤ 200 }
-    ensures few { IfOk result (λ next. next ≤ 200) }
+fn add_text(
+    alloc: Global,
+    texts: &mut Vec<u8>,
+    column: usize,
+    item: &VolumeItem,
+) -> Result<usize, AllocError>
     ensures next { IfOk result (λ next. next ≡ column_after column (item_text item.now)) }
-    ensures text { IfOk result (λ _. line.new.items ≡ line.old.items
+    ensures text { IfOk result (λ _. texts.new.items ≡ texts.old.items
         ++ (comma_text column (item_text item.now) ++ item_text item.now)) }
 {
-    let text = item_text(item);
-    if column + text.len() < WIDTH {
-        line.extend_from_slice(b", ")?;
-        line.extend_from_slice(&text)?;
+    let text = item_text(alloc, item)?;
+    if text.len() < WIDTH.saturating_sub(column) {
+        texts.extend_from_slice(b", ")?;
+        texts.extend_from_slice(text.as_bytes())?;
         return Ok(column + 2 + text.len());
     }
-    line.extend_from_slice(b",\n           ")?;
-    line.extend_from_slice(&text)?;
+    texts.extend_from_slice(b",\n           ")?;
+    texts.extend_from_slice(text.as_bytes())?;
     Ok(INDENT + text.len())
 }
 
-/// Returns the line of the volumes, if there are any.
-fn line_of(alloc: Global, items: &[VolumeItem]) -> Result<Vec<u8>, AllocError>
-    ensures { IfOk result (λ line. line.items ≡ volumes_line items.now) }
-{
-    let [first, rest @ ..] = items else {
-        return Ok(Vec::new(alloc));
-    };
-    let mut line = Vec::from_slice(alloc, b"  Volumes: ")?;
-    let text = item_text(first);
-    line.extend_from_slice(&text)?;
-    let mut column = INDENT + text.len();
-    for item in rest {
-        column = add_text(&mut line, column, item)?;
-    }
-    line.push(b'\n')?;
-    Ok(line)
-}
-
-/// Appends the line of the volumes of a set whose greatest file number is `greatest`.
+/// Appends the line of the volumes of a set whose greatest file number is `greatest`, if there are
+/// any.
 pub(crate) fn add_volumes(
     texts: &mut Vec<u8>,
     findings: &Findings,
@@ -320,8 +259,19 @@ pub(crate) fn add_volumes(
     ensures { OnOk result (texts.new.items ≡ texts.old.items
         ++ volumes_line (volumes_of findings.now (set_id, greatest))) }
 {
+    let alloc = findings.alloc;
     let chain = chain_of(findings, set_id, greatest)?;
-    let items = items_of(findings.alloc, chain.as_slice())?;
-    let line = line_of(findings.alloc, items.as_slice())?;
-    texts.extend_from_slice(line.as_slice())
+    let items = items_of(alloc, chain.as_slice())?;
+    let [first, rest @ ..] = items.as_slice() else {
+        return Ok(());
+    };
+    let text = item_text(alloc, first)?;
+    texts.extend_from_slice(b"  Volumes: ")?;
+    texts.extend_from_slice(text.as_bytes())?;
+    let mut column = INDENT + text.len();
+    for item in rest {
+        column = add_text(alloc, texts, column, item)?;
+    }
+    texts.push(b'\n')?;
+    Ok(())
 }

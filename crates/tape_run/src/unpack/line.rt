@@ -1,6 +1,5 @@
 //! The lines that `unpack` prints.
-ghost use Rattle.std.specs.Prelude.{◌≡◌, ◌≤◌, ◌++◌, length, IfOk};
-ghost use Rattle.arrayvec.specs.ArrayVec.{array_vec_len};
+ghost use Rattle.std.specs.Prelude.{◌≡◌, ◌++◌, IfOk};
 ghost use Rattle.tape_run.specs.UnpackLine.{file_front, path_text, file_line, unpack_outcome_text};
 ghost use Rattle.tape_run.specs.UnpackLine.{notice_text, notice_line};
 

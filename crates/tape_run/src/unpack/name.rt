@@ -1,5 +1,5 @@
 //! The names under which files are unpacked.
-ghost use Rattle.std.specs.Prelude.{◌≡◌, ◌≤◌, ◌<◌, ◌+◌, ◌*◌, ◌++◌, length};
+ghost use Rattle.std.specs.Prelude.{◌≡◌, ◌≤◌, ◌<◌, ◌+◌, ◌*◌, ◌++◌};
 ghost use Rattle.arrayvec.specs.ArrayVec.{array_vec_len};
 ghost use Rattle.tape_run.specs.Unpacking.{is_plain, is_kept, escape, escaped, escaped_all};
 ghost use Rattle.tape_run.specs.Unpacking.{fit, fit_last, fit_text, file_name};

@@ -1,7 +1,6 @@
 //! The order in which the images of a file are read.
 
-ghost use Rattle.std.specs.Prelude.{◌≡◌, ◌+◌, ◌<◌, ◌≤◌, ◌++◌, [], length, get_or, false, ℕ};
-ghost use Rattle.std.specs.Prelude.{IfOk, OnOk};
+ghost use Rattle.std.specs.Prelude.{◌≡◌, ◌+◌, ◌<◌, ◌≤◌, [], length, get_or, false, ℕ, IfOk, OnOk};
 ghost use Rattle.tape_run.specs.ReadingOrder.{is_in, with_image, followed_by, section_images};
 ghost use Rattle.tape_run.specs.ReadingOrder.{is_of_set, images_of, reading_order};
 ghost use Rattle.tape_run.specs.Unpacking.{set_of};

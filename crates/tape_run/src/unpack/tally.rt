@@ -2,8 +2,7 @@
 ghost use Rattle.std.specs.Prelude.{◌≡◌, OnOk, OnErr, IfErr, ◌<◌, ◌-◌};
 ghost use Rattle.std.specs.Io.KnownBytes.{Appends};
 ghost use Rattle.tape_image.specs.Written.{AppendsFront};
-ghost use Rattle.tape_run.specs.Checked.{IsCheckFault};
-ghost use Rattle.tape_run.specs.SurveyGaps.{numbers_line};
+ghost use Rattle.tape_run.specs.{Checked.IsCheckFault, SurveyGaps.numbers_line};
 ghost use Rattle.tape_run.specs.UnpackLine.{file_line};
 ghost use Rattle.tape_run.specs.UnpackTally.{nothing_counted, counted, total_line};
 

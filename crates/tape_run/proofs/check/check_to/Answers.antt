@@ -8,24 +8,18 @@ pub returns-clause-ok : goal.returns-clause-ok
 returns-clause-ok g c =
     let d = c.catalogue.inside.sections.entries in
     let same : c.check_images.new.catalogue ≡ d = search rules in
-    let told = subst (λ e. TellsImages g.L.ImageSource.size g.L.ImageSource.gives
-    g.R.Read.remaining c.args.images.now c.check_images.new.images e
-    (g.P.Write.contents c.args.report.now) (g.P.Write.contents c.check_images.new.report)) same
-    c.in_ok-check_images.ensures.ok in
-    IfOk-weaker c.summarize.result _ _
-    (λ found h. reported g.L.ImageSource.size g.L.ImageSource.gives g.R.Read.remaining _ _ d _ _ _
-    found told h.0 h.1)
+    let told = subst (λ e. TellsImages g.L.ImageSource.size g.L.ImageSource.gives g.R.Read.remaining
+    c.args.images.now c.check_images.new.images e (g.P.Write.contents c.args.report.now)
+    (g.P.Write.contents c.check_images.new.report)) same c.in_ok-check_images.ensures.ok in
+    IfOk-weaker c.summarize.result _ _ (λ found h. reported _ _ _ _ _ _ _ _ _ _ told h.0 h.1)
     c.summarize.ensures.ok
 
 pub returns-clause-front : goal.returns-clause-front
 returns-clause-front g c =
     let d = c.catalogue.inside.sections.entries in
     let same : c.check_images.new.catalogue ≡ d = search rules in
-    let told = subst (λ e. TellsImages g.L.ImageSource.size g.L.ImageSource.gives
-    g.R.Read.remaining c.args.images.now c.check_images.new.images e
-    (g.P.Write.contents c.args.report.now) (g.P.Write.contents c.check_images.new.report)) same
-    c.in_ok-check_images.ensures.ok in
-    on_err_weaker c.summarize.result
-    (λ h. reported_in_part g.L.ImageSource.size g.L.ImageSource.gives g.R.Read.remaining _ _ d _ _ _
-    told h)
+    let told = subst (λ e. TellsImages g.L.ImageSource.size g.L.ImageSource.gives g.R.Read.remaining
+    c.args.images.now c.check_images.new.images e (g.P.Write.contents c.args.report.now)
+    (g.P.Write.contents c.check_images.new.report)) same c.in_ok-check_images.ensures.ok in
+    on_err_weaker c.summarize.result (λ h. reported_in_part _ _ _ _ _ _ _ _ _ told h)
     c.summarize.ensures.front

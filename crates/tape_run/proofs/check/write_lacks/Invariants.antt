@@ -1,7 +1,5 @@
 use Rattle.std.proofs.Common.{length}
-use Rattle.tape_run.specs.CheckLine.{lack_line}
-use Rattle.tape_run.specs.Lacks.{set_lacks}
-use Rattle.tape_run.specs.NextLack.{lacks_from}
+use Rattle.tape_run.specs.{CheckLine.lack_line, Lacks.set_lacks, NextLack.lacks_from}
 use Rattle.tape_run.proofs.Reporting.{TextsSoFar}
 use Rattle.tape_run.proofs.check.write_lacks.Given as goal
 

@@ -1,9 +1,7 @@
 use Rattle.std.proofs.Common.{◌+◌, ◌∷◌, map, drop, sym, ap, ◌∙◌, rules}
 use Rattle.tape_image.proofs.Pieces.{on_err}
-use Rattle.tape_run.specs.CheckLine.{section_line}
-use Rattle.tape_run.specs.Lacks.{line_of}
-use Rattle.tape_run.proofs.Listing.{drop_get}
-use Rattle.tape_run.proofs.Reporting.{text_front, text_more}
+use Rattle.tape_run.specs.{CheckLine.section_line, Lacks.line_of}
+use Rattle.tape_run.proofs.{Listing.drop_get, Reporting.text_front, Reporting.text_more}
 use Rattle.tape_run.proofs.check.write_sections.Goals as goal
 
 pub returns-in_err-write_text-clause-front : goal.returns-in_err-write_text-clause-front

@@ -1,6 +1,5 @@
 use Rattle.std.proofs.Common.{drop, map}
-use Rattle.tape_run.specs.CheckLine.{section_line}
-use Rattle.tape_run.specs.Lacks.{line_of}
+use Rattle.tape_run.specs.{CheckLine.section_line, Lacks.line_of}
 use Rattle.tape_run.proofs.Reporting.{TextsSoFar}
 use Rattle.tape_run.proofs.check.write_sections.Given as goal
 

@@ -1,34 +1,21 @@
 use Rattle.std.proofs.lemmas.Result.{IfErr-weaker}
-use Rattle.tape_run.specs.Reeling.{goes_back}
-use Rattle.tape_run.proofs.Causes.{calm_ended, file_fails, images_fail}
-use Rattle.tape_run.proofs.Ended.{told_err}
-use Rattle.tape_run.proofs.Reporting.{if_ok_both}
+use Rattle.tape_run.proofs.{Ended.told_err, Reporting.if_ok_both}
 use Rattle.tape_run.proofs.Extracted.{extracted, stops_reading, stops_at_end}
 use Rattle.tape_run.proofs.extract.extract_to.Goals as goal
 
 pub returns-in_err-read_images-clause-err : goal.returns-in_err-read_images-clause-err
 returns-in_err-read_images-clause-err g c =
-    told_err _ _ _ c.from_residual.ensures.1
-    (stops_reading g.S.PartSink g.L.ImageSource.size g.L.ImageSource.gives
-    g.R.Read.remaining c.args.session.now c.read_images.new.session _ _ c.args.form
-    g.W.Write.contents c.args.out.now _ _ _
-    c.in_err-read_images.field-0.0 c.has_note-back.ensures
-    c.in_err-read_images.ensures.err)
+    told_err _ _ _ c.from_residual.ensures.1 (stops_reading _ _ _ _ _ _ _ _ _ _ _ _ _ _ _
+    c.has_note-back.ensures c.in_err-read_images.ensures.err)
 
 pub returns-clause-ok : goal.returns-clause-ok
 returns-clause-ok g c =
-    if_ok_both c.end_file.result _ _ _ c.end_file.ensures.ok c.end_file.ensures.calm (λ want e calm.
-    extracted g.S.PartSink g.L.ImageSource.size g.L.ImageSource.gives
-    g.R.Read.remaining c.args.session.now c.read_images.new.session c.end_file.new.session _ _
-    c.args.form _ _ _ _ _ want _ c.has_note-back.ensures c.in_ok-read_images.ensures.ok e
+    if_ok_both _ _ _ _ c.end_file.ensures.ok c.end_file.ensures.calm (λ want e calm. extracted _ _ _
+    _ _ _ _ _ _ _ _ _ _ _ _ _ _ c.has_note-back.ensures c.in_ok-read_images.ensures.ok e
     c.end_file.ensures.same calm)
 
 pub returns-clause-err : goal.returns-clause-err
 returns-clause-err g c =
-    IfErr-weaker c.end_file.result _ _
-    (λ fault e. stops_at_end g.S.PartSink g.L.ImageSource.size g.L.ImageSource.gives
-    g.R.Read.remaining c.args.session.now c.read_images.new.session
-    c.end_file.new.session _ _ c.args.form
-    g.W.Write.contents c.args.out.now c.end_file.new.out _ _ _
-    _ fault c.has_note-back.ensures c.in_ok-read_images.ensures.ok c.end_file.ensures.same e)
+    IfErr-weaker c.end_file.result _ _ (λ fault e. stops_at_end _ _ _ _ _ _ _ _ _ _ _ _ _ _ _ _ _ _
+    c.has_note-back.ensures c.in_ok-read_images.ensures.ok c.end_file.ensures.same e)
     c.end_file.ensures.err

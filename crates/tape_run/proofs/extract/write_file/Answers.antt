@@ -1,7 +1,5 @@
-use Rattle.std.proofs.Common.{◌≡◌, length}
-use Rattle.tape_blocks.specs.Spans.{join}
 use Rattle.tape_image.proofs.Pieces.{on_err}
-use Rattle.tape_run.proofs.{Causes.fails_behind, Ended.told_err, Fitting.kept, Fitting.whole_front}
+use Rattle.tape_run.proofs.{Fitting.kept, Fitting.whole_front}
 use Rattle.tape_run.proofs.RecordFronts.{both_written, rest_failed}
 use Rattle.tape_run.proofs.extract.write_file.Goals as goal
 

@@ -1,5 +1,4 @@
-use Rattle.std.proofs.Common.{sym, ◌∙◌, subst}
-use Rattle.std.proofs.lemmas.Result.{on_err_weaker}
+use Rattle.std.proofs.{Common.sym, Common.◌∙◌, Common.subst, lemmas.Result.on_err_weaker}
 use Rattle.tape_blocks.specs.Spans.{leaves}
 use Rattle.tape_image.specs.Written.{AppendsFront}
 use Rattle.tape_run.specs.RecordText.{record_end}

@@ -1,14 +1,11 @@
 use Rattle.std.proofs.Common.{◌≡◌, ◌+◌, Ok, Err, ap, subst, ◌∙◌, arith, rules}
 use Rattle.std.specs.Io.KnownBytes.{Appends}
-use Rattle.tape_image.specs.Reader.{tape_item, ending_of}
+use Rattle.tape_image.specs.{Reader.tape_item, Reader.ending_of, Written.AppendsFront}
 use Rattle.tape_image.proofs.Callers.{gave, met_end, met_fault, same_some}
-use Rattle.tape_run.specs.Placed.{placed_end}
-use Rattle.tape_image.specs.Written.{AppendsFront}
-use Rattle.tape_run.specs.declared.fault.ListFault.TheVariants.{WriteFailed}
 use Rattle.tape_image.proofs.Steps.{least_four}
-use Rattle.tape_run.proofs.ListedSoFar.{line_is, one_more, ends_at, fails_at, fits_cause}
-use Rattle.tape_run.proofs.ListedSoFar.{stops_at_item, stops_at_end, stops_at_fault, write_failed}
-use Rattle.tape_run.specs.Placed.{PlacesToFault}
+use Rattle.tape_run.specs.{Placed.placed_end, declared.fault.ListFault.TheVariants.WriteFailed}
+use Rattle.tape_run.proofs.ListedSoFar.{line_is, one_more, ends_at, stops_at_item, stops_at_end}
+use Rattle.tape_run.proofs.ListedSoFar.{stops_at_fault, write_failed}
 use Rattle.tape_run.proofs.list.list_items.Goals as goal
 
 pub items-preserved : goal.items-preserved

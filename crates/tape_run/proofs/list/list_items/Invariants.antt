@@ -1,6 +1,5 @@
 use Rattle.std.proofs.Common.{◌≡◌, ◌-◌, ◌*◌, ◌≤◌}
-use Rattle.tape_image.specs.Begins.{image_limit}
-use Rattle.tape_image.specs.Reader.{going}
+use Rattle.tape_image.specs.{Begins.image_limit, Reader.going}
 use Rattle.tape_run.proofs.ListedSoFar.{SoFar}
 use Rattle.tape_run.proofs.list.list_items.Given as goal
 

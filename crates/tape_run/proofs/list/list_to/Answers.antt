@@ -1,5 +1,4 @@
-use Rattle.std.proofs.Common.{rules}
-use Rattle.std.proofs.KnownBytes.{Keeps-refl}
+use Rattle.std.proofs.{Common.rules, KnownBytes.Keeps-refl}
 use Rattle.tape_image.proofs.Pieces.{on_err}
 use Rattle.tape_run.proofs.WithoutOffsets.{ok, fault, front, none_front}
 use Rattle.tape_run.proofs.list.list_to.Goals as goal

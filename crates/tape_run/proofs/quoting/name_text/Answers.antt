@@ -1,7 +1,6 @@
 use Rattle.std.proofs.Common.{◌≡◌, ◌++◌, ◌∙◌, ap, sym, map-id, arith, append-nil, encode_utf8_all}
-use Rattle.std.proofs.Common.{flat_map}
-use Rattle.std.proofs.lemmas.Grind.{common_steps, flat_map-append}
-use Rattle.std.proofs.lemmas.{Iterator.YieldsList-from_chars, Str.encodes-append}
+use Rattle.std.proofs.{Common.flat_map, lemmas.Grind.common_steps, lemmas.Grind.flat_map-append}
+use Rattle.std.proofs.{lemmas.Iterator.YieldsList-from_chars, lemmas.Str.encodes-append}
 use Rattle.std.proofs.lemmas.Iterator.Consumers.{YieldsList-end}
 use Rattle.tape_run.specs.Quoting.{quoted}
 use Rattle.tape_run.proofs.quoting.name_text.Goals as goal

@@ -1,12 +1,11 @@
 use Rattle.std.proofs.Common.{◌≡◌, ◌<◌, ◌++◌, ◌∷◌, [], List, map, take, drop, sym, ap, subst, ◌∙◌}
-use Rattle.std.proofs.Common.{arith, append-nil}
-use Rattle.std.proofs.lemmas.List.{map-append}
-use Rattle.tape_blocks.specs.Block.{Portion, Holds}
-use Rattle.tape_blocks.specs.{Parts.view, PartsLeft.parts_left, Judged.begun_behind}
+use Rattle.std.proofs.{Common.arith, Common.append-nil, lemmas.List.map-append}
+use Rattle.tape_blocks.specs.{Block.Portion, Block.Holds, Parts.view, PartsLeft.parts_left}
+use Rattle.tape_blocks.specs.Judged.{begun_behind}
 use Rattle.tape_blocks.proofs.SizeLaws.{few_parts, short_part}
-use Rattle.tape_run.proofs.Blocks.{number_of, front_is, none_put, one_passed, one_put, stands_here}
-use Rattle.tape_run.proofs.{Causes.refused_at, Crashes.adds_then, reel_reader.put_parts.Given.Over}
 use Rattle.tape_run.proofs.reel_reader.put_parts.Goals.{In-Some, then-first-seen+in-Ok}
+use Rattle.tape_run.proofs.Blocks.{number_of, front_is, one_passed, one_put, stands_here}
+use Rattle.tape_run.proofs.reel_reader.put_parts.Given.{Over}
 use Rattle.tape_run.proofs.reel_reader.put_parts.Goals.{else-first-seen}
 use Rattle.tape_run.proofs.reel_reader.put_parts.Goals as goal
 

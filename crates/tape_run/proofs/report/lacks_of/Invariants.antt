@@ -1,6 +1,5 @@
 use Rattle.std.proofs.Common.{◌≡◌, ◌++◌, length}
-use Rattle.tape_run.specs.Lacks.{set_lacks}
-use Rattle.tape_run.specs.NextLack.{lacks_from}
+use Rattle.tape_run.specs.{Lacks.set_lacks, NextLack.lacks_from}
 use Rattle.tape_run.proofs.report.lacks_of.Given as goal
 
 abbrev pub invariant-search : goal.invariant-search

@@ -1,6 +1,5 @@
 use Rattle.std.proofs.Common.{◌+◌, ◌++◌, Option, sym, ap, ◌∙◌, arith, ℕ}
-use Rattle.tape_run.specs.Lacks.{one_lack}
-use Rattle.tape_run.specs.NextLack.{lacks_from}
+use Rattle.tape_run.specs.{Lacks.one_lack, NextLack.lacks_from}
 use Rattle.tape_run.proofs.Listing.{set_done, file_done}
 use Rattle.tape_run.proofs.report.next_lack.Goals as goal
 

@@ -1,6 +1,6 @@
 use Rattle.std.proofs.Common.{◌≡◌, ◌<◌, rules, arith}
 use Rattle.tape_image.proofs.Pieces.{on_err}
-use Rattle.tape_run.proofs.SalvageImages.{none_found, one_found, not_opened, stops_at}
+use Rattle.tape_run.proofs.SalvageImages.{one_found, not_opened, stops_at}
 use Rattle.tape_run.proofs.salvage.find_copies.Goals as goal
 
 pub loop-number-preserved : goal.loop-number-preserved

@@ -1,8 +1,7 @@
 use Rattle.std.proofs.Common.{inr, refl, sym, subst, ◌∙◌, ◌+◌, option_map}
 use Rattle.tape_image.specs.Written.{AppendsFront}
 use Rattle.tape_image.proofs.Pieces.{on_err}
-use Rattle.tape_run.specs.SalvageLine.{not_opened_line}
-use Rattle.tape_run.specs.Salvaging.{FindsOn}
+use Rattle.tape_run.specs.{SalvageLine.not_opened_line, Salvaging.FindsOn}
 use Rattle.tape_run.proofs.salvage.find_on.Goals as goal
 
 pub returns-in_err-write_text-in-None-clause-front :

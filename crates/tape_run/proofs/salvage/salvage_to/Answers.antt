@@ -1,6 +1,7 @@
 use Rattle.std.proofs.Common.{◌∙◌, inl, inr, refl}
 use Rattle.tape_image.proofs.Pieces.{on_err}
-use Rattle.tape_run.proofs.SalvageShelf.{file_salvaged, file_placed, wrote_all}
+use Rattle.tape_run.proofs.SalvageShelf.{file_salvaged, file_placed}
+use Rattle.tape_run.proofs.Fitting.{whole_front}
 use Rattle.tape_run.proofs.SalvageShelf.{stops_comparing, stops_recovering, stops_placing}
 use Rattle.tape_run.proofs.salvage.salvage_to.Goals as goal
 
@@ -76,7 +77,7 @@ returns-in_err-flush-2-clause-err g c =
     c.new-recovery.ensures c.into_out-written.ensures
     c.in_ok-flush.ensures.kept c.in_ok-place.ensures.ok c.records-records.ensures
     c.is_complete-complete.ensures (c.deref.ensures.0 ∙ c.last_line.ensures)
-    (wrote_all _ _ _ _ c.in_ok-write_text.ensures.ok c.in_err-flush-2.ensures.kept)))
+    (whole_front _ _ _ _ c.in_ok-write_text.ensures.ok c.in_err-flush-2.ensures.kept)))
 
 pub returns-clause-ok : goal.returns-clause-ok
 returns-clause-ok g c =

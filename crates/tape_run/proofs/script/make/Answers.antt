@@ -1,14 +1,9 @@
-use Rattle.std.proofs.Common.{◌+◌, [], ◌∷◌, map, take, get_or, Some, refl, sym, ap, subst, ◌∙◌}
-use Rattle.std.proofs.Common.{arith, append-nil, inl, inr}
-use Rattle.std.proofs.lemmas.List.{drop_more, drop_all, drop-set-lt, take_more_set, take-set}
-use Rattle.std.proofs.lemmas.List.{map-append}
-use Rattle.tape_image.proofs.Pieces.{on_err}
+use Rattle.std.proofs.Common.{◌+◌, [], ◌∷◌, map, take, get_or, sym, ap, subst, ◌∙◌, arith}
+use Rattle.std.proofs.Common.{append-nil}
+use Rattle.std.proofs.lemmas.List.{drop_more, drop-set-lt, take_more_set, map-append}
 use Rattle.tape_run.specs.{Given.is_device, Made.WritesFrom}
-use Rattle.tape_core.proofs.Crashes.{only_same}
-use Rattle.tape_run.proofs.{Crashes.only_nothing, Lasting.alone_saved}
-use Rattle.tape_run.proofs.Causes.{calm_reel, calm_saved, calm_back}
-use Rattle.tape_run.proofs.Made.{reel_made, save_made, restart_made, reel_failed, writes_none}
-use Rattle.tape_run.proofs.Ended.{told_err, kept_save_fails, kept_restart_fails}
+use Rattle.tape_run.proofs.{Lasting.alone_saved, Ended.told_err}
+use Rattle.tape_run.proofs.Made.{reel_made, save_made, restart_made, writes_none}
 use Rattle.tape_run.proofs.script.make.Goals as goal
 
 -- ---- a reel

@@ -1,12 +1,11 @@
-use Rattle.std.proofs.Common.{◌≡◌, ◌+◌, [], ◌++◌, length, map, drop, refl, sym, ap, subst, ◌∙◌}
-use Rattle.std.proofs.Common.{length-append, arith}
-use Rattle.std.proofs.lemmas.List.{drop_more, take_all}
-use Rattle.tape_run.specs.{Given.written, Seen.seen, Headline.IsRead, Headline.reels_in}
-use Rattle.tape_run.proofs.{Headline.ran_so, Begin.kept_new, Begin.is_read, Back.came_back}
-use Rattle.tape_run.proofs.{Back.whole_records, Causes.calm_same, Causes.calm_then, Made.stops_here}
-use Rattle.tape_run.proofs.{Made.lost_here, Made.wrote, Made.next_is, Ended.stopped_so}
-use Rattle.tape_run.proofs.RunSoFar.{none_made, one_more, adds_more, came_to_end, all_unread}
-use Rattle.tape_run.proofs.RunSoFar.{now_unread, adds_so_far, taken_then, stays_behind}
+use Rattle.std.proofs.Common.{◌≡◌, ◌+◌, [], ◌++◌, length, map, drop, sym, ap, subst, ◌∙◌}
+use Rattle.std.proofs.{Common.length-append, Common.arith, lemmas.List.drop_more}
+use Rattle.tape_run.specs.{Given.written, Seen.seen, Headline.IsRead}
+use Rattle.tape_run.proofs.RunSoFar.{one_more, adds_more, came_to_end, all_unread, now_unread}
+use Rattle.tape_run.proofs.{Headline.ran_so, Begin.kept_new, Begin.is_read, Causes.calm_then}
+use Rattle.tape_run.proofs.{Back.came_back, Back.whole_records, Ended.stopped_so}
+use Rattle.tape_run.proofs.Made.{stops_here, lost_here, wrote, next_is}
+use Rattle.tape_run.proofs.RunSoFar.{adds_so_far, taken_then, stays_behind}
 use Rattle.tape_run.proofs.script.run.Goals as goal
 
 pub loop-step-preserved : goal.loop-step-preserved

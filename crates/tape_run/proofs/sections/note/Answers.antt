@@ -1,7 +1,6 @@
 use Rattle.std.proofs.Common.{◌∙◌, ap}
 use Rattle.indexmap.specs.IndexMap.{insert_entry}
-use Rattle.tape_run.specs.Noted.{same_key}
-use Rattle.tape_run.specs.declared.section.Entry.{Entry}
+use Rattle.tape_run.specs.{Noted.same_key, declared.section.Entry.Entry}
 use Rattle.tape_run.proofs.Inserting.{inserted}
 use Rattle.tape_run.proofs.sections.note.Goals as goal
 

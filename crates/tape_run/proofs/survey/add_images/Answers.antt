@@ -1,9 +1,7 @@
 use Rattle.std.proofs.Common.{◌≡◌, ◌<◌, ◌∙◌, ap, map, length, arith, Option}
 use Rattle.std.proofs.lemmas.List.{length-map}
-use Rattle.tape_run.specs.declared.survey.line.ImageState.{ImageState}
-use Rattle.tape_run.specs.SurveyTally.{with_state}
-use Rattle.tape_run.proofs.SurveyTexts.{name_at, image_added, image_counted, images_all}
-use Rattle.tape_run.proofs.SurveyTexts.{all_counted}
+use Rattle.tape_run.specs.{declared.survey.line.ImageState.ImageState, SurveyTally.with_state}
+use Rattle.tape_run.proofs.SurveyTexts.{name_at, image_added, image_counted}
 use Rattle.tape_run.proofs.survey.add_images.Goals as goal
 
 pub loop-number-preserved : goal.loop-number-preserved

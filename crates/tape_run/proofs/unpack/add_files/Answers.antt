@@ -1,5 +1,4 @@
-use Rattle.std.proofs.Common.{◌+◌, ◌-◌, arith}
-use Rattle.tape_run.proofs.UnpackedFiles.{file_added, files_all}
+use Rattle.tape_run.proofs.UnpackedFiles.{file_added}
 use Rattle.tape_run.proofs.unpack.add_files.Goals as goal
 
 pub loop-before-preserved : goal.loop-before-preserved

@@ -1,7 +1,6 @@
 use Rattle.std.proofs.Common.{◌≡◌, [], refl, sym, ap, ◌∙◌}
 use Rattle.std.proofs.lemmas.Result.{IfErr-weaker, on_ok_weaker}
-use Rattle.tape_core.specs.{Memory.portions, Place.rest_of}
-use Rattle.tape_core.specs.declared.memory.MemorySink.{MemorySink}
+use Rattle.tape_core.specs.{Memory.portions, Place.rest_of, declared.memory.MemorySink.MemorySink}
 use Rattle.tape_run.proofs.whole.read_file.Goals as goal
 
 pub returns-clause-read : goal.returns-clause-read

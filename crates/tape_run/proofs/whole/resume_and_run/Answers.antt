@@ -1,4 +1,4 @@
-use Rattle.std.proofs.Common.{map, [], sym, ap, ◌∙◌, subst, arith}
+use Rattle.std.proofs.Common.{map, [], sym, subst, arith}
 use Rattle.std.proofs.lemmas.Result.{IfErr-weaker, on_ok_weaker}
 use Rattle.tape_run.specs.{CrashRuns.LivesOn, Seen.seen}
 use Rattle.tape_run.proofs.{CrashRuns.lives_on}

@@ -1,9 +1,7 @@
 use Rattle.std.proofs.lemmas.Result.{IfErr-weaker}
 use Rattle.tape_run.proofs.Again.{extracted_again, stops_in_round, stops_at_end_again}
+use Rattle.tape_run.proofs.{Causes.images_fail, Ended.told_err, Reporting.if_ok_both}
 use Rattle.tape_run.specs.Reeling.{goes_back}
-use Rattle.tape_run.proofs.Causes.{calm_ended, file_fails, images_fail}
-use Rattle.tape_run.proofs.Ended.{told_err}
-use Rattle.tape_run.proofs.Reporting.{if_ok_both}
 use Rattle.tape_run.proofs.extract.again.extract_in_passes.Goals as goal
 
 pub returns-in_err-read_rounds-clause-err : goal.returns-in_err-read_rounds-clause-err

@@ -1,7 +1,7 @@
-use Rattle.std.proofs.Common.{◌+◌, ◌-◌, ◌<◌, [], refl, inr, arith}
+use Rattle.std.proofs.Common.{[], refl, inr, arith}
 use Rattle.tape_run.proofs.{Causes.calm_same, Causes.calm_then, Causes.then_fails, Ended.told_err}
 use Rattle.tape_run.proofs.Rounds.{none_gone, gone_on, takes_rounds, stops_round, enough_by}
-use Rattle.tape_run.proofs.Rounds.{not_none, not_same, some_images}
+use Rattle.tape_run.proofs.Rounds.{not_none, not_same}
 use Rattle.tape_run.proofs.extract.again.read_rounds.Goals as goal
 
 pub rounds-init : goal.rounds-init

@@ -1,12 +1,10 @@
-use Rattle.std.proofs.Common.{rules, ◌≡◌, ◌+◌, Ok, true, false, ap, subst, ◌∙◌, arith, inl, refl}
-use Rattle.std.proofs.Common.{sym}
+use Rattle.std.proofs.Common.{rules, ◌≡◌, ◌+◌, Ok, false, ap, subst, ◌∙◌, arith, sym}
 use Rattle.tape_blocks.specs.Spans.{leaves}
 use Rattle.tape_core.specs.Walks.{GivesPart}
 use Rattle.tape_image.proofs.Pieces.{on_err}
 use Rattle.tape_run.specs.OutSinks.{with_end}
-use Rattle.tape_run.proofs.RecordFronts.{front_starts, front_counts, front_writes}
-use Rattle.tape_run.proofs.RecordFronts.{front_failed, front_refused, front_ended}
-use Rattle.tape_run.proofs.Walked.{walk_on, walk_refused}
+use Rattle.tape_run.proofs.RecordFronts.{front_starts, front_counts, front_writes, front_failed}
+use Rattle.tape_run.proofs.{RecordFronts.front_refused, RecordFronts.front_ended, Walked.walk_on}
 use Rattle.tape_run.proofs.extract.front.write_front.Goals as goal
 
 pub parts-init : goal.parts-init

@@ -1,14 +1,12 @@
-use Rattle.std.proofs.Common.{rules, ◌≡◌, ◌<◌, ◌≤◌, Ok, ap, subst, ◌∙◌, arith}
-use Rattle.std.proofs.Common.{inr, refl, ◌+◌}
+use Rattle.std.proofs.Common.{rules, ◌≡◌, ◌<◌, ◌≤◌, Ok, ap, subst, ◌∙◌, arith, inr, refl, ◌+◌}
 use Rattle.tape_blocks.specs.Spans.{leaves}
 use Rattle.tape_core.specs.Walks.{GivesPart}
 use Rattle.tape_image.proofs.Pieces.{on_err}
 use Rattle.tape_run.specs.OutSinks.{with_end}
 use Rattle.tape_run.proofs.Streams.{stream_starts, stream_skips, stream_writes, stream_failed}
-use Rattle.tape_run.proofs.Streams.{stream_ended, stream_short}
-use Rattle.tape_run.proofs.Walked.{walk_on}
-use Rattle.tape_run.proofs.extract.front.write_rest.Goals as goal
+use Rattle.tape_run.proofs.{Streams.stream_ended, Streams.stream_short, Walked.walk_on}
 use Rattle.tape_run.proofs.extract.front.write_rest.Goals.{else-ended-front}
+use Rattle.tape_run.proofs.extract.front.write_rest.Goals as goal
 use Rattle.tape_run.proofs.extract.front.write_rest.Goals.{
   then-ended-front+in_ok-write_part-in-Ok-Some,
 }

@@ -2,14 +2,11 @@ use Rattle.std.proofs.Common.{◌≡◌, ◌-◌, Bool, true, false, length, Som
 use Rattle.std.proofs.Common.{arith, rules, inl, inr}
 use Rattle.std.specs.Bool.{OnTrue, OnFalse}
 use Rattle.tape_core.specs.Place.{rest_of}
-use Rattle.tape_run.specs.Crash.{LeavesStep}
+use Rattle.tape_run.specs.{Crash.LeavesStep, Seen.seen, declared.fault.EngineFault.TheVariants.Run}
 use Rattle.tape_run.specs.Reeling.{Opened, IsKeptFor, IsTurn, counts_differ}
-use Rattle.tape_run.specs.Seen.{seen}
 use Rattle.tape_run.specs.Stopping.{IsStopped, NotNoted, RefusesSave}
-use Rattle.tape_run.specs.declared.fault.EngineFault.TheVariants.{Run}
 use Rattle.tape_run.proofs.Causes.{calm_back, calm_reel, calm_saved, calm_then}
-use Rattle.tape_run.proofs.Ended.{told_err}
-use Rattle.tape_run.proofs.Lasting.{last_stays, last_then}
+use Rattle.tape_run.proofs.{Ended.told_err, Lasting.last_stays, Lasting.last_then}
 use Rattle.tape_run.proofs.Left.{left_then, restart_left, save_left}
 use Rattle.tape_run.proofs.Settled.{Settled, settled_back, settled_same, settled_saved}
 use Rattle.tape_run.proofs.StoppedThere.{one_turn, step_stops}

@@ -1,19 +1,15 @@
-use Rattle.std.proofs.Common.{◌≡◌, ◌+◌, [], ◌∷◌, ◌++◌, length, refl, sym, ap, subst, ◌∙◌}
-use Rattle.std.proofs.Common.{arith, rules, length-append, map, inl, inr, None}
+use Rattle.std.proofs.Common.{◌≡◌, ◌+◌, [], ◌∷◌, ◌++◌, length, refl, sym, ap, subst, ◌∙◌, arith}
+use Rattle.std.proofs.Common.{rules, length-append, map, inl, inr, None}
 use Rattle.std.proofs.KnownBytes.{Appends-nil}
 use Rattle.std.specs.Io.KnownBytes.{Appends}
 use Rattle.tape_image.specs.Written.{AppendsFront}
-use Rattle.tape_run.specs.ReelLine.{reel_line, reel_lines}
+use Rattle.tape_run.specs.{ReelLine.reel_line, ReelLine.reel_lines, Seen.seen}
 use Rattle.tape_run.specs.Reeling.{answer_of, IsTurn}
-use Rattle.tape_run.specs.Seen.{seen}
-use Rattle.tape_run.proofs.Fitting.{whole_text}
-use Rattle.tape_run.proofs.Turns.{front_behind, line_behind, one_mounted, follows_then}
-use Rattle.tape_run.proofs.Lasting.{last_same, last_then}
-use Rattle.tape_run.proofs.Causes.{calm_same, calm_then, then_fails}
-use Rattle.tape_run.proofs.Ended.{told_err}
-use Rattle.tape_run.proofs.Left.{left_saved, same_left}
 use Rattle.tape_run.specs.declared.fault.EngineFault.TheVariants.{Run}
-use Rattle.tape_run.proofs.StoppedThere.{stopped_there}
+use Rattle.tape_run.proofs.{Fitting.whole_text, Lasting.last_same, Lasting.last_then}
+use Rattle.tape_run.proofs.Turns.{front_behind, line_behind, one_mounted, follows_then}
+use Rattle.tape_run.proofs.{Causes.calm_same, Causes.calm_then, Causes.then_fails, Ended.told_err}
+use Rattle.tape_run.proofs.{Left.left_saved, Left.same_left, StoppedThere.stopped_there}
 use Rattle.tape_run.proofs.extract.images.read_round.Goals as goal
 
 pub returns-in_err-outcome-clause-err : goal.returns-in_err-outcome-clause-err

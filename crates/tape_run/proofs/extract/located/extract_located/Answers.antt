@@ -1,6 +1,5 @@
-use Rattle.std.proofs.Common.{rules, ◌≡◌, true, false, ◌∙◌, inl}
-use Rattle.tape_run.proofs.{Causes.ended_for, Ended.told_err, Located.ended_as}
-use Rattle.tape_run.proofs.StoppedThere.{reads_walked, session_walked}
+use Rattle.std.proofs.Common.{rules, ◌≡◌, true, false, ◌∙◌}
+use Rattle.tape_run.proofs.{Located.ended_as, StoppedThere.session_walked}
 use Rattle.tape_run.proofs.extract.located.extract_located.Goals as goal
 
 pub returns-then-not-complete-clause-ok : goal.returns-then-not-complete-clause-ok

@@ -1,7 +1,6 @@
-use Rattle.std.proofs.Common.{false, ◌∙◌}
+use Rattle.std.proofs.Common.{◌∙◌}
 use Rattle.tape_run.specs.Given.{is_device}
-use Rattle.tape_run.proofs.Causes.{calm_reel, step_fails}
-use Rattle.tape_run.proofs.{Ended.told_err, StoppedThere.reads_reel, LocatedParts.part_on}
+use Rattle.tape_run.proofs.{LocatedParts.part_on}
 use Rattle.tape_run.proofs.LocatedReaders.{held_on, not_finished}
 use Rattle.tape_run.proofs.extract.located.read_on.Goals as goal
 

@@ -1,16 +1,15 @@
 use Rattle.std.proofs.Common.{◌≡◌, ℕ, inl, inr, refl, sym, subst, ap, ◌∙◌, arith, rules, not}
 use Rattle.std.proofs.Common.{is_some, true, false, List, Option, Some, None}
 use Rattle.std.specs.Map.{lookup}
-use Rattle.tape_set.specs.Position.{want_at}
-use Rattle.tape_set.specs.declared.position.Want.{Want}
+use Rattle.tape_set.specs.{Position.want_at, declared.position.Want.Want}
 use Rattle.tape_core.specs.State.{State}
 use Rattle.tape_run.specs.{Lacks.key_at, Noted.same_key, SurveyLocations.Located}
 use Rattle.tape_run.specs.ExtractingLocated.{IsHeld, BeginsOn, NextBeginsOn, held_behind}
 use Rattle.tape_run.specs.declared.survey.files.FileKey.{FileKey}
-use Rattle.tape_run.proofs.Causes.{calm_same, calm_then, then_fails}
-use Rattle.tape_run.proofs.{Ended.told_err, StoppedThere.reads_nothing, StoppedThere.reads_then}
 use Rattle.tape_run.proofs.Located.{nothing_read, section_read, read_some, section_failed}
 use Rattle.tape_run.proofs.Located.{nothing_open, read_open, located_open, sections_read, not_none}
+use Rattle.tape_run.proofs.Causes.{calm_same, calm_then}
+use Rattle.tape_run.proofs.StoppedThere.{reads_nothing, reads_then}
 use Rattle.tape_run.proofs.Located.{is_none_then, wanted_sect}
 use Rattle.tape_run.proofs.extract.located.read_sections.Goals as goal
 

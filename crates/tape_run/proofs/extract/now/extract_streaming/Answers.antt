@@ -1,12 +1,9 @@
 use Rattle.std.proofs.Common.{rules, ◌≡◌, [], Some, None, refl, sym, ◌∙◌, inl, inr}
 use Rattle.tape_set.specs.Position.{want_at}
 use Rattle.tape_run.specs.OutSinks.{TellsAlways}
-use Rattle.tape_run.proofs.Causes.{ended_for}
-use Rattle.tape_run.proofs.Ended.{told_err}
-use Rattle.tape_run.proofs.Extracted.{none_finished}
-use Rattle.tape_run.proofs.Fitting.{no_text}
+use Rattle.tape_run.proofs.{Causes.ended_for, Ended.told_err, Extracted.none_finished}
+use Rattle.tape_run.proofs.{Fitting.no_text, StoppedThere.session_walked}
 use Rattle.tape_run.proofs.Now.{extracted_now, stops_reading_now, stops_at_end_now}
-use Rattle.tape_run.proofs.StoppedThere.{session_walked}
 use Rattle.tape_run.proofs.extract.now.extract_streaming.Goals as goal
 
 pub returns-in_err-read_images-clause-err : goal.returns-in_err-read_images-clause-err

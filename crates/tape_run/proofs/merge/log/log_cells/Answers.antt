@@ -1,7 +1,7 @@
 use Rattle.std.proofs.Common.{arith, rules, subst}
 use Rattle.std.specs.Io.KnownBytes.{Appends}
 use Rattle.tape_run.specs.MergeLog.{verdict_cell}
-use Rattle.tape_run.proofs.MergeReports.{reports_none, reports_more, reports_all}
+use Rattle.tape_run.proofs.MergeReports.{reports_more, reports_all}
 use Rattle.tape_run.proofs.MergeRows.{lines_flat}
 use Rattle.tape_run.proofs.merge.log.log_cells.Goals as goal
 

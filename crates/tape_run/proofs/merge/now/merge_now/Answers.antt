@@ -1,8 +1,4 @@
-use Rattle.std.proofs.Common.{inl, refl}
-use Rattle.tape_run.specs.MergeNow.{IsMissing}
-use Rattle.tape_run.proofs.Ended.{told_err}
-use Rattle.tape_run.proofs.MergeMounted.{ok_now, cause_now, left_now}
-use Rattle.tape_run.proofs.MergeNow.{at_front, err_misses, err_stays}
+use Rattle.tape_run.proofs.{MergeMounted.left_now, MergeNow.at_front}
 use Rattle.tape_run.proofs.merge.now.merge_now.Goals as goal
 
 pub returns-clause-left : goal.returns-clause-left

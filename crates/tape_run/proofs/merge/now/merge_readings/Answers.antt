@@ -1,16 +1,13 @@
 use Rattle.std.proofs.Common.{◌≡◌, map, inl, inr, rules, refl, subst, sym, ◌∙◌, [], ◌++◌}
-use Rattle.std.proofs.Common.{append-nil}
+use Rattle.std.proofs.{Common.append-nil, KnownBytes.Appends-trans}
 use Rattle.std.specs.Io.KnownBytes.{Appends}
-use Rattle.std.proofs.KnownBytes.{Appends-trans}
 use Rattle.tape_image.specs.Written.{AppendsFront}
 use Rattle.tape_image.specs.declared.item.ImageWriteFault.TheVariants.{TooLong}
-use Rattle.tape_run.specs.MergeLines.{lines_from, reading_line, has_line, merged_line, differ_line}
+use Rattle.tape_run.specs.MergeLines.{lines_from, reading_line, merged_line, differ_line}
 use Rattle.tape_run.specs.MergeNow.{Misses}
-use Rattle.tape_run.proofs.Ended.{told_err}
-use Rattle.tape_run.proofs.Reporting.{front_then}
-use Rattle.tape_run.proofs.MergeNow.{made, comes_whole, some_end, differed, err_write}
-use Rattle.tape_run.proofs.MergeNow.{all_logged, stays, err_stays, says_front, says_first}
-use Rattle.tape_run.proofs.MergeNow.{says_lines, says_differ, says_items}
+use Rattle.tape_run.proofs.MergeNow.{made, comes_whole, some_end, err_write, all_logged, err_stays}
+use Rattle.tape_run.proofs.{Ended.told_err, Reporting.front_then}
+use Rattle.tape_run.proofs.MergeNow.{says_front, says_first, says_lines, says_differ, says_items}
 use Rattle.tape_run.proofs.MergeTooLong.{item_cause, end_cause}
 use Rattle.tape_run.proofs.merge.now.merge_readings.Goals as goal
 

@@ -2,8 +2,8 @@ use Rattle.std.proofs.Common.{◌≡◌, ◌+◌, arith, map, [], sym, subst, �
 use Rattle.std.proofs.KnownBytes.{Appends-nil}
 use Rattle.tape_image.proofs.Pieces.{on_err}
 use Rattle.tape_run.specs.MergeLines.{has_of, name_at, has_line}
-use Rattle.tape_run.proofs.MergeReports.{ReportsFirst, reports_none, reports_more, reports_part}
-use Rattle.tape_run.proofs.MergeReports.{item_none, named_item}
+use Rattle.tape_run.proofs.MergeReports.{ReportsFirst, reports_more, reports_part, item_none}
+use Rattle.tape_run.proofs.MergeReports.{named_item}
 use Rattle.tape_run.proofs.merge.now.report_items.Goals.{
   in-Some+in_ok-line-in-Some+in_ok-pass_on-in-Some,
   in-None,

@@ -1,8 +1,7 @@
 use Rattle.std.proofs.Common.{arith, map, ◌∙◌}
 use Rattle.tape_image.proofs.Pieces.{on_err}
 use Rattle.tape_run.specs.MergeLines.{reading_line}
-use Rattle.tape_run.proofs.MergeReports.{reports_none, reports_more, reports_all, reports_part}
-use Rattle.tape_run.proofs.MergeReports.{reports_so_far, named_reading}
+use Rattle.tape_run.proofs.MergeReports.{reports_more, reports_part, named_reading}
 use Rattle.tape_run.proofs.merge.now.report_readings.Goals as goal
 
 pub loop-number-preserved : goal.loop-number-preserved

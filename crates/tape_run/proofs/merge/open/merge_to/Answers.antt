@@ -1,4 +1,4 @@
-use Rattle.tape_run.proofs.MergeBytes.{ok_images, err_images, ok_many, err_many}
+use Rattle.tape_run.proofs.MergeBytes.{ok_images, err_images}
 use Rattle.tape_run.proofs.merge.open.merge_to.Goals as goal
 
 pub returns-clause-ok : goal.returns-clause-ok

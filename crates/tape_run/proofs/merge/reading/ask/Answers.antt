@@ -1,5 +1,5 @@
 use Rattle.std.proofs.Common.{arith, refl, sym, ◌∙◌}
-use Rattle.tape_run.proofs.MergeNext.{asked_item, asked_stop}
+use Rattle.tape_run.proofs.MergeNext.{asked_item}
 use Rattle.tape_run.proofs.merge.reading.ask.Goals as goal
 
 pub returns-clause-asked : goal.returns-clause-asked

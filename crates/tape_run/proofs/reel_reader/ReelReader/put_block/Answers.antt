@@ -1,9 +1,7 @@
 use Rattle.std.proofs.Common.{◌≡◌, ◌≤◌, ◌++◌, ℕ, Bool, take, drop, ap, sym, subst, refl, ◌∙◌}
-use Rattle.tape_blocks.specs.Block.{Holds}
-use Rattle.tape_blocks.specs.Judged.{begun_behind}
+use Rattle.tape_blocks.specs.{Block.Holds, Judged.begun_behind}
 use Rattle.tape_set.specs.Position.{part_of}
-use Rattle.tape_core.specs.Table.{after_block, saved}
-use Rattle.tape_core.specs.Place.{place_of, rest_of}
+use Rattle.tape_core.specs.{Table.after_block, Table.saved, Place.place_of, Place.rest_of}
 use Rattle.tape_run.specs.Puts.{refused_point}
 use Rattle.tape_run.proofs.Places.{shape_fits}
 use Rattle.tape_run.proofs.reel_reader.ReelReader.put_block.Goals as goal

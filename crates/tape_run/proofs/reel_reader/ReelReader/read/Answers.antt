@@ -1,28 +1,24 @@
-use Rattle.std.proofs.Common.{◌≡◌, ◌≢◌, ◌++◌, [], ◌∷◌, ℕ, List, Option, Some, None, take, drop}
-use Rattle.std.proofs.Common.{◌∙◌, sym, ap, subst, refl, inl, inr, arith, IfNone}
+use Rattle.std.proofs.Common.{◌≡◌, ◌≢◌, ◌++◌, [], ◌∷◌, ℕ, List, Option, Some, None, take, drop, ◌∙◌}
+use Rattle.std.proofs.Common.{sym, ap, subst, refl, inl, inr, arith, IfNone}
 use Rattle.tape_image.specs.Tape.{TapeItem, block}
 use Rattle.tape_image.proofs.{Callers.from_going, Steps.least_four, Pieces.on_err}
 use Rattle.tape_set.specs.Position.{part_of}
-use Rattle.tape_core.specs.declared.event.Answer.{Answer}
 use Rattle.tape_core.specs.declared.event.Answer.TheVariants.{Passed, Deliver, SectionDone}
+use Rattle.tape_core.specs.{declared.event.Answer.Answer, declared.event.Event.Event, State.State}
 use Rattle.tape_core.specs.declared.event.Answer.TheVariants.{Complete, Useless}
-use Rattle.tape_core.specs.declared.event.{Event.Event, Awaited.Awaited}
+use Rattle.tape_core.specs.{declared.event.Awaited.Awaited, Arrive.arrival, Follows.IsFinal}
 use Rattle.tape_core.specs.declared.event.Event.TheVariants.{Block, Bad, Mark, ReelEnd}
-use Rattle.tape_core.specs.{Arrive.arrival, State.State}
-use Rattle.tape_core.specs.Follows.{IsFinal}
 use Rattle.tape_core.specs.Table.{Outcome, after_block, saved, step_of}
-use Rattle.tape_core.proofs.{Crashes.only_same, OneFile.step_file}
-use Rattle.tape_run.specs.Taking.{TakesItem}
+use Rattle.tape_core.proofs.Crashes.{only_same}
 use Rattle.tape_run.specs.Reels.{IsDelivery, StopsAt, delivered_by}
-use Rattle.tape_run.proofs.ByTable.{puts_delivered, puts_none, puts_front}
-use Rattle.tape_run.proofs.Completes.{Tells, step_tells}
-use Rattle.tape_run.proofs.{Growing.grows_then, Growing.adds_on, Causes.refused_then}
-use Rattle.tape_run.proofs.{Ended.told_err, Notes.front_more, Notes.front_self, Notes.front_trans}
-use Rattle.tape_run.proofs.Images.{IsTaken, none_taken, taken_on, reads_image, refuses_image}
 use Rattle.tape_run.proofs.Reels.{item_came, item_given, block_given, none_read, read_on}
-use Rattle.tape_run.proofs.Reels.{reads_reel, reads_to_block}
-use Rattle.tape_run.proofs.Taken.{checked_parts, takes_other, takes_block, refuses_block}
 use Rattle.tape_run.proofs.reel_reader.ReelReader.read.Goals.{in-Block+in_default-awaited}
+use Rattle.tape_run.proofs.ByTable.{puts_delivered, puts_none, puts_front}
+use Rattle.tape_run.proofs.{Completes.Tells, Completes.step_tells, Causes.refused_then}
+use Rattle.tape_run.proofs.{Growing.grows_then, Growing.adds_on, Ended.told_err}
+use Rattle.tape_run.proofs.Notes.{front_more, front_self, front_trans}
+use Rattle.tape_run.proofs.Images.{IsTaken, none_taken, taken_on, reads_image, refuses_image}
+use Rattle.tape_run.proofs.{Reels.reads_reel, Reels.reads_to_block, Places.checked_parts}
 use Rattle.tape_run.proofs.reel_reader.ReelReader.read.Goals.{in_default}
 use Rattle.tape_run.proofs.reel_reader.ReelReader.read.Goals as goal
 
@@ -95,7 +91,6 @@ items-preserved g c =
           step = step.table;
           left = step.left;
           puts = puts_none core mid c.step.result came held step.table other;
-          takes = takes_other core mid c.step.result came step.table other held;
         },
       )) (λ held now then known t. taken_on _ held _ known gives is t);
     }
@@ -124,15 +119,11 @@ returns-in_err-put_block-clause-err g c = on_err c.from_residual.result _ (λ he
     let core = c.items.self.core in
     let awaited = c.in-Some.ensures.some in
     let mid = after_block core c.in-Some.awaited.end in
-    let back_at = c.put_block.new.self.core in
-    let came = arrival c.event_of-fault.result.0 in
     let bytes = c.in-Block.block.now in
-    let is : came ≡ Some (block bytes) = ap arrival c.in-Block.is in
-    let step : (Deliver, mid) ≡ step_of core came =
-    sym awaited.step ∙ ap (step_of core) (sym is) in
-    let same = step_file core (Deliver, mid) came step in
+    let step : (Deliver, mid) ≡ step_of core (Some (block bytes)) = sym awaited.step in
     let checked = awaited.checked in
-    let gives = item_given _ _ _ (block bytes) (sym c.event_of-fault.ensures.comes ∙ is)
+    let gives = item_given _ _ _ (block bytes)
+    (sym c.event_of-fault.ensures.comes ∙ ap arrival c.in-Block.is)
     (from_going _ _ _ c.next.follows.holds-at-none c.items.invariant.on) in
     let holds = checked_parts core mid bytes checked in
     let (now, has, front, known) = c.items.invariant.so_far held was in
@@ -140,16 +131,10 @@ returns-in_err-put_block-clause-err g c = on_err c.from_residual.result _ (λ he
     has in
     let first = part_of core.position in
     let then = now ++ drop first (take up.n checked.parts) in
-    let (image, table) = refuses_image c.args.self.now.core back_at held c.args.image.now.left known
-    gives is (record {
-      stops = λ item came_is. puts_front core mid Deliver came item bytes checked.form
-          checked.parts now first up.n _ step refl is checked.is_known holds refl up.from up.within
-          up.back came_is;
-      refuses = refuses_block core mid back_at Deliver came step refl bytes is checked.form
-          checked.is_known checked.parts holds first up.n refl up.from up.within same
-          c.put_block.ensures.file up.back now;
-    }) in
-    (then, up.held_now, front_trans held now then front (front_more now _), image, table))
+    let cuts = refuses_image c.args.self.now.core _ held c.args.image.now.left known gives
+    (puts_front core mid bytes checked.form checked.parts now first up.n _ step checked.is_known
+    holds refl up.from up.within up.back) in
+    (then, up.held_now, front_trans held now then front (front_more now _), cuts))
 
 pub returns-in_err-put_block-clause-cause : goal.returns-in_err-put_block-clause-cause
 returns-in_err-put_block-clause-cause g c =
@@ -193,9 +178,6 @@ items-preserved-in-Some g c =
             left = λ none. absurd (cc (sym is ∙ none));
             puts = ap (λ l. held ++ l) (puts_delivered core mid Deliver came bytes checked.form
                 checked.parts first step refl is checked.is_known holds refl);
-            takes = subst (λ (z : State). TakesItem came Deliver core z held now) (sym put.moved)
-                (takes_block core mid Deliver came step refl bytes is checked.form checked.is_known
-                checked.parts holds first refl held);
           } in (
             now,
             put.ok held checked.parts checked.form checked.is_known holds was,
@@ -240,7 +222,6 @@ returns-in_default-step g c =
           step = step.table;
           left = step.left;
           puts = puts_none core mid c.step.result came held step.table other;
-          takes = takes_other core mid c.step.result came step.table other held;
         },
       )) (λ held now then known t. reads_image _ held _ _ c.next.follows.lender-at-none _ known
           met (subst (λ z. IsTaken z c.step.result core mid now then) comes t)

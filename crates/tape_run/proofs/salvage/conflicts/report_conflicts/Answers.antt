@@ -1,7 +1,7 @@
 use Rattle.std.proofs.Common.{◌<◌, arith}
 use Rattle.tape_image.proofs.Pieces.{on_err}
 use Rattle.tape_run.specs.SalvageChoice.{last_section}
-use Rattle.tape_run.proofs.SalvageConflicts.{none_reported, next_reported, reported_front}
+use Rattle.tape_run.proofs.SalvageConflicts.{next_reported, reported_front}
 use Rattle.tape_run.proofs.salvage.conflicts.report_conflicts.Goals as goal
 
 pub loop-before-preserved : goal.loop-before-preserved

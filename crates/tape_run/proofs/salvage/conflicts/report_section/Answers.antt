@@ -1,8 +1,7 @@
 use Rattle.std.proofs.Common.{rules, sym, subst}
 use Rattle.tape_image.specs.Written.{AppendsFront}
 use Rattle.tape_run.specs.SalvageConflicts.{conflict_text}
-use Rattle.tape_run.proofs.SalvageConflicts.{none_compared, compared_more}
-use Rattle.tape_run.proofs.SalvageConflicts.{compared_front}
+use Rattle.tape_run.proofs.SalvageConflicts.{compared_more, compared_front}
 use Rattle.tape_image.proofs.Pieces.{on_err}
 use Rattle.tape_run.proofs.salvage.conflicts.report_section.Goals as goal
 

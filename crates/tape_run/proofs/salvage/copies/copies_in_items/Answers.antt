@@ -1,8 +1,7 @@
-use Rattle.std.proofs.Common.{◌++◌, Ok, ap, ◌∙◌, arith, refl}
-use Rattle.std.proofs.lemmas.Result.{on_ok_weaker}
+use Rattle.std.proofs.{Common.◌++◌, Common.Ok, Common.ap, Common.◌∙◌, lemmas.Result.on_ok_weaker}
 use Rattle.tape_image.proofs.Callers.{gave, met_end, met_fault}
 use Rattle.tape_run.specs.{SalvageWalk.in_list, SalvageCopies.of_file}
-use Rattle.tape_run.proofs.SalvageSeen.{starts, one_more, at_end, at_fault}
+use Rattle.tape_run.proofs.SalvageSeen.{one_more, at_end, at_fault}
 use Rattle.tape_run.proofs.salvage.copies.copies_in_items.Goals as goal
 
 pub items-preserved : goal.items-preserved

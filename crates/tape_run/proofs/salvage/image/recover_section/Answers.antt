@@ -1,9 +1,8 @@
 use Rattle.std.proofs.Common.{Ok, ap, ◌∙◌, arith, refl}
 use Rattle.tape_image.specs.Reader.{tape_item}
-use Rattle.tape_image.proofs.Callers.{gave, met_end, met_fault}
+use Rattle.tape_image.proofs.{Callers.gave, Callers.met_end, Callers.met_fault, Pieces.on_err}
 use Rattle.tape_run.proofs.SalvagedSoFar.{starts, one_more, ends_data, at_end, at_fault, numbered}
 use Rattle.tape_run.proofs.SalvagedSoFar.{still_open, ends_at, stops_at}
-use Rattle.tape_image.proofs.Pieces.{on_err}
 use Rattle.tape_run.proofs.salvage.image.recover_section.Goals as goal
 
 pub items-init : goal.items-init

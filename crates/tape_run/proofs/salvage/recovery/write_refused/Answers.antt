@@ -1,11 +1,9 @@
-use Rattle.std.proofs.Common.{◌≡◌, sym, subst, ◌∙◌}
-use Rattle.std.specs.Io.KnownBytes.{Appends}
-use Rattle.std.proofs.KnownBytes.{Appends-trans}
+use Rattle.std.proofs.{Common.◌≡◌, Common.sym, Common.subst, Common.◌∙◌, KnownBytes.Appends-trans}
 use Rattle.std.proofs.lemmas.Result.{on_ok_weaker, on_err_weaker}
+use Rattle.std.specs.Io.KnownBytes.{Appends}
 use Rattle.tape_image.specs.Written.{AppendsFront}
 use Rattle.tape_image.proofs.Pieces.{on_err, front_more, front_behind}
-use Rattle.tape_run.specs.SalvageLine.{refused_line}
-use Rattle.tape_run.specs.SalvageBlocks.{refused_text}
+use Rattle.tape_run.specs.{SalvageLine.refused_line, SalvageBlocks.refused_text}
 use Rattle.tape_run.proofs.salvage.recovery.write_refused.Goals as goal
 
 pub returns-in_err-write_torn-in-Some-clause-front :

@@ -1,6 +1,5 @@
-use Rattle.std.proofs.Common.{◌≡◌, ℕ, None, Some, List, true, false, refl, sym, ap, subst, ◌∙◌}
-use Rattle.std.proofs.Common.{rules}
-use Rattle.std.proofs.lemmas.Result.{IfOk-weaker, on_err_weaker}
+use Rattle.std.proofs.Common.{◌≡◌, ℕ, None, List, true, false, refl, sym, ap, subst, ◌∙◌}
+use Rattle.std.proofs.{Common.rules, lemmas.Result.IfOk-weaker, lemmas.Result.on_err_weaker}
 use Rattle.tape_run.specs.SalvageBlocks.{Salvaged, ReportsFront}
 use Rattle.tape_run.specs.SalvageChoice.{IsBest, firsts}
 use Rattle.tape_run.specs.SalvageTaking.{form_for, has_form, TakesCopy, StopsCopy}

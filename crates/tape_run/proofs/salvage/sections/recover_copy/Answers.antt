@@ -2,8 +2,7 @@ use Rattle.std.proofs.Common.{◌≡◌, ap, subst, ◌∙◌}
 use Rattle.std.specs.Io.KnownBytes.{Appends}
 use Rattle.tape_image.specs.Written.{AppendsFront}
 use Rattle.tape_image.proofs.Pieces.{on_err}
-use Rattle.tape_run.specs.SalvageLine.{section_line}
-use Rattle.tape_run.specs.SalvageTaking.{image_number}
+use Rattle.tape_run.specs.{SalvageLine.section_line, SalvageTaking.image_number}
 use Rattle.tape_run.proofs.SalvageBegun.{line_begun, items_begun, end_begun}
 use Rattle.tape_run.proofs.SalvageOne.{copy_taken}
 use Rattle.tape_run.proofs.salvage.sections.recover_copy.Goals as goal

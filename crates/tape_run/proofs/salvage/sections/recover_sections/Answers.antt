@@ -1,10 +1,9 @@
 use Rattle.std.proofs.Common.{◌≡◌, subst, arith}
 use Rattle.tape_image.proofs.Pieces.{on_err}
 use Rattle.tape_run.specs.SalvageBlocks.{Recovers, ReportsFront}
-use Rattle.tape_run.specs.SalvageChoice.{last_section}
-use Rattle.tape_run.specs.SalvageTaking.{next_section}
+use Rattle.tape_run.specs.{SalvageChoice.last_section, SalvageTaking.next_section}
 use Rattle.tape_run.specs.SalvageEnds.{no_section_text, without_rest}
-use Rattle.tape_run.proofs.SalvageTaking.{none_taken, more_taken, ends_file, continues_file}
+use Rattle.tape_run.proofs.SalvageTaking.{more_taken, ends_file, continues_file}
 use Rattle.tape_run.proofs.SalvageBegun.{stops_in, stops_last}
 use Rattle.tape_run.proofs.salvage.sections.recover_sections.Goals as goal
 

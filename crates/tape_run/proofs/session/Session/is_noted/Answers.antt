@@ -1,13 +1,8 @@
 use Rattle.std.proofs.Common.{◌≡◌, ◌-◌, List, sym, ap, ◌∙◌, subst, length, Some}
-use Rattle.std.specs.Bool.{OnTrue, OnFalse}
-use Rattle.std.specs.List.{slice_get}
-use Rattle.tape_core.specs.Place.{rest_of}
-use Rattle.tape_core.specs.Point.{Point}
-use Rattle.tape_core.specs.Table.{saved}
-use Rattle.tape_run.specs.Reeling.{HasNotedHere}
-use Rattle.tape_run.specs.Seen.{seen, IfSeen}
-use Rattle.tape_run.specs.SessionState.{SessionState}
-use Rattle.tape_run.proofs.Noting.{noted_here, noted_elsewhere, true_map, false_map, within}
+use Rattle.std.specs.{Bool.OnTrue, List.slice_get}
+use Rattle.tape_core.specs.{Place.rest_of, Point.Point, Table.saved}
+use Rattle.tape_run.specs.{Reeling.HasNotedHere, Seen.seen, Seen.IfSeen, SessionState.SessionState}
+use Rattle.tape_run.proofs.Noting.{noted_here, true_map, within}
 use Rattle.tape_run.proofs.session.Session.is_noted.Goals as goal
 
 pub returns-in-Some-clause-yes : goal.returns-in-Some-clause-yes

@@ -1,76 +1,56 @@
-use Rattle.std.proofs.Common.{IfSome, [], sym, ap, subst, ◌∙◌, refl, rules}
+use Rattle.std.proofs.Common.{sym, ap, ◌∙◌, refl, rules, subst}
 use Rattle.std.specs.Prelude.{is_some}
-use Rattle.tape_core.specs.State.{State}
-use Rattle.tape_core.specs.Place.{rest_of}
-use Rattle.tape_core.specs.Weight.{IsFront}
-use Rattle.tape_run.specs.Given.{is_device, counted}
-use Rattle.tape_run.specs.ByTable.{IsCutAt}
-use Rattle.tape_run.specs.GoesBehind.{ReeledBehind, ReelFailsBehind}
-use Rattle.tape_run.specs.SessionState.{SessionState}
+use Rattle.tape_core.specs.{State.State, Place.rest_of}
+use Rattle.tape_run.specs.{Given.is_device, Given.counted, SessionState.SessionState}
+use Rattle.tape_run.specs.{ByTable.IsCutAt, GoesBehind.ReeledBehind, GoesBehind.ReelFailsBehind}
 use Rattle.tape_run.specs.declared.fault.RunFault.TheVariants.{Sink}
-use Rattle.tape_run.specs.Seen.{seen, IsKept, IfSeen, IsSeen}
+use Rattle.tape_run.proofs.Sessions.{some_at, want_none, reel_seen, still_seen}
 use Rattle.tape_run.proofs.GoesBehind.{not_read_behind, reeled_behind, behind_rest}
-use Rattle.tape_run.proofs.Sessions.{some_at, some_all, want_none, kept_grow, kept_place}
-use Rattle.tape_run.proofs.Notes.{front_self}
 use Rattle.tape_run.proofs.session.Session.reel_behind.Goals as goal
 
 pub returns-then-is_none-clause-ok : goal.returns-then-is_none-clause-ok
 returns-then-is_none-clause-ok g c =
-    let sink = g.S.PartSink in
-    let story : SessionState _ =
-    record {
-      core = c.self.inside.reel_reader.core;
-      sink = c.self.inside.reel_reader.sink;
-      notes = c.self.inside.notes.items;
-      failures = c.self.inside.failures;
-    } in
-    subst (λ z. IfSeen g.S.PartSink z (λ old. IsSeen g.S.PartSink z (λ new.
-    IsFront old.parts new.parts × (IsKept old → IsKept new)
-    × IfSome (g.R.Read.remaining c.args.device.now)
-    (λ bytes. ReeledBehind bytes (g.R.Read.remaining c.args.device.now)
-    (is_device c.new.result.fault) old new))))
-    c.self.view_is (λ held was.
     let finished = want_none _ (rest_of c.self.inside.reel_reader.core).position c.is_none.result
-    (ap is_some (sym c.want.ensures.value) ∙ c.is_none.ensures) c.if-is_none.true in (
-      held,
-      was,
-      (
-        front_self held,
-        (λ k. k),
-        some_all _ _ (λ bytes. not_read_behind bytes _ (seen sink story held)
-            c.self.inside.reel_reader.core (is_device c.new.result.fault)
-            (ap is_device c.new.ensures.fault) refl finished),
-      ),
-    ))
+    (ap is_some (sym c.want.ensures.value) ∙ c.is_none.ensures) c.if-is_none.true in
+    still_seen g.S.PartSink _ _ _ (λ bytes. ReeledBehind bytes
+    (g.R.Read.remaining c.args.device.now) (is_device c.new.result.fault)) c.self.view_is
+    (λ held bytes. not_read_behind bytes _ _ c.self.inside.reel_reader.core _
+    (ap is_device c.new.ensures.fault) refl finished)
 
 pub returns-in-Ok-read-clause-ok : goal.returns-in-Ok-read-clause-ok
 returns-in-Ok-read-clause-ok g c =
-    rw (← c.self.view_is) (λ held was.
-    let p = rest_of c.self.inside.reel_reader.core in
     let end = c.in-Ok-read.ensures in
+    let core = c.self.inside.reel_reader.core in
     let set_id = end.set_id ∙ ap (λ (z : State). z.set_id) c.mount_behind.ensures.same in
     let file = end.file ∙ ap (λ (z : State). z.file) c.mount_behind.ensures.same in
+    let new : SessionState _ =
+    record {
+      core = c.read-read.new.self.core;
+      sink = c.read-read.new.self.sink;
+      notes = c.self.inside.notes.items;
+      failures = c.counted-self-inside.result;
+    } in
+    reel_seen g.S.PartSink _ _ new _ (λ bytes. ReeledBehind bytes _
+    (is_device c.in-Ok-read.answer.fault)) c.self.view_is refl set_id file (λ held was.
     let (now, has, front, reads) = end.ok held was in (
       now,
       has,
-      (
-        front,
-        (λ k. kept_place p (rest_of c.read-read.new.self.core) [] c.self.inside.notes.items now
-            set_id file (kept_grow p [] c.self.inside.notes.items held now front k)),
-        some_at _ c.over-image.result.left _ _ c.over-image.ensures.unread
-            (λ bytes r. reeled_behind (is_device c.in-Ok-read.answer.fault)
-            c.mount_behind.new.self
-            c.read-read.new.self.core held now bytes _ _ p c.self.inside.notes.items
-            c.self.inside.failures c.counted-self-inside.result _ _ (search rules)
-            set_id file end.calm front
-            (c.counted-self-inside.ensures ∙ ap (λ b. counted b c.self.inside.failures)
-            c.is_device.ensures)
-            (c.mount_behind.ensures.table ∙ behind_rest c.self.inside.reel_reader.core) r) reads,
-      ),
+      front,
+      some_at _ c.over-image.result.left _ _ c.over-image.ensures.unread
+          (λ bytes r. reeled_behind (is_device c.in-Ok-read.answer.fault) c.mount_behind.new.self
+          c.read-read.new.self.core held now bytes _ _ (rest_of core) c.self.inside.notes.items
+          c.self.inside.failures c.counted-self-inside.result _ _ (search rules) set_id file
+          end.calm front (c.counted-self-inside.ensures
+          ∙ ap (λ b. counted b c.self.inside.failures) c.is_device.ensures)
+          (c.mount_behind.ensures.table ∙ behind_rest core) r) reads,
     ))
 
 pub returns-in-Err-clause-err : goal.returns-in-Err-clause-err
 returns-in-Err-clause-err g c =
+    let end = c.in-Err.ensures in
+    let core = c.self.inside.reel_reader.core in
+    let set_id = end.set_id ∙ ap (λ (z : State). z.set_id) c.mount_behind.ensures.same in
+    let file = end.file ∙ ap (λ (z : State). z.file) c.mount_behind.ensures.same in
     let new : SessionState _ =
     record {
       core = c.read-read.new.self.core;
@@ -78,33 +58,20 @@ returns-in-Err-clause-err g c =
       notes = c.self.inside.notes.items;
       failures = c.self.inside.failures;
     } in
-    subst (λ z. IfSeen g.S.PartSink z (λ old. IsSeen g.S.PartSink new (λ is.
-    IsFront old.parts is.parts × (IsKept old → IsKept is)
-    × IfSome (g.R.Read.remaining c.args.device.now)
-    (λ bytes. ReelFailsBehind bytes (Sink c.in-Err.cause) old is))))
-    c.self.view_is (λ held was.
-    let p = rest_of c.self.inside.reel_reader.core in
-    let end = c.in-Err.ensures in
-    let set_id = end.set_id ∙ ap (λ (z : State). z.set_id) c.mount_behind.ensures.same in
-    let file = end.file ∙ ap (λ (z : State). z.file) c.mount_behind.ensures.same in
-    let (now, has, front, refuses, cuts) = end.err held was in (
+    reel_seen g.S.PartSink _ _ new _ (λ bytes. ReelFailsBehind bytes (Sink c.in-Err.cause))
+    c.self.view_is refl set_id file (λ held was. let (now, has, front, cuts) = end.err held was in (
       now,
       has,
-      (
-        front,
-        (λ k. kept_place p (rest_of c.read-read.new.self.core) [] c.self.inside.notes.items now
-            set_id file (kept_grow p [] c.self.inside.notes.items held now front k)),
-        some_at _ c.over-image.result.left _ _ c.over-image.ensures.unread
-            (λ bytes t. record {
-              count = refl;
-              notes = refl;
-              same_set = set_id;
-              same_file = file;
-              grows = front;
-              table = λ xs end stop b. subst (λ (z : State). IsCutAt xs z
-                  (rest_of c.read-read.new.self.core) held now)
-                  (c.mount_behind.ensures.table ∙ behind_rest c.self.inside.reel_reader.core)
-                  (t xs end stop b);
-            }) cuts,
-      ),
+      front,
+      some_at _ c.over-image.result.left _ _ c.over-image.ensures.unread
+          (λ bytes t. record {
+            count = refl;
+            notes = refl;
+            same_set = set_id;
+            same_file = file;
+            grows = front;
+            table = λ xs end stop b. subst (λ (z : State). IsCutAt xs z
+                (rest_of c.read-read.new.self.core) held now)
+                (c.mount_behind.ensures.table ∙ behind_rest core) (t xs end stop b);
+          }) cuts,
     ))

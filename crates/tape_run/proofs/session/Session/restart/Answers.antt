@@ -1,10 +1,7 @@
-use Rattle.std.proofs.Common.{◌≡◌, Some, [], ap, subst, arith, slice_get, refl, inl, inr}
-use Rattle.std.proofs.lemmas.Grind.{common_steps}
-use Rattle.std.proofs.lemmas.Option.{gets}
+use Rattle.std.proofs.Common.{◌≡◌, Some, [], ap, subst, arith, slice_get, refl, inr}
+use Rattle.std.proofs.{lemmas.Grind.common_steps, lemmas.Option.gets}
 use Rattle.tape_core.specs.Place.{rest_of}
-use Rattle.tape_run.proofs.Causes.{refused_at}
-use Rattle.tape_run.proofs.Crashes.{cut_only}
-use Rattle.tape_run.proofs.Notes.{front_weighs}
+use Rattle.tape_run.proofs.{Crashes.cut_only, Notes.front_weighs}
 use Rattle.tape_run.proofs.Sessions.{goes_back, kept_at, session_of}
 use Rattle.tape_run.proofs.session.Session.restart.Goals as goal
 

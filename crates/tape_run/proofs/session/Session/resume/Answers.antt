@@ -1,4 +1,4 @@
-use Rattle.std.proofs.Common.{refl, ap, ◌∙◌}
+use Rattle.std.proofs.Common.{ap, ◌∙◌}
 use Rattle.tape_core.specs.Place.{rest_of}
 use Rattle.tape_run.proofs.Begin.{is_resumed}
 use Rattle.tape_run.proofs.session.Session.resume.Goals as goal

@@ -1,7 +1,8 @@
-use Rattle.std.proofs.Common.{◌≡◌, take, map}
-use Rattle.tape_run.specs.SurveyCompared.{copies_text}
+use Rattle.std.proofs.Common.{◌≡◌, ◌++◌, flat_map, map}
+use Rattle.tape_run.specs.SurveyCompared.{copy_text}
 use Rattle.tape_run.proofs.survey.compared.copies_text.Given as goal
 
-abbrev pub invariant-loop-place : goal.invariant-loop-place
-invariant-loop-place l = l.texts.items
-    ≡ copies_text l.wording (map (λ n. n.now) l.names) (take l.place l.notes.entries)
+abbrev pub invariant-loop-key : goal.invariant-loop-key
+invariant-loop-key l =
+    l.texts.items ++ flat_map (copy_text l.wording (map (λ n. n.now) l.names)) l.key-iterator
+    ≡ flat_map (copy_text l.wording (map (λ n. n.now) l.names)) l.notes.entries

@@ -1,5 +1,4 @@
-use Rattle.std.proofs.Common.{◌+◌, ◌-◌, arith}
-use Rattle.tape_run.proofs.SurveyTexts.{text_added, texts_all}
+use Rattle.tape_run.proofs.SurveyTexts.{text_added}
 use Rattle.tape_run.proofs.survey.texts.add_files.Goals as goal
 
 pub loop-before-preserved : goal.loop-before-preserved

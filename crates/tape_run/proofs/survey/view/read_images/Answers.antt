@@ -1,5 +1,4 @@
-use Rattle.std.proofs.Common.{arith}
-use Rattle.tape_run.proofs.UnpackedFiles.{views_none, views_more}
+use Rattle.tape_run.proofs.UnpackedFiles.{views_more}
 use Rattle.tape_run.proofs.survey.view.read_images.Goals as goal
 
 pub loop-number-preserved : goal.loop-number-preserved

@@ -1,17 +1,14 @@
 use Rattle.std.proofs.Common.{◌≡◌, ◌+◌, ◌++◌, Ok, ap, ◌∙◌, arith, refl, Option}
 use Rattle.tape_image.specs.Reader.{tape_item, ending_of}
 use Rattle.tape_image.proofs.Callers.{gave, met_end, met_fault, same_some}
-use Rattle.tape_label.specs.declared.values.Head1.{Head1}
-use Rattle.tape_run.specs.declared.passing.Phase.{Phase}
-use Rattle.tape_run.specs.declared.survey.glance.ImageSummary.{ImageSummary}
-use Rattle.tape_run.specs.Added.{stop_at}
-use Rattle.tape_run.specs.Passing.{Told, blocks_of, in_list}
-use Rattle.tape_run.specs.SurveyGlance.{damages_in}
-use Rattle.tape_run.specs.SurveyLocations.{with_location}
-use Rattle.tape_run.proofs.NotedSoFar.{one_block}
 use Rattle.tape_image.proofs.Steps.{least_four}
-use Rattle.tape_run.proofs.SurveyLooks.{looks_start, looks_more, labels_noted}
-use Rattle.tape_run.proofs.SurveyLooks.{viewed_end, viewed_fault}
+use Rattle.tape_label.specs.declared.values.Head1.{Head1}
+use Rattle.tape_run.specs.{declared.passing.Phase.Phase, Added.stop_at, SurveyGlance.damages_in}
+use Rattle.tape_run.specs.declared.survey.glance.ImageSummary.{ImageSummary}
+use Rattle.tape_run.specs.Passing.{Told, blocks_of, in_list}
+use Rattle.tape_run.specs.SurveyLocations.{with_location}
+use Rattle.tape_run.proofs.SurveyLooks.{looks_start, looks_more, labels_noted, viewed_end}
+use Rattle.tape_run.proofs.{NotedSoFar.one_block, SurveyLooks.viewed_fault}
 use Rattle.tape_run.proofs.survey.view.view_items.Goals as goal
 
 pub items-init : goal.items-init

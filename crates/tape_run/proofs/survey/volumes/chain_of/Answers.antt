@@ -1,5 +1,4 @@
-use Rattle.std.proofs.Common.{◌+◌, ◌-◌, arith}
-use Rattle.tape_run.proofs.SurveyChain.{file_linked, files_over}
+use Rattle.tape_run.proofs.SurveyChain.{file_linked}
 use Rattle.tape_run.proofs.survey.volumes.chain_of.Goals as goal
 
 pub loop-before-preserved : goal.loop-before-preserved

@@ -1,6 +1,5 @@
-use Rattle.std.proofs.Common.{subst}
+use Rattle.std.proofs.{Common.subst, KnownBytes.Appends-trans}
 use Rattle.std.specs.Io.KnownBytes.{Appends}
-use Rattle.std.proofs.KnownBytes.{Appends-trans}
 use Rattle.tape_image.specs.Written.{AppendsFront}
 use Rattle.tape_image.proofs.Pieces.{on_err, front_more, front_behind}
 use Rattle.tape_run.specs.SalvageEnds.{open_text, unsure_text}

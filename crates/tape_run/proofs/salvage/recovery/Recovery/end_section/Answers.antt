@@ -1,10 +1,8 @@
-use Rattle.std.proofs.Common.{subst}
+use Rattle.std.proofs.{Common.subst, KnownBytes.Appends-trans}
 use Rattle.std.specs.Io.KnownBytes.{Appends}
-use Rattle.std.proofs.KnownBytes.{Appends-trans}
 use Rattle.tape_image.specs.Written.{AppendsFront}
 use Rattle.tape_image.proofs.Pieces.{on_err, front_more, front_behind}
-use Rattle.tape_run.specs.SalvageBlocks.{gap_text}
-use Rattle.tape_run.specs.SalvageEnds.{without_gap}
+use Rattle.tape_run.specs.{SalvageBlocks.gap_text, SalvageEnds.without_gap}
 use Rattle.tape_run.proofs.salvage.recovery.Recovery.end_section.Goals as goal
 
 pub returns-clause-ok : goal.returns-clause-ok

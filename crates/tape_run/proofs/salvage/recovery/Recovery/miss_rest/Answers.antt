@@ -1,6 +1,5 @@
-use Rattle.std.proofs.Common.{◌≡◌, ap, subst, ◌∙◌}
+use Rattle.std.proofs.{Common.◌≡◌, Common.ap, Common.subst, Common.◌∙◌, KnownBytes.Appends-trans}
 use Rattle.std.specs.Io.KnownBytes.{Appends}
-use Rattle.std.proofs.KnownBytes.{Appends-trans}
 use Rattle.tape_image.specs.Written.{AppendsFront}
 use Rattle.tape_image.proofs.Pieces.{on_err, front_more, front_behind}
 use Rattle.tape_run.specs.SalvageLine.{open_gap_line}

@@ -4,8 +4,7 @@ use Rattle.tape_image.specs.Written.{AppendsFront}
 use Rattle.tape_image.proofs.Pieces.{on_err, front_more, front_behind}
 use Rattle.tape_blocks.specs.declared.check.BlockFault.{BlockFault}
 use Rattle.tape_run.specs.SalvageBlocks.{gap_text, torn_text, refused_text}
-use Rattle.tape_run.proofs.Fitting.{whole_text}
-use Rattle.tape_run.proofs.SalvageOne.{three_texts}
+use Rattle.tape_run.proofs.{Fitting.whole_text, SalvageOne.three_texts}
 use Rattle.tape_run.proofs.salvage.recovery.Recovery.take_block.Goals as goal
 
 gap_is : (sect n : ℕ) (o p : Option ℕ) (r s : ℕ) → o ≡ p → r ≡ s
