@@ -231,7 +231,7 @@ def usage(name):
 def defaults(name):
     """The default values of a command's options, as its help shows them."""
     found = re.findall(r'Word\(\s*"([\w-]+)",\s*Kind::\w+Option\([^()]*&\["(\w+)"\]\)',
-                       read(SOURCE, words_of(name)))
+                       read(SOURCE, "words.rt") + read(SOURCE, words_of(name)))
     return {"--" + option: f" [default: {value}]" for option, value in found}
 
 
@@ -287,7 +287,8 @@ def tidied(lines):
 
 def words_of_source():
     """Each argument of the commands with the name of its text, as in the sources."""
-    parts = [("command_line.rt",), *((words_of(name),) for name in COMMANDS if name != "compare")]
+    parts = [("command_line.rt",), ("words.rt",),
+             *((words_of(name),) for name in COMMANDS if name != "compare")]
     source = "".join(read(SOURCE, *part) for part in parts)
     rows = re.findall(r'Word\(\s*"([^"]+)",\s*Kind::(\w+).*?help::(\w+)', source, re.S)
     options = ("Flag", "FlagOf", "TextOption", "TextOptions", "NumberOption", "NameOption")

@@ -26,6 +26,9 @@ SINGLE = {"NO_IMAGE": ("`image fault 1`, `2` or `3` `at 0`", ""),
           "A_FOLDER": ("`image fault 5`", "a directory"),
           "MERGED_TOO_LONG": ("`image fault 4`", "`merge`, `compare`")}
 
+# The number of the error of each kind for which the explanation is NO_MEMORY.
+MEMORY = {"IMAGE": 6, "WRITE": 10, "RUN": 4, "STAGE": 4}
+
 # The lists of explanations of file faults: the file.
 FILES = {"FILE_OF_IMAGE": "an image to be read", "FILE_OF_LIST": "a list of images",
          "FILE_OF_OUT": "OUT of `extract`, `stage` or `salvage`", "FILE_OF_NEW": "OUT of `merge`",
@@ -50,26 +53,29 @@ def usage(name):
 
 
 def explanations():
-    """The texts of --explain: single ones, and lists with None for numbers that the program never prints."""
+    """The texts of --explain: single ones, and lists by the number of the error."""
     source = "".join(man.read(man.SOURCE, *part) for part in (("explain.rt",), ("explain", "files.rt")))
     string = r'"(?:[^"\\]|\\.)*"'
     single = {name: man.unescaped(text[1:-1]) for name, text in
               re.findall(rf"const (\w+): &str =\s*({string});", source, re.S)}
-    lists = {}
-    for name, body in re.findall(r"const (\w+): &\[&str\] = &\[(.*?)\n\];", source, re.S):
-        items = re.findall(rf"{string}|\b[A-Z_]+\b", body, re.S)
-        lists[name] = [None if item == "NEVER" else single[item] if item in single
-                       else man.unescaped(item[1:-1]) for item in items]
+    lists = {name: {int(number): text for number, text in
+                    (item.split("  ", 1) for item in body.split("\n#")[1:])}
+             for name, body in single.items() if body.startswith("\n#")}
+    for name, number in MEMORY.items():
+        lists[name][number] = single["NO_MEMORY"]
     return single, lists
 
 
 def misfits():
     """The texts of --explain that do not fit on a screen: each has one to three lines of at most 79 columns."""
-    source = "".join(man.read(man.SOURCE, *part)
-                     for part in (("explain.rt",), ("explain", "files.rt"), ("explain", "missing.rt")))
-    for text in re.findall(r'"(  (?:[^"\\{]|\\.)*)"', source, re.S):
-        lines = man.unescaped(text).split("\n")
-        if lines[-1] or len(lines) > 4 or not all(it.startswith("  ") and len(it) <= 79 for it in lines[:-1]):
+    single, lists = explanations()
+    missing = re.findall(r'"([A-Z](?:[^"\\{]|\\.)*\n(?:[^"\\{]|\\.)*)"',
+                         man.read(man.SOURCE, "explain", "missing.rt"), re.S)
+    texts = [*map(man.unescaped, missing), *(text for name, text in single.items() if name not in lists),
+             *(text for texts in lists.values() for text in texts.values())]
+    for text in texts:
+        lines = ("  " + text).split("\n")
+        if len(lines) > 3 or not all(it.startswith("  ") and len(it) <= 79 for it in lines):
             yield text
 
 
@@ -82,9 +88,9 @@ def errors():
     rows = [(error, file, single[name]) for name, (error, file) in SINGLE.items()]
     for name, error in KINDS.items():
         rows += [(f"`{error.format(number)}`", "", text)
-                 for number, text in enumerate(lists[name], 1) if text]
+                 for number, text in sorted(lists[name].items())]
     for name, file in FILES.items():
-        rows += [(f"`file fault {number}`", file, text) for number, text in enumerate(lists[name], 1) if text]
+        rows += [(f"`file fault {number}`", file, text) for number, text in sorted(lists[name].items())]
     return "\n".join(["| Error | Of | Explanation |", "|---|---|---|",
                       *(f"| {error} | {file} | {cell(text)} |" for error, file, text in rows)]) + "\n"
 

@@ -3,13 +3,12 @@ use Rattle.std.proofs.Common.{◌≡◌, ◌⊎◌, ⊎_elim, inl, inr, refl, ap
 use Rattle.std.proofs.Common.{ℕ, zero, suc, ◌<◌, List, [], ◌∷◌, length, get_or}
 use Rattle.std.proofs.{lemmas.List.get_or_past, lemmas.List.Splits.join_with_byte-slice_split}
 use Rattle.std.specs.Fmt.{digits}
-use Rattle.tape_stage.specs.declared.disk.Disk.{Ghosts}
+use Rattle.tape_stage.specs.{declared.disk.Disk.Ghosts, Staged.new_slots}
 use Rattle.tape_stage.proofs.Once.{staged_once}
 use Rattle.tape_tool.specs.Cases.{CasesOfEnds, CasesOfFaults, CasesOfLines, CasesOfNames}
-use Rattle.tape_tool.specs.Cases.{CasesOfStaging}
+use Rattle.tape_tool.specs.{Cases.CasesOfStaging, Ends.exit_status, Ends.IsWrongWords}
 use Rattle.tape_tool.specs.declared.program.End.TheVariants.{Done, Incomplete}
-use Rattle.tape_tool.specs.{Ends.exit_status, Ends.IsWrongWords, Names.end_byte, Names.names_in}
-use Rattle.tape_stage.specs.Staged.{new_slots}
+use Rattle.tape_tool.specs.Names.{end_byte, names_in}
 use Rattle.tape_tool.specs.Staging.{IsOfFile, IsUnmade, first_point}
 use Rattle.tape_tool.proofs.Unmade.{unmade_nil}
 

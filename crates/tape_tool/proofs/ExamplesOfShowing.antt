@@ -2,22 +2,19 @@
 use Rattle.std.proofs.Common.{◌≡◌, ◌≢◌, ◌⊎◌, Bool, true, false, List, ℕ, Option, None, refl, inl}
 use Rattle.std.proofs.Common.{inr, sym, subst}
 use Rattle.std.specs.{Fmt.digits, Io.KnownBytes.Keeps}
-use Rattle.tape_blocks.specs.declared.parts.Form.{Form}
+use Rattle.tape_blocks.specs.{declared.parts.Form.Form, Block.Portion}
 use Rattle.tape_run.specs.declared.fault.RunFault.{RunFault}
-use Rattle.tape_stage.specs.Faults.{OnBadFrame, SaysNone}
-use Rattle.tape_stage.specs.{Found.IsFaultOf, Salvaged.Remains, Staged.HoldsNone}
-use Rattle.tape_blocks.specs.Block.{Portion}
-use Rattle.tape_core.specs.Point.{Point}
-use Rattle.tape_stage.specs.declared.stage.StageFault.{StageFault}
 use Rattle.tape_stage.specs.declared.stage.StageFault.TheVariants.{BadFrame, Device, Failed, Full}
+use Rattle.tape_stage.specs.{Faults.OnBadFrame, Faults.SaysNone, Found.IsFaultOf, Salvaged.Remains}
+use Rattle.tape_stage.specs.{Staged.HoldsNone, declared.stage.StageFault.StageFault}
 use Rattle.tape_stage.specs.declared.stage.StageFault.TheVariants.{OutOfMemory, NoPoint}
+use Rattle.tape_core.specs.Point.{Point}
 use Rattle.tape_writer.specs.declared.system.fault.FileFault.{FileFault}
 use Rattle.tape_writer.specs.declared.system.fault.FileFault.TheVariants.{WriteFailed}
-use Rattle.tape_tool.specs.declared.fault.ToolFault.{ToolFault}
-use Rattle.tape_tool.specs.declared.fault.ToolFault.TheVariants.{File, Run, Stage}
 use Rattle.tape_tool.specs.StageReport.{unopened, in_part, in_lines, in_records, GivesFront}
-use Rattle.tape_tool.specs.StageReport.{StopsShowing}
-use Rattle.tape_tool.specs.declared.stage.ending.StageEnding.{StageEnding}
+use Rattle.tape_tool.specs.{declared.fault.ToolFault.ToolFault, StageReport.StopsShowing}
+use Rattle.tape_tool.specs.declared.fault.ToolFault.TheVariants.{File, Run, Stage}
+use Rattle.tape_tool.specs.declared.stage.show.StageEnding.{StageEnding}
 use Rattle.tape_tool.specs.CasesOfShowing.{CasesOfShowing, StopSays, StoppedOnlyBy}
 
 stopped : (read : List ℕ) (damaged : Bool) (form : Option Form)

@@ -2,16 +2,15 @@
 use Rattle.std.proofs.Common.{◌≡◌, ◌<◌, ◌≤◌, ℕ, List, length, Some, None, refl, sym, ap, ◌∙◌, inl}
 use Rattle.std.proofs.Common.{inr, arith, codes, lit<}
 use Rattle.std.specs.Fmt.{digits}
-use Rattle.clap.specs.Words.{kind_of}
-use Rattle.clap.specs.declared.{error.Error.Error, error.kind.ErrorKind.ErrorKind}
 use Rattle.clap.specs.declared.error.kind.ErrorKind.TheVariants.{DisplayHelp, OutOfMemory}
+use Rattle.clap.specs.{Words.kind_of, declared.error.Error.Error}
+use Rattle.clap.specs.declared.error.kind.ErrorKind.{ErrorKind}
 use Rattle.clap.specs.declared.error.kind.ErrorKind.TheVariants.{ValueValidation}
 use Rattle.tape_label.specs.declared.values.Format.{Format}
 use Rattle.tape_label.specs.declared.values.Format.TheVariants.{Fixed, Counted, Spanned}
 use Rattle.tape_blocks.specs.declared.parts.Form.{Form}
 use Rattle.tape_blocks.specs.declared.parts.Form.TheVariants.{Lines, Raw}
-use Rattle.tape_tool.specs.declared.write.words.WriteOrder.{WriteOrder}
-use Rattle.tape_tool.specs.CasesOfWords.{CasesOfWords}
+use Rattle.tape_tool.specs.{declared.write.words.WriteOrder.WriteOrder, CasesOfWords.CasesOfWords}
 use Rattle.tape_tool.specs.Words.{IsAtOdds, IsMistake, IsNoSet, IsSize}
 use Rattle.tape_tool.proofs.Sizing.{letter_found, size_is}
 

@@ -6,7 +6,7 @@ use Rattle.std.proofs.Math.Nat.{min-eq_left}
 use Rattle.tape_set.specs.declared.position.Want.{Want}
 use Rattle.tape_stage.specs.Staged.{Staged}
 use Rattle.tape_tool.specs.declared.program.End.TheVariants as ends
-use Rattle.tape_tool.specs.declared.stage.ending.StageEnding.TheVariants as endings
+use Rattle.tape_tool.specs.declared.stage.show.StageEnding.TheVariants as endings
 use Rattle.tape_tool.specs.{Ends.exit_status, Staging.IsOfFile, Staging.IsUnmade}
 use Rattle.tape_tool.proofs.program.End.status.Reads as status
 use Rattle.tape_tool.proofs.program.stage_end.Reads as stage_end

@@ -1,7 +1,6 @@
 -- Wrong answers that the contract of `all_names` excludes.
 use Rattle.std.proofs.Common.{◌≡◌, ℕ, List, [], ◌++◌, length, map, Bool, false, sym, ap, ◌∙◌, arith}
-use Rattle.std.proofs.Common.{codes, Ok}
-use Rattle.std.proofs.lemmas.List.{length-map}
+use Rattle.std.proofs.{Common.codes, Common.Ok, lemmas.List.length-map}
 use Rattle.tape_tool.specs.Names.{names_in}
 use Rattle.tape_tool.proofs.images.all_names.Reads as all_names
 

@@ -2,8 +2,7 @@
 use Rattle.std.proofs.Common.{◌≡◌, ◌⊎◌, inl, inr, ◌<◌, ◌≤◌, ◌*◌, ◌^◌, ◌++◌, ◌∷◌, ℕ, List, [], drop}
 use Rattle.std.proofs.Common.{cond, refl, sym, ap, subst, ◌∙◌, arith, append-nil, Bool, true, false}
 use Rattle.std.proofs.Common.{le-mul_of_pos_right, lt_of_le_of_lt, Option, Some, None, IfNone, ◌==◌}
-use Rattle.std.proofs.Common.{SomeIff}
-use Rattle.std.proofs.lemmas.List.{same_from_push}
+use Rattle.std.proofs.{Common.SomeIff, lemmas.List.same_from_push}
 use Rattle.std.specs.Str.Parse.{IsNumeral, AllDigits, digits_value, without_leading_plus}
 use Rattle.std.specs.Char.{digit_value}
 use Rattle.tape_tool.specs.Words.{IsUnit, IsSize, EndsInLetter}

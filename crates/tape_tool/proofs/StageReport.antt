@@ -1,15 +1,12 @@
 -- The text that is written and printed for a stage, put together.
-use Rattle.std.proofs.Common.{◌≡◌, ℕ, List, Bool, false, length, refl, subst}
-use Rattle.std.proofs.Common.{Option, None}
+use Rattle.std.proofs.Common.{◌≡◌, ℕ, List, Bool, false, length, refl, subst, Option, None}
 use Rattle.std.specs.Io.KnownBytes.{Appends}
-use Rattle.tape_blocks.specs.{Block.Portion, Spans.join}
-use Rattle.tape_blocks.specs.declared.parts.Form.{Form}
+use Rattle.tape_blocks.specs.{Block.Portion, Spans.join, declared.parts.Form.Form}
 use Rattle.tape_core.specs.Point.{Point}
 use Rattle.tape_image.specs.Written.{AppendsFront}
 use Rattle.tape_stage.specs.Salvaged.{Remains}
-use Rattle.tape_tool.specs.declared.stage.ending.StageEnding.{StageEnding}
 use Rattle.tape_tool.specs.StageReport.{GivesFront, Shows, ending_of, in_lines, output_in}
-use Rattle.tape_tool.specs.StageReport.{told_with}
+use Rattle.tape_tool.specs.{declared.stage.show.StageEnding.StageEnding, StageReport.told_with}
 use Rattle.tape_tool.specs.declared.fault.ToolFault.TheVariants.{File}
 use Rattle.tape_writer.specs.declared.system.fault.FileFault.TheVariants.{WriteFailed}
 use Rattle.tape_stage.proofs.Remaining.{whole_staged}

@@ -1,9 +1,8 @@
 -- Examples for the definitions of ends, faults, lines, names and sessions over stages, which show
 -- that none of them is too weak or too strict. They are the contract of the call `laws::cases`.
-use Rattle.std.specs.Prelude.{◌≡◌, ℕ, Bool, true, false, List, [], ◌∷◌, map, replicate}
-use Rattle.std.specs.Prelude.{codes, Option, Some, None, Ok, Err}
-use Rattle.std.specs.Borrow.{Bor}
-use Rattle.std.specs.List.{join_with_byte}
+use Rattle.std.specs.Prelude.{◌≡◌, ℕ, Bool, true, false, List, [], ◌∷◌, map, replicate, codes}
+use Rattle.std.specs.Prelude.{Option, Some, None, Ok, Err}
+use Rattle.std.specs.{Borrow.Bor, List.join_with_byte}
 use Rattle.clap.specs.declared.error.kind.ErrorKind.TheVariants as kinds
 use Rattle.std.specs.declared.io.ErrorKind.TheVariants as io_kinds
 use Rattle.tape_image.specs.declared.item.ImageFault.{ImageFault}
@@ -12,43 +11,34 @@ use Rattle.tape_label.specs.declared.label.LabelFault.TheVariants as labels
 use Rattle.tape_blocks.specs.Block.{Portion}
 use Rattle.tape_set.specs.declared.position.Want.{Want}
 use Rattle.tape_set.specs.declared.position.Position.TheVariants.{Awaits}
-use Rattle.tape_core.specs.Place.{place_of, rest_of}
-use Rattle.tape_core.specs.Point.{Point}
-use Rattle.tape_writer.specs.declared.fault.WriteFault.{WriteFault}
-use Rattle.tape_writer.specs.declared.fault.WriteFault.TheVariants as writes
-use Rattle.tape_writer.specs.declared.system.fault.FileFault.{FileFault}
+use Rattle.tape_core.specs.{Place.place_of, Place.rest_of, Point.Point}
 use Rattle.tape_writer.specs.declared.system.fault.FileFault.TheVariants.{Exists, NotOpened}
-use Rattle.tape_writer.specs.declared.system.fault.FileFault.TheVariants.{ReadFailed}
-use Rattle.tape_writer.specs.declared.system.fault.FileFault.TheVariants.{WriteFailed}
+use Rattle.tape_writer.specs.declared.fault.WriteFault.{WriteFault}
+use Rattle.tape_writer.specs.declared.system.fault.FileFault.{FileFault}
+use Rattle.tape_writer.specs.declared.system.fault.FileFault.TheVariants.{ReadFailed, WriteFailed}
+use Rattle.tape_writer.specs.declared.fault.WriteFault.TheVariants as writes
 use Rattle.tape_writer.specs.declared.system.fault.SystemFault.TheVariants as system
-use Rattle.tape_run.specs.declared.fault.RunFault.{RunFault}
+use Rattle.tape_run.specs.{declared.fault.RunFault.RunFault, SessionState.SessionState}
 use Rattle.tape_run.specs.declared.fault.RunFault.TheVariants as runs
 use Rattle.tape_run.specs.declared.fault.EngineFault.TheVariants as engine
 use Rattle.tape_run.specs.declared.fault.ListFault.TheVariants as list
-use Rattle.tape_run.specs.SessionState.{SessionState}
-use Rattle.tape_stage.specs.Found.{IsBadPlace}
-use Rattle.tape_stage.specs.Salvaged.{Remains, RemainsNone}
+use Rattle.tape_stage.specs.{Found.IsBadPlace, Salvaged.Remains, Salvaged.RemainsNone}
 use Rattle.tape_stage.specs.Staged.{Staged, HoldsNone, Holding}
-use Rattle.tape_stage.specs.Stages.{Returns, Returned}
-use Rattle.tape_stage.specs.declared.disk.Disk.{Ghosts}
+use Rattle.tape_stage.specs.{Stages.Returns, Stages.Returned, declared.disk.Disk.Ghosts}
 use Rattle.tape_stage.specs.declared.stage.Stage.{Stage}
 use Rattle.tape_stage.specs.declared.stage.StageFault.TheVariants as stages
-use Rattle.tape_tool.specs.declared.program.End.{End}
-use Rattle.tape_tool.specs.declared.program.End.TheVariants.{Done, Faulted, WrongWords, Incomplete}
-use Rattle.tape_tool.specs.declared.fault.ToolFault.{ToolFault}
 use Rattle.tape_tool.specs.declared.fault.ToolFault.TheVariants.{Image, Label, Write, File, Run}
+use Rattle.tape_tool.specs.Ends.{exit_status, end_of, check_end, extract_end, help_end, words_end}
+use Rattle.tape_tool.specs.Fault.{file_number, write_number, no_memory, of_system, of_engine}
+use Rattle.tape_tool.specs.Staging.{IsOfFile, first_point, StandsAt, GoesOn, Says, IsUnopened}
+use Rattle.tape_tool.specs.{declared.program.End.End, declared.fault.ToolFault.ToolFault}
+use Rattle.tape_tool.specs.declared.program.End.TheVariants.{Done, Faulted, WrongWords, Incomplete}
 use Rattle.tape_tool.specs.declared.fault.ToolFault.TheVariants.{Stage as OfStage, StageInUse}
+use Rattle.tape_tool.specs.{Ends.no_words_end, Ends.IsRefusalEnd, Fault.of_list, Report.report}
+use Rattle.tape_tool.specs.{Names.end_byte, Names.pieces_of, Names.names_in, Diagnostics.fault_line}
+use Rattle.tape_tool.specs.Staging.{FailsBy, IsUnmade, RefusesBeginning}
 use Rattle.tape_tool.specs.declared.staging.StagingFault.TheVariants as staging
 use Rattle.tape_tool.specs.declared.refusal.Refusal.TheVariants as unfits
-use Rattle.tape_tool.specs.Ends.{exit_status, end_of, check_end, extract_end, help_end, words_end}
-use Rattle.tape_tool.specs.Ends.{no_words_end, IsRefusalEnd}
-use Rattle.tape_tool.specs.Fault.{file_number, write_number, no_memory, of_system, of_engine}
-use Rattle.tape_tool.specs.Fault.{of_list}
-use Rattle.tape_tool.specs.Names.{end_byte, pieces_of, names_in}
-use Rattle.tape_tool.specs.Report.{report}
-use Rattle.tape_tool.specs.Staging.{IsOfFile, first_point, StandsAt, GoesOn, Says, IsUnopened}
-use Rattle.tape_tool.specs.Staging.{FailsBy, IsUnmade, RefusesBeginning}
-use Rattle.tape_tool.specs.Diagnostics.{fault_line}
 
 -- how runs end
 pub record CasesOfEnds : Type 0 where

@@ -1,33 +1,24 @@
 -- Examples for the definitions of `stage`, which show that none of them is too weak.
-use Rattle.std.specs.Prelude.{◌≡◌, ◌≢◌, ◌⊎◌, ℕ, Bool, true, false, List, [], length}
-use Rattle.std.specs.Prelude.{Option, Some, None, Ok, Err}
-use Rattle.std.specs.Prelude.{codes}
+use Rattle.std.specs.Prelude.{◌≡◌, ◌≢◌, ◌⊎◌, ℕ, Bool, true, false, List, [], length, Option, Some}
+use Rattle.std.specs.Prelude.{None, Ok, Err, codes}
 use Rattle.std.specs.Io.KnownBytes.{Appends, Keeps}
-use Rattle.tape_blocks.specs.Block.{Portion}
-use Rattle.tape_blocks.specs.Spans.{join}
-use Rattle.tape_blocks.specs.declared.parts.Form.{Form}
-use Rattle.tape_set.specs.declared.position.Want.{Want}
-use Rattle.tape_set.specs.declared.position.Position.{Position}
+use Rattle.tape_blocks.specs.{Block.Portion, Spans.join, declared.parts.Form.Form}
+use Rattle.tape_set.specs.{declared.position.Want.Want, declared.position.Position.Position}
 use Rattle.tape_set.specs.declared.position.Position.TheVariants.{Awaits, Finished}
 use Rattle.tape_core.specs.Point.{Point}
 use Rattle.tape_image.specs.Written.{AppendsFront}
-use Rattle.tape_run.specs.RecordText.{output_of}
-use Rattle.tape_stage.specs.Faults.{OnBadFrame, SaysNone}
-use Rattle.tape_stage.specs.Found.{IsFaultOf}
-use Rattle.tape_stage.specs.Salvaged.{Remains}
-use Rattle.tape_stage.specs.Staged.{Staged, HoldsNone}
-use Rattle.tape_stage.specs.declared.stage.StageFault.{StageFault}
+use Rattle.tape_run.specs.{RecordText.output_of, declared.fault.RunFault.RunFault}
 use Rattle.tape_stage.specs.declared.stage.StageFault.TheVariants.{Device, Failed, Full}
+use Rattle.tape_stage.specs.{Faults.OnBadFrame, Faults.SaysNone, Found.IsFaultOf, Salvaged.Remains}
+use Rattle.tape_stage.specs.{Staged.Staged, Staged.HoldsNone, declared.stage.StageFault.StageFault}
 use Rattle.tape_stage.specs.declared.stage.StageFault.TheVariants.{OutOfMemory}
-use Rattle.tape_run.specs.declared.fault.RunFault.{RunFault}
 use Rattle.tape_writer.specs.declared.system.fault.FileFault.{FileFault}
 use Rattle.tape_writer.specs.declared.system.fault.FileFault.TheVariants.{WriteFailed}
 use Rattle.tape_tool.specs.declared.program.End.TheVariants.{Done, Faulted, Incomplete}
-use Rattle.tape_tool.specs.declared.fault.ToolFault.{ToolFault}
+use Rattle.tape_tool.specs.{declared.fault.ToolFault.ToolFault, Ends.stage_end}
 use Rattle.tape_tool.specs.declared.fault.ToolFault.TheVariants.{File, Run, Stage}
-use Rattle.tape_tool.specs.declared.stage.ending.StageEnding.{StageEnding}
-use Rattle.tape_tool.specs.declared.stage.ending.StageEnding.TheVariants.{Whole, Broken}
-use Rattle.tape_tool.specs.Ends.{stage_end}
+use Rattle.tape_tool.specs.declared.stage.show.StageEnding.{StageEnding}
+use Rattle.tape_tool.specs.declared.stage.show.StageEnding.TheVariants.{Whole, Broken}
 use Rattle.tape_tool.specs.StageReport.{ending_of, output_in, told_with, Shows, StopsShowing}
 
 -- both lines, for a stage that is damaged there or intact

@@ -1,8 +1,7 @@
 -- Examples for the definitions of values in the arguments of a command line.
 use Rattle.std.specs.Prelude.{◌≡◌, ℕ, Some, None, codes}
-use Rattle.clap.specs.Words.{kind_of}
-use Rattle.clap.specs.declared.error.Error.{Error}
 use Rattle.clap.specs.declared.error.kind.ErrorKind.TheVariants.{DisplayHelp, OutOfMemory}
+use Rattle.clap.specs.{Words.kind_of, declared.error.Error.Error}
 use Rattle.clap.specs.declared.error.kind.ErrorKind.TheVariants.{ValueValidation}
 use Rattle.tape_label.specs.declared.values.Format.TheVariants.{Fixed, Counted, Spanned}
 use Rattle.tape_blocks.specs.declared.parts.Form.TheVariants.{Lines, Raw}

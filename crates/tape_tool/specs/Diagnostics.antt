@@ -1,12 +1,11 @@
 -- The line that reports a fault.
 use Rattle.std.specs.Prelude.{ℕ, List, ◌++◌, codes, decimal}
-use Rattle.tape_image.specs.declared.item.ImageFault.{ImageFault}
-use Rattle.tape_image.specs.Fault.{number_of}
+use Rattle.tape_image.specs.{declared.item.ImageFault.ImageFault, Fault.number_of}
 use Rattle.tape_label.specs.Faults.{number}
 use Rattle.tape_run.specs.Fault as run_faults
 use Rattle.tape_stage.specs.Faults as stage_faults
-use Rattle.tape_tool.specs.declared.fault.ToolFault.{ToolFault}
 use Rattle.tape_tool.specs.declared.fault.ToolFault.TheVariants.{Image, Label, Write, File, Run}
+use Rattle.tape_tool.specs.declared.fault.ToolFault.{ToolFault}
 use Rattle.tape_tool.specs.declared.fault.ToolFault.TheVariants.{Stage, StageInUse}
 use Rattle.tape_tool.specs.Fault.{file_number, write_number}
 

@@ -6,16 +6,14 @@ use Rattle.std.specs.declared.io.ErrorKind as io_error
 use Rattle.std.specs.declared.io.ErrorKind.TheVariants as io_kinds
 use Rattle.tape_set.specs.declared.position.Want.{Want}
 use Rattle.tape_run.specs.declared.fault.EngineFault.{EngineFault}
-use Rattle.tape_tool.specs.declared.program.End.{End}
+use Rattle.tape_tool.specs.{declared.program.End.End, declared.fault.ToolFault.ToolFault}
 use Rattle.tape_tool.specs.declared.program.End.TheVariants.{Done, Faulted, WrongWords, Incomplete}
-use Rattle.tape_writer.specs.declared.system.fault.FileFault.TheVariants.{WriteFailed}
-use Rattle.tape_tool.specs.declared.fault.ToolFault.{ToolFault}
 use Rattle.tape_tool.specs.declared.fault.ToolFault.TheVariants.{File}
-use Rattle.tape_tool.specs.declared.stage.ending.StageEnding.{StageEnding}
-use Rattle.tape_tool.specs.declared.stage.ending.StageEnding.TheVariants.{Whole, Broken}
-use Rattle.tape_tool.specs.declared.refusal.Refusal.{Refusal}
+use Rattle.tape_tool.specs.declared.stage.show.StageEnding.{StageEnding}
+use Rattle.tape_tool.specs.declared.stage.show.StageEnding.TheVariants.{Whole, Broken}
+use Rattle.tape_tool.specs.{declared.refusal.Refusal.Refusal, Fault.no_memory, Fault.of_engine}
+use Rattle.tape_writer.specs.declared.system.fault.FileFault.TheVariants.{WriteFailed}
 use Rattle.tape_tool.specs.declared.refusal.Refusal.TheVariants as unfits
-use Rattle.tape_tool.specs.Fault.{no_memory, of_engine}
 
 -- the exit status of each end
 abbrev pub exit_status : End → ℕ

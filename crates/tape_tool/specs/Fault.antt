@@ -1,18 +1,17 @@
 -- The fixed numbers of faults, and how those of the libraries are reported.
 use Rattle.std.specs.Prelude.{ℕ}
+use Rattle.tape_writer.specs.declared.system.fault.FileFault.TheVariants.{Exists, NotOpened}
 use Rattle.tape_writer.specs.declared.fault.WriteFault.{WriteFault}
-use Rattle.tape_writer.specs.declared.fault.WriteFault.TheVariants as writes
 use Rattle.tape_writer.specs.declared.system.fault.SystemFault.{SystemFault}
+use Rattle.tape_writer.specs.declared.system.fault.FileFault.{FileFault}
+use Rattle.tape_writer.specs.declared.system.fault.FileFault.TheVariants.{ReadFailed, WriteFailed}
+use Rattle.tape_writer.specs.declared.fault.WriteFault.TheVariants as writes
 use Rattle.tape_writer.specs.declared.system.fault.SystemFault.TheVariants as system
 use Rattle.tape_run.specs.declared.fault.EngineFault.{EngineFault}
-use Rattle.tape_run.specs.declared.fault.EngineFault.TheVariants as engine
 use Rattle.tape_run.specs.declared.fault.RunFault.TheVariants.{OutOfMemory}
 use Rattle.tape_run.specs.declared.fault.ListFault.{ListFault}
+use Rattle.tape_run.specs.declared.fault.EngineFault.TheVariants as engine
 use Rattle.tape_run.specs.declared.fault.ListFault.TheVariants as list
-use Rattle.tape_writer.specs.declared.system.fault.FileFault.{FileFault}
-use Rattle.tape_writer.specs.declared.system.fault.FileFault.TheVariants.{Exists, NotOpened}
-use Rattle.tape_writer.specs.declared.system.fault.FileFault.TheVariants.{ReadFailed}
-use Rattle.tape_writer.specs.declared.system.fault.FileFault.TheVariants.{WriteFailed}
 use Rattle.tape_tool.specs.declared.fault.ToolFault.{ToolFault}
 use Rattle.tape_tool.specs.declared.fault.ToolFault.TheVariants.{Image, Write, File, Run}
 

@@ -1,11 +1,9 @@
 -- What the program does if the system refuses something.
-use Rattle.std.specs.Prelude.{Bool, true, false, not, Result, Ok, Err}
-use Rattle.std.specs.declared.io.ErrorKind.{ErrorKind}
 use Rattle.std.specs.declared.io.ErrorKind.TheVariants.{NotFound, PermissionDenied}
+use Rattle.std.specs.Prelude.{Bool, true, false, not, Result, Ok, Err}
+use Rattle.std.specs.{declared.io.ErrorKind.ErrorKind, declared.fs.locks.TryLockError.TryLockError}
 use Rattle.std.specs.declared.io.ErrorKind.TheVariants.{ReadOnlyFilesystem}
-use Rattle.std.specs.declared.fs.locks.TryLockError.{TryLockError}
-use Rattle.tape_writer.specs.Answers.{locked_of}
-use Rattle.tape_writer.specs.declared.system.answers.LockFault.{LockFault}
+use Rattle.tape_writer.specs.{Answers.locked_of, declared.system.answers.LockFault.LockFault}
 use Rattle.tape_writer.specs.declared.system.answers.LockFault.TheVariants.{InUse, Failed}
 use Rattle.tape_writer.specs.declared.system.fault.FileFault.TheVariants.{NotOpened}
 use Rattle.tape_tool.specs.declared.fault.ToolFault.{ToolFault}

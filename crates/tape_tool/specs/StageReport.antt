@@ -1,27 +1,20 @@
 -- The lines of `stage`, and the records that it writes.
-use Rattle.std.specs.Prelude.{◌≡◌, ◌≢◌, ◌⊎◌, ℕ, List, [], ◌++◌, length, Option, Some, None}
-use Rattle.std.specs.Prelude.{Bool, false, codes, decimal}
+use Rattle.std.specs.Prelude.{◌≡◌, ◌≢◌, ◌⊎◌, ℕ, List, [], ◌++◌, length, Option, Some, None, Bool}
+use Rattle.std.specs.Prelude.{false, codes, decimal}
 use Rattle.std.specs.Io.KnownBytes.{Appends, Keeps}
-use Rattle.tape_blocks.specs.Block.{Portion}
-use Rattle.tape_blocks.specs.Spans.{join}
-use Rattle.tape_blocks.specs.declared.parts.Form.{Form}
+use Rattle.tape_blocks.specs.{Block.Portion, Spans.join, declared.parts.Form.Form}
 use Rattle.tape_set.specs.Position.{want_at}
 use Rattle.tape_core.specs.Point.{Point}
-use Rattle.tape_run.specs.Identifier.{identifier_text}
+use Rattle.tape_run.specs.{Identifier.identifier_text, RecordText.output_of, ReelLine.last_line}
 use Rattle.tape_image.specs.Written.{AppendsFront}
-use Rattle.tape_run.specs.RecordText.{output_of}
-use Rattle.tape_run.specs.ReelLine.{last_line}
-use Rattle.tape_stage.specs.Faults.{OnBadFrame, SaysNone}
-use Rattle.tape_stage.specs.Found.{IsFaultOf}
-use Rattle.tape_stage.specs.Salvaged.{Remains}
-use Rattle.tape_stage.specs.Staged.{Staged, HoldsNone}
-use Rattle.tape_stage.specs.declared.stage.StageFault.{StageFault}
+use Rattle.tape_stage.specs.{Faults.OnBadFrame, Faults.SaysNone, Found.IsFaultOf, Salvaged.Remains}
+use Rattle.tape_stage.specs.{Staged.Staged, Staged.HoldsNone, declared.stage.StageFault.StageFault}
 use Rattle.tape_stage.specs.declared.stage.StageFault.TheVariants.{Device, Failed, Full}
 use Rattle.tape_writer.specs.declared.system.fault.FileFault.TheVariants.{WriteFailed}
 use Rattle.tape_tool.specs.declared.fault.ToolFault.{ToolFault}
 use Rattle.tape_tool.specs.declared.fault.ToolFault.TheVariants.{File, Stage}
-use Rattle.tape_tool.specs.declared.stage.ending.StageEnding.{StageEnding}
-use Rattle.tape_tool.specs.declared.stage.ending.StageEnding.TheVariants.{Whole, Broken}
+use Rattle.tape_tool.specs.declared.stage.show.StageEnding.{StageEnding}
+use Rattle.tape_tool.specs.declared.stage.show.StageEnding.TheVariants.{Whole, Broken}
 
 -- the file of a checkpoint, and how many complete records are staged before it
 abbrev pub stage_line : Point → ℕ → List ℕ

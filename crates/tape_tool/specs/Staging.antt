@@ -1,23 +1,15 @@
 -- Sessions over a stage.
 use Rattle.std.specs.Prelude.{◌≡◌, ◌≤◌, ◌⊎◌, ℕ, List, get_or, length}
 use Rattle.tape_blocks.specs.Block.{Portion}
-use Rattle.tape_core.specs.Crash.{OnlyThis}
-use Rattle.tape_core.specs.Point.{Point}
-use Rattle.tape_core.specs.Table.{saved, reader_of}
-use Rattle.tape_core.specs.declared.sink.PartSink as sinks
-use Rattle.tape_run.specs.CrashRuns.{IsResumed}
-use Rattle.tape_run.specs.Seen.{seen}
-use Rattle.tape_run.specs.SessionState.{SessionState}
+use Rattle.tape_core.specs.{Crash.OnlyThis, Point.Point, Table.saved, Table.reader_of, Weight.Rose}
 use Rattle.tape_core.specs.Known.{IsFileNumber}
-use Rattle.tape_core.specs.Weight.{Rose}
-use Rattle.tape_stage.specs.Faults.{SaysNone, IsNotDevice}
-use Rattle.tape_stage.specs.Found.{IsFaultOf}
-use Rattle.tape_stage.specs.Salvaged.{RemainsNone}
-use Rattle.tape_stage.specs.Moments.{Untouched}
-use Rattle.tape_stage.specs.Staged.{Staged, HoldsNone, KeepsStaged, new_slots}
+use Rattle.tape_core.specs.declared.sink.PartSink as sinks
+use Rattle.tape_run.specs.{CrashRuns.IsResumed, Seen.seen, SessionState.SessionState}
 use Rattle.tape_stage.specs.Stages.{Holds, Returns, Survives, Returned, Survived, crashes_of}
+use Rattle.tape_stage.specs.{Faults.SaysNone, Faults.IsNotDevice, Found.IsFaultOf}
+use Rattle.tape_stage.specs.{Salvaged.RemainsNone, Moments.Untouched, declared.disk.Disk.Ghosts}
+use Rattle.tape_stage.specs.Staged.{Staged, HoldsNone, KeepsStaged, new_slots}
 use Rattle.tape_stage.specs.Stages.{OpensOver, RefusesCreating, RefusesChange}
-use Rattle.tape_stage.specs.declared.disk.Disk.{Ghosts}
 use Rattle.tape_stage.specs.declared.stage.Stage.{Stage}
 use Rattle.tape_stage.specs.declared.stage.StageFault.TheVariants.{Device, Failed, Full}
 use Rattle.tape_tool.specs.declared.staging.StagingFault.{StagingFault}

@@ -2,9 +2,8 @@
 -- its path.
 use Rattle.std.specs.Prelude.{◌≡◌, ◌≢◌, ◌⊎◌, ℕ, ◌-◌, min, Bool, true, List, codes, replicate}
 use Rattle.std.specs.Prelude.{Option, Some, None}
-use Rattle.tape_label.specs.declared.values.Format.{Format}
+use Rattle.tape_label.specs.{declared.values.Format.Format, declared.values.Head1.Head1}
 use Rattle.tape_label.specs.declared.values.Format.TheVariants.{Fixed, Counted, Spanned}
-use Rattle.tape_label.specs.declared.values.Head1.{Head1}
 
 -- The record length: the number that was specified. Without one it is, with D, the greatest that
 -- fits into a block, at most 9,999, and otherwise 0.

@@ -44,11 +44,13 @@ pub fn check<'a, R: Progress>(
     site: &mut FaultSite<'a>,
 ) -> Result<End, Refusal> {
     let mut text = String::new(rt.alloc());
-    let names = names_of(rt, named, &mut text, site)?;
+    let names = names_of(rt.host(), named, &mut text, site)?;
     let names = names.as_slice();
     *site = FaultSite::Lines;
     let mut report = BufWriter::new(rt.alloc(), io::writer(rt)).map_err(|_| AllocError)?;
-    let images = &mut Images::or_input(rt, names, named);
+    let images = &mut Images::new(rt, names);
+    // In a list, `-` is the name of a file.
+    images.input = named.words.iter().position(|word| *word == "-");
     Ok(check_end(match wording {
         None => check_to(rt.alloc(), images, &mut report),
         Some(wording) => survey_to(rt.alloc(), images, names, wording, &mut report),

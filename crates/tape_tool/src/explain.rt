@@ -2,7 +2,7 @@
 mod files;
 mod missing;
 
-use crate::fault::{FileFault, ToolFault, number_of_file, number_of_write};
+use crate::fault::{FileFault, OUT_OF_MEMORY, ToolFault, number_of_file, number_of_write};
 use crate::shown::Shown;
 use crate::write::run::split;
 use files::{
@@ -16,8 +16,9 @@ use std::rt::Runtime;
 use std::{fmt, fs, io};
 use tape_image::ImageCause;
 use tape_run::RunFault;
-use tape_writer::Prefix;
+use tape_stage::StageFault;
 use tape_writer::system::folder_of;
+use tape_writer::{Prefix, WriteFault};
 
 /// The file or stream that the program was working on when a fault occurred, as far as it is known.
 #[derive(Clone, Copy, PartialEq, Eq)]
@@ -72,7 +73,7 @@ impl fmt::Display for FaultSite<'_> {
 
 impl<'a> FaultSite<'a> {
     /// Returns the kind of the site, the name of the file, and the explanations of file faults.
-    fn described(&self) -> (&'static str, &'a str, &'static [&'static str]) {
+    fn described(&self) -> (&'static str, &'a str, &'static str) {
         match *self {
             FaultSite::Unknown => ("", "", FILE_OF_IMAGES),
             FaultSite::Lines => ("Output", "standard output", FILE_OF_LINES),
@@ -128,7 +129,7 @@ impl fmt::Display for Explanation<'_> {
             }
             f.write_str("\n")?;
         }
-        f.write_str(text)
+        write!(f, "  {text}\n")
     }
 }
 
@@ -181,10 +182,14 @@ fn text_of(fault: ToolFault, site: FaultSite<'_>) -> &'static str {
         ToolFault::Image(_) if matches!(site, FaultSite::New(_) | FaultSite::Lines) =>
             MERGED_TOO_LONG,
         ToolFault::Image(fault) => match fault.cause {
+            ImageCause::OutOfMemory => NO_MEMORY,
             ImageCause::Truncated | ImageCause::LengthsDiffer | ImageCause::Reserved(_)
                 if fault.place == 0 => NO_IMAGE,
             cause => nth(IMAGE, cause.number()),
         },
+        OUT_OF_MEMORY
+        | ToolFault::Write(WriteFault::OutOfMemory)
+        | ToolFault::Stage(StageFault::OutOfMemory) => NO_MEMORY,
         ToolFault::Label(fault) => nth(LABEL, fault.number()),
         ToolFault::Write(fault) => nth(WRITE, number_of_write(fault)),
         ToolFault::File(fault) => nth(site.described().2, number_of_file(fault)),
@@ -194,134 +199,92 @@ fn text_of(fault: ToolFault, site: FaultSite<'_>) -> &'static str {
     }
 }
 
-/// Returns the explanation of fault number `number`, counted from 1.
-fn nth(texts: &'static [&'static str], number: u8) -> &'static str {
-    match texts.get(usize::from(number).saturating_sub(1)) {
-        Some(text) => *text,
-        None => NEVER,
+/// Returns the explanation of fault number `number` among `texts`, each of which follows a `#` and
+/// the fault's number.
+fn nth(texts: &'static str, number: u8) -> &'static str {
+    for text in texts.split("\n#") {
+        if let Some((digits, text)) = text.split_once("  ")
+            && digits.parse::<u8>().is_ok_and(|digits| digits == number)
+        {
+            return text;
+        }
     }
+    NEVER
 }
 
 /// The stage of the file for which `unpack` failed, described by the line about that file.
 const STAGE_OF_FAILED: &str = "the path reported as FAILED, with .stage after it";
 
-// The texts for each kind of fault, in order of fault number.
+// The texts for each kind of fault: see `nth`.
 
 /// The explanation of faults that the program never reports.
-const NEVER: &str = "  This should never happen: it is a bug in tape.
-  CONTRIBUTING.md says what to include in a report.
-";
+const NEVER: &str = "This should never happen: it is a bug in tape.
+  CONTRIBUTING.md says what to include in a report.";
 
-const NO_MEMORY: &str = "  Out of memory. What was written before it remains.
-  Close other programs and try again.
-";
+const NO_MEMORY: &str = "Out of memory. What was written before it remains.
+  Close other programs and try again.";
 
-const NO_IMAGE: &str = "  This does not look like a .tap image. Nothing was listed.
-  Is it compressed (try 'zcat NAME | tape list'), or a different kind of file?
-";
+const NO_IMAGE: &str = "This does not look like a .tap image. Nothing was listed.
+  Is it compressed (try 'zcat NAME | tape list'), or a different kind of file?";
 
-const A_FOLDER: &str = "  This is a directory, not an image. Nothing was listed.
-  Name an image in it.
-";
+const A_FOLDER: &str = "This is a directory, not an image. Nothing was listed.
+  Name an image in it.";
 
 const MERGED_TOO_LONG: &str =
-    "  The merged image would have more than 4,294,967,295 bytes. Nothing was
-  created. Leave out an image whose good blocks replace short bad ones.
-";
+    "The merged image would have more than 4,294,967,295 bytes. Nothing was
+  created. Leave out an image whose good blocks replace short bad ones.";
 
-const IMAGE: &[&str] = &[
-    "  The image ends in the middle of a block: it was cut off. All items before
+const IMAGE: &str = "
+#1  The image ends in the middle of a block: it was cut off. All items before
   that block were listed. Copy the image again from its source, or use
   'extract' with this and other copies.
-",
-    "  The lengths before and after a block differ: the image is damaged, or remains
+#2  The lengths before and after a block differ: the image is damaged, or remains
   of an older recording follow the end. All items before that were listed.
   Copy the image again, or use 'extract' with other copies too.
-",
-    "  The bytes there are not a record length: the image is damaged, or remains of
+#3  The bytes there are not a record length: the image is damaged, or remains of
   an older recording follow the end. All items before that were listed.
   Copy the image again, or use 'extract' with other copies too.
-",
-    "  The image is longer than 4,294,967,295 bytes; tape reads no further.
+#4  The image is longer than 4,294,967,295 bytes; tape reads no further.
   All items before that were listed.
-",
-    "  The image could not be read there: is it a directory, or is the disk failing?
+#5  The image could not be read there: is it a directory, or is the disk failing?
   All items before that, if any, were listed.
-  If the disk is failing, copy the image to another disk and use the copy.
-",
-    NO_MEMORY,
-];
+  If the disk is failing, copy the image to another disk and use the copy.";
 
-const LABEL: &[&str] = &[
-    NEVER,
-    NEVER,
-    NEVER,
-    NEVER,
-    NEVER,
-    "  The ID contains a character that labels do not allow. Nothing was written.
+const LABEL: &str = "
+#6  The ID contains a character that labels do not allow. Nothing was written.
   Allowed: A to Z, 0 to 9, space and ! \" % & ' ( ) * + , - . / : ; < = > ? _
-",
-    "  The ID is longer than 17 characters. Nothing was written.
-  Shorten the part before the '='.
-",
-];
+#7  The ID is longer than 17 characters. Nothing was written.
+  Shorten the part before the '='.";
 
-const WRITE: &[&str] = &[
-    NEVER,
-    "  These block and record lengths are not possible. Nothing was written.
+const WRITE: &str = "
+#2  These block and record lengths are not possible. Nothing was written.
   'tape write --help' gives the ranges of --block, --record and --offset.
-",
-    "  CAPACITY is less than the block length plus 1,024 bytes. Nothing was written.
+#3  CAPACITY is less than the block length plus 1,024 bytes. Nothing was written.
   With the default --block of 2048 it must be at least 3072.
-",
-    "  A record is too long or, with --format F, not as long as --record says.
+#4  A record is too long or, with --format F, not as long as --record says.
   Remove the images that were started; they are no longer blank. Then increase
   --block and --record, or use --format S, which has no limit.
-",
-    NEVER,
-    NEVER,
-    "  The set does not fit on 256 volumes. Those written so far remain.
+#7  The set does not fit on 256 volumes. Those written so far remain.
   Remove them, and increase CAPACITY or write fewer files.
-",
-    "  A set can have at most 9,999 files: split it into several sets.
-  Remove the images that were started; they are no longer blank.
-",
-    NEVER,
-    NO_MEMORY,
-    NEVER,
-    NEVER,
-];
+#8  A set can have at most 9,999 files: split it into several sets.
+  Remove the images that were started; they are no longer blank.";
 
-const RUN: &[&str] = &[
-    "  The recovered data could not be saved: out of memory, or the disk is full or
+const RUN: &str = "
+#1  The recovered data could not be saved: out of memory, or the disk is full or
   failing. Data saved in the stage earlier is safe. Free some space and run it
   again; if the disk is failing, continue with a copy of the stage.
-",
-    NEVER,
-    NEVER,
-    NO_MEMORY,
-    "  This stage belongs to another file or set; it was not changed.
-  Give the SET and FILE it belongs to, or name another stage.
-",
-];
+#5  This stage belongs to another file or set; it was not changed.
+  Give the SET and FILE it belongs to, or name another stage.";
 
-const STAGE: &[&str] = &[
-    "  This is not a stage, and it was not changed. Is the name right?
+const STAGE: &str = "
+#1  This is not a stage, and it was not changed. Is the name right?
   A file of at most 256 bytes may come from a first run that was interrupted:
   it contains no data and can be deleted.
-",
-    "  The stage was damaged by another program; it was not changed.
+#2  The stage was damaged by another program; it was not changed.
   Use an older copy or start a new stage. 'tape stage --damaged' recovers the
   records before the damage.
-",
-    "  The stage could not be read or written: the disk is full or failing.
+#3  The stage could not be read or written: the disk is full or failing.
   Data saved earlier is safe. Free some space and run it again; if the disk is
   failing, continue with a copy of the stage.
-",
-    NO_MEMORY,
-    NEVER,
-    NEVER,
-    "  Another run is using this stage. It was neither read nor changed.
-  Wait until that run has finished.
-",
-];
+#7  Another run is using this stage. It was neither read nor changed.
+  Wait until that run has finished.";

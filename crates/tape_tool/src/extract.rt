@@ -13,7 +13,7 @@ use crate::program::{End, end_of, extract_end};
 use crate::refusal::Refusal;
 use crate::screen::{Host, Progress};
 use crate::staging::session_in;
-use crate::words::{FORMS, form_of, named, number_of, out_of, set_id_of, text_of};
+use crate::words::{FORM, form_of, named, number_of, out_of, set_id_of, text_of};
 use clap::ArgMatches;
 pub use draft::{Draft, OutName};
 pub use out::{Way, way_to_out};
@@ -64,11 +64,7 @@ pub const EXTRACT: &CommandSpec = &CommandSpec {
         Word("IMAGE", Kind::AnyTexts, help::REELS),
         Word("files-from", Kind::TextOption("LIST"), help::FROM),
         Word("null", Kind::FlagOf("files-from"), help::NULL),
-        Word(
-            "form",
-            Kind::NameOption("FORM", FORMS, &["lines"]),
-            help::FORM_OF_OUT,
-        ),
+        FORM,
         Word("stage", Kind::TextOption("PATH"), help::STAGE),
         Word("again", Kind::Flag, help::AGAIN),
     ],
@@ -103,10 +99,10 @@ pub fn extract<'a, R: Progress>(
 ) -> Result<End, Refusal> {
     let task = &order.task;
     let mut text = String::new(rt.alloc());
-    let named = names_of(rt, &order.images, &mut text, site)?;
+    let named = names_of(rt.host(), &order.images, &mut text, site)?;
     *site = FaultSite::Out(task.out);
     let named = named.as_slice();
-    let way = way_to_out(rt, task.out, task.stage, order.images.list, named)?;
+    let way = way_to_out(rt.host(), task.out, task.stage, order.images.list, named)?;
     let names = names_to_read(rt, task, named)?;
     let images = &mut Images::new(rt, names.as_slice());
     if explained {
@@ -115,7 +111,7 @@ pub fn extract<'a, R: Progress>(
     let Some(path) = task.stage else {
         return Ok(extract_now(rt, task, images, way)?);
     };
-    let mut session = match session_in(rt, path, task.set_id, task.file) {
+    let mut session = match session_in(rt.host(), path, task.set_id, task.file) {
         Ok(session) => session,
         Err(fault) => {
             *site = FaultSite::Stage(path);
@@ -137,7 +133,7 @@ fn names_to_read<'n, R: Progress>(
     task: &Task<'_>,
     names: &'n [&'n str],
 ) -> Result<Vec<&'n str>, ToolFault> {
-    if task.again && names.len() > 1 && are_files(rt, names) {
+    if task.again && names.len() > 1 && are_files(rt.host(), names) {
         let met = find_files(rt.alloc(), &mut Images::new(rt, names))?;
         return Ok(in_reading_order(rt.alloc(), names, &met, (task.set_id, task.file))?);
     }
@@ -146,14 +142,7 @@ fn names_to_read<'n, R: Progress>(
 
 /// Returns whether each of these is a plain file, or does not exist: only these can be read twice.
 pub fn are_files<R: Host>(rt: &R, names: &[&str]) -> bool {
-    for name in names {
-        if let Ok(found) = fs::metadata(rt, *name) {
-            if !found.is_file() {
-                return false;
-            }
-        }
-    }
-    true
+    names.iter().all(|name| fs::metadata(rt, *name).map_or(true, |found| found.is_file()))
 }
 
 /// Recovers a file without a stage. If the images are read once, writes the records as they are
@@ -197,13 +186,10 @@ fn session_into<F: Write + Drop>(
     task: &Task<'_>,
     file: F,
 ) -> Result<Session<OutSink<BufWriter<F>>>, End> {
-    let Ok(out) = BufWriter::with_capacity(alloc, HELD, file) else {
-        return Err(End::Faulted(OUT_OF_MEMORY));
-    };
-    match Session::new(alloc, task.set_id, task.file, OutSink::new(out, task.form)) {
-        Ok(session) => Ok(session),
-        Err(_) => Err(End::WrongWords),
-    }
+    let out = BufWriter::with_capacity(alloc, HELD, file).map_err(|_| End::Faulted(OUT_OF_MEMORY))?;
+    Session::new(alloc, task.set_id, task.file, OutSink::new(out, task.form)).map_err(
+        |_| End::WrongWords,
+    )
 }
 
 /// Returns how the run ends: a part that could not be stored is a record that could not be written.

@@ -2,8 +2,7 @@
 ghost use Rattle.std.specs.Prelude.{◌≡◌, Some};
 ghost use Rattle.tape_writer.specs.declared.system.fault.FileFault.TheVariants as files;
 ghost use Rattle.tape_tool.specs.Fault.{file_number, write_number, of_system, of_engine, of_list};
-ghost use Rattle.tape_tool.specs.Fault.{no_memory};
-ghost use Rattle.tape_tool.specs.Diagnostics.{fault_line};
+ghost use Rattle.tape_tool.specs.{Fault.no_memory, Diagnostics.fault_line};
 ghost use Rattle.tape_tool.specs.declared.fault.ToolFault.TheVariants.{File, Run};
 
 use std::alloc::AllocError;

@@ -1,4 +1,4 @@
-//! The texts of help, and of usage errors that the program finds itself.
+//! The texts of help, and of most usage errors that the program finds itself.
 mod created;
 mod recovered;
 
@@ -159,14 +159,8 @@ pub const TOO_MANY_TO_SURVEY: &str =
     "survey takes up to 256 IMAGEs, and any number of names from a list:
   find . -name '*.tap' -print0 | tape survey --files-from - --null";
 
-pub const NO_IMAGE: &str = "name at least one image, or a list of names with --files-from";
-
-pub const EMPTY_LIST: &str = "the list contains no image names";
-
 pub const INPUT_TWICE: &str = "standard input can be read only once: '-' is named twice.
 A file of this name is './-'";
-
-pub const NUL_IN_LINES: &str = "the names in the list end with NUL: add --null";
 
 pub const ODD_LINES: &str = "the lines of the list end with a carriage return too, or it begins
 with a byte order mark, as lists of Windows do: make another one by

@@ -1,7 +1,6 @@
 //! The images that arguments and lists name, opened one at a time.
 
-ghost use Rattle.std.specs.Prelude.{⊤, length, ◌≡◌, ◌++◌, map, filter_map, slice_get, true};
-ghost use Rattle.std.specs.Prelude.{IfOk, IfSome};
+ghost use Rattle.std.specs.Prelude.{⊤, length, ◌≡◌, ◌++◌, map, filter_map, slice_get, true, IfOk};
 ghost use Rattle.tape_run.specs.ReadingOrder.{reading_order};
 ghost use Rattle.tape_tool.specs.Names.{end_byte, names_in};
 
@@ -17,8 +16,7 @@ use std::fs::File;
 use std::io;
 use std::io::{ErrorKind, Read};
 use tape_label::Field;
-use tape_run::{FoundFiles, ImageSource, is_passed};
-use tape_set::Want;
+use tape_run::{FoundFiles, ImageSource};
 
 /// The source of the names of a run's images.
 #[derive(Drop)]
@@ -60,8 +58,8 @@ pub fn names_of<'t, 'a: 't, R: Host>(
     let names = all_names(rt.alloc(), named.words.as_slice(), text.as_str(), null)?;
     if names.is_empty() {
         return Err(Refusal::Words(match named.list {
-            None => help::NO_IMAGE,
-            Some(_) => help::EMPTY_LIST,
+            None => "name at least one image, or a list of names with --files-from",
+            Some(_) => "the list contains no image names",
         }));
     }
     Ok(names)
@@ -69,10 +67,14 @@ pub fn names_of<'t, 'a: 't, R: Host>(
 
 /// Returns the text of a list.
 fn read_list<R: Host>(rt: &R, list: List<'_>) -> Result<String, Refusal> {
-    let bytes = match list.file {
-        None => read_all(rt.alloc(), &mut rt.reader())?,
-        Some(path) => read_all(rt.alloc(), &mut open(rt, path)?)?,
-    };
+    let mut bytes = Vec::new(rt.alloc());
+    match InputBytes::open(rt, list.file)?.read_to_end(&mut bytes) {
+        Ok(_) => {}
+        Err(error) if error.kind() == ErrorKind::OutOfMemory => {
+            return Err(Refusal::from(AllocError));
+        }
+        Err(_) => return Err(Refusal::from(FileFault::ReadFailed)),
+    }
     let text = match String::from_utf8(bytes) {
         Ok(text) => text,
         Err(error) => {
@@ -90,24 +92,11 @@ fn read_list<R: Host>(rt: &R, list: List<'_>) -> Result<String, Refusal> {
         Ok(text)
     } else if lines.contains('\0') {
         // No file name contains a NUL.
-        Err(Refusal::Words(help::NUL_IN_LINES))
+        Err(Refusal::Words("the names in the list end with NUL: add --null"))
     } else if lines.starts_with('\u{FEFF}') || lines.contains("\r\n") || lines.ends_with('\r') {
         Err(Refusal::Words(help::ODD_LINES))
     } else {
         Ok(text)
-    }
-}
-
-/// Reads the rest of `device`.
-fn read_all<D: Read>(alloc: Global, device: &mut D) -> Result<Vec<u8>, Refusal>
-    ensures { IfOk result (λ bytes.
-        IfSome (D.remaining device.old) (λ left. bytes.items ≡ left)) }
-{
-    let mut bytes = Vec::new(alloc);
-    match device.read_to_end(&mut bytes) {
-        Ok(_) => Ok(bytes),
-        Err(error) if error.kind() == ErrorKind::OutOfMemory => Err(Refusal::from(AllocError)),
-        Err(_) => Err(Refusal::from(FileFault::ReadFailed)),
     }
 }
 
@@ -160,51 +149,35 @@ pub fn in_reading_order<'n>(
     Ok(order)
 }
 
-/// Returns the names of the images that may have parts of a file from `want` on, in the order in
-/// which they are read: those of its set, without those that have only an earlier section of it.
-pub fn names_from<'n>(
-    alloc: Global,
-    names: &[&'n str],
-    met: &FoundFiles,
-    set_id: Field<6>,
-    want: Want,
-) -> Result<Vec<&'n str>, AllocError> {
-    let numbers = met.reading_order(alloc, set_id, want.file, false)?;
-    let images = met.images.as_slice();
-    let mut order = Vec::new(alloc);
-    for number in numbers.as_slice() {
-        if images
-            .get(*number)
-            .is_some_and(|image| is_passed(image, want))
-        {
-            continue;
-        }
-        if let Some(name) = names.get(*number) {
-            order.push(*name)?;
-        }
-    }
-    Ok(order)
-}
-
-/// The bytes of an image: those of a file, or standard input.
+/// The bytes of an image or a list: those of a file, or standard input.
 #[derive(Drop)]
-pub enum ImageBytes<R: Host> {
+pub enum InputBytes<R: Host> {
     Named(File),
     Input(R::Reader),
 }
 
-impl<R: Host> Read for ImageBytes<R> {
+impl<R: Host> InputBytes<R> {
+    /// Opens the file at `path`, or standard input if that is `None`.
+    pub fn open(rt: &R, path: Option<&str>) -> Result<InputBytes<R>, FileFault> {
+        Ok(match path {
+            None => InputBytes::Input(rt.reader()),
+            Some(path) => InputBytes::Named(open(rt, path)?),
+        })
+    }
+}
+
+impl<R: Host> Read for InputBytes<R> {
     fn read(&mut self, buf: &mut [u8]) -> io::Result<usize> {
         match self {
-            ImageBytes::Named(file) => file.read(buf),
-            ImageBytes::Input(reader) => reader.read(buf),
+            InputBytes::Named(file) => file.read(buf),
+            InputBytes::Input(reader) => reader.read(buf),
         }
     }
 }
 
-/// The bytes of an image. As they are read, the system shows how many that were.
+/// The bytes of an image. As they are read, the screen shows how many that were.
 #[derive(Drop)]
-pub struct Watched<R, I> {
+pub struct Watched<R: Progress> {
     rt: R,
     /// The number of the image, counted from 1.
     image: usize,
@@ -212,12 +185,10 @@ pub struct Watched<R, I> {
     count: usize,
     /// The number of bytes that were read.
     bytes: u64,
-    inner: I,
+    inner: InputBytes<R::System>,
 }
 
-impl<R: Progress, I: Read> Read for Watched<R, I> {
-    ghost remaining = { λ watched. I.remaining watched.inner };
-
+impl<R: Progress> Read for Watched<R> {
     fn read(&mut self, buf: &mut [u8]) -> io::Result<usize> {
         let read = self.inner.read(buf);
         if let Ok(bytes) = &read {
@@ -229,7 +200,7 @@ impl<R: Progress, I: Read> Read for Watched<R, I> {
 }
 
 /// An open image, with a read buffer.
-pub type Image<R> = ReadAhead<Watched<R, ImageBytes<R>>>;
+pub type Image<R> = ReadAhead<Watched<R>>;
 
 /// Returns image `number`, counted from 0, of `count` images, with a read buffer.
 ///
@@ -240,7 +211,7 @@ pub fn image_of<R: Progress>(
     rt: &R,
     number: usize,
     count: usize,
-    bytes: ImageBytes<R>,
+    bytes: InputBytes<R::System>,
 ) -> Result<Image<R>, AllocError> {
     let watched = Watched {
         rt: rt.clone()?,
@@ -259,7 +230,7 @@ pub struct Images<'a, R> {
     rt: &'a R,
     names: &'a [&'a str],
     /// The number of the image that is standard input, if any.
-    input: Option<usize>,
+    pub input: Option<usize>,
     /// How many images were mounted, if each is named on standard error when it is mounted, with
     /// its number in the lines of `extract`.
     pub reels: Option<u64>,
@@ -273,16 +244,6 @@ impl<'a, R: Progress> Images<'a, R> {
             names,
             input: None,
             reels: None,
-        }
-    }
-
-    /// Creates the source of the images named `names`, which begin with the arguments `named`. The
-    /// first `-` among the arguments means standard input; in a list it is the name of a file.
-    pub fn or_input(rt: &'a R, names: &'a [&'a str], named: &Named<'_>) -> Images<'a, R> {
-        let input = named.words.iter().position(|word| *word == "-");
-        Images {
-            input,
-            ..Images::new(rt, names)
         }
     }
 }
@@ -300,17 +261,10 @@ impl<'a, R: Progress> ImageSource<Image<R>> for Images<'a, R> {
         let Some(name) = self.names.get(number) else {
             return Ok(None);
         };
-        let bytes = if self.input == Some(number) {
-            Some(ImageBytes::Input(self.rt.reader()))
-        } else {
-            match open(self.rt, *name) {
-                Ok(file) => Some(ImageBytes::Named(file)),
-                Err(_) => None,
-            }
-        };
-        let image = match bytes {
-            Some(bytes) => Some(image_of(self.rt, number, self.names.len(), bytes)?),
-            None => None,
+        let path = Some(*name).filter(|_| self.input != Some(number));
+        let image = match InputBytes::open(self.rt.host(), path) {
+            Ok(bytes) => Some(image_of(self.rt, number, self.names.len(), bytes)?),
+            Err(_) => None,
         };
         if let Some(reels) = self.reels {
             let reel = reels.saturating_add(1);

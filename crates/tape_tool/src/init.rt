@@ -5,7 +5,7 @@ use crate::explain::FaultSite;
 use crate::fault::ToolFault;
 use crate::help;
 use crate::refusal::Refusal;
-use crate::screen::Host;
+use crate::screen::Progress;
 use crate::words::{folder_of, number_of, prefix_of};
 use clap::ArgMatches;
 use std::io;
@@ -41,7 +41,7 @@ pub fn init_order<'a>(matches: &ArgMatches<'a>) -> Result<InitOrder<'a>, Refusal
 }
 
 /// Creates the images one by one, and prints their number. On error, `site` says where it occurred.
-pub fn init<'a, R: Host>(
+pub fn init<'a, R: Progress>(
     rt: &R,
     order: &InitOrder<'a>,
     site: &mut FaultSite<'a>,
@@ -49,7 +49,7 @@ pub fn init<'a, R: Host>(
     for number in 1..=order.count {
         *site = FaultSite::Volume(order.folder, order.prefix, number);
         let path = image_path(rt.alloc(), order.folder, order.prefix, number)?;
-        make_image(rt, path.as_str(), order.prefix, number)?;
+        make_image(rt.host(), path.as_str(), order.prefix, number)?;
     }
     *site = FaultSite::Lines;
     let line = format!(in rt.alloc(); "INIT {}\n", order.count)?;

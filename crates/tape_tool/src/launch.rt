@@ -29,11 +29,7 @@ pub fn keep_numbers<R: Host>(rt: &R) -> Result<Vec<File>, ToolFault> {
         // accepts no bytes and returns none takes its place.
         match File::open(rt, "/").or_else(|_| File::open(rt, "/dev/null")) {
             Ok(file) if file.as_raw_fd() > LAST => break,
-            Ok(file) => {
-                if kept.push(file).is_err() {
-                    return Err(OUT_OF_MEMORY);
-                }
-            }
+            Ok(file) => kept.push(file).map_err(|_| OUT_OF_MEMORY)?,
             // No number is free, so no other file can get one of these.
             Err(error) if error.raw_os_error() == Some(EMFILE) => break,
             Err(_) => return Err(ToolFault::File(FileFault::NotOpened)),

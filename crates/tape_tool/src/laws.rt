@@ -1,10 +1,8 @@
 //! Examples for the definitions, proved as the contract of a function that does nothing.
 
 ghost use Rattle.tape_tool.specs.Cases.{CasesOfEnds, CasesOfFaults, CasesOfLines, CasesOfNames};
-ghost use Rattle.tape_tool.specs.Cases.{CasesOfStaging};
-ghost use Rattle.tape_tool.specs.CasesOfShowing.{CasesOfShowing};
-ghost use Rattle.tape_tool.specs.CasesOfWriting.{CasesOfWriting};
-ghost use Rattle.tape_tool.specs.CasesOfWords.{CasesOfWords};
+ghost use Rattle.tape_tool.specs.{Cases.CasesOfStaging, CasesOfShowing.CasesOfShowing};
+ghost use Rattle.tape_tool.specs.{CasesOfWriting.CasesOfWriting, CasesOfWords.CasesOfWords};
 
 use tape_stage::Disk;
 

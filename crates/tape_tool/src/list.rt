@@ -4,9 +4,9 @@ use crate::command_spec::{CommandSpec, Kind, Word};
 use crate::explain::FaultSite;
 use crate::fault::ToolFault;
 use crate::help;
-use crate::images::{ImageBytes, image_of};
+use crate::images::{InputBytes, image_of};
 use crate::program::{End, end_of};
-use crate::refusal::{Refusal, open};
+use crate::refusal::Refusal;
 use crate::screen::Progress;
 use crate::words::at_most_one;
 use clap::ArgMatches;
@@ -57,14 +57,10 @@ pub fn list<'a, R: Progress>(
     order: ListOrder<'a>,
     site: &mut FaultSite<'a>,
 ) -> Result<End, Refusal> {
-    *site = match order.image {
-        None => FaultSite::Stdin,
-        Some(path) => FaultSite::Image(path),
-    };
-    let bytes = match order.image {
-        None => ImageBytes::Input(rt.reader()),
-        Some(path) => ImageBytes::Named(open(rt, path)?),
-    };
+    *site = order
+        .image
+        .map_or(FaultSite::Stdin, |path| FaultSite::Image(path));
+    let bytes = InputBytes::open(rt.host(), order.image)?;
     let mut image = image_of(rt, 0, 1, bytes).map_err(|_| NO_MEMORY)?;
     let mut writer = BufWriter::new(rt.alloc(), io::writer(rt)).map_err(|_| NO_MEMORY)?;
     let listed = if order.offsets {

@@ -8,7 +8,7 @@ use crate::help;
 use crate::images::{Images, Named, names_of};
 use crate::program::End;
 use crate::refusal::Refusal;
-use crate::screen::{Host, Progress};
+use crate::screen::Progress;
 use crate::words::{named, out_of};
 use clap::ArgMatches;
 use std::alloc::Global;
@@ -143,13 +143,13 @@ impl Place<Sink> for Nowhere {
 }
 
 /// Returns the names of the readings, at least two.
-fn readings_of<'t, 'a: 't, R: Host>(
+fn readings_of<'t, 'a: 't, R: Progress>(
     rt: &R,
     named: &Named<'a>,
     text: &'t mut String,
     site: &mut FaultSite<'a>,
 ) -> Result<Vec<&'t str>, Refusal> {
-    match names_of(rt, named, text, site) {
+    match names_of(rt.host(), named, text, site) {
         Ok(names) if names.len() < 2 => Err(Refusal::Words(help::ONE_READING)),
         answer => answer,
     }

@@ -18,7 +18,7 @@ use crate::merge::{compare, merge};
 use crate::refusal::Refusal;
 use crate::salvage::salvage;
 use crate::screen::{Host, Line, Progress, Screen};
-use crate::stage::ending::StageEnding;
+use crate::stage::show::StageEnding;
 use crate::stage::stage;
 use crate::unpack::unpack;
 use crate::write::run::write;
@@ -124,57 +124,43 @@ pub fn no_words_end(kind: io::ErrorKind) -> End
     }
 }
 
-/// Reports a fault on standard error, and returns the exit status.
-fn finish<R: Eprint>(rt: &R, end: End) -> u8
-    ensures { result ≡ exit_status end }
-{
-    if let End::Faulted(fault) = end {
-        // If standard error is closed, the fault cannot be reported.
-        let _ = rt.eprint(FaultLine(fault));
-    }
-    end.status()
-}
-
-/// Runs the program and returns the exit status. The line that shows progress is printed only if
-/// standard error is a terminal.
+/// Runs the program, reports a fault, and returns the exit status. The line that shows progress is
+/// printed only if standard error is a terminal.
 pub fn run_on<R: Host>(rt: &R, is_terminal: bool) -> u8 {
     let line = Cell::new(Line::new(rt, is_terminal));
-    let screen = Screen { rt, line: &line };
-    let status = run(&screen);
-    screen.clear();
-    status
-}
-
-/// Runs the program, reports a fault, and returns the exit status.
-fn run<R: Progress>(rt: &R) -> u8 {
+    let screen = &Screen { rt, line: &line };
     // These files stay open until the run ends.
-    let _kept = match keep_numbers(rt) {
-        Ok(kept) => kept,
-        Err(fault) => return finish(rt, End::Faulted(fault)),
+    let kept = keep_numbers(rt);
+    let words = match &kept {
+        Ok(_) => words_of(screen),
+        Err(fault) => Err(End::Faulted(*fault)),
     };
-    let words = match words_of(rt) {
-        Ok(words) => words,
-        Err(end) => return finish(rt, end),
+    let (end, explained) = match &words {
+        Ok(words) => perform(screen, words.as_slice()),
+        Err(end) => (*end, None),
     };
-    let (end, explained) = perform(rt, words.as_slice());
-    let status = finish(rt, end);
-    if let (End::Faulted(fault), Some(site)) = (end, explained) {
-        let reason = reason_of(rt, fault, site);
-        let _ = rt.eprint(Explanation {
-            fault,
-            site,
-            reason,
-        });
+    if let End::Faulted(fault) = end {
+        // If standard error is closed, the fault cannot be reported.
+        let _ = screen.eprint(FaultLine(fault));
+        if let Some(site) = explained {
+            let reason = reason_of(rt, fault, site);
+            let _ = screen.eprint(Explanation {
+                fault,
+                site,
+                reason,
+            });
+        }
     }
-    status
+    screen.clear();
+    end.status()
 }
 
 /// Returns the arguments of the command line, beginning with the program's name. If they cannot be
 /// obtained, returns how the run ends.
-fn words_of<R: Host>(rt: &R) -> Result<Vec<String>, End>
+fn words_of<R: Progress>(rt: &R) -> Result<Vec<String>, End>
     ensures { IfErr result (λ end. end ≢ End.Done) }
 {
-    match env::args(rt) {
+    match env::args(rt.host()) {
         Ok(words) => match words.collect(rt.alloc()) {
             Ok(words) => Ok(words),
             Err(_) => Err(End::Faulted(OUT_OF_MEMORY)),
@@ -184,7 +170,7 @@ fn words_of<R: Host>(rt: &R) -> Result<Vec<String>, End>
             if end == End::WrongWords {
                 let _ = rt.eprint(help::NO_TEXT);
                 let mut room = [0; 4096];
-                if let Some(word) = odd_word(rt, &mut room) {
+                if let Some(word) = odd_word(rt.host(), &mut room) {
                     let _ = rt.eprint(word);
                 }
             }
@@ -201,7 +187,7 @@ fn perform<'a, R: Progress>(rt: &R, words: &'a [String]) -> (End, Option<FaultSi
         Err(error) => return (refuse(rt, &error), None),
     };
     // The environment may request explanations, too.
-    let explained = match env::var(rt, "TAPE_EXPLAIN") {
+    let explained = match env::var(rt.host(), "TAPE_EXPLAIN") {
         Ok(value) => call.explained || !value.as_str().is_empty(),
         Err(_) => call.explained,
     };

@@ -1,7 +1,6 @@
 //! The read buffer of an image.
 
-ghost use Rattle.std.specs.Prelude.{◌≡◌, IfOk};
-ghost use Rattle.std.specs.Io.Buffered.{reader_remaining};
+ghost use Rattle.std.specs.{Prelude.◌≡◌, Prelude.IfOk, Io.Buffered.reader_remaining};
 
 use std::alloc::{AllocError, Global};
 use std::io::{self, BufRead, BufReader, Read};

@@ -4,14 +4,13 @@
 ghost use Rattle.std.specs.Prelude.{◌≡◌, ◌⊎◌, None, Some, Ok, Err, IfErr, IsOk};
 
 use crate::fault::{FileFault, OUT_OF_MEMORY, ToolFault};
-use crate::screen::Host;
+use crate::screen::{Host, Progress};
 use crate::shown::Shown;
 use std::alloc::AllocError;
 use std::fs;
-use std::fs::{File, Files, Metadata};
+use std::fs::{File, Metadata};
 use std::io::ErrorKind;
 use std::os::unix::fs::MetadataExt;
-use tape_writer::system::found;
 
 /// The reason why a command is not started.
 #[derive(Clone, Copy)]
@@ -43,15 +42,6 @@ impl From<AllocError> for Refusal {
     fn from(_error: AllocError) -> Refusal {
         Refusal::Faulted(OUT_OF_MEMORY)
     }
-}
-
-/// Returns the file to which `path` leads, if any.
-///
-/// # Errors
-///
-/// Returns `NotOpened` if the lookup failed: the file may exist.
-pub fn look<R: Files>(files: &R, path: &str) -> Result<Option<Metadata>, FileFault> {
-    found(fs::metadata(files, path))
 }
 
 /// Opens the file at `path` for reading.
@@ -142,8 +132,8 @@ pub fn way_to_take(
 
 /// Removes the file at `path`, which this program created, if it exists. If that fails, reports
 /// that the file remains.
-pub fn remove<R: Host>(rt: &R, path: &str) {
-    match rt.remove_file(path) {
+pub fn remove<R: Progress>(rt: &R, path: &str) {
+    match fs::remove_file(rt.host(), path) {
         Err(error) if error.kind() != ErrorKind::NotFound => {
             let name = Shown(path);
             let _ = rt.eprint(format_args!("tape: \"{name}\" could not be removed\n"));

@@ -78,7 +78,7 @@ pub fn salvage<'a, R: Progress>(
     site: &mut FaultSite<'a>,
 ) -> Result<End, Refusal> {
     let mut text = String::new(rt.alloc());
-    let names = names_of(rt, &order.images, &mut text, site)?;
+    let names = names_of(rt.host(), &order.images, &mut text, site)?;
     *site = FaultSite::Out(order.out);
     let Draft { mut name, file } = Draft::new(rt, order.out)?;
     let (alloc, report) = (rt.alloc(), &mut io::writer(rt));

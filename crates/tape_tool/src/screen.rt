@@ -1,4 +1,5 @@
-//! The system, with a line on its terminal that shows how far the images have been read.
+//! The streams of the system, with a line on its terminal that shows how far the images have been
+//! read.
 //!
 //! The line is printed on standard error if that is a terminal, and otherwise never. It is removed
 //! before anything else is printed. Output is printed in whole lines, so it never follows a part of
@@ -6,19 +7,20 @@
 
 ghost use Rattle.std.specs.Prelude.{◌≡◌, false, None};
 
-use std::alloc::{Allocator, Global};
+use std::alloc::Global;
 use std::cell::Cell;
-use std::env::{Env, FillError};
 use std::fmt::Display;
-use std::fs::{File, Files, Metadata, OpenOptions};
 use std::io;
-use std::io::{Input, Lines};
-use std::rt::Runtime;
 use std::time::{Clock, Duration, Instant};
 pub use tape_writer::system::Host;
 
-/// A system that shows how far the images have been read.
-pub trait Progress: Host {
+/// The streams of a system, which show how far the images have been read.
+pub trait Progress: Print + Eprint + AllocGlobal + Clone + Drop {
+    type System: Host;
+
+    /// Returns the system, for all but its streams.
+    fn host(&self) -> &Self::System;
+
     /// Shows that `bytes` bytes of image number `image` of `count` were read, if there is a
     /// terminal.
     fn show(&self, image: usize, count: usize, bytes: u64);
@@ -79,6 +81,12 @@ impl<R: Host> Screen<'_, R> {
 }
 
 impl<R: Host> Progress for Screen<'_, R> {
+    type System = R;
+
+    fn host(&self) -> &R {
+        self.rt
+    }
+
     fn show(&self, image: usize, count: usize, bytes: u64) {
         let Some(since) = self.line.get().since else {
             return;
@@ -136,96 +144,6 @@ impl<R: Host> Eprint for Screen<'_, R> {
     }
 }
 
-impl<R: Host> Files for Screen<'_, R> {
-    type File = File;
-
-    type Dir = <R as Files>::Dir;
-
-    fn open_file(&self, how: &OpenOptions, path: &str) -> io::Result<File> {
-        self.rt.open_file(how, path)
-    }
-
-    fn open_dir(&self, path: &str) -> io::Result<Self::Dir> {
-        self.rt.open_dir(path)
-    }
-
-    fn metadata(&self, path: &str) -> io::Result<Metadata> {
-        Files::metadata(self.rt, path)
-    }
-
-    fn symlink_metadata(&self, path: &str) -> io::Result<Metadata> {
-        self.rt.symlink_metadata(path)
-    }
-
-    fn copy(&self, from: &str, to: &str) -> io::Result<u64> {
-        self.rt.copy(from, to)
-    }
-
-    fn rename(&self, from: &str, to: &str) -> io::Result<()> {
-        self.rt.rename(from, to)
-    }
-
-    fn hard_link(&self, original: &str, link: &str) -> io::Result<()> {
-        self.rt.hard_link(original, link)
-    }
-
-    fn remove_file(&self, path: &str) -> io::Result<()> {
-        self.rt.remove_file(path)
-    }
-
-    fn create_dir(&self, path: &str) -> io::Result<()> {
-        self.rt.create_dir(path)
-    }
-
-    fn remove_dir(&self, path: &str) -> io::Result<()> {
-        self.rt.remove_dir(path)
-    }
-
-    fn remove_dir_all<B: Allocator>(&self, alloc: B, path: &str) -> io::Result<()> {
-        self.rt.remove_dir_all(alloc, path)
-    }
-}
-
-impl<R: Host> Env for Screen<'_, R> {
-    fn arg(&self, i: usize, buf: &mut [u8]) -> Result<usize, FillError> {
-        self.rt.arg(i, buf)
-    }
-
-    fn var(&self, name: &str, buf: &mut [u8]) -> Result<usize, FillError> {
-        self.rt.var(name, buf)
-    }
-
-    fn var_at(&self, i: usize, buf: &mut [u8]) -> Result<usize, FillError> {
-        self.rt.var_at(i, buf)
-    }
-}
-
-impl<R: Host> Clock for Screen<'_, R> {
-    fn monotonic(&self) -> io::Result<Duration> {
-        self.rt.monotonic()
-    }
-
-    fn since_1970(&self) -> io::Result<Duration> {
-        self.rt.since_1970()
-    }
-}
-
-impl<R: Host> Input for Screen<'_, R> {
-    type Reader = <R as Input>::Reader;
-
-    fn read_line<A: Allocator + Clone>(&self, buf: &mut String<A>) -> io::Result<usize> {
-        self.rt.read_line(buf)
-    }
-
-    fn lines<A: Allocator>(&self, alloc: A) -> Lines<Self::Reader, A> {
-        self.rt.lines(alloc)
-    }
-
-    fn reader(&self) -> Self::Reader {
-        self.rt.reader()
-    }
-}
-
 impl<R: Host> Alloc for Screen<'_, R> {
     type A = Global;
 
@@ -233,5 +151,3 @@ impl<R: Host> Alloc for Screen<'_, R> {
         self.rt.alloc()
     }
 }
-
-impl<R: Host> Runtime for Screen<'_, R> {}

@@ -1,5 +1,4 @@
 //! `stage`: shows what a stage contains, and writes its records.
-pub mod ending;
 pub mod show;
 
 use crate::command_spec::{CommandSpec, Kind, Word};
@@ -9,9 +8,9 @@ use crate::fault::{OUT_OF_MEMORY, ToolFault};
 use crate::help;
 use crate::program::{End, stage_end};
 use crate::refusal::{Refusal, open};
-use crate::screen::Host;
+use crate::screen::{Host, Progress};
 use crate::staging::locked_stage;
-use crate::words::{FORMS, at_most_one, form_of, text_of};
+use crate::words::{FORM, at_most_one, form_of, text_of};
 use clap::ArgMatches;
 use show::show_stage;
 use std::fs::{File, Metadata, OpenFile};
@@ -41,11 +40,7 @@ pub const STAGE: &CommandSpec = &CommandSpec {
             Kind::AtMostOne("tape stage [--form FORM] [--damaged] <PATH> [OUT]"),
             help::OUT_OF_STAGE,
         ),
-        Word(
-            "form",
-            Kind::NameOption("FORM", FORMS, &["lines"]),
-            help::FORM_OF_OUT,
-        ),
+        FORM,
         Word("damaged", Kind::Flag, help::DAMAGED),
     ],
 };
@@ -61,7 +56,7 @@ pub fn stage_order<'a>(matches: &ArgMatches<'a>) -> Result<StageOrder<'a>, Refus
 
 /// Shows the stage that the arguments name, and writes its records to OUT if it is named. On error,
 /// `site` says where it occurred.
-pub fn stage<'a, R: Host>(
+pub fn stage<'a, R: Progress>(
     rt: &R,
     order: &StageOrder<'a>,
     site: &mut FaultSite<'a>,
@@ -70,9 +65,10 @@ pub fn stage<'a, R: Host>(
     *site = FaultSite::Lines;
     if let Some(out) = order.out {
         *site = FaultSite::Out(out);
-        way = Some((out, way_to_out(rt, out, Some(order.stage), None, &[])?));
+        let way_out = way_to_out(rt.host(), out, Some(order.stage), None, &[])?;
+        way = Some((out, way_out));
     }
-    let disk = match disk_of(rt, order.stage) {
+    let disk = match disk_of(rt.host(), order.stage) {
         Ok(disk) => disk,
         Err(fault) => {
             *site = FaultSite::Stage(order.stage);
@@ -93,7 +89,7 @@ pub fn stage<'a, R: Host>(
 type StageDisk = BufferedFile<ReadOnly<File>>;
 
 /// Shows the stage on `disk`, and writes its records to `output` if there is one.
-fn show_in<R: Host>(
+fn show_in<R: Progress>(
     rt: &R,
     order: &StageOrder<'_>,
     disk: StageDisk,

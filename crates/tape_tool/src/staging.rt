@@ -1,18 +1,14 @@
 //! Sessions over stages, on any disk and in a file.
 
-ghost use Rattle.std.specs.Prelude.{◌≡◌, ◌↔◌, ◌⊎◌, ◌<◌, ◌≤◌, ℕ, [], IfOk, IfErr, IsTrue};
-ghost use Rattle.std.specs.Prelude.{OnErr, OnOk, false, length, slice_index};
+ghost use Rattle.std.specs.Prelude.{◌≡◌, ◌↔◌, ◌⊎◌, ◌<◌, ◌≤◌, ℕ, [], IfOk, IfErr, IsTrue, OnErr};
+ghost use Rattle.std.specs.Prelude.{OnOk, false, length, slice_index};
 ghost use Rattle.std.specs.Bool.{OnFalse, OnTrue};
-ghost use Rattle.tape_core.specs.Known.{IsFileNumber};
-ghost use Rattle.tape_core.specs.Weight.{Rose};
-ghost use Rattle.tape_stage.specs.OnlyReading.{OnlyReads};
-ghost use Rattle.tape_stage.specs.Stages.{OpensOver};
-ghost use Rattle.tape_run.specs.Headline.{IsStart};
-ghost use Rattle.tape_tool.specs.Guards.{locked_stage};
-ghost use Rattle.tape_run.specs.Seen.{seen};
+ghost use Rattle.tape_core.specs.{Known.IsFileNumber, Weight.Rose};
+ghost use Rattle.tape_stage.specs.{OnlyReading.OnlyReads, Stages.OpensOver};
+ghost use Rattle.tape_run.specs.{Headline.IsStart, Seen.seen};
 ghost use Rattle.tape_tool.specs.Staging.{IsOfFile, StandsAt, GoesOn, IsUnmade, IsUnopened};
-ghost use Rattle.tape_tool.specs.Staging.{FailsBy, RefusesBeginning, RefusesSession};
-ghost use Rattle.tape_tool.specs.Staging.{as_sink, first_point};
+ghost use Rattle.tape_tool.specs.Staging.{FailsBy, RefusesBeginning, RefusesSession, as_sink};
+ghost use Rattle.tape_tool.specs.{Guards.locked_stage, Staging.first_point};
 
 use crate::fault::{FileFault, ToolFault};
 use crate::screen::Host;

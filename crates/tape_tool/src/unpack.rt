@@ -7,7 +7,7 @@ use crate::command_spec::{CommandSpec, Kind, Word};
 use crate::help;
 use crate::images::Named;
 use crate::refusal::Refusal;
-use crate::words::{FORMS, folder_of, form_of, named, set_id_of};
+use crate::words::{FORM, folder_of, form_of, named, set_id_of};
 use clap::ArgMatches;
 pub use run::unpack;
 use std::alloc::Global;
@@ -37,11 +37,7 @@ pub const UNPACK: &CommandSpec = &CommandSpec {
         Word("IMAGE", Kind::AnyTexts, help::SHELF),
         Word("files-from", Kind::TextOption("LIST"), help::FROM),
         Word("null", Kind::FlagOf("files-from"), help::NULL),
-        Word(
-            "form",
-            Kind::NameOption("FORM", FORMS, &["lines"]),
-            help::FORM_OF_OUT,
-        ),
+        FORM,
         Word("set", Kind::TextOption("SET"), help::SET_TO_UNPACK),
         Word("file", Kind::TextOptions("N|NAME"), help::FILES_TO_UNPACK),
         Word("list", Kind::Flag, help::LIST_ONLY),

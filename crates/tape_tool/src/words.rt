@@ -3,6 +3,7 @@
 ghost use Rattle.std.specs.Prelude.{◌≡◌, IfSome, IfNone, IsSome};
 ghost use Rattle.tape_tool.specs.Words.{IsNoSet, padded_set};
 
+use crate::command_spec::{Kind, Word};
 use crate::help;
 use crate::images::{List, Named};
 use crate::refusal::Refusal;
@@ -16,6 +17,13 @@ use tape_writer::Prefix;
 const MOST_IMAGES: usize = 256;
 
 pub const FORMS: &[&str] = &["lines", "raw"];
+
+/// The option for the form of the records in an output.
+pub const FORM: Word = Word(
+    "form",
+    Kind::NameOption("FORM", FORMS, &["lines"]),
+    help::FORM_OF_OUT,
+);
 
 /// Returns the value of argument `name`, which the parser guarantees to be present.
 pub fn text_of<'a>(matches: &ArgMatches<'a>, name: &str) -> &'a str {

@@ -16,8 +16,8 @@ const MOST: usize = 8;
 /// Explains on standard error what is missing after this command.
 pub fn explain_missing<R: Progress>(rt: &R, order: &Order<'_>) {
     let _ = match text_by_images(rt, order) {
-        Some(text) => rt.eprint(text.as_str()),
-        None => rt.eprint(general_text(order)),
+        Some(text) => rt.eprint(format_args!("  {text}\n")),
+        None => rt.eprint(format_args!("  {}\n", general_text(order))),
     };
 }
 
@@ -35,9 +35,9 @@ fn text_by_images<R: Progress>(rt: &R, order: &Order<'_>) -> Option<String> {
     }
     let mut list = String::new(rt.alloc());
     let mut site = FaultSite::Unknown;
-    let names = names_of(rt, named, &mut list, &mut site).ok()?;
+    let names = names_of(rt.host(), named, &mut list, &mut site).ok()?;
     let names = names.as_slice();
-    if !are_files(rt, names) {
+    if !are_files(rt.host(), names) {
         return None;
     }
     let met = &find_files(rt.alloc(), &mut Images::new(rt, names)).ok()?;
@@ -72,17 +72,15 @@ impl Shelf<'_> {
             }
             None => return self.no_file_text(set_id),
             Some(found) if found.differs => {
-                "  Labels of different files have this number, or complete copies of a section
+                "Labels of different files have this number, or complete copies of a section
   of the file differ: 'tape survey' says which.
-  Keep the images of each set in a directory of its own.
-"
+  Keep the images of each set in a directory of its own."
             }
             Some(found) => match found.lacks {
                 Some(sect) => return self.section_text(SectionKey { set_id, file, sect }),
                 None => {
-                    "  Each section of the file is complete on some image. With --again, tape reads
-  the images until they yield nothing more, and their order does not matter.
-"
+                    "Each section of the file is complete on some image. With --again, tape reads
+  the images until they yield nothing more, and their order does not matter."
                 }
             },
         };
@@ -95,16 +93,14 @@ impl Shelf<'_> {
         if sets.is_empty() {
             return String::from_str(
                 self.alloc,
-                "  No file of any set was found on these images.
-  'tape survey' says what they are.
-",
+                "No file of any set was found on these images.
+  'tape survey' says what they are.",
             );
         }
         format!(in self.alloc;
-            "  No label of set {set} was found on these images.
+            "No label of set {set} was found on these images.
   Sets found: {sets}.
-  Give one of them as SET, or add the images of set {set}.
-"
+  Give one of them as SET, or add the images of set {set}."
         )
     }
 
@@ -112,10 +108,9 @@ impl Shelf<'_> {
     fn no_file_text(&self, set_id: Field<6>) -> Result<String, AllocError> {
         let (set, numbers) = (shown(self.alloc, &set_id)?, self.list_of(Some(set_id))?);
         format!(in self.alloc;
-            "  No label of this file was found. Files of set {set} on these images:
+            "No label of this file was found. Files of set {set} on these images:
   {numbers}.
-  'tape survey' prints their names.
-"
+  'tape survey' prints their names."
         )
     }
 
@@ -125,10 +120,9 @@ impl Shelf<'_> {
         let before = sect.saturating_sub(1);
         if let Some(on) = self.image_of(key)? {
             return format!(in self.alloc;
-                "  Section {sect} of file {file} is complete on no image. It begins on
+                "Section {sect} of file {file} is complete on no image. It begins on
   {on}.
-  Look for another copy of that reel, or for another image of it.
-"
+  Look for another copy of that reel, or for another image of it."
             );
         }
         let earlier = SectionKey {
@@ -138,15 +132,13 @@ impl Shelf<'_> {
         };
         match self.image_of(earlier)? {
             Some(on) => format!(in self.alloc;
-                "  Section {sect} of file {file} is on no image. It follows section {before} on
+                "Section {sect} of file {file} is on no image. It follows section {before} on
   {on}.
-  Look for the reel that comes after that one.
-"
+  Look for the reel that comes after that one."
             ),
             None => format!(in self.alloc;
-                "  Section {sect} of file {file} is on no image: look for the reel with its
-  beginning. 'tape survey' shows which volumes were found.
-"
+                "Section {sect} of file {file} is on no image: look for the reel with its
+  beginning. 'tape survey' shows which volumes were found."
             ),
         }
     }
@@ -230,36 +222,28 @@ fn shown(alloc: Global, field: &Field<6>) -> Result<String, AllocError> {
 fn general_text(order: &Order<'_>) -> &'static str {
     match order {
         Order::Check(_) =>
-            "  Each line LACKS names a set, a file and its first section that is complete on
+            "Each line LACKS names a set, a file and its first section that is complete on
   no image: look for another copy of that section. Without such a line, no
-  section was found at all. 'tape survey' shows what the images are.
-",
+  section was found at all. 'tape survey' shows what the images are.",
         Order::Survey(_, _) =>
-            "  A section is missing or damaged, copies differ, or an image was not read to
-  its end: the lines of the files and images say which.
-",
+            "A section is missing or damaged, copies differ, or an image was not read to
+  its end: the lines of the files and images say which.",
         Order::Extract(_) =>
-            "  The last line says which file, section and block are expected next (AWAITS).
+            "The last line says which file, section and block are expected next (AWAITS).
   Look for the reel with that section, or for another copy of it.
-  'tape survey' shows which sections the images contain.
-",
+  'tape survey' shows which sections the images contain.",
         Order::Unpack(_) =>
-            "  AWAITS says which file, section and block of the file are expected next. Run
+            "AWAITS says which file, section and block of the file are expected next. Run
   it again with other images: the stage keeps what was recovered.
-  'tape survey' shows all files, and which sections are missing or damaged.
-",
-        Order::Salvage(_) =>
-            "  Not every block of the file was found: the lines say what is missing.
-  Another copy of these reels may have it.
-",
+  'tape survey' shows all files, and which sections are missing or damaged.",
+        Order::Salvage(_) => "Not every block of the file was found: the lines say what is missing.
+  Another copy of these reels may have it.",
         Order::Stage(_) =>
-            "  The stage has only a part of the file: the last line says which file, section
-  and block are expected next. 'tape extract --stage' continues from it.
-",
+            "The stage has only a part of the file: the last line says which file, section
+  and block are expected next. 'tape extract --stage' continues from it.",
         Order::Merge(_) | Order::Compare(_) =>
-            "  The images differ, or not all of them were read to their end: the lines say
-  where. Each line names the images by their numbers.
-",
+            "The images differ, or not all of them were read to their end: the lines say
+  where. Each line names the images by their numbers.",
         // They do not end so.
         Order::List(_) | Order::Init(_) | Order::Write(_) => NEVER,
     }

@@ -1,13 +1,12 @@
 //! The draft of an output: a new file, which gets the output's name when it is complete.
 
-ghost use Rattle.std.specs.Prelude.{◌≡◌, None, Bool};
+ghost use Rattle.std.specs.Prelude.{◌≡◌, None};
 ghost use Rattle.tape_tool.specs.Guards.{is_written_in_place};
 
 use crate::fault::{FileFault, ToolFault};
 use crate::program::End;
 use crate::refusal::{FileId, Taking, remove, way_to_take};
-use crate::screen::Host;
-use std::alloc::{AllocError, Global};
+use crate::screen::{Host, Progress};
 use std::fs::{File, OpenOptions, Permissions};
 use std::io::{BufWriter, Error, ErrorKind, Write};
 use std::os::unix::fs::{MetadataExt, PermissionsExt, fchown};
@@ -30,7 +29,7 @@ pub fn is_written_in_place(kind: ErrorKind, there: bool) -> bool
 
 /// The name of an output and the name of its draft.
 #[derive(Drop)]
-pub struct OutName<'a, R: Host> {
+pub struct OutName<'a, R: Progress> {
     rt: &'a R,
     draft: String,
     name: &'a str,
@@ -44,12 +43,12 @@ pub struct OutName<'a, R: Host> {
     is_taken: bool,
 }
 
-impl<R: Host> OutName<'_, R> {
+impl<R: Progress> OutName<'_, R> {
     /// Gives the draft the owner and the permissions of the file that it will replace, as far as
     /// the user may do that. Set-user-ID and set-group-ID permissions are not copied, since the
     /// contents are different.
     fn keep_rights(&self, draft: &File) -> io::Result<()> {
-        let there = fs::metadata(self.rt, self.name)?;
+        let there = fs::metadata(self.rt.host(), self.name)?;
         let _ = fchown(draft, Some(there.uid()), Some(there.gid()));
         let _ = draft.set_permissions(Permissions::from_mode(there.mode() & 0o777));
         Ok(())
@@ -58,12 +57,12 @@ impl<R: Host> OutName<'_, R> {
     /// Gives the draft the output's name, and syncs the directory.
     fn take(&mut self, file: &File) -> io::Result<()> {
         file.sync_all()?;
-        let now = found(fs::symlink_metadata(self.rt, self.name));
+        let now = found(fs::symlink_metadata(self.rt.host(), self.name));
         let now = now.map(|there| there.map(|there| FileId::of(&there)));
         match way_to_take(self.before, now) {
             Ok(Taking::New) => self.take_new()?,
             Ok(Taking::Over) => {
-                self.rt.rename(self.draft.as_str(), self.name)?;
+                fs::rename(self.rt.host(), self.draft.as_str(), self.name)?;
                 self.is_draft = false;
             }
             Err(fault) => {
@@ -71,14 +70,14 @@ impl<R: Host> OutName<'_, R> {
                 return Err(Error::from(ErrorKind::Other));
             }
         }
-        sync_folder_of(self.rt, self.name)
+        sync_folder_of(self.rt.host(), self.name)
     }
 
     /// Gives the draft the output's name if no file has that name: the draft gets it as a second
     /// name, and loses its own. On a file system without hard links, an empty file takes the name
     /// first.
     fn take_new(&mut self) -> io::Result<()> {
-        match self.rt.hard_link(self.draft.as_str(), self.name) {
+        match fs::hard_link(self.rt.host(), self.draft.as_str(), self.name) {
             Ok(()) => {
                 self.clear();
                 return Ok(());
@@ -89,11 +88,11 @@ impl<R: Host> OutName<'_, R> {
             }
             Err(_) => {}
         }
-        if let Err(error) = File::create_new(self.rt, self.name) {
+        if let Err(error) = File::create_new(self.rt.host(), self.name) {
             self.is_taken = error.kind() == ErrorKind::AlreadyExists;
             return Err(error);
         }
-        if let Err(error) = self.rt.rename(self.draft.as_str(), self.name) {
+        if let Err(error) = fs::rename(self.rt.host(), self.draft.as_str(), self.name) {
             remove(self.rt, self.name);
             return Err(error);
         }
@@ -116,7 +115,7 @@ impl<R: Host> OutName<'_, R> {
 
     /// Removes the output if the draft got its name and no other file has the name now.
     pub fn give_back(&mut self) {
-        if self.has_taken() && has_name(self.rt, &self.lock, self.name) {
+        if self.has_taken() && has_name(self.rt.host(), &self.lock, self.name) {
             remove(self.rt, self.name);
         }
     }
@@ -132,7 +131,7 @@ impl<R: Host> OutName<'_, R> {
     }
 }
 
-impl<R: Host> Place<BufWriter<File>> for OutName<'_, R> {
+impl<R: Progress> Place<BufWriter<File>> for OutName<'_, R> {
     ghost stands = { λ _. None };
 
     fn place(&mut self, out: BufWriter<File>) -> Result<(), WriteFailed> {
@@ -147,7 +146,7 @@ impl<R: Host> Place<BufWriter<File>> for OutName<'_, R> {
 
 /// A draft that gets the output's name when it is flushed, since everything is written by then.
 #[derive(Drop)]
-pub struct Draft<'a, R: Host> {
+pub struct Draft<'a, R: Progress> {
     pub name: OutName<'a, R>,
     pub file: File,
 }
@@ -155,14 +154,14 @@ pub struct Draft<'a, R: Host> {
 /// The maximum number of draft names that are tried.
 const MOST_DRAFTS: u16 = 9_999;
 
-impl<'a, R: Host> Draft<'a, R> {
+impl<'a, R: Progress> Draft<'a, R> {
     /// Creates a draft of the file `name`, which must not exist.
     ///
     /// # Errors
     ///
     /// Returns `Exists` if it does; the other errors are those of `over`.
     pub fn new(rt: &'a R, name: &'a str) -> Result<Draft<'a, R>, ToolFault> {
-        match found(fs::symlink_metadata(rt, name))? {
+        match found(fs::symlink_metadata(rt.host(), name))? {
             Some(_) => Err(ToolFault::File(FileFault::Exists)),
             None => Draft::over(rt, name, None),
         }
@@ -192,8 +191,14 @@ impl<'a, R: Host> Draft<'a, R> {
         name: &'a str,
         before: Option<FileId>,
     ) -> Result<Option<Draft<'a, R>>, ToolFault> {
+        let folder = match name.rfind('/') {
+            Some(end) => &name[..end + 1],
+            None => "",
+        };
         for number in 1..=MOST_DRAFTS {
-            let draft = draft_name(rt.alloc(), name, number)?;
+            // It is short, since the output's name may be as long as the system permits. Only this
+            // program uses such names.
+            let draft = format!(in rt.alloc(); "{folder}.tape-{number}.part")?;
             match make_new(rt, draft.as_str()) {
                 Ok(Some(file)) => {
                     let Ok(lock) = file.try_clone() else {
@@ -224,7 +229,7 @@ impl<'a, R: Host> Draft<'a, R> {
     }
 }
 
-impl<R: Host> Write for Draft<'_, R> {
+impl<R: Progress> Write for Draft<'_, R> {
     fn write(&mut self, buf: &[u8]) -> io::Result<usize> {
         self.file.write(buf)
     }
@@ -234,33 +239,23 @@ impl<R: Host> Write for Draft<'_, R> {
     }
 }
 
-/// Returns the name of draft `number` of the output `name`. It is short, since the output's name
-/// may be as long as the system permits. Only this program uses such names.
-fn draft_name(alloc: Global, name: &str, number: u16) -> Result<String, AllocError> {
-    let folder = match name.rfind('/') {
-        Some(end) => &name[..end + 1],
-        None => "",
-    };
-    format!(in alloc; "{folder}.tape-{number}.part")
-}
-
 /// Creates a file at `path` and locks it as long as the draft is open. Returns `None` if another
 /// run has a file with this name. A file left by a killed run is not locked, and is removed.
-fn make_new<R: Host>(rt: &R, path: &str) -> Result<Option<File>, ErrorKind> {
-    if let Err(error) = fs::symlink_metadata(rt, path) {
-        if error.kind() != ErrorKind::NotFound {
-            return Err(error.kind());
-        }
-    } else if !remove_left(rt, path) {
-        return Ok(None);
+fn make_new<R: Progress>(rt: &R, path: &str) -> Result<Option<File>, ErrorKind> {
+    let host = rt.host();
+    match fs::symlink_metadata(host, path) {
+        Err(error) if error.kind() == ErrorKind::NotFound => {}
+        Err(error) => return Err(error.kind()),
+        Ok(left) if left.is_file() && remove_left(host, path) => {}
+        Ok(_) => return Ok(None),
     }
-    let file = match File::create_new(rt, path) {
+    let file = match File::create_new(host, path) {
         Ok(file) => file,
         Err(error) if error.kind() == ErrorKind::AlreadyExists => return Ok(None),
         Err(error) => return Err(error.kind()),
     };
     match locked(file.try_lock()) {
-        Ok(()) if has_name(rt, &file, path) => Ok(Some(file)),
+        Ok(()) if has_name(host, &file, path) => Ok(Some(file)),
         // Another run took it for a leftover file, which that run then removes.
         Ok(()) | Err(LockFault::InUse) => Ok(None),
         Err(LockFault::Failed) => {
@@ -270,24 +265,19 @@ fn make_new<R: Host>(rt: &R, path: &str) -> Result<Option<File>, ErrorKind> {
     }
 }
 
-/// Removes the regular file at `path` unless a run has locked it. Returns whether the file was
-/// removed.
-fn remove_left<R: Host>(rt: &R, path: &str) -> bool {
+/// Removes the file at `path` unless a run has locked it. Returns whether the file was removed.
+fn remove_left<R: Host>(host: &R, path: &str) -> bool {
     let mut options = OpenOptions::new();
     options.read(true).write(true);
-    match fs::symlink_metadata(rt, path) {
-        Ok(there) if there.is_file() => {}
-        _ => return false,
-    }
-    let Ok(file) = options.open(rt, path) else {
+    let Ok(file) = options.open(host, path) else {
         return false;
     };
-    file.try_lock().is_ok() && has_name(rt, &file, path) && rt.remove_file(path).is_ok()
+    file.try_lock().is_ok() && has_name(host, &file, path) && fs::remove_file(host, path).is_ok()
 }
 
 /// Returns whether `file` is the file at `path`.
-fn has_name<R: Host>(rt: &R, file: &File, path: &str) -> bool {
-    match (file.metadata(), fs::symlink_metadata(rt, path)) {
+fn has_name<R: Host>(host: &R, file: &File, path: &str) -> bool {
+    match (file.metadata(), fs::symlink_metadata(host, path)) {
         (Ok(open), Ok(named)) => FileId::of(&open).is_same(&FileId::of(&named)),
         _ => false,
     }

@@ -3,7 +3,7 @@
 use crate::fault::FileFault;
 use crate::help;
 use crate::images::List;
-use crate::refusal::{FileId, Refusal, look, open, same_file};
+use crate::refusal::{FileId, Refusal, open, same_file};
 use crate::screen::Host;
 use std::alloc::{AllocError, Global};
 use std::fs;
@@ -59,7 +59,7 @@ pub fn way_to_out<R: Host>(
     images: &[&str],
 ) -> Result<Way, Refusal> {
     let mut before = None;
-    if let Some(there) = look(rt, out)? {
+    if let Some(there) = found(fs::metadata(rt, out))? {
         if let Some(list) = list {
             let path = list.file.unwrap_or(STANDARD_INPUT);
             differs(rt, &there, path, help::OUT_IS_LIST)?;
@@ -95,7 +95,11 @@ fn is_one_name<R: Host>(rt: &R, one: &str, other: &str) -> Result<bool, FileFaul
     if name_in_folder(one) != name_in_folder(other) {
         return Ok(false);
     }
-    match (look(rt, folder_of(one))?, look(rt, folder_of(other))?) {
+    let (here, there) = (
+        fs::metadata(rt, folder_of(one)),
+        fs::metadata(rt, folder_of(other)),
+    );
+    match (found(here)?, found(there)?) {
         (Some(here), Some(there)) => Ok(same_file(&here, &there)),
         _ => Ok(false),
     }
@@ -108,7 +112,7 @@ fn differs<R: Host>(
     path: &str,
     text: &'static str,
 ) -> Result<(), Refusal> {
-    match look(rt, path)? {
+    match found(fs::metadata(rt, path))? {
         Some(other) if same_file(there, &other) => Err(Refusal::Words(text)),
         _ => Ok(()),
     }

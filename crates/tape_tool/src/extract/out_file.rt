@@ -4,7 +4,7 @@ use super::out::Way;
 use crate::fault::{FileFault, ToolFault};
 use crate::program::End;
 use crate::refusal::FileId;
-use crate::screen::Host;
+use crate::screen::Progress;
 use std::fs::{File, OpenOptions};
 use std::io;
 use std::io::{Error, ErrorKind, Write};
@@ -12,14 +12,14 @@ use tape_writer::system::is_unable;
 
 /// The file that the records of an output are written to.
 #[derive(Drop)]
-pub enum Output<'a, R: Host> {
+pub enum Output<'a, R: Progress> {
     /// A new file, which gets the output's name when it is flushed.
     New(Draft<'a, R>),
     /// The output itself, because of its kind, or because its directory accepts no new files.
     InPlace(OutFile<'a, R>),
 }
 
-impl<'a, R: Host> Output<'a, R> {
+impl<'a, R: Progress> Output<'a, R> {
     /// Returns the file to write the output at `path` to.
     pub fn new(rt: &'a R, path: &'a str, way: Way) -> Result<Output<'a, R>, ToolFault> {
         let before = match way {
@@ -51,7 +51,7 @@ impl<'a, R: Host> Output<'a, R> {
     }
 }
 
-impl<R: Host> Write for Output<'_, R> {
+impl<R: Progress> Write for Output<'_, R> {
     fn write(&mut self, buf: &[u8]) -> io::Result<usize> {
         match self {
             Output::New(draft) => draft.write(buf),
@@ -69,7 +69,7 @@ impl<R: Host> Write for Output<'_, R> {
 
 /// A file that is created, or truncated, when something is first written to it or it is flushed.
 #[derive(Drop)]
-pub struct OutFile<'a, R: Host> {
+pub struct OutFile<'a, R: Progress> {
     rt: &'a R,
     path: &'a str,
     /// The file found under the output's name, before anything was read.
@@ -78,7 +78,7 @@ pub struct OutFile<'a, R: Host> {
     refused: Option<FileFault>,
 }
 
-impl<R: Host> OutFile<'_, R> {
+impl<R: Progress> OutFile<'_, R> {
     /// Returns the file, which is created unless that was attempted before. A failed attempt is not
     /// repeated: a buffer that is dropped flushes its contents once more.
     fn made(&mut self) -> io::Result<&mut File> {
@@ -96,12 +96,9 @@ impl<R: Host> OutFile<'_, R> {
     fn open(&self) -> Result<File, FileFault> {
         let mut options = OpenOptions::new();
         options.write(true).create(self.before.is_none());
-        let Ok(file) = options.open(self.rt, self.path) else {
-            return Err(FileFault::NotOpened);
-        };
-        let Ok(there) = file.metadata() else {
-            return Err(FileFault::NotOpened);
-        };
+        let opened = options.open(self.rt.host(), self.path);
+        let file = opened.map_err(|_| FileFault::NotOpened)?;
+        let there = file.metadata().map_err(|_| FileFault::NotOpened)?;
         let id = FileId::of(&there);
         let is_meant = match self.before {
             Some(before) => before.is_same(&id),
@@ -117,7 +114,7 @@ impl<R: Host> OutFile<'_, R> {
     }
 }
 
-impl<R: Host> Write for OutFile<'_, R> {
+impl<R: Progress> Write for OutFile<'_, R> {
     fn write(&mut self, buf: &[u8]) -> io::Result<usize> {
         self.made()?.write(buf)
     }

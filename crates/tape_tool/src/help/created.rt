@@ -40,17 +40,9 @@ pub const WRONG_PREFIX: &str =
 pub const WRONG_CAPACITY: &str = "CAPACITY must be a number of bytes up to 4294967295, or a number
 and K, M or G: K is 1024 bytes, M is 1024K, G is 1024M; for example '40M'";
 
-pub const NO_PATH: &str = "files are given as ID=PATH, for example 'PAYROLL=payroll.txt'";
-
 pub const INPUT_IS_IMAGE: &str =
     "an input is one of the images to be written and would be overwritten:
 choose other inputs, another DIR or another PRE";
-
-pub const RECORD_WANTED: &str = "--format F requires --record N";
-
-pub const NO_RECORD: &str = "--format S does not take --record";
-
-pub const RAW_COUNTED: &str = "--form raw requires --format F or S";
 
 pub const AFTER_INIT: &str = "Each image is 100 bytes long: a volume label, two tape marks and the
 end-of-medium marker. Existing files are not overwritten ('tape: file fault 1');

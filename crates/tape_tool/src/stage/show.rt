@@ -1,17 +1,13 @@
 //! Reports on stages: the contents of a stage, and its records.
-ghost use Rattle.std.specs.Prelude.{◌≡◌, ◌≤◌, ◌++◌, ℕ, List, length, IfOk, IfErr, IsErrOf, OnOk};
-ghost use Rattle.std.specs.Prelude.{OnErr, Some, None, false, true};
-ghost use Rattle.std.specs.Io.KnownBytes.{Appends};
-ghost use Rattle.arrayvec.specs.ArrayVec.{array_vec_len};
-ghost use Rattle.tape_blocks.specs.Block.{Portion};
-ghost use Rattle.tape_blocks.specs.Spans.{join};
+ghost use Rattle.std.specs.Prelude.{◌≡◌, ℕ, List, length, IfOk, IfErr, IsErrOf, OnOk, OnErr, Some};
+ghost use Rattle.std.specs.{Prelude.None, Prelude.false, Prelude.true, Io.KnownBytes.Appends};
+ghost use Rattle.tape_blocks.specs.{Block.Portion, Spans.join};
 ghost use Rattle.tape_core.specs.Weight.{Rose};
 ghost use Rattle.tape_image.specs.Written.{AppendsFront};
 ghost use Rattle.tape_stage.specs.{OnlyReading.OnlyReads, Stages.Holds};
-ghost use Rattle.tape_tool.specs.StageReport.{stage_line, told_with, ending_of, ending_line};
-ghost use Rattle.tape_tool.specs.StageReport.{EndsInRecords, Shows, StopsShowing, output_in};
+ghost use Rattle.tape_tool.specs.StageReport.{told_with, ending_of, EndsInRecords, Shows};
+ghost use Rattle.tape_tool.specs.StageReport.{StopsShowing, output_in};
 
-use super::ending::StageEnding;
 use crate::fault::{FileFault, ToolFault};
 use arrayvec::ArrayVec;
 use std::alloc::Global;
@@ -20,7 +16,17 @@ use tape_blocks::Form;
 use tape_core::{Checkpoint, PartWalk};
 use tape_run::text::{put, put_decimal, put_identifier};
 use tape_run::{WriteFailed, flush, last_line, write_part, write_text};
+use tape_set::Want;
 use tape_stage::{Disk, Salvage, Stage, StageFault};
+
+/// The end of a stage that was shown, after its parts.
+#[derive(Clone, Copy, Debug, PartialEq, Eq)]
+pub enum StageEnding {
+    /// All frames are intact. Contains the missing part of the file, if any.
+    Whole(Option<Want>),
+    /// The frames are damaged at this offset of the stage.
+    Broken(u64),
+}
 
 /// Prints the file and the number of complete records of the stage on `disk`, and the last line
 /// that `extract` would print. If `form` is `Some`, the records, from the beginning of the file,
@@ -144,8 +150,7 @@ fn write_in<D: Disk, W: Write>(
     Ok(flush(out)?)
 }
 
-/// Prints the line about the stage, with its file and number of records, and the line about its
-/// end.
+/// Prints the line about the stage, and the line about its end.
 fn tell<P: Write>(
     report: &mut P,
     point: &Checkpoint,
@@ -164,43 +169,29 @@ fn tell<P: Write>(
 /// A buffer for both lines, which are shorter.
 type Lines = ArrayVec<u8, 512>;
 
-/// Returns the line about the stage, and the line about its end.
+/// Returns the line about the stage, with its file and number of complete records, and the line
+/// about its end: the missing part, the completeness of the file, or the offset of the damage.
 fn lines_of(point: &Checkpoint, ending: StageEnding, records: u64) -> Lines
     ensures { result.items ≡ told_with point.now ending records }
 {
     let mut lines = Lines::new();
-    put_stage(&mut lines, point, records);
-    put_ending(&mut lines, ending, records);
-    lines
-}
-
-/// Appends the line about the end of a stage: the missing part, the completeness of the file, or
-/// the offset of the damage.
-fn put_ending(lines: &mut Lines, ending: StageEnding, records: u64)
-    requires { array_vec_len lines.old ≤ 200 }
-    ensures { lines.new.items ≡ lines.old.items ++ ending_line ending records }
-{
+    put(&mut lines, b"STAGE ");
+    put_identifier(&mut lines, &point.set_id);
+    put(&mut lines, b" ");
+    put_decimal(&mut lines, u64::from(point.file));
+    put(&mut lines, b" ");
+    put_decimal(&mut lines, records);
+    put(&mut lines, b"\n");
     match ending {
-        StageEnding::Whole(want) => put(lines, last_line(want, records).as_bytes()),
+        StageEnding::Whole(want) => {
+            put(&mut lines, last_line(want, records).as_bytes());
+            lines
+        }
         StageEnding::Broken(place) => {
-            put(lines, b"TRUNCATED AT ");
-            put_decimal(lines, place);
-            put(lines, b"\n");
+            put(&mut lines, b"TRUNCATED AT ");
+            put_decimal(&mut lines, place);
+            put(&mut lines, b"\n");
+            lines
         }
     }
-}
-
-/// Appends the line about a stage: its set, file, and number of complete records.
-fn put_stage(lines: &mut Lines, point: &Checkpoint, records: u64)
-    requires { array_vec_len lines.old ≡ 0 }
-    ensures items { lines.new.items ≡ lines.old.items ++ stage_line point.now records }
-    ensures len { array_vec_len lines.new ≤ 200 }
-{
-    put(lines, b"STAGE ");
-    put_identifier(lines, &point.set_id);
-    put(lines, b" ");
-    put_decimal(lines, u64::from(point.file));
-    put(lines, b" ");
-    put_decimal(lines, records);
-    put(lines, b"\n");
 }

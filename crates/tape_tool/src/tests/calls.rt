@@ -228,24 +228,24 @@ fn take(rt: &HostRuntime, word: &str, rest: &str) -> Result<bool, Fail> {
             Ok(file.set_len(number as u64).is_ok())
         }
         "worked" => {
-            let bytes = example(alloc, word, 0)?.bytes;
+            let bytes = example(alloc, word, 0)?;
             for path in rest.split(' ') {
                 put(rt, path, bytes.as_slice())?;
             }
             Ok(true)
         }
         "front" => {
-            let bytes = example(alloc, word, 0)?.bytes;
+            let bytes = example(alloc, word, 0)?;
             put(rt, path, bytes.as_slice().get(..number).unwrap_or(&[]))
         }
         "damaged" | "lost" | "first" | "second" | "second_file" => {
-            put(rt, path, example(alloc, word, number)?.bytes.as_slice())
+            put(rt, path, example(alloc, word, number)?.as_slice())
         }
         "records" => put(rt, path, payroll(alloc)?.as_slice()),
         "has" => holds(rt, path, bytes_of(alloc, text)?.as_slice()),
         "at" => has_text(rt, path, text),
         "length" => Ok(fs::read(rt, path)?.len() == number),
-        "is_worked" => holds(rt, path, example(alloc, word, 0)?.bytes.as_slice()),
+        "is_worked" => holds(rt, path, example(alloc, word, 0)?.as_slice()),
         "missing" => Ok(rest.split(' ').all(|path| fs::read(rt, path).is_err())),
         "allowed" => {
             let mode = fs::metadata(rt, path)?.permissions().mode() & 0o7777;

@@ -177,22 +177,18 @@ impl LastLine {
     pub fn text(&self) -> &[u8] {
         &self.text
     }
-
-    fn put(&mut self, byte: u8) {
-        if self.ended {
-            self.text.clear();
-        }
-        self.ended = byte == b'\n';
-        if !self.ended {
-            let _ = self.text.try_push(byte);
-        }
-    }
 }
 
 impl Write for LastLine {
     fn write(&mut self, buf: &[u8]) -> io::Result<usize> {
         for byte in buf {
-            self.put(*byte);
+            if self.ended {
+                self.text.clear();
+            }
+            self.ended = *byte == b'\n';
+            if !self.ended {
+                let _ = self.text.try_push(*byte);
+            }
         }
         Ok(buf.len())
     }

@@ -9,18 +9,18 @@ use crate::explain::FaultSite;
 use crate::extract::{Draft, Output, Task, extract_whole, gather};
 use crate::fault::{FileFault, OUT_OF_MEMORY, ToolFault};
 use crate::help;
-use crate::images::{Image, Images, names_from, names_of};
+use crate::images::{Image, Images, names_of};
 use crate::program::{End, check_end};
 use crate::refusal::{Refusal, remove};
 use crate::screen::Progress;
 use crate::staging::session_in;
 use crate::words::set_id_of;
-use std::alloc::{AllocError, Global};
+use std::alloc::AllocError;
 use std::io::{BufWriter, Write};
 use std::{fs, io};
 use tape_run::{
     Content, FileChoice, FoundFiles, Mounted, SalvageTask, SetFile, Tally, UnpackOutcome,
-    file_line, file_name, find_files, flush, set_of, write_text,
+    file_line, file_name, find_files, flush, is_passed, set_of, write_text,
 };
 use tape_writer::system::found;
 
@@ -50,10 +50,10 @@ pub fn unpack<'a, R: Progress>(
     site: &mut FaultSite<'a>,
 ) -> Result<End, Refusal> {
     let mut text = String::new(rt.alloc());
-    let names = names_of(rt, &order.images, &mut text, site)?;
+    let names = names_of(rt.host(), &order.images, &mut text, site)?;
     let names = names.as_slice();
     *site = FaultSite::Folder(order.folder);
-    match fs::metadata(rt, order.folder) {
+    match fs::metadata(rt.host(), order.folder) {
         Ok(found) if found.is_dir() => {}
         // If it is an image, DIR was forgotten.
         Ok(_) => return Err(Refusal::Words(help::DIR_IS_NO_FOLDER)),
@@ -120,21 +120,15 @@ fn unpack_file<R: Progress, P: Write>(
         let (conflict, end) = (UnpackOutcome::Conflict, End::Incomplete);
         return tell(file, conflict, b"", "", end, lines);
     }
-    let name = file_name(&file.set_id, file.file, &file.file_id);
-    let paths = &paths_of(source.rt.alloc(), source.order.folder, &name)?;
-    unpack_to(source, file, paths, lines)
-}
-
-/// Returns the paths of the file named `name` in directory `folder`.
-fn paths_of(alloc: Global, folder: &str, name: &[u8]) -> Result<Paths, AllocError> {
+    let (alloc, folder) = (source.rt.alloc(), source.order.folder);
     let end = if folder.ends_with('/') { "" } else { "/" };
     let mut out = format!(in alloc; "{folder}{end}")?;
     // The bytes of a name are ASCII.
-    for byte in name {
+    for byte in &file_name(&file.set_id, file.file, &file.file_id) {
         out.push(char::from(*byte))?;
     }
     let stage = format!(in alloc; "{out}.stage")?;
-    Ok(Paths { out, stage })
+    unpack_to(source, file, &Paths { out, stage }, lines)
 }
 
 /// Unpacks a file to `paths`, unless a file with its name exists.
@@ -148,7 +142,7 @@ fn unpack_to<R: Progress, P: Write>(
     let mut last = LastLine::new();
     let is_list = source.order.list;
     let done = if is_list {
-        listed(source.rt, file, out, &mut last)
+        listed(source.rt.host(), file, out, &mut last)
     } else {
         unpacked(source, file, paths, &mut last)
     };
@@ -178,11 +172,11 @@ fn unpacked<R: Progress>(
     last: &mut LastLine,
 ) -> Result<End, ToolFault> {
     let (rt, stage) = (source.rt, paths.stage.as_str());
-    if found(fs::symlink_metadata(rt, paths.out.as_str()))?.is_some() {
+    if found(fs::symlink_metadata(rt.host(), paths.out.as_str()))?.is_some() {
         return Err(ToolFault::File(FileFault::Exists));
     }
     // A link is not followed to a stage.
-    let is_staged = match found(fs::symlink_metadata(rt, stage))? {
+    let is_staged = match found(fs::symlink_metadata(rt.host(), stage))? {
         Some(there) if !there.is_file() => return Err(ToolFault::File(FileFault::NotOpened)),
         there => there.is_some(),
     };
@@ -213,8 +207,8 @@ fn salvage_file<R: Progress, P: Write>(
     let salvaged = Salvaged::of(rt.alloc(), out)?;
     let mut names = Vec::new(rt.alloc());
     for (name, image) in source.names.iter().zip(source.met.images.as_slice()) {
-        if set_of(image).is_none_or(|set_id| set_id == file.set_id) && names.push(*name).is_err() {
-            return Err(OUT_OF_MEMORY);
+        if set_of(image).is_none_or(|set_id| set_id == file.set_id) {
+            names.push(*name).map_err(|_| OUT_OF_MEMORY)?;
         }
     }
     let task = SalvageTask {
@@ -278,7 +272,8 @@ fn recover<R: Progress>(
     recover_on(source, &in_passes, paths.stage.as_str(), last)
 }
 
-/// Recovers a file on the stage at `path` from the images that may have its missing parts.
+/// Recovers a file on the stage at `path` from the images that may have its missing parts, in the
+/// order in which they are read: those of its set, without those that have only an earlier section.
 fn recover_on<R: Progress>(
     source: &Source<'_, R>,
     task: &Task<'_>,
@@ -286,11 +281,20 @@ fn recover_on<R: Progress>(
     last: &mut LastLine,
 ) -> Result<End, ToolFault> {
     let rt = source.rt;
-    let mut session = session_in(rt, path, task.set_id, task.file)?;
-    let names = match session.want() {
-        Some(want) => names_from(rt.alloc(), source.names, source.met, task.set_id, want)?,
-        None => Vec::new(rt.alloc()),
-    };
+    let mut session = session_in(rt.host(), path, task.set_id, task.file)?;
+    let mut names = Vec::new(rt.alloc());
+    if let Some(want) = session.want() {
+        let met = source.met;
+        let numbers = met.reading_order(rt.alloc(), task.set_id, want.file, false)?;
+        for number in numbers.as_slice() {
+            let image = met.images.as_slice().get(*number);
+            if let Some(name) = source.names.get(*number)
+                && !image.is_some_and(|image| is_passed(image, want))
+            {
+                names.push(*name).map_err(|_| OUT_OF_MEMORY)?;
+            }
+        }
+    }
     let images = &mut Images::new(rt, names.as_slice());
     let output = Output::New(Draft::over(rt, task.out, None)?);
     Ok(gather(rt, task, images, output, last, &mut session))

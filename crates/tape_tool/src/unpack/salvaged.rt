@@ -108,7 +108,7 @@ impl Salvaged {
         names: &[&str],
         last: &mut LastLine,
     ) -> Result<(), ToolFault> {
-        let (records, report) = self.earlier(rt)?;
+        let (records, report) = self.earlier(rt.host())?;
         let Draft { mut name, file } = Draft::over(rt, self.records.as_str(), records)?;
         let end = match Draft::over(rt, self.report.as_str(), report) {
             Ok(draft) => {
@@ -134,8 +134,8 @@ impl Salvaged {
     }
 
     /// Removes the files that an earlier run wrote, unless they have changed since then.
-    pub fn remove<R: Host>(&self, rt: &R) -> Result<(), ToolFault> {
-        match self.earlier(rt) {
+    pub fn remove<R: Progress>(&self, rt: &R) -> Result<(), ToolFault> {
+        match self.earlier(rt.host()) {
             Ok((Some(_), _)) => {
                 remove(rt, self.report.as_str());
                 remove(rt, self.records.as_str());
@@ -147,36 +147,30 @@ impl Salvaged {
     }
 
     /// Returns the files that an earlier run wrote, if the two paths have files. Returns `Exists`
-    /// if they have others, or these were changed.
+    /// if they have others, or these were changed: the last line of the report contains the
+    /// checksums of both.
     fn earlier<R: Host>(&self, rt: &R) -> Result<(Option<FileId>, Option<FileId>), ToolFault> {
         let records = found(fs::symlink_metadata(rt, self.records.as_str()))?;
         let report = found(fs::symlink_metadata(rt, self.report.as_str()))?;
-        match (&records, &report) {
+        let other = ToolFault::File(FileFault::Exists);
+        let (records, report) = match (&records, &report) {
             (None, None) => return Ok((None, None)),
             (Some(records), Some(report)) if records.is_file() && report.is_file() => {
-                if self.is_own(rt, records.len(), report.len())? {
-                    return Ok((Some(FileId::of(records)), Some(FileId::of(report))));
-                }
+                (records, report)
             }
-            _ => {}
-        }
-        Err(ToolFault::File(FileFault::Exists))
-    }
-
-    /// Returns whether the last line of the report contains the checksums of both files, given
-    /// their lengths.
-    fn is_own<R: Host>(&self, rt: &R, records: u64, report: u64) -> Result<bool, ToolFault> {
-        let Some(lines) = report.checked_sub(SUMS as u64) else {
-            return Ok(false);
+            _ => return Err(other),
         };
+        let lines = report.len().checked_sub(SUMS as u64).ok_or(other)?;
         let mut file = open(rt, self.report.as_str())?;
         let of_lines = sum_of(&mut file, lines)?;
         let mut last = [0; SUMS];
         file.read_exact(&mut last)
             .map_err(|_| FileFault::ReadFailed)?;
-        let of_records = sum_of(&mut open(rt, self.records.as_str())?, records)?;
-        let line = sums_line(rt.alloc(), &of_records, &of_lines)?;
-        Ok(last.as_slice() == line.as_bytes())
+        let of_records = sum_of(&mut open(rt, self.records.as_str())?, records.len())?;
+        if last.as_slice() != sums_line(rt.alloc(), &of_records, &of_lines)?.as_bytes() {
+            return Err(other);
+        }
+        Ok((Some(FileId::of(records)), Some(FileId::of(report))))
     }
 }
 

@@ -10,15 +10,14 @@ use crate::explain::FaultSite;
 use crate::fault::{FileFault, ToolFault};
 use crate::help;
 use crate::program::{End, end_of};
-use crate::refusal::{Refusal, look, same_file};
-use crate::screen::Host;
+use crate::refusal::{Refusal, same_file};
+use crate::screen::{Host, Progress};
 use std::alloc::AllocError;
 use std::fs::Metadata;
-use std::io;
-use std::rt::Runtime;
+use std::{fs, io};
 use tape_blocks::Shape;
 use tape_label::{Field, Format, Head1};
-use tape_writer::system::{FolderPlan, InputFile, VOLUMES, image_path, write_in_folder};
+use tape_writer::system::{FolderPlan, InputFile, VOLUMES, found, image_path, write_in_folder};
 use tape_writer::{Input, WriteFault};
 
 /// Writes files to volumes, unless that would destroy a file, and reports the volumes. One input
@@ -26,13 +25,13 @@ use tape_writer::{Input, WriteFault};
 ///
 /// Errors are checked in this order: the shape, the identifiers of the files, their inputs, and
 /// then those that the writer finds.
-pub fn write<'a, R: Host>(
+pub fn write<'a, R: Progress>(
     rt: &R,
     order: &WriteOrder<'a>,
     site: &mut FaultSite<'a>,
 ) -> Result<End, Refusal> {
     *site = FaultSite::Images(order.folder);
-    look_ahead(rt, order)?;
+    look_ahead(rt.host(), order)?;
     let plan = FolderPlan {
         folder: order.folder,
         prefix: order.prefix,
@@ -45,9 +44,9 @@ pub fn write<'a, R: Host>(
         *site = FaultSite::Input(*word);
         head_for(word)?;
     }
-    let mut files = find_inputs(rt, order, site)?;
+    let mut files = find_inputs(rt.host(), order, site)?;
     *site = FaultSite::Images(order.folder);
-    let ended = write_in_folder(rt, &plan, files.as_mut_slice());
+    let ended = write_in_folder(rt.host(), &plan, files.as_mut_slice());
     let ended = ended.map_err(|fault| ToolFault::from(fault))?;
     let said = say(&mut io::writer(rt), files.len() as u64, ended.as_slice());
     Ok(end_of(said.map_err(|fault| ToolFault::from(fault))))
@@ -134,7 +133,7 @@ fn head_of(file_id: Field<17>) -> Head1
 }
 
 /// Looks up the inputs, in their order. None of them is read.
-fn find_inputs<'r, 'a: 'r, R: Runtime + AllocGlobal>(
+fn find_inputs<'r, 'a: 'r, R: Host>(
     rt: &'r R,
     order: &WriteOrder<'a>,
     site: &mut FaultSite<'a>,
@@ -163,14 +162,14 @@ fn find_inputs<'r, 'a: 'r, R: Runtime + AllocGlobal>(
 /// an image, or looking up one of these files fails; with `Exists` if another file that is not a
 /// regular one has such a name, for example a pipe or a device; with `OutOfMemory` if an allocation
 /// was refused.
-fn look_ahead<R: Runtime + AllocGlobal>(rt: &R, order: &WriteOrder<'_>) -> Result<(), Refusal> {
+fn look_ahead<R: Host>(rt: &R, order: &WriteOrder<'_>) -> Result<(), Refusal> {
     let images = images_of(rt, order)?;
     if images.is_empty() {
         return Ok(());
     }
     for word in order.files.as_slice() {
         let (_, path) = split(word);
-        match look(rt, path)? {
+        match found(fs::metadata(rt, path))? {
             Some(input)
                 if images
                     .as_slice()
@@ -185,20 +184,13 @@ fn look_ahead<R: Runtime + AllocGlobal>(rt: &R, order: &WriteOrder<'_>) -> Resul
 }
 
 /// Returns the existing images of the set. Refuses anything but a regular file.
-fn images_of<R: Runtime + AllocGlobal>(
-    rt: &R,
-    order: &WriteOrder<'_>,
-) -> Result<Vec<Metadata>, Refusal> {
+fn images_of<R: Host>(rt: &R, order: &WriteOrder<'_>) -> Result<Vec<Metadata>, Refusal> {
     let mut images = Vec::new(rt.alloc());
     for number in 1..=VOLUMES {
         let path = image_path(rt.alloc(), order.folder, order.prefix, number)?;
-        match look(rt, path.as_str())? {
+        match found(fs::metadata(rt, path.as_str()))? {
             None => {}
-            Some(image) if image.is_file() => {
-                if images.push(image).is_err() {
-                    return Err(Refusal::from(AllocError));
-                }
-            }
+            Some(image) if image.is_file() => images.push(image).map_err(|_| AllocError)?,
             Some(folder) if folder.is_dir() => return Err(Refusal::from(FileFault::NotOpened)),
             Some(_) => return Err(Refusal::from(FileFault::Exists)),
         }

@@ -67,7 +67,7 @@ pub fn write_order<'a>(alloc: Global, matches: &ArgMatches<'a>) -> Result<WriteO
     };
     let files = matches.get_strs("ID=PATH").unwrap_or(&[]);
     if !files.iter().all(|file| file.contains('=')) {
-        return Err(Refusal::Words(help::NO_PATH));
+        return Err(Refusal::Words("files are given as ID=PATH, for example 'PAYROLL=payroll.txt'"));
     }
     let order = WriteOrder {
         folder: text_of(matches, "DIR"),
@@ -130,9 +130,9 @@ fn wrong(order: &WriteOrder<'_>) -> Option<&'static str>
         return Some(help::NO_FOLDER);
     }
     match (order.format, order.record, order.form) {
-        (Format::Fixed, None, _) => Some(help::RECORD_WANTED),
-        (Format::Spanned, Some(_), _) => Some(help::NO_RECORD),
-        (Format::Counted, _, Form::Raw) => Some(help::RAW_COUNTED),
+        (Format::Fixed, None, _) => Some("--format F requires --record N"),
+        (Format::Spanned, Some(_), _) => Some("--format S does not take --record"),
+        (Format::Counted, _, Form::Raw) => Some("--form raw requires --format F or S"),
         _ => None,
     }
 }

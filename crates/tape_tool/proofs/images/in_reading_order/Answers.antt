@@ -1,6 +1,5 @@
-use Rattle.std.proofs.Common.{◌<◌, ◌∙◌, ap, arith, filter_map, length, map, option_map}
-use Rattle.std.proofs.Common.{refl, slice_get}
-use Rattle.std.proofs.lemmas.Option.{slice_get_read, slice_get-map}
+use Rattle.std.proofs.Common.{◌<◌, ◌∙◌, ap, arith, filter_map, length, map, option_map, refl}
+use Rattle.std.proofs.{Common.slice_get, lemmas.Option.slice_get_read, lemmas.Option.slice_get-map}
 use Rattle.tape_tool.proofs.ListedNames.{all_taken, none_more, one_more, place_of, slice_past}
 use Rattle.tape_tool.proofs.images.in_reading_order.Goals.{in-Some+in_ok-push, in_default}
 use Rattle.tape_tool.proofs.images.in_reading_order.Goals as goal

@@ -1,13 +1,12 @@
 -- Wrong answers that the contracts of the pieces of `stage` exclude.
 use Rattle.std.proofs.Common.{◌≡◌, ℕ, List, ap, ◌∙◌, Option, Some, None, Ok}
-use Rattle.tape_blocks.specs.Block.{Portion}
-use Rattle.tape_blocks.specs.declared.parts.Form.{Form}
+use Rattle.tape_blocks.specs.{Block.Portion, declared.parts.Form.Form}
 use Rattle.tape_core.specs.Point.{Point}
 use Rattle.tape_stage.specs.Salvaged.{Remains}
 use Rattle.tape_stage.proofs.Once.{remains_once}
 use Rattle.tape_tool.specs.StageReport.{Shows, ending_of}
-use Rattle.tape_tool.specs.declared.stage.ending.StageEnding.{StageEnding}
-use Rattle.tape_tool.specs.declared.stage.ending.StageEnding.TheVariants.{Broken, Whole}
+use Rattle.tape_tool.specs.declared.stage.show.StageEnding.{StageEnding}
+use Rattle.tape_tool.specs.declared.stage.show.StageEnding.TheVariants.{Broken, Whole}
 use Rattle.tape_tool.proofs.stage.show.show_stage.Reads as show_stage
 
 -- the end that was reported, if these are the remains of the bytes

@@ -1,10 +1,8 @@
 use Rattle.std.proofs.Common.{◌≡◌, ◌==◌, ◌++◌, ℕ, Bool, true, false, if◌then◌else◌, List, take}
-use Rattle.std.proofs.Common.{drop}
-use Rattle.std.proofs.Common.{length, sym, ap, ◌∙◌, arith, append_assoc, take_all}
-use Rattle.std.specs.Prelude.{Option, Some, None}
+use Rattle.std.proofs.Common.{drop, length, sym, ap, ◌∙◌, arith, append_assoc, take_all}
 use Rattle.std.proofs.lemmas.List.{take-append-drop}
+use Rattle.std.specs.{Prelude.Option, Prelude.Some, Prelude.None, Io.Buffered.reader_buffer}
 use Rattle.std.specs.Io.KnownBytes.{Consumes, prepend_known}
-use Rattle.std.specs.Io.Buffered.{reader_buffer}
 use Rattle.tape_tool.proofs.read_ahead.ReadAheadRead.read.Goals as goal
 
 -- the first n buffered bytes were read

@@ -1,16 +1,14 @@
 use Rattle.std.proofs.Common.{◌≡◌, ℕ, false, refl, sym, subst, Option, Some}
 use Rattle.std.proofs.KnownBytes.{Keeps-refl}
 use Rattle.tape_core.specs.Weight.{Rose}
-use Rattle.tape_stage.specs.{OnlyReading.OnlyReads, Salvaged.Remains}
-use Rattle.tape_stage.specs.declared.disk.Disk.{Ghosts}
+use Rattle.tape_stage.specs.{OnlyReading.OnlyReads, Salvaged.Remains, declared.disk.Disk.Ghosts}
 use Rattle.tape_stage.specs.declared.stage.StageFault.TheVariants.{BadFrame, Failed, Full}
 use Rattle.tape_stage.proofs.Remaining.{broken_bad, broken_none, none_staged}
-use Rattle.tape_stage.proofs.{Passing.reads_then}
-use Rattle.tape_stage.proofs.Results.{no_frame_any, no_frame_says}
+use Rattle.tape_stage.proofs.{Passing.reads_then, Results.no_frame_any, Results.no_frame_says}
 use Rattle.tape_tool.specs.StageReport.{GivesFront, in_part, in_records, unopened}
 use Rattle.tape_tool.specs.declared.fault.ToolFault.TheVariants.{File}
+use Rattle.tape_tool.specs.declared.stage.show.StageEnding.{StageEnding}
 use Rattle.tape_writer.specs.declared.system.fault.FileFault.TheVariants.{WriteFailed}
-use Rattle.tape_tool.specs.declared.stage.ending.StageEnding.{StageEnding}
 use Rattle.tape_tool.proofs.StageReport.{gives_front, shows}
 use Rattle.tape_tool.proofs.stage.show.show_stage.Goals as goal
 

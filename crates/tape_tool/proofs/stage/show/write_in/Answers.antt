@@ -1,17 +1,14 @@
 use Rattle.std.proofs.Common.{rules, ◌≡◌, ◌+◌, Ok, Option, sym, ap, subst, ◌∙◌, arith}
-use Rattle.std.specs.Prelude.{OnErr, OnOk}
-use Rattle.std.specs.Io.KnownBytes.{Appends}
-use Rattle.tape_blocks.specs.{Spans.leaves}
-use Rattle.tape_blocks.specs.declared.parts.Form.{Form}
+use Rattle.std.specs.{Prelude.OnErr, Prelude.OnOk, Io.KnownBytes.Appends}
+use Rattle.tape_blocks.specs.{Spans.leaves, declared.parts.Form.Form}
 use Rattle.tape_core.specs.{Walks.GivesPart, Weight.Rose}
 use Rattle.tape_image.specs.Written.{AppendsFront}
 use Rattle.tape_image.proofs.Pieces.{on_err}
 use Rattle.tape_stage.specs.{OnlyReading.OnlyReads, Stages.IsAhead}
 use Rattle.tape_stage.proofs.Passing.{only_reads_self, reads_then}
 use Rattle.tape_run.specs.OutSinks.{with_end}
-use Rattle.tape_run.proofs.Fitting.{kept, whole_front}
 use Rattle.tape_run.proofs.Streams.{stream_starts, stream_writes, stream_failed, stream_ended}
-use Rattle.tape_run.proofs.Streams.{stream_short}
+use Rattle.tape_run.proofs.{Fitting.kept, Fitting.whole_front, Streams.stream_short}
 use Rattle.tape_tool.specs.StageReport.{output_in}
 use Rattle.tape_tool.proofs.stage.show.write_in.Goals as goal
 
