@@ -1,12 +1,8 @@
 -- Laws about labels. Each is the contract of a function of the module `laws`.
 use Rattle.std.specs.Prelude.{◌≡◌, ℕ, ◌+◌, List, Result, Ok, Err}
-use Rattle.tape_label.specs.{declared.label.LabelFault.LabelFault, declared.values.Kind.Kind}
-use Rattle.tape_label.specs.{declared.values.Head2.Head2, Kinds.HasKind, Head2.IsHead2}
+use Rattle.tape_label.specs.declared.{label.LabelFault.LabelFault, values.Kind.Kind}
+use Rattle.tape_label.specs.{declared.values.Head2.Head2, Head2.IsHead2}
 use Rattle.tape_label.specs.Reading.{vol1_at, head1_at, head2_at, trail1_at}
-
--- A block is a label of at most one kind.
-abbrev pub HasOneKind : List ℕ → Type 0
-HasOneKind block = (a b : Kind) → HasKind block a → HasKind block b → a ≡ b
 
 -- No block is a label of both sorts, whatever the fields.
 abbrev pub IsNotBoth : {A B : Type 0} → (List ℕ → A → Type 0) → (List ℕ → B → Type 0)

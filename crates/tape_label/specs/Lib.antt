@@ -14,5 +14,6 @@ pub mod Widths
 pub mod Written
 pub mod Faults
 pub mod Laws
+pub mod Cases
 -- only needed for the order of the faults:
 pub mod Reading

@@ -1,15 +1,21 @@
 //! Laws about labels, each as the contract of a function.
 
-ghost use Rattle.std.specs.Prelude.{◌≡◌, ◌<◌, ◌≤◌, ◌^◌, Ok, Some};
+ghost use Rattle.std.specs.Prelude.{◌≡◌, ◌<◌, ◌≤◌, ◌^◌, ℕ, [], Ok, Some};
 ghost use Rattle.tape_label.specs.{Vol1.IsVol1, Head1.IsHead1, Head1.HeadFits, Head2.Head2Fits};
-ghost use Rattle.tape_label.specs.{Trail1.IsTrail1, Trail1.TrailFits, Kinds.IsSecond};
-ghost use Rattle.tape_label.specs.Widths.{IsWide, IsWideVolume};
-ghost use Rattle.tape_label.specs.Laws.{HasOneKind, IsNotBoth, IsSecondLabel, readings};
+ghost use Rattle.tape_label.specs.{Trail1.IsTrail1, Trail1.TrailFits, Kinds.IsSecond, Laws.readings};
+ghost use Rattle.tape_label.specs.{Cases.CasesOfNumbers, Widths.IsWide, Widths.IsWideVolume};
+ghost use Rattle.tape_label.specs.{Laws.IsNotBoth, Laws.IsSecondLabel, Kinds.HasKind};
 
 use crate::label::LabelFault;
 use crate::reading::{digits_of, digits_value, read_head1, read_head2, read_trail1, read_vol1};
 use crate::values::{Head1, Head2, Kind, Trail1, Vol1};
 use crate::writing::{write_head1, write_head2, write_trail1, write_vol1};
+
+/// Examples for the definitions that only laws and premises contain.
+pub fn cases()
+    ensures both { IsNotBoth (λ block (n : ℕ). block ≡ []) (λ block (n : ℕ). block ≡ []) [] → ⊥ }
+    ensures numbers { CasesOfNumbers }
+{}
 
 /// A number that fits in `W` digits is read back from them.
 pub fn digits_again<const W: usize>(number: u64) -> Option<u64>
@@ -58,7 +64,7 @@ pub fn trail1_again(fields: &Trail1) -> Result<Trail1, LabelFault>
 pub fn readings(block: &[u8]) -> usize
     ensures count { result ≡ readings block.now }
     ensures at_most_one { result ≤ 1 }
-    ensures kinds { HasOneKind block.now }
+    ensures kinds { (a b : Kind) → HasKind block.now a → HasKind block.now b → a ≡ b }
     ensures volume_or_header { IsNotBoth IsVol1 IsHead1 block.now }
     ensures volume_or_second { IsNotBoth IsVol1 IsSecondLabel block.now }
     ensures volume_or_trailer { IsNotBoth IsVol1 IsTrail1 block.now }
