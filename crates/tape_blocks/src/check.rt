@@ -2,11 +2,10 @@
 
 ghost use Rattle.std.specs.Prelude.{◌≡◌, Bool, List, IfOk, IfErr, Ok, Err, ◌≤◌, ◌<◌, length};
 ghost use Rattle.std.specs.Prelude.{IfSome, None};
-ghost use Rattle.tape_blocks.specs.{declared.check.BlockFault.BlockFault, Checked.Passes};
+ghost use Rattle.tape_blocks.specs.{declared.check.BlockFault.BlockFault, Numbers.cause_number};
+ghost use Rattle.tape_blocks.specs.{Checked.Passes, Units.unit_at, Units.counted, Units.padding_by};
 ghost use Rattle.tape_blocks.specs.Block.{Portion, Holds, first_other, span_by};
-ghost use Rattle.tape_blocks.specs.{Faults.HasFault, Faults.bool_eq, Judged.judged};
-ghost use Rattle.tape_blocks.specs.{Spans.InOrder, Spans.continues, Numbers.cause_number};
-ghost use Rattle.tape_blocks.specs.Units.{unit_at, counted, padding_by};
+ghost use Rattle.tape_blocks.specs.{Faults.HasFault, Judged.judged, Spans.InOrder};
 
 use crate::parts::{Shape, Span};
 use tape_label::{Format, digits_value};
@@ -211,18 +210,6 @@ pub(crate) fn unit_at(
     }
 }
 
-/// Returns true if a part with span `span` may come next; `begun` says whether a record is
-/// unfinished before it.
-fn may_follow(span: Span, begun: bool) -> bool
-    ensures { result ≡ bool_eq (continues span) begun }
-{
-    if begun {
-        span.continues()
-    } else {
-        !span.continues()
-    }
-}
-
 /// Refuses the block, with `cause` at `place`.
 fn refuse(place: usize, cause: BlockCause) -> Result<bool, BlockFault>
     ensures { result ≡ Err (record { place = place; cause = cause }) }
@@ -248,7 +235,7 @@ fn judge(shape: &Shape, begun: bool, block: &[u8]) -> Result<bool, BlockFault>
             Err(fault) => return refuse(place + fault.place, fault.cause),
             Ok(None) => return Ok(going),
             Ok(Some(found)) => {
-                if !may_follow(found.span, going) {
+                if found.span.continues() != going {
                     return refuse(place, BlockCause::SpanBroken);
                 }
                 going = found.span.leaves();

@@ -136,9 +136,8 @@ pub struct Parts<'a> {
 }
 
 impl<'a> Parts<'a> {
-    ghost use Rattle.tape_blocks.specs.Block.{Portion, Holds};
+    ghost use Rattle.tape_blocks.specs.{Block.Portion, Block.Holds, PartsLeft.parts_left};
     ghost use Rattle.tape_blocks.specs.Checked.{IsChecked};
-    ghost use Rattle.tape_blocks.specs.PartsLeft.{parts_left};
 
     /// Creates an iterator over a block that passes [`check_block`](crate::check_block) for some
     /// `begun`.
@@ -160,8 +159,7 @@ impl<'a> Iterator for Parts<'a> {
     type Item = Part<'a>;
 
     ghost use Rattle.std.specs.Iterator.{YieldsFirstBy, item_count};
-    ghost use Rattle.tape_blocks.specs.Parts.{view};
-    ghost use Rattle.tape_blocks.specs.PartsLeft.{parts_left};
+    ghost use Rattle.tape_blocks.specs.{Parts.view, PartsLeft.parts_left};
 
     ghost next_gives = { YieldsFirstBy view parts_left };
 

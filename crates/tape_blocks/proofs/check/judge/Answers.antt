@@ -46,20 +46,20 @@ returns-in-Ok-None c =
     c.units.invariant.front.0 c.units.going c.units.place
     (Ok None) shape.some_record c.units.invariant.inside c.units.invariant.front.1 unit tt)
 
-pub returns-then-not-may_follow : goal.returns-then-not-may_follow
-returns-then-not-may_follow c =
+pub returns-then-continues-going : goal.returns-then-continues-going
+returns-then-continues-going c =
     let shape = c.args.shape.now in
     let unit : unit_at shape.format shape.rec_len (drop c.units.place c.args.block.now)
     ≡ Ok (Some c.in-Ok-Some.found) =
     sym (rw (take_rest c.args.block.now c.units.place) at c.in-Ok-Some.ensures.exact)
     ∙ ap ok_of c.in-Ok-Some.field-0-is in
     let breaks : bool_eq (continues c.in-Ok-Some.found.span) c.units.going ≡ false =
-    sym c.may_follow.ensures ∙ c.if-not-may_follow.true in
+    grind (arith, bool_eq-true, c.continues.ensures, c.if-continues-going.true) in
     let z : c.units.place + 0 ≡ c.units.place = omega arith in
     let by = judged_where shape.format shape.rec_len shape.offset c.args.begun c.args.block.now
     c.units.invariant.front.0 c.units.going c.units.place (Ok (Some c.in-Ok-Some.found))
     shape.some_record c.units.invariant.inside c.units.invariant.front.1 unit breaks in
-    c.refuse-then-not-may_follow.ensures ∙ sym (by ∙ rw (breaks, z) refl)
+    c.refuse-then-continues-going.ensures ∙ sym (by ∙ rw (breaks, z) refl)
 
 pub units-preserved : goal.units-preserved
 units-preserved c =
@@ -70,8 +70,8 @@ units-preserved c =
     let unit : unit_at shape.format shape.rec_len rest ≡ Ok (Some found) =
     sym (rw (take_rest c.args.block.now c.units.place) at c.in-Ok-Some.ensures.exact)
     ∙ ap ok_of c.in-Ok-Some.field-0-is in
-    let follows : continues found.span ≡ c.units.going = bool_eq-true (continues found.span)
-    c.units.going (let t = c.if-not-may_follow.false in let e = c.may_follow.ensures in cc) in
+    let follows : continues found.span ≡ c.units.going =
+    grind (arith, c.continues.ensures, c.if-continues-going.false) in
     record {
       inside =
           let i = rw (take_rest c.args.block.now c.units.place, c.in-Ok-Some.field-0-is) at
