@@ -2,8 +2,8 @@
 use Rattle.std.proofs.Common.{◌≡◌, ◌<◌, ◌⊎◌, ℕ, ◌+◌, List, [], ◌∷◌, ◌++◌, length, take, drop, Bool}
 use Rattle.std.proofs.Common.{true, false, Some, refl, sym, ap, ◌∙◌, subst, inl, inr, append_assoc}
 use Rattle.std.proofs.Common.{arith, length-append, slice_get, ◌==◌, nat_lt}
-use Rattle.std.specs.List.{AllByRecursion}
 use Rattle.std.proofs.lemmas.{Bool.Decides.nat_tests, List.take-append-drop}
+use Rattle.std.specs.List.{AllByRecursion}
 use Rattle.tape_blocks.specs.Block.{Portion, Holds}
 use Rattle.tape_blocks.specs.{Judged.begun_behind, Spans.InOrder, Tight.Filled}
 use Rattle.tape_set.specs.declared.position.Position.TheVariants.{Awaits}
@@ -16,11 +16,10 @@ use Rattle.tape_set.proofs.FileParts.{before_taken, before_more, block_in_order}
 use Rattle.tape_set.proofs.FileParts.{begun_behind-append, order_rest}
 use Rattle.tape_core.specs.declared.event.Heading.{Heading}
 use Rattle.tape_core.specs.{Table.at_awaited, Follows.FileTells, Follows.Inside, Follows.InData}
-use Rattle.tape_core.proofs.BlockLaws.{checked, same_front}
-use Rattle.tape_core.proofs.{Files.get_behind, StateLaws.later_start, Aim.Aim, HeaderSteps.Next}
-use Rattle.tape_core.proofs.Lists.{full_next, stopped_later, stopped_here}
-use Rattle.tape_core.proofs.Fronts.{first_left, here}
 use Rattle.tape_core.proofs.AwaitedSection.{wanted_at, its_file, told, file_tells, known_after}
+use Rattle.tape_core.proofs.{BlockLaws.checked, BlockLaws.same_front, StateLaws.later_start}
+use Rattle.tape_core.proofs.{Files.get_behind, HeaderSteps.Next, Fronts.first_left, Fronts.here}
+use Rattle.tape_core.proofs.{Aim.Aim, Lists.full_next, Lists.stopped_later, Lists.stopped_here}
 use Rattle.tape_core.proofs.AwaitedSection.{on_it, on_with, reached_more}
 
 module _ (aim : Aim) where

@@ -15,12 +15,11 @@ use Rattle.tape_core.specs.declared.event.Phase.TheVariants.{Volume, VolumeLabel
 use Rattle.tape_core.specs.declared.event.Phase.TheVariants.{DataWanted, TrailerPassed}
 use Rattle.tape_core.specs.Table.{Outcome, at_head1, at_head2, other_numbers, at_passed_trailer}
 use Rattle.tape_core.specs.Table.{at_end, at_wanted_trailer, first_labels, first_label}
-use Rattle.tape_core.specs.{declared.event.Heading.Heading, declared.event.Phase.Phase}
-use Rattle.tape_core.specs.declared.event.Answer.TheVariants.{Deliver}
 use Rattle.tape_core.specs.declared.event.Phase.TheVariants.{TrailerWanted, NextFile}
-use Rattle.tape_core.specs.Labels.{form_at, other_file_id, other_shape}
-use Rattle.tape_core.specs.State.{State, wants_data}
 use Rattle.tape_core.specs.Table.{second_label, at_block, unless_complete, step_of}
+use Rattle.tape_core.specs.{declared.event.Heading.Heading, State.State, State.wants_data}
+use Rattle.tape_core.specs.{declared.event.Phase.Phase, declared.event.Answer.TheVariants.Deliver}
+use Rattle.tape_core.specs.Labels.{form_at, other_file_id, other_shape}
 
 pick : (t : Bool) (a b : Outcome) → a.0 ≢ Deliver → b.0 ≢ Deliver → (cond t a b).0 ≢ Deliver
 pick true a b x y = x

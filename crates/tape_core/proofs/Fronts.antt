@@ -2,9 +2,8 @@
 use Rattle.std.proofs.Common.{◌≡◌, ◌<◌, ◌≤◌, ◌⊎◌, ℕ, ◌+◌, List, [], ◌∷◌, ◌++◌, length, drop, Bool}
 use Rattle.std.proofs.Common.{true, false, cond, Some, refl, sym, ap, ◌∙◌, subst, inl, inr}
 use Rattle.std.proofs.Common.{append_assoc, arith, length-append, eq-eqb, zero, suc, ◌==◌, ◌&&◌}
-use Rattle.std.proofs.Common.{◌||◌, slice_get}
+use Rattle.std.proofs.{Common.◌||◌, Common.slice_get, lemmas.Bool.Decides.nat_tests}
 use Rattle.std.specs.List.{AllByRecursion}
-use Rattle.std.proofs.lemmas.Bool.Decides.{nat_tests}
 use Rattle.tape_set.specs.declared.position.{Position.Position, Position.TheVariants.Awaits}
 use Rattle.tape_set.specs.Layout.{FileSet, Placed, Entry, a_mark, is_data, nth, all_entries}
 use Rattle.tape_set.specs.Layout.{data_group, trailer_group, entries, section_of, sections, on}

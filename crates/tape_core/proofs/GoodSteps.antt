@@ -11,23 +11,22 @@ use Rattle.tape_set.specs.Layout.{trailer_group, entries, sections, on}
 use Rattle.tape_set.proofs.Everywhere.{every_at, nth_found}
 use Rattle.tape_core.specs.declared.event.{Reason.Reason, Heading.Heading, Phase.Phase}
 use Rattle.tape_core.specs.declared.event.Reason.TheVariants.{NotLabelled, NotOnReel, ReelEnded}
-use Rattle.tape_core.specs.declared.event.Phase.TheVariants.{Over, Broken, Volume as AtVolume}
 use Rattle.tape_core.specs.declared.event.Phase.TheVariants.{VolumeLabels, Header2, Headers}
 use Rattle.tape_core.specs.declared.event.Phase.TheVariants.{DataPassed, DataWanted, TrailerPassed}
 use Rattle.tape_core.specs.declared.event.Phase.TheVariants.{TrailerWanted, Trailers, NextFile}
 use Rattle.tape_core.specs.Table.{useless, at_block, at_item}
 use Rattle.tape_core.specs.Follows.{to_come, Left, Among, BarrenNext, BarrenTrailers, BarrenTrailer}
 use Rattle.tape_core.specs.Follows.{BarrenData, InData, Follows}
+use Rattle.tape_core.specs.declared.event.Phase.TheVariants.{Over, Broken, Volume as AtVolume}
+use Rattle.tape_core.proofs.HeaderSteps.{Next, passed_next, either, nothing_here, over_next}
+use Rattle.tape_core.proofs.StraySteps.{stray_first, stray_data, stray_trailer, stray_trailers}
 use Rattle.tape_core.proofs.LabelLaws.{header_no_label, label_taken}
 use Rattle.tape_core.proofs.Fronts.{left_more, none_to_come, first_left, here}
-use Rattle.tape_core.proofs.{Aim.Aim, BlockSteps.data_awaited}
+use Rattle.tape_core.proofs.{Aim.Aim, TrailerSteps.trailer_next, TrailerSteps.passed_trailer_next}
+use Rattle.tape_core.proofs.{BlockSteps.data_awaited, StraySteps.stray_next, StraySteps.at_start}
 use Rattle.tape_core.proofs.AwaitedSection.{all_among, next_among, on_it, on_with}
-use Rattle.tape_core.proofs.HeaderSteps.{Next, passed_next, either, nothing_here, over_next}
 use Rattle.tape_core.proofs.HeaderSteps.{head1_next, head2_next, headers_end}
 use Rattle.tape_core.proofs.DataSteps.{data_below, count_cases, all_counted, data_end}
-use Rattle.tape_core.proofs.TrailerSteps.{trailer_next, passed_trailer_next}
-use Rattle.tape_core.proofs.StraySteps.{stray_first, stray_data, stray_trailer, stray_trailers}
-use Rattle.tape_core.proofs.StraySteps.{stray_next, at_start}
 
 module _ (aim : Aim) where
   open aim use {set, l, core, sect, block, part, k, v, vol, good}

@@ -5,9 +5,8 @@ use Rattle.std.proofs.Common.{false, Some, Result, Ok, Err, refl, sym, ap, ◌�
 use Rattle.std.proofs.Common.{append_assoc, arith, length-append, slice_get, map, ◌==◌}
 use Rattle.std.proofs.lemmas.Bool.Decides.{nat_tests}
 use Rattle.std.specs.List.{AllByRecursion}
-use Rattle.tape_label.specs.{declared.values.Head1.Head1, declared.values.Trail1.Trail1}
-use Rattle.tape_label.specs.declared.label.LabelFault.{LabelFault}
-use Rattle.tape_label.specs.Reading.{head1_at, trail1_at}
+use Rattle.tape_label.specs.{declared.values.Head1.Head1, Reading.head1_at, Reading.trail1_at}
+use Rattle.tape_label.specs.{declared.values.Trail1.Trail1, declared.label.LabelFault.LabelFault}
 use Rattle.tape_label.specs.declared.label.LabelFault.TheVariants as faults
 use Rattle.tape_label.proofs.First.{head1_found, trail1_found}
 use Rattle.tape_blocks.specs.Tight.{Filled}

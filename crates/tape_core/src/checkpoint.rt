@@ -59,10 +59,8 @@ impl Model for Checkpoint {
 }
 
 impl Checkpoint {
-    ghost use Rattle.tape_core.specs.Point.{IsPoint};
-    ghost use Rattle.tape_core.specs.State.{State};
+    ghost use Rattle.tape_core.specs.{Point.IsPoint, State.State, Follows.IsAt, Follows.Delivers};
     ghost use Rattle.tape_core.specs.Table.{saved};
-    ghost use Rattle.tape_core.specs.Follows.{IsAt, Delivers};
     ghost use Rattle.tape_core.specs.Stands.{Stands, weight_of, inside_block};
 
     /// Returns the checkpoint with the given values, or `None` if they violate the invariant of the

@@ -152,10 +152,9 @@ impl MemorySink {
 
 impl PartSink for MemorySink {
     ghost use Rattle.tape_core.specs.Crash.{lost, AddsNothing};
-    ghost use Rattle.tape_core.specs.Weight.{Rose};
+    ghost use Rattle.tape_core.specs.{Weight.Rose, Memory.portions, Memory.IsLongestFront};
     ghost use Rattle.tape_core.specs.declared.sink.SinkFault.TheVariants.{Full, OutOfMemory};
     ghost use Rattle.std.specs.Prelude.{OnOk, OnErr, IfErr, Err, Ok, ◌⊎◌};
-    ghost use Rattle.tape_core.specs.Memory.{portions, IsLongestFront};
 
     ghost holds = { λ sink parts. parts ≡ portions sink };
 

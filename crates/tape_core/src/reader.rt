@@ -61,14 +61,11 @@ impl Model for ReaderCore {
 
 impl ReaderCore {
     ghost use Rattle.tape_core.specs.Table as Table;
-    ghost use Rattle.tape_core.specs.Arrive.{arrival};
-    ghost use Rattle.tape_core.specs.Behind.{behind_of};
     ghost use Rattle.tape_core.specs.Follows.{reading, IsAt, IsReading, Kept, Idle, Checked};
-    ghost use Rattle.tape_core.specs.Follows.{IsFinal};
-    ghost use Rattle.tape_core.specs.Place.{rest_of, place_of};
+    ghost use Rattle.tape_core.specs.{Arrive.arrival, Place.rest_of, Place.place_of};
+    ghost use Rattle.tape_core.specs.{Behind.behind_of, Known.IsFileNumber, Known.most_staged};
+    ghost use Rattle.tape_core.specs.{Follows.IsFinal, Stands.Stands, Stands.weight_of};
     ghost use Rattle.tape_core.specs.Foreign.{starts_set, IsForeignAt, Unmoved};
-    ghost use Rattle.tape_core.specs.Stands.{Stands, weight_of};
-    ghost use Rattle.tape_core.specs.Known.{IsFileNumber, most_staged};
 
     /// Creates a reader of file number `file` of the set, at the start of the file. Files are
     /// numbered from 1.

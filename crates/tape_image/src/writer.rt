@@ -36,9 +36,7 @@ pub struct ImageWriter<W: Write + Drop> {
 
 impl<W: Write + Drop> Model for ImageWriter<W> {
     ghost use Rattle.std.specs.Prelude.{◌≤◌};
-    ghost use Rattle.tape_image.specs.Begins.{image_limit};
-    ghost use Rattle.tape_image.specs.Writer.{Writer};
-    ghost use Rattle.tape_image.specs.Standing.{standing_of};
+    ghost use Rattle.tape_image.specs.{Begins.image_limit, Writer.Writer, Standing.standing_of};
 
     ghost Value = { Writer };
 

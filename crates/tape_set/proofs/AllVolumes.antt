@@ -1,8 +1,7 @@
 -- Complete readings of all volumes, in order, move a file from its start to its end.
-use Rattle.std.proofs.Common.{◌≡◌, ◌⊎◌, inl, inr, ℕ, zero, suc, ◌+◌, ◌<◌, ◌≤◌, Bool, true}
-use Rattle.std.proofs.Common.{false, List, [], ◌∷◌, ◌++◌, length, Option, Some, None, refl, sym, ap}
-use Rattle.std.proofs.Common.{subst, ◌∙◌, arith, eq-eqb}
-use Rattle.std.proofs.lemmas.Bool.Decides.{nat_tests}
+use Rattle.std.proofs.Common.{◌≡◌, ◌⊎◌, inl, inr, ℕ, zero, suc, ◌+◌, ◌<◌, ◌≤◌, Bool, true, false}
+use Rattle.std.proofs.Common.{List, [], ◌∷◌, ◌++◌, length, Option, Some, None, refl, sym, ap, subst}
+use Rattle.std.proofs.{Common.◌∙◌, Common.arith, Common.eq-eqb, lemmas.Bool.Decides.nat_tests}
 use Rattle.std.specs.Prelude.{IsSome, option_and_then, slice_get, ◌==◌}
 use Rattle.tape_blocks.specs.Tight.{Chain}
 use Rattle.tape_set.specs.declared.position.Position.TheVariants.{Awaits, Finished}
