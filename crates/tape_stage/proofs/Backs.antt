@@ -1,14 +1,14 @@
 -- The remains of a stage after a crash.
-use Rattle.std.proofs.Common.{◌≡◌, ◌⊎◌, inl, inr, ℕ, ◌+◌, ◌≤◌, Bool, false, List, sym, ◌∙◌, subst}
+use Rattle.std.proofs.Common.{◌≡◌, ◌⊎◌, inl, inr, ℕ, ◌+◌, ◌≤◌, Bool, false, List, ◌∙◌}
 use Rattle.tape_stage.specs.Stages.{IsStage, Returns, Survives, Returned, Survived, HasRefused}
 use Rattle.tape_stage.specs.declared.stage.StageFault.TheVariants.{NoPoint, BadFrame, Device}
 use Rattle.tape_stage.specs.Staged.{Staged, StagedIn, IsEither, Ready}
-use Rattle.tape_stage.specs.{Stages.crashes_of, declared.disk.Disk.Ghosts, Moments.Passes}
+use Rattle.tape_stage.specs.Stages.{crashes_of, crashes_on}
+use Rattle.tape_stage.specs.{declared.disk.Disk.Ghosts, Moments.Passes}
 use Rattle.tape_stage.specs.declared.stage.StageFault.TheVariants.{OutOfMemory, Failed, Full}
 use Rattle.tape_stage.specs.{declared.stage.Stage.Stage, declared.stage.StageFault.StageFault}
 use Rattle.tape_blocks.specs.Block.{Portion}
-use Rattle.tape_core.specs.Crash.{AddsNothing, AddsOnly, Crashes, IsThis}
-use Rattle.tape_core.specs.Point.{Point}
+use Rattle.tape_core.specs.{Crash.AddsNothing, Crash.AddsOnly, Crash.IsThis, Point.Point}
 use Rattle.tape_core.proofs.Crashes.{only_same}
 use Rattle.tape_stage.proofs.{Tears.staged_named, SlotSteps.ready_each, Once.staged_once}
 use Rattle.tape_core.specs.Crash as crash
@@ -42,26 +42,10 @@ ready_returns seen may_leave second g point other_open parts ready back there r 
     let same = staged_once r.0 r.2.0 g back point there parts r.2.1 (staged_named _ _ _ _ _ each) in
     (same.1, same.2)
 
--- the effect of crashes on a stage on the given disk
-abbrev pub crashes_on : {D : Type 0} → Ghosts D → D → Crashes
-crashes_on disk at = record {
-  returns = λ back there. (bytes : List ℕ) × disk.may_leave at bytes
-      × ((g : ℕ) × Staged bytes g back there);
-  survives = (bytes : List ℕ) → disk.may_leave at bytes → (g : ℕ) × (point : Point)
-      × (parts : List Portion) × Staged bytes g point parts;
-  moment = disk.moment at;
-  returned = λ t back there. (bytes : List ℕ) × (disk.left_since at t bytes
-      ⊎ disk.may_leave at bytes) × ((g : ℕ) × Staged bytes g back there);
-  survived = λ t. (bytes : List ℕ) → disk.left_since at t bytes ⊎ disk.may_leave at bytes
-      → (g : ℕ) × (point : Point) × (parts : List Portion) × Staged bytes g point parts;
-}
-
 module _ {D : Type 0} {disk : Ghosts D} where
   returns_as : (stage : Stage D disk) (point back : Point) (parts there : List Portion)
       → back ≡ point → there ≡ parts → Returns stage point parts → Returns stage back there
-  returns_as stage point back parts there points lists is =
-      subst (λ (c : Point). Returns stage c there) (sym points)
-      (subst (λ (l : List Portion). Returns stage point l) (sym lists) is)
+  returns_as stage point back parts there points lists is = rw (points, lists) is
 
   -- the acknowledged data may be left
   acked_returns : (stage : Stage D disk) (acked parts : List Portion) → disk.may_leave stage.disk
@@ -206,10 +190,8 @@ module _ {D : Type 0} {disk : Ghosts D} where
       → (old.failed ≡ false → AddsOnly these (crashes_of old) (crashes_of new))
       → AddsOnly these (crashes_of old) (crashes_of new)
   adds_refused old new these Device is failed = failed is.0
-  adds_refused old new these Full is failed = subst (λ (s : Stage D disk).
-      AddsOnly these (crashes_of old) (crashes_of s)) (sym is) (only_same these (crashes_of old))
-  adds_refused old new these Failed is failed = subst (λ (s : Stage D disk).
-      AddsOnly these (crashes_of old) (crashes_of s)) (sym is.0) (only_same these (crashes_of old))
+  adds_refused old new these Full is failed = rw is (only_same these (crashes_of old))
+  adds_refused old new these Failed is failed = rw is.0 (only_same these (crashes_of old))
   adds_refused old new these NoPoint is failed = absurd is
   adds_refused old new these (BadFrame place) is failed = absurd is
   adds_refused old new these OutOfMemory is failed = absurd is

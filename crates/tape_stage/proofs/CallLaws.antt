@@ -7,7 +7,7 @@ use Rattle.tape_stage.specs.Calls.{after, left_after, seen_by, left_by, since_by
 use Rattle.tape_stage.specs.Calls.{Fits, AllFit, worst_after, worst_by, worst_longer, kept_or}
 use Rattle.tape_stage.specs.Calls.{IsRight, seen_image, worst_image}
 use Rattle.tape_stage.specs.{Disk.Elapses, Disk.Torn, Memory.first_of, Memory.DidCall}
-use Rattle.tape_stage.specs.declared.disk.content.Call.TheVariants.{Write, Sync}
+use Rattle.tape_stage.specs.declared.disk.content.Call.TheVariants.{Look, Write, Sync}
 use Rattle.tape_stage.specs.{declared.disk.content.Call.Call, declared.disk.content.Content.Content}
 use Rattle.std.specs.declared.alloc.Global.{Global}
 
@@ -107,21 +107,7 @@ pub right_more : (changed : Bool) (first worst worst' bytes bytes' : List ℕ)
     → IsRight (kept_or changed first bytes') (kept_or changed worst' bytes') bytes' calls'
 right_more false first worst worst' bytes bytes' calls calls' call is right fits c b w = absurd (cc)
 right_more true first worst worst' bytes bytes' calls calls' call is right fits c b w =
-    subst (λ (l : List Call). IsRight first worst' bytes' l) (sym c)
-    (subst (λ (l : List ℕ). IsRight first worst' l (calls ++ call ∷ [])) (sym b)
-    (subst (λ (l : List ℕ). IsRight first l (after bytes call) (calls ++ call ∷ [])) (sym w)
-    (one_more _ _ _ _ call right fits)))
-
--- a call that only reads
-pub right_looked : (first worst bytes : List ℕ) (calls calls' : List Call) (call : Call)
-    → (after bytes call ≡ bytes) → (worst_after bytes worst call ≡ worst) → Fits bytes call
-    → IsRight first worst bytes calls → calls' ≡ calls ++ call ∷ []
-    → IsRight first worst bytes calls'
-right_looked first worst bytes calls calls' call same same_worst fits right c =
-    subst (λ (l : List Call). IsRight first worst bytes l) (sym c)
-    (subst (λ (l : List ℕ). IsRight first worst l (calls ++ call ∷ [])) same
-    (subst (λ (l : List ℕ). IsRight first l (after bytes call) (calls ++ call ∷ [])) same_worst
-    (one_more _ _ _ _ call right fits)))
+    rw (c, b, w) (one_more _ _ _ _ call right fits)
 
 pub over_same : (place : ℕ) (next old kept copy bytes : List ℕ) → next ≡ take place kept ++ bytes
     ++ drop (place + length bytes) kept → kept ≡ old → copy ≡ bytes
@@ -141,14 +127,12 @@ worst_over place worst old copy bytes filled seen is filled_is copied =
     let n : length filled ≡ length bytes = ap length filled_is ∙ length-replicate {A =
     ℕ} (length bytes) 255 in cc
 
-pub right_if : (done : Bool) (first worst bytes : List ℕ) (calls calls' : List Call) (call : Call)
-    → (after bytes call ≡ bytes) → (worst_after bytes worst call ≡ worst) → Fits bytes call
-    → IsRight first worst bytes calls → calls' ≡ (if done then calls ++ call ∷ [] else calls)
+-- a call that only reads, if it was recorded
+pub right_looked : (done : Bool) (first worst bytes : List ℕ) (calls calls' : List Call)
+    → IsRight first worst bytes calls → calls' ≡ (if done then calls ++ Look ∷ [] else calls)
     → IsRight first worst bytes calls'
-right_if true first worst bytes calls calls' call same same_worst fits right c =
-    right_looked _ _ _ _ _ call same same_worst fits right c
-right_if false first worst bytes calls calls' call same same_worst fits right c =
-    subst (λ (l : List Call). IsRight first worst bytes l) (sym c) right
+right_looked true first worst bytes calls calls' right c = rw c (one_more _ _ _ _ Look right tt)
+right_looked false first worst bytes calls calls' right c = rw c right
 
 abbrev Leaves : Content → List ℕ → Type 0
 Leaves content = IsImage (first_of content) content.calls.items
@@ -157,21 +141,15 @@ pub did_elapses : (old mid new : Content) (call : Call) → mid ≡ old → DidC
     → Elapses (length old.calls.items) (length new.calls.items)
     (WasImage (first_of old) old.calls.items) (WasImage (first_of new) new.calls.items) (Leaves new)
 did_elapses old mid new call is before =
-    let did = subst (λ (o : Content). DidCall call o new) is before in
-    let P : List ℕ → List Call → Type 0 = λ f calls. Elapses (length old.calls.items) (length calls)
-    (WasImage (first_of old) old.calls.items) (WasImage f calls) (IsImage f calls) in
-    subst (λ (f : List ℕ). P f new.calls.items) (sym did.first)
-    (subst (λ (calls : List Call). P (first_of old) calls) (sym did.calls)
-    (elapses_more (first_of old) old.calls.items call))
+    let did = rw is at before in
+    rw (did.first, did.calls) (elapses_more (first_of old) old.calls.items call)
 
 pub did_left : (old mid new : Content) (call : Call) → mid ≡ old → DidCall call mid new
     → (c : List ℕ) → Leaves new c → left_after old.bytes.items (Leaves old) call c
 did_left old mid new call is before c now =
-    let did = subst (λ (o : Content). DidCall call o new) is before in
-    let P : List ℕ → List Call → Type 0 = λ f calls. IsImage f calls c in
+    let did = rw is at before in
     image_back (first_of old) _ old.calls.items call c old.right.seen
-    (subst (λ (calls : List Call). P (first_of old) calls) did.calls
-    (subst (λ (f : List ℕ). P f new.calls.items) did.first now))
+    (rw (did.first, did.calls) at now)
 
 pub synced_same : (old mid new : Content) → mid ≡ old → DidCall Sync mid new → (c : List ℕ)
     → Leaves new c → Leaves old c
@@ -194,11 +172,9 @@ worst_left_now content =
 pub did_open : (old mid new : Content) (call : Call) → mid ≡ old → DidCall call mid new
     → (c : List ℕ) → left_after old.bytes.items (Leaves old) call c → Leaves new c
 did_open old mid new call is before c from =
-    let did = subst (λ (o : Content). DidCall call o new) is before in
-    let P : List ℕ → List Call → Type 0 = λ f calls. IsImage f calls c in
-    subst (λ (f : List ℕ). P f new.calls.items) (sym did.first)
-    (subst (λ (calls : List Call). P (first_of old) calls) (sym did.calls)
-    (image_more (first_of old) _ old.calls.items call c old.right.seen from))
+    let did = rw is at before in
+    rw (did.first, did.calls)
+    (image_more (first_of old) _ old.calls.items call c old.right.seen from)
 
 pub written_open : (old mid new : Content) (place : ℕ) (copy : Vec ℕ Global) (bytes : List ℕ)
     → mid ≡ old → copy.items ≡ bytes → DidCall (Write place copy) mid new

@@ -1,5 +1,5 @@
 -- The slots that are found on a disk.
-use Rattle.std.proofs.Common.{◌≡◌, ⊎_elim, ℕ, ◌+◌, ◌≤◌, Bool, true, false, not, List, take, length}
+use Rattle.std.proofs.Common.{◌≡◌, ⊎_elim, ℕ, ◌+◌, ◌≤◌, true, false, not, List, take, length}
 use Rattle.std.proofs.Common.{Option, Some, None, ◌==◌, sym, ap, ◌∙◌, subst, arith}
 use Rattle.std.proofs.lemmas.List.{take-take, length-take, length-take-le}
 use Rattle.std.proofs.lemmas.Bool.Decides.{eqb_tells}
@@ -8,9 +8,8 @@ use Rattle.tape_stage.specs.Body.{body_of, Slot}
 use Rattle.tape_stage.specs.Staged.{gate_at, body_at, read_slot, slot_at, best, Staged, StagedIn}
 use Rattle.tape_stage.specs.Staged.{Holding, Loses, Ready, StandsLike}
 use Rattle.tape_stage.specs.{Found.IsFound, Salvaged.RemainsNone, declared.stage.Found.Found}
-use Rattle.tape_core.specs.Point.{Point}
 use Rattle.tape_stage.proofs.Tears.{slot_alike, gate_alike, closed_none, open_reads, alike_holding}
-use Rattle.tape_stage.proofs.Tears.{best_named, staged_named}
+use Rattle.tape_stage.proofs.Tears.{best_of, staged_named}
 
 pub front_same : (n : ℕ) (front bytes : List ℕ) → front ≡ take n bytes → take n front ≡ take n bytes
 front_same n front bytes is = ap (take n) is ∙ take-take n n bytes (omega arith)
@@ -63,19 +62,12 @@ found_ready found parts bytes may_leave is holding only = record {
   alike = λ c left. ap (take (256 + found.point.staged)) (only c left);
 }
 
-pub best_of : (second : Bool) (g : ℕ) (point : Point) (bytes : List ℕ) → slot_at second bytes ≡ Some
-    (g, point) → Loses second g (slot_at (not second) bytes) → best (slot_at false bytes)
-    (slot_at true bytes) ≡ Some (g, point)
-best_of false g point bytes is loses = ap (λ (s : Option Slot). best s (slot_at true bytes)) is
-    ∙ best_named false g point (slot_at true bytes) loses
-best_of true g point bytes is loses = ap (λ (s : Option Slot). best (slot_at false bytes) s) is
-    ∙ best_named true g point (slot_at false bytes) loses
-
 -- bytes that agree up to the staged end represent the same
-pub stands_like : (found : Found) (read c : List ℕ) (end : ℕ) → IsFound found read
-    → end ≡ 256 + found.point.staged → end ≤ length read → take end c ≡ take end read
-    → StandsLike read c
-stands_like found read c end is at room same g point parts staged =
+pub stands_like : (found : Found) (read c : List ℕ) → IsFound found read
+    → 256 + found.point.staged ≤ length read
+    → take (256 + found.point.staged) c ≡ take (256 + found.point.staged) read → StandsLike read c
+stands_like found read c is room same g point parts staged =
+    let end = 256 + found.point.staged in
     let named = best_of found.in_second found.generation found.point read is.slot is.other in
     let both : Some (found.generation, found.point) ≡ Some (g, point) = sym named ∙ staged.slot in
     let e : (found.generation, found.point) ≡ (g, point) = cc in
@@ -91,15 +83,14 @@ stands_like found read c end is at room same g point parts staged =
 
 -- the stage after the cut is ready
 pub cut_ready : (found : Found) (parts : List Portion) (read new : List ℕ) (may_leave : List ℕ
-    → Type 0) (end : ℕ) → IsFound found read → end ≡ 256 + found.point.staged
-    → Holding found.point.staged parts read
-    → new ≡ take end read → ((c : List ℕ) → may_leave c → c ≡ new)
+    → Type 0) → IsFound found read → Holding found.point.staged parts read
+    → new ≡ take (256 + found.point.staged) read → ((c : List ℕ) → may_leave c → c ≡ new)
     → Ready found.in_second found.generation found.point parts found.other_open new may_leave
-cut_ready found parts read new may_leave end is at holding cut only =
-    let room : end ≤ length read = omega (arith, holding.long) in
+cut_ready found parts read new may_leave is holding cut only =
+    let end = 256 + found.point.staged in
     let same : take end new ≡ take end read =
     ap (take end) cut ∙ take-take end end read (omega arith) in
-    let long : length new ≡ end = ap length cut ∙ length-take-le end read room in
+    let long : length new ≡ end = ap length cut ∙ length-take-le end read holding.long in
     let front : take 256 new ≡ take 256 read =
     ap (take 256) cut ∙ take-take 256 end read (omega arith) in
     found_ready _ _ _ may_leave (found_alike _ _ new front is)

@@ -2,7 +2,7 @@
 use Rattle.std.proofs.Common.{◌≡◌, ℕ, ◌+◌, ◌-◌, ◌≤◌, ◌<◌, List, [], ◌∷◌, ◌++◌, length, take, drop}
 use Rattle.std.proofs.Common.{w32, refl, sym, ap, ◌∙◌, subst, arith, length-append, Bool, ◌⊎◌, inl}
 use Rattle.std.proofs.Common.{inr, ◌==◌, if◌then◌else◌, append_assoc, append-nil}
-use Rattle.std.proofs.lemmas.List.{take-take, take_at, drop_at, drop-take, length-take-le}
+use Rattle.std.proofs.lemmas.List.{take-take, take_at, take_all, drop_at, length-take-le}
 use Rattle.std.proofs.lemmas.List.{length-drop, drop-drop}
 use Rattle.std.proofs.{lemmas.Nat.from_be_bytes-to_be_bytes_4, Math.Seq.take-add}
 use Rattle.std.specs.Int.{to_be_bytes, from_be_bytes}
@@ -10,10 +10,10 @@ use Rattle.tape_core.specs.declared.sink.SinkFault.TheVariants.{Device, Failed}
 use Rattle.tape_core.specs.{Weight.Rose, declared.sink.SinkFault.SinkFault, Stands.weight_of}
 use Rattle.tape_stage.specs.Parts.{frame, frames, AllShort, IsFront}
 use Rattle.tape_stage.specs.{Frames.AheadIn, Frames.IsFrameAt, Frames.NoFrameAt, Staged.Holding}
-use Rattle.tape_stage.specs.{Staged.IsPut, declared.disk.Disk.Ghosts, Stages.LendsNone, Disk.Holds}
+use Rattle.tape_stage.specs.{declared.disk.Disk.Ghosts, Stages.LendsNone, Disk.Holds}
 use Rattle.tape_blocks.specs.declared.parts.Span.TheVariants.{Whole, First, Middle, Last}
 use Rattle.tape_blocks.specs.{declared.parts.Span.Span, Block.Portion, Block.indicator}
-use Rattle.tape_stage.proofs.Torn.{alike_piece, holds_torn, holds_piece}
+use Rattle.tape_stage.proofs.Torn.{alike_piece, holds_piece}
 
 pub frames-append : (xs ys : List Portion) → frames (xs ++ ys) ≡ frames xs ++ frames ys
 frames-append [] ys = refl
@@ -40,19 +40,21 @@ short_front (x ∷ xs) ys all = (all.0, short_front xs ys all.1)
 -- one more part
 pub put_holding : (weight place : ℕ) (parts : List Portion) (part : Portion) (old new : List ℕ)
     → place ≡ 256 + weight → length part.bytes ≤ 99999 → Holding weight parts old
-    → IsPut place part old new → Holding (weight + (5 + length part.bytes)) (parts ++ part ∷ []) new
-put_holding weight place parts part old new is short holding put =
+    → take place new ≡ take place old → take (5 + length part.bytes) (drop place new) ≡ frame part
+    → place + (5 + length part.bytes) ≤ length new
+    → Holding (weight + (5 + length part.bytes)) (parts ++ part ∷ []) new
+put_holding weight place parts part old new is short holding front frame_is long =
     let size = 5 + length part.bytes in
     let there : drop weight (drop 256 new) ≡ drop place new =
     drop-drop weight 256 new ∙ ap (λ (n : ℕ). drop n new) (sym is) in
     let before : take weight (drop 256 new) ≡ frames parts =
-    alike_piece place 256 weight old new (omega arith) put.front ∙ holding.frames_are in
+    alike_piece place 256 weight old new (omega arith) front ∙ holding.frames_are in
     record {
-      long = omega (arith, put.long);
+      long = omega (arith, long);
       frames_are = take-add weight size (drop 256 new)
           ∙ ap (λ (l : List ℕ). take weight (drop 256 new) ++ take size l) there
           ∙ ap (λ (l : List ℕ). l ++ take size (drop place new)) before
-          ∙ ap (λ (l : List ℕ). frames parts ++ l) (put.frame_is ∙ sym (append-nil (frame part)))
+          ∙ ap (λ (l : List ℕ). frames parts ++ l) (frame_is ∙ sym (append-nil (frame part)))
           ∙ sym (frames-append parts (part ∷ []));
       short = short_push parts part holding.short short;
     }
@@ -73,22 +75,22 @@ front_holding weight staged parts front bytes le is holding =
 
 -- a frame that was written
 pub one_write : (place : ℕ) (part : Portion) (bytes old new : List ℕ) → bytes ≡ frame part
-    → place ≤ length old → Holds old place bytes new → IsPut place part old new
+    → place ≤ length old → Holds old place bytes new
+    → (take (5 + length part.bytes) (drop place new) ≡ frame part)
+    × (place + (5 + length part.bytes) ≤ length new)
 one_write place part bytes old new is le holds =
-    let size : length bytes ≡ 5 + length part.bytes = ap length is ∙ length-frame part in
-    record {
-      front = (holds_torn place bytes old new le holds).before;
-      frame_is = subst (λ (n : ℕ). take n (drop place new) ≡ frame part) size
-          (holds_piece place bytes old new le holds ∙ is);
-      long = omega (
+    let size : length bytes ≡ 5 + length part.bytes = ap length is ∙ length-frame part in (
+      subst (λ (n : ℕ). take n (drop place new) ≡ frame part) size
+          (holds_piece place bytes old new le holds ∙ is),
+      omega (
         arith,
         size,
         ap length holds,
         length-append (take place old ++ bytes) (drop (place + length bytes) old),
         length-append (take place old) bytes,
         length-take-le place old le,
-      );
-    }
+      ),
+    )
 
 -- the span with the given digit
 abbrev span_of : ℕ → Span
@@ -101,9 +103,6 @@ span_again First = refl
 span_again Middle = refl
 span_again Last = refl
 
-head_same : (a b : ℕ) (x y : List ℕ) → a ∷ x ≡ b ∷ y → a ≡ b
-head_same a b x y e = cc
-
 pub size_same : (m n : ℕ) → m ≤ 99999 → n ≤ 99999 → to_be_bytes w32 m ≡ to_be_bytes w32 n → m ≡ n
 size_same m n low high e = sym (from_be_bytes-to_be_bytes_4 m (omega arith)) ∙ ap
     (from_be_bytes w32) e ∙ from_be_bytes-to_be_bytes_4 n (omega arith)
@@ -114,9 +113,10 @@ pub one_frame : (place end : ℕ) (bytes : List ℕ) (s t : Span) (c d : List �
 one_frame place end bytes s t c d a b =
     let headers : indicator s ∷ to_be_bytes w32 (length c) ≡ indicator t ∷ to_be_bytes w32
     (length d) = sym a.header ∙ b.header in
+    let first : indicator s ≡ indicator t = cc headers in
     let size : length c ≡ length d =
     size_same (length c) (length d) a.short b.short (ap (drop 1) headers) in (
-      sym (span_again s) ∙ ap span_of (head_same _ _ _ _ headers) ∙ span_again t,
+      sym (span_again s) ∙ ap span_of first ∙ span_again t,
       sym a.content_is ∙ ap (λ (k : ℕ). take k (drop (place + 5) bytes)) size ∙ b.content_is,
     )
 
@@ -147,38 +147,35 @@ split_ahead : (place end : ℕ) (bytes : List ℕ) (part : Portion) (rest : List
     → length part.bytes ≤ 99999 → AllShort rest → OneAhead place end bytes (part ∷ rest)
 split_ahead place end bytes part rest low high is short all =
     let n = length part.bytes in
-    let size : end - place ≡ 5 + n + length (frames rest) =
-    sym (length-between place end bytes low high) ∙ ap length is ∙ length-append (frame part)
-    (frames rest) ∙ ap (λ (k : ℕ). k + length (frames rest)) (length-frame part) in
-    let five : take 5 (take (end - place) (drop place bytes)) ≡ take 5 (drop place bytes) =
-    take-take 5 (end - place) (drop place bytes) (omega (arith, size)) in
-    let m : end - place ≡ 5 + (end - place - 5) = omega (arith, size) in
-    let behind : take (end - place - 5) (drop 5 (drop place bytes)) ≡ part.bytes ++ frames rest =
-    sym (drop-take 5 (end - place - 5) (drop place bytes)) ∙ ap
-    (λ (k : ℕ). drop 5 (take k (drop place bytes))) (sym m) ∙ ap (drop 5) is in
-    let content : take n (drop 5 (drop place bytes)) ≡ part.bytes =
-    sym (take-take n (end - place - 5) (drop 5 (drop place bytes)) (omega (arith, size))) ∙ ap
-    (take n) behind ∙ take_at part.bytes (frames rest) n refl in
-    let split : end - place ≡ (5 + n) + (end - (place + (5 + n))) = omega (arith, size) in
-    let later : take (end - (place + (5 + n))) (drop (5 + n) (drop place bytes)) ≡ frames rest =
-    sym (drop-take (5 + n) (end - (place + (5 + n))) (drop place bytes)) ∙ ap
-    (λ (k : ℕ). drop (5 + n) (take k (drop place bytes))) (sym split) ∙ ap (drop (5 + n)) is ∙
-    drop_at (frame part) (frames rest) (5 + n) (length-frame part) in
+    let whole = end - place in
+    let all_of : List ℕ = frame part ++ frames rest in
+    let size : whole ≡ length all_of =
+    sym (length-between place end bytes low high) ∙ ap length is in
+    let sum : length all_of ≡ 5 + n + length (frames rest) =
+    length-append (frame part) (frames rest)
+    ∙ ap (λ k. k + length (frames rest)) (length-frame part) in
+    let alike : take whole (drop place bytes) ≡ take whole all_of =
+    is ∙ sym (take_all whole all_of (omega (arith, size))) in
     record {
       part = part;
       rest = rest;
       is = refl;
       frame_is = record {
-        room = omega (arith, size);
-        header = sym five ∙ ap (take 5) is;
-        content_is = ap (take n) (sym (drop-drop 5 place bytes)) ∙ content;
+        room = omega (arith, size, sum);
+        header = alike_piece whole 0 5 all_of _ (omega (arith, size, sum)) alike;
+        content_is = ap (take n) (sym (drop-drop 5 place bytes))
+            ∙ alike_piece whole 5 n all_of _ (omega (arith, size, sum)) alike
+            ∙ take_at part.bytes (frames rest) n refl;
         short = short;
       };
       next = record {
-        low = omega (arith, size);
+        low = omega (arith, size, sum);
         high = high;
-        frames_are = ap (take (end - (place + (5 + n)))) (sym (drop-drop (5 + n) place bytes)) ∙
-            later;
+        frames_are = ap (take (end - (place + (5 + n)))) (sym (drop-drop (5 + n) place bytes))
+            ∙ alike_piece whole (5 + n) _ all_of _ (omega (arith, size, sum)) alike
+            ∙ ap (take (end - (place + (5 + n))))
+            (drop_at (frame part) (frames rest) (5 + n) (length-frame part))
+            ∙ take_all _ (frames rest) (omega (arith, size, sum));
         short = all;
       };
     }
@@ -266,6 +263,6 @@ pub lends_none : {D : Type 0} (disk : Ghosts D) (readable : Bool) (walked weight
     → fault ≡ Failed → NoFrameAt (256 + walked) (256 + weight) (disk.seen old))
     → LendsNone disk readable walked weight old fault new
 lends_none disk readable walked weight old new fault (inl is) device none =
-    subst (λ f. LendsNone disk readable walked weight old f new) (sym is) (device is)
-lends_none disk readable walked weight old new fault (inr is) device none = subst
-    (λ f. LendsNone disk readable walked weight old f new) (sym is) (inr (λ honest. none honest is))
+    rw is (device is)
+lends_none disk readable walked weight old new fault (inr is) device none =
+    rw is (inr (λ honest. none honest is))

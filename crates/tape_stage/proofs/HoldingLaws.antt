@@ -1,13 +1,13 @@
 -- The effect of buffered bytes on the results of reads, and on the contents that a crash may leave.
 use Rattle.std.proofs.Common.{◌≡◌, inl, inr, ⊎_elim, ℕ, ◌+◌, ◌-◌, ◌≤◌, ◌<◌, List, [], ◌++◌, length}
 use Rattle.std.proofs.Common.{take, drop, sym, ap, ◌∙◌, subst, arith, length-append, length-drop}
-use Rattle.std.proofs.lemmas.List.{length-take-le, take_at, drop_at, take-append-drop, take-take}
-use Rattle.std.proofs.{Common.append_assoc, lemmas.List.drop-take, lemmas.List.drop-drop}
+use Rattle.std.proofs.lemmas.List.{length-take-le, take_at, drop_at, take-append-drop}
+use Rattle.std.proofs.{Common.append_assoc, lemmas.List.drop-drop}
 use Rattle.std.proofs.{lemmas.Bool.cases_lt, Math.ListN.drop_of_length-le, Math.Seq.take-add}
 use Rattle.tape_stage.specs.Calls.{over}
 use Rattle.tape_stage.specs.Disk.{Torn, Elapses, NoMore, Holds, Allows, Follows}
 use Rattle.tape_stage.specs.Holding.{with_held, LeftTorn, LeftSince, torn_same}
-use Rattle.tape_stage.proofs.Torn.{alike_less, torn_high}
+use Rattle.tape_stage.proofs.Torn.{alike_less, later_rest}
 
 -- nothing is torn
 pub torn_none : (p : ℕ) (d c : List ℕ) → Torn p 0 d c → c ≡ d
@@ -27,44 +27,25 @@ pub none_left : (leaves : List ℕ → Type 0) (p : ℕ) (bytes c : List ℕ) �
     → LeftTorn leaves p bytes c
 none_left leaves p bytes c left = (c, left, torn_same p (length bytes) c)
 
--- nothing was buffered, and nothing was done
-pub idle_elapses : (m : ℕ) (past : ℕ → List ℕ → Type 0) (leaves : List ℕ → Type 0) (s0 s1 : ℕ)
-    (b : List ℕ) → b ≡ []
-    → Elapses m m (LeftSince past leaves s0 b) (LeftSince past leaves s1 b) (LeftTorn leaves s1 b)
-idle_elapses m past leaves s0 s1 b none = record {
-  later = omega arith;
-  nothing_else = λ t c le was. ⊎_elim (λ before. inl (inl before)) (λ now. inr now) was;
-  keeps = λ t c le was. ⊎_elim (λ before. inl before)
-      (λ now. inr (none_left leaves s1 b c (left_none leaves s0 _ c none now))) was;
-}
+-- no time passes
+pub elapses_self : (m : ℕ) (past : ℕ → List ℕ → Type 0) (leaves : List ℕ → Type 0)
+    → Elapses m m past past leaves
+elapses_self m past leaves =
+    record { later = omega arith; nothing_else = λ t c le was. inl was; keeps = λ t c le was. was }
 
--- the buffered bytes are written
-pub passed_elapses : (m0 m1 : ℕ) (past0 past1 : ℕ → List ℕ → Type 0)
-    (leaves0 leaves1 : List ℕ → Type 0) (s0 s1 : ℕ) (b0 b1 : List ℕ) → Allows (Torn s0 (length b0))
-    leaves0 leaves1 → ((t : ℕ) (c : List ℕ) → t ≤ m1 → leaves1 c → past1 t c)
-    → Elapses m0 m1 past0 past1 leaves1 → Elapses m0 m1 (LeftSince past0 leaves0 s0 b0)
-    (LeftSince past1 leaves1 s1 b1) (LeftTorn leaves1 s1 b1)
-passed_elapses m0 m1 past0 past1 leaves0 leaves1 s0 s1 b0 b1 any counts time = record {
+-- time passes on the disk; the contents with the buffered bytes torn in remain possible
+pub held_elapses : (m0 m1 : ℕ) (past0 past1 : ℕ → List ℕ → Type 0)
+    (leaves0 leaves1 : List ℕ → Type 0) (s0 s1 : ℕ) (b0 b1 : List ℕ)
+    → Elapses m0 m1 past0 past1 leaves1 → ((t : ℕ) (c : List ℕ) → t ≤ m0
+    → LeftTorn leaves0 s0 b0 c → LeftSince past1 leaves1 s1 b1 t c)
+    → Elapses m0 m1 (LeftSince past0 leaves0 s0 b0) (LeftSince past1 leaves1 s1 b1)
+    (LeftTorn leaves1 s1 b1)
+held_elapses m0 m1 past0 past1 leaves0 leaves1 s0 s1 b0 b1 time held = record {
   later = time.later;
   nothing_else = λ t c le was. ⊎_elim
       (λ there. ⊎_elim (λ before. inl (inl before)) (λ now. inr (none_left leaves1 s1 b1 c now))
       (time.nothing_else t c le there)) (λ now. inr now) was;
-  keeps = λ t c le was. ⊎_elim (λ before. inl (time.keeps t c le before))
-      (λ held. inl (counts t c (omega (arith, le, time.later)) (any held.0 c held.1 held.2))) was;
-}
-
--- the same bytes remain buffered
-pub failed_elapses : (m0 m1 : ℕ) (past0 past1 : ℕ → List ℕ → Type 0)
-    (leaves0 leaves1 : List ℕ → Type 0) (s : ℕ) (b : List ℕ) → NoMore leaves1 leaves0
-    → Elapses m0 m1 past0 past1 leaves1 → Elapses m0 m1 (LeftSince past0 leaves0 s b)
-    (LeftSince past1 leaves1 s b) (LeftTorn leaves1 s b)
-failed_elapses m0 m1 past0 past1 leaves0 leaves1 s b stays time = record {
-  later = time.later;
-  nothing_else = λ t c le was. ⊎_elim
-      (λ there. ⊎_elim (λ before. inl (inl before)) (λ now. inr (none_left leaves1 s b c now))
-      (time.nothing_else t c le there)) (λ now. inr now) was;
-  keeps = λ t c le was. ⊎_elim (λ before. inl (time.keeps t c le before))
-      (λ held. inr (held.0, stays held.0 held.1, held.2)) was;
+  keeps = λ t c le was. ⊎_elim (λ before. inl (time.keeps t c le before)) (held t c le) was;
 }
 
 -- the buffer is written, and then a call is made on the disk
@@ -108,8 +89,8 @@ module _ (old mid new : List ℕ → Type 0) (s : ℕ) (b : List ℕ) where
 pub torn_one : (p m n : ℕ) (d e c : List ℕ) → Torn p m d e → Torn (p + m) n e c → Torn p (m + n) d c
 torn_one p m n d e c first second = record {
   before = alike_less (p + m) p e c (omega arith) second.before ∙ first.before;
-  after = torn_high _ _ (p + (m + n)) _ _ (omega arith) second
-      ∙ torn_high _ _ (p + (m + n)) _ _ (omega arith) first;
+  after = later_rest (p + m + n) (p + (m + n)) _ _ (omega arith) second.after
+      ∙ later_rest (p + m) (p + (m + n)) _ _ (omega arith) first.after;
   no_shorter = omega (arith, first.no_shorter, second.no_shorter);
   no_longer = omega (arith, first.no_longer, second.no_longer);
 }
@@ -129,16 +110,6 @@ pub more_stays : (leaves : List ℕ → Type 0) (p : ℕ) (bytes more : List ℕ
     → LeftTorn leaves p bytes c → LeftTorn leaves p (bytes ++ more) c
 more_stays leaves p bytes more c left = more_open leaves p bytes more _ _ left
     (torn_same (p + length bytes) (length more) c)
-
-pub more_elapses : (m : ℕ) (past : ℕ → List ℕ → Type 0) (leaves : List ℕ → Type 0) (s : ℕ)
-    (b more : List ℕ) → Elapses m m (LeftSince past leaves s b)
-    (LeftSince past leaves s (b ++ more)) (LeftTorn leaves s (b ++ more))
-more_elapses m past leaves s b more = record {
-  later = omega arith;
-  nothing_else = λ t c le was. ⊎_elim (λ before. inl (inl before)) (λ now. inr now) was;
-  keeps = λ t c le was. ⊎_elim (λ before. inl before)
-      (λ now. inr (more_stays leaves s b more c now)) was;
-}
 
 -- one torn write is two torn writes, one after the other
 pub torn_two : (p m n : ℕ) (d c : List ℕ) → Torn p (m + n) d c
@@ -176,7 +147,7 @@ torn_two p m n d c torn = ⊎_elim
       record {
         before = sym low;
         after = subst (λ (k : ℕ). drop k c ≡ drop k d) assoc torn.after
-            ∙ sym (torn_high _ _ (p + m + n) _ _ (omega arith) first);
+            ∙ sym (later_rest (p + m) (p + m + n) _ _ (omega arith) first.after);
         no_shorter = omega (arith, all, torn.no_shorter, long);
         no_longer = omega (arith, all, torn.no_longer);
       },
@@ -192,7 +163,7 @@ holds_more p bytes more old le =
     let low : take (p + length bytes) w ≡ take p old ++ bytes =
     take_at (take p old ++ bytes) (drop (p + length bytes) old) (p + length bytes) front in
     let rest : drop (p + length bytes + length more) w ≡ drop (p + length bytes + length more) old =
-    torn_high _ _ (p + length bytes + length more) _ _ (omega arith) (over p bytes old le) in
+    later_rest (p + length bytes) _ _ _ (omega arith) (over p bytes old le).after in
     let count : p + length (bytes ++ more) ≡ p + length bytes + length more =
     omega (arith, length-append bytes more) in
     ap (λ (n : ℕ). take p old ++ (bytes ++ more) ++ drop n old) count
@@ -201,23 +172,15 @@ holds_more p bytes more old le =
     ∙ ap (λ (l : List ℕ). l ++ more ++ drop (p + length bytes + length more) old) (sym low)
     ∙ ap (λ (l : List ℕ). take (p + length bytes) w ++ more ++ l) (sym rest)
 
--- the same for the contents that a crash may leave
-pub left_more : (leaves : List ℕ → Type 0) (p : ℕ) (bytes more : List ℕ) (c : List ℕ)
-    → LeftTorn leaves p (bytes ++ more) c
-    → (e : List ℕ) × LeftTorn leaves p bytes e × Torn (p + length bytes) (length more) e c
-left_more leaves p bytes more c left =
-    let (e, first, second) = torn_two _ (length bytes) (length more) _ _
-    (subst (λ (n : ℕ). Torn p n left.0 c) (length-append bytes more) left.2) in
-    (e, (left.0, left.1, first), second)
-
 -- bytes were appended to the buffer
 module _ (leaves : List ℕ → Type 0) (p place : ℕ) (bytes more : List ℕ)
     (end : p + length bytes ≡ place) where
   pub added_follows : Follows (Torn place (length more)) (LeftTorn leaves p bytes)
       (LeftTorn leaves p (bytes ++ more))
   added_follows c left =
-      let (e, first, second) = left_more leaves p bytes more c left in
-      (e, first, subst (λ (n : ℕ). Torn n (length more) e c) end second)
+      let (e, first, second) = torn_two _ (length bytes) (length more) _ _
+      (subst (λ (n : ℕ). Torn p n left.0 c) (length-append bytes more) left.2) in
+      (e, (left.0, left.1, first), subst (λ (n : ℕ). Torn n (length more) e c) end second)
 
   pub added_allows : Allows (Torn place (length more)) (LeftTorn leaves p bytes)
       (LeftTorn leaves p (bytes ++ more))
@@ -241,28 +204,6 @@ torn_both p n d e c first second = record {
 }
 
 -- ---- bytes that were read ahead
-
-part_of_part : (xs held out : List ℕ) (start from rest n : ℕ)
-    → take (from + rest) (drop start xs) ≡ held → n ≤ rest
-    → out ≡ take n (take rest (drop from held)) → out ≡ take n (drop (start + from) xs)
-part_of_part xs held out start from rest n is fits o = o ∙ take-take n rest (drop from held) fits
-    ∙ ap (λ l. take n (drop from l)) (sym is) ∙ ap (take n) (drop-take from rest (drop start xs))
-    ∙ take-take n rest (drop from (drop start xs)) fits ∙ ap (take n) (drop-drop from start xs)
-
--- a slice of a slice is a slice from a later offset
-pub slice_of_slice : (xs held out : List ℕ) (start place n : ℕ)
-    → take (start + length held - start) (drop start xs) ≡ held
-    → start ≤ place → place - start ≤ length held → n ≤ length held - (place - start)
-    → out ≡ take n (take (length held - (place - start)) (drop (place - start) held))
-    → out ≡ take (place + n - place) (drop place xs)
-slice_of_slice xs held out start place n is from inside fits o =
-    let whole : (place - start) + (length held - (place - start)) ≡ start + length held - start
-    = omega (arith, from, inside) in
-    let there : start + (place - start) ≡ place = omega (arith, from) in
-    let many : n ≡ place + n - place = omega arith in
-    part_of_part xs _ _ start (place - start) (length held - (place - start)) n
-    (ap (λ k. take k (drop start xs)) whole ∙ is) fits o ∙ ap (λ k. take n (drop k xs)) there
-    ∙ ap (λ k. take k (drop place xs)) many
 
 -- two consecutive slices are a slice of both lengths
 pub slices_join : (xs front rest : List ℕ) (place n m size : ℕ) → n + m ≡ size

@@ -8,7 +8,7 @@ use Rattle.tape_core.specs.{Point.Point, Stands.weight_of}
 use Rattle.tape_stage.specs.{Found.IsBadPlace, Frames.AheadIn, Parts.frames, Parts.AllShort}
 use Rattle.tape_stage.specs.Staged.{Holding, NamedIn, SameFrames}
 use Rattle.tape_stage.proofs.Giving.{frames-append, front_holding, length-frames, one_ahead}
-use Rattle.tape_stage.proofs.{Finds.best_of, Giving.size_same, Tears.open_reads, Torn.alike_piece}
+use Rattle.tape_stage.proofs.{Giving.size_same, Tears.best_of, Tears.open_reads, Torn.alike_piece}
 
 short_back : (front back : List Portion) → AllShort (front ++ back) → AllShort back
 short_back [] back all = all

@@ -1,14 +1,14 @@
 -- Bytes that a call leaves unchanged, whatever its result.
 use Rattle.std.proofs.Common.{◌≡◌, ℕ, ◌+◌, ◌≤◌, Bool, true, false, List, length, take, drop, ap}
 use Rattle.std.proofs.Common.{◌∙◌, arith, not, ◌==◌, sym, inl, inr, subst}
-use Rattle.std.proofs.lemmas.List.{length-take, take-take}
-use Rattle.tape_stage.specs.Staged.{slot_place, Holding, KeepsFrames, KeepsFront, gate_at, StagedIn}
+use Rattle.std.proofs.lemmas.List.{take-take}
+use Rattle.tape_stage.specs.Staged.{Holding, KeepsFrames, KeepsFront, gate_at, StagedIn}
 use Rattle.tape_stage.specs.{Disk.Torn, Body.body_of}
 use Rattle.tape_stage.specs.Staged.{Ready, FrontOf, NamedIn, IsEither, IsSaving, Loses, SameFrames}
 use Rattle.tape_blocks.specs.Block.{Portion}
-use Rattle.tape_stage.proofs.Torn.{torn_high, torn_front, alike_less, alike_piece}
-use Rattle.tape_stage.proofs.Tears.{alike_holding, alike_staged, gate_alike, body_alike, slot_alike}
-use Rattle.tape_stage.proofs.SlotSteps.{ready_each}
+use Rattle.tape_stage.proofs.Tears.{alike_holding, alike_staged, frames_holding, gate_alike}
+use Rattle.tape_stage.proofs.{Torn.alike_less, Torn.alike_piece, Tears.body_alike, Tears.slot_alike}
+use Rattle.tape_stage.proofs.SlotSteps.{ready_each, alike_long}
 use Rattle.tape_core.specs.Point.{Point}
 
 pub frames_same : (old new : List ℕ) → new ≡ old → KeepsFrames old new
@@ -23,32 +23,10 @@ frames_then a b c first second = record {
   long = omega (arith, first.long, second.long);
 }
 
-pub torn_gate_frames : (second : Bool) (old new : List ℕ) → Torn (slot_place second) 1 old new
-    → KeepsFrames old new
-torn_gate_frames true old new torn =
-    record { rest = torn_high _ _ 256 _ _ (omega arith) torn; long = torn.no_shorter }
-torn_gate_frames false old new torn =
-    record { rest = torn_high _ _ 256 _ _ (omega arith) torn; long = torn.no_shorter }
-
-pub torn_body_frames : (second : Bool) (n : ℕ) (old new : List ℕ) → n ≡ 127
-    → Torn (slot_place second + 1) n old new → KeepsFrames old new
-torn_body_frames true n old new is torn =
-    record { rest = torn_high _ _ 256 _ _ (omega (arith, is)) torn; long = torn.no_shorter }
-torn_body_frames false n old new is torn =
-    record { rest = torn_high _ _ 256 _ _ (omega (arith, is)) torn; long = torn.no_shorter }
-
-pub frames_holding : (weight : ℕ) (parts : List Portion) (old new : List ℕ) → KeepsFrames old new
-    → Holding weight parts old → Holding weight parts new
-frames_holding weight parts old new kept holding = record {
-  long = omega (arith, kept.long, holding.long);
-  frames_are = ap (take weight) kept.rest ∙ holding.frames_are;
-  short = holding.short;
-}
-
 pub torn_keeps : (place n m : ℕ) (old new : List ℕ) → m ≤ place → Torn place n old new
     → KeepsFront m old new
 torn_keeps place n m old new le torn = record {
-  front = torn_front _ _ m _ _ le torn;
+  front = alike_less _ m _ _ le torn.before;
   long = torn.no_shorter;
 }
 
@@ -136,10 +114,7 @@ front_staged second g point parts is_open place seen may_leave c le ready of =
     let n = 256 + point.staged in
     let was = (ready_each _ _ _ _ _ _ _ of.0 ready of.1).0 in
     let same = alike_less place n of.0 c le of.2 in
-    alike_staged _ _ _ _ n _ c (omega arith) same (long of.0 c n was.parts_are.long same) was
-  where
-    long : (old new : List ℕ) (n : ℕ) → n ≤ length old → take n new ≡ take n old → n ≤ length new
-    long old new n le same = omega (arith, ap length same, length-take n old, length-take n new)
+    alike_staged _ _ _ _ n _ c (omega arith) same (alike_long n of.0 c was.parts_are.long same) was
 
 -- the stage is ready for the next call after a call that preserves the first bytes
 pub still_ready : (second : Bool) (g : ℕ) (point : Point) (parts : List Portion) (is_open : Bool)

@@ -62,9 +62,6 @@ frames_once (x ∷ xs) (y ∷ ys) place a b limit bytes le high first second non
       one.is ∙ same_parts one.part two.part _ _ same.0 same.1 (sym rest_is ∙ all.1) ∙ sym two.is,
     )
 
-some_same : (a b : Slot) → Some a ≡ Some b → a ≡ b
-some_same a b e = cc
-
 -- the offset at which the frames of a given weight end, or at which they are damaged
 abbrev end_of : ℕ → Option ℕ → ℕ
 end_of staged None = 256 + staged
@@ -117,7 +114,7 @@ framed_once staged broken other parts more bytes first second =
 -- the remains of a stage are unique
 pub remains_once : (bytes : List ℕ) → RemainsOnce bytes
 remains_once bytes g h point next broken other parts more first second =
-    let slots = some_same (g, point) (h, next) (sym first.slot ∙ second.slot) in
+    let slots : (g, point) ≡ (h, next) = cc (first.slot, second.slot) in
     let points : point ≡ next = ap (λ (s : Slot). s.1) slots in
     let then : FramedTo point.staged other more bytes =
     subst (λ (c : Point). FramedTo c.staged other more bytes) (sym points) second.framed in

@@ -1,5 +1,5 @@
 -- Opening: the slots are found by reading, and then the bytes after the staged data are removed.
-use Rattle.std.proofs.Common.{◌≡◌, ◌⊎◌, inl, inr, ℕ, ◌+◌, List, take, ap, ◌∙◌, subst, arith}
+use Rattle.std.proofs.Common.{◌≡◌, ◌⊎◌, inl, inr, ℕ, ◌+◌, List, take, ap, ◌∙◌}
 use Rattle.tape_blocks.specs.Block.{Portion}
 use Rattle.tape_stage.specs.Staged.{Holding, HoldsNone, KeepsStaged, Ready, Staged, StandsLike}
 use Rattle.tape_stage.specs.declared.stage.StageFault.TheVariants.{Device, Failed, Full}
@@ -51,31 +51,29 @@ read_refuses g a b reads fault none says not_full not_failed cause = record {
 
 -- the bytes after the weight that was found were then removed
 module _ {D : Type 0} (g : Ghosts D) (a b c : D) (reads : OnlyReads g a b)
-    (honest : g.is_honest a) (found : Found) (is : IsFound found (g.seen a)) (n : ℕ)
-    (told : n ≡ found.point.staged) where
-  pub cut_stopped : CutShort (256 + n) (g.seen b) (g.seen c) → KeepsStaged (g.seen a) (g.seen c)
-  cut_stopped cut = cut_keeps _ _ _ _ is (ap (λ (k : ℕ). 256 + k) told)
-      (subst (λ (old : List ℕ). CutShort (256 + n) old (g.seen c)) (reads.same honest) cut)
+    (honest : g.is_honest a) (found : Found) (is : IsFound found (g.seen a)) where
+  pub cut_stopped : CutShort (256 + found.point.staged) (g.seen b) (g.seen c)
+      → KeepsStaged (g.seen a) (g.seen c)
+  cut_stopped cut = cut_keeps _ _ _ is (rw (reads.same honest) at cut)
 
   module _ (parts : List Portion) (holding : Holding found.point.staged parts (g.seen a)) where
-    pub cut_passes : Passes g b c (λ x. take (256 + n) x ≡ take (256 + n) (g.seen b))
+    pub cut_passes : Passes g b c (λ x. take (256 + found.point.staged) x
+        ≡ take (256 + found.point.staged) (g.seen b))
         → Passes g a c (λ x. g.may_leave a x ⊎ StandsLike (g.seen a) x)
     cut_passes cut =
         let P : List ℕ → Type 0 = λ x. g.may_leave a x ⊎ StandsLike (g.seen a) x in
+        let end = 256 + found.point.staged in
         follow g a b c P
         (look_passes g a b reads honest (StandsLike (g.seen a)))
-        (weaken g b c
-        (λ x. take (256 + n) x ≡ take (256 + n) (g.seen b)) P
-        (λ x alike. inr (stands_like found (g.seen a) x (256 + n) is
-        (ap (λ (k : ℕ). 256 + k) told) (omega (arith, holding.long, told))
-        (alike ∙ ap (take (256 + n)) (reads.same honest)))) cut)
+        (weaken g b c (λ x. take end x ≡ take end (g.seen b)) P
+        (λ x alike. inr (stands_like found (g.seen a) x is holding.long
+        (alike ∙ ap (take end) (reads.same honest)))) cut)
 
-    pub cut_opened : g.seen c ≡ take (256 + n) (g.seen b)
+    pub cut_opened : g.seen c ≡ take (256 + found.point.staged) (g.seen b)
         → ((x : List ℕ) → g.may_leave c x → x ≡ g.seen c) → IsOpened g found a c
     cut_opened cut only = record {
       parts = parts;
       read = found_read found parts (g.seen a) is holding;
-      ready = cut_ready found parts (g.seen a) (g.seen c) (g.may_leave c) (256 + n) is
-          (ap (λ (k : ℕ). 256 + k) told) holding
-          (cut ∙ ap (take (256 + n)) (reads.same honest)) only;
+      ready = cut_ready found parts (g.seen a) (g.seen c) (g.may_leave c) is holding
+          (cut ∙ ap (take (256 + found.point.staged)) (reads.same honest)) only;
     }

@@ -12,10 +12,9 @@ use Rattle.tape_set.specs.Position.{sect_of, block_of, part_of}
 use Rattle.tape_core.specs.{Known.IsForm, Known.PositionFits, Known.is_finished, Point.Point}
 use Rattle.tape_core.specs.Range.{length_in_range, form_in_range, in_range}
 use Rattle.tape_core.proofs.Ranges.{ranged, in_range_is}
-use Rattle.tape_stage.specs.Fields.{place_of, form_of, fields_of, form_as, known_as, known_by}
-use Rattle.tape_stage.specs.{Fields.point_by, declared.point.Place.Place, declared.point.Form.Form}
+use Rattle.tape_stage.specs.Fields.{form_of, fields_of, form_as, known_as, known_by, point_by}
+use Rattle.tape_stage.specs.{declared.point.Form.Form, Text.Fit, Text.KnownFits, Text.IsWritable}
 use Rattle.tape_stage.specs.Range.{place_agrees, is_blank, form_agrees, is_right}
-use Rattle.tape_stage.specs.Text.{FitsVersion, Fit, KnownFits, IsWritable}
 use Rattle.tape_stage.specs.{declared.point.Version.Version, declared.point.Fields.Fields}
 
 -- ---- a checkpoint's fields determine it
@@ -179,10 +178,6 @@ known_fits form known (Some format) off e =
     let b = and_parts (length_in_range format form.rec_len) (nat_le form.offset 99) a.1 in
     form_says format form.rec_len form.offset b.0 (omega (arith, off))
 
-place_same : (p : Position) (done : Bool) (f : Fields) → HasPlaceBack p done f.sect f.place.block
-    f.place.part → place_of p ≡ f.place
-place_same p done f has = rw (has.block_is, has.part_is) refl
-
 pub right_writable : (v : Version) (f : Fields) → Fit v f → is_right f ≡ true
     → IsWritable v (point_by f)
 right_writable v f fit right =
@@ -191,5 +186,5 @@ right_writable v f fit right =
     record {
       right = ranged (point_by f) r.range;
       known = known_fits f.form f.flags.known f.form.format fit.offset r.form;
-      fits = subst (λ (p : Place). FitsVersion v p) (sym (place_same _ _ f place)) fit.place;
+      fits = rw (place.block_is, place.part_is) fit.place;
     }

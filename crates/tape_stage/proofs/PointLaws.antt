@@ -7,12 +7,11 @@ use Rattle.tape_set.specs.declared.position.Position.TheVariants.{Awaits, Finish
 use Rattle.tape_set.specs.{declared.position.Position.Position, Position.sect_of, Lawful.FileForm}
 use Rattle.tape_core.specs.{Known.PositionFits, Point.Point}
 use Rattle.tape_stage.specs.Text.{pieces, rest_pieces, tail_width, Fit, KnownFits, IsWritable}
-use Rattle.tape_stage.specs.{Text.IsPointText, declared.point.text.PointFault.PointFault}
+use Rattle.tape_stage.specs.{Text.IsPointText, Fields.form_of, Fields.fields_of, Fields.point_by}
+use Rattle.tape_stage.specs.{declared.point.text.PointFault.PointFault, Laws.IsTextOfOne}
 use Rattle.tape_stage.specs.{declared.point.Version.Version, declared.point.Fields.Fields}
 use Rattle.tape_stage.specs.declared.point.Version.TheVariants.{One, Two}
-use Rattle.tape_stage.specs.{Fields.form_of, Fields.fields_of, Fields.point_by, Range.is_right}
-use Rattle.tape_stage.specs.Reading.{text_at, right_point, reading}
-use Rattle.tape_stage.specs.Laws.{IsTextOfOne}
+use Rattle.tape_stage.specs.{Range.is_right, Reading.text_at, Reading.right_point, Reading.reading}
 use Rattle.tape_stage.proofs.TextLaws.{Reads, text_found, text_again, reads_stand, stands_read}
 use Rattle.tape_stage.proofs.TextLaws.{reads_fit, stood}
 use Rattle.tape_stage.proofs.PointFields.{point_again, point_right, fields_again, right_writable}

@@ -6,7 +6,7 @@ use Rattle.tape_core.specs.Point.{Point}
 use Rattle.tape_stage.specs.{Body.Slot, Disk.CutShort, Found.IsFound, Moments.Untouched}
 use Rattle.tape_stage.specs.{Staged.Staged, Staged.KeepsStaged, declared.disk.Disk.Ghosts}
 use Rattle.tape_stage.specs.declared.stage.Found.{Found}
-use Rattle.tape_stage.proofs.{Finds.best_of, Passing.weaken, Passing.follow}
+use Rattle.tape_stage.proofs.{Tears.best_of, Passing.weaken, Passing.follow}
 
 module _ {D : Type 0} (g : Ghosts D) where
   -- one call after another
@@ -39,14 +39,14 @@ pub same_keeps : (old new : List ℕ) → new ≡ old → KeepsStaged old new
 same_keeps old new same g point parts staged = uncut (256 + point.staged) _ _ same
 
 -- a cut after the staged data that were found preserves them
-pub cut_keeps : (found : Found) (old new : List ℕ) (end : ℕ) → IsFound found old
-    → end ≡ 256 + found.point.staged → CutShort end old new → KeepsStaged old new
-cut_keeps found old new end is at cut g point parts staged =
+pub cut_keeps : (found : Found) (old new : List ℕ) → IsFound found old
+    → CutShort (256 + found.point.staged) old new → KeepsStaged old new
+cut_keeps found old new is cut g point parts staged =
     let named = best_of found.in_second found.generation found.point old is.slot is.other in
     let both : Some (found.generation, found.point) ≡ Some (g, point) = sym named ∙ staged.slot in
     let e : (found.generation, found.point) ≡ (g, point) = cc in
     let weight : found.point.staged ≡ point.staged = ap (λ (p : Slot). p.1.staged) e in
-    subst (λ (n : ℕ). CutShort n old new) (at ∙ ap (λ (n : ℕ). 256 + n) weight) cut
+    subst (λ (n : ℕ). CutShort (256 + n) old new) weight cut
 
 -- the cut at an opening preserves the staged data
 pub opened_keeps : (g : ℕ) (point : Point) (parts : List Portion) (old new : List ℕ)

@@ -7,10 +7,10 @@ use Rattle.tape_blocks.specs.Spans.{join, Joined, content_after, leaves}
 use Rattle.tape_blocks.specs.{Block.Portion, Block.indicator, declared.parts.Span.Span}
 use Rattle.tape_core.specs.Point.{Point}
 use Rattle.tape_stage.specs.Salvaged.{FramedTo, Remains, RemainsNone, WalkedOver}
-use Rattle.tape_stage.specs.Staged.{Holding, HoldsNone, Staged, WalkedTo, IsPut}
+use Rattle.tape_stage.specs.Staged.{Holding, HoldsNone, Staged, WalkedTo}
 use Rattle.tape_stage.specs.{Found.IsFound, Found.IsBadPlace, Frames.NoFrameAt}
 use Rattle.tape_stage.specs.{declared.stage.Found.Found, Parts.frame, Parts.frames}
-use Rattle.tape_stage.proofs.{Once.remains_once, Once.staged_remains, Finds.best_of}
+use Rattle.tape_stage.proofs.{Once.remains_once, Once.staged_remains, Tears.best_of}
 use Rattle.tape_stage.proofs.Giving.{put_holding}
 use Rattle.std.specs.Int.{to_be_bytes}
 use Rattle.tape_blocks.proofs.JoinLaws.{join_ends, join_goes_on}
@@ -41,13 +41,10 @@ walked_more place size span bytes room is short walked =
     ∙ ap (λ (l : List ℕ). l ++ take size (drop 5 (drop place bytes))) head
     ∙ ap (λ (l : List ℕ). (indicator span ∷ to_be_bytes w32 (length content)) ++ take size l)
     (drop-drop 5 place bytes) in
-    let put : IsPut place part bytes bytes = record {
-      front = refl;
-      frame_is = subst (λ (k : ℕ). take (5 + k) (drop place bytes) ≡ frame part) (sym n) whole;
-      long = omega (arith, n);
-    } in
-    let holding = put_holding _ _ _ _ _ _ (omega (arith, walked.low)) (omega (arith, n))
-    (walked_holding place bytes (omega arith) walked) put in (
+    let holding = put_holding _ _ _ part bytes bytes (omega (arith, walked.low)) (omega (arith, n))
+    (walked_holding place bytes (omega arith) walked) refl
+    (subst (λ (k : ℕ). take (5 + k) (drop place bytes) ≡ frame part) (sym n) whole)
+    (omega (arith, n)) in (
       record {
         low = omega (arith, walked.low);
         parts = walked.parts ++ part ∷ [];
@@ -99,9 +96,6 @@ pub whole_framed : (staged : ℕ) (broken : Option ℕ) (parts : List Portion) (
 whole_framed staged broken parts bytes none framed =
     (subst (λ (b : Option ℕ). FramedTo staged b parts bytes) none framed).holds
 
-some_none : (place : ℕ) → Some place ≡ None → ⊥
-some_none place e = cc
-
 -- the remains for the slot that was found
 pub found_remains : (found : Found) (broken : Option ℕ) (parts : List Portion) (bytes : List ℕ)
     → IsFound found bytes → FramedTo found.point.staged broken parts bytes
@@ -117,7 +111,8 @@ pub broken_none : (bytes : List ℕ) (g : ℕ) (point : Point) (place : ℕ) (pa
 broken_none bytes g point place parts remains n next more staged =
     let same = remains_once bytes g n point next (Some place) None parts more remains
     (staged_remains _ _ _ _ staged) in
-    absurd (some_none place same.2)
+    let no : Some place ≡ None = same.2 in
+    absurd cc
 
 -- the offset of the damage is that of a bad frame
 pub broken_bad : (bytes : List ℕ) (g : ℕ) (point : Point) (place : ℕ) (parts : List Portion)

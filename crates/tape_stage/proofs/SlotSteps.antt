@@ -9,9 +9,9 @@ use Rattle.tape_stage.specs.Body.{body_of, body_text, FitBody}
 use Rattle.tape_blocks.specs.Block.{Portion}
 use Rattle.tape_core.specs.Point.{Point}
 use Rattle.tape_stage.proofs.Tears.{KeptIn, torn_other, gate_alike, torn_gate_body, torn_body_gate}
-use Rattle.tape_stage.proofs.Tears.{kept_holding, alike_staged, loses_gate, closed_none, open_reads}
-use Rattle.tape_stage.proofs.{Tears.none_loses, Torn.holds_torn, Torn.holds_piece, Torn.holds_byte}
-use Rattle.tape_stage.proofs.Bodies.{body_reads}
+use Rattle.tape_stage.proofs.Tears.{frames_holding, alike_staged, loses_gate, closed_none}
+use Rattle.tape_stage.proofs.Tears.{none_loses, open_reads}
+use Rattle.tape_stage.proofs.{Torn.holds_torn, Torn.holds_piece, Torn.holds_byte, Bodies.body_reads}
 
 -- the other slot contains the next generation after a closed gate
 pub record IsFilled (second : Bool) (g : ℕ) (point next : Point) (parts : List Portion)
@@ -28,16 +28,17 @@ kept_staged second g point parts old new kept loses staged = record {
   is_open = kept.gate ∙ staged.is_open;
   body = ap body_of kept.body ∙ staged.body;
   other = loses;
-  parts_are = kept_holding _ _ _ _ _ kept staged.parts_are;
+  parts_are = frames_holding _ _ _ _ kept.frames staged.parts_are;
 }
 
-gate_kept : (second : Bool) (old new : List ℕ) → Torn (slot_place (not second)) 1 old new
+pub gate_kept : (second : Bool) (old new : List ℕ) → Torn (slot_place (not second)) 1 old new
     → KeptIn second old new
 gate_kept second old new torn = torn_other second _ _ _ _ (omega arith) (omega arith) torn
 
-body_kept : (second : Bool) (old new : List ℕ) → Torn (slot_place (not second) + 1) 127 old new
-    → KeptIn second old new
-body_kept second old new torn = torn_other second _ _ _ _ (omega arith) (omega arith) torn
+pub body_kept : (second : Bool) (n : ℕ) (old new : List ℕ) → n ≡ 127
+    → Torn (slot_place (not second) + 1) n old new → KeptIn second old new
+body_kept second n old new is torn =
+    torn_other second _ _ _ _ (omega arith) (omega (arith, is)) torn
 
 -- 1. the gate of the other slot, which was open, may contain any byte
 pub closing : (second : Bool) (g : ℕ) (point : Point) (parts : List Portion) (old new : List ℕ)
@@ -53,15 +54,15 @@ closing second g point parts old new was_open staged torn =
     kept_staged _ _ _ _ _ _ (gate_kept second _ _ torn) loses staged
 
 -- 2. the body after a closed gate may contain any bytes
-pub filling : (second : Bool) (g : ℕ) (point : Point) (parts : List Portion) (old new : List ℕ)
-    → IsClosed second g point parts old → Torn (slot_place (not second) + 1) 127 old new
-    → IsClosed second g point parts new
-filling second g point parts old new is torn =
+pub filling : (second : Bool) (g : ℕ) (point : Point) (parts : List Portion) (n : ℕ)
+    (old new : List ℕ) → n ≡ 127 → IsClosed second g point parts old
+    → Torn (slot_place (not second) + 1) n old new → IsClosed second g point parts new
+filling second g point parts n old new size is torn =
     let gate : gate_at (not second) new ≡ gate_at (not second) old =
-    torn_body_gate (not second) _ _ torn in
+    torn_body_gate (not second) _ _ _ torn in
     let closed : gate_at (not second) new ≡ 79 → ⊥ = λ open_now. is.closed (sym gate ∙ open_now) in
     record {
-      staged = kept_staged _ _ _ _ _ _ (body_kept second _ _ torn) (subst (Loses second g)
+      staged = kept_staged _ _ _ _ _ _ (body_kept second _ _ _ size torn) (subst (Loses second g)
           (sym (closed_none (gate_at (not second) new) (body_at (not second) new) closed))
           (none_loses second g)) is.staged;
       closed = closed;
@@ -97,7 +98,7 @@ opening second g point next parts old new fit is torn =
     ⊎_elim
     (λ yes. inr (
       opened second g point next parts old new fit is torn yes.1,
-      record { rest = kept.rest; long = kept.long },
+      kept.frames,
     ))
     (λ no. inl (kept_staged second g point parts old new kept
     (subst (Loses second g) (sym (closed_none (gate_at (not second) new) (body_at (not second) new)
@@ -107,7 +108,8 @@ opening second g point next parts old new fit is torn =
 eq_from_test : (a b : ℕ) → true ≡ (a == b) → a ≡ b
 eq_from_test a b is = ⊎_elim (λ yes. yes.1) (λ no. absurd (cc)) (eqb_tells a b)
 
-alike_long : (n : ℕ) (old new : List ℕ) → n ≤ length old → take n new ≡ take n old → n ≤ length new
+pub alike_long : (n : ℕ) (old new : List ℕ) → n ≤ length old → take n new ≡ take n old
+    → n ≤ length new
 alike_long n old new le same = omega (arith, ap length same, length-take n old, length-take n new)
 
 -- all contents that a crash may leave represent the acknowledged data, and have the other gate as
@@ -159,9 +161,8 @@ pub filled_done : (second : Bool) (g : ℕ) (point : Point) (parts : List Portio
     → IsClosed second g point parts old → IsClosed second g point parts new
 filled_done second g point parts body old new size holds is =
     let long = place_in (not second) old (omega (arith, is.staged.parts_are.long)) in
-    let torn = holds_torn (slot_place (not second) + 1) body old new (omega arith) holds in
-    filling second g point parts old new is
-    (subst (λ (n : ℕ). Torn (slot_place (not second) + 1) n old new) size torn)
+    filling second g point parts _ old new size is
+    (holds_torn (slot_place (not second) + 1) body old new (omega arith) holds)
 
 pub filled_body : (second : Bool) (body old new : List ℕ) → length body ≡ 127 → 256 ≤ length old
     → Holds old (slot_place second + 1) body new → body_at second new ≡ body
@@ -179,10 +180,9 @@ pub filled_after : (second : Bool) (g : ℕ) (point : Point) (parts : List Porti
 filled_after second g point parts body seen may_leave c size is only (inl left) =
     subst (StagedIn second g point parts) (sym (only c left)) is.staged
 filled_after second g point parts body seen may_leave c size is only (inr step) =
-    let torn = subst (λ (d : List ℕ). Torn (slot_place (not second) + 1) (length body) d c)
-    (only step.0 step.1) step.2 in
-    (filling second g point parts seen c is
-    (subst (λ (n : ℕ). Torn (slot_place (not second) + 1) n seen c) size torn)).staged
+    (filling second g point parts _ seen c size is
+    (subst (λ (d : List ℕ). Torn (slot_place (not second) + 1) (length body) d c)
+    (only step.0 step.1) step.2)).staged
 
 -- the slots after the gate was opened
 pub opened_done : (second : Bool) (g : ℕ) (point next : Point) (parts : List Portion)

@@ -23,38 +23,19 @@ alike_less n m old new le same = sym (take-take m n new le) ∙ ap (take m) same
     le
 
 -- lists with the same end
-later_rest : (n a : ℕ) (old new : List ℕ) → n ≤ a → drop n new ≡ drop n old
+pub later_rest : (n a : ℕ) (old new : List ℕ) → n ≤ a → drop n new ≡ drop n old
     → drop a new ≡ drop a old
 later_rest n a old new le same =
     let e : n + (a - n) ≡ a = omega arith in
     subst (λ (m : ℕ). drop m new ≡ drop m old) e (sym (drop-drop (a - n) n new) ∙ ap (drop (a - n))
     same ∙ drop-drop (a - n) n old)
 
-later_byte : (n i : ℕ) (old new : List ℕ) → n ≤ i → drop n new ≡ drop n old
+pub later_byte : (n i : ℕ) (old new : List ℕ) → n ≤ i → drop n new ≡ drop n old
     → get_or new i 0 ≡ get_or old i 0
 later_byte n i old new le same =
     let e : n + (i - n) ≡ i = omega arith in
     subst (λ (m : ℕ). get_or new m 0 ≡ get_or old m 0) e (sym (get_or-drop n new (i - n) 0) ∙ ap
     (λ (l : List ℕ). get_or l (i - n) 0) same ∙ get_or-drop n old (i - n) 0)
-
-pub torn_low : (p n a k : ℕ) (old new : List ℕ) → a + k ≤ p → Torn p n old new
-    → take k (drop a new) ≡ take k (drop a old)
-torn_low p n a k old new le torn = alike_piece p a k old new le torn.before
-
-pub torn_high : (p n a : ℕ) (old new : List ℕ) → p + n ≤ a → Torn p n old new
-    → drop a new ≡ drop a old
-torn_high p n a old new le torn = later_rest (p + n) a old new le torn.after
-
-pub torn_byte_low : (p n i : ℕ) (old new : List ℕ) → i < p → Torn p n old new
-    → get_or new i 0 ≡ get_or old i 0
-torn_byte_low p n i old new lt torn = alike_byte p i old new lt torn.before
-
-pub torn_byte_high : (p n i : ℕ) (old new : List ℕ) → p + n ≤ i → Torn p n old new
-    → get_or new i 0 ≡ get_or old i 0
-torn_byte_high p n i old new le torn = later_byte (p + n) i old new le torn.after
-
-pub torn_front : (p n m : ℕ) (old new : List ℕ) → m ≤ p → Torn p n old new → take m new ≡ take m old
-torn_front p n m old new le torn = alike_less p m old new le torn.before
 
 -- a write that was completed
 pub holds_torn : (p : ℕ) (bytes old new : List ℕ) → p ≤ length old → Holds old p bytes new

@@ -208,7 +208,8 @@ pub worst_image : (first worst : List ℕ) (calls : List Call) → AllFit first 
 worst_image first worst calls fit is = subst (λ (b : List ℕ). IsImage first calls b) is
     (worst_left first (λ d. d ≡ first) first calls fit refl (omega arith))
 
-counts : (seen : List ℕ) (left : List ℕ → Type 0) (calls : List Call) (t : ℕ) (c : List ℕ)
+-- the current moment is among those since an earlier moment
+pub counts : (seen : List ℕ) (left : List ℕ → Type 0) (calls : List Call) (t : ℕ) (c : List ℕ)
     → t ≤ length calls → left_by seen left calls c → since_by seen left calls t c
 counts seen left [] zero c le now = now
 counts seen left [] (suc t) c le now = absurd (omega arith)
@@ -217,20 +218,11 @@ counts seen left (call ∷ calls) zero c le now = inr
 counts seen left (call ∷ calls) (suc t) c le now = counts (after seen call)
     (left_after seen left call) calls t c (omega arith) now
 
-only : (seen : List ℕ) (left : List ℕ → Type 0) (calls : List Call) (c : List ℕ)
+-- among the moments since the current one there is no later moment
+pub only : (seen : List ℕ) (left : List ℕ → Type 0) (calls : List Call) (c : List ℕ)
     → since_by seen left calls (length calls) c → left_by seen left calls c
 only seen left [] c was = was
 only seen left (call ∷ calls) c was = only (after seen call) (left_after seen left call) calls c was
-
--- the current moment is among those since an earlier moment
-pub counts_image : (first : List ℕ) (calls : List Call) (t : ℕ) (c : List ℕ) → t ≤ length calls
-    → IsImage first calls c → WasImage first calls t c
-counts_image first calls t c le now = counts first (λ d. d ≡ first) calls t c le now
-
--- among the moments since the current one there is no later moment
-pub only_image : (first : List ℕ) (calls : List Call) (c : List ℕ)
-    → WasImage first calls (length calls) c → IsImage first calls c
-only_image first calls c was = only first (λ d. d ≡ first) calls c was
 
 -- The record of a disk in memory is correct: its calls lead from the original contents to the
 -- current ones, and to the worst that a crash may leave.

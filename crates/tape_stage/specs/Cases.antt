@@ -12,24 +12,23 @@ use Rattle.tape_set.specs.declared.position.Position.TheVariants.{Awaits}
 use Rattle.tape_core.specs.{Point.Point, Stands.weight_of, Weight.Rose}
 use Rattle.tape_core.specs.declared.sink.SinkFault.{SinkFault}
 use Rattle.tape_stage.specs.declared.stage.StageFault.TheVariants.{NoPoint, BadFrame, Device}
+use Rattle.tape_stage.specs.Staged.{Staged, Holding, HoldsNone, StandsLike, KeepsStaged}
+use Rattle.tape_stage.specs.Staged.{KeepsFrames, Loses, WalkedTo, Ready, StagedIn, slot_at, best}
+use Rattle.tape_stage.specs.Stages.{Holds, IsAhead, IsStage, Returns, Survives, HasRefused}
 use Rattle.tape_stage.specs.declared.stage.StageFault.TheVariants.{OutOfMemory, Failed, Full}
 use Rattle.tape_stage.specs.Disk.{Torn, CutShort, Elapses, Follows, Allows, NoMore, Only}
 use Rattle.tape_stage.specs.Memory.{memory_leaves, memory_left, memory_bytes, first_of}
-use Rattle.tape_stage.specs.Staged.{Staged, Holding, HoldsNone, StandsLike, KeepsStaged}
-use Rattle.tape_stage.specs.Staged.{KeepsFrames, Loses, WalkedTo, Ready, StagedIn, slot_at, best}
-use Rattle.tape_stage.specs.Staged.{gate_at, read_slot}
-use Rattle.tape_stage.specs.Stages.{Holds, IsAhead, IsStage, Returns, Survives, HasRefused}
+use Rattle.tape_stage.specs.{Staged.gate_at, Staged.read_slot, Moments.Passes, Moments.Untouched}
 use Rattle.tape_stage.specs.Stages.{EndsCall, OpensOver, Returned, Survived, crashes_of}
-use Rattle.tape_stage.specs.declared.disk.content.Call.TheVariants.{Cut}
-use Rattle.tape_stage.specs.declared.{disk.content.Call.TheVariants.Sync, disk.Disk.Ghosts}
-use Rattle.tape_stage.specs.declared.disk.memory.MemoryDisk.{MemoryDisk}
-use Rattle.tape_stage.specs.declared.{stage.part_reader.PartReader.PartReader, stage.Stage.Stage}
-use Rattle.tape_stage.specs.{Body.body_text, Body.point_text, Calls.IsImage, Calls.WasImage}
-use Rattle.tape_stage.specs.{Calls.worst_by, Faults.SaysNone, Faults.IsNotDevice, Faults.OnBadFrame}
+use Rattle.tape_stage.specs.declared.disk.content.Call.TheVariants.{Cut, Sync}
+use Rattle.tape_stage.specs.{declared.disk.Disk.Ghosts, Parts.IsFront, Parts.AllShort, Parts.frames}
+use Rattle.tape_stage.specs.{declared.disk.memory.MemoryDisk.MemoryDisk, declared.stage.Stage.Stage}
+use Rattle.tape_stage.specs.declared.stage.part_reader.PartReader.{PartReader}
+use Rattle.tape_stage.specs.{Body.body_text, Body.point_text, Reads.StageGave, Reads.HasRead}
+use Rattle.tape_stage.specs.{Calls.IsImage, Calls.WasImage, Calls.worst_by, OnlyReading.OnlyReads}
+use Rattle.tape_stage.specs.Faults.{SaysNone, IsNotDevice, OnBadFrame}
 use Rattle.tape_stage.specs.{Found.IsBadPlace, Frames.AheadIn, Frames.IsFrameAt, Frames.NoFrameAt}
-use Rattle.tape_stage.specs.{Holding.with_held, Holding.LeftTorn, Holding.LeftSince, Moments.Passes}
-use Rattle.tape_stage.specs.{Moments.Untouched, OnlyReading.OnlyReads, Parts.IsFront}
-use Rattle.tape_stage.specs.{Parts.AllShort, Parts.frames, Reads.StageGave, Reads.HasRead}
+use Rattle.tape_stage.specs.Holding.{with_held, LeftTorn, LeftSince}
 use Rattle.tape_stage.specs.Disk as disk
 
 -- the possible results of a crash after a write and after a cut

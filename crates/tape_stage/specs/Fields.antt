@@ -1,11 +1,11 @@
 -- The fields of a checkpoint's text, and the checkpoint with given fields.
-use Rattle.std.specs.Prelude.{Bool, if◌then◌else◌, replicate, Option, Some, None, is_some}
+use Rattle.std.specs.Prelude.{if◌then◌else◌, replicate, Option, Some, None, is_some}
 use Rattle.tape_label.specs.declared.values.Format.{Format}
 use Rattle.tape_set.specs.declared.position.Position.TheVariants.{Awaits, Finished}
 use Rattle.tape_set.specs.Position.{sect_of, block_of, part_of}
 use Rattle.tape_set.specs.{declared.position.Position.Position, Lawful.FileForm}
 use Rattle.tape_core.specs.{Known.is_finished, Point.Point}
-use Rattle.tape_stage.specs.{declared.point.Place.Place, declared.point.Flags.Flags}
+use Rattle.tape_stage.specs.{declared.point.Place.Place}
 use Rattle.tape_stage.specs.{declared.point.Form.Form, declared.point.Fields.Fields}
 
 -- ---- the fields of a checkpoint
@@ -13,10 +13,6 @@ use Rattle.tape_stage.specs.{declared.point.Form.Form, declared.point.Fields.Fie
 -- the numbers of the block and the part, or zeros if the file is complete
 abbrev pub place_of : Position → Place
 place_of p = record { block = block_of p; part = part_of p }
-
--- whether the file is complete, a record is unfinished, and the form is known
-abbrev pub flags_of : Position → Bool → Option FileForm → Flags
-flags_of p begun known = record { done = is_finished p; begun = begun; known = is_some known }
 
 -- the fields of the file's form, or spaces and zeros if the form is unknown
 abbrev pub form_of : Option FileForm → Form
@@ -35,7 +31,7 @@ fields_of c = record {
   file = c.file;
   sect = sect_of c.position;
   place = place_of c.position;
-  flags = flags_of c.position c.begun c.known;
+  flags = record { done = is_finished c.position; begun = c.begun; known = is_some c.known };
   form = form_of c.known;
   staged = c.staged;
 }

@@ -1,6 +1,6 @@
 -- Bytes that are buffered before they are written to a disk.
-use Rattle.std.proofs.Common.{◌≡◌, ◌⊎◌, ℕ, ◌+◌, ◌≤◌, List, ◌++◌, length, take, drop, max, inr}
-use Rattle.std.proofs.Common.{⊎_elim, refl, arith, length-append, length-drop}
+use Rattle.std.proofs.Common.{◌≡◌, ◌⊎◌, ℕ, ◌+◌, ◌≤◌, List, ◌++◌, length, take, drop, max}
+use Rattle.std.proofs.Common.{refl, arith, length-append, length-drop}
 use Rattle.std.proofs.lemmas.List.{length-take-le}
 use Rattle.tape_stage.specs.{Disk.Torn, Calls.over}
 
@@ -39,16 +39,3 @@ held_long start bytes old long same le = omega (
 pub held_over : (start : ℕ) (bytes old : List ℕ) (long : ℕ) → long ≡ length old → start ≤ long
     → Torn start (length bytes) old (with_held start bytes old)
 held_over start bytes old long same le = over start bytes old (omega (arith, same, le))
-
--- contents that may be left now are among those left since an earlier moment
-pub held_counts : (left : ℕ → List ℕ → Type 0) (leaves : List ℕ → Type 0) (start : ℕ)
-    (bytes : List ℕ) (t : ℕ) (c : List ℕ) → LeftTorn leaves start bytes c
-    → LeftSince left leaves start bytes t c
-held_counts left leaves start bytes t c now = inr now
-
--- among the moments since the current one there is no later moment
-pub held_only : (left : ℕ → List ℕ → Type 0) (leaves : List ℕ → Type 0) (start : ℕ)
-    (bytes : List ℕ) (t : ℕ) (c : List ℕ) → (left t c → leaves c)
-    → LeftSince left leaves start bytes t c → LeftTorn leaves start bytes c
-held_only left leaves start bytes t c only was = ⊎_elim
-    (λ before. (c, only before, torn_same start (length bytes) c)) (λ now. now) was

@@ -4,7 +4,7 @@ use Rattle.std.proofs.Common.{length, take, drop, get_or, ◌++◌, replicate, O
 use Rattle.std.proofs.Common.{if◌then◌else◌, ◌==◌, nat_lt, w32}
 use Rattle.std.specs.Int.{to_be_bytes}
 use Rattle.tape_blocks.specs.{declared.parts.Span.Span, Block.Portion, Block.indicator}
-use Rattle.tape_stage.specs.Parts.{frame, frames, longest_part, AllShort}
+use Rattle.tape_stage.specs.Parts.{frames, longest_part, AllShort}
 use Rattle.tape_stage.specs.{Disk.CutShort, Body.body_text, Body.body_of, Body.Slot}
 use Rattle.tape_core.specs.Point.{Point}
 
@@ -86,12 +86,6 @@ pub record IsNext (second : Bool) (g : ℕ) (next : Point) (bytes : List ℕ) : 
 abbrev pub IsEither : Bool → ℕ → Point → Point → List Portion → List Portion → List ℕ → Type 0
 IsEither second g point next parts more bytes = StagedIn second g point parts bytes
     ⊎ StagedIn (not second) (g + 1) next more bytes
-
--- a part's frame was written at the offset `place`
-pub record IsPut (place : ℕ) (part : Portion) (old new : List ℕ) : Type 0 where
-  pub front : take place new ≡ take place old
-  pub frame_is : take (5 + length part.bytes) (drop place new) ≡ frame part
-  pub long : place + (5 + length part.bytes) ≤ length new
 
 -- the first bytes are those of contents that were possible before
 abbrev pub FrontOf : ℕ → (List ℕ → Type 0) → List ℕ → Type 0

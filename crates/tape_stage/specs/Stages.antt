@@ -3,13 +3,12 @@ use Rattle.std.specs.Prelude.{◌≡◌, ◌⊎◌, ℕ, ◌+◌, ◌<◌, ◌�
 use Rattle.std.specs.Prelude.{None, Result, OnOk, IfErr, IsErrOf, Some}
 use Rattle.tape_stage.specs.Staged.{Staged, StandsLike, Holding, HoldsNone, KeepsStaged, Ready}
 use Rattle.tape_stage.specs.declared.stage.StageFault.TheVariants.{Device, Full, Failed}
-use Rattle.tape_stage.specs.{declared.disk.Disk.Ghosts, Body.most_generation, Found.IsFaultOf}
-use Rattle.tape_stage.specs.Faults.{IsNotDevice, OnBadFrame, SaysNone}
-use Rattle.tape_stage.specs.{Staged.NamedIn, Staged.SameFrames, Frames.AheadIn, Frames.NoFrameAt}
+use Rattle.tape_stage.specs.{Staged.NamedIn, Staged.SameFrames, Moments.Passes, Moments.Untouched}
 use Rattle.tape_stage.specs.{declared.stage.StageFault.TheVariants.OutOfMemory, Parts.longest_part}
-use Rattle.tape_stage.specs.{Moments.Passes, Moments.Untouched, OnlyReading.OnlyReads}
-use Rattle.tape_stage.specs.{Salvaged.RemainsNone, declared.stage.Stage.Stage}
-use Rattle.tape_stage.specs.declared.stage.StageFault.{StageFault}
+use Rattle.tape_stage.specs.{declared.disk.Disk.Ghosts, Found.IsFaultOf, declared.stage.Stage.Stage}
+use Rattle.tape_stage.specs.{Body.most_generation, OnlyReading.OnlyReads, Salvaged.RemainsNone}
+use Rattle.tape_stage.specs.Faults.{IsNotDevice, OnBadFrame, SaysNone}
+use Rattle.tape_stage.specs.{Frames.AheadIn, Frames.NoFrameAt, declared.stage.StageFault.StageFault}
 use Rattle.tape_blocks.specs.Block.{Portion}
 use Rattle.tape_core.specs.{Crash.Crashes, Known.most_staged, Stands.weight_of, Weight.Rose}
 use Rattle.tape_core.specs.{declared.sink.SinkFault.SinkFault, Point.Point}
@@ -131,41 +130,41 @@ pub record EndsFinding {A D : Type 0} (disk : Ghosts D) (old : D) (result : Resu
   pub honest : OnOk result (disk.is_honest old → disk.is_honest new)
   pub back : disk.is_honest new → disk.is_honest old
 
--- a crash now may leave a file that represents the given checkpoint and parts
-abbrev pub Returns : {D : Type 0} {disk : Ghosts D} → Stage D disk → Point → List Portion → Type 0
-Returns {D} {disk} stage back there = (bytes : List ℕ) × disk.may_leave stage.disk bytes
-    × ((g : ℕ) × Staged bytes g back there)
-
--- each file that a crash now may leave represents some checkpoint and parts
-abbrev pub Survives : {D : Type 0} {disk : Ghosts D} → Stage D disk → Type 0
-Survives {D} {disk} stage = (bytes : List ℕ) → disk.may_leave stage.disk bytes → (g : ℕ)
-    × (point : Point) × (parts : List Portion) × Staged bytes g point parts
-
--- a crash now, or at any moment since t, may have left the given bytes
-abbrev pub WasLeft : {D : Type 0} {disk : Ghosts D} → Stage D disk → ℕ → List ℕ → Type 0
-WasLeft {D} {disk} stage t bytes =
-    disk.left_since stage.disk t bytes ⊎ disk.may_leave stage.disk bytes
-
--- such a crash may have left a file that represents the given checkpoint and parts
-abbrev pub Returned : {D : Type 0} {disk : Ghosts D} → Stage D disk → ℕ → Point → List Portion
-    → Type 0
-Returned {D} {disk} stage t back there = (bytes : List ℕ) × WasLeft stage t bytes
-    × ((g : ℕ) × Staged bytes g back there)
-
--- each file that such a crash may have left represents some checkpoint and parts
-abbrev pub Survived : {D : Type 0} {disk : Ghosts D} → Stage D disk → ℕ → Type 0
-Survived {D} {disk} stage t = (bytes : List ℕ) → WasLeft stage t bytes → (g : ℕ)
-    × (point : Point) × (parts : List Portion) × Staged bytes g point parts
+-- the effect of crashes on a stage on the given disk
+abbrev pub crashes_on : {D : Type 0} → Ghosts D → D → Crashes
+crashes_on disk at = record {
+  returns = λ back there. (bytes : List ℕ) × disk.may_leave at bytes
+      × ((g : ℕ) × Staged bytes g back there);
+  survives = (bytes : List ℕ) → disk.may_leave at bytes → (g : ℕ) × (point : Point)
+      × (parts : List Portion) × Staged bytes g point parts;
+  moment = disk.moment at;
+  returned = λ t back there. (bytes : List ℕ) × (disk.left_since at t bytes
+      ⊎ disk.may_leave at bytes) × ((g : ℕ) × Staged bytes g back there);
+  survived = λ t. (bytes : List ℕ) → disk.left_since at t bytes ⊎ disk.may_leave at bytes
+      → (g : ℕ) × (point : Point) × (parts : List Portion) × Staged bytes g point parts;
+}
 
 -- the effect of crashes on a stage
 abbrev pub crashes_of : {D : Type 0} {disk : Ghosts D} → Stage D disk → Crashes
-crashes_of {D} {disk} stage = record {
-  returns = λ back there. Returns stage back there;
-  survives = Survives stage;
-  moment = disk.moment stage.disk;
-  returned = λ t back there. Returned stage t back there;
-  survived = λ t. Survived stage t;
-}
+crashes_of {D} {disk} stage = crashes_on disk stage.disk
+
+-- a crash now may leave a file that represents the given checkpoint and parts
+abbrev pub Returns : {D : Type 0} {disk : Ghosts D} → Stage D disk → Point → List Portion → Type 0
+Returns stage = (crashes_of stage).returns
+
+-- each file that a crash now may leave represents some checkpoint and parts
+abbrev pub Survives : {D : Type 0} {disk : Ghosts D} → Stage D disk → Type 0
+Survives stage = (crashes_of stage).survives
+
+-- a crash now, or at any moment since t, may have left a file that represents the given checkpoint
+-- and parts
+abbrev pub Returned : {D : Type 0} {disk : Ghosts D} → Stage D disk → ℕ → Point → List Portion
+    → Type 0
+Returned stage = (crashes_of stage).returned
+
+-- each file that such a crash may have left represents some checkpoint and parts
+abbrev pub Survived : {D : Type 0} {disk : Ghosts D} → Stage D disk → ℕ → Type 0
+Survived stage = (crashes_of stage).survived
 
 -- A crash at any moment between the two disks left contents that were possible before, or contents
 -- that represent the same as those that were read.

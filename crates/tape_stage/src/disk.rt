@@ -1,10 +1,8 @@
 //! Disks, which store a stage's bytes.
 
-pub mod changes;
 pub mod content;
 pub mod file;
 pub mod memory;
-pub mod memory_disk;
 pub mod read_ahead;
 pub mod write_behind;
 

@@ -114,10 +114,18 @@ impl<F: Read + Write + Seek + OpenFile> Disk for FileDisk<F> {
         if self.lost {
             return Err(self.fail());
         }
-        match read_from(&mut self.file, place, buf) {
-            Ok(()) => Ok(()),
-            Err(_) => Err(self.fail()),
+        if self.file.seek(SeekFrom::Start(place)).is_err() {
+            return Err(self.fail());
         }
+        let mut at = 0;
+        'reads: while at < buf.len() {
+            match self.file.read(&mut buf[at..]) {
+                Ok(0) => return Err(self.fail()),
+                Ok(n) => at += n,
+                Err(_) => return Err(self.fail()),
+            }
+        }
+        Ok(())
     }
 
     fn write_at(&mut self, place: u64, bytes: &[u8]) -> Result<(), DiskFault>
@@ -135,13 +143,19 @@ impl<F: Read + Write + Seek + OpenFile> Disk for FileDisk<F> {
         let Some(end) = place.checked_add(bytes.len() as u64) else {
             return Err(self.fail());
         };
-        match write_from(&mut self.file, place, bytes) {
-            Ok(()) => {
-                self.len = self.len.max(end);
-                Ok(())
-            }
-            Err(_) => Err(self.fail()),
+        if self.file.seek(SeekFrom::Start(place)).is_err() {
+            return Err(self.fail());
         }
+        let mut rest = bytes;
+        'writes: while !rest.is_empty() {
+            match self.file.write(rest) {
+                Ok(0) => return Err(self.fail()),
+                Ok(n) => rest = &rest[n..],
+                Err(_) => return Err(self.fail()),
+            }
+        }
+        self.len = self.len.max(end);
+        Ok(())
     }
 
     fn cut(&mut self, len: u64) -> Result<(), DiskFault>
@@ -184,40 +198,6 @@ impl<F: Read + Write + Seek + OpenFile> Disk for FileDisk<F> {
             }
         }
     }
-}
-
-/// Fills the buffer with the bytes at offset `place`. An early end or an interruption is a failure.
-fn read_from<R: Read + Seek>(file: &mut R, place: u64, buf: &mut [u8]) -> Result<(), DiskFault>
-    ensures same_size { length buf.new ≡ length buf.old }
-{
-    if file.seek(SeekFrom::Start(place)).is_err() {
-        return Err(DiskFault::Device);
-    }
-    let mut at = 0;
-    'reads: while at < buf.len() {
-        match file.read(&mut buf[at..]) {
-            Ok(0) => return Err(DiskFault::Device),
-            Ok(n) => at += n,
-            Err(_) => return Err(DiskFault::Device),
-        }
-    }
-    Ok(())
-}
-
-/// Writes all of `bytes` at offset `place`. A write of no bytes or an interruption is a failure.
-fn write_from<W: Write + Seek>(file: &mut W, place: u64, bytes: &[u8]) -> Result<(), DiskFault> {
-    if file.seek(SeekFrom::Start(place)).is_err() {
-        return Err(DiskFault::Device);
-    }
-    let mut rest = bytes;
-    'writes: while !rest.is_empty() {
-        match file.write(rest) {
-            Ok(0) => return Err(DiskFault::Device),
-            Ok(n) => rest = &rest[n..],
-            Err(_) => return Err(DiskFault::Device),
-        }
-    }
-    Ok(())
 }
 
 /// The size of the write buffer and of the read-ahead buffer, in bytes.

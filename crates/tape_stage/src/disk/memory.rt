@@ -1,10 +1,11 @@
 //! An in-memory disk, which keeps a record of its calls.
-ghost use Rattle.std.specs.Prelude.{◌≡◌, ◌≤◌, [], length, Some, None, OnOk, OnErr};
+ghost use Rattle.std.specs.Prelude.{◌≡◌, ◌≤◌, [], length, refl, Some, None, OnOk, OnErr};
 ghost use Rattle.tape_core.specs.Weight.{Rose};
+ghost use Rattle.tape_stage.specs.Calls.{counts, only, seen_image};
 ghost use Rattle.tape_stage.specs.Disk.{Only, CountsDown};
 
-use crate::disk::DiskFault;
 use crate::disk::content::Content;
+use crate::disk::{Disk, DiskFault};
 use std::alloc::Global;
 
 #[derive(Drop)]
@@ -36,7 +37,14 @@ impl MemoryDisk {
         ensures durable { Only (memory_bytes result) (memory_leaves result) }
     {
         MemoryDisk {
-            content: Content::new(alloc, bytes),
+            content: Content {
+                alloc,
+                bytes,
+                changed: false,
+                first: Vec::new(alloc),
+                worst: Vec::new(alloc),
+                calls: Vec::new(alloc),
+            },
             left: None,
             failed: 0,
         }
@@ -82,7 +90,7 @@ impl MemoryDisk {
     /// # Errors
     ///
     /// Returns `Device` if no call is left.
-    pub(crate) fn count(&mut self) -> Result<(), DiskFault>
+    fn count(&mut self) -> Result<(), DiskFault>
         ensures content { self.new.content ≡ self.old.content }
         ensures made { OnOk result (CountsDown (Unit {0}) self.old.left self.new.left) }
         ensures counts { CountsDown ⊥ self.old.left self.new.left }
@@ -100,12 +108,87 @@ impl MemoryDisk {
     }
 
     /// Counts a failure.
-    pub(crate) fn fail(&mut self) -> DiskFault
+    fn fail(&mut self) -> DiskFault
         ensures content { self.new.content ≡ self.old.content }
         ensures left { self.new.left ≡ self.old.left }
         ensures counted { Rose self.old.failed self.new.failed }
     {
         self.failed = self.failed.saturating_add(1);
         DiskFault::Device
+    }
+}
+
+impl Disk for MemoryDisk {
+    ghost use Rattle.tape_stage.specs.Memory.{first_of, memory_bytes, memory_leaves, memory_left};
+
+    ghost is_honest = { λ _. Unit {0} };
+
+    ghost length_of = { λ d. length (memory_bytes d) };
+
+    ghost seen = { memory_bytes };
+
+    ghost may_leave = { memory_leaves };
+
+    ghost moment = { λ d. length d.content.calls.items };
+
+    ghost left_since = { memory_left };
+
+    ghost faults = { λ d. d.failed };
+
+    ghost calls_left = { λ d. d.left };
+
+    ghost long_as_seen = { λ d _. refl };
+
+    ghost seen_now = { λ d _. seen_image (first_of d.content)
+        (memory_bytes d) d.content.calls.items d.content.right.fit d.content.right.seen };
+
+    ghost counts_now = { λ d t c honest le now. counts (first_of d.content)
+        (λ b. b ≡ first_of d.content) d.content.calls.items t c le now };
+
+    ghost only_now = { λ d c honest left. only (first_of d.content)
+        (λ b. b ≡ first_of d.content) d.content.calls.items c left };
+
+    fn len(&mut self) -> Result<u64, DiskFault> {
+        self.count()?;
+        match self.content.look() {
+            Ok(()) => Ok(self.content.bytes.len() as u64),
+            Err(_) => Err(self.fail()),
+        }
+    }
+
+    fn read(&mut self, place: u64, buf: &mut [u8]) -> Result<(), DiskFault> {
+        self.count()?;
+        match self.content.look() {
+            Ok(()) => {
+                let start = place as usize;
+                buf.copy_from_slice(&self.content.bytes[start..start + buf.len()]);
+                Ok(())
+            }
+            Err(_) => Err(self.fail()),
+        }
+    }
+
+    fn write_at(&mut self, place: u64, bytes: &[u8]) -> Result<(), DiskFault> {
+        self.count()?;
+        match self.content.write(place as usize, bytes) {
+            Ok(()) => Ok(()),
+            Err(_) => Err(self.fail()),
+        }
+    }
+
+    fn cut(&mut self, len: u64) -> Result<(), DiskFault> {
+        self.count()?;
+        match self.content.cut(len as usize) {
+            Ok(()) => Ok(()),
+            Err(_) => Err(self.fail()),
+        }
+    }
+
+    fn sync(&mut self) -> Result<(), DiskFault> {
+        self.count()?;
+        match self.content.sync() {
+            Ok(()) => Ok(()),
+            Err(_) => Err(self.fail()),
+        }
     }
 }

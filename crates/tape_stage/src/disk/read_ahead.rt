@@ -75,7 +75,6 @@ impl<D: Disk> ReadAhead<D> {
     /// the number of these bytes.
     #[inline(always)]
     fn give(&self, place: u64, buf: &mut [u8]) -> usize
-        ensures same_size { length buf.new ≡ length buf.old }
         ensures few { result ≤ length buf.old }
         ensures low { place + result < 2 ^ 64 }
         ensures within { place ≤ D.length_of self.now.disk

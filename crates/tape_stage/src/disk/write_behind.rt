@@ -1,9 +1,9 @@
 //! A write buffer for a disk.
-ghost use Rattle.std.specs.Prelude.{◌≡◌, ◌+◌, ◌<◌, ◌≤◌, ◌^◌, [], ◌++◌, length, max, OnOk, OnErr};
+ghost use Rattle.std.specs.Prelude.{◌≡◌, ◌+◌, ◌<◌, ◌≤◌, ◌^◌, [], length, max, OnOk, OnErr};
 ghost use Rattle.std.specs.{Prelude.vec_capacity, Bool.OnTrue};
 ghost use Rattle.tape_stage.specs.Holding.{with_held, LeftTorn, LeftSince, held_long, held_over};
-ghost use Rattle.tape_stage.specs.{Holding.held_counts, Holding.held_only, Disk.NoMore};
-ghost use Rattle.tape_stage.specs.OnlyReading.{Looks};
+ghost use Rattle.tape_stage.specs.{Holding.torn_same, Disk.NoMore, OnlyReading.Looks};
+ghost use Rattle.std.proofs.Common.{inr, ⊎_elim};
 ghost use Rattle.tape_core.specs.Weight.{Rose};
 
 use crate::disk::{Disk, DiskFault};
@@ -80,21 +80,6 @@ impl<D: Disk> WriteBehind<D> {
     {
         size <= self.bytes.capacity() - self.bytes.len() && place.checked_add(size as u64).is_some()
     }
-
-    /// Appends `bytes` to the buffer.
-    fn add(&mut self, bytes: &[u8])
-        requires fits { length self.old.bytes.items + length bytes.now
-            ≤ vec_capacity self.old.bytes }
-        requires low { self.old.start + (length self.old.bytes.items + length bytes.now) < 2 ^ 64 }
-        ensures disk { self.new.disk ≡ self.old.disk }
-        ensures start { self.new.start ≡ self.old.start }
-        ensures bytes { self.new.bytes.items ≡ self.old.bytes.items ++ bytes.now }
-    {
-        match self.bytes.extend_from_slice(bytes) {
-            Ok(()) => {}
-            Err(_) => unreachable!(),
-        }
-    }
 }
 
 impl<D: Disk> Disk for WriteBehind<D> {
@@ -124,11 +109,13 @@ impl<D: Disk> Disk for WriteBehind<D> {
           h.within,
     ) };
 
-    ghost counts_now = { λ h t c honest le now. held_counts (D.left_since h.disk)
-        (D.may_leave h.disk) h.start h.bytes.items t c now };
+    ghost counts_now = { λ h t c honest le now. inr now };
 
-    ghost only_now = { λ h c honest left. held_only (D.left_since h.disk) (D.may_leave h.disk)
-        h.start h.bytes.items (D.moment h.disk) c (λ was. D.only_now h.disk c honest was) left };
+    ghost only_now = { λ h c honest left. ⊎_elim (λ was. (
+      c,
+      D.only_now h.disk c honest was,
+      torn_same h.start (length h.bytes.items) c,
+    )) (λ now. now) left };
 
     fn len(&mut self) -> Result<u64, DiskFault> {
         let len = self.disk.len()?;
@@ -144,7 +131,7 @@ impl<D: Disk> Disk for WriteBehind<D> {
     fn write_at(&mut self, place: u64, bytes: &[u8]) -> Result<(), DiskFault> {
         if self.start + self.bytes.len() as u64 == place {
             if self.fits(place, bytes.len()) {
-                self.add(bytes);
+                self.bytes.extend_from_slice(bytes).unwrap();
                 return Ok(());
             }
         }
@@ -153,7 +140,7 @@ impl<D: Disk> Disk for WriteBehind<D> {
             return self.disk.write_at(place, bytes);
         }
         self.start = place;
-        self.add(bytes);
+        self.bytes.extend_from_slice(bytes).unwrap();
         Ok(())
     }
 

@@ -241,21 +241,7 @@ pub(crate) fn put<const N: usize>(text: &mut ArrayVec<u8, N>, piece: &[u8])
     ensures items { text.new.items ≡ text.old.items ++ piece.now }
     ensures len { array_vec_len text.new ≡ array_vec_len text.old + length piece.now }
 {
-    match text.try_extend_from_slice(piece) {
-        Ok(()) => {}
-        Err(_) => unreachable!(),
-    }
-}
-
-/// Returns the complete text.
-pub(crate) fn whole<const N: usize>(text: ArrayVec<u8, N>) -> [u8; N]
-    requires { array_vec_len text ≡ N }
-    ensures { result ≡ text.entry.items }
-{
-    match text.into_inner() {
-        Ok(characters) => characters,
-        Err(_) => unreachable!(),
-    }
+    text.try_extend_from_slice(piece).unwrap();
 }
 
 /// Returns `yes` for true, `no` for false.
@@ -297,5 +283,5 @@ pub(crate) fn fields_text(fields: &Fields) -> [u8; 80]
     put(&mut text, fields.form.file_id.bytes());
     put(&mut text, &digits_of::<15>(fields.staged));
     put(&mut text, b"   ");
-    whole(text)
+    text.into_inner().unwrap()
 }

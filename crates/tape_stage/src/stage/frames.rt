@@ -6,17 +6,16 @@ ghost use Rattle.std.specs.{Prelude.IfSome, Prelude.None, Int.to_be_bytes};
 ghost use Rattle.std.proofs.Common.{w32};
 ghost use Rattle.tape_blocks.specs.Block.{Portion, indicator};
 ghost use Rattle.tape_core.specs.{Weight.Rose, Known.most_staged};
-ghost use Rattle.tape_stage.specs.Staged.{IsNoHeader, StagedIn, IsEither, IsSaving, FrontOf};
-ghost use Rattle.tape_stage.specs.{Body.most_generation, Staged.SameFrames, OnlyReading.OnlyReads};
-ghost use Rattle.tape_stage.specs.{Salvaged.WalkedIn, Salvaged.WalkedOver, Moments.Passes};
+ghost use Rattle.tape_stage.specs.Staged.{IsNoHeader, StagedIn, FrontOf};
+ghost use Rattle.tape_stage.specs.{OnlyReading.OnlyReads, Salvaged.WalkedIn, Salvaged.WalkedOver};
+ghost use Rattle.tape_stage.specs.{Moments.Passes, Frames.IsFrameAt, Frames.NoFrameAt};
 ghost use Rattle.tape_stage.specs.Parts.{longest_part, IsFront};
-ghost use Rattle.tape_stage.specs.Frames.{IsFrameAt, NoFrameAt};
-ghost use Rattle.tape_stage.specs.Stages.{IsStage, EndsCall, HasNamed, IsPending};
+ghost use Rattle.tape_stage.specs.Stages.{IsStage, EndsCall};
 
 use crate::disk::{Disk, DiskFault};
 use crate::stage::{Stage, StageFault};
 use tape_blocks::Span;
-use tape_core::{Checkpoint, SinkFault};
+use tape_core::SinkFault;
 
 /// The maximum number of bytes of a part.
 const LONGEST_PART: u32 = 99_999;
@@ -130,8 +129,6 @@ pub(crate) fn read_frame<D: Disk>(
     requires there { end ≤ D.length_of disk.old }
     requires room { longest_part ≤ length buffer.old }
     ensures short { IfOk result (λ found. found.1 ≤ longest_part) }
-    ensures sized { IfOk result (λ found. found.1 ≤ length buffer.new) }
-    ensures long { length buffer.new ≡ length buffer.old }
     ensures ends { IfOk result (λ found. place + (5 + found.1) ≤ end) }
     ensures found { D.is_honest disk.old → IfOk result
         (λ found. IsFrameAt place end (D.seen disk.old) found.0 (take found.1 buffer.new)) }
@@ -175,6 +172,7 @@ impl<D: Disk> Stage<D> {
             (FrontOf (256 + staged) (D.may_leave self.old.disk)) }
         ensures device { IfErr result (λ fault. fault ≡ StageFault.Device) }
         ensures weight { OnOk result (self.new.weight ≡ staged) }
+        ensures rewinds { OnOk result (self.new.walked ≡ 0) }
         ensures acknowledged { self.new.acknowledged ≡ self.old.acknowledged }
         ensures pending { self.new.pending ≡ self.old.pending }
         ensures slot { (self.new.in_second ≡ self.old.in_second)
@@ -196,48 +194,5 @@ impl<D: Disk> Stage<D> {
                 Err(StageFault::Device)
             }
         }
-    }
-
-    /// Keeps the first parts, up to the weight in `point`: immediately if no acknowledged part is
-    /// dropped, otherwise by saving the checkpoint as a new generation.
-    pub(crate) fn cut_back(&mut self, point: &Checkpoint) -> Result<(), StageFault>
-        requires { point.now.staged ≤ self.old.weight }
-        ensures ok { D.is_honest self.old.disk → OnOk result ((acked parts front : List Portion)
-            → IsStage self.old acked parts → IsFront point.now.staged front parts
-            → (now : List Portion) × IsStage self.new now front) }
-        ensures any_moment { D.is_honest self.old.disk → (acked parts front : List Portion)
-            → IsStage self.old acked parts → IsFront point.now.staged front parts
-            → Passes D.Disk self.old.disk self.new.disk (IsEither self.old.in_second
-            self.old.generation self.old.acknowledged point.now acked front) }
-        ensures any_point { D.is_honest self.old.disk → (acked parts : List Portion)
-            → IsStage self.old acked parts
-            → Passes D.Disk self.old.disk self.new.disk (IsSaving self.old.in_second
-            self.old.generation self.old.acknowledged point.now acked
-            (SameFrames point.now.staged (D.seen self.old.disk))) }
-        ensures frames { D.is_honest self.old.disk → OnOk result (SameFrames point.now.staged
-            (D.seen self.old.disk) (D.seen self.new.disk)) }
-        ensures weight { OnOk result (self.new.weight ≡ point.now.staged) }
-        ensures full { IsErrOf result StageFault.Full → most_generation ≤ self.old.generation }
-        ensures stays { self.old.acknowledged.staged ≤ point.now.staged
-            → (self.new.acknowledged ≡ self.old.acknowledged)
-            × (self.new.pending ≡ self.old.pending)
-            × (self.new.in_second ≡ self.old.in_second)
-            × (self.new.generation ≡ self.old.generation) }
-        ensures drops { point.now.staged < self.old.acknowledged.staged
-            → OnOk result (HasNamed point.now self.old self.new)
-            × (IsErrOf result StageFault.Device → HasNamed point.now self.old self.new
-            ⊎ IsPending point.now self.old self.new) }
-        ensures usable { OnOk result ((self.new.failed ≡ false)
-            × (self.new.readable ≡ self.old.readable)) }
-        ensures ends { EndsCall self.old result self.new }
-    {
-        if self.failed {
-            return Err(StageFault::Failed);
-        }
-        let staged = point.staged;
-        if self.acknowledged.staged <= staged {
-            return self.cut_parts(staged);
-        }
-        self.restart(point)
     }
 }

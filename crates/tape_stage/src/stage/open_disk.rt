@@ -5,15 +5,14 @@ ghost use Rattle.std.specs.Prelude.{IfErr, OnOk, OnErr, ◌<◌, ◌^◌};
 ghost use Rattle.tape_blocks.specs.Block.{Portion};
 ghost use Rattle.tape_core.specs.Point.{Point};
 ghost use Rattle.tape_stage.specs.Disk.{Holds as HoldsBytes, Torn, CutShort};
-ghost use Rattle.tape_stage.specs.Moments.{After, EndsSynced, IsDurable, Passes};
-ghost use Rattle.tape_stage.specs.Staged.{Staged, Ready, new_slots};
 ghost use Rattle.tape_stage.specs.Stages.{IsStage, OpensOver, Holds, Survives, Returns};
-ghost use Rattle.tape_stage.specs.Stages.{EndsFinding, RefusesCreating, RefusesOpening};
-ghost use Rattle.tape_stage.specs.Body.{body_text, FitBody};
+ghost use Rattle.tape_stage.specs.Moments.{After, EndsSynced, IsDurable, Passes};
+ghost use Rattle.tape_stage.specs.{Staged.Staged, Staged.new_slots, Body.body_text, Body.FitBody};
+ghost use Rattle.tape_stage.specs.Stages.{RefusesCreating, RefusesOpening};
 ghost use Rattle.tape_stage.specs.{Faults.IsNotDevice, Parts.longest_part};
 
 use crate::disk::{Disk, DiskFault};
-use crate::point::text::{put, whole};
+use crate::point::text::put;
 use crate::point::write_point;
 use crate::stage::opening::look;
 use crate::stage::{CLOSED, OPEN, Stage, StageFault};
@@ -32,7 +31,7 @@ pub(crate) fn body_bytes(generation: u64, point: Checkpoint) -> [u8; 127]
     put(&mut body, &digits_of::<15>(generation));
     put(&mut body, &write_point(&point));
     put(&mut body, &[b' '; 32]);
-    whole(body)
+    body.into_inner().unwrap()
 }
 
 /// The size of the longest frame.
@@ -94,23 +93,7 @@ pub fn new_slots(point: &Checkpoint) -> [u8; 256]
     put(&mut slots, &[CLOSED]);
     put(&mut slots, &[b'0'; 15]);
     put(&mut slots, &[b' '; 112]);
-    whole(slots)
-}
-
-/// Writes both slots, and then opens the first gate.
-fn make<D: Disk>(disk: &mut D, point: Checkpoint) -> Result<(), StageFault>
-    requires empty { D.length_of disk.old ≡ 0 }
-    requires none { point.staged ≡ 0 }
-    ensures made { D.is_honest disk.old → OnOk result
-        (Ready false 1 point [] false (D.seen disk.new) (D.may_leave disk.new)) }
-    ensures long { OnOk result (D.length_of disk.new ≡ 256) }
-    ensures few { D.length_of disk.new ≤ 256 }
-    ensures ends { EndsFinding D.Disk disk.old result disk.new }
-    ensures device { IfErr result (λ fault. fault ≡ StageFault.Device) }
-{
-    // The gate is opened only after both slots are durable.
-    write_kept(disk, 0, &new_slots(&point))?;
-    Ok(write_kept(disk, 0, &[OPEN])?)
+    slots.into_inner().unwrap()
 }
 
 /// The disk that was passed in, and the fault for which it was refused.
@@ -167,7 +150,8 @@ impl<D: Disk> Stage<D> {
             let fault = StageFault::OutOfMemory;
             return Err(Refused { disk, fault });
         };
-        let Ok(()) = cut_kept(&mut disk, 256 + found.staged()) else {
+        let weight = found.staged();
+        let Ok(()) = cut_kept(&mut disk, 256 + weight) else {
             let fault = StageFault::Device;
             return Err(Refused { disk, fault });
         };
@@ -178,7 +162,7 @@ impl<D: Disk> Stage<D> {
             other_open: found.other_open,
             acknowledged: found.point,
             pending: None,
-            weight: found.staged(),
+            weight,
             failed: false,
             readable: true,
             buffer,
@@ -226,17 +210,20 @@ impl<D: Disk> Stage<D> {
                 fault: StageFault::OutOfMemory,
             });
         };
-        let first = *point;
-        if let Err(fault) = make(&mut disk, first) {
+        let fault = StageFault::Device;
+        // The gate is opened only after both slots are durable.
+        let Ok(()) = write_kept(&mut disk, 0, &new_slots(point)) else {
             return Err(Refused { disk, fault });
-        }
-        let acknowledged = *point;
+        };
+        let Ok(()) = write_kept(&mut disk, 0, &[OPEN]) else {
+            return Err(Refused { disk, fault });
+        };
         Ok(Stage {
             disk,
             generation: 1,
             in_second: false,
             other_open: false,
-            acknowledged,
+            acknowledged: *point,
             pending: None,
             weight: 0,
             failed: false,

@@ -20,7 +20,6 @@ fn read_slot(gate: u8, body: &[u8]) -> Option<(u64, Checkpoint)>
     requires { length body.now ≡ 127 }
     ensures says { read_slot gate body.now ≡ result }
     ensures generation { IfSome result (λ read. read.0 ≤ most_generation) }
-    ensures staged { IfSome result (λ read. read.1.staged ≤ most_staged) }
 {
     if gate != OPEN {
         return None;
@@ -30,19 +29,6 @@ fn read_slot(gate: u8, body: &[u8]) -> Option<(u64, Checkpoint)>
         Ok(point) => Some((generation, point)),
         Err(_) => None,
     }
-}
-
-/// Returns the contents of the first or the second slot.
-fn slot(bytes: &[u8], second: bool) -> Option<(u64, Checkpoint)>
-    requires { length bytes.now ≡ 256 }
-    ensures says { slot_at second bytes.now ≡ result }
-    ensures generation { IfSome result (λ read. read.0 ≤ most_generation) }
-    ensures staged { IfSome result (λ read. read.1.staged ≤ most_staged) }
-{
-    if second {
-        return read_slot(bytes[128], &bytes[129..256]);
-    }
-    read_slot(bytes[0], &bytes[1..128])
 }
 
 /// Returns the current slot, and whether the other slot's gate is open.
@@ -70,10 +56,9 @@ fn find(bytes: &[u8]) -> Option<Found>
         ((slot_at false bytes.now ≡ None) × (slot_at true bytes.now ≡ None))
         (λ found. IsFound found bytes.now) }
     ensures generation { IfSome result (λ found. found.generation ≤ most_generation) }
-    ensures staged { IfSome result (λ found. found.point.staged ≤ most_staged) }
 {
-    let first = slot(bytes, false);
-    let second = slot(bytes, true);
+    let first = read_slot(bytes[0], &bytes[1..128]);
+    let second = read_slot(bytes[128], &bytes[129..256]);
     match second {
         None => match first {
             None => None,

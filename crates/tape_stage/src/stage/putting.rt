@@ -1,18 +1,18 @@
 //! A stage as a sink: appending parts, saving and walking.
 
 ghost use Rattle.std.specs.Prelude.{◌≡◌, ◌+◌, ◌≤◌, ◌<◌, ◌∷◌, ◌++◌, [], List, length, OnOk, OnErr};
-ghost use Rattle.std.specs.Prelude.{IsErrOf, ◌-◌, Err, true, false, IfErr, ◌≢◌, ◌⊎◌};
+ghost use Rattle.std.specs.Prelude.{IsErrOf, ◌-◌, take, Err, true, false, IfErr, ◌≢◌, ◌⊎◌};
 ghost use Rattle.std.proofs.Common.{inr};
 ghost use Rattle.tape_blocks.specs.{Block.Portion, Block.indicator, Parts.view};
 ghost use Rattle.tape_core.specs.{Weight.Rose, Stands.weight_of, Known.most_staged};
 ghost use Rattle.tape_core.specs.Crash.{AddsNothing, AddsOnly, IsThis, ThisAlone};
-ghost use Rattle.tape_stage.specs.Staged.{StagedIn, IsPut, FrontOf, KeepsFront, IsSaving};
 ghost use Rattle.tape_stage.specs.Stages.{IsStage, EndsCall, Holds, IsAhead, LendsNone, crashes_of};
-ghost use Rattle.tape_stage.specs.{Body.most_generation, Moments.Passes, Staged.SameFrames};
+ghost use Rattle.tape_stage.specs.Staged.{StagedIn, KeepsFront, IsSaving, SameFrames};
 ghost use Rattle.tape_stage.specs.Stages.{HasNamed, IsPending, RefusesChange, SameStage};
-ghost use Rattle.tape_stage.specs.{Disk.SameFact, Parts.longest_part, Faults.sink_fault_of};
+ghost use Rattle.tape_stage.specs.{Body.most_generation, Parts.longest_part, Parts.frame};
+ghost use Rattle.tape_stage.specs.{Moments.Passes, Disk.SameFact, Faults.sink_fault_of};
 
-use crate::disk::{Disk, DiskFault};
+use crate::disk::Disk;
 use crate::stage::frames::read_frame;
 use crate::stage::{MOST_STAGED, Stage, StageFault};
 use tape_blocks::{Part, Span};
@@ -30,35 +30,17 @@ fn digit(span: Span) -> u8
     }
 }
 
-/// Writes a part's frame at offset `place`. `buffer` provides room for the frame.
+/// Writes a part's frame at the start of `buffer`.
 #[inline(always)]
-fn write_frame<D: Disk>(
-    disk: &mut D,
-    buffer: &mut [u8],
-    place: u64,
-    part: Part<'_>,
-) -> Result<(), DiskFault>
-    requires there { place ≤ D.length_of disk.old }
+fn put_frame(buffer: &mut [u8], part: Part<'_>)
     requires short { length part.bytes.now ≤ longest_part }
     requires room { longest_part + 5 ≤ length buffer.old }
-    ensures written { D.is_honest disk.old
-        → OnOk result (IsPut place (view part.entry) (D.seen disk.old) (D.seen disk.new)) }
-    ensures long { OnOk result (place + (5 + length part.entry.bytes.now) ≤ D.length_of disk.new) }
-    ensures size { length buffer.new ≡ length buffer.old }
-    ensures kept { D.is_honest disk.old → KeepsFront place (D.seen disk.old) (D.seen disk.new) }
-    ensures any_moment { D.is_honest disk.old
-        → Passes D.Disk disk.old disk.new (FrontOf place (D.may_leave disk.old)) }
-    ensures cause { OnErr result (Rose (D.faults disk.old) (D.faults disk.new)) }
-    ensures honest { SameFact (D.is_honest disk.old) (D.is_honest disk.new) }
+    ensures { take (5 + length part.entry.bytes.now) buffer.new ≡ frame (view part.entry) }
 {
-    let size = 5 + part.bytes.len();
     // The four bytes of the length, stored next to each other, are a single store.
     buffer[1..5].copy_from_slice(&(part.bytes.len() as u32).to_be_bytes());
     buffer[0] = digit(part.span);
-    buffer[5..size].copy_from_slice(part.bytes);
-    // No sync: the part counts once a checkpoint that includes it is saved, and saving begins with
-    // a sync.
-    disk.write_at(place, &buffer[..size])
+    buffer[5..5 + part.bytes.len()].copy_from_slice(part.bytes);
 }
 
 impl<D: Disk> Stage<D> {
@@ -94,14 +76,16 @@ impl<D: Disk> Stage<D> {
         if self.failed {
             return Err(StageFault::Failed);
         }
-        let size = 5 + part.bytes.len() as u64;
-        if size > MOST_STAGED - self.weight {
+        let size = 5 + part.bytes.len();
+        if size as u64 > MOST_STAGED - self.weight {
             return Err(StageFault::Full);
         }
-        let place = 256 + self.weight;
-        match write_frame(&mut self.disk, self.buffer.as_mut_slice(), place, part) {
+        put_frame(self.buffer.as_mut_slice(), part);
+        // No sync: the part counts once a checkpoint that includes it is saved, and saving begins
+        // with a sync.
+        match self.disk.write_at(256 + self.weight, &self.buffer[..size]) {
             Ok(()) => {
-                self.weight += size;
+                self.weight += size as u64;
                 Ok(())
             }
             Err(_) => {
@@ -241,7 +225,22 @@ impl<D: Disk> PartSink for Stage<D> {
         ensures usable { OnOk result ((self.new.failed ≡ false)
             × (self.new.readable ≡ self.old.readable)) }
     {
-        match self.cut_back(point) {
+        if self.failed {
+            self.refused = self.refused.saturating_add(1);
+            return Err(SinkFault::Failed);
+        }
+        let staged = point.staged;
+        // No checkpoint is saved if no acknowledged part is dropped.
+        if self.acknowledged.staged <= staged {
+            return match self.cut_parts(staged) {
+                Ok(()) => Ok(()),
+                Err(fault) => {
+                    self.refused = self.refused.saturating_add(1);
+                    Err(sink_fault(fault))
+                }
+            };
+        }
+        match self.restart(point) {
             Ok(()) => {
                 self.walked = 0;
                 Ok(())

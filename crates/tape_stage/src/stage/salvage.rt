@@ -1,8 +1,8 @@
 //! Opening a stage, intact or damaged, for reading only.
 
-ghost use Rattle.std.specs.Prelude.{◌≡◌, ◌≤◌, ℕ, List, length, IfOk, IfErr, IfSome, true};
+ghost use Rattle.std.specs.Prelude.{◌≡◌, ℕ, List, length, IfOk, IfErr, true};
 ghost use Rattle.tape_blocks.specs.{Block.Portion, Spans.join};
-ghost use Rattle.tape_stage.specs.{OnlyReading.OnlyReads, Salvaged.Remains, Salvaged.standing};
+ghost use Rattle.tape_stage.specs.{OnlyReading.OnlyReads, Salvaged.Remains};
 ghost use Rattle.tape_stage.specs.{Stages.Holds, Stages.RefusesReading};
 
 use crate::disk::Disk;
@@ -24,17 +24,6 @@ pub struct Salvage<D: Disk> {
     pub broken: Option<u64>,
     /// The number of complete records in the parts.
     pub records: u64,
-}
-
-/// Returns the weight of the intact frames, given the full weight and the offset of the damage.
-fn standing(staged: u64, broken: Option<u64>) -> u64
-    requires low { IfSome broken (λ place. 256 ≤ place) }
-    ensures { result ≡ standing staged broken }
-{
-    match broken {
-        None => staged,
-        Some(place) => place - 256,
-    }
 }
 
 impl<D: Disk> Stage<D> {
@@ -68,6 +57,11 @@ impl<D: Disk> Stage<D> {
             let fault = StageFault::OutOfMemory;
             return Err(Refused { disk, fault });
         };
+        // The weight of the intact frames.
+        let weight = match walked.broken {
+            None => found.staged(),
+            Some(place) => place - 256,
+        };
         let stage = Stage {
             disk,
             generation: found.generation,
@@ -75,7 +69,7 @@ impl<D: Disk> Stage<D> {
             other_open: found.other_open,
             acknowledged: found.point,
             pending: None,
-            weight: standing(found.staged(), walked.broken),
+            weight,
             failed: true,
             readable: true,
             buffer,

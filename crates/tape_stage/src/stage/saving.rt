@@ -144,10 +144,8 @@ impl<D: Disk> Stage<D> {
         let staged = point.staged;
         // The checkpoint is saved before the disk is truncated: truncating first could drop parts
         // that the older checkpoint counts.
-        match self.save(point) {
-            Ok(()) => self.cut_parts(staged),
-            Err(fault) => Err(fault),
-        }
+        self.save(point)?;
+        self.cut_parts(staged)
     }
 }
 

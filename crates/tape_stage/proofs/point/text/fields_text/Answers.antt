@@ -1,4 +1,5 @@
-use Rattle.std.proofs.Common.{◌≡◌, ℕ, List, ◌++◌, ap, append_assoc, [], append-nil, sym, ◌∙◌, refl}
+use Rattle.std.proofs.Common.{◌≡◌, ℕ, List, ◌++◌, ap, append_assoc, [], append-nil, sym, ◌∙◌}
+use Rattle.std.proofs.Common.{refl, rules}
 use Rattle.tape_stage.proofs.point.text.fields_text.Goals as goal
 
 -- one more piece at the end of the first part
@@ -8,7 +9,8 @@ back x y p q rest all e i s =
 
 pub returns-clause-text : goal.returns-clause-text
 returns-clause-text c =
-    let e15 = c.whole.ensures ∙ sym (append-nil c.put-11.new.text.items) in
+    let all : c.unwrap.result ≡ c.put-11.new.text.items = search rules in
+    let e15 = all ∙ sym (append-nil c.put-11.new.text.items) in
     let e14 = back c.put-10.new.text.items _ _ _ _ _ e15 c.put-11.ensures.items refl in
     let e13 = back c.put-9.new.text.items _ _ _ _ _ e14
     c.put-10.ensures.items c.digits_of-7.ensures in

@@ -1,13 +1,13 @@
-use Rattle.std.proofs.Common.{◌≡◌, ℕ, List, Err, refl, sym, ap, subst, arith, Option, Some}
+use Rattle.std.proofs.Common.{◌≡◌, List, Err, refl, false, ap, arith, Some}
 use Rattle.tape_blocks.specs.Block.{Portion}
-use Rattle.tape_core.specs.Weight.{Rose}
 use Rattle.tape_stage.specs.declared.stage.StageFault.TheVariants.{BadFrame, Device, Failed, Full}
-use Rattle.tape_stage.specs.{Salvaged.FramedTo, Salvaged.Remains, Stages.OpensOver, Staged.Holding}
+use Rattle.tape_stage.specs.{Salvaged.Remains, Stages.OpensOver, Staged.Holding}
+use Rattle.tape_stage.specs.{Stages.IsStaged, Staged.Ready}
 use Rattle.tape_stage.proofs.Remaining.{broken_bad, broken_none, found_remains, none_staged}
 use Rattle.tape_stage.proofs.{Backs.ready_survives, Backs.ready_returns, Remaining.whole_framed}
 use Rattle.tape_stage.proofs.Openings.{IsOpened, cut_opened, cut_passes, cut_stopped, read_refuses}
 use Rattle.tape_stage.proofs.stage.Stage.open_disk.Goals.{After-cut_kept, In-Ok-cut_kept}
-use Rattle.tape_stage.proofs.{Finds.found_read, Held.opened_holds, Results.no_frame_says}
+use Rattle.tape_stage.proofs.{Finds.found_read, Held.stage_holds, Results.no_frame_says}
 use Rattle.tape_stage.proofs.stage.Stage.open_disk.Given.{Over}
 use Rattle.tape_stage.proofs.stage.Stage.open_disk.Goals as goal
 
@@ -35,8 +35,7 @@ returns-in-Some-clause-refused g c =
     let framed = l.framed h in (
       framed.0,
       found_remains _ _ _ _ (l.found h)
-          (subst (λ (b : Option ℕ). FramedTo found.point.staged b framed.0 old) c.in-Some.is
-          framed.1),
+          (rw c.in-Some.is at framed.1),
     ) in
     read_refuses _ _ _ c.look.ensures.reads (BadFrame place)
     (λ h says. broken_none _ _ _ place _ (remains h).1)
@@ -54,9 +53,9 @@ passes : (g : Over) (c : After-cut_kept g) → g.D.Disk.is_honest c.args.disk
     → OpensOver g.D.Disk c.args.disk c.cut_kept.new.disk
 passes g c h =
     let l = c.in-Ok.ensures in
-    cut_passes g.D.Disk _ _ _ c.look.ensures.reads h c.in-Ok.looked.0 (l.found h) _
-    c.staged.ensures.value (l.framed h).0 (whole g c h)
-    (c.cut_kept.ensures.any_moment (l.ends.honest h) (l.durable h))
+    cut_passes g.D.Disk _ _ _ c.look.ensures.reads h c.in-Ok.looked.0 (l.found h)
+    (l.framed h).0 (whole g c h) (rw c.staged-weight.ensures.value at
+    (c.cut_kept.ensures.any_moment (l.ends.honest h) (l.durable h)))
 
 opened : (g : Over) (c : In-Ok-cut_kept g) (h : g.D.Disk.is_honest c.args.disk)
     → Holding c.in-Ok.looked.0.point.staged (c.in-Ok.ensures.framed h).0 (g.D.Disk.seen c.args.disk)
@@ -64,8 +63,9 @@ opened : (g : Over) (c : In-Ok-cut_kept g) (h : g.D.Disk.is_honest c.args.disk)
 opened g c h holding =
     let l = c.in-Ok.ensures in
     let cut = c.in-Ok-cut_kept.ensures in
-    cut_opened g.D.Disk _ _ _ c.look.ensures.reads h c.in-Ok.looked.0 (l.found h) _
-    c.staged.ensures.value (l.framed h).0 holding (cut.cut (l.ends.honest h))
+    cut_opened g.D.Disk _ _ _ c.look.ensures.reads h c.in-Ok.looked.0 (l.found h)
+    (l.framed h).0 holding
+    (rw c.staged-weight.ensures.value at (cut.cut (l.ends.honest h)))
     (cut.synced.durable (l.ends.honest h))
 
 pub returns-in_default-cut_kept-clause-refused : goal.returns-in_default-cut_kept-clause-refused
@@ -78,11 +78,11 @@ returns-in_default-cut_kept-clause-refused g c =
       says = λ h. tt;
       not_full = λ e. let no : Device ≡ Full = e in cc;
       not_failed = λ e. let no : Device ≡ Failed = e in cc;
-      cause = λ e. subst (λ (n : ℕ). Rose n (g.D.Disk.faults c.cut_kept.new.disk)) l.calm
-          c.in_default-cut_kept.ensures.synced.cause;
+      cause = λ e. rw l.calm at c.in_default-cut_kept.ensures.synced.cause;
       any_moment = passes g at;
-      kept = λ h. cut_stopped g.D.Disk _ _ _ c.look.ensures.reads h found (l.found h) _
-          c.staged.ensures.value (c.in_default-cut_kept.ensures.partly (l.ends.honest h));
+      kept = λ h. cut_stopped g.D.Disk _ _ _ c.look.ensures.reads h found (l.found h)
+          (rw c.staged-weight.ensures.value at
+          (c.in_default-cut_kept.ensures.partly (l.ends.honest h)));
       untouched = λ h calm. absurd calm;
       foreign = λ h none. absurd (none found.generation found.point (l.framed h).0
           (found_read _ _ _ (l.found h) (whole g at h)));
@@ -92,33 +92,35 @@ returns-in_default-cut_kept-clause-refused g c =
 pub returns-clause-any_moment : goal.returns-clause-any_moment
 returns-clause-any_moment g c = passes g (goal.at.returns-clause-any_moment g c).After-cut_kept
 
+-- the parts are staged, and acknowledged
+staged : (g : Over) (c : In-Ok-cut_kept g) (parts : List Portion) → Ready c.in-Ok.looked.0.in_second
+    c.in-Ok.looked.0.generation c.in-Ok.looked.0.point parts c.in-Ok.looked.0.other_open
+    (g.D.Disk.seen c.cut_kept.new.disk) (g.D.Disk.may_leave c.cut_kept.new.disk)
+    → IsStaged g.D.Disk c.cut_kept.new.disk c.in-Ok.looked.0.in_second
+    c.in-Ok.looked.0.generation c.in-Ok.looked.0.point c.in-Ok.looked.0.other_open
+    c.staged-weight.result false parts parts
+staged g c parts ready = record {
+  alive = refl;
+  ready = ready;
+  holds = rw c.staged-weight.ensures.value ready.staged.parts_are;
+  behind = omega (arith, c.staged-weight.ensures.value);
+}
+
 pub returns-clause-ok : goal.returns-clause-ok
 returns-clause-ok g c h =
     let at = goal.at.returns-clause-ok g c in
-    let is = opened g at.In-Ok-cut_kept h (whole g at.After-cut_kept h) in (
-      is.parts,
-      is.read,
-      refl,
-      record {
-        alive = refl;
-        ready = is.ready;
-        holds = subst (λ (w : ℕ). Holding w is.parts (g.D.Disk.seen c.cut_kept.new.disk))
-            (sym c.staged-2.ensures.value) is.ready.staged.parts_are;
-        behind = omega (arith, c.staged-2.ensures.value);
-      },
-    )
+    let is = opened g at.In-Ok-cut_kept h (whole g at.After-cut_kept h) in
+    (is.parts, is.read, refl, staged g at.In-Ok-cut_kept is.parts is.ready)
 
 pub returns-clause-resumes : goal.returns-clause-resumes
 returns-clause-resumes g c h =
-    let found = c.in-Ok.looked.0 in
-    let disk = c.cut_kept.new.disk in
     let at = goal.at.returns-clause-resumes g c in
     let is = opened g at.In-Ok-cut_kept h (whole g at.After-cut_kept h) in (
-      found.generation,
+      c.in-Ok.looked.0.generation,
       is.parts,
       is.read,
-      opened_holds disk _ _ _ _ _ _ c.staged-2.ensures.value
-          (c.in-Ok-cut_kept.ensures.synced.honest (c.in-Ok.ensures.ends.honest h)) is.ready,
+      stage_holds (c.in-Ok-cut_kept.ensures.synced.honest (c.in-Ok.ensures.ends.honest h))
+          (staged g at.In-Ok-cut_kept is.parts is.ready),
       ready_returns _ _ _ _ _ _ _ is.ready,
     )
 

@@ -1,6 +1,7 @@
-use Rattle.std.proofs.Common.{◌≡◌, ℕ, Err, true, false, sym, ap, subst, ◌∙◌}
+use Rattle.std.proofs.Common.{◌≡◌, Err, true, false, refl, ap}
 use Rattle.tape_stage.specs.{Salvaged.standing, Staged.Holding}
 use Rattle.tape_stage.proofs.{Held.holding_weighs, Remaining.found_remains}
+use Rattle.tape_stage.proofs.stage.Stage.open_read_only.Goals.{in-None, in-Some}
 use Rattle.tape_stage.proofs.stage.Stage.open_read_only.Goals as goal
 
 pub returns-in-Err-clause-refused : goal.returns-in-Err-clause-refused
@@ -22,11 +23,13 @@ returns-clause-remains g c h =
     let walked = c.in-Ok.looked.1 in
     let framed = l.framed h in
     let new = g.D.Disk.seen c.look.new.disk in
-    let weight : c.standing.result ≡ standing found.point.staged walked.broken =
-    c.standing.ensures ∙ ap (λ (n : ℕ). standing n walked.broken) c.staged.ensures.value in
-    let holds : Holding c.standing.result framed.0 new = subst (λ (w : ℕ). Holding w framed.0 new)
-    (sym weight) (subst (Holding (standing found.point.staged walked.broken) framed.0)
-    (sym (c.look.ensures.reads.same h)) framed.1.holds) in (
+    let weight : c.match-walked.weight ≡ standing found.point.staged walked.broken =
+    elim c.match-walked.branch [
+      | in-None w ↦ rw (w.weight-is, w.in-None.is) w.staged-weight.ensures.value
+      | in-Some w ↦ rw (w.weight-is, w.in-Some.is) refl
+    ] in
+    let holds : Holding c.match-walked.weight framed.0 new =
+    rw (weight, c.look.ensures.reads.same h) framed.1.holds in (
       found.generation,
       framed.0,
       found_remains _ _ _ _ (l.found h) framed.1,

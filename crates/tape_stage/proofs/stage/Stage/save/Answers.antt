@@ -1,7 +1,7 @@
 use Rattle.std.proofs.Common.{inl, ◌+◌, take, refl, ap}
 use Rattle.tape_stage.proofs.{Giving.front_holding, Passing.nothing, Passing.weaken}
-use Rattle.tape_stage.proofs.SlotSteps.{ready_each}
-use Rattle.tape_stage.proofs.Keeps.{gate_test, frames_holding, either_saved, named_staged}
+use Rattle.tape_stage.proofs.{SlotSteps.ready_each, Tears.frames_holding}
+use Rattle.tape_stage.proofs.Keeps.{gate_test, either_saved, named_staged}
 use Rattle.tape_stage.proofs.stage.Stage.save.Goals as goal
 
 pub returns-then-self-ge-MOST_GENERATION-clause-any_moment

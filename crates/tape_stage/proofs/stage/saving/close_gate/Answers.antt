@@ -1,7 +1,5 @@
-use Rattle.std.proofs.Common.{ℕ, Bool, subst}
-use Rattle.tape_stage.specs.{Disk.Torn, Staged.Ready, Moments.After}
-use Rattle.tape_stage.proofs.SlotSteps.{ready_each, ready_after, closed_done}
-use Rattle.tape_stage.proofs.{Passing.weaken, Passing.stands, Results.on_ok, Keeps.torn_gate_frames}
+use Rattle.tape_stage.proofs.SlotSteps.{ready_each, ready_after, closed_done, gate_kept}
+use Rattle.tape_stage.proofs.{Passing.weaken, Passing.stands, Results.on_ok}
 use Rattle.tape_stage.proofs.stage.saving.close_gate.Goals as goal
 
 pub returns-then-is_open-clause-closed : goal.returns-then-is_open-clause-closed
@@ -11,17 +9,13 @@ returns-then-is_open-clause-closed g c honest = on_ok c.write_kept.result
 
 pub returns-then-is_open-clause-frames : goal.returns-then-is_open-clause-frames
 returns-then-is_open-clause-frames g c honest =
-    torn_gate_frames _ _ _ (rw c.gate_place.ensures at (c.write_kept.ensures.torn honest))
+    (gate_kept c.args.in_second _ _ (rw c.gate_place.ensures at
+    (c.write_kept.ensures.torn honest))).frames
 
 pub returns-then-is_open-clause-any_moment : goal.returns-then-is_open-clause-any_moment
 returns-then-is_open-clause-any_moment g c honest g' point parts ready =
-    let old = g.D.Disk.seen c.args.disk.now in
-    let left = g.D.Disk.may_leave c.args.disk.now in
-    weaken g.D.Disk _ _ _ _
-    (λ x after. ready_after _ _ _ _ _ _ x
-    (subst (λ (b : Bool). Ready c.args.in_second g' point parts b old left) c.if-is_open.true ready)
-    (subst (λ (p : ℕ). After (Torn p 1) left x) c.gate_place.ensures after))
-    (c.write_kept.ensures.any_moment honest)
+    weaken g.D.Disk _ _ _ _ (λ x after. ready_after _ _ _ _ _ _ x (rw c.if-is_open.true at ready)
+    (rw c.gate_place.ensures at after)) (c.write_kept.ensures.any_moment honest)
 
 pub returns-clause-any_moment : goal.returns-clause-any_moment
 returns-clause-any_moment g c honest g' point parts ready =

@@ -3,9 +3,9 @@ use Rattle.tape_blocks.specs.Block.{Portion}
 use Rattle.tape_core.specs.Point.{Point}
 use Rattle.tape_stage.specs.{Moments.Passes, Staged.KeepsFrames, Staged.Ready, Staged.StagedIn}
 use Rattle.tape_stage.proofs.SlotSteps.{IsFilled, filled_done, filled_body, filled_after}
-use Rattle.tape_stage.proofs.Keeps.{frames_then, torn_body_frames, torn_gate_frames, saving_then}
+use Rattle.tape_stage.proofs.Keeps.{frames_then, saving_then}
 use Rattle.tape_stage.proofs.{Bodies.length-body, Passing.weaken, Passing.follow, Results.on_ok}
-use Rattle.tape_stage.proofs.SlotSteps.{opened_done, opened_after}
+use Rattle.tape_stage.proofs.SlotSteps.{opened_done, opened_after, gate_kept, body_kept}
 use Rattle.tape_stage.proofs.stage.saving.replace_slot.Goals.{After-write_kept, In_ok-write_kept}
 use Rattle.tape_stage.proofs.stage.saving.replace_slot.Given.{Over}
 use Rattle.tape_stage.proofs.stage.saving.replace_slot.Goals as goal
@@ -17,8 +17,8 @@ size g c = ap length c.body_bytes-body.ensures.text ∙ length-body _ _ c.body_b
 frames : (g : Over) (c : After-write_kept g) → g.D.Disk.is_honest c.args.disk.now
     → KeepsFrames (g.D.Disk.seen c.args.disk.now) (g.D.Disk.seen c.write_kept.new.disk)
 frames g c honest = frames_then _ _ _ (c.close_gate.ensures.frames honest)
-    (torn_body_frames _ _ _ _ (size g c) (rw c.gate_place.ensures at
-    (c.write_kept.ensures.torn (c.in_ok-close_gate.ensures.synced.honest honest))))
+    (body_kept c.args.in_second _ _ _ (size g c) (rw c.gate_place.ensures at
+    (c.write_kept.ensures.torn (c.in_ok-close_gate.ensures.synced.honest honest)))).frames
 
 -- a crash until then leaves the current generation
 filling : (g : Over) (c : After-write_kept g) → g.D.Disk.is_honest c.args.disk.now → (n : ℕ)
@@ -98,5 +98,6 @@ returns-clause-any_moment g c honest n point parts next_is ready =
 pub returns-clause-frames : goal.returns-clause-frames
 returns-clause-frames g c honest =
     frames_then _ _ _ (frames g (goal.at.returns-clause-frames g c).After-write_kept honest)
-    (torn_gate_frames _ _ _ (rw c.gate_place-2.ensures at (c.write_kept-2.ensures.torn
-    (c.in_ok-write_kept.ensures.synced.honest (c.in_ok-close_gate.ensures.synced.honest honest)))))
+    (gate_kept c.args.in_second _ _ (rw c.gate_place-2.ensures at (c.write_kept-2.ensures.torn
+    (c.in_ok-write_kept.ensures.synced.honest (c.in_ok-close_gate.ensures.synced.honest
+    honest))))).frames

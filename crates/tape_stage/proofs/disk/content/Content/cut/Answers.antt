@@ -12,7 +12,8 @@ invariant_of-self-2 c =
     let w : c.in_ok-worst.worst.items ≡ take c.args.len k.worst.items = search rules in
     let n : c.len.result ≡ length k.worst.items = search rules in
     let o : c.in_ok-open.open.items ≡ replicate (length k.worst.items - c.args.len) 255 =
-    c.in_ok-open.ensures ∙ ap (λ (m : ℕ). replicate (m - c.args.len) 255) n in
+    c.in_ok-open.ensures.items_if_clones_equal (λ y e. e)
+    ∙ ap (λ (m : ℕ). replicate (m - c.args.len) 255) n in
     c.in_ok-extend_from_slice.ensures.items ∙ ap (λ (l : List ℕ). c.in_ok-worst.worst.items ++ l)
     (c.deref-3.ensures.value ∙ o) ∙ ap (λ (l : List ℕ). l ++ replicate
     (length k.worst.items - c.args.len) 255) w in

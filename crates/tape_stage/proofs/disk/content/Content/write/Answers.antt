@@ -16,8 +16,8 @@ invariant_of-self-2 c =
       right = right_more _ k.first.items k.worst.items _ _ _ _ _
           (Write c.args.place c.in_ok-copy.copy) c.in_ok-keep_first.ensures.ok k.right
           (omega (arith, ap length c.keep_first.ensures.same.bytes)) c.in_ok-push.ensures.items next
-          (worst_over c.args.place _ k.worst.items _ _ _ k.bytes.items worst c.in_ok-open.ensures
-          same);
+          (worst_over c.args.place _ k.worst.items _ _ _ k.bytes.items worst
+          (c.in_ok-open.ensures.items_if_clones_equal (λ y e. e)) same);
     }
 
 pub returns-clause-ok : goal.returns-clause-ok

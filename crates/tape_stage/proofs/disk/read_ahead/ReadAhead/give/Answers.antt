@@ -1,9 +1,9 @@
 use Rattle.std.proofs.Common.{◌≡◌, ◌∙◌, ◌+◌, ◌-◌, ◌++◌, List, ℕ, length, take, drop, sym, ap, subst}
 use Rattle.std.proofs.Common.{◌≤◌, ◌<◌, ◌%◌, ◌^◌, arith}
 use Rattle.std.specs.List.{slice_range}
-use Rattle.std.proofs.lemmas.List.{length-take-le, length-drop, take_all}
+use Rattle.std.proofs.lemmas.List.{length-take-le, length-drop, drop-drop, take_all, take-take}
 use Rattle.std.proofs.Math.Seq.{take-append_seam}
-use Rattle.tape_stage.proofs.HoldingLaws.{slice_of_slice}
+use Rattle.tape_stage.proofs.Torn.{alike_piece}
 use Rattle.tape_stage.proofs.disk.read_ahead.ReadAhead.give.Goals as goal
 
 -- an offset that wraps around is greater than the number of bytes read ahead
@@ -33,11 +33,22 @@ part_is : (seen items back out : List ℕ) (start held place n : ℕ) → held �
     → n ≤ length (rest_at start place (take held back)) → out ≡ take n
     (rest_at start place (take held back)) → out ≡ take (place + n - place) (drop place seen)
 part_is seen items back out start held place n fits value right from inside few is =
-    let same : take held back ≡ take held items = ap (take held) value in
-    let long : length (take held back) ≡ held = ap length same ∙ length-take-le held items fits in
-    slice_of_slice seen _ _ start place n
-    (subst (λ k. take (start + k - start) (drop start seen) ≡ take held back) (sym long)
-    (right ∙ sym same)) from inside (omega (arith, few, rest_long start place (take held back))) is
+    let at = place - start in
+    let part : List ℕ = take held back in
+    let long : length part ≡ held =
+    ap length (ap (take held) value) ∙ length-take-le held items fits in
+    let many : held ≡ start + held - start = omega arith in
+    let alike : take held (drop start seen) ≡ take held part =
+    ap (λ k. take k (drop start seen)) many ∙ right ∙ ap (take held) (sym value)
+    ∙ sym (take_all held part (omega (arith, long))) in
+    let there : start + at ≡ place = omega (arith, from) in
+    let size : n ≡ place + n - place = omega arith in
+    let few_held : n ≤ length part - at = omega (arith, few, rest_long start place part) in
+    is ∙ take-take n (length part - at) (drop at part) few_held
+    ∙ sym (alike_piece held at n part (drop start seen)
+    (omega (arith, few_held, long, inside)) alike)
+    ∙ ap (take n) (drop-drop at start seen) ∙ ap (λ k. take n (drop k seen)) there
+    ∙ ap (λ k. take k (drop place seen)) size
 
 pub returns-then-buf-rest-clause-bytes : goal.returns-then-buf-rest-clause-bytes
 returns-then-buf-rest-clause-bytes g c honest =

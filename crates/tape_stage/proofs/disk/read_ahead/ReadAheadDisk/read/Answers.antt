@@ -17,5 +17,5 @@ returns-in-Ok-clause-bytes g c honest =
     ap (λ l. take n buf ++ (c.look.new.buf ++ l)) post
     ∙ ap (λ l. take n buf ++ l) (append-nil c.look.new.buf)
     ∙ slices_join (g.D.Disk.seen c.args.self.now.disk) _ _ c.args.place n m _
-    (omega (arith, size, given.same_size, given.few)) (given.bytes honest)
+    (omega (arith, size, c.give-given.auto.buf, given.few)) (given.bytes honest)
     (c.in-Ok.ensures.bytes honest)

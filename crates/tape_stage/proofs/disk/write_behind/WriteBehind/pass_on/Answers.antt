@@ -1,6 +1,6 @@
-use Rattle.std.proofs.Common.{◌≡◌, [], rules, arith}
+use Rattle.std.proofs.Common.{◌≡◌, [], inl, inr, rules, arith}
 use Rattle.std.proofs.{lemmas.List.nil_from_length, lemmas.Grind.common_steps}
-use Rattle.tape_stage.proofs.HoldingLaws.{idle_elapses, passed_elapses, failed_elapses, none_left}
+use Rattle.tape_stage.proofs.HoldingLaws.{elapses_self, held_elapses, none_left}
 use Rattle.tape_stage.proofs.HoldingLaws.{left_none, torn_both}
 use Rattle.tape_stage.proofs.disk.write_behind.WriteBehind.pass_on.Goals as goal
 
@@ -23,7 +23,8 @@ returns-then-is_empty-clause-looks g c = record {
   time = λ honest.
       let h = c.args.self.now in
       let none : h.bytes.items ≡ [] = nil_from_length h.bytes.items (grind (arith, common_steps)) in
-      idle_elapses _ _ _ _ _ _ none;
+      held_elapses _ _ _ _ _ _ _ _ _ _ (elapses_self _ _ _)
+      (λ t x le left. inr (none_left _ _ _ x (left_none _ _ _ x none left)));
   honest = search rules;
 }
 
@@ -34,9 +35,11 @@ returns-clause-looks g c = record {
   crash = search rules;
   time = λ honest.
       let same : c.as_slice.result.now ≡ c.args.self.now.bytes.items = search rules in
-      passed_elapses _ _ _ _ _ _ _ _ _ _ (rw same at (c.in_ok-write_at.ensures.any honest))
-      (λ t x. g.met.D.Disk.counts_now _ t x (c.write_at.ensures.honest.onward honest))
-      (c.write_at.ensures.time honest);
+      let time = c.write_at.ensures.time honest in
+      let any = rw same at (c.in_ok-write_at.ensures.any honest) in
+      held_elapses _ _ _ _ _ _ _ _ _ _ time (λ t x le held. inl (g.met.D.Disk.counts_now _ t x
+      (c.write_at.ensures.honest.onward honest) (omega (arith, le, time.later))
+      (any held.0 x held.1 held.2)));
   honest = search rules;
 }
 
@@ -52,7 +55,7 @@ returns-in_err-write_at-clause-looks g c = record {
         first,
         torn_both _ _ _ _ _ (rw same at second) left.2,
       );
-  time = λ honest. failed_elapses _ _ _ _ _ _ _ _ (c.write_at.ensures.stays honest)
-      (c.write_at.ensures.time honest);
+  time = λ honest. held_elapses _ _ _ _ _ _ _ _ _ _ (c.write_at.ensures.time honest)
+      (λ t x le held. inr (held.0, c.write_at.ensures.stays honest held.0 held.1, held.2));
   honest = search rules;
 }

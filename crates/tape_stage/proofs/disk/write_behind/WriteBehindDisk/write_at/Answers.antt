@@ -1,8 +1,8 @@
-use Rattle.std.proofs.Common.{◌≡◌, ◌+◌, length, arith}
+use Rattle.std.proofs.Common.{◌≡◌, ◌+◌, inr, length, arith}
 use Rattle.tape_stage.specs.Holding.{torn_same}
 use Rattle.tape_stage.proofs.HoldingLaws.{then_elapses, then_stays, then_allows, holds_more}
-use Rattle.tape_stage.proofs.HoldingLaws.{more_elapses, more_stays, added_follows, added_allows}
-use Rattle.tape_stage.proofs.{HoldingLaws.begun_allows, Results.on_ok}
+use Rattle.tape_stage.proofs.HoldingLaws.{elapses_self, held_elapses, more_stays, added_follows}
+use Rattle.tape_stage.proofs.{HoldingLaws.added_allows, HoldingLaws.begun_allows, Results.on_ok}
 use Rattle.tape_stage.proofs.disk.write_behind.WriteBehindDisk.write_at.Goals as goal
 
 -- ---- bytes appended to the buffer
@@ -10,33 +10,31 @@ use Rattle.tape_stage.proofs.disk.write_behind.WriteBehindDisk.write_at.Goals as
 pub returns-then-fits-clause-written : goal.returns-then-fits-clause-written
 returns-then-fits-clause-written g c honest =
     let h = c.args.self.now in
-    let added = c.add.ensures in
     let end : c.args.place ≡ h.start + length h.bytes.items = omega arith in
-    rw (added.disk, added.start, added.bytes, end)
-    (holds_more h.start h.bytes.items c.args.bytes.now (g.D.Disk.seen h.disk)
+    rw (c.extend_from_slice.ensures.items, c.unwrap.ensures, end) (holds_more h.start
+    h.bytes.items c.args.bytes.now (g.D.Disk.seen h.disk)
     (omega (arith, g.met.D.Disk.long_as_seen h.disk honest, h.within)))
 
 pub returns-then-fits-clause-crash : goal.returns-then-fits-clause-crash
 returns-then-fits-clause-crash g c honest =
-    let added = c.add.ensures in
-    rw (added.disk, added.start, added.bytes) (added_follows (g.D.Disk.may_leave _) _ _ _
-    c.args.bytes.now (omega arith))
+    rw (c.extend_from_slice.ensures.items, c.unwrap.ensures)
+    (added_follows (g.D.Disk.may_leave _) _ _ _ c.args.bytes.now (omega arith))
 
 pub returns-then-fits-clause-stays : goal.returns-then-fits-clause-stays
 returns-then-fits-clause-stays g c honest =
-    let added = c.add.ensures in
-    rw (added.disk, added.start, added.bytes) (more_stays (g.D.Disk.may_leave _) _ _ _)
+    rw (c.extend_from_slice.ensures.items, c.unwrap.ensures)
+    (more_stays (g.D.Disk.may_leave _) _ _ _)
 
 pub returns-then-fits-clause-any : goal.returns-then-fits-clause-any
 returns-then-fits-clause-any g c honest =
-    let added = c.add.ensures in
-    rw (added.disk, added.start, added.bytes) (added_allows (g.D.Disk.may_leave _) _ _ _
-    c.args.bytes.now (omega arith))
+    rw (c.extend_from_slice.ensures.items, c.unwrap.ensures)
+    (added_allows (g.D.Disk.may_leave _) _ _ _ c.args.bytes.now (omega arith))
 
 pub returns-then-fits-clause-time : goal.returns-then-fits-clause-time
 returns-then-fits-clause-time g c honest =
-    let added = c.add.ensures in
-    rw (added.disk, added.start, added.bytes) (more_elapses _ _ _ _ _ c.args.bytes.now)
+    rw (c.extend_from_slice.ensures.items, c.unwrap.ensures)
+    (held_elapses _ _ _ _ _ _ _ _ _ _ (elapses_self _ _ _)
+    (λ t x le held. inr (more_stays _ _ _ c.args.bytes.now x held)))
 
 -- ---- the buffer written, and then bytes buffered
 
@@ -50,16 +48,14 @@ returns-in_err-pass_on-clause-crash g c honest x left = (
 pub returns-clause-stays : goal.returns-clause-stays
 returns-clause-stays g c honest x left =
     let passed = c.in_ok-pass_on.ensures in
-    let added = c.add-2.ensures in
-    rw (added.disk, added.start, added.bytes, passed.empty)
+    rw (c.extend_from_slice-2.ensures.items, c.unwrap-2.ensures, passed.empty)
     (begun_allows _ _ _ _ _ _ passed.empty (passed.stays honest) x x left
     (torn_same c.args.place (length c.args.bytes.now) x))
 
 pub returns-clause-any : goal.returns-clause-any
 returns-clause-any g c honest =
     let passed = c.in_ok-pass_on.ensures in
-    let added = c.add-2.ensures in
-    rw (added.disk, added.start, added.bytes, passed.empty)
+    rw (c.extend_from_slice-2.ensures.items, c.unwrap-2.ensures, passed.empty)
     (begun_allows _ _ _ _ _ _ passed.empty (passed.stays honest))
 
 -- ---- the buffer written, and then more bytes than fit in it

@@ -1,9 +1,12 @@
-use Rattle.std.proofs.Common.{◌≡◌, ℕ, List, ◌++◌, ⊎_elim, refl, ap, inl, inr, Err}
+use Rattle.std.proofs.Common.{◌≡◌, ◌∙◌, ℕ, List, ◌++◌, false, refl, sym, ap, inl}
 use Rattle.tape_blocks.specs.Block.{Portion}
-use Rattle.tape_core.specs.{Crash.IsThis, Stands.weight_of}
-use Rattle.tape_stage.specs.{Parts.IsFront, declared.stage.StageFault.TheVariants.Device}
-use Rattle.tape_stage.proofs.Held.{stage_holds, change_refused, is_device}
-use Rattle.tape_stage.proofs.Backs.{adds_this, adds_refused}
+use Rattle.tape_core.specs.{Crash.AddsOnly, Crash.IsThis, Point.Point, Stands.weight_of}
+use Rattle.tape_stage.specs.{Parts.IsFront, Stages.Holds, Stages.crashes_of}
+use Rattle.tape_stage.specs.declared.stage.Stage.{Stage}
+use Rattle.tape_stage.proofs.stage.putting.StagePartSink.cut_to.Goals.{After-cut_parts}
+use Rattle.tape_stage.proofs.{Backs.adds_this, Passing.weaken, Keeps.frames_cut, Keeps.frames_same}
+use Rattle.tape_stage.proofs.{Held.stage_holds, stage.putting.StagePartSink.cut_to.Given.Over}
+use Rattle.tape_stage.proofs.stage.putting.StagePartSink.cut_to.Goals.{After-restart}
 use Rattle.tape_stage.proofs.stage.putting.StagePartSink.cut_to.Goals as goal
 
 -- parts that precede others are the first parts of their weight
@@ -11,70 +14,73 @@ front_of : (staged : ℕ) (front rest : List Portion) → weight_of front ≡ st
     → IsFront staged front (front ++ rest)
 front_of staged front rest weighs = record { rest = rest; whole = refl; weighs = weighs }
 
+-- ---- parts are removed that were not acknowledged
+
+pub returns-in-Ok-clause-frames : goal.returns-in-Ok-clause-frames
+returns-in-Ok-clause-frames g c honest =
+    frames_cut _ _ _ _ _ (ap (λ (p : Point). p.staged) c.point.view_is) (frames_same _ _ refl)
+    (c.in-Ok.ensures.cut honest)
+
 pub returns-in-Ok-clause-ok : goal.returns-in-Ok-clause-ok
 returns-in-Ok-clause-ok g c front rest holds weighs =
-    let parts = front ++ rest in
-    let of = front_of _ front rest weighs in
-    let e = c.in-Ok.ensures in
-    let honest = holds.honest (c.args.self.now.settled (c.args.self.now.usable e.ends.was_alive)) in
-    let was = holds.ready e.ends.was_alive in
-    let now = e.ok honest was.0 parts front was.1 of in
-    stage_holds c.cut_back.new.self now.0 front (e.ends.honest honest) now.1
+    let s = c.args.self.now in
+    let alive = c.in-Ok.ensures.ends.was_alive in
+    let honest = holds.honest (s.settled (s.usable alive)) in
+    let (acked, was) = holds.ready alive in
+    stage_holds (c.in-Ok.ensures.ends.honest honest) (c.in-Ok.ensures.ok honest acked
+    (front ++ rest) front was
+    (front_of _ front rest (weighs ∙ sym (ap (λ (p : Point). p.staged) c.point.view_is))))
+
+cut_adds : (g : Over) (c : After-cut_parts g) (front rest : List Portion)
+    → Holds c.args.self.now (front ++ rest) → AddsOnly (IsThis c.args.point.now front)
+    (crashes_of c.args.self.now) (crashes_of c.cut_parts.new.self)
+cut_adds g c front rest holds =
+    let s = c.args.self.now in
+    let alive : s.failed ≡ false = sym (ap (λ (z : Stage g.row.D.Denot g.D.Disk). z.failed)
+    c.self.view_is) ∙ c.if-self.false in
+    let honest = holds.honest (s.settled (s.usable alive)) in
+    let (acked, was) = holds.ready alive in
+    adds_this s c.cut_parts.new.self acked (front ++ rest) front c.args.point.now
+    (g.met.D.Disk.seen_now s.disk honest) was (weaken g.D.Disk _ _ _ _ (λ x staged. inl staged)
+    (c.cut_parts.ensures.any_moment honest acked (front ++ rest) was))
 
 pub returns-in-Ok-clause-crash : goal.returns-in-Ok-clause-crash
 returns-in-Ok-clause-crash g c front rest holds weighs =
-    let parts = front ++ rest in
-    let of = front_of _ front rest weighs in
-    let s = c.args.self.now in
-    let e = c.in-Ok.ensures in
-    let honest = holds.honest (s.settled (s.usable e.ends.was_alive)) in
-    let was = holds.ready e.ends.was_alive in
-    adds_this s c.cut_back.new.self was.0 parts front c.args.point.now
-    (g.met.D.Disk.seen_now s.disk honest) was.1 (e.any_moment honest was.0 parts front was.1 of)
+    cut_adds g (goal.at.returns-in-Ok-clause-crash g c).After-cut_parts front rest holds
 
 pub returns-in-Err-clause-crash : goal.returns-in-Err-clause-crash
 returns-in-Err-clause-crash g c front rest holds weighs =
-    let parts = front ++ rest in
-    let of = front_of _ front rest weighs in
+    cut_adds g (goal.at.returns-in-Err-clause-crash g c).After-cut_parts front rest holds
+
+-- ---- acknowledged parts are removed
+
+pub returns-in-Ok-restart-clause-ok : goal.returns-in-Ok-restart-clause-ok
+returns-in-Ok-restart-clause-ok g c front rest holds weighs =
     let s = c.args.self.now in
-    let e = c.in-Err.ensures in
-    adds_refused s c.cut_back.new.self (IsThis c.args.point.now front) c.in-Err.fault
-    e.ends.refused (λ alive.
+    let alive = c.in-Ok-restart.ensures.ends.was_alive in
     let honest = holds.honest (s.settled (s.usable alive)) in
-    let was = holds.ready alive in
-    adds_this s c.cut_back.new.self was.0 parts front c.args.point.now
-    (g.met.D.Disk.seen_now s.disk honest) was.1 (e.any_moment honest was.0 parts front was.1 of))
+    let (acked, was) = holds.ready alive in
+    stage_holds (c.in-Ok-restart.ensures.ends.honest honest) (c.in-Ok-restart.ensures.ok honest
+    acked (front ++ rest) front was (front_of _ front rest weighs))
 
-pub returns-in-Err-clause-why : goal.returns-in-Err-clause-why
-returns-in-Err-clause-why g c =
-    let e = c.in-Err.ensures in
-    change_refused c.args.self.now c.cut_back.new.self _ c.in-Err.fault c.sink_fault.result
-    c.sink_fault.ensures e.ends.refused (λ failed. failed) (λ counts. counts)
-    (λ device. e.ends.cause (ap Err device)) (λ full. inr (e.full (ap Err full)))
+restart_adds : (g : Over) (c : After-restart g) (front rest : List Portion)
+    → Holds c.args.self.now (front ++ rest) → weight_of front ≡ c.args.point.now.staged
+    → AddsOnly (IsThis c.args.point.now front) (crashes_of c.args.self.now)
+    (crashes_of c.restart.new.self)
+restart_adds g c front rest holds weighs =
+    let s = c.args.self.now in
+    let alive : s.failed ≡ false = sym (ap (λ (z : Stage g.row.D.Denot g.D.Disk). z.failed)
+    c.self.view_is) ∙ c.if-self.false in
+    let honest = holds.honest (s.settled (s.usable alive)) in
+    let (acked, was) = holds.ready alive in
+    adds_this s c.restart.new.self acked (front ++ rest) front c.args.point.now
+    (g.met.D.Disk.seen_now s.disk honest) was (c.restart.ensures.any_moment honest acked
+    (front ++ rest) front was (front_of _ front rest weighs))
 
-pub returns-in-Err-clause-drops : goal.returns-in-Err-clause-drops
-returns-in-Err-clause-drops g c less = (
-  tt,
-  λ told. let device : c.in-Err.fault ≡ Device =
-      is_device c.in-Err.fault c.sink_fault.result c.sink_fault.ensures (cc told) in
-      ⊎_elim (λ named. inl (record {
-        acknowledged = named.acknowledged;
-        pending = named.pending;
-        slot = named.slot;
-        generation = named.generation;
-        names = named.names;
-      })) (λ waits. inr waits) ((c.in-Err.ensures.drops less).1 (ap Err device)),
-)
+pub returns-in-Ok-restart-clause-crash : goal.returns-in-Ok-restart-clause-crash
+returns-in-Ok-restart-clause-crash g c =
+    restart_adds g (goal.at.returns-in-Ok-restart-clause-crash g c).After-restart
 
-pub returns-in-Ok-clause-drops : goal.returns-in-Ok-clause-drops
-returns-in-Ok-clause-drops g c less =
-    let named = (c.in-Ok.ensures.drops less).0 in (
-      record {
-        acknowledged = named.acknowledged;
-        pending = named.pending;
-        slot = named.slot;
-        generation = named.generation;
-        names = named.names;
-      },
-      λ none. absurd (cc none),
-    )
+pub returns-in-Err-restart-clause-crash : goal.returns-in-Err-restart-clause-crash
+returns-in-Err-restart-clause-crash g c =
+    restart_adds g (goal.at.returns-in-Err-restart-clause-crash g c).After-restart

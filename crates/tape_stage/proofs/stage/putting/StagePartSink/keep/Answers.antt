@@ -1,14 +1,10 @@
-use Rattle.std.proofs.Common.{◌≡◌, ◌∙◌, ℕ, List, [], ap, sym, append-nil, Option, Some, None, Err}
+use Rattle.std.proofs.Common.{◌≡◌, ◌∙◌, ℕ, List, [], ap, sym, append-nil, Err}
 use Rattle.tape_blocks.specs.Block.{Portion}
 use Rattle.tape_core.specs.{Crash.IsThis, Point.Point, Stands.weight_of}
 use Rattle.tape_stage.specs.{Parts.IsFront, Stages.Returns}
-use Rattle.tape_stage.proofs.{Held.stage_holds, Held.refused_holds, Keeps.frames_holding}
+use Rattle.tape_stage.proofs.{Held.stage_holds, Held.refused_holds, Tears.frames_holding}
 use Rattle.tape_stage.proofs.Backs.{returned_kept, returned_now, adds_this, adds_refused}
 use Rattle.tape_stage.proofs.stage.putting.StagePartSink.keep.Goals as goal
-
--- there is a pending checkpoint while one is being saved
-saved_none : {pending : Option Point} {point : Point} → pending ≡ Some point → pending ≡ None → ⊥
-saved_none some none = cc
 
 -- all parts are the first of their weight
 all_of : (staged : ℕ) (parts : List Portion) → staged ≡ weight_of parts → IsFront staged parts parts
@@ -20,7 +16,7 @@ returns-in-Ok-clause-same g c parts holds =
     let e = c.in-Ok.ensures in
     let honest = holds.honest (c.args.self.now.settled (c.args.self.now.usable e.ends.was_alive)) in
     let was = holds.ready e.ends.was_alive in
-    stage_holds c.save.new.self parts parts (e.ends.honest honest)
+    stage_holds (e.ends.honest honest)
     (e.ok honest was.0 parts parts was.1 (all_of _ parts (c.requires ∙ holds.weighs)))
 
 pub returns-in-Err-clause-same : goal.returns-in-Err-clause-same
@@ -28,7 +24,7 @@ returns-in-Err-clause-same g c parts holds =
     let s = c.args.self.now in
     let e = c.in-Err.ensures in
     refused_holds s c.save.new.self parts c.in-Err.fault e.ends.refused
-    (λ device none honest. absurd (saved_none (e.pending (ap Err device)).0 none))
+    (λ device none honest. absurd (cc (e.pending (ap Err device)).0))
     (λ honest framed. frames_holding _ _ _ _ (e.frames honest) framed) holds
 
 pub returns-in-Ok-clause-kept : goal.returns-in-Ok-clause-kept

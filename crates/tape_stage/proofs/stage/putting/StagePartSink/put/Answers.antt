@@ -1,5 +1,3 @@
-use Rattle.std.proofs.Common.{[], ◌∷◌, ◌++◌}
-use Rattle.tape_blocks.specs.Parts.{view}
 use Rattle.tape_stage.proofs.Held.{stage_holds, refused_holds}
 use Rattle.tape_stage.proofs.{Keeps.kept_front_holding, Backs.adds_nothing, Backs.adds_refused}
 use Rattle.tape_stage.proofs.stage.putting.StagePartSink.put.Goals as goal
@@ -9,8 +7,7 @@ returns-in-Ok-clause-ok g c parts holds =
     let e = c.in-Ok.ensures in
     let honest = holds.honest (c.args.self.now.settled (c.args.self.now.usable e.ends.was_alive)) in
     let was = holds.ready e.ends.was_alive in
-    stage_holds c.put_part.new.self was.0 (parts ++ view c.args.part ∷ [])
-    (e.honest.onward honest) (e.ok honest was.0 parts was.1)
+    stage_holds (e.honest.onward honest) (e.ok honest was.0 parts was.1)
 
 pub returns-in-Err-clause-err : goal.returns-in-Err-clause-err
 returns-in-Err-clause-err g c parts holds =

@@ -1,7 +1,6 @@
-use Rattle.std.proofs.Common.{◌≡◌, ◌+◌, length, take, refl, sym, ap, subst, ◌∙◌, arith, rules, Err}
+use Rattle.std.proofs.Common.{◌≡◌, ◌+◌, length, take, refl, ap, ◌∙◌, arith, rules, Err}
 use Rattle.std.proofs.{Common.⊎_elim, lemmas.List.with_items_is, lemmas.List.length-take-le}
 use Rattle.tape_core.proofs.Crashes.{only_same}
-use Rattle.tape_stage.specs.Frames.{AheadIn}
 use Rattle.tape_stage.proofs.Giving.{given, lends_none, nothing_ahead, one_ahead}
 use Rattle.tape_stage.proofs.{Backs.adds_read, Held.read_held, Passing.only_reads_self}
 use Rattle.tape_stage.proofs.stage.putting.StagePartWalk.next_part.Goals as goal
@@ -47,16 +46,15 @@ returns-in-Ok g c =
     let same : c.deref.result.now ≡ c.read_frame.new.buffer = c.deref.ensures.value
     ∙ with_items_is s.buffer c.read_frame.new.buffer (omega (arith, c.read_frame.auto.buffer)) in
     let long : length (take c.in-Ok.size c.read_frame.new.buffer) ≡ c.in-Ok.size =
-    length-take-le c.in-Ok.size c.read_frame.new.buffer e.sized in (
+    length-take-le c.in-Ok.size c.read_frame.new.buffer
+    (omega (arith, e.short, s.room, c.read_frame.auto.buffer)) in (
       (
         refl,
         λ _. tt,
         rw same record {
           gave = record {
-            kept = λ parts holds. read_held s.disk d s.in_second s.generation s.acknowledged
-                s.other_open s.weight s.failed s.pending parts (e.honest (holds.honest calm))
-                (e.reads.same (holds.honest calm)) (e.reads.any_moment (holds.honest calm)).now
-                holds;
+            kept = λ parts holds. let honest = holds.honest calm in read_held s d parts
+                (e.honest honest) (e.reads.same honest) (e.reads.any_moment honest).now holds;
             crash = λ parts holds. adds_read s d (e.reads.any_moment (holds.honest calm));
             same_weight = refl;
             gives = λ parts is.
@@ -90,16 +88,13 @@ returns-in-Err g c =
         λ _. tt,
         record {
           gave = record {
-            kept = λ parts holds. read_held s.disk d s.in_second s.generation s.acknowledged
-                s.other_open s.weight s.failed s.pending parts (e.honest (holds.honest calm))
-                (e.reads.same (holds.honest calm)) (e.reads.any_moment (holds.honest calm)).now
-                holds;
+            kept = λ parts holds. let honest = holds.honest calm in read_held s d parts
+                (e.honest honest) (e.reads.same honest) (e.reads.any_moment honest).now holds;
             crash = λ parts holds. adds_read s d (e.reads.any_moment (holds.honest calm));
             same_weight = refl;
             gives = λ parts is. (
               λ none. e.honest (is.0 none),
-              subst (λ bytes. AheadIn (256 + s.walked) (256 + s.weight) bytes parts)
-                  (sym (e.reads.same (is.0 calm))) is.1,
+              rw (e.reads.same (is.0 calm)) is.1,
             );
             lends = tt;
             counts = search rules;

@@ -1,5 +1,5 @@
 use Rattle.tape_stage.proofs.CallLaws.{did_elapses, did_left}
-use Rattle.tape_stage.proofs.disk.memory_disk.MemoryDiskDisk.read.Goals as goal
+use Rattle.tape_stage.proofs.disk.memory.MemoryDiskDisk.read.Goals as goal
 
 pub returns-in-Ok-clause-crash : goal.returns-in-Ok-clause-crash
 returns-in-Ok-clause-crash c _ = did_left _ _ _ _ c.count.ensures.content c.in-Ok.ensures.ok

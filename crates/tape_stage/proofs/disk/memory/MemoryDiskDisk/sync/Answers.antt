@@ -1,5 +1,5 @@
 use Rattle.tape_stage.proofs.CallLaws.{did_elapses, did_left, synced_same}
-use Rattle.tape_stage.proofs.disk.memory_disk.MemoryDiskDisk.sync.Goals as goal
+use Rattle.tape_stage.proofs.disk.memory.MemoryDiskDisk.sync.Goals as goal
 
 pub returns-in-Ok-clause-crash : goal.returns-in-Ok-clause-crash
 returns-in-Ok-clause-crash c _ = synced_same _ _ _ c.count.ensures.content c.in-Ok.ensures.ok

@@ -1,7 +1,7 @@
 use Rattle.std.proofs.Common.{length}
 use Rattle.tape_stage.specs.Holding.{torn_same}
 use Rattle.tape_stage.proofs.CallLaws.{did_elapses, written_left, written_open}
-use Rattle.tape_stage.proofs.disk.memory_disk.MemoryDiskDisk.write_at.Goals as goal
+use Rattle.tape_stage.proofs.disk.memory.MemoryDiskDisk.write_at.Goals as goal
 
 pub returns-in-Ok-clause-crash : goal.returns-in-Ok-clause-crash
 returns-in-Ok-clause-crash c _ =
