@@ -2,14 +2,15 @@
 use Rattle.tape_writer.proofs.Words.{◌≡◌, ℕ, ◌+◌, List, [], ◌∷◌, ◌++◌, length, refl, sym, ap, ◌∙◌}
 use Rattle.tape_writer.proofs.Words.{subst, inr, map, map-append, length-map, Vol1, Head1, Shape}
 use Rattle.tape_writer.proofs.{Words.Packing, Words.Section, Changed.not_nil}
-use Rattle.tape_writer.specs.State.{SetState, Stands, IsFilingLast, IsWriting, Leaves, IfFiling}
-use Rattle.tape_writer.specs.{declared.course.Opened.Opened, declared.course.Course.Course}
-use Rattle.tape_writer.specs.{declared.phase.Phase.Phase, declared.phase.OpenFile.OpenFile}
-use Rattle.tape_writer.specs.{declared.fault.WriteFault.WriteFault, State.IsOutOfVolumes}
+use Rattle.tape_writer.proofs.{Fronts.waits, Last.lasting_self, Last.lasting_then, Last.rose_from}
+use Rattle.tape_writer.specs.State.{SetState, IsFilingLast, IsWriting, Leaves, IfFiling}
+use Rattle.tape_writer.specs.{State.IsOutOfVolumes, State.tape_of, declared.phase.OpenFile.OpenFile}
+use Rattle.tape_writer.specs.{declared.course.Opened.Opened, declared.fault.WriteFault.WriteFault}
+use Rattle.tape_writer.specs.{declared.course.Course.Course, declared.out.TapeOut.Ghosts}
+use Rattle.tape_writer.specs.{declared.phase.Phase.Phase, Tapes.Tapes, Faults.IsEnding}
 use Rattle.tape_writer.specs.declared.phase.Phase.TheVariants.{Between, Filing, Failed}
-use Rattle.tape_writer.specs.{Told.Told, Told.opened_by, Told.with_record, Tapes.Tapes}
+use Rattle.tape_writer.specs.{Told.Told, Told.opened_by, Told.with_record, Lasting.TapeLasts}
 use Rattle.tape_writer.specs.Inside.{IsInside, IsFiling, IsBetween, IsWaiting, IsStuck}
-use Rattle.tape_writer.specs.Faults.{IsEnding}
 use Rattle.tape_writer.specs.declared.fault.WriteFault.TheVariants as faults
 
 pub with_last : (past : List Told) (t : Told) (r : List ℕ) → with_record (past ++ t ∷ []) r
@@ -35,8 +36,7 @@ with_kept (t ∷ u ∷ ts) r = ap (λ z. t.file ∷ z) (with_kept (u ∷ ts) r)
 pub last_told : {T : Type 0} (H : Tapes → Type 0) (w : SetState T) (o : OpenFile) (told : List Told)
     → w.phase ≡ Filing o → IsWriting H w told
     → IsFilingLast H w.volumes w.capacity w.set_id w.course o told
-last_told H w o told is k =
-    subst (λ z. Stands H w.volumes w.capacity w.set_id w.course z told) is k.stands
+last_told H w o told is k = rw is at k.stands
 
 pub put_told : {T : Type 0} (H H' : Tapes → Type 0) (w : SetState T) (out : T) (vs : List Vol1)
     (course : Course) (o : OpenFile) (q : Packing) (told : List Told) (r : List ℕ)
@@ -93,14 +93,14 @@ end_told H H' w out vs course o told is v closed k =
       );
     }
 
-pub begin_told : {T : Type 0} (H H' : Tapes → Type 0) (w : SetState T) (out : T) (vs : List Vol1)
+pub begin_told : {T : Type 0} (H H' : Tapes → Type 0) (w : SetState T) (out : T)
     (files : List Opened) (file : Opened) (course : Course) (p : Packing) (told : List Told)
-    (head : Head1) (shape : Shape)
-    → w.phase ≡ Between → vs ≡ w.volumes
+    (head : Head1) (shape : Shape) → w.phase ≡ Between
     → file ≡ opened_by w.set_id (length w.files + 1) head shape → files ≡ w.files ++ file ∷ []
     → (file.head.set_id ≡ w.set_id → file.head.sequence ≡ length told + 1
-    → IsWaiting H vs w.capacity w.set_id w.course told
-    → IsFiling H' vs w.capacity w.set_id file course p told []) → IsWriting H w told → IsWriting H'
+    → IsWaiting H w.volumes w.capacity w.set_id w.course told
+    → IsFiling H' w.volumes w.capacity w.set_id file course p told [])
+    → IsWriting H w told → IsWriting H'
     (record w {
       out = out;
       files = files;
@@ -108,29 +108,27 @@ pub begin_told : {T : Type 0} (H H' : Tapes → Type 0) (w : SetState T) (out : 
       phase = Filing (record { file = file; packer = p });
     })
     (told ++ record { file = opened_by w.set_id (length told + 1) head shape; records = [] } ∷ [])
-begin_told H H' w out vs files file course p told head shape is v same f filing k =
-    let waits : IsWaiting H w.volumes w.capacity w.set_id w.course told =
-    subst (λ z. Stands H w.volumes w.capacity w.set_id w.course z told) is k.stands in
+begin_told H H' w out files file course p told head shape is same f filing k =
     let many : length w.files ≡ length told = ap length k.kept ∙ length-map told (λ t. t.file) in
     let named : file ≡ opened_by w.set_id (length told + 1) head shape =
     same ∙ ap (λ i. opened_by w.set_id (i + 1) head shape) many in
-    let o : OpenFile = record { file = file; packer = p } in
     let t : Told = record { file = file; records = [] } in
-    let made : IsWriting H' (record w
-    { out = out; files = files; course = course; phase = Filing o }) (told ++ t ∷ []) = record {
+    let made : IsWriting H' (record w {
+      out = out;
+      files = files;
+      course = course;
+      phase = Filing (record { file = file; packer = p });
+    }) (told ++ t ∷ []) = record {
       kept = f ∙ (ap (λ z. z ++ file ∷ []) k.kept ∙ sym (map-append (λ x. x.file) told (t ∷ [])));
       stands = record {
         past = told;
         records = [];
         is_told = refl;
-        filing = subst (λ z. IsFiling H' z w.capacity w.set_id file course p told []) v
-            (filing (ap (λ z. z.head.set_id) named) (ap (λ z. z.head.sequence) named)
-            (subst (λ z. IsWaiting H z w.capacity w.set_id w.course told) (sym v) waits));
+        filing = filing (ap (λ z. z.head.set_id) named) (ap (λ z. z.head.sequence) named)
+            (waits H w told is k);
       };
     } in
-    subst (λ z. IsWriting H'
-    (record w { out = out; files = files; course = course; phase = Filing o })
-    (told ++ record { file = z; records = [] } ∷ [])) named made
+    rw (← named) made
 
 -- no volume is left, for the records passed or for others in their place
 pub stuck_told : {T : Type 0} (H H' : Tapes → Type 0) (w : SetState T) (out : T) (vs : List Vol1)
@@ -163,7 +161,12 @@ stuck_told H H' w out vs course o told told' grow is v grown stuck k =
 -- inside a file
 pub if_filing : (x : Phase) (o : OpenFile) (Q : OpenFile → Type 0) → x ≡ Filing o → Q o
     → IfFiling x Q
-if_filing x o Q e q = subst (λ z. IfFiling z Q) (sym e) q
+if_filing x o Q e q = rw e q
+
+-- the writer is unchanged
+pub lasting_unchanged : {T : Type 0} (g : Ghosts T) (old new : SetState T) → new ≡ old
+    → TapeLasts g (tape_of old) (tape_of new)
+lasting_unchanged g old new is = rw is (lasting_self _ _ _)
 
 -- a fault that ends the writer leaves a failed writer
 pub leaves_failed : {T : Type 0} (old new : SetState T) (fault : WriteFault) → new.phase ≡ Failed
@@ -172,3 +175,6 @@ leaves_failed old new faults.OutOfVolumes is e = is
 leaves_failed old new faults.Device is e = is
 leaves_failed old new faults.OutOfMemory is e = is
 leaves_failed old new _ is e = absurd e
+
+-- what is known of a sequence of calls, of an unchanged writer, and of a writer that failed
+pub ruleset calls = (lasting_then, lasting_self, rose_from, lasting_unchanged, leaves_failed)

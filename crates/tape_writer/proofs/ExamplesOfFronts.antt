@@ -1,41 +1,38 @@
 -- Proofs of the test cases for the contents of the tapes after a refusal.
-use Rattle.tape_writer.proofs.Words.{◌≡◌, ◌≢◌, ◌⊎◌, ℕ, List, [], ◌∷◌, ◌++◌, Option, Some, IfSome}
-use Rattle.tape_writer.proofs.Words.{inl, inr, length, refl, sym, subst, AllByRecursion, TapeItem}
-use Rattle.tape_writer.proofs.{Words.Head1, Words.Shape, Fronts.front_begins}
-use Rattle.tape_writer.specs.{declared.fault.SetFault.SetFault, declared.inputs.cut.Cut.Cut}
+use Rattle.tape_writer.proofs.Words.{◌≡◌, ◌≢◌, ◌⊎◌, ℕ, List, [], ◌∷◌, ◌++◌, Option, inl, inr}
+use Rattle.tape_writer.proofs.Words.{length, refl, sym, subst, AllByRecursion, TapeItem, Head1}
+use Rattle.tape_writer.proofs.{Words.Shape, ExamplesOfInputs.in_first}
+use Rattle.tape_writer.specs.Front.{behind_steps, HoldsFront, IsLeftBehind, IsLeftWhole, Step, Item}
+use Rattle.tape_writer.specs.{declared.fault.SetFault.SetFault, LeftOf.IsLeftOf, LeftOf.IsLeftOfAll}
+use Rattle.tape_writer.specs.{declared.inputs.cut.Cut.Cut, Told.Told, CasesOfFronts.CasesOfFronts}
 use Rattle.tape_writer.specs.{declared.fault.WriteFault.TheVariants.OutOfMemory, State.SetState}
 use Rattle.tape_writer.specs.declared.fault.SetFault.TheVariants.{Write, ReadFailed}
-use Rattle.tape_writer.specs.Front.{behind_steps, HoldsFront, IsLeftBehind, IsLeftWhole}
-use Rattle.tape_writer.specs.LeftOf.{IsLeftOf, IsLeftOfAll, IsLeftUnbegun}
-use Rattle.tape_writer.specs.{Records.records_of, Records.IsFirstLong, Told.Told, Told.with_file}
-use Rattle.tape_writer.specs.{Tapes.Tapes, Tapes.UnderWay, WriteFaults.IsOfInput}
-use Rattle.tape_writer.specs.ToldFiles.{told_files, IfAllKnown}
-use Rattle.tape_writer.specs.CasesOfFronts.{CasesOfFronts}
+use Rattle.tape_writer.specs.{Front.Change, Front.Close, Front.behind_step, WriteFaults.IsOfInput}
+use Rattle.tape_writer.specs.Records.{IsFirstLong}
+use Rattle.tape_writer.specs.Tapes.{Tapes, UnderWay, Ended, all_volumes}
+use Rattle.std.proofs.Common.{flat_map, ◌≤◌, arith, length-append}
+use Rattle.std.proofs.lemmas.Grind.{flat_map-append}
+
+-- the items of all volumes
+abbrev all_of : Tapes → List TapeItem
+all_of t = flat_map (λ v. v) (all_volumes t)
+
+not_fewer : (s : Step) (t : Tapes) → length (all_of t) ≤ length (all_of (behind_step s t))
+not_fewer (Item x) (UnderWay vs items) = simp (flat_map-append, length-append) (omega arith)
+not_fewer (Item x) (Ended vs) = omega arith
+not_fewer Change t = simp (flat_map-append, length-append) (omega arith)
+not_fewer Close t = omega arith
+
+never_fewer : (steps : List Step) (t : Tapes)
+    → length (all_of t) ≤ length (all_of (behind_steps steps t))
+never_fewer [] t = omega arith
+never_fewer (s ∷ steps) t =
+    omega (arith, not_fewer s t, never_fewer steps (behind_step s t))
 
 not_back : (u : TapeItem) → HoldsFront (λ t. t ≡ UnderWay [] (u ∷ [])) (UnderWay [] []) → ⊥
 not_back u f =
-    let b = front_begins (λ t. t ≡ UnderWay [] (u ∷ [])) (u ∷ []) (UnderWay [] []) (λ t h. h) f in
-    let same : [] ∷ [] ≡ (u ∷ b.more) ∷ b.rest = b.is in
-    absurd (cc)
-
--- the only input of a set is the first one
-first_of : (tapes : Tapes) (w : SetState ℕ) (id : List ℕ) (shape : Shape) (cut : Cut)
-    (x : Head1 × List ℕ) (before after : List (Head1 × Option (List ℕ)))
-    (input : Head1 × Option (List ℕ)) (fault : SetFault)
-    → (x.0, Some x.1) ∷ [] ≡ before ++ input ∷ after
-    → IfAllKnown before (λ fs. IfSome input.1 (λ bytes.
-    IsLeftUnbegun (λ t. t ≡ tapes) w fault ([] ++ told_files id shape cut 1 fs)
-    ⊎ IsLeftOf (λ t. t ≡ tapes) w ⊥ fault
-    (with_file id ([] ++ told_files id shape cut 1 fs) input.0 shape) (records_of cut bytes)))
-    → IsLeftUnbegun (λ t. t ≡ tapes) w fault []
-    ⊎ IsLeftOf (λ t. t ≡ tapes) w ⊥ fault (with_file id [] x.0 shape) (records_of cut x.1)
-first_of tapes w id shape cut x [] after input fault split left =
-    let head : input ≡ (x.0, Some x.1) = cc split in
-    subst (λ i. IfSome i.1 (λ bytes. IsLeftUnbegun (λ t. t ≡ tapes) w fault []
-    ⊎ IsLeftOf (λ t. t ≡ tapes) w ⊥ fault (with_file id [] i.0 shape)
-    (records_of cut bytes))) head left
-first_of tapes w id shape cut x (b ∷ []) after input fault split left = absurd (cc split)
-first_of tapes w id shape cut x (b ∷ c ∷ before) after input fault split left = absurd (cc split)
+    let more = rw (f.leads, f.held) at (never_fewer f.steps f.now) in
+    absurd (omega (arith, more))
 
 none_split : (before after : List (Head1 × Option (List ℕ))) (input : Head1 × Option (List ℕ))
     → [] ≡ before ++ input ∷ after → ⊥
@@ -73,15 +70,13 @@ cases_of_fronts = record {
   mid_record = λ tapes volumes capacity id file course fs records m. (m.split, m.packing);
   partly = λ tapes volumes capacity id file course fs records p. p;
   in_last = λ tapes volumes capacity id told l. (l.is_told, l.filed, l.partly);
-  ending_last = λ tapes volumes capacity id told l. l;
   left = λ tapes w told. (λ l. l, λ l. l, λ l. l);
   left_of = λ tapes w told records g. (g.split, g.left);
   no_memory = λ tapes w told r s g one. longer tapes w told r (s ∷ []) g one;
   not_at_the_end = λ tapes w told r g one. longer tapes w told r [] g one;
   all_held = λ tapes w told records g. g.all tt;
   wrong_length = λ tapes w told records g. g.all tt;
-  left_in = λ tapes w id shape cut x fault g.
-      first_of tapes w id shape cut x g.before g.after g.input fault g.split g.holds;
+  left_in = λ tapes w id shape cut x fault g. in_first id shape cut x _ g;
   unbegun = λ tapes w told fault u.
       (λ e. u.0 (subst IsOfInput (sym e) tt), λ e. u.0 (subst IsOfInput (sym e) tt), u.1);
   left_of_none = of_none;

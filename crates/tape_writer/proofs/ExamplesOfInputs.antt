@@ -2,31 +2,31 @@
 use Rattle.tape_writer.proofs.Words.{◌≡◌, ◌⊎◌, ℕ, List, [], ◌∷◌, ◌++◌, length, Option, Some, IfSome}
 use Rattle.tape_writer.proofs.Words.{refl, inl, inr, subst, arith, ap, prepend_known, Head1, Shape}
 use Rattle.tape_writer.proofs.Words.{HasRecordLength}
-use Rattle.tape_writer.specs.declared.{fault.SetFault.SetFault, fault.SetFault.TheVariants.Write}
-use Rattle.tape_writer.specs.declared.{inputs.cut.Cut.Cut, inputs.set.SetPlan.SetPlan}
-use Rattle.tape_writer.specs.LeftOf.{GaveUp, HasNoVolume, GaveUpSet}
-use Rattle.tape_writer.specs.CasesOfInputs.{CasesOfInputs, CasesOfSetFaults, CasesOfWritten}
-use Rattle.tape_writer.specs.WriteFaults.{OneIsOther, IsFileFault, IsFilesFault, IsWholeFault}
-use Rattle.tape_writer.specs.{Records.records_of, State.SetState, Tapes.Tapes, Tapes.Ended}
-use Rattle.tape_writer.specs.{Told.with_file, ToldFiles.told_files, ToldFiles.IfAllKnown}
-use Rattle.tape_writer.specs.{CasesOfInputs.CasesOfRecordLaws, WriteSet.cut_of}
 use Rattle.tape_writer.proofs.inputs.Cutting.{within_longest, has_longest}
+use Rattle.tape_writer.specs.CasesOfInputs.{CasesOfInputs, CasesOfSetFaults, CasesOfWritten}
+use Rattle.tape_writer.specs.{declared.fault.SetFault.SetFault, declared.inputs.set.SetPlan.SetPlan}
+use Rattle.tape_writer.specs.{declared.fault.SetFault.TheVariants.Write, Records.records_of}
+use Rattle.tape_writer.specs.{declared.inputs.cut.Cut.Cut, Tapes.Ended, Told.Told, WriteSet.cut_of}
+use Rattle.tape_writer.specs.{LeftOf.HasNoVolume, LeftOf.GaveUpSet, CasesOfInputs.CasesOfRecordLaws}
+use Rattle.tape_writer.specs.WriteFaults.{OneIsOther, IsFileFault, IsFilesFault, IsWholeFault}
+use Rattle.tape_writer.specs.ToldFiles.{told_files, IfAllKnown, InOne}
 use Rattle.tape_writer.specs.declared.fault.WriteFault.TheVariants as faults
 
 -- the only input of a set is the first one
-first_of : (tapes : Tapes) (w : SetState ℕ) (id : List ℕ) (shape : Shape) (cut : Cut)
-    (x : Head1 × List ℕ) (before after : List (Head1 × Option (List ℕ)))
-    (input : Head1 × Option (List ℕ))
-    → (x.0, Some x.1) ∷ [] ≡ before ++ input ∷ after
-    → IfAllKnown before (λ fs. IfSome input.1 (λ bytes. GaveUp (λ t. t ≡ tapes) w
-    (with_file id ([] ++ told_files id shape cut 1 fs) input.0 shape) (records_of cut bytes)))
-    → GaveUp (λ t. t ≡ tapes) w (with_file id [] x.0 shape) (records_of cut x.1)
-first_of tapes w id shape cut x [] after input split stuck =
-    let head : input ≡ (x.0, Some x.1) = cc split in
-    subst (λ i. IfSome i.1 (λ bytes. GaveUp (λ t. t ≡ tapes) w (with_file id [] i.0 shape)
-    (records_of cut bytes))) head stuck
-first_of tapes w id shape cut x (b ∷ []) after input split stuck = absurd (cc split)
-first_of tapes w id shape cut x (b ∷ c ∷ before) after input split stuck = absurd (cc split)
+pub in_first : (id : List ℕ) (shape : Shape) (cut : Cut) (x : Head1 × List ℕ)
+    (P : List Told → Head1 → List ℕ → Type 0)
+    → InOne id [] shape cut ((x.0, Some x.1) ∷ []) P → P [] x.0 x.1
+in_first id shape cut x P g = go g.before g.split g.holds
+  where
+    go : (before : List (Head1 × Option (List ℕ)))
+        → (x.0, Some x.1) ∷ [] ≡ before ++ g.input ∷ g.after
+        → IfAllKnown before (λ fs. IfSome g.input.1 (P (told_files id shape cut 1 fs) g.input.0))
+        → P [] x.0 x.1
+    go [] split holds =
+        let head : g.input ≡ (x.0, Some x.1) = cc split in
+        subst (λ i. IfSome i.1 (P [] i.0)) head holds
+    go (b ∷ []) split holds = absurd (cc split)
+    go (b ∷ c ∷ before) split holds = absurd (cc split)
 
 pub cases_of_inputs : CasesOfInputs
 cases_of_inputs = record {
@@ -56,8 +56,7 @@ cases_of_inputs = record {
   told_more = λ t r s. refl;
   all_known = λ h k a b given p. p;
   gave_up = λ H w told records g. (g.split, g.out);
-  gave_up_in = λ tapes w id shape cut x g.
-      first_of tapes w id shape cut x g.before g.after g.input g.split g.holds;
+  gave_up_in = λ tapes w id shape cut x g. in_first id shape cut x _ g;
   gave_up_set = λ plan cut given g. (g.on_tapes, g.on_volumes, g.capacity, g.set_id);
 }
 

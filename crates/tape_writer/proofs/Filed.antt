@@ -1,16 +1,13 @@
 -- A file that has ended is valid and tight.
-use Rattle.tape_writer.proofs.Words.{◌≡◌, ◌≤◌, ℕ, suc, ◌+◌, List, [], ◌∷◌, ◌++◌, length, Bool, true}
-use Rattle.tape_writer.proofs.Words.{refl, sym, ap, subst, arith, if◌then◌else◌, AllByRecursion}
-use Rattle.tape_writer.proofs.Words.{Format, Portion, Filled, Section, Placed, numbered}
+use Rattle.tape_writer.proofs.Words.{◌≡◌, ◌≤◌, ℕ, suc, ◌+◌, List, [], ◌∷◌, ◌++◌, length, true, refl}
+use Rattle.tape_writer.proofs.Words.{ap, arith, AllByRecursion, Format, Portion, Filled, Section}
 use Rattle.tape_writer.proofs.Sections.{first_is, second_is, trailer_is, second_kind_is}
-use Rattle.tape_writer.proofs.Words.{blocks_of_all, least_capacity, every}
+use Rattle.tape_writer.proofs.Words.{Placed, numbered, blocks_of_all, least_capacity, every}
 use Rattle.tape_writer.proofs.{Sections.trailer_ends, Volumes.all_push, Volumes.numbered-push}
 use Rattle.tape_label.specs.declared.values.Format.TheVariants.{Fixed, Counted, Spanned}
-use Rattle.tape_label.specs.{Head1.IsHead1, Head2.IsHead2, Trail1.IsTrail1}
 use Rattle.tape_blocks.specs.{Block.IsUnit, Block.Holds, Records.AreRecordsOf, Tight.IsWritten}
-use Rattle.tape_set.specs.Layout.{ends_file}
+use Rattle.tape_set.specs.{Layout.ends_file, Tight.HasPlainLabels, Tight.second_of}
 use Rattle.tape_set.specs.Lawful.{Ends, FileForm, TellsForm, HasForm, binding_len, form_of}
-use Rattle.tape_set.specs.Tight.{HasPlainLabels, second_of, second_trailer}
 use Rattle.tape_set.proofs.Everywhere.{every_front, every_rest}
 use Rattle.tape_writer.specs.{declared.course.Opened.Opened, Draft.IsGoing}
 use Rattle.tape_writer.specs.Labels.{IsReady, head_at, trailer_at, second_label, second_kind}
@@ -26,33 +23,23 @@ tells : (file : Opened) (x : Placed) → IsReady file → IsOfFile file x
 tells file x r is = record {
   head = head_at file x.sect;
   second = second_of file.shape;
-  hdr1 = subst (λ l. IsHead1 l (head_at file x.sect)) (sym is.hdr1)
-      (first_is file x.sect r is.number.0 is.number.1);
-  hdr2 = subst (λ l. IsHead2 l kinds.Hdr2 (second_of file.shape)) (sym is.hdr2)
-      (second_is file kinds.Hdr2 r tt);
+  hdr1 = rw is.hdr1 (first_is file x.sect r is.number);
+  hdr2 = rw is.hdr2 (second_is file kinds.Hdr2 r tt);
   told = refl;
 }
-
-trailer_by : (s : Section) (eof : Bool) → ends_file s ≡ eof → second_trailer s ≡ second_kind eof
-trailer_by s eof e = ap (λ b. if b then kinds.Eof2 else kinds.Eov2) e
 
 plain : (file : Opened) (x : Placed) → IsReady file → IsOfFile file x
     → HasPlainLabels file.shape x.section
 plain file x r is =
     let ends : ends_file x.section ≡ is.eof = trailer_ends x.section.trailer
-    (trailer_at file x.sect (length x.section.blocks) is.eof) (subst
-    (λ l. IsTrail1 l (trailer_at file x.sect (length x.section.blocks) is.eof)) (sym is.trailer)
-    (trailer_is file x.sect (length x.section.blocks) is.eof r is.number.0 is.number.1)) in
+    (trailer_at file x.sect (length x.section.blocks) is.eof) (rw is.trailer
+    (trailer_is file x.sect (length x.section.blocks) is.eof r is.number)) in
     record {
-      hdr2 = subst (λ l. IsHead2 l kinds.Hdr2 (second_of file.shape)) (sym is.hdr2)
-          (second_is file kinds.Hdr2 r tt);
+      hdr2 = rw is.hdr2 (second_is file kinds.Hdr2 r tt);
       headers = is.headers;
       second = second_label file (second_kind is.eof);
       trailers = is.trailers;
-      trailer2 =
-          subst (λ k. IsHead2 (second_label file (second_kind is.eof)) k (second_of file.shape))
-          (sym (trailer_by x.section is.eof ends))
-          (second_is file (second_kind is.eof) r (second_kind_is is.eof));
+      trailer2 = rw ends (second_is file (second_kind is.eof) r (second_kind_is is.eof));
     }
 
 -- a property of sections with their numbers gives one of the sections
@@ -109,32 +96,22 @@ formed file (s ∷ f) h k = (
 
 -- **the file has ended**
 pub filed : (cap : ℕ) (file : Opened) (records : List (List ℕ)) (bs : List Filled)
-    (ss : List Section) (last : Placed)
+    (ss : List Section) (last : Section) (sect : ℕ)
     → IsReady file → least_capacity file.shape ≤ cap → AreRecordsOf file.shape records
     → packing.IsTight file.shape records bs
-    → last.sect ≡ length ss + 1 → AllByRecursion (IsGoing file) (numbered file.head.sequence 1 ss)
-    → IsOfFile file last → ends_file last.section ≡ true
-    → blocks_of_all (ss ++ last.section ∷ []) ≡ bs
-    → IsFiled cap (record { file = file; records = records }) (ss ++ last.section ∷ [])
-filed cap file records bs ss last r room lengths tight number going is ends blocks =
-    let f : List Section = ss ++ last.section ∷ [] in
-    let whole : packing.IsTight file.shape records (blocks_of_all f) =
-    subst (λ (z : List Filled). packing.IsTight file.shape records z) (sym blocks) tight in
+    → sect ≡ length ss + 1 → AllByRecursion (IsGoing file) (numbered file.head.sequence 1 ss)
+    → IsOfFile file (record { file = file.head.sequence; sect = sect; section = last })
+    → ends_file last ≡ true → blocks_of_all (ss ++ last ∷ []) ≡ bs
+    → IsFiled cap (record { file = file; records = records }) (ss ++ last ∷ [])
+filed cap file records bs ss last sect r room lengths tight number going is ends blocks =
+    let f : List Section = ss ++ last ∷ [] in
+    let whole : packing.IsTight file.shape records (blocks_of_all f) = rw blocks tight in
     let of : AllByRecursion (IsOfFile file) (numbered file.head.sequence 1 f) =
-    subst (AllByRecursion (IsOfFile file))
-    (sym (numbered-push file.head.sequence 1 ss last.section last.sect (omega (arith, number))))
+    rw (numbered-push file.head.sequence 1 ss last sect (omega (arith, number)))
     (all_push (IsOfFile file) (numbered file.head.sequence 1 ss)
-    (record { file = file.head.sequence; sect = last.sect; section = last.section })
-    (every (IsGoing file) (IsOfFile file) (λ x h. h.0) (numbered file.head.sequence 1 ss) going)
-    (record {
-      number = is.number;
-      hdr1 = is.hdr1;
-      hdr2 = is.hdr2;
-      headers = is.headers;
-      eof = is.eof;
-      trailer = is.trailer;
-      trailers = is.trailers;
-    })) in
+    (record { file = file.head.sequence; sect = sect; section = last })
+    (every (IsGoing file) (IsOfFile file) (λ x h. h.0) (numbered file.head.sequence 1 ss) going) is)
+    in
     let forms = unnumbered (IsOfFile file) (TellsForm (form_by file))
     (λ x h. tells file x r h) file.head.sequence 1 f of in
     let holds = every (IsWritten file.shape) (λ b. Holds file.shape.format
@@ -143,7 +120,7 @@ filed cap file records bs ss last r room lengths tight number going is ends bloc
     (blocks_of_all f) whole.each in
     record {
       is_file = record {
-        ends = going_ends file file.head.sequence 1 ss last.section going ends;
+        ends = going_ends file file.head.sequence 1 ss last going ends;
         alike = (form_by file, formed file f forms holds);
         order = whole.order;
       };

@@ -1,16 +1,15 @@
 -- The set is finished: its volumes are those of a valid, tight set.
 use Rattle.tape_writer.proofs.Words.{◌≡◌, ◌≢◌, ◌<◌, ◌≤◌, ℕ, zero, suc, ◌+◌, List, [], ◌∷◌, ◌++◌}
-use Rattle.tape_writer.proofs.Words.{length, Some, refl, sym, ap, ◌∙◌, subst, arith, take, add-one}
+use Rattle.tape_writer.proofs.Words.{length, Some, refl, sym, ap, ◌∙◌, arith, take, add-one}
 use Rattle.tape_writer.proofs.Words.{map, slice_get, AllByRecursion, map-append, append-nil, mark}
 use Rattle.tape_writer.proofs.Words.{Vol1, Section, Placed, Volume, a_mark, on, all_entries}
 use Rattle.tape_writer.proofs.Words.{numbered, all_numbered, group_of, item_of, IsSection}
 use Rattle.tape_writer.proofs.Words.{IsTightChange, used_before, items_size-append, every}
 use Rattle.tape_writer.proofs.{Words.IsWideVolume, Words.length-take-le, Sections.vol1_is}
 use Rattle.tape_writer.proofs.Volumes.{all_push, first_next}
-use Rattle.tape_set.specs.Layout.{FileSet, nth, sections, entries_on, header_group, data_group}
-use Rattle.tape_set.specs.{Layout.items, Layout.first_items, Layout.all_items, Sizes.entries_size}
+use Rattle.tape_set.specs.Layout.{FileSet, nth, sections, header_group, data_group, first_items}
+use Rattle.tape_set.specs.{Layout.all_items, Sizes.entries_size, Lawful.IsVolume, Lawful.IsFile}
 use Rattle.tape_set.specs.Tight.{IsTightEnd, AreTightFiles, EachBehind, ChainBehind, last_volume}
-use Rattle.tape_set.specs.Lawful.{IsVolume, IsFile}
 use Rattle.tape_writer.specs.Draft.{Draft, placed, body, first_volumes, body_items, ended_volumes}
 use Rattle.tape_writer.specs.{declared.course.Course.Course, Tapes.Tapes, Tapes.Ended}
 use Rattle.tape_writer.specs.Told.{labelled, IsWithin, Told, AreFiled, IsWrittenSet}
@@ -85,21 +84,13 @@ first_are set zero h = refl
 first_are set (suc k) h =
     let v = get_some set.volumes k (omega arith) in
     let there : nth set.volumes (k + 1) ≡ Some v.0 = ap (nth set.volumes) (add-one k) ∙ v.1 in
-    let this : entries_on (nth set.volumes (k + 1)) (k + 1) (sections set)
-    ≡ body set.volumes (sections set) k ++ a_mark ∷ [] =
-    ap (λ z. entries_on z (k + 1) (sections set)) there
-    ∙ sym (ap (λ z. group_of z ++ all_entries (on (k + 1) (sections set)) ++ a_mark ∷ []) v.1) in
-    ap (λ z. z ++ items set (k + 1) ∷ []) (first_are set k (omega arith))
-    ∙ ap (λ z. first_volumes set.volumes (sections set) k ++ map item_of z ∷ []) this
+    rw (first_are set k (omega arith), there, v.1)
 
 first_taken : (vs : List Volume) (xs : List Placed) (n k : ℕ) → k ≤ n
     → first_volumes (take n vs) xs k ≡ first_volumes vs xs k
 first_taken vs xs n zero h = refl
 first_taken vs xs n (suc k) h =
-    ap (λ z. z ++ map item_of (body (take n vs) xs k ++ a_mark ∷ []) ∷ []) (first_taken vs xs n k
-    (omega arith))
-    ∙ ap (λ z. first_volumes vs xs k ++ map item_of (group_of z ++ all_entries (on (k + 1) xs)
-    ++ a_mark ∷ []) ∷ []) (get_taken vs n k (omega arith))
+    rw (first_taken vs xs n k (omega arith), get_taken vs n k (omega arith))
 
 -- ---- files
 
@@ -146,8 +137,7 @@ written_set H vs cap set_id course d told wide some b files h =
     let all : placed d ≡ sections set =
     ap (λ z. all_numbered 1 d.files ++ numbered (length d.files + 1) 1 z) b.no_sects
     ∙ append-nil (all_numbered 1 d.files) in
-    let done : IsDone all_vs cap set_id n (sections set) =
-    subst (IsDone all_vs cap set_id n) all b.done in
+    let done : IsDone all_vs cap set_id n (sections set) = rw all at b.done in
     let below : AllByRecursion (λ x. x.section.volume ≤ n) (sections set) = every (IsSection set_id
     n) (λ x. x.section.volume ≤ n) (λ x k. k.volume.1) (sections set) done.each in
     let stands : OfLast (sections set) (λ ys x. x.section.volume ≡ n) =
@@ -163,7 +153,7 @@ written_set H vs cap set_id course d told wide some b files h =
       layout = set;
       lawful = record {
         volumes = all_volumes vs n wide;
-        each = subst (λ k. AllByRecursion (IsSection set_id k) (sections set)) (sym long) done.each;
+        each = rw long done.each;
         files = are_files cap told d.files files;
         first = done.first;
         goes_on = done.chain;
@@ -176,9 +166,9 @@ written_set H vs cap set_id course d told wide some b files h =
         ends = ends_taken all_vs cap n [] (sections set) below done.ends;
         changes = changes_taken all_vs cap n [] (sections set) below done.changes;
       };
-      held = subst (λ z. H (Ended z)) (sym items) h;
-      within = subst (λ z. AllByRecursion (IsWithin cap) z) (sym items) (all_push (IsWithin cap)
-          (ended_volumes all_vs d) (body_items all_vs d ++ mark ∷ []) b.within
+      held = rw items h;
+      within = rw items (all_push (IsWithin cap) (ended_volumes all_vs d)
+          (body_items all_vs d ++ mark ∷ []) b.within
           (omega (arith, items_size-append (body_items all_vs d) (mark ∷ []), b.used, b.room)));
       of_set = refl;
       of_volumes = ap (λ k. take k all_vs) (sym long);

@@ -1,5 +1,5 @@
 -- An interrupted call leaves a prefix of the items that it was to write.
-use Rattle.tape_writer.proofs.Words.{◌≡◌, ◌≢◌, List, [], ◌∷◌, ◌++◌, refl, sym, ap, ◌∙◌, subst}
+use Rattle.tape_writer.proofs.Words.{◌≡◌, ◌≢◌, List, [], ◌∷◌, ◌++◌, refl, sym, ap, ◌∙◌}
 use Rattle.tape_writer.proofs.Words.{append_assoc, inl, inr, ◌⊎◌, IfErr, Result, Ok, Err}
 use Rattle.tape_writer.proofs.Words.{append-nil, TapeItem, ℕ, Vol1, Packing, Section}
 use Rattle.tape_writer.specs.Front.{Step, Item, Change, Close, behind_step, behind_steps}
@@ -45,14 +45,13 @@ behind-items vs items (x ∷ more) = behind-items vs (items ++ x ∷ []) more
 -- items that follow
 pub front_items : (H : Tapes → Type 0) (vs : List (List TapeItem)) (items more : List TapeItem)
     → HoldsFront H (UnderWay vs items) → HoldsFront H (UnderWay vs (items ++ more))
-front_items H vs items more f =
-    subst (HoldsFront H) (behind-items vs items more) (front_on H _ (items_of more) f)
+front_items H vs items more f = rw (← behind-items vs items more) (front_on H _ (items_of more) f)
 
 -- some items, and then others
 pub front_assoc : (H : Tapes → Type 0) (vs : List (List TapeItem)) (items a b : List TapeItem)
     → HoldsFront H (UnderWay vs ((items ++ a) ++ b))
     → HoldsFront H (UnderWay vs (items ++ (a ++ b)))
-front_assoc H vs items a b f = subst (λ z. HoldsFront H (UnderWay vs z)) (append_assoc items a b) f
+front_assoc H vs items a b f = rw (append_assoc items a b) at f
 
 pub front_thrice : (H : Tapes → Type 0) (vs : List (List TapeItem)) (items a b c : List TapeItem)
     → HoldsFront H (UnderWay vs (((items ++ a) ++ b) ++ c))
@@ -96,115 +95,60 @@ pub is_out : (f : WriteFault) → (f ≡ faults.OutOfVolumes) ⊎ (f ≢ faults.
 is_out faults.OutOfVolumes = inl refl
 is_out _ = inr (λ e. absurd cc)
 
--- ---- the first items do not change
-
--- the first volume begins with the given items
-pub record BeginsWith (items : List TapeItem) (t : Tapes) : Type 0 where
-  pub more : List TapeItem
-  pub rest : List (List TapeItem)
-  pub is : all_volumes t ≡ (items ++ more) ∷ rest
-
-put_behind : (items : List TapeItem) (x : TapeItem) (vs : List (List TapeItem))
-    (its : List TapeItem) → BeginsWith items (UnderWay vs its)
-    → BeginsWith items (UnderWay vs (its ++ x ∷ []))
-put_behind items x [] its b =
-    let same : its ≡ items ++ b.more = (let e = b.is in cc) in record {
-      more = b.more ++ x ∷ [];
-      rest = [];
-      is = ap (λ z. z ∷ [])
-          (ap (λ z. z ++ x ∷ []) same ∙ append_assoc items b.more (x ∷ []));
-    }
-put_behind items x (v ∷ vs) its b =
-    let same : v ≡ items ++ b.more = (let e = b.is in cc) in record {
-      more = b.more;
-      rest = vs ++ (its ++ x ∷ []) ∷ [];
-      is = ap (λ z. z ∷ (vs ++ (its ++ x ∷ []) ∷ [])) same;
-    }
-
-step_behind : (items : List TapeItem) (s : Step) (t : Tapes) → BeginsWith items t
-    → BeginsWith items (behind_step s t)
-step_behind items (Item x) (UnderWay vs its) b = put_behind items x vs its b
-step_behind items (Item x) (Ended vs) b = b
-step_behind items Change t b = record {
-  more = b.more;
-  rest = b.rest ++ [] ∷ [];
-  is = ap (λ z. z ++ [] ∷ []) b.is;
-}
-step_behind items Close t b = record { more = b.more; rest = b.rest; is = b.is }
-
-steps_behind : (items : List TapeItem) (steps : List Step) (t : Tapes) → BeginsWith items t
-    → BeginsWith items (behind_steps steps t)
-steps_behind items [] t b = b
-steps_behind items (s ∷ steps) t b =
-    steps_behind items steps (behind_step s t) (step_behind items s t b)
-
-pub front_begins : (H : Tapes → Type 0) (items : List TapeItem) (whole : Tapes)
-    → ((t : Tapes) → H t → t ≡ UnderWay [] items) → HoldsFront H whole → BeginsWith items whole
-front_begins H items whole only f = subst (BeginsWith items) f.leads
-    (steps_behind items f.steps f.now (subst (BeginsWith items) (sym (only f.now f.held))
-    (record { more = []; rest = []; is = ap (λ z. z ∷ []) (sym (append-nil items)) })))
-
 -- ---- an unchanged writer: the contents of the tapes are a prefix of themselves
 
-pub open_left : (H K : Tapes → Type 0) (vs : List Vol1) (cap : ℕ) (set_id : List ℕ) (file : Opened)
-    (course : Course) (d : Draft) → ((t : Tapes) → H t → K t)
-    → IsOpen H vs cap set_id file course d → IsOpen K vs cap set_id file course d
-open_left H K vs cap set_id file course d f o = record { steady = o.steady; held = f _ o.held }
+module _ {H K : Tapes → Type 0} {vs : List Vol1} {cap : ℕ} {set_id : List ℕ} {course : Course}
+    (f : (t : Tapes) → H t → K t) where
+  open_left : {file : Opened} {d : Draft} → IsOpen H vs cap set_id file course d
+      → IsOpen K vs cap set_id file course d
+  open_left o = record { steady = o.steady; held = f _ o.held }
 
-pub inside_left : (H K : Tapes → Type 0) (vs : List Vol1) (cap : ℕ) (set_id : List ℕ)
-    (file : Opened)
-    (course : Course) (p : Packing) (fs : List (List Section)) (records : List (List ℕ))
-    → ((t : Tapes) → H t → K t) → IsInside H vs cap set_id file course p fs records
-    → IsInside K vs cap set_id file course p fs records
-inside_left H K vs cap set_id file course p fs records f k = record {
-  draft = k.draft;
-  is_open = open_left H K vs cap set_id file course k.draft f k.is_open;
-  files = k.files;
-  shape = k.shape;
-  ended = k.ended;
-  run = k.run;
-  lengths = k.lengths;
-}
+  module _ {file : Opened} {fs : List (List Section)} {records : List (List ℕ)} where
+    pub inside_left : {p : Packing} → IsInside H vs cap set_id file course p fs records
+        → IsInside K vs cap set_id file course p fs records
+    inside_left k = record {
+      draft = k.draft;
+      is_open = open_left k.is_open;
+      files = k.files;
+      shape = k.shape;
+      ended = k.ended;
+      run = k.run;
+      lengths = k.lengths;
+    }
 
-pub packing_left : (H K : Tapes → Type 0) (vs : List Vol1) (cap : ℕ) (set_id : List ℕ)
-    (file : Opened)
-    (course : Course) (p : Packing) (fs : List (List Section)) (records : List (List ℕ))
-    (whole rest : List ℕ) → ((t : Tapes) → H t → K t)
-    → IsPacking H vs cap set_id file course p fs records whole rest
-    → IsPacking K vs cap set_id file course p fs records whole rest
-packing_left H K vs cap set_id file course p fs records whole rest f k = record {
-  draft = k.draft;
-  is_open = open_left H K vs cap set_id file course k.draft f k.is_open;
-  files = k.files;
-  shape = k.shape;
-  going = k.going;
-  lengths = k.lengths;
-}
+    pub packing_left : {p : Packing} {whole rest : List ℕ}
+        → IsPacking H vs cap set_id file course p fs records whole rest
+        → IsPacking K vs cap set_id file course p fs records whole rest
+    packing_left k = record {
+      draft = k.draft;
+      is_open = open_left k.is_open;
+      files = k.files;
+      shape = k.shape;
+      going = k.going;
+      lengths = k.lengths;
+    }
 
-pub flat_left : (H K : Tapes → Type 0) (vs : List Vol1) (cap : ℕ) (set_id : List ℕ) (file : Opened)
-    (course : Course) (fs : List (List Section)) (records : List (List ℕ))
-    → ((t : Tapes) → H t → K t) → IsFlat H vs cap set_id file course fs records
-    → IsFlat K vs cap set_id file course fs records
-flat_left H K vs cap set_id file course fs records f k = record {
-  draft = k.draft;
-  is_open = open_left H K vs cap set_id file course k.draft f k.is_open;
-  files = k.files;
-  tight = k.tight;
-  lengths = k.lengths;
-}
+    pub flat_left : IsFlat H vs cap set_id file course fs records
+        → IsFlat K vs cap set_id file course fs records
+    flat_left k = record {
+      draft = k.draft;
+      is_open = open_left k.is_open;
+      files = k.files;
+      tight = k.tight;
+      lengths = k.lengths;
+    }
 
-pub waiting_left : (H K : Tapes → Type 0) (vs : List Vol1) (cap : ℕ) (set_id : List ℕ)
-    (course : Course) (told : List Told) → ((t : Tapes) → H t → K t)
-    → IsWaiting H vs cap set_id course told → IsWaiting K vs cap set_id course told
-waiting_left H K vs cap set_id course told f (inl (first, held, none)) = inl (first, f _ held, none)
-waiting_left H K vs cap set_id course told f (inr (k, some)) = inr (
-  record {
-    draft = k.draft;
-    resting = record { between = k.resting.between; held = f _ k.resting.held };
-    filed = k.filed;
-  },
-  some,
-)
+  pub waiting_left : {told : List Told} → IsWaiting H vs cap set_id course told
+      → IsWaiting K vs cap set_id course told
+  waiting_left (inl (first, held, none)) = inl (first, f _ held, none)
+  waiting_left (inr (k, some)) = inr (
+    record {
+      draft = k.draft;
+      resting = record { between = k.resting.between; held = f _ k.resting.held };
+      filed = k.filed;
+    },
+    some,
+  )
 
 -- inside a file, the tapes contain everything that was passed, and so a prefix of it
 pub inside_writing : {T : Type 0} (H K : Tapes → Type 0) (w : SetState T) (file : Opened)
@@ -222,11 +166,7 @@ inside_writing H K w file told f is k = go w.phase is k.stands
       files = s.filing.files;
       filed = s.filing.filed;
       course = w.course;
-      partly = inl (
-        o.packer,
-        inside_left H K w.volumes w.capacity w.set_id o.file w.course o.packer s.filing.files
-            s.records f s.filing.inside,
-      );
+      partly = inl (o.packer, inside_left f s.filing.inside);
     }
     go _ is s = absurd is
 
@@ -234,13 +174,8 @@ inside_writing H K w file told f is k = go w.phase is k.stands
 pub waits : {T : Type 0} (H : Tapes → Type 0) (w : SetState T) (told : List Told)
     → w.phase ≡ Between → IsWriting H w told
     → IsWaiting H w.volumes w.capacity w.set_id w.course told
-waits H w told is k =
-    subst (λ z. Stands H w.volumes w.capacity w.set_id w.course z told) is k.stands
+waits H w told is k = rw is at k.stands
 
 pub behind_writing : {T : Type 0} (H : Tapes → Type 0) (w : SetState T) (told : List Told)
     → w.phase ≡ Between → IsWriting H w told → IsLeftBehind H w told
-behind_writing H w told is k = (
-  w.course,
-  waiting_left H (HoldsFront H) w.volumes w.capacity w.set_id w.course told (front_here H)
-      (waits H w told is k),
-)
+behind_writing H w told is k = (w.course, waiting_left (front_here H) (waits H w told is k))

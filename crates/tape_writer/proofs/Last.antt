@@ -1,5 +1,5 @@
 -- Properties that sequences of calls preserve.
-use Rattle.tape_writer.proofs.Words.{◌≡◌, ◌≤◌, ℕ, ◌+◌, List, [], ◌∷◌, ◌++◌, refl, sym, ◌∙◌, subst}
+use Rattle.tape_writer.proofs.Words.{◌≡◌, ◌≤◌, ℕ, ◌+◌, List, [], ◌∷◌, ◌++◌, refl, ◌∙◌}
 use Rattle.tape_writer.proofs.Words.{append_assoc, arith, inl, inr, append-nil, TapeItem, item_size}
 use Rattle.tape_writer.proofs.Words.{items_size-append, Vol1}
 use Rattle.tape_writer.specs.Tapes.{Tapes, UnderWay, Rose, Failures, Grows, WasAsked}
@@ -22,7 +22,7 @@ lasting_then H K L n m k u v w a b = record {
       record {
         more = x.more ++ y.more;
         items = y.items;
-        held = subst (λ z. L (UnderWay z y.items)) (append_assoc volumes x.more y.more) y.held;
+        held = rw append_assoc at y.held;
         size = y.size;
       };
   count = (omega (arith, a.count.0, b.count.0), omega (arith, a.count.1, b.count.1));
@@ -48,8 +48,7 @@ lasting_item H K n m u v x f le e = record {
   lasts = λ volumes items h s. record {
     more = [];
     items = items ++ x ∷ [];
-    held = subst (λ z. K (UnderWay z (items ++ x ∷ []))) (sym (append-nil volumes))
-        (f volumes items h);
+    held = rw append-nil (f volumes items h);
     size = omega (arith, e, s, items_size-append items (x ∷ []));
   };
   count = le;
@@ -62,8 +61,7 @@ lasting_err H K n m u v f le e = record {
   lasts = λ volumes items h s. record {
     more = [];
     items = items;
-    held =
-        subst (λ z. K (UnderWay z items)) (sym (append-nil volumes)) (f (UnderWay volumes items) h);
+    held = rw append-nil (f (UnderWay volumes items) h);
     size = e ∙ s;
   };
   count = le;
@@ -78,5 +76,4 @@ pub ruleset kept = (lasting_then, lasting_self, rose_from)
 -- the same for an equal list of volumes
 pub asked_of : (A B : Vol1 → Type 0) (us vs : List Vol1) (n m : ℕ) → us ≡ vs
     → (WasAsked A us n → WasAsked B us m) → WasAsked A vs n → WasAsked B vs m
-asked_of A B us vs n m e = subst (λ ws. (WasAsked A us n → WasAsked B us m)
-    → WasAsked A ws n → WasAsked B ws m) e (λ f. f)
+asked_of A B us vs n m e = rw (← e) (λ f. f)

@@ -1,113 +1,95 @@
 -- The bytes of a record, in one block after another.
 use Rattle.tape_writer.proofs.Words.{◌≡◌, ◌≢◌, ℕ, List, [], ◌∷◌, ◌++◌, length, false, None, refl}
-use Rattle.tape_writer.proofs.Words.{sym, ap, ◌∙◌, subst, inl, inr, drop, ◌⊎◌, Vol1, Shape, Portion}
-use Rattle.tape_writer.proofs.Words.{Filled, Packing, IsJudged, HasRecordLength, Offers, emptied}
+use Rattle.tape_writer.proofs.Words.{sym, ap, ◌∙◌, inl, inr, drop, ◌⊎◌, Vol1, Shape, Portion}
+use Rattle.tape_writer.proofs.Words.{Packing, IsJudged, HasRecordLength, Offers, emptied}
 use Rattle.tape_writer.proofs.{Words.offers_shape, Words.Section, Volumes.all_push}
 use Rattle.tape_blocks.specs.declared.offer.Offer.TheVariants.{Taken, BlockReady}
-use Rattle.tape_blocks.specs.Run.{Going}
-use Rattle.tape_blocks.proofs.RunLaws.{filled_of, going_length, going_ends, going_block, run_last}
-use Rattle.tape_blocks.proofs.RunLaws.{run_none}
+use Rattle.tape_blocks.proofs.RunLaws.{going_length, going_ends, going_block, run_last, run_none}
 use Rattle.tape_writer.specs.{declared.course.Opened.Opened, declared.course.Course.Course}
 use Rattle.tape_writer.specs.{declared.tape.Tape.Tape, Tapes.Tapes}
 use Rattle.tape_writer.specs.Draft.{Draft, IsOpen, open_blocks}
 use Rattle.tape_writer.specs.Inside.{IsInside, IsPacking, Flushed, IsFlat}
-use Rattle.tape_blocks.specs.Tight as packing
 
 -- ---- the records of a file
 
-pub packing_first : (H : Tapes → Type 0) (vs : List Vol1) (cap : ℕ) (set_id : List ℕ)
-    (file : Opened) (course : Course) (p : Packing) (fs : List (List Section))
-    (records : List (List ℕ)) (whole : List ℕ)
-    → IsInside H vs cap set_id file course p fs records
-    → IsPacking H vs cap set_id file course p fs records whole whole
-packing_first H vs cap set_id file course p fs records whole k = record {
-  draft = k.draft;
-  is_open = k.is_open;
-  files = k.files;
-  shape = k.shape;
-  going = record {
-    front = None;
-    run = k.run (length whole);
-    content = refl;
-    length_is = λ e. absurd (let ended = k.ended in cc);
-  };
-  lengths = k.lengths;
-}
+module _ {H : Tapes → Type 0} {vs : List Vol1} {cap : ℕ} {set_id : List ℕ} {file : Opened}
+    {course : Course} {fs : List (List Section)} {records : List (List ℕ)} where
+  pub packing_first : (p : Packing) (whole : List ℕ)
+      → IsInside H vs cap set_id file course p fs records
+      → IsPacking H vs cap set_id file course p fs records whole whole
+  packing_first p whole k = record {
+    draft = k.draft;
+    is_open = k.is_open;
+    files = k.files;
+    shape = k.shape;
+    going = record {
+      front = None;
+      run = k.run (length whole);
+      content = refl;
+      length_is = λ e. absurd (let ended = k.ended in cc);
+    };
+    lengths = k.lengths;
+  }
 
--- the closed block was written
-pub packing_with : (H H' : Tapes → Type 0) (vs : List Vol1) (cap : ℕ) (set_id : List ℕ)
-    (file : Opened) (course course' : Course) (old new left : Packing) (fs : List (List Section))
-    (records : List (List ℕ)) (whole rest : List ℕ) (n : ℕ)
-    → IsJudged old rest → Offers old rest (BlockReady n) new → left ≡ emptied new
-    → (k : IsPacking H vs cap set_id file course old fs records whole rest)
-    → Flushed H' vs cap set_id file course' k.draft new
-    → IsPacking H' vs cap set_id file course' left fs records whole (drop n rest)
-packing_with H H' vs cap set_id file course course' old new left fs
-    records whole rest n judged offers is k flushed =
-    let next = going_block (open_blocks k.draft) old new
-    records whole rest flushed.text n k.going judged offers flushed.given in
-    subst (λ (z : Packing). IsPacking H' vs cap set_id file course' z fs records whole (drop n
-    rest)) (sym is) record {
-      draft = flushed.draft;
-      is_open = flushed.is_open;
-      files = flushed.files ∙ k.files;
-      shape = offers_shape old new rest (BlockReady n) offers ∙ k.shape;
-      going = subst (λ (z : List Filled). Going z (emptied new) records whole (drop n rest))
-          (sym flushed.blocks) next;
-      lengths = k.lengths;
-    }
+  -- the closed block was written
+  pub packing_with : {K : Tapes → Type 0} {next : Course} {left : Packing} (old new : Packing)
+      (whole rest : List ℕ) (n : ℕ) → IsJudged old rest → Offers old rest (BlockReady n) new
+      → left ≡ emptied new → (k : IsPacking H vs cap set_id file course old fs records whole rest)
+      → Flushed K vs cap set_id file next k.draft new
+      → IsPacking K vs cap set_id file next left fs records whole (drop n rest)
+  packing_with old new whole rest n judged offers is k flushed =
+      let going = going_block (open_blocks k.draft) old new records whole rest flushed.text n
+      k.going judged offers flushed.given in
+      rw is (record {
+        draft = flushed.draft;
+        is_open = flushed.is_open;
+        files = flushed.files ∙ k.files;
+        shape = offers_shape old new rest (BlockReady n) offers ∙ k.shape;
+        going = rw flushed.blocks going;
+        lengths = k.lengths;
+      })
 
-pub packing_last : (H : Tapes → Type 0) (vs : List Vol1) (cap : ℕ) (set_id : List ℕ)
-    (file : Opened) (course : Course) (old new : Packing) (fs : List (List Section))
-    (records : List (List ℕ)) (whole rest : List ℕ)
-    → IsJudged old rest → Offers old rest Taken new
-    → IsPacking H vs cap set_id file course old fs records whole rest
-    → IsInside H vs cap set_id file course new fs (records ++ whole ∷ [])
-packing_last H vs cap set_id file course old new fs records whole rest judged offers k =
-    let fits = going_length (open_blocks k.draft) old records whole rest k.going judged in
-    record {
-      draft = k.draft;
-      is_open = k.is_open;
-      files = k.files;
-      shape = offers_shape old new rest Taken offers ∙ k.shape;
-      ended = ap (λ (z : Packing). z.begun) offers.part;
-      run = λ n. going_ends (open_blocks k.draft) old new records whole rest n k.going offers;
-      lengths = all_push (λ r. HasRecordLength file.shape.format file.shape.rec_len (length r))
-          records whole k.lengths
-          (subst (λ (s : Shape). HasRecordLength s.format s.rec_len (length whole)) k.shape fits);
-    }
+  pub packing_last : (old new : Packing) (whole rest : List ℕ) → IsJudged old rest
+      → Offers old rest Taken new → IsPacking H vs cap set_id file course old fs records whole rest
+      → IsInside H vs cap set_id file course new fs (records ++ whole ∷ [])
+  packing_last old new whole rest judged offers k =
+      let fits = going_length (open_blocks k.draft) old records whole rest k.going judged in
+      record {
+        draft = k.draft;
+        is_open = k.is_open;
+        files = k.files;
+        shape = offers_shape old new rest Taken offers ∙ k.shape;
+        ended = ap (λ (z : Packing). z.begun) offers.part;
+        run = λ n. going_ends (open_blocks k.draft) old new records whole rest n k.going offers;
+        lengths = all_push (λ r. HasRecordLength file.shape.format file.shape.rec_len (length r))
+            records whole k.lengths (rw k.shape at fits);
+      }
 
--- ---- the last block of a file
+  -- ---- the last block of a file
 
-pub flat_none : (H : Tapes → Type 0) (vs : List Vol1) (cap : ℕ) (set_id : List ℕ) (file : Opened)
-    (course : Course) (p : Packing) (fs : List (List Section)) (records : List (List ℕ))
-    → p.parts ≡ [] → IsInside H vs cap set_id file course p fs records
-    → IsFlat H vs cap set_id file course fs records
-flat_none H vs cap set_id file course p fs records e k = record {
-  draft = k.draft;
-  is_open = k.is_open;
-  files = k.files;
-  tight = subst (λ (s : Shape). packing.IsTight s records (open_blocks k.draft)) k.shape
-      (run_none (open_blocks k.draft) p records 0 (k.run 0) e k.ended);
-  lengths = k.lengths;
-}
+  pub flat_none : (p : Packing) → p.parts ≡ []
+      → IsInside H vs cap set_id file course p fs records
+      → IsFlat H vs cap set_id file course fs records
+  flat_none p e k = record {
+    draft = k.draft;
+    is_open = k.is_open;
+    files = k.files;
+    tight = rw k.shape at (run_none (open_blocks k.draft) p records 0 (k.run 0) e k.ended);
+    lengths = k.lengths;
+  }
 
-pub flat_with : (H H' : Tapes → Type 0) (vs : List Vol1) (cap : ℕ) (set_id : List ℕ) (file : Opened)
-    (course course' : Course) (p : Packing) (fs : List (List Section)) (records : List (List ℕ))
-    → (k : IsInside H vs cap set_id file course p fs records)
-    → Flushed H' vs cap set_id file course' k.draft p
-    → IsFlat H' vs cap set_id file course' fs records
-flat_with H H' vs cap set_id file course course' p fs records k q =
-    let tight = run_last (open_blocks k.draft) p records q.text 0 (k.run 0) q.given k.ended in
-    record {
-      draft = q.draft;
-      is_open = q.is_open;
-      files = q.files ∙ k.files;
-      tight = subst (λ (z : List Filled). packing.IsTight file.shape records z) (sym q.blocks)
-          (subst (λ (s : Shape). packing.IsTight s records (open_blocks k.draft
-          ++ filled_of p q.text ∷ [])) k.shape tight);
-      lengths = k.lengths;
-    }
+  pub flat_with : {K : Tapes → Type 0} {next : Course} (p : Packing)
+      (k : IsInside H vs cap set_id file course p fs records)
+      → Flushed K vs cap set_id file next k.draft p → IsFlat K vs cap set_id file next fs records
+  flat_with p k q =
+      let tight = run_last (open_blocks k.draft) p records q.text 0 (k.run 0) q.given k.ended in
+      record {
+        draft = q.draft;
+        is_open = q.is_open;
+        files = q.files ∙ k.files;
+        tight = rw q.blocks (rw k.shape at tight);
+        lengths = k.lengths;
+      }
 
 -- ---- records of valid length
 
@@ -116,15 +98,12 @@ pub judged_next : (old new left : Packing) (rest : List ℕ) (n : ℕ) → old.c
     → IsJudged old rest → Offers old rest (BlockReady n) new → left ≡ emptied new
     → IsJudged left (drop n rest)
 judged_next old new left rest n opened judged offers is =
-    subst (λ (z : Packing). IsJudged z (drop n rest)) (sym is) (elim (offers.1) [
+    rw is (elim (offers.1) [
       | inl same ↦ absurd (let closed = same.closed in cc)
       | inr o ↦ elim o [
         | inl closes ↦ λ c b.
             let fits = judged opened (ap (λ (z : Packing). z.begun) (sym closes.same) ∙ b) in
-            subst (λ (s : Shape). HasRecordLength s.format s.rec_len (length (drop n rest)))
-            (ap (λ (z : Packing). z.shape) (sym closes.same))
-            (subst (λ k. HasRecordLength old.shape.format old.shape.rec_len (length (drop k rest)))
-            (sym closes.none) fits)
+            rw (ap (λ (z : Packing). z.shape) closes.same, closes.none) fits
         | inr fills ↦ λ c b. absurd (let begun = ap (λ (z : Packing). z.begun) fills.part in cc)
       ]
     ])
@@ -143,11 +122,8 @@ flat_flushed G vs cap set_id file old new p fs records none some k = go p.parts 
   where
     go : (ps : List Portion) → p.parts ≡ ps
         → IsFlat (G new.out) vs cap set_id file new.course fs records
-    go [] is = flat_none (G new.out) vs cap set_id file new.course p fs records is
-        (subst (λ t. IsInside (G t.out) vs cap set_id file t.course p fs records)
-        (sym (none is).1) k)
-    go (q ∷ ps) is = flat_with (G old.out) (G new.out) vs cap set_id file old.course new.course p fs
-        records k (some (λ e. absurd (cc)) set_id k.draft k.is_open)
+    go [] is = flat_none p is (rw (none is).1 k)
+    go (q ∷ ps) is = flat_with p k (some (λ e. absurd (cc)) set_id k.draft k.is_open)
 
 -- a record whose first offer was valid has a valid length
 pub judged_more : (shape : Shape) (first p : Packing) (whole rest : List ℕ) → first.shape ≡ shape
@@ -159,6 +135,4 @@ judged_more shape first p whole rest is opened ended Same (inr a) judged = a.0
 judged_more shape first p whole rest is opened ended Same (inl a) judged =
     let fits = judged (ap (λ (z : Packing). z.closed) a.1
     ∙ opened) (ap (λ (z : Packing). z.begun) a.1 ∙ ended) in
-    subst (λ (s : Shape). HasRecordLength s.format s.rec_len (length whole))
-    (ap (λ (z : Packing). z.shape) a.1 ∙ is)
-    (subst (λ (r : List ℕ). HasRecordLength p.shape.format p.shape.rec_len (length r)) a.2 fits)
+    rw (a.2, ap (λ (z : Packing). z.shape) a.1 ∙ is) at fits

@@ -1,17 +1,17 @@
 -- Each record uses up room of the writer.
 use Rattle.tape_writer.proofs.Words.{◌≡◌, inl, inr, ℕ, ◌+◌, ◌-◌, ◌<◌, ◌≤◌, List, [], ◌∷◌, ◌++◌}
-use Rattle.tape_writer.proofs.Words.{length, Bool, true, false, refl, sym, ap, subst, ◌∙◌, arith}
-use Rattle.tape_writer.proofs.Words.{length-append, Result, Ok, Err, OnOk, block, Format, Shape}
-use Rattle.tape_writer.proofs.Words.{Portion, Packing, Given, IsJudged, IsWritable, HasRecordLength}
-use Rattle.tape_writer.proofs.Words.{Offers, emptied, item_size}
-use Rattle.std.proofs.{Common.◌*◌, Common.replicate, lemmas.List.length-replicate}
+use Rattle.tape_writer.proofs.Words.{length, Bool, true, false, refl, sym, ap, ◌∙◌, arith}
+use Rattle.tape_writer.proofs.Words.{length-append, block, Format, Shape, Portion, Packing, Given}
+use Rattle.tape_writer.proofs.Words.{IsJudged, IsWritable, HasRecordLength, Offers, emptied}
+use Rattle.tape_writer.proofs.Words.{item_size, suc, ◌⊎◌}
+use Rattle.std.proofs.{Common.◌*◌, Common.replicate, lemmas.List.length-replicate, Math.Nat.suc-mul}
 use Rattle.tape_label.specs.declared.values.Format.TheVariants.{Fixed, Counted, Spanned}
 use Rattle.tape_blocks.specs.declared.offer.Offer.TheVariants.{Taken, BlockReady}
 use Rattle.tape_blocks.specs.{Block.spellings, Block.head_len, Spans.span_of}
 use Rattle.tape_blocks.specs.Packing.{HasWritableRecords, size_of, padded_len}
 use Rattle.tape_blocks.proofs.PackLaws.{size_push}
-use Rattle.tape_writer.specs.{declared.course.Course.Course, declared.fault.WriteFault.WriteFault}
-use Rattle.tape_writer.specs.{Draft.added_course, Room.room_of}
+use Rattle.tape_writer.specs.{declared.course.Course.Course}
+use Rattle.tape_writer.specs.{Draft.added_course, Draft.changed_course, Room.room_of}
 
 -- a block is at least as long as its parts
 given_size : (p : Packing) (text : List ℕ) → Given p text → size_of p.shape p.parts ≤ length text
@@ -29,20 +29,32 @@ given_size p text given =
       length-replicate {A = ℕ} p.shape.offset 32,
     )
 
--- writing a block uses up room, in the current section
-pub flushed_here : (vs cap : ℕ) (old new : Course) (p q : Packing) (text : List ℕ)
-    (r : Result (Unit {0}) WriteFault) → Given p text → q ≡ emptied p
-    → old.used + item_size (block text) + 192 ≤ cap
-    → OnOk r (new ≡ added_course old (item_size (block text)))
-    → OnOk r (room_of vs cap new q ≤ room_of vs cap old p)
-flushed_here vs cap old new p q text (Err e) given is fits course = tt
-flushed_here vs cap old new p q text (Ok x) given is fits course =
-    subst (λ z. room_of vs cap new z ≤ room_of vs cap old p) (sym is)
-    (let m = cap + p.shape.block_len in
-    let product : (vs - new.volume) * m ≡ (vs - old.volume) * m
-    = ap (λ k. (vs - k.volume) * m) course in
-    let used : new.used ≡ old.used + item_size (block text) = ap (λ k. k.used) course in
-    omega (arith, product, used, fits, given_size p text given, given.within))
+-- writing a block uses up room, in the current section or on the next volume
+pub flushed_room : (vs cap : ℕ) (old mid new : Course) (p q : Packing) (text : List ℕ)
+    → Given p text → q ≡ emptied p
+    → (mid ≡ old) ⊎ ((mid ≡ changed_course old) × (old.volume < vs))
+    → mid.used + item_size (block text) + 192 ≤ cap
+    → new ≡ added_course mid (item_size (block text))
+    → room_of vs cap new q ≤ room_of vs cap old p
+flushed_room vs cap old mid new p q text given is (inl same) fits course =
+    let all : new ≡ added_course old (item_size (block text)) =
+    course ∙ ap (λ k. added_course k (item_size (block text))) same in
+    rw (is, all) (omega (arith, fits, ap (λ k. k.used) same, given_size p text given, given.within))
+flushed_room vs cap old mid new p q text given is (inr (changed, more)) fits course =
+    let all : new ≡ added_course (changed_course old) (item_size (block text)) =
+    course ∙ ap (λ k. added_course k (item_size (block text))) changed in
+    let m = cap + p.shape.block_len in
+    let volumes : vs - old.volume ≡ suc (vs - (old.volume + 1)) = omega (arith, more) in
+    let product : (vs - old.volume) * m ≡ (vs - (old.volume + 1)) * m + m =
+    ap (λ k. k * m) volumes ∙ suc-mul (vs - (old.volume + 1)) m in
+    rw (is, all) (omega (
+      arith,
+      product,
+      fits,
+      ap (λ k. k.used) changed,
+      given_size p text given,
+      given.within,
+    ))
 
 -- an offer that closes the block does not increase the room
 pub offered_room : (vs cap : ℕ) (course : Course) (p q : Packing) (rest : List ℕ) (n : ℕ)

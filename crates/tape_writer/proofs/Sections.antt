@@ -1,7 +1,7 @@
 -- A finished section: its labels, its items and its size.
-use Rattle.tape_writer.proofs.Words.{◌≡◌, ◌≤◌, ℕ, List, Bool, true, false, refl, arith, ◌%◌, Vol1}
-use Rattle.tape_writer.proofs.Words.{Format, IsWideVolume, Shape, IsWritable, ◌<◌, ◌+◌, [], ◌∷◌}
-use Rattle.tape_writer.proofs.Words.{◌++◌, length, sym, ap, ◌∙◌, subst, add-one, map, slice_get}
+use Rattle.tape_writer.proofs.Words.{subst, ◌≡◌, ◌≤◌, ℕ, List, Bool, true, false, refl, arith, ◌%◌}
+use Rattle.tape_writer.proofs.Words.{Vol1, Format, IsWideVolume, Shape, IsWritable, ◌<◌, ◌+◌, []}
+use Rattle.tape_writer.proofs.Words.{◌∷◌, ◌++◌, length, sym, ap, ◌∙◌, add-one, map, slice_get}
 use Rattle.tape_writer.proofs.Words.{AllByRecursion, map-append, block, Filled, Placed, Section}
 use Rattle.tape_writer.proofs.Words.{Volume, on, all_entries, section_entries, item_of, group_of}
 use Rattle.tape_writer.proofs.Words.{item_size, items_size, IsSection, used_before}
@@ -58,11 +58,11 @@ wide_at file sect w = record {
   implementation = w.implementation;
 }
 
-pub first_is : (file : Opened) (sect : ℕ) → IsReady file → 1 ≤ sect → sect ≤ 9999
+pub first_is : (file : Opened) (sect : ℕ) → IsReady file → (1 ≤ sect) × (sect ≤ 9999)
     → IsHead1 (first_label file sect) (head_at file sect)
 unfolding first_label
-first_is file sect r p q =
-    head1_text_is (head_at file sect) (record { sect = (p, q); sequence = (r.first, r.most) })
+first_is file sect r number =
+    head1_text_is (head_at file sect) (record { sect = number; sequence = (r.first, r.most) })
     (head_wide kinds.Hdr1 (head_at file sect) 0 (wide_at file sect r.wide))
 
 pub second_is : (file : Opened) (kind : Kind) → IsReady file → IsSecond kind
@@ -74,12 +74,13 @@ second_is file kind r s = head2_text_is kind (second_of file.shape) s
 few_digits : (n : ℕ) → n % 1000000 ≤ 999999
 few_digits n = omega (arith)
 
-pub trailer_is : (file : Opened) (sect count : ℕ) (eof : Bool) → IsReady file → 1 ≤ sect
-    → sect ≤ 9999 → IsTrail1 (trailer_label file sect count eof) (trailer_at file sect count eof)
+pub trailer_is : (file : Opened) (sect count : ℕ) (eof : Bool) → IsReady file
+    → (1 ≤ sect) × (sect ≤ 9999)
+    → IsTrail1 (trailer_label file sect count eof) (trailer_at file sect count eof)
 unfolding trailer_label
-trailer_is file sect count eof r p q =
+trailer_is file sect count eof r number =
     trail1_text_is (trailer_at file sect count eof) (record {
-      head = record { sect = (p, q); sequence = (r.first, r.most) };
+      head = record { sect = number; sequence = (r.first, r.most) };
       blocks = few_digits count;
     })
     (head_wide (trailer eof) (head_at file sect) (count % 1000000) (wide_at file sect r.wide))
@@ -111,29 +112,29 @@ second_kind_is true = tt
 second_kind_is false = tt
 
 pub ends_by : (file : Opened) (course : Course) (bs : List Filled) (eof : Bool)
-    → IsReady file → 1 ≤ course.sect → course.sect ≤ 9999
+    → IsReady file → (1 ≤ course.sect) × (course.sect ≤ 9999)
     → ends_file (closing file course.volume course.sect bs eof) ≡ eof
-ends_by file course bs eof r p q =
+ends_by file course bs eof r number =
     trailer_ends (trailer_label file course.sect (length bs) eof) (trailer_at file course.sect
-    (length bs) eof) (trailer_is file course.sect (length bs) eof r p q)
+    (length bs) eof) (trailer_is file course.sect (length bs) eof r number)
 
 -- ---- sizes
 
 label_size : (b : List ℕ) → length b ≡ 80 → item_size (block b) ≡ 88
 label_size b e = ap (λ n. 8 + n + n % 2) e
 
-pub header_size : (file : Opened) (sect : ℕ) → IsReady file → 1 ≤ sect → sect ≤ 9999
+pub header_size : (file : Opened) (sect : ℕ) → IsReady file → (1 ≤ sect) × (sect ≤ 9999)
     → items_size (header_items file sect) ≡ 180
-header_size file sect r p q =
-    let a = label_size (first_label file sect) (first_is file sect r p q).kind.size in
+header_size file sect r number =
+    let a = label_size (first_label file sect) (first_is file sect r number).kind.size in
     let b = label_size (second_label file kinds.Hdr2) (second_is file kinds.Hdr2 r tt).kind.size in
     omega (arith, a, b)
 
-pub trailer_size : (file : Opened) (sect n : ℕ) (eof : Bool) → IsReady file → 1 ≤ sect → sect ≤ 9999
-    → items_size (trailer_items file sect n eof) ≡ 184
-trailer_size file sect n eof r p q =
+pub trailer_size : (file : Opened) (sect n : ℕ) (eof : Bool) → IsReady file
+    → (1 ≤ sect) × (sect ≤ 9999) → items_size (trailer_items file sect n eof) ≡ 184
+trailer_size file sect n eof r number =
     let a = label_size (trailer_label file sect n eof)
-    (trailer_is file sect n eof r p q).kind.size in
+    (trailer_is file sect n eof r number).kind.size in
     let b = label_size (second_label file (second_kind eof))
     (second_is file (second_kind eof) r (second_kind_is eof)).kind.size in
     omega (arith, a, b)
@@ -152,43 +153,49 @@ data_sized : (bs : List Filled)
 data_sized [] h = tt
 data_sized (b ∷ bs) h = (h.0, data_sized bs h.1)
 
-items_sized : (file : Opened) (sect : ℕ) (bs : List Filled) (eof : Bool) → IsReady file → 1 ≤ sect
-    → sect ≤ 9999 → AllByRecursion (λ b. (0 < length b.bytes) × (length b.bytes ≤ 99999)) bs
+items_sized : (file : Opened) (sect : ℕ) (bs : List Filled) (eof : Bool) → IsReady file
+    → (1 ≤ sect) × (sect ≤ 9999)
+    → AllByRecursion (λ b. (0 < length b.bytes) × (length b.bytes ≤ 99999)) bs
     → AllByRecursion IsTapeItem (header_items file sect ++ map data_item bs
     ++ trailer_items file sect (length bs) eof)
-items_sized file sect bs eof r p q h =
-    let one = label_sized (first_label file sect) (first_is file sect r p q).kind.size in
-    let two = label_sized (second_label file kinds.Hdr2)
-    (second_is file kinds.Hdr2 r tt).kind.size in
-    let last = label_sized (trailer_label file sect (length bs) eof)
-    (trailer_is file sect (length bs) eof r p q).kind.size in
-    let second = label_sized (second_label file (second_kind eof))
-    (second_is file (second_kind eof) r (second_kind_is eof)).kind.size in (
-      one,
-      (
-        two,
-        (
-          tt,
-          every-append IsTapeItem (map data_item bs) (trailer_items file sect (length bs) eof)
-              (data_sized bs h) (tt, (last, (second, (tt, tt)))),
-        ),
-      ),
-    )
+items_sized file sect bs eof r number h = (
+  label_sized (first_label file sect) (first_is file sect r number).kind.size,
+  (
+    label_sized (second_label file kinds.Hdr2) (second_is file kinds.Hdr2 r tt).kind.size,
+    (
+      tt,
+      every-append IsTapeItem (map data_item bs) (trailer_items file sect (length bs) eof)
+          (data_sized bs h) (
+            tt,
+            (
+              label_sized (trailer_label file sect (length bs) eof)
+                  (trailer_is file sect (length bs) eof r number).kind.size,
+              (
+                label_sized (second_label file (second_kind eof))
+                    (second_is file (second_kind eof) r (second_kind_is eof)).kind.size,
+                (tt, tt),
+              ),
+            ),
+          ),
+    ),
+  ),
+)
 
 pub section_is : (set_id : List ℕ) (volumes : ℕ) (file : Opened) (course : Course)
     (bs : List Filled) (eof : Bool) → IsReady file → file.head.set_id ≡ set_id
-    → 0 < course.volume → course.volume ≤ volumes → length bs ≤ most_blocks → 1 ≤ course.sect
-    → course.sect ≤ 9999 → AllByRecursion (λ b. (0 < length b.bytes) × (length b.bytes ≤ 99999)) bs
+    → 0 < course.volume → course.volume ≤ volumes → length bs ≤ most_blocks
+    → (1 ≤ course.sect) × (course.sect ≤ 9999)
+    → AllByRecursion (λ b. (0 < length b.bytes) × (length b.bytes ≤ 99999)) bs
     → IsSection set_id volumes (here file course bs eof)
-section_is set_id volumes file course bs eof r s p q few m n sized = record {
+section_is set_id volumes file course bs eof r s p q few number sized = record {
   header = (
     head_at file course.sect,
-    record { label = first_is file course.sect r m n; set_id = s; file = refl; sect = refl },
+    record { label = first_is file course.sect r number; set_id = s; file = refl; sect = refl },
   );
   trailer = (
     trailer_at file course.sect (length bs) eof,
     record {
-      label = trailer_is file course.sect (length bs) eof r m n;
+      label = trailer_is file course.sect (length bs) eof r number;
       file = refl;
       sect = refl;
       count = refl;
@@ -197,13 +204,13 @@ section_is set_id volumes file course bs eof r s p q few m n sized = record {
   volume = (p, q);
   few = few;
   sized = subst (AllByRecursion IsTapeItem) (sym (section_items file course bs eof))
-      (items_sized file course.sect bs eof r m n sized);
+      (items_sized file course.sect bs eof r number sized);
 }
 
-pub of_file : (file : Opened) (course : Course) (bs : List Filled) (eof : Bool) → 1 ≤ course.sect
-    → course.sect ≤ 9999 → IsOfFile file (here file course bs eof)
-of_file file course bs eof p q = record {
-  number = (p, q);
+pub of_file : (file : Opened) (course : Course) (bs : List Filled) (eof : Bool)
+    → (1 ≤ course.sect) × (course.sect ≤ 9999) → IsOfFile file (here file course bs eof)
+of_file file course bs eof number = record {
+  number = number;
   hdr1 = refl;
   hdr2 = refl;
   headers = refl;

@@ -1,21 +1,17 @@
 -- After each step of the writer the set written so far is still a draft of a valid, tight set.
-use Rattle.tape_writer.proofs.Words.{◌≡◌, ◌<◌, ◌≤◌, ℕ, ◌+◌, List, [], ◌∷◌, ◌++◌, length, true}
-use Rattle.tape_writer.proofs.Words.{Some, refl, sym, ap, ◌∙◌, subst, inl, append_assoc}
-use Rattle.tape_writer.proofs.Words.{arith, length-append, map, slice_get, AllByRecursion}
-use Rattle.tape_writer.proofs.Words.{map-append, append-nil, Vol1, block, Filled, Placed}
-use Rattle.tape_writer.proofs.Words.{Volume, numbered, item_of, item_size, items_size, used_before}
-use Rattle.tape_writer.proofs.Words.{IsTightChange, items_size-append, IsWideVolume, ne_eqb, lt-leb}
-use Rattle.tape_set.specs.Tight.{takes_end}
-use Rattle.tape_writer.specs.declared.{course.Opened.Opened, course.Course.Course}
-use Rattle.tape_writer.specs.Labels.{IsReady, header_items, trailer_items}
-use Rattle.tape_writer.specs.Draft.{Draft, placed, body, first_volumes, data_item, closing, here}
-use Rattle.tape_writer.specs.Draft.{body_items, open_items, ended_volumes, IsDone, IsGoing, OfLast}
-use Rattle.tape_writer.specs.Draft.{Between, Within, Steady, changed_draft, changed_course}
-use Rattle.tape_writer.specs.Draft.{ended_draft, added_draft, added_course, ended_course}
-use Rattle.tape_writer.specs.{Told.labelled, Told.IsWithin, Draft.begun_course}
+use Rattle.tape_writer.proofs.Words.{◌≡◌, ◌<◌, ◌≤◌, ℕ, ◌+◌, List, [], ◌∷◌, ◌++◌, length, true, refl}
+use Rattle.tape_writer.proofs.Words.{sym, ap, ◌∙◌, inl, append_assoc, arith, length-append, map}
+use Rattle.tape_writer.proofs.Words.{map-append, append-nil, block, Filled, Placed, Volume, item_of}
+use Rattle.tape_writer.proofs.Changed.{files_next, last_is, not_nil, done_push, body_ended}
+use Rattle.tape_writer.proofs.Words.{item_size, IsTightChange, items_size-append, ne_eqb}
 use Rattle.tape_writer.proofs.Volumes.{all_push, first_same}
-use Rattle.tape_writer.proofs.Sections.{header_size, trailer_size, used_is}
-use Rattle.tape_writer.proofs.Changed.{files_next, last_is, not_nil, done_push, body_ended, changed}
+use Rattle.tape_writer.proofs.{Sections.header_size, Sections.trailer_size, Changed.number_fits}
+use Rattle.tape_writer.specs.Draft.{Draft, placed, body, first_volumes, data_item, closing, here}
+use Rattle.tape_writer.specs.Draft.{body_items, open_items, ended_volumes, OfLast, Between, Within}
+use Rattle.tape_writer.specs.Draft.{Steady, ended_draft, added_draft, added_course, ended_course}
+use Rattle.tape_writer.specs.{declared.course.Opened.Opened, declared.course.Course.Course}
+use Rattle.tape_writer.specs.Labels.{IsReady, header_items, trailer_items}
+use Rattle.tape_writer.specs.Draft.{begun_course}
 use Rattle.std.proofs.lemmas.Bool.{le-leb}
 
 pub open_added :
@@ -54,19 +50,21 @@ added vs cap set_id file course d b sized w fits = record {
     change = w.change;
     going = w.going;
     within = w.within;
-    used = ap (λ n. n + item_size (block b.bytes)) w.used
-        ∙ (omega (arith, items_size-append (open_items vs file course d) (block b.bytes ∷ []))
-        ∙ ap items_size (sym (open_added vs file course d b (item_size (block b.bytes)))));
+    used = rw (open_added vs file course d b (item_size (block b.bytes))) (omega (
+      arith,
+      w.used,
+      items_size-append (open_items vs file course d) (block b.bytes ∷ []),
+    ));
     room = fits;
   };
 }
 
--- if a block is appended to the current section, the change of volumes before the section was still
+-- if blocks are appended to the current section, the change of volumes before the section was still
 -- required
-pub goes_on : (vs : List Volume) (cap : ℕ) (set_id : List ℕ)
-    (file : Opened) (course : Course) (d : Draft) (b : Filled) → Steady vs cap set_id file course d
-    → Within vs cap set_id file course (d.blocks ++ b ∷ []) d
-goes_on vs cap set_id file course d b s = record {
+pub goes_on : (vs : List Volume) (cap : ℕ) (set_id : List ℕ) (file : Opened) (course : Course)
+    (d : Draft) (next : List Filled) → Steady vs cap set_id file course d
+    → Within vs cap set_id file course (d.blocks ++ next) d
+goes_on vs cap set_id file course d next s = record {
   ready = s.inside.ready;
   of_set = s.inside.of_set;
   sequence = s.inside.sequence;
@@ -90,33 +88,10 @@ goes_on vs cap set_id file course d b s = record {
     go : (bs : List Filled) (ys : List Placed) (x : Placed)
         → IsTightChange vs cap ys x (here file course bs true)
         → (bs ≡ [] → x.file ≡ file.head.sequence → ⊥)
-        → IsTightChange vs cap ys x (here file course (bs ++ b ∷ []) true)
+        → IsTightChange vs cap ys x (here file course (bs ++ next) true)
     go [] ys x h n = rw (ne_eqb x.file file.head.sequence (n refl))
         (rw (ne_eqb x.file file.head.sequence (n refl)) at h)
     go (c ∷ bs) ys x h n = h
-
--- **a block is written** in the current section
-pub added_here : (vs : List Volume) (cap : ℕ) (set_id : List ℕ)
-    (file : Opened) (course : Course) (d : Draft) (b : Filled)
-    → (0 < length b.bytes) × (length b.bytes ≤ 99999)
-    → Steady vs cap set_id file course d → course.used + item_size (block b.bytes) + 192 ≤ cap
-    → Steady vs cap set_id file (added_course course (item_size (block b.bytes))) (added_draft d b)
-added_here vs cap set_id file course d b sized s fits =
-    added vs cap set_id file course d b sized (goes_on vs cap set_id file course d b s) fits
-
--- **a block is written** after a change of the volume
-pub added_next : (vs : List Volume) (cap : ℕ) (set_id : List ℕ)
-    (file : Opened) (course : Course) (d : Draft) (b : Filled) (v : Vol1)
-    → IsWideVolume v → length vs ≤ 9999 → 1024 ≤ cap → cap ≤ 4294967295
-    → item_size (block b.bytes) + 460 ≤ cap → (0 < length b.bytes) × (length b.bytes ≤ 99999)
-    → Steady vs cap set_id file course d → cap < course.used + item_size (block b.bytes) + 192
-    → course.volume < length vs → slice_get vs course.volume ≡ Some (labelled v)
-    → Steady vs cap set_id file (added_course (changed_course course)
-    (item_size (block b.bytes))) (added_draft (changed_draft file course d) b)
-added_next vs cap set_id file course d b v wide few capacity most size sized s refused more g =
-    added vs cap set_id file (changed_course course) (changed_draft file course d) b sized
-    (changed vs cap set_id file course d (b ∷ []) v wide few capacity most s.inside
-    (lt-leb _ _ refused) more g) (omega (arith, size))
 
 -- **a file ends**
 pub ended : (vs : List Volume) (cap : ℕ) (set_id : List ℕ)
@@ -129,25 +104,9 @@ pub ended : (vs : List Volume) (cap : ℕ) (set_id : List ℕ)
     × (ended_volumes vs (ended_draft file course d) ≡ ended_volumes vs d)
 ended vs cap set_id file course d few most w room =
     let x : Placed = here file course d.blocks true in
-    let one : 1 ≤ course.sect = omega (arith, w.sect) in
-    let sect : course.sect ≤ 9999 = omega (arith, w.sect_most, w.few, few) in
+    let number = number_fits few w in
     let all : placed (ended_draft file course d) ≡ placed d ++ x ∷ [] =
     files_next file course d w.sequence w.sect in
-    let used : course.used ≡ used_before vs (placed d) x.section =
-    w.used ∙ used_is vs (placed d) file course d.blocks true d.past w.volume in
-    let end : used_before vs (placed d) x.section + 192 ≤ cap =
-    subst (λ n. n + 192 ≤ cap) used w.room in
-    let done : IsDone vs cap set_id (d.past + 1) (placed d ++ x ∷ []) =
-    done_push vs cap set_id (d.past + 1) (d.past + 1) file course d.blocks true (placed d) w.done
-    (omega arith) w.ready w.of_set
-    (omega (arith, w.volume)) (omega (arith, w.volume)) (omega (
-      arith,
-      w.count,
-      w.count_most,
-      w.room,
-      most,
-    )) one sect w.sized w.goes w.change (λ e. omega (arith, w.volume, w.fresh e)) end
-    (λ e. subst (λ n. takes_end cap n ≡ true) used (le-leb _ _ room)) in
     let items : body_items vs (ended_draft file course d)
     ≡ open_items vs file course d ++ trailer_items file course.sect course.count true =
     ap (λ z. map item_of (body vs z d.past)) all
@@ -160,7 +119,8 @@ ended vs cap set_id file course d few most w room =
         no_blocks = refl;
         volume = w.volume;
         few = w.few;
-        done = subst (IsDone vs cap set_id (d.past + 1)) (sym all) done;
+        done = rw all (done_push vs cap set_id (d.past + 1) file course d true few most w
+            (omega arith) (λ e. le-leb _ _ room));
         last = last_is (placed d) (placed (ended_draft file course d)) x (λ ys y. (y.file
             ≡ length (ended_draft file course d).files) × (y.section.volume ≡ course.volume)) all (
               w.sequence ∙ sym (length-append d.files
@@ -168,11 +128,14 @@ ended vs cap set_id file course d few most w room =
               refl,
             );
         fresh = λ e. absurd (not_nil (placed d) x (sym all ∙ e));
-        within = subst (λ z. AllByRecursion (IsWithin cap) z) (sym volumes) w.within;
-        used = ap (λ n. n + 184) w.used ∙ (ap (λ n. items_size (open_items vs file course d) + n)
-            (sym (trailer_size file course.sect course.count true w.ready one sect))
-            ∙ (sym (items_size-append (open_items vs file course d)
-            (trailer_items file course.sect course.count true)) ∙ ap items_size (sym items)));
+        within = rw volumes w.within;
+        used = rw items (omega (
+          arith,
+          w.used,
+          trailer_size file course.sect course.count true w.ready number,
+          items_size-append (open_items vs file course d)
+              (trailer_items file course.sect course.count true),
+        ));
         room = omega (arith, room);
       },
       items,
@@ -204,21 +167,21 @@ begun vs cap set_id file course d w r s f =
           sect_most = omega (arith, w.volume);
           count = ap length (sym w.no_blocks);
           count_most = omega arith;
-          sized = subst (AllByRecursion (λ b. (0 < length b.bytes) × (length b.bytes ≤ 99999)))
-              (sym w.no_blocks) tt;
+          sized = rw w.no_blocks tt;
           done = w.done;
           goes = λ ys x e. rw (ne_eqb x.file file.head.sequence (other ys x e))
               (inl (sym (w.last ys x e).1));
           fresh = w.fresh;
           change = λ ys x e. rw (ne_eqb x.file file.head.sequence (other ys x e))
               (sym (w.last ys x e).1);
-          going = subst (λ z. AllByRecursion (IsGoing file) (numbered file.head.sequence 1 z))
-              (sym w.no_sects) tt;
+          going = rw w.no_sects tt;
           within = w.within;
-          used = ap (λ n. n + 180) w.used
-              ∙ (ap (λ n. items_size (body_items vs d) + n) (sym (header_size file 1 r (omega arith)
-              (omega arith))) ∙ (sym (items_size-append (body_items vs d) (header_items file 1))
-              ∙ ap items_size (sym items)));
+          used = rw items (omega (
+            arith,
+            w.used,
+            header_size file 1 r (omega arith, omega arith),
+            items_size-append (body_items vs d) (header_items file 1),
+          ));
           room = omega (arith, w.room);
         };
       },

@@ -1,11 +1,10 @@
 -- The next block of the records does not fit, and no volume is left.
 use Rattle.tape_writer.proofs.Words.{◌≡◌, ◌<◌, ◌≤◌, ℕ, ◌+◌, List, [], ◌∷◌, ◌++◌, length, false}
-use Rattle.tape_writer.proofs.Words.{None, refl, sym, ap, ◌∙◌, subst, arith, drop, AllByRecursion}
+use Rattle.tape_writer.proofs.Words.{None, refl, sym, ap, ◌∙◌, arith, drop}
 use Rattle.tape_writer.proofs.Words.{append-nil, Vol1, Shape, Portion, Filled, Packing, Given}
 use Rattle.tape_writer.proofs.Words.{IsJudged, Offers, offers_shape, Section, lt-leb}
-use Rattle.tape_blocks.specs.Spans.{InOrder, Joined, span_of, join}
+use Rattle.tape_blocks.specs.{Spans.Joined, Spans.span_of, Spans.join, Tight.parts_of_all}
 use Rattle.tape_blocks.specs.{declared.offer.Offer.TheVariants.BlockReady, Run.Run, Run.Going}
-use Rattle.tape_blocks.specs.Tight.{parts_of_all}
 use Rattle.tape_blocks.proofs.RunLaws.{filled_of, going_block, run_last}
 use Rattle.tape_blocks.proofs.{JoinLaws.join_ends, JoinLaws.leaves_of, LongerRuns.order_part}
 use Rattle.tape_blocks.proofs.TightLaws.{chain_of}
@@ -35,8 +34,7 @@ continues_put taken p q records whole rest text n going judged offers given =
           (ap join (sym (append-nil (parts_of_all all))) ∙ next.run.joins) (leaves_of q.begun false)
           ∙ ap (λ (c : List ℕ). the_joined (records ++ c ∷ [])) next.content;
       order = order_part q.begun false (parts_of_all all) (drop n rest)
-          (subst (λ (ps : List Portion). InOrder false ps q.begun)
-          (append-nil (parts_of_all all)) next.run.order);
+          (rw (append-nil (parts_of_all all)) at next.run.order);
       chain = chain_of q.shape all (length (drop n rest)) next.run.closed;
       full = λ some. next.run.closed;
       most = omega arith;
@@ -54,8 +52,7 @@ continues_last taken p records text run given ended =
       each = tight.each;
       behind = [];
       joins = ap join (append-nil (parts_of_all all)) ∙ tight.joins;
-      order = subst (λ (ps : List Portion). InOrder false ps false)
-          (sym (append-nil (parts_of_all all))) tight.order;
+      order = rw (append-nil (parts_of_all all)) tight.order;
       chain = tight.closed;
       full = λ some. absurd (some refl);
       most = omega arith;
@@ -66,18 +63,13 @@ continues_last taken p records text run given ended =
 pub continues_end : (shape : Shape) (taken : List Filled) (records : List (List ℕ))
     → packing.IsTight shape records taken → Continues shape records taken []
 continues_end shape taken records tight =
-    let same : taken ++ [] ≡ taken = append-nil taken in
+    let none = append-nil (parts_of_all (taken ++ [])) in
     record {
-      each = subst (λ (z : List Filled). AllByRecursion (packing.IsWritten shape) z) (sym same)
-          tight.each;
+      each = rw (append-nil taken) tight.each;
       behind = [];
-      joins = ap join (append-nil (parts_of_all (taken ++ [])))
-          ∙ (ap (λ (z : List Filled). join (parts_of_all z)) same ∙ tight.joins);
-      order = subst (λ (ps : List Portion). InOrder false ps false)
-          (sym (append-nil (parts_of_all (taken ++ []))
-          ∙ ap (λ (z : List Filled). parts_of_all z) same)) tight.order;
-      chain = subst (λ (z : List Filled). packing.Chain (packing.IsDue shape) z) (sym same)
-          tight.closed;
+      joins = rw (none, append-nil taken) tight.joins;
+      order = rw (none, append-nil taken) tight.order;
+      chain = rw (append-nil taken) tight.closed;
       full = λ some. absurd (some refl);
       most = omega arith;
       ends = λ e. refl;
@@ -85,55 +77,49 @@ continues_end shape taken records tight =
 
 -- ---- the calls
 
--- a record that is being written
-pub stuck_put : (H : Tapes → Type 0) (vs : List Vol1) (cap : ℕ) (set_id : List ℕ)
-    (file : Opened) (course : Course) (p q : Packing) (fs : List (List Section))
-    (records : List (List ℕ)) (whole rest : List ℕ) (n : ℕ)
-    → IsJudged p rest → Offers p rest (BlockReady n) q
-    → IsPacking H vs cap set_id file course p fs records whole rest
-    → IsLeftOut (length vs) cap course q
-    → IsStuck H vs cap set_id file course fs (records ++ whole ∷ [])
-stuck_put H vs cap set_id file course p q fs records whole rest n judged offers k l = record {
-  draft = k.draft;
-  is_open = k.is_open;
-  files = k.files;
-  none_left = l.none_left;
-  next = filled_of q l.text ∷ [];
-  of_records = subst (λ (s : Shape). Continues s (records ++ whole ∷ []) (open_blocks k.draft)
-      (filled_of q l.text ∷ [])) (offers_shape p q rest (BlockReady n) offers ∙ k.shape)
-      (continues_put (open_blocks k.draft) p q records whole rest l.text n k.going judged offers
-      l.given);
-  due = l.due;
-}
+module _ {H : Tapes → Type 0} {vs : List Vol1} {cap : ℕ} {set_id : List ℕ} {file : Opened}
+    {course : Course} {fs : List (List Section)} {records : List (List ℕ)} where
+  -- a record that is being written
+  pub stuck_put : (p q : Packing) (whole rest : List ℕ) (n : ℕ)
+      → IsJudged p rest → Offers p rest (BlockReady n) q
+      → IsPacking H vs cap set_id file course p fs records whole rest
+      → IsLeftOut (length vs) cap course q
+      → IsStuck H vs cap set_id file course fs (records ++ whole ∷ [])
+  stuck_put p q whole rest n judged offers k l = record {
+    draft = k.draft;
+    is_open = k.is_open;
+    files = k.files;
+    none_left = l.none_left;
+    next = filled_of q l.text ∷ [];
+    of_records = rw (offers_shape p q rest (BlockReady n) offers ∙ k.shape) at
+        (continues_put (open_blocks k.draft) p q records whole rest l.text n k.going judged offers
+        l.given);
+    due = l.due;
+  }
 
--- the file's last block
-pub stuck_last : (H : Tapes → Type 0) (vs : List Vol1) (cap : ℕ) (set_id : List ℕ)
-    (file : Opened) (course : Course) (p : Packing) (fs : List (List Section))
-    (records : List (List ℕ)) → IsInside H vs cap set_id file course p fs records
-    → IsLeftOut (length vs) cap course p → IsStuck H vs cap set_id file course fs records
-stuck_last H vs cap set_id file course p fs records k l = record {
-  draft = k.draft;
-  is_open = k.is_open;
-  files = k.files;
-  none_left = l.none_left;
-  next = filled_of p l.text ∷ [];
-  of_records = subst (λ (s : Shape). Continues s records (open_blocks k.draft)
-      (filled_of p l.text ∷ [])) k.shape
-      (continues_last (open_blocks k.draft) p records l.text (k.run 0) l.given k.ended);
-  due = l.due;
-}
+  -- the file's last block
+  pub stuck_last : (p : Packing) → IsInside H vs cap set_id file course p fs records
+      → IsLeftOut (length vs) cap course p → IsStuck H vs cap set_id file course fs records
+  stuck_last p k l = record {
+    draft = k.draft;
+    is_open = k.is_open;
+    files = k.files;
+    none_left = l.none_left;
+    next = filled_of p l.text ∷ [];
+    of_records = rw k.shape at
+        (continues_last (open_blocks k.draft) p records l.text (k.run 0) l.given k.ended);
+    due = l.due;
+  }
 
--- the file's end
-pub stuck_end : (H : Tapes → Type 0) (vs : List Vol1) (cap : ℕ) (set_id : List ℕ)
-    (file : Opened) (course : Course) (fs : List (List Section)) (records : List (List ℕ))
-    → IsFlat H vs cap set_id file course fs records → length vs ≤ course.volume
-    → cap < course.used + 184 + 372 → IsStuck H vs cap set_id file course fs records
-stuck_end H vs cap set_id file course fs records k none due = record {
-  draft = k.draft;
-  is_open = k.is_open;
-  files = k.files;
-  none_left = none;
-  next = [];
-  of_records = continues_end file.shape (open_blocks k.draft) records k.tight;
-  due = lt-leb _ _ due;
-}
+  -- the file's end
+  pub stuck_end : IsFlat H vs cap set_id file course fs records → length vs ≤ course.volume
+      → cap < course.used + 184 + 372 → IsStuck H vs cap set_id file course fs records
+  stuck_end k none due = record {
+    draft = k.draft;
+    is_open = k.is_open;
+    files = k.files;
+    none_left = none;
+    next = [];
+    of_records = continues_end file.shape (open_blocks k.draft) records k.tight;
+    due = lt-leb _ _ due;
+  }

@@ -1,14 +1,14 @@
 -- The effect of one more section on the volumes.
-use Rattle.tape_writer.proofs.Words.{◌≡◌, ℕ, ◌+◌, List, [], ◌∷◌, ◌++◌, length, refl, sym, ap, ◌∙◌}
-use Rattle.tape_writer.proofs.Words.{subst, append_assoc, arith, length-append, AllByRecursion}
-use Rattle.tape_writer.proofs.Words.{Placed, Section, numbered, all_numbered, ◌≢◌, ◌<◌, zero, suc}
-use Rattle.tape_writer.proofs.Words.{add-one, map, slice_get, append-nil}
-use Rattle.tape_writer.proofs.Words.{block, Volume, a_mark, on, all_entries}
-use Rattle.tape_writer.proofs.Words.{section_entries, item_of, group_of, Filled, ne_eqb}
+use Rattle.tape_writer.proofs.Words.{sym, ◌≡◌, ℕ, ◌+◌, List, [], ◌∷◌, ◌++◌, length, refl, ap, ◌∙◌}
+use Rattle.tape_writer.proofs.Words.{append_assoc, arith, length-append, AllByRecursion, Placed}
+use Rattle.tape_writer.proofs.Words.{Section, numbered, all_numbered, ◌≢◌, ◌<◌, zero, suc, add-one}
+use Rattle.tape_writer.proofs.Words.{map, slice_get, append-nil, block, Volume, a_mark, on}
+use Rattle.tape_writer.proofs.Words.{all_entries, section_entries, item_of, group_of, Filled}
+use Rattle.tape_writer.proofs.Words.{ne_eqb}
 use Rattle.std.proofs.Common.{append-nil, cond, ◌==◌}
+use Rattle.std.proofs.lemmas.{List.Elements.filter-append, Grind.flat_map-append, Bool.eq-eqb}
 use Rattle.tape_blocks.specs.Tight.{Chain}
 use Rattle.tape_set.specs.{Tight.EachBehind, Tight.ChainBehind, Layout.a_data_block}
-use Rattle.std.proofs.lemmas.{List.Elements.filter-append, Grind.flat_map-append, Bool.eq-eqb}
 use Rattle.tape_writer.specs.Draft.{data_item, body, first_volumes}
 
 -- ---- lists with one more element at the end
@@ -39,23 +39,20 @@ chain_push R (x ∷ z ∷ xs) y c h =
 
 pub each_push : (R : List Placed → Placed → Type 0) (past xs : List Placed) (y : Placed)
     → EachBehind R past xs → R (past ++ xs) y → EachBehind R past (xs ++ y ∷ [])
-each_push R past [] y c r = (subst (λ v. R v y) (append-nil past) r, tt)
-each_push R past (x ∷ xs) y c r = (
-  c.0,
-  each_push R (past ++ x ∷ []) xs y c.1
-      (subst (λ v. R v y) (sym (append_assoc past (x ∷ []) xs)) r),
-)
+each_push R past [] y c r = (rw append-nil at r, tt)
+each_push R past (x ∷ xs) y c r =
+    (c.0, each_push R (past ++ x ∷ []) xs y c.1 (rw (append_assoc past (x ∷ []) xs) r))
 
 pub chain_behind_push : (R : List Placed → Placed → Placed → Type 0) (past xs : List Placed)
     (y : Placed) → ChainBehind R past xs
     → ((ys : List Placed) (x : Placed) → xs ≡ ys ++ x ∷ [] → R (past ++ ys) x y)
     → ChainBehind R past (xs ++ y ∷ [])
 chain_behind_push R past [] y c h = tt
-chain_behind_push R past (x ∷ []) y c h = (subst (λ v. R v x y) (append-nil past) (h [] x refl), tt)
+chain_behind_push R past (x ∷ []) y c h = (rw append-nil at (h [] x refl), tt)
 chain_behind_push R past (x ∷ z ∷ xs) y c h = (
   c.0,
-  chain_behind_push R (past ++ x ∷ []) (z ∷ xs) y c.1 (λ ys w e. subst (λ v. R v w y)
-      (sym (append_assoc past (x ∷ []) ys)) (h (x ∷ ys) w (ap (λ v. x ∷ v) e))),
+  chain_behind_push R (past ++ x ∷ []) (z ∷ xs) y c.1
+      (λ ys w e. rw (append_assoc past (x ∷ []) ys) (h (x ∷ ys) w (ap (λ v. x ∷ v) e))),
 )
 
 pub numbered-push : (file sect : ℕ) (ss : List Section) (s : Section) (n : ℕ) → n ≡ sect + length ss
@@ -66,18 +63,16 @@ pub numbered-push : (file sect : ℕ) (ss : List Section) (s : Section) (n : ℕ
     } ∷ []
 numbered-push file sect [] s n e =
     let z : sect ≡ n = omega arith in
-    ap (λ v. record { file = file; sect = v; section = s } ∷ []) z
-numbered-push file sect (t ∷ ss) s n e = ap (λ v. record { file = file; sect = sect; section = t }
-    ∷ v) (numbered-push file (sect + 1) ss s n (omega arith))
+    rw z
+numbered-push file sect (t ∷ ss) s n e = rw (numbered-push file (sect + 1) ss s n (omega arith))
 
 pub all_numbered-push : (file : ℕ) (fs : List (List Section)) (f : List Section) (n : ℕ) → n
     ≡ file + length fs → all_numbered file (fs ++ f ∷ []) ≡ all_numbered file fs ++ numbered n 1 f
 all_numbered-push file [] f n e =
     let z : file ≡ n = omega arith in
-    ap (λ v. numbered v 1 f ++ []) z ∙ append-nil (numbered n 1 f)
+    rw (z, append-nil)
 all_numbered-push file (g ∷ fs) f n e =
-    ap (λ v. numbered file 1 g ++ v) (all_numbered-push (file + 1) fs f n (omega arith))
-    ∙ sym (append_assoc (numbered file 1 g) (all_numbered (file + 1) fs) (numbered n 1 f))
+    rw (all_numbered-push (file + 1) fs f n (omega arith), append_assoc)
 
 -- ---- volumes
 
@@ -101,12 +96,11 @@ on_none k (x ∷ xs) h = ap (λ b. cond b (x ∷ on k xs) (on k xs)) (ne_eqb x.s
 pub body_here : (vs : List Volume) (xs : List Placed) (x : Placed) (k : ℕ) → x.section.volume
     ≡ k + 1 → body vs (xs ++ x ∷ []) k ≡ body vs xs k ++ section_entries x.section
 body_here vs xs x k e =
-    ap (λ v. group_of (slice_get vs k) ++ all_entries v) (on_here (k + 1) xs x e)
-    ∙ (ap (λ v. group_of (slice_get vs k) ++ v)
+    let front = group_of (slice_get vs k) in
+    rw (on_here (k + 1) xs x e) (ap (λ v. front ++ v)
     (flat_map-append (λ y. section_entries y.section) (on (k + 1) xs) (x ∷ [])
     ∙ ap (λ v. all_entries (on (k + 1) xs) ++ v) (append-nil (section_entries x.section)))
-    ∙ sym (append_assoc (group_of (slice_get vs k)) (all_entries (on (k + 1) xs))
-    (section_entries x.section)))
+    ∙ sym (append_assoc front (all_entries (on (k + 1) xs)) (section_entries x.section)))
 
 pub body_other : (vs : List Volume) (xs : List Placed) (x : Placed) (k : ℕ)
     → x.section.volume ≢ k + 1 → body vs (xs ++ x ∷ []) k ≡ body vs xs k
@@ -118,10 +112,7 @@ pub first_same : (vs : List Volume) (xs : List Placed) (x : Placed) (k : ℕ) �
     → first_volumes vs (xs ++ x ∷ []) k ≡ first_volumes vs xs k
 first_same vs xs x zero h = refl
 first_same vs xs x (suc k) h =
-    ap (λ v. v ++ map item_of (body vs (xs ++ x ∷ []) k ++ a_mark ∷ []) ∷ []) (first_same vs xs x k
-    (omega arith))
-    ∙ ap (λ v. first_volumes vs xs k ++ map item_of (v ++ a_mark ∷ []) ∷ []) (body_other vs xs x k
-    (λ e. absurd (omega (arith, e))))
+    rw (first_same vs xs x k (omega arith), body_other vs xs x k (λ e. absurd (omega (arith, e))))
 
 pub first_next : (vs : List Volume) (xs : List Placed) (k : ℕ) → first_volumes vs xs (k + 1)
     ≡ first_volumes vs xs k ++ map item_of (body vs xs k ++ a_mark ∷ []) ∷ []

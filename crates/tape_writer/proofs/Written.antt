@@ -1,9 +1,10 @@
 -- Images, one volume after another.
 use Rattle.tape_writer.proofs.Words.{◌≡◌, ◌≢◌, ℕ, ◌+◌, List, [], ◌∷◌, ◌++◌, Bool, true, false}
 use Rattle.tape_writer.proofs.Words.{Option, Some, inl, inr, None, Ok, Err, length, ◌%◌, refl, sym}
-use Rattle.tape_writer.proofs.Words.{ap, subst, ◌∙◌, arith, length-append, TapeItem, block, mark}
+use Rattle.tape_writer.proofs.Words.{ap, ◌∙◌, arith, length-append, TapeItem, block, mark}
 use Rattle.tape_writer.proofs.Words.{Writer, writing, items_size, item_size, items_size-append}
 use Rattle.std.proofs.Common.{replicate, append-nil, MatchBool}
+use Rattle.std.proofs.lemmas.List.{length-replicate}
 use Rattle.byteorder.specs.Endian.{little_bytes}
 use Rattle.tape_image.specs.Writer.{Standing, finished, broken, Puts, PutsFrom, BlockFrom, PutItem}
 use Rattle.tape_image.specs.{declared.item.Ending.TheVariants.Marked, Word.end_word}
@@ -11,10 +12,8 @@ use Rattle.tape_image.specs.{Written.written, Written.is_no_block}
 use Rattle.tape_image.specs.{declared.item.ImageWriteFault.ImageWriteFault}
 use Rattle.tape_image.proofs.Leads.{Leads-nil, Leads-then, Leads-before}
 use Rattle.tape_image.proofs.WrittenItems.{put_item, put_all, known_after}
-use Rattle.std.proofs.lemmas.List.{length-replicate}
 use Rattle.tape_writer.specs.Tapes.{Tapes, Ended, UnderWay, all_volumes}
-use Rattle.tape_writer.specs.Images.{IsNext, IsImageSoFar, IsImageOf, AreImagesOf, IsUnderWay}
-use Rattle.tape_writer.specs.Images.{AreImages}
+use Rattle.tape_writer.specs.Images.{IsNext, IsImageSoFar, IsImageOf, AreImagesOf, AreImages}
 use Rattle.tape_image.specs.declared.item.ImageWriteFault.TheVariants as faults
 
 -- an open writer has written exactly the items
@@ -108,14 +107,6 @@ block_open writing content old new h = refl
 block_open finished content old new (e, _) = absurd (cc e)
 block_open broken content old new (e, _) = absurd (cc e)
 
--- the image of the tapes is the current one
-under_way_is : (items : List TapeItem) (image : Option Writer) (u : Writer) → image ≡ Some u
-    → IsUnderWay items image → IsImageSoFar items u
-under_way_is items image u e s = subst (IsUnderWay items) e s
-
-no_image : (image : Option Writer) (u : Writer) → image ≡ Some u → image ≡ None → ⊥
-no_image image u a b = cc
-
 -- one image more
 one_image : (vs : List (List TapeItem)) (bs : List (List ℕ)) (items : List TapeItem)
     (bytes : List ℕ) → AreImagesOf vs bs → IsImageOf items bytes
@@ -145,12 +136,9 @@ started w stands size contents = record {
 put_refused : (bytes : List ℕ) (after s : Standing) (items : List TapeItem) (old new : Writer)
     (f : ImageWriteFault) → old.standing ≡ s → IsNext bytes
     → PutsFrom s bytes after old (Err f) new → IsImageSoFar items old → IsImageSoFar items new
-put_refused bytes after finished items old new f is next (e, same) so =
-    subst (IsImageSoFar items) (sym same) so
-put_refused bytes after broken items old new f is next (e, same) so =
-    subst (IsImageSoFar items) (sym same) so
-put_refused bytes after writing items old new faults.TooLong is next (long, same) so =
-    subst (IsImageSoFar items) (sym same) so
+put_refused bytes after finished items old new f is next (e, same) so = rw same so
+put_refused bytes after broken items old new f is next (e, same) so = rw same so
+put_refused bytes after writing items old new faults.TooLong is next (long, same) so = rw same so
 put_refused bytes after writing items old new faults.BlockLength is next none so = absurd none
 put_refused bytes after writing items old new faults.Finished is next none so = absurd none
 put_refused bytes after writing items old new faults.Device is next p so = record {
@@ -169,15 +157,13 @@ put_refused bytes after writing items old new faults.Device is next p so = recor
 block_refused : (content : List ℕ) (s : Standing) (items : List TapeItem) (old new : Writer)
     (f : ImageWriteFault) → old.standing ≡ s → BlockFrom s content old (Err f) new
     → IsImageSoFar items old → IsImageSoFar items new
-block_refused content finished items old new f is (e, same) so =
-    subst (IsImageSoFar items) (sym same) so
-block_refused content broken items old new f is (e, same) so =
-    subst (IsImageSoFar items) (sym same) so
+block_refused content finished items old new f is (e, same) so = rw same so
+block_refused content broken items old new f is (e, same) so = rw same so
 block_refused content writing items old new f is put so = go _ (is_no_block content) put
   where
     go : (X : Type 0) (b : Bool) → MatchBool b (X × (new ≡ old))
         (Puts (written (block content)) writing old (Err f) new) → IsImageSoFar items new
-    go X true (e, same) = subst (IsImageSoFar items) (sym same) so
+    go X true (e, same) = rw same so
     go X false p = put_refused (written (block content)) writing writing items old new f is
         (inr (block content, refl)) p so
 
@@ -185,65 +171,49 @@ block_refused content writing items old new f is put so = go _ (is_no_block cont
 abbrev StoreHolds : Type 1
 StoreHolds = Bool → List (List ℕ) → Type 0
 
--- the image of the tapes after a change
-become : (H : StoreHolds) (image other : Option Writer) (u w : Writer)
-    (volumes : List (List TapeItem)) (items more : List TapeItem) → image ≡ Some u
-    → other ≡ Some w → (IsImageSoFar items u → IsImageSoFar more w)
-    → AreImages H image (UnderWay volumes items) → AreImages H other (UnderWay volumes more)
-become H image other u w volumes items more there here step (s, h) =
-    (subst (IsUnderWay more) (sym here) (step (under_way_is items image u there s)), h)
+-- an image that is written is the current one
+no_image : {A : Type 0} (image : Option Writer) (u : Writer) → image ≡ Some u → image ≡ None → A
+no_image image u a b = absurd cc
 
--- the image of the tapes after an item was written
-put_at : (item : TapeItem) (H : StoreHolds) (image other : Option Writer) (u w : Writer)
-    (volumes : List (List TapeItem)) (items : List TapeItem) → image ≡ Some u → other ≡ Some w
-    → u.standing ≡ writing → length (written item) ≡ item_size item → PutItem item u w
-    → AreImages H image (UnderWay volumes items)
-    → AreImages H other (UnderWay volumes (items ++ item ∷ []))
-put_at item H image other u w volumes items there here is long put a =
-    become H image other u w volumes items (items ++ item ∷ []) there here
-    (one_more item items u w is long put) a
+module _ (H : StoreHolds) (image other : Option Writer) (u w : Writer) (there : image ≡ Some u)
+    (here : other ≡ Some w) where
+  -- the image of the tapes after a change
+  become : (volumes : List (List TapeItem)) (items more : List TapeItem)
+      → (IsImageSoFar items u → IsImageSoFar more w)
+      → AreImages H image (UnderWay volumes items) → AreImages H other (UnderWay volumes more)
+  become volumes items more step (s, h) = (rw here (step (rw there at s)), h)
 
-pub block_at : (content : List ℕ) (H : StoreHolds) (image other : Option Writer) (u w : Writer)
-    (volumes : List (List TapeItem)) (items : List TapeItem) → image ≡ Some u → other ≡ Some w
-    → BlockFrom u.standing content u (Ok tt) w → AreImages H image (UnderWay volumes items)
-    → AreImages H other (UnderWay volumes (items ++ block content ∷ []))
-block_at content H image other u w volumes items there here put a =
-    put_at (block content) H image other u w volumes items there here
-    (block_open u.standing content u w put) (block_size content) put a
+  pub block_at : (content : List ℕ) (volumes : List (List TapeItem)) (items : List TapeItem)
+      → BlockFrom u.standing content u (Ok tt) w → AreImages H image (UnderWay volumes items)
+      → AreImages H other (UnderWay volumes (items ++ block content ∷ []))
+  block_at content volumes items put = become volumes items (items ++ block content ∷ [])
+      (one_more (block content) items u w (block_open u.standing content u w put)
+      (block_size content) put)
 
-pub mark_at : (H : StoreHolds) (image other : Option Writer) (u w : Writer)
-    (volumes : List (List TapeItem)) (items : List TapeItem) → image ≡ Some u → other ≡ Some w
-    → PutsFrom u.standing (written mark) writing u (Ok tt) w
-    → AreImages H image (UnderWay volumes items)
-    → AreImages H other (UnderWay volumes (items ++ mark ∷ []))
-mark_at H image other u w volumes items there here put a =
-    put_at mark H image other u w volumes items there here
-    (put_open u.standing writing (written mark) u w put) refl put a
+  pub mark_at : (volumes : List (List TapeItem)) (items : List TapeItem)
+      → PutsFrom u.standing (written mark) writing u (Ok tt) w
+      → AreImages H image (UnderWay volumes items)
+      → AreImages H other (UnderWay volumes (items ++ mark ∷ []))
+  mark_at volumes items put = become volumes items (items ++ mark ∷ [])
+      (one_more mark items u w (put_open u.standing writing (written mark) u w put) refl put)
 
--- the image of the tapes after a call was refused
-kept_at : (H : StoreHolds) (image other : Option Writer) (u w : Writer) (tapes : Tapes)
-    → image ≡ Some u → other ≡ Some w
-    → ((items : List TapeItem) → IsImageSoFar items u → IsImageSoFar items w)
-    → AreImages H image tapes → AreImages H other tapes
-kept_at H image other u w (Ended volumes) there here keeps (e, _) =
-    absurd (no_image image u there e)
-kept_at H image other u w (UnderWay volumes items) there here keeps a =
-    become H image other u w volumes items items there here (keeps items) a
+  -- the image of the tapes after a call was refused
+  kept_at : (tapes : Tapes) → ((items : List TapeItem) → IsImageSoFar items u
+      → IsImageSoFar items w) → AreImages H image tapes → AreImages H other tapes
+  kept_at (Ended volumes) keeps (e, _) = no_image image u there e
+  kept_at (UnderWay volumes items) keeps a = become volumes items items (keeps items) a
 
-pub block_kept : (content : List ℕ) (H : StoreHolds) (image other : Option Writer) (u w : Writer)
-    (f : ImageWriteFault) (tapes : Tapes) → image ≡ Some u → other ≡ Some w
-    → BlockFrom u.standing content u (Err f) w → AreImages H image tapes → AreImages H other tapes
-block_kept content H image other u w f tapes there here put =
-    kept_at H image other u w tapes there here
-    (λ items so. block_refused content u.standing items u w f refl put so)
+  pub block_kept : (content : List ℕ) (f : ImageWriteFault) (tapes : Tapes)
+      → BlockFrom u.standing content u (Err f) w → AreImages H image tapes
+      → AreImages H other tapes
+  block_kept content f tapes put =
+      kept_at tapes (λ items so. block_refused content u.standing items u w f refl put so)
 
-pub put_kept : (bytes : List ℕ) (after : Standing) (H : StoreHolds) (image other : Option Writer)
-    (u w : Writer) (f : ImageWriteFault) (tapes : Tapes) → IsNext bytes → image ≡ Some u
-    → other ≡ Some w → PutsFrom u.standing bytes after u (Err f) w → AreImages H image tapes
-    → AreImages H other tapes
-put_kept bytes after H image other u w f tapes next there here put =
-    kept_at H image other u w tapes there here
-    (λ items so. put_refused bytes after u.standing items u w f refl next put so)
+  pub put_kept : (bytes : List ℕ) (after : Standing) (f : ImageWriteFault) (tapes : Tapes)
+      → IsNext bytes → PutsFrom u.standing bytes after u (Err f) w → AreImages H image tapes
+      → AreImages H other tapes
+  put_kept bytes after f tapes next put =
+      kept_at tapes (λ items so. put_refused bytes after u.standing items u w f refl next put so)
 
 -- the image of the tapes after its end-of-medium marker was written and it was passed to the store
 pub end_at : (H H' : StoreHolds) (image other : Option Writer) (u w : Writer) (tapes : Tapes)
@@ -252,11 +222,10 @@ pub end_at : (H H' : StoreHolds) (image other : Option Writer) (u w : Writer) (t
     → ((images : List (List ℕ)) (bytes : List ℕ) → H true images → w.contents ≡ Some bytes
     → H' false (images ++ bytes ∷ []))
     → AreImages H image tapes → AreImages H' other (Ended (all_volumes tapes))
-end_at H H' image other u w (Ended volumes) there gone put keep (e, _) =
-    absurd (no_image image u there e)
+end_at H H' image other u w (Ended volumes) there gone put keep (e, _) = no_image image u there e
 end_at H H' image other u w (UnderWay volumes items) there gone put keep (s, h) =
     let at = put_open u.standing finished (little_bytes 4 end_word) u w put in
-    let (bytes, contents, is) = ended items u w at put (under_way_is items image u there s) in (
+    let (bytes, contents, is) = ended items u w at put (rw there at s) in (
       gone,
       record {
         images = h.images ++ bytes ∷ [];

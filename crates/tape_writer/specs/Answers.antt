@@ -1,9 +1,8 @@
 -- The meaning of the system's errors: only one kind of error says that a file does not exist.
 use Rattle.std.specs.Prelude.{Option, Some, None, Result, Ok, Err, Bool, true, false, ◌||◌, ℤ, pos}
 use Rattle.std.specs.{Prelude.if◌then◌else◌, Ordering.int_eq, declared.io.Error.Error}
-use Rattle.std.specs.{IoError.error_kind, IoError.raw_os_error, declared.io.ErrorKind.ErrorKind}
-use Rattle.std.specs.declared.fs.attrs.Metadata.{Metadata}
-use Rattle.std.specs.declared.fs.locks.TryLockError.{TryLockError}
+use Rattle.std.specs.{IoError.error_kind, IoError.raw_os_error, declared.fs.attrs.Metadata.Metadata}
+use Rattle.std.specs.{declared.io.ErrorKind.ErrorKind, declared.fs.locks.TryLockError.TryLockError}
 use Rattle.std.specs.declared.io.ErrorKind.TheVariants.{NotFound, Unsupported}
 use Rattle.tape_writer.specs.declared.system.answers.LockFault.{LockFault}
 use Rattle.tape_writer.specs.declared.system.answers.LockFault.TheVariants.{InUse, Failed}

@@ -6,17 +6,16 @@ use Rattle.tape_label.specs.{declared.values.Head1.Head1, declared.values.Vol1.V
 use Rattle.tape_blocks.specs.{declared.parts.Shape.Shape, Packing.Packing}
 use Rattle.tape_set.specs.Layout.{Section}
 use Rattle.tape_writer.specs.Front.{Item, Change, Close, behind_steps, HoldsFront, IsMidRecord}
-use Rattle.tape_writer.specs.Front.{IsPartly, IsInLast, IsEndingLast, IsLeftInside, IsLeftBehind}
+use Rattle.tape_writer.specs.Front.{IsPartly, IsInLast, IsLeftInside, IsLeftBehind, IsLeftWhole}
 use Rattle.tape_writer.specs.{declared.course.Course.Course, declared.course.Opened.Opened}
-use Rattle.tape_writer.specs.{declared.inputs.cut.Cut.Cut, declared.inputs.set.SetPlan.SetPlan}
-use Rattle.tape_writer.specs.{declared.fault.SetFault.SetFault, Front.IsLeftWhole, State.SetState}
+use Rattle.tape_writer.specs.{declared.inputs.cut.Cut.Cut, Tapes.Tapes, Tapes.Ended, Tapes.UnderWay}
+use Rattle.tape_writer.specs.{declared.inputs.set.SetPlan.SetPlan, declared.fault.SetFault.SetFault}
+use Rattle.tape_writer.specs.{State.SetState, Records.records_of, ToldFiles.with_records}
 use Rattle.tape_writer.specs.declared.fault.SetFault.TheVariants.{Write, ReadFailed}
 use Rattle.tape_writer.specs.declared.fault.WriteFault.TheVariants.{OutOfMemory, RecordLength}
 use Rattle.tape_writer.specs.Inside.{IsInside, IsPacking, IsFlat, IsWaiting}
 use Rattle.tape_writer.specs.Told.{Told, AreFiled, IsWrittenSet, with_file}
 use Rattle.tape_writer.specs.LeftOf.{IsLeftOf, IsLeftIn, IsLeftOfAll, IsLeftSet, IsLeftUnbegun}
-use Rattle.tape_writer.specs.{Records.records_of, ToldFiles.with_records}
-use Rattle.tape_writer.specs.Tapes.{Tapes, Ended, UnderWay}
 
 -- prefixes, and contents that remain
 pub record CasesOfFronts : Type 0 where
@@ -48,10 +47,6 @@ pub record CasesOfFronts : Type 0 where
       (told : List Told) (l : IsInLast (λ t. t ≡ tapes) volumes capacity id told)
       → (told ≡ l.past ++ l.last ∷ []) × AreFiled capacity l.past l.files
       × IsPartly (λ t. t ≡ tapes) volumes capacity id l.last.file l.course l.files l.last.records
-  pub ending_last : (tapes : Tapes) (volumes : List Vol1) (capacity : ℕ) (id : List ℕ)
-      (told : List Told) → IsEndingLast (λ t. t ≡ tapes) volumes capacity id told
-      → IsInLast (λ t. t ≡ tapes) volumes capacity id told
-      ⊎ ((course : Course) × IsWaiting (λ t. t ≡ tapes) volumes capacity id course told)
   -- a prefix of the items remains
   pub left : (tapes : Tapes) (w : SetState ℕ) (told : List Told)
       → (IsLeftInside (λ t. t ≡ tapes) w told

@@ -9,22 +9,21 @@ use Rattle.tape_blocks.specs.{declared.parts.Shape.Shape, Packing.HasRecordLengt
 use Rattle.tape_writer.specs.Records.{records_of, records_from, longest_by, longest, IsFirstLong}
 use Rattle.tape_writer.specs.WriteFaults.{OneIsOther, IsOfWriter, IsPuttingFault, IsInputFault}
 use Rattle.tape_writer.specs.WriteFaults.{IsFileFault, IsFilesFault, IsWholeFault, IsFaultOfCut}
-use Rattle.tape_writer.specs.{declared.fault.SetFault.SetFault, declared.inputs.cut.Cut.Cut}
+use Rattle.tape_writer.specs.Records.{GrowsLong, Adds, given, to_come, left_of, last_record}
+use Rattle.tape_writer.specs.WriteFaults.{told_as, StopsByDevice, IsSetFault}
+use Rattle.tape_writer.specs.{declared.fault.SetFault.SetFault, declared.inputs.set.SetPlan.SetPlan}
+use Rattle.tape_writer.specs.{declared.inputs.cut.Cut.Cut, declared.inputs.records.Records.Records}
 use Rattle.tape_writer.specs.{declared.fault.WriteFault.WriteFault, declared.course.Opened.Opened}
-use Rattle.tape_writer.specs.{declared.inputs.records.Records.Records, Refusals.IsNewFault}
-use Rattle.tape_writer.specs.declared.inputs.set.SetPlan.{SetPlan}
+use Rattle.tape_writer.specs.{Refusals.IsNewFault, Images.HandedOn, Images.device_failures}
 use Rattle.tape_writer.specs.declared.fault.SetFault.TheVariants.{Write, ReadFailed}
 use Rattle.tape_writer.specs.declared.inputs.cut.Cut.TheVariants.{Lines, Length, Whole}
-use Rattle.tape_writer.specs.Records.{GrowsLong, Adds, given, to_come, left_of, last_record}
 use Rattle.tape_writer.specs.Tapes.{Tapes, Ended, Failures, Rose}
 use Rattle.tape_writer.specs.WriteSet.{cut_of, raw_cut, IsSetOfImages}
 use Rattle.tape_writer.specs.Told.{Told, opened_by, with_file, IsFiled, IsOfFile}
 use Rattle.tape_writer.specs.LeftOf.{GaveUp, GaveUpIn, GaveUpSet, HasNoVolume}
 use Rattle.tape_writer.specs.ToldFiles.{told_files, with_records, IfAllKnown}
-use Rattle.tape_writer.specs.WriteFaults.{told_as, StopsByDevice, IsSetFault}
 use Rattle.tape_writer.specs.RecordLaws.{IsLine, ended_line, LinesAreCut, PiecesAreCut, WholeIsOne}
 use Rattle.tape_writer.specs.State.{SetState, IsOutOfVolumes}
-use Rattle.tape_writer.specs.Images.{HandedOn, device_failures}
 use Rattle.tape_set.specs.Layout.{Section, Placed, numbered, all_items}
 use Rattle.tape_set.specs.Lawful.{IsFile}
 use Rattle.tape_blocks.specs.declared.parts.Form.TheVariants as forms

@@ -205,22 +205,6 @@ pub record IsResting (H : Tapes → Type 0) (volumes : List Vol1) (capacity : �
   pub held : H (UnderWay (ended_volumes (map labelled volumes) d)
       (body_items (map labelled volumes) d))
 
--- The file has ended, with the given sections.
-pub record Closed (H : Tapes → Type 0) (volumes : List Vol1) (capacity : ℕ) (set_id : List ℕ)
-    (file : Opened) (course : Course) (d : Draft) : Type 0 where
-  pub draft : Draft
-  pub resting : IsResting H volumes capacity set_id course draft
-  pub sects : List Section
-  pub last : Placed
-  pub files : draft.files ≡ d.files ++ (sects ++ last.section ∷ []) ∷ []
-  pub ready : IsReady file
-  pub sequence : file.head.sequence ≡ length d.files + 1
-  pub number : last.sect ≡ length sects + 1
-  pub going : AllByRecursion (IsGoing file) (numbered file.head.sequence 1 sects)
-  pub of_file : IsOfFile file last
-  pub ends : ends_file last.section ≡ true
-  pub blocks : blocks_of_all (sects ++ last.section ∷ []) ≡ open_blocks d
-
 -- The numbers allow the next step, whatever the tapes contain.
 pub record IsRoomy (capacity volumes : ℕ) (course : Course) : Type 0 where
   pub room : course.used + volume_end_size ≤ capacity

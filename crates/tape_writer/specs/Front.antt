@@ -67,11 +67,6 @@ pub record IsInLast (H : Tapes → Type 0) (volumes : List Vol1) (capacity : ℕ
   pub course : Course
   pub partly : IsPartly H volumes capacity set_id last.file course files last.records
 
--- the writer is inside the last of the files passed, or at its end
-abbrev pub IsEndingLast : (Tapes → Type 0) → List Vol1 → ℕ → List ℕ → List Told → Type 0
-IsEndingLast H volumes capacity set_id told = IsInLast H volumes capacity set_id told
-    ⊎ ((course : Course) × IsWaiting H volumes capacity set_id course told)
-
 -- ---- contents that remain: the volumes that ended, and a prefix of the current one
 
 -- the tapes contain a prefix of the items inside the last of the files passed

@@ -1,6 +1,6 @@
 -- The state of the writer inside a file and between two files: the contents of the tapes, and the
 -- files and records passed so far.
-use Rattle.std.specs.Prelude.{◌≡◌, ◌⊎◌, ◌≢◌, ◌≤◌, ℕ, ◌+◌, List, [], ◌∷◌, ◌++◌, false, None, length}
+use Rattle.std.specs.Prelude.{◌≡◌, ◌⊎◌, ◌≢◌, ◌≤◌, ℕ, List, [], ◌∷◌, ◌++◌, false, None, length, map}
 use Rattle.std.specs.List.{AllByRecursion}
 use Rattle.tape_label.specs.declared.values.Vol1.{Vol1}
 use Rattle.tape_blocks.specs.Tight.{Filled, first_len, parts_of_all}
@@ -10,8 +10,9 @@ use Rattle.tape_blocks.specs.{Run.RunOf, Run.Going, Run.AreClosed}
 use Rattle.tape_set.specs.{Layout.Section, Tight.takes_next}
 use Rattle.tape_writer.specs.declared.{course.Opened.Opened, course.Course.Course}
 use Rattle.tape_writer.specs.declared.{out.TapeOut.Ghosts, tape.Tape.Tape}
-use Rattle.tape_writer.specs.Draft.{Draft, IsOpen, IsResting, open_blocks}
-use Rattle.tape_writer.specs.{Tapes.Tapes, Tapes.Ended, Told.Told, Told.AreFiled}
+use Rattle.tape_writer.specs.Draft.{Draft, Within, IsOpen, IsResting, open_blocks, open_items}
+use Rattle.tape_writer.specs.{Draft.ended_volumes, Tapes.Tapes, Tapes.Ended, Tapes.UnderWay}
+use Rattle.tape_writer.specs.Told.{Told, AreFiled, labelled}
 use Rattle.tape_blocks.specs.Tight as packing
 
 -- Inside a file, after the finished files fs, the given records were passed.
@@ -36,6 +37,17 @@ pub record IsPacking (H : Tapes → Type 0) (volumes : List Vol1) (capacity : �
   pub shape : p.shape ≡ file.shape
   pub going : Going (open_blocks draft) p records whole rest
   pub lengths : AreRecordsOf file.shape records
+
+-- The blocks `next` may be written on the current volume: the draft has the same blocks as d.
+pub record HasPlace (H : Tapes → Type 0) (volumes : List Vol1) (capacity : ℕ) (set_id : List ℕ)
+    (file : Opened) (course : Course) (next : List Filled) (d : Draft) : Type 0 where
+  pub draft : Draft
+  pub within : Within (map labelled volumes) capacity set_id file course (draft.blocks ++ next)
+      draft
+  pub held : H (UnderWay (ended_volumes (map labelled volumes) draft)
+      (open_items (map labelled volumes) file course draft))
+  pub files : draft.files ≡ d.files
+  pub blocks : open_blocks draft ≡ open_blocks d
 
 -- The current block was written.
 pub record Flushed (H : Tapes → Type 0) (volumes : List Vol1) (capacity : ℕ) (set_id : List ℕ)
@@ -131,10 +143,3 @@ IfInside g volumes capacity file tape p P =
     (set_id : List ℕ) (fs : List (List Section)) (records : List (List ℕ))
     → IsInside (g.holds tape.out) volumes capacity set_id file tape.course p fs records
     → P set_id fs records
-
--- if the file is the next one, P holds for the set's identifier, the files before it and a packer
--- without any of its records
-abbrev pub IfNext : Opened → (List ℕ → List Told → Packing → Type 0) → Type 0
-IfNext file P = (set_id : List ℕ) (told : List Told) (p : Packing)
-    → file.head.set_id ≡ set_id → file.head.sequence ≡ length told + 1
-    → p ≡ record { shape = file.shape; parts = []; begun = false; closed = false } → P set_id told p

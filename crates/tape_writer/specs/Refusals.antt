@@ -5,10 +5,6 @@ use Rattle.std.specs.List.{AllByRecursion}
 use Rattle.tape_label.specs.{declared.values.Vol1.Vol1, declared.values.Head1.Head1}
 use Rattle.tape_blocks.specs.{declared.parts.Shape.Shape, Packing.IsWritable}
 use Rattle.tape_set.specs.Tight.{least_capacity}
-use Rattle.tape_writer.specs.declared.fault.WriteFault.TheVariants.{BadField, BadShape, NoFile}
-use Rattle.tape_writer.specs.declared.fault.WriteFault.TheVariants.{CapacityTooSmall, TooMany}
-use Rattle.tape_writer.specs.declared.fault.WriteFault.TheVariants.{RecordLength, OutOfVolumes}
-use Rattle.tape_writer.specs.declared.fault.WriteFault.TheVariants.{Device, OutOfMemory, FileBegun}
 use Rattle.tape_writer.specs.{declared.phase.Phase.Phase, declared.phase.OpenFile.OpenFile}
 use Rattle.tape_writer.specs.declared.phase.Phase.TheVariants.{Filing, Between, Failed, Finished}
 use Rattle.tape_writer.specs.{declared.course.Opened.Opened, declared.fault.WriteFault.WriteFault}
@@ -24,39 +20,39 @@ IsInFile file _ = ⊥
 -- the fault with which a file is refused in the given phase, if none can begin in it
 abbrev pub closed_by : Phase → Option WriteFault
 closed_by Between = None
-closed_by (Filing o) = Some FileBegun
+closed_by (Filing o) = Some faults.FileBegun
 closed_by Failed = Some faults.Failed
 closed_by Finished = Some faults.Finished
 
 -- why a set with the given identifier cannot be written on the given volumes
 abbrev pub IsNewFault : List ℕ → List Vol1 → WriteFault → Type 0
-IsNewFault set_id volumes BadField = IsText set_id × AllByRecursion IsTextVolume volumes → ⊥
-IsNewFault set_id volumes OutOfVolumes = length volumes ≡ 0
-IsNewFault set_id volumes TooMany = 9999 < length volumes
+IsNewFault set_id volumes faults.BadField = IsText set_id × AllByRecursion IsTextVolume volumes → ⊥
+IsNewFault set_id volumes faults.OutOfVolumes = length volumes ≡ 0
+IsNewFault set_id volumes faults.TooMany = 9999 < length volumes
 IsNewFault set_id volumes _ = ⊥
 
 -- why a file with the given head and shape cannot begin after n other files, with the given
 -- capacity
 abbrev pub IsBeginFault : ℕ → ℕ → Head1 → Shape → WriteFault → Type 0
-IsBeginFault capacity n head shape BadField = IsTextHead head → ⊥
-IsBeginFault capacity n head shape BadShape = IsWritable shape → ⊥
-IsBeginFault capacity n head shape CapacityTooSmall = capacity < least_capacity shape
-IsBeginFault capacity n head shape TooMany = 9999 ≤ n
-IsBeginFault capacity n head shape Device = Unit {0}
-IsBeginFault capacity n head shape OutOfMemory = Unit {0}
+IsBeginFault capacity n head shape faults.BadField = IsTextHead head → ⊥
+IsBeginFault capacity n head shape faults.BadShape = IsWritable shape → ⊥
+IsBeginFault capacity n head shape faults.CapacityTooSmall = capacity < least_capacity shape
+IsBeginFault capacity n head shape faults.TooMany = 9999 ≤ n
+IsBeginFault capacity n head shape faults.Device = Unit {0}
+IsBeginFault capacity n head shape faults.OutOfMemory = Unit {0}
 IsBeginFault capacity n head shape _ = ⊥
 
 -- why a record cannot be written into the current file
 abbrev pub IsPutFault : OpenFile → List ℕ → WriteFault → Type 0
-IsPutFault o bytes RecordLength = HasLength o bytes → ⊥
-IsPutFault o bytes OutOfVolumes = Unit {0}
-IsPutFault o bytes Device = Unit {0}
-IsPutFault o bytes OutOfMemory = Unit {0}
+IsPutFault o bytes faults.RecordLength = HasLength o bytes → ⊥
+IsPutFault o bytes faults.OutOfVolumes = Unit {0}
+IsPutFault o bytes faults.Device = Unit {0}
+IsPutFault o bytes faults.OutOfMemory = Unit {0}
 IsPutFault o bytes _ = ⊥
 
 -- why a set cannot be finished after the given number of volumes
 abbrev pub IsFinishFault : ℕ → WriteFault → Type 0
-IsFinishFault volumes NoFile = volumes ≡ 0
-IsFinishFault volumes Device = Unit {0}
-IsFinishFault volumes OutOfMemory = Unit {0}
+IsFinishFault volumes faults.NoFile = volumes ≡ 0
+IsFinishFault volumes faults.Device = Unit {0}
+IsFinishFault volumes faults.OutOfMemory = Unit {0}
 IsFinishFault volumes _ = ⊥

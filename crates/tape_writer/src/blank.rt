@@ -77,8 +77,5 @@ fn put(image: &mut BlankImage, bytes: &[u8])
     ensures items { image.new.items ≡ image.old.items ++ bytes.now }
     ensures len { array_vec_len image.new ≡ array_vec_len image.old + length bytes.now }
 {
-    match image.try_extend_from_slice(bytes) {
-        Ok(()) => {}
-        Err(_) => unreachable!(),
-    }
+    image.try_extend_from_slice(bytes).unwrap();
 }

@@ -43,8 +43,7 @@ pub struct MemoryTapes {
 
 impl Model for MemoryTapes {
     ghost use Rattle.tape_writer.specs.Kept.{InMemory, tapes_of};
-    ghost use Rattle.std.specs.Prelude.{map};
-    ghost use Rattle.std.specs.Option.{option_map};
+    ghost use Rattle.std.specs.{Prelude.map, Option.option_map};
 
     ghost Value = { InMemory };
 
@@ -158,8 +157,7 @@ impl TapeOut for MemoryTapes {
     ghost use Rattle.std.specs.Prelude.{Err, IfErr, ◌∷◌, ◌↔◌};
     ghost use Rattle.tape_image.specs.Tape.{IsTapeItem, block, mark};
     ghost use Rattle.tape_writer.specs.Kept.{failures_in};
-    ghost use Rattle.tape_writer.specs.Tapes.{Takes, Changes, Closes, Keeps, Grows};
-    ghost use Rattle.tape_writer.specs.Tapes.{HasCause};
+    ghost use Rattle.tape_writer.specs.Tapes.{Takes, Changes, Closes, Keeps, Grows, HasCause};
 
     ghost holds = { λ m tapes. m.tapes ≡ tapes };
 

@@ -1,17 +1,18 @@
 //! Writes items, sections and volumes, and counts their sizes.
 
-ghost use Rattle.std.specs.Prelude.{◌≡◌, ◌<◌, ◌≤◌, ◌+◌, ◌++◌, ◌∷◌, [], List, OnOk, IfErr, true};
-ghost use Rattle.std.specs.Prelude.{false};
+ghost use Rattle.std.specs.Prelude.{◌≡◌, ◌≢◌, ◌<◌, ◌≤◌, ◌+◌, ◌++◌, ◌∷◌, ◌⊎◌, [], List, length};
+ghost use Rattle.std.specs.{Prelude.OnOk, Prelude.IfErr, Prelude.false, List.AllByRecursion};
 ghost use Rattle.tape_image.specs.Tape.{TapeItem, IsTapeItem, block as block_item};
 ghost use Rattle.tape_image.specs.{Begins.image_limit, Tape.mark as mark_item};
-ghost use Rattle.tape_label.specs.{Kinds.IsSecond, declared.values.Vol1.Vol1};
-ghost use Rattle.tape_set.specs.Sizes.{item_size};
+ghost use Rattle.tape_label.specs.{Kinds.IsSecond, declared.values.Vol1.Vol1, Widths.IsWideVolume};
+ghost use Rattle.tape_blocks.specs.Tight.{Filled};
+ghost use Rattle.tape_set.specs.{Sizes.item_size, Tight.takes_next};
 ghost use Rattle.tape_writer.specs.Tapes.{Tapes, Ended, UnderWay, Takes, Keeps, Changes};
 ghost use Rattle.tape_writer.specs.Labels.{IsReady, header_items, trailer_items, volume_label};
-ghost use Rattle.tape_writer.specs.{Tapes.all_volumes, Front.HoldsFront};
-ghost use Rattle.tape_writer.specs.Lasting.{TapeLasts, LastsFirst};
-ghost use Rattle.tape_writer.specs.Draft.{added_course, changed_course, changed_tapes};
-ghost use Rattle.tape_writer.specs.Faults.{FailsWith, IsOfOut};
+ghost use Rattle.tape_writer.specs.{Tapes.all_volumes, Front.HoldsFront, Draft.IsRoomy};
+ghost use Rattle.tape_writer.specs.Lasting.{TapeLasts, LastsFirst, StaysAsked};
+ghost use Rattle.tape_writer.specs.{Draft.changed_course, Inside.HasPlace, Inside.IfOpen};
+ghost use Rattle.tape_writer.specs.Faults.{FailsWith, IsEnding, IsOfOut};
 ghost use Rattle.tape_writer.specs.Labels.{second_label, second_kind, trailer_label};
 
 use crate::course::{Course, Opened};
@@ -28,16 +29,8 @@ pub struct Tape<T> {
 }
 
 impl<T: TapeOut> Tape<T> {
-    /// Returns true if `more` bytes fit within the capacity.
-    pub(crate) fn has_room(&self, capacity: u32, more: u32) -> bool
-        ensures yes { result ≡ true → self.now.course.used + more ≤ capacity }
-        ensures no { result ≡ false → capacity < self.now.course.used + more }
-    {
-        u64::from(self.course.used) + u64::from(more) <= u64::from(capacity)
-    }
-
     /// Writes a block: a label or data.
-    fn block(&mut self, bytes: &[u8]) -> Result<(), WriteFault>
+    pub(crate) fn block(&mut self, bytes: &[u8]) -> Result<(), WriteFault>
         requires sized { IsTapeItem (block_item bytes.now) }
         requires room { self.old.course.used + item_size (block_item bytes.now) ≤ image_limit }
         ensures ok { Takes (block_item bytes.now ∷ [])
@@ -79,28 +72,6 @@ impl<T: TapeOut> Tape<T> {
             }
             Err(fault) => Err(fault_of(fault)),
         }
-    }
-
-    /// Writes a data block of the current section.
-    #[tactic(auto, using(crate::proofs::Last::kept))]
-    pub(crate) fn add_block(&mut self, bytes: &[u8]) -> Result<(), WriteFault>
-        requires sized { IsTapeItem (block_item bytes.now) }
-        requires room { self.old.course.used + item_size (block_item bytes.now) ≤ image_limit }
-        // So the count fits in 32 bits.
-        requires count { self.old.course.count ≤ self.old.course.used }
-        ensures ok { Takes (block_item bytes.now ∷ [])
-            (T.holds self.old.out) result (T.holds self.new.out) }
-        ensures err { Keeps (T.holds self.old.out) result (T.holds self.new.out) }
-        ensures course { OnOk result (self.new.course
-            ≡ added_course self.old.course (item_size (block_item bytes.now))) }
-        ensures lasting { TapeLasts T.TapeOut self.old self.new }
-        ensures cause { FailsWith (T.failures self.old.out) result (T.failures self.new.out) }
-        ensures asked { (v : Vol1) → T.asked self.old.out v → T.asked self.new.out v }
-        ensures out { IfErr result IsOfOut }
-    {
-        self.block(bytes)?;
-        self.course.count += 1;
-        Ok(())
     }
 
     /// Writes the headers of section number `sect`: HDR1, HDR2 and a mark.
@@ -188,32 +159,57 @@ impl<T: TapeOut> Tape<T> {
         self.block(&write_vol1(volume))
     }
 
-    /// Ends the section with EOV1 and EOV2, and continues on the next volume, with the label
-    /// `volume`.
-    #[tactic(auto, using(crate::proofs::Last::lasting_then, crate::proofs::Last::rose_from))]
-    pub(crate) fn change_to(&mut self, file: &Opened, volume: &Vol1) -> Result<(), WriteFault>
+    /// Ensures that `more` bytes, which include the end of the volume, fit on the current volume.
+    /// If they do not, ends the section with EOV1 and EOV2, and continues on the next volume.
+    #[tactic(auto, using(crate::proofs::Last::kept))]
+    pub(crate) fn make_room(
+        &mut self,
+        file: &Opened,
+        volumes: &[Vol1],
+        capacity: u32,
+        more: u32,
+    ) -> Result<(), WriteFault>
         requires ready { IsReady file.now }
-        requires first { 1 ≤ self.old.course.sect }
-        requires most { self.old.course.sect < 9999 }
-        requires room { self.old.course.used + 192 ≤ image_limit }
-        requires few { self.old.course.volume < 65535 }
-        ensures ok { (volumes : List (List TapeItem)) (items : List TapeItem)
-            → T.holds self.old.out (UnderWay volumes items) → OnOk result (T.holds self.new.out
-            (changed_tapes file.now self.old.course volume.now volumes items)) }
-        ensures front { (volumes : List (List TapeItem)) (items : List TapeItem)
-            → T.holds self.old.out (UnderWay volumes items) → HoldsFront (T.holds self.new.out)
-            (changed_tapes file.now self.old.course volume.now volumes items) }
-        ensures course { OnOk result (self.new.course ≡ changed_course self.old.course) }
+        requires wide { AllByRecursion IsWideVolume volumes.now }
+        requires roomy { IsRoomy capacity (length volumes.now) self.old.course }
+        requires volumes { length volumes.now ≤ 9999 }
+        requires end { 192 ≤ more }
+        requires capacity { more + 268 ≤ capacity }
+        ensures roomy { OnOk result (IsRoomy capacity (length volumes.now) self.new.course) }
+        ensures room { OnOk result (self.new.course.used + more ≤ capacity) }
+        ensures course { OnOk result ((self.new.course ≡ self.old.course)
+            ⊎ ((self.new.course ≡ changed_course self.old.course)
+            × (self.old.course.volume < length volumes.now))) }
+        ensures place { IfOpen T.TapeOut volumes.now capacity file.now self.old (λ set_id d.
+            (next : List Filled) → (capacity < self.old.course.used + more
+            → takes_next capacity self.old.course.used next ≡ false) → OnOk result (HasPlace
+            (T.holds self.new.out) volumes.now capacity set_id file.now self.new.course next d)) }
+        ensures front { IfOpen T.TapeOut volumes.now capacity file.now self.old (λ set_id d.
+            (next : List Filled) → (capacity < self.old.course.used + more
+            → takes_next capacity self.old.course.used next ≡ false)
+            → IfErr result (λ fault. fault ≢ WriteFault.OutOfVolumes → HasPlace
+            (HoldsFront (T.holds self.new.out)) volumes.now capacity set_id file.now
+            (changed_course self.old.course) next d)) }
+        ensures stuck { IfErr result (λ fault. fault ≡ WriteFault.OutOfVolumes
+            → (self.new ≡ self.old) × (length volumes.now ≤ self.old.course.volume)
+            × (capacity < self.old.course.used + more)) }
+        ensures asked { StaysAsked T.TapeOut volumes.now self.old result self.new }
+        ensures ending { IfErr result IsEnding }
         ensures lasting { TapeLasts T.TapeOut self.old self.new }
         ensures cause { FailsWith (T.failures self.old.out) result (T.failures self.new.out) }
-        ensures asked { OnOk result (T.asked self.new.out volume.now) }
-        ensures out { IfErr result IsOfOut }
     {
+        if u64::from(self.course.used) + u64::from(more) <= u64::from(capacity) {
+            return Ok(());
+        }
+        let Some(volume) = volumes.get(usize::from(self.course.volume)) else {
+            return Err(WriteFault::OutOfVolumes);
+        };
         self.end_section(file, false)?;
         self.mark()?;
         self.begin_volume(volume)?;
         let sect = self.course.sect + 1;
-        self.begin_section(file, sect)
+        self.begin_section(file, sect)?;
+        Ok(())
     }
 }
 

@@ -1,9 +1,9 @@
 -- The cutting of an input into records.
 use Rattle.tape_writer.proofs.Words.{◌≡◌, ◌<◌, ℕ, ◌+◌, ◌∙◌, List, [], ◌∷◌, ◌++◌, Bool, true, false}
-use Rattle.tape_writer.proofs.Words.{length, sym, ap, arith, append_assoc, length-append}
-use Rattle.tape_writer.proofs.Words.{if◌then◌else◌, inl, inr, ◌⊎◌, ◌≤◌, nat_tests, ne_eqb, ◌≢◌}
-use Rattle.tape_writer.proofs.Words.{zero, suc, take, get_or, subst, ◌-◌, drop, Option, Some, None}
-use Rattle.tape_writer.proofs.Words.{prepend_known, IfKnown, refl, Format, Shape, HasRecordLength}
+use Rattle.tape_writer.proofs.Words.{length, sym, ap, arith, append_assoc, length-append, inl, inr}
+use Rattle.tape_writer.proofs.Words.{◌⊎◌, ◌≤◌, nat_tests, ne_eqb, ◌≢◌, zero, suc, take, get_or, ◌-◌}
+use Rattle.tape_writer.proofs.Words.{drop, Option, Some, None, prepend_known, IfKnown, refl, Format}
+use Rattle.tape_writer.proofs.Words.{Shape, HasRecordLength, add-one}
 use Rattle.std.proofs.Common.{append-nil, ◌==◌, flat_map, min, slice_range, length-take, drop-drop}
 use Rattle.std.proofs.{Common.take-append-drop, KnownBytes.Consumes-trans, KnownBytes.Consumes-kept}
 use Rattle.std.proofs.lemmas.List.{take_all, drop-take, drop_min}
@@ -12,6 +12,7 @@ use Rattle.tape_writer.specs.declared.inputs.cut.Cut.TheVariants.{Lines, Length,
 use Rattle.tape_writer.specs.{declared.inputs.cut.Cut.Cut, Records.longest}
 use Rattle.tape_writer.specs.RecordLaws.{IsLine, ended_line, LinesAreCut, PiecesAreCut, WholeIsOne}
 use Rattle.std.specs.Io.KnownBytes.{Consumes, Keeps}
+use Rattle.tape_image.proofs.Walks.{IfKnown-map}
 use Rattle.tape_label.specs.declared.values.Format.TheVariants.{Fixed, Counted, Spanned}
 
 -- ---- records in terms of the input: lines, and pieces of one length
@@ -19,13 +20,10 @@ use Rattle.tape_label.specs.declared.values.Format.TheVariants.{Fixed, Counted, 
 -- bytes of a line are bytes of its record
 pub line_goes_on : (l r ys : List ℕ) → IsLine l
     → records_from Lines r (l ++ ys) ≡ records_from Lines (r ++ l) ys
-line_goes_on [] r ys is = ap (λ x. records_from Lines x ys) (sym (append-nil r))
+line_goes_on [] r ys is = rw append-nil
 line_goes_on (b ∷ l) r ys (not, is) =
     let no : (b == 10) ≡ false = grind (arith, nat_tests, not) in
-    ap (λ (t : Bool). if t then r ∷ records_from Lines [] (l ++ ys) else records_from Lines (r
-    ++ b ∷ []) (l ++ ys)) no
-    ∙ line_goes_on l (r ++ b ∷ []) ys is
-    ∙ ap (λ x. records_from Lines x ys) (append_assoc r (b ∷ []) l)
+    rw (no, line_goes_on l (r ++ b ∷ []) ys is, append_assoc r (b ∷ []) l)
 
 pub lines_are_cut : LinesAreCut
 lines_are_cut [] rest is last = ap (λ x. records_from Lines [] x) (sym (append-nil rest))
@@ -40,7 +38,7 @@ lines_are_cut (l ∷ ls) rest (one, is) last =
 -- length, so that it is never complete
 pub piece_goes_on : (n : ℕ) (l r ys : List ℕ) → (length r + length l < n) ⊎ (n ≤ length r)
     → records_from (Length n) r (l ++ ys) ≡ records_from (Length n) (r ++ l) ys
-piece_goes_on n [] r ys h = ap (λ x. records_from (Length n) x ys) (sym (append-nil r))
+piece_goes_on n [] r ys h = rw append-nil
 piece_goes_on n (b ∷ l) r ys h =
     let long = length-append r (b ∷ []) in
     let no : (length r + 1 == n) ≡ false = elim h [
@@ -51,24 +49,19 @@ piece_goes_on n (b ∷ l) r ys h =
       | inl few ↦ inl (omega (arith, few, long))
       | inr more ↦ inr (omega (arith, more, long))
     ] in
-    ap (λ (t : Bool). if t then (r ++ b ∷ []) ∷ records_from (Length n) [] (l
-    ++ ys) else records_from (Length n) (r ++ b ∷ []) (l ++ ys)) no
-    ∙ piece_goes_on n l (r ++ b ∷ []) ys next
-    ∙ ap (λ x. records_from (Length n) x ys) (append_assoc r (b ∷ []) l)
+    rw (no, piece_goes_on n l (r ++ b ∷ []) ys next, append_assoc r (b ∷ []) l)
 
 -- as many bytes as the length are a record
 pub piece_is_whole : (n : ℕ) (b : ℕ) (l r ys : List ℕ) → length r + length (b ∷ l) ≡ n
     → records_from (Length n) r ((b ∷ l) ++ ys) ≡ (r ++ (b ∷ l)) ∷ records_from (Length n) [] ys
 piece_is_whole n b [] r ys is =
     let yes : (length r + 1 == n) ≡ true = grind (arith, nat_tests, is) in
-    ap (λ (t : Bool). if t then (r
-    ++ b ∷ []) ∷ records_from (Length n) [] ys else records_from (Length n) (r ++ b ∷ []) ys) yes
+    rw yes
 piece_is_whole n b (d ∷ l) r ys is =
     let no : (length r + 1 == n) ≡ false = grind (arith, nat_tests, is) in
-    ap (λ (t : Bool). if t then (r ++ b ∷ []) ∷ records_from (Length n) [] ((d ∷ l)
-    ++ ys) else records_from (Length n) (r ++ b ∷ []) ((d ∷ l) ++ ys)) no
-    ∙ piece_is_whole n d l (r ++ b ∷ []) ys (omega (arith, is, length-append r (b ∷ [])))
-    ∙ ap (λ x. x ∷ records_from (Length n) [] ys) (append_assoc r (b ∷ []) (d ∷ l))
+    let next = piece_is_whole n d l (r ++ b ∷ []) ys
+    (omega (arith, is, length-append r (b ∷ []))) in
+    rw (no, next, append_assoc r (b ∷ []) (d ∷ l))
 
 pub pieces_are_cut : PiecesAreCut
 pieces_are_cut n [] rest some is few =
@@ -82,13 +75,11 @@ pieces_are_cut n ((b ∷ p) ∷ ps) rest some (long, is) few =
 
 pub whole_goes_on : (l r ys : List ℕ)
     → records_from Whole r (l ++ ys) ≡ records_from Whole (r ++ l) ys
-whole_goes_on [] r ys = ap (λ x. records_from Whole x ys) (sym (append-nil r))
-whole_goes_on (b ∷ l) r ys = whole_goes_on l (r ++ b ∷ []) ys
-    ∙ ap (λ x. records_from Whole x ys) (append_assoc r (b ∷ []) l)
+whole_goes_on [] r ys = rw append-nil
+whole_goes_on (b ∷ l) r ys = rw (whole_goes_on l (r ++ b ∷ []) ys, append_assoc r (b ∷ []) l)
 
 pub whole_is_one : WholeIsOne
-whole_is_one bytes =
-    ap (records_of Whole) (sym (append-nil bytes)) ∙ whole_goes_on bytes [] []
+whole_is_one bytes = ap (records_of Whole) (sym (append-nil bytes)) ∙ whole_goes_on bytes [] []
 
 -- ---- the effect of a prefix of some bytes on a record
 
@@ -100,17 +91,13 @@ line_ends : (hay : List ℕ) (p : ℕ) (r more : List ℕ) → p < length hay
 line_ends [] p r more within before at = absurd (omega (arith, within))
 line_ends (b ∷ hay) zero r more within before at =
     let yes : (b == 10) ≡ true = grind (arith, nat_tests, at) in
-    ap (λ (t : Bool). if t then r ∷ records_from Lines [] more else records_from Lines (r
-    ++ b ∷ []) more) yes
-    ∙ ap (λ x. x ∷ records_from Lines [] more) (sym (append-nil r))
+    rw (yes, append-nil)
 line_ends (b ∷ hay) (suc p) r more within before at =
     let none : b ≢ 10 = before 0 (omega arith) in
     let no : (b == 10) ≡ false = grind (arith, nat_tests, none) in
-    ap (λ (t : Bool). if t then r ∷ records_from Lines [] (take (suc p) hay
-    ++ more) else records_from Lines (r ++ b ∷ []) (take (suc p) hay ++ more)) no
-    ∙ line_ends hay p (r
-    ++ b ∷ []) more (omega (arith, within)) (λ k l. before (suc k) (omega (arith, l))) at
-    ∙ ap (λ x. x ∷ records_from Lines [] more) (append_assoc r (b ∷ []) (take p hay))
+    let next = line_ends hay p (r ++ b ∷ []) more (omega (arith, within))
+    (λ k l. before (suc k) (omega (arith, l))) at in
+    rw (no, next, append_assoc r (b ∷ []) (take p hay))
 
 no_feed : (hay : List ℕ) → ((k : ℕ) → k < length hay → get_or hay k 0 ≢ 10) → IsLine hay
 no_feed [] none = tt
@@ -120,10 +107,7 @@ no_feed (b ∷ hay) none =
 pub line_ended : (hay : List ℕ) (p : ℕ) (r : List ℕ) → p < length hay
     → ((k : ℕ) → k < p → get_or hay k 0 ≢ 10) → get_or hay p 0 ≡ 10
     → Adds Lines r (take (p + 1) hay) (r ++ take p hay) true
-line_ended hay p r within before at =
-    let same : suc p ≡ p + 1 = omega arith in
-    subst (λ n. Adds Lines r (take n hay) (r ++ take p hay) true) same
-    (λ more. line_ends hay p r more within before at)
+line_ended hay p r within before at = rw add-one (λ more. line_ends hay p r more within before at)
 
 -- without a line feed the record continues
 pub line_inside : (hay r : List ℕ) → ((k : ℕ) → k < length hay → get_or hay k 0 ≢ 10)
@@ -148,8 +132,7 @@ whole_inside l r = λ more. whole_goes_on l r more
 -- all bytes are their own prefix
 pub adds_all : (cut : Cut) (n : ℕ) (l r : List ℕ) (ended : Bool) → n ≡ length l
     → Adds cut r l (r ++ l) ended → Adds cut r (take n l) (r ++ take n l) ended
-adds_all cut n l r ended is adds =
-    subst (λ x. Adds cut r x (r ++ x) ended) (sym (take_all n l (omega (arith, is)))) adds
+adds_all cut n l r ended is adds = rw (take_all n l (omega (arith, is))) adds
 
 -- ---- bytes read ahead, some of which were used
 
@@ -195,33 +178,27 @@ pub one_piece : (cut : Cut) (all left next : Option (List ℕ)) (r new piece : L
     → SoFar cut all left r → Consumes left next piece → new ≡ r ++ piece
     → Adds cut r piece new false → SoFar cut all next new
 one_piece cut all left next r new piece s c grown adds = record {
-  consumed = subst (Consumes all next) (sym grown)
-      (Consumes-trans all left next r piece s.consumed c);
+  consumed = rw grown (Consumes-trans all left next r piece s.consumed c);
   same = λ ys. ap (λ l. records_from cut [] (l ++ ys)) grown
       ∙ ap (records_from cut []) (append_assoc r piece ys) ∙ s.same (piece ++ ys) ∙ adds ys;
 }
+
+-- the bytes before are the consumed bytes and the bytes after
+consumed : (all next : Option (List ℕ)) (r : List ℕ) → Consumes all next r
+    → IfKnown all next (λ xs ys. xs ≡ r ++ ys)
+consumed None next r c = tt
+consumed (Some xs) None r c = c
+consumed (Some xs) (Some ys) r c = c
 
 -- the next piece ends the record
 pub next_given : (cut here : Cut) (a b : Bool) (all left next : Option (List ℕ))
     (r new piece : List ℕ) → SoFar cut all left r → Consumes left next piece → here ≡ cut
     → a ≡ false → b ≡ false → Adds here r piece new true
     → IfKnown all next (λ xs ys. to_come cut a xs ≡ given true new (to_come here b ys))
-next_given cut here a b all left next r new piece s c is one two adds =
-    subst (λ x. IfKnown all next (λ xs ys.
-    to_come cut x xs ≡ given true new (to_come here b ys))) (sym one)
-    (subst (λ x. IfKnown all next (λ xs ys.
-    to_come cut false xs ≡ given true new (to_come here x ys))) (sym two)
-    (subst (λ h. IfKnown all next (λ xs ys.
-    to_come cut false xs ≡ given true new (to_come h false ys))) (sym is)
-    (go all next (Consumes-trans all left next r piece s.consumed c))))
-  where
-    go : (k m : Option (List ℕ)) → Consumes k m (r ++ piece)
-        → IfKnown k m (λ xs ys. to_come cut false xs ≡ given true new (to_come cut false ys))
-    go None m e = tt
-    go (Some xs) None e = absurd e
-    go (Some xs) (Some ys) e =
-        ap (records_of cut) (e ∙ append_assoc r piece ys) ∙ s.same (piece ++ ys)
-        ∙ subst (λ h. Adds h r piece new true) is adds ys
+next_given cut here a b all left next r new piece s c is one two adds = rw (one, two, is)
+    (IfKnown-map all next _ _ (λ xs ys e. ap (records_of cut) (e ∙ append_assoc r piece ys)
+    ∙ s.same (piece ++ ys) ∙ (rw is at adds) ys)
+    (consumed all next (r ++ piece) (Consumes-trans all left next r piece s.consumed c)))
 
 -- a piece was moved from the bytes read ahead
 pub piece_taken : (cut : Cut) (old new bytes ahead rest : List ℕ) (content taken : ℕ) (ended : Bool)
@@ -234,7 +211,7 @@ piece_taken cut old new bytes ahead rest content taken ended same is grown all a
   take taken bytes,
   sym same ∙ sym (take-append-drop taken bytes)
       ∙ ap (λ l. take taken bytes ++ l) (ap (drop taken) same ∙ sym is),
-  subst (λ l. Adds cut old (take taken bytes) l ended) (sym grown) adds,
+  rw grown adds,
   λ no. grown ∙ ap (λ n. old ++ take n bytes) (all no),
 )
 
@@ -243,20 +220,13 @@ pub piece_more : (cut here : Cut) (all left next : Option (List ℕ)) (r new pie
     (ended : Bool) → SoFar cut all left r → Consumes left next piece → here ≡ cut → ended ≡ false
     → Adds here r piece new ended × (ended ≡ false → new ≡ r ++ piece) → SoFar cut all next new
 piece_more cut here all left next r new piece ended s c is not (adds, grown) =
-    one_piece cut all left next r new piece s c (grown not)
-    (subst (λ x. Adds x r piece new false) is (subst (λ x. Adds here r piece new x) not adds))
+    one_piece cut all left next r new piece s c (grown not) (rw (not, is) at adds)
 
 -- the bytes read from the input are the buffered bytes of the record
 pub taken : (cut : Cut) (all left next : Option (List ℕ)) (r now : List ℕ) → SoFar cut all left r
     → Keeps left next → now ≡ r → IfKnown all next (λ xs ys. xs ≡ now ++ ys)
 taken cut all left next r now s kept same =
-    go all next (subst (Consumes all next) (sym same)
-    (Consumes-kept all left next r s.consumed kept))
-  where
-    go : (a b : Option (List ℕ)) → Consumes a b now → IfKnown a b (λ xs ys. xs ≡ now ++ ys)
-    go None b c = tt
-    go (Some xs) None c = c
-    go (Some xs) (Some ys) c = c
+    rw same (consumed all next r (Consumes-kept all left next r s.consumed kept))
 
 -- ---- the longest record that a shape allows
 

@@ -1,24 +1,23 @@
 -- The contents of the tapes after a fault, in terms of the files and their inputs.
-use Rattle.tape_writer.proofs.Words.{◌≡◌, ℕ, ◌≤◌, List, [], ◌∷◌, ◌++◌, Bool, true, false, Option}
-use Rattle.tape_writer.proofs.Words.{Some, None, length, refl, sym, ap, subst, ◌∙◌, inl, inr, ◌⊎◌}
-use Rattle.tape_writer.proofs.inputs.Putting.{Put, PutWithin, known_one, known_then}
-use Rattle.tape_writer.proofs.Words.{IfSome, IfKnown, Head1, Shape, AllByRecursion, every}
-use Rattle.tape_writer.proofs.inputs.Filing.{all_known, in_input, known_all}
-use Rattle.tape_writer.proofs.{inputs.Putting.with_records-one, inputs.Refusing.less_long}
+use Rattle.tape_writer.proofs.Words.{◌≡◌, ℕ, ◌≤◌, List, [], ◌∷◌, ◌++◌, Bool, true, Option, Some}
+use Rattle.tape_writer.proofs.Words.{None, length, refl, sym, ap, ◌∙◌, inl, inr, ◌⊎◌, IfSome}
+use Rattle.tape_writer.proofs.Words.{IfKnown, Head1, Shape, AllByRecursion, every}
+use Rattle.tape_writer.proofs.inputs.Putting.{Put, PutWithin, known_more, with_records-one}
+use Rattle.tape_writer.proofs.{inputs.Filing.all_known, inputs.Refusing.less_long}
 use Rattle.tape_writer.proofs.Fronts.{inside_writing, behind_writing, front_here}
+use Rattle.tape_image.proofs.Walks.{known_all, IfKnown-some}
 use Rattle.std.proofs.{Common.append-nil, lemmas.Option.IfSome_then}
-use Rattle.tape_writer.specs.{declared.fault.WriteFault.WriteFault, declared.inputs.cut.Cut.Cut}
-use Rattle.tape_writer.specs.{declared.fault.SetFault.SetFault, declared.course.Opened.Opened}
-use Rattle.tape_writer.specs.{declared.fault.SetFault.TheVariants.Write, declared.phase.Phase.Phase}
-use Rattle.tape_writer.specs.{declared.inputs.records.InputFault.InputFault, Tapes.Tapes}
-use Rattle.tape_writer.specs.declared.phase.Phase.TheVariants.{Between, Filing}
-use Rattle.tape_writer.specs.{Told.Told, Told.with_record, Faults.IsEnding, ToldFiles.with_records}
-use Rattle.tape_writer.specs.State.{SetState, IsWriting, IfFiling, Leaves}
-use Rattle.tape_writer.specs.Refusals.{IsInFile, IsBeginFault, IsFinishFault}
+use Rattle.tape_writer.specs.{declared.fault.WriteFault.WriteFault, declared.course.Opened.Opened}
+use Rattle.tape_writer.specs.{declared.inputs.cut.Cut.Cut, declared.phase.Phase.TheVariants.Between}
+use Rattle.tape_writer.specs.declared.fault.SetFault.{SetFault}
+use Rattle.tape_writer.specs.declared.fault.SetFault.TheVariants.{Write}
+use Rattle.tape_writer.specs.{declared.inputs.records.InputFault.InputFault, ToldFiles.with_records}
+use Rattle.tape_writer.specs.{Tapes.Tapes, WriteFaults.told_as, WriteFaults.IsOfInput}
+use Rattle.tape_writer.specs.{Told.Told, Told.with_record, Refusals.IsInFile, Refusals.IsBeginFault}
+use Rattle.tape_writer.specs.{Faults.IsEnding, State.SetState, State.IsWriting, State.Leaves}
 use Rattle.tape_writer.specs.Front.{IsInLast, IsLeftInside, IsLeftBehind, HoldsFront}
 use Rattle.tape_writer.specs.Records.{to_come, records_of, given, IsFirstLong}
 use Rattle.tape_writer.specs.LeftOf.{IsLeftOf, IsLeftOfAll, IsLeftUnbegun}
-use Rattle.tape_writer.specs.WriteFaults.{told_as, IsOfInput}
 use Rattle.tape_writer.specs.declared.fault.WriteFault.TheVariants as faults
 use Rattle.tape_writer.specs.declared.inputs.records.InputFault.TheVariants as inputs
 
@@ -38,7 +37,7 @@ refused_left H old new f P told leaves held stays ends = elim (is_ending f) [
   | inl e ↦ ends e
   | inr same ↦
       let is = same old new leaves in
-      stays is (subst (λ z. IsWriting (H z.out) z told) (sym is) held)
+      stays is (rw is held)
 ]
 
 -- ---- the records of an input
@@ -56,16 +55,15 @@ known_left : {T : Type 0} (H : Tapes → Type 0) (w : SetState T) (G : Type 0) (
     → IsLeftInside H w (with_records told rs)
     → (IsOfInput fault → IsInLast H w.volumes w.capacity w.set_id (with_records told rs))
     → IfSome all (λ xs. IsLeftOf H w G fault told (to_come cut a xs))
-known_left H w G fault told cut a c rs None next k m left all = tt
-known_left H w G fault told cut a c rs (Some xs) None k m left all = absurd k
-known_left H w G fault told cut a c rs (Some xs) (Some ys) k m left all = record {
-  front = rs;
-  back = to_come cut c ys;
-  split = k;
-  memory = m;
-  left = inl left;
-  all = all;
-}
+known_left H w G fault told cut a c rs all next k m left held =
+    IfSome_then all (IfKnown-some all next _ k) (λ xs q. record {
+      front = rs;
+      back = to_come cut c q.0;
+      split = q.2;
+      memory = λ e. rw q.1 at (m e);
+      left = inl left;
+      all = held;
+    })
 
 memory_told : (fault : InputFault) → told_as fault ≡ Write faults.OutOfMemory
     → fault ≡ inputs.OutOfMemory
@@ -75,45 +73,27 @@ memory_told inputs.OutOfMemory e = refl
 
 -- the next record was not read
 pub read_left : {T : Type 0} (H : Tapes → Type 0) (w : SetState T) (G : Type 0)
-    (fault : InputFault) (told' : SetFault) (n : ℕ) (file : Opened) (cut here : Cut) (a b : Bool)
+    (fault : InputFault) (n : ℕ) (file : Opened) (cut : Cut) (a b : Bool)
     (all left : Option (List ℕ)) (old : List Told → Type 0)
     → PutWithin n cut a b all left old (IsWriting H w) → IsInFile file w.phase
-    → told' ≡ told_as fault → here ≡ cut
-    → (fault ≡ inputs.OutOfMemory → IfSome left (λ ys. IsFirstLong n (to_come here b ys)))
+    → (fault ≡ inputs.OutOfMemory → IfSome left (λ ys. IsFirstLong n (to_come cut b ys)))
     → (told : List Told) → old told
-    → IfSome all (λ xs. IsLeftOf H w G told' told (to_come cut a xs))
-read_left H w G fault told' n file cut here a b all left old p is e same m told h =
-    known_left H w G told' told cut a b p.put.records all left p.put.known
-    (λ f. IfSome_then left (m (memory_told fault (sym e ∙ f))) (λ ys l.
-    inr (every (λ r. length r ≤ n) _ (λ r le. less_long (length r) n _ le
-    (subst (λ z. IsFirstLong n (to_come z b ys)) same l)) p.put.records p.within)))
+    → IfSome all (λ xs. IsLeftOf H w G (told_as fault) told (to_come cut a xs))
+read_left H w G fault n file cut a b all left old p is m told h =
+    known_left H w G (told_as fault) told cut a b p.put.records all left p.put.known
+    (λ f. IfSome_then left (m (memory_told fault f)) (λ ys l. inr (every (λ r. length r ≤ n) _
+    (λ r le. less_long (length r) n _ le l) p.put.records p.within)))
     (inside_writing H (HoldsFront H) w file _ (front_here H) is (p.put.told told h))
     (λ e. inside_writing H H w file _ (λ t h. h) is (p.put.told told h))
 
--- no fault that ends the writer is a fault of an input
-pub ending_other : (f : WriteFault) → IsEnding f → IsOfInput (Write f) → ⊥
-ending_other faults.RecordLength ends is = ends
-ending_other _ ends is = is
+-- a fault of the writer other than `RecordLength` is not a fault of an input
+pub other_than : (P : WriteFault → Type 0) (f : WriteFault) → (P faults.RecordLength → ⊥) → P f
+    → IsOfInput (Write f) → ⊥
+other_than P faults.RecordLength none p is = none p
+other_than P _ none p is = is
 
 pub of_writer : (f g : WriteFault) → Write f ≡ Write g → f ≡ g
 of_writer f g e = cc
-
--- no fault of beginning a file is a fault of an input
-pub begin_other : (capacity n : ℕ) (head : Head1) (shape : Shape) (f : WriteFault)
-    → IsBeginFault capacity n head shape f → IsOfInput (Write f) → ⊥
-begin_other capacity n head shape faults.RecordLength due is = due
-begin_other capacity n head shape _ due is = is
-
--- no fault of finishing or creating a set is a fault of an input
-pub finish_other : (n : ℕ) (f : WriteFault) → IsFinishFault n f → IsOfInput (Write f) → ⊥
-finish_other n faults.RecordLength due is = due
-finish_other n _ due is = is
-
--- a fault at the end of a file ends the writer
-pub end_ends : (file : Opened) (phase : Phase) (f : WriteFault) → IsInFile file phase
-    → IfFiling phase (λ _. IsEnding f) → IsEnding f
-end_ends file (Filing o) f is ends = ends
-end_ends file _ f is ends = absurd is
 
 -- the next record was not written
 pub put_left : {T : Type 0} (H : T → Tapes → Type 0) (mid w : SetState T) (G : Type 0)
@@ -136,16 +116,13 @@ put_left H mid w G file cut a b c all left next old r f p is k leaves grew ends 
     (λ same writing. known_left (H w.out) w G (Write f) told cut a b p.records all left p.known
     (memory left p.records b)
     (inside_writing (H w.out) (HoldsFront (H w.out)) w file _ (front_here (H w.out))
-    (subst (λ z. IsInFile file z.phase) (sym same) is) writing)
-    (λ i. inside_writing (H w.out) (H w.out) w file _ (λ t h. h)
-    (subst (λ z. IsInFile file z.phase) (sym same) is) writing))
+    (rw same is) writing)
+    (λ i. inside_writing (H w.out) (H w.out) w file _ (λ t h. h) (rw same is) writing))
     (λ e. known_left (H w.out) w G (Write f) told cut a c (p.records ++ r ∷ []) all next
-    (known_one cut a c r p.records all next
-    (known_then cut a b c true r p.records all left next p.known k))
+    (known_more cut a b c r p.records all left next p.known k)
     (memory next (p.records ++ r ∷ []) c)
-    (subst (IsLeftInside (H w.out) w) (sym (with_records-one told p.records r))
-    (ends (with_records told p.records) held e))
-    (λ i. absurd (ending_other f e i)))
+    (rw (with_records-one told p.records r) (ends _ held e))
+    (λ i. absurd (other_than IsEnding f (λ n. n) e i)))
 
 -- ---- a file
 
@@ -170,7 +147,7 @@ pub begin_left : {T : Type 0} (H : T → Tapes → Type 0) (old w : SetState T) 
     → (IsEnding f → IsLeftBehind (H w.out) w told ⊎ IsLeftInside (H w.out) w more)
     → IsLeftUnbegun (H w.out) w (Write f) told ⊎ IsLeftOf (H w.out) w G (Write f) more records
 begin_left H old w G f told more records capacity n head shape due leaves held between ends =
-    let other = begin_other capacity n head shape f due in
+    let other = other_than (IsBeginFault capacity n head shape) f (λ n. n) due in
     refused_left H old w f _ told leaves held
     (λ same writing. inl (
       other,
@@ -197,17 +174,6 @@ left_more H w G G' fault told records f l = record {
   all = l.all;
 }
 
--- not all records of the file were written
-pub file_left : {T : Type 0} (H : Tapes → Type 0) (w : SetState T) (G G' : Type 0)
-    (fault : SetFault) (first told : List Told) (cut here : Cut) (over : Bool)
-    (input all : Option (List ℕ)) → (G → G') → all ≡ input → here ≡ cut → over ≡ false
-    → IfSome all (λ xs. IsLeftOf H w G fault told (to_come here over xs))
-    → IfSome input (λ bytes. IsLeftUnbegun H w fault first
-    ⊎ IsLeftOf H w G' fault told (records_of cut bytes))
-file_left H w G G' fault first told cut here over input all more a e f p =
-    IfSome_then input (in_input (IsLeftOf H w G fault told) cut here over input all a e f p)
-    (λ bytes l. inr (left_more H w G G' fault told (records_of cut bytes) more l))
-
 -- the end of the file was not written
 pub ended_left : {T : Type 0} (H : T → Tapes → Type 0) (mid w : SetState T) (f : WriteFault)
     (file : Opened) → IsInFile file mid.phase → Leaves mid w f
@@ -218,31 +184,28 @@ pub ended_left : {T : Type 0} (H : T → Tapes → Type 0) (mid w : SetState T) 
 ended_left H mid w f file is leaves ends told held =
     refused_left H mid w f _ told leaves held
     (λ same writing. inl (inside_writing (H w.out) (HoldsFront (H w.out)) w file told
-    (front_here (H w.out)) (subst (λ z. IsInFile file z.phase) (sym same) is) writing))
+    (front_here (H w.out)) (rw same is) writing))
     (ends told held)
 
 -- all records of the file were written, but not its end
 pub end_left : {T : Type 0} (H : Tapes → Type 0) (w : SetState T) (G : Type 0) (fault : SetFault)
-    (first told : List Told) (cut here : Cut) (over : Bool) (input all next : Option (List ℕ))
-    (mid : List Told → Type 0) → all ≡ input → here ≡ cut → over ≡ false
-    → IfKnown all next (λ xs ys. mid (with_records told (to_come here over xs)))
+    (told : List Told) (records : List ℕ → List (List ℕ)) (all next : Option (List ℕ))
+    (mid : List Told → Type 0) → IfKnown all next (λ xs ys. mid (with_records told (records xs)))
     → (IsOfInput fault → ⊥) → (fault ≡ Write faults.OutOfMemory → G)
     → ((t : List Told) → mid t → IsLeftInside H w t ⊎ IsLeftBehind H w t)
-    → IfSome input (λ bytes. IsLeftUnbegun H w fault first
-    ⊎ IsLeftOf H w G fault told (records_of cut bytes))
-end_left H w G fault first told cut here over input all next mid a e f put other grew left =
-    file_left H w G G fault first told cut here over input all (λ g. g) a e f
-    (known_all (IsLeftOf H w G fault told) told here over all next mid put (λ rs m. record {
-      front = rs;
+    → IfSome all (λ xs. IsLeftOf H w G fault told (records xs))
+end_left H w G fault told records all next mid put other grew left =
+    known_all all next _ _ (λ xs ys m. record {
+      front = records xs;
       back = [];
-      split = sym (append-nil rs);
+      split = sym (append-nil _);
       memory = λ e. inl (grew e);
       left = elim (left _ m) [
         | inl inside ↦ inl inside
         | inr ended ↦ inr (refl, ended)
       ];
       all = λ e. absurd (other e);
-    }))
+    }) put
 
 pub all_more : {T : Type 0} (H : Tapes → Type 0) (w : SetState T) (G G' : Type 0)
     (fault : SetFault) (first told : List Told) (cut : Cut) (input : Option (List ℕ)) → (G → G')

@@ -4,11 +4,10 @@ ghost use Rattle.std.specs.Prelude.{◌≡◌, ◌≢◌, ◌<◌, ◌≤◌, �
 ghost use Rattle.std.specs.Prelude.{Err, Some};
 ghost use Rattle.tape_blocks.specs.Packing.{IsWritable};
 ghost use Rattle.tape_set.specs.Tight.{least_capacity};
-ghost use Rattle.tape_writer.specs.{Fields.IsTextHead, Tapes.Ended, Tapes.Rose};
-ghost use Rattle.tape_writer.specs.Lasting.{LastsFirst, TapeLasts};
+ghost use Rattle.tape_writer.specs.{Fields.IsTextHead, Told.Told, Told.opened_by, Told.with_file};
+ghost use Rattle.tape_writer.specs.{Tapes.Ended, Tapes.Rose, Lasting.LastsFirst, Lasting.TapeLasts};
 ghost use Rattle.tape_writer.specs.Faults.{FailsByDevice, IsEnding};
 ghost use Rattle.tape_writer.specs.Front.{IsLeftBehind, IsLeftInside};
-ghost use Rattle.tape_writer.specs.Told.{Told, opened_by, with_file};
 ghost use Rattle.tape_writer.specs.State.{IsWriting, Leaves, Refuses, tape_of, HasAsked, SameSet};
 ghost use Rattle.tape_writer.specs.Refusals.{IsBeginFault, IsInFile, closed_by};
 ghost use Rattle.tape_writer.specs.declared.phase.Phase.TheVariants.{Between};
@@ -19,7 +18,6 @@ use crate::fault::WriteFault;
 use crate::fields::is_text_head;
 use crate::out::TapeOut;
 use crate::phase::{OpenFile, Phase};
-use crate::records::begin;
 use crate::set::SetWriter;
 use tape_blocks::{Packer, Shape};
 use tape_label::Head1;
@@ -43,7 +41,7 @@ impl<T: TapeOut + Drop> SetWriter<T> {
     /// the capacity is less than the block length plus 1,024 bytes; `TooMany` for the 10,000th
     /// file; after these faults the writer is unchanged. Then `OutOfMemory` or `Device`, whichever
     /// happens first.
-    #[tactic(auto, using(crate::proofs::Last::lasting_self, crate::proofs::Calls::leaves_failed))]
+    #[tactic(auto, using(crate::proofs::Calls::calls))]
     pub fn begin_file(&mut self, head: Head1, shape: Shape) -> Result<(), WriteFault>
         ensures same { SameSet self.old self.new }
         ensures closed { (fault : WriteFault) → closed_by self.old.phase ≡ Some fault
@@ -91,61 +89,13 @@ impl<T: TapeOut + Drop> SetWriter<T> {
             → (self.new.out ≡ self.old.out)
             ⊎ Rose (T.failures self.old.out).memory (T.failures self.new.out).memory) }
     {
-        if let Err(fault) = self.judge_file(&head, &shape) {
-            return Err(fault);
-        }
-        let Ok(packer) = Packer::new(self.alloc, shape) else {
-            self.phase = Phase::Failed;
-            return Err(WriteFault::OutOfMemory);
-        };
-        let file = self.next_file(head, shape);
-        widths(&file.head);
-        if self.files.push(file).is_err() {
-            self.phase = Phase::Failed;
-            return Err(WriteFault::OutOfMemory);
-        }
-        match begin(&mut self.tape, &file, &self.volumes, self.capacity) {
-            Ok(()) => {
-                self.phase = Phase::Filing(OpenFile { file, packer });
-                Ok(())
-            }
-            Err(fault) => {
-                self.phase = Phase::Failed;
-                Err(fault)
-            }
-        }
-    }
-
-    /// Checks that a file with this head and shape can begin now.
-    fn judge_file(&self, head: &Head1, shape: &Shape) -> Result<(), WriteFault>
-        ensures closed { (fault : WriteFault) → closed_by self.now.phase ≡ Some fault
-            → result ≡ Err fault }
-        ensures field { self.now.phase ≡ Between → (IsTextHead head.now → ⊥)
-            → result ≡ Err WriteFault.BadField }
-        ensures shape { self.now.phase ≡ Between → IsTextHead head.now
-            → (IsWritable shape.now → ⊥) → result ≡ Err WriteFault.BadShape }
-        ensures capacity { self.now.phase ≡ Between → IsTextHead head.now → IsWritable shape.now
-            → self.now.capacity < least_capacity shape.now
-            → result ≡ Err WriteFault.CapacityTooSmall }
-        ensures many { self.now.phase ≡ Between → IsTextHead head.now → IsWritable shape.now
-            → least_capacity shape.now ≤ self.now.capacity → 9999 ≤ length self.now.files
-            → result ≡ Err WriteFault.TooMany }
-        ensures ok { OnOk result ((self.now.phase ≡ Between) × IsTextHead head.now
-            × IsWritable shape.now × (least_capacity shape.now ≤ self.now.capacity)
-            × (length self.now.files < 9999)) }
-        ensures due { self.now.phase ≡ Between → IfErr result
-            (IsBeginFault self.now.capacity (length self.now.files) head.now shape.now) }
-        ensures leaves { IfErr result (λ fault. Leaves self.now self.now fault) }
-        ensures cause { IfErr result (λ fault. fault ≢ WriteFault.Device) }
-        ensures ending { IfErr result (λ fault. IsEnding fault → ⊥) }
-    {
         match self.phase {
             Phase::Between => {}
             Phase::Filing(_) => return Err(WriteFault::FileBegun),
             Phase::Failed => return Err(WriteFault::Failed),
             Phase::Finished => return Err(WriteFault::Finished),
         }
-        if !is_text_head(head) {
+        if !is_text_head(&head) {
             return Err(WriteFault::BadField);
         }
         if !shape.is_writable() {
@@ -157,6 +107,21 @@ impl<T: TapeOut + Drop> SetWriter<T> {
         if self.files.len() >= MOST_FILES {
             return Err(WriteFault::TooMany);
         }
+        let file = self.next_file(head, shape);
+        widths(&file.head);
+        // From here on every fault ends the writer.
+        self.phase = Phase::Failed;
+        let Ok(packer) = Packer::new(self.alloc, shape) else {
+            return Err(WriteFault::OutOfMemory);
+        };
+        if self.files.push(file).is_err() {
+            return Err(WriteFault::OutOfMemory);
+        }
+        if self.tape.course.volume == 0 {
+            self.tape.begin_volume(&self.volumes[0])?;
+        }
+        self.tape.begin_section(&file, 1)?;
+        self.phase = Phase::Filing(OpenFile { file, packer });
         Ok(())
     }
 

@@ -14,8 +14,14 @@ ghost use Rattle.tape_writer.specs.declared.phase.Phase.TheVariants.{Between, Fa
 use crate::fault::{WriteFault, fault_of};
 use crate::out::TapeOut;
 use crate::phase::Phase;
-use crate::records::put_record;
+use crate::records::{VOLUME_END, flush, put_record};
 use crate::set::SetWriter;
+
+/// The size of the end of a file: a mark, EOF1, EOF2 and a mark.
+const FILE_END: u32 = 184;
+
+/// The size of the headers of one more file: HDR1, HDR2 and a mark.
+const HEADERS: u32 = 180;
 
 impl<T: TapeOut + Drop> SetWriter<T> {
     /// Writes a record into the current file. Each block is written as soon as it is full, on the
@@ -95,7 +101,7 @@ impl<T: TapeOut + Drop> SetWriter<T> {
     /// Returns `Failed`, `Finished` or `NoFile` depending on the writer's state, which is
     /// unchanged; then, whichever happens first, `OutOfVolumes` if the volume must be changed and
     /// no volume is left, `Device` or `OutOfMemory`.
-    #[tactic(auto, using(crate::proofs::Last::lasting_self, crate::proofs::Calls::leaves_failed))]
+    #[tactic(auto, using(crate::proofs::Calls::calls))]
     pub fn end_file(&mut self) -> Result<(), WriteFault>
         ensures same { SameSet self.old self.new }
         ensures failed { self.old.phase ≡ Failed
@@ -122,25 +128,24 @@ impl<T: TapeOut + Drop> SetWriter<T> {
         ensures leaves { IfErr result (Leaves self.old self.new) }
         ensures cause { FailsWith (T.failures self.old.out) result (T.failures self.new.out) }
     {
-        let file = match &mut self.phase {
-            Phase::Filing(file) => file,
+        let open = match &mut self.phase {
+            Phase::Filing(open) => open,
             Phase::Between => return Err(WriteFault::NoFile),
             Phase::Failed => return Err(WriteFault::Failed),
             Phase::Finished => return Err(WriteFault::Finished),
         };
-        match self
-            .tape
-            .end_file(&mut file.packer, &file.file, &self.volumes, self.capacity)
-        {
-            Ok(()) => {
-                self.phase = Phase::Between;
-                Ok(())
-            }
-            Err(fault) => {
-                self.phase = Phase::Failed;
-                Err(fault)
-            }
-        }
+        let file = open.file;
+        let volumes = self.volumes.as_slice();
+        let capacity = self.capacity;
+        let flushed = flush(&mut self.tape, &mut open.packer, &file, volumes, capacity);
+        // From here on every fault ends the writer.
+        self.phase = Phase::Failed;
+        flushed?;
+        self.tape
+            .make_room(&file, volumes, capacity, FILE_END + HEADERS + VOLUME_END)?;
+        self.tape.end_section(&file, true)?;
+        self.phase = Phase::Between;
+        Ok(())
     }
 
     /// Ends the set: writes the second mark of its last volume and the end-of-medium marker.
@@ -150,7 +155,7 @@ impl<T: TapeOut + Drop> SetWriter<T> {
     /// Returns `Failed` or `Finished` depending on the writer's state; `FileBegun` inside a file;
     /// `NoFile` before the first file; after these faults the writer is unchanged. Then `Device` or
     /// `OutOfMemory`, whichever happens first.
-    #[tactic(auto, using(crate::proofs::Last::kept, crate::proofs::Calls::leaves_failed))]
+    #[tactic(auto, using(crate::proofs::Calls::calls))]
     pub fn finish(&mut self) -> Result<(), WriteFault>
         ensures same { SameSet self.old self.new }
         ensures failed { self.old.phase ≡ Failed

@@ -1,98 +1,67 @@
 -- The current block is written, in the current section or after a change of the volume.
-use Rattle.tape_writer.proofs.Words.{rules, arith, refl, ◌∷◌, [], Ok, err_from_is_err_and, block}
-use Rattle.tape_writer.proofs.{Words.item_size, Words.lt-leb, Held.write_here, Held.write_next}
-use Rattle.tape_writer.proofs.{Room.flushed_here, Fronts.took, Fronts.front_items, Fronts.err_any}
-use Rattle.tape_writer.proofs.Last.{lasting_self}
-use Rattle.tape_writer.specs.{Draft.added_course, Draft.changed_course, Front.HoldsFront}
+use Rattle.tape_writer.proofs.Words.{◌+◌, arith, ap, ◌∷◌, [], err_from_is_err_and, block, item_size}
+use Rattle.tape_writer.proofs.{Words.lt-leb, Held.fits_next, Held.written, Room.flushed_room}
+use Rattle.tape_writer.proofs.{Fronts.front_here, Fronts.front_items, Fronts.err_any}
+use Rattle.tape_writer.proofs.{Last.lasting_self, Words.Filled}
+use Rattle.tape_writer.specs.Draft.{added_course, changed_course}
+use Rattle.tape_writer.specs.declared.course.Course.{Course}
 use Rattle.tape_writer.proofs.records.flush.Goals as goal
 
 pub returns-in_default-clause-lasting : goal.returns-in_default-clause-lasting
 returns-in_default-clause-lasting g c = lasting_self _ _ _
 
-pub returns-in_default-get-clause-lasting : goal.returns-in_default-get-clause-lasting
-returns-in_default-get-clause-lasting g c = lasting_self _ _ _
+pub returns-in_err-make_room-clause-stuck : goal.returns-in_err-make_room-clause-stuck
+returns-in_err-make_room-clause-stuck g c =
+    let p = err_from_is_err_and c.from_residual.result c.from_residual.ensures.1 in
+    rw (p.1, p.2) (λ e.
+    let q = c.in_err-make_room.ensures.stuck e in (
+      q.0,
+      record {
+        text = c.in-Some.block.now;
+        given = c.in-Some.ensures.found;
+        none_left = q.1;
+        due = lt-leb _ _ (omega (arith, q.2));
+      },
+    ))
 
-pub returns-in_default-get-clause-stuck : goal.returns-in_default-get-clause-stuck
-returns-in_default-get-clause-stuck g c = λ e. (
-  refl,
-  record {
-    text = c.in-Some.block.now;
-    given = c.in-Some.ensures.found;
-    none_left = search rules;
-    due = lt-leb _ _ (let due = c.has_room.ensures.no (search rules) in omega (arith, due));
-  },
-)
+pub returns-clause-room : goal.returns-clause-room
+returns-clause-room g c = flushed_room _ _ _ c.make_room.new.self.course _ _ _ c.in-Some.block.now
+    c.in-Some.ensures.found c.take_block.follows.holds-at-none c.in_ok-make_room.ensures.course
+    (omega (arith, c.in_ok-make_room.ensures.room))
+    (ap (λ (k : Course). record k { count = k.count + 1 }) c.in_ok-block.ensures.course)
 
--- ---- the room that is left
-
-pub returns-then-has_room-clause-room : goal.returns-then-has_room-clause-room
-returns-then-has_room-clause-room g c = flushed_here _ _ _ _ _ _ _ _ c.in-Some.ensures.found
-    c.take_block.follows.holds-at-none (let fits = c.has_room.ensures.yes (search rules) in omega
-    (arith, fits)) c.add_block.ensures.course
-
--- ---- the draft
-
-pub returns-then-has_room-clause-flushed : goal.returns-then-has_room-clause-flushed
-returns-then-has_room-clause-flushed g c = λ some set_id d o. write_here
-    (g.T.TapeOut.holds c.args.tape.now.out) (g.T.TapeOut.holds c.add_block.new.self.out) _ _ set_id
-    _ _ _ d _ _ _ c.in-Some.ensures.found c.requires.shape o (let fits = c.has_room.ensures.yes
-    (search rules) in omega (arith, fits)) c.add_block.ensures.ok c.add_block.ensures.course
+-- ---- the draft, or a prefix of its items
 
 pub returns-clause-flushed : goal.returns-clause-flushed
-returns-clause-flushed g c = λ some set_id d o. write_next
-    (g.T.TapeOut.holds c.args.tape.now.out) (g.T.TapeOut.holds c.change_to.new.self.out)
-    (g.T.TapeOut.holds c.add_block-2.new.self.out) _ _ set_id _ _ _ _ d _ _ _ _ _
-    c.in-Some.ensures.found c.requires.shape o
-    (let due = c.has_room.ensures.no (search rules) in omega (arith, due)) (search rules)
-    c.in-Some-get.ensures.lookup.3.0 c.in-Some-get.ensures.lookup.1 c.requires.wide
-    c.requires.volumes c.requires.capacity (omega arith) c.in_ok-change_to.ensures.ok
-    c.in_ok-change_to.ensures.course c.add_block-2.ensures.ok c.add_block-2.ensures.course
+returns-clause-flushed g c = λ some set_id d o.
+    let b : Filled = record { bytes = c.in-Some.block.now; parts = c.args.packer.now.parts } in
+    rw c.in_ok-block.ensures.course (written c.in-Some.ensures.found c.requires.shape
+    (omega (arith, c.in_ok-make_room.ensures.room)) c.in_ok-block.ensures.ok
+    (c.in_ok-make_room.ensures.place set_id d o (b ∷ []) (λ due. lt-leb _ _ (omega (arith, due)))))
 
--- ---- or a prefix of its items
-
-pub returns-then-has_room-clause-front : goal.returns-then-has_room-clause-front
-returns-then-has_room-clause-front g c = λ some set_id d o. err_any c.add_block.result _ (λ f not.
-    let text = c.in-Some.block.now in
-    let old = g.T.TapeOut.holds c.args.tape.now.out in
-    let K = g.T.TapeOut.holds c.add_block.new.self.out in (
-      added_course c.args.tape.now.course (item_size (block text)),
-      write_here old (HoldsFront K) _ _ set_id _ _ _ d _ text (Ok tt) c.in-Some.ensures.found
-          c.requires.shape o (let fits = c.has_room.ensures.yes (search rules) in omega
-          (arith, fits)) (took old K (block text ∷ []) _ c.add_block.ensures.ok
-          c.add_block.ensures.err) refl,
-    ))
-
-pub returns-in_err-change_to-clause-front : goal.returns-in_err-change_to-clause-front
-returns-in_err-change_to-clause-front g c =
+pub returns-in_err-make_room-clause-front : goal.returns-in_err-make_room-clause-front
+returns-in_err-make_room-clause-front g c =
     let p = err_from_is_err_and c.from_residual.result c.from_residual.ensures.1 in
     rw (p.1, p.2) (λ some set_id d o not.
-    let text = c.in-Some.block.now in
-    let H = g.T.TapeOut.holds c.change_to.new.self.out in
-    let one = changed_course c.args.tape.now.course in
-    let two = added_course one (item_size (block text)) in (
-      two,
-      write_next (g.T.TapeOut.holds c.args.tape.now.out) (HoldsFront H) (HoldsFront H)
-          c.args.volumes.now c.args.capacity set_id c.args.file.now c.args.tape.now.course one two d
-          c.args.packer.now text c.in-Some-get.volume.now c.from.result (Ok tt)
-          c.in-Some.ensures.found c.requires.shape o
-          (let due = c.has_room.ensures.no (search rules) in omega (arith, due)) (search rules)
-          c.in-Some-get.ensures.lookup.3.0 c.in-Some-get.ensures.lookup.1 c.requires.wide
-          c.requires.volumes c.requires.capacity (omega arith) c.change_to.ensures.front refl
-          (λ past items h. front_items H past items (block text ∷ []) h) refl,
+    let b : Filled = record { bytes = c.in-Some.block.now; parts = c.args.packer.now.parts } in (
+      added_course (changed_course c.args.tape.now.course) (item_size (block b.bytes)),
+      written c.in-Some.ensures.found c.requires.shape (fits_next _ _ _ _ c.requires.shape
+          c.in-Some.ensures.found c.requires.capacity)
+          (λ vs items h. front_items _ vs items (block b.bytes ∷ []) h)
+          (c.in_err-make_room.ensures.front set_id d o (b ∷ [])
+          (λ due. lt-leb _ _ (omega (arith, due))) not),
     ))
 
-pub returns-clause-front : goal.returns-clause-front
-returns-clause-front g c = λ some set_id d o. err_any c.add_block-2.result _ (λ f not.
-    let text = c.in-Some.block.now in
-    let H = g.T.TapeOut.holds c.change_to.new.self.out in
-    let K = g.T.TapeOut.holds c.add_block-2.new.self.out in
-    let two = added_course c.change_to.new.self.course (item_size (block text)) in (
-      two,
-      write_next (g.T.TapeOut.holds c.args.tape.now.out) H (HoldsFront K) _ _ set_id _ _ _ two d _
-          text _ _ (Ok tt) c.in-Some.ensures.found c.requires.shape o
-          (let due = c.has_room.ensures.no (search rules) in omega (arith, due)) (search rules)
-          c.in-Some-get.ensures.lookup.3.0 c.in-Some-get.ensures.lookup.1 c.requires.wide
-          c.requires.volumes c.requires.capacity (omega arith) c.in_ok-change_to.ensures.ok
-          c.in_ok-change_to.ensures.course (took H K (block text ∷ []) _ c.add_block-2.ensures.ok
-          c.add_block-2.ensures.err) refl,
+pub returns-in_err-block-clause-front : goal.returns-in_err-block-clause-front
+returns-in_err-block-clause-front g c = λ some set_id d o.
+    err_any c.from_residual-in_err-block.result _ (λ f not.
+    let b : Filled = record { bytes = c.in-Some.block.now; parts = c.args.packer.now.parts } in
+    let K = g.T.TapeOut.holds c.block.new.self.out in (
+      added_course c.make_room.new.self.course (item_size (block b.bytes)),
+      written c.in-Some.ensures.found c.requires.shape
+          (omega (arith, c.in_ok-make_room.ensures.room))
+          (λ vs items h. front_items K vs items (block b.bytes ∷ [])
+          (front_here K _ (c.in_err-block.ensures.err _ h)))
+          (c.in_ok-make_room.ensures.place set_id d o (b ∷ [])
+          (λ due. lt-leb _ _ (omega (arith, due)))),
     ))

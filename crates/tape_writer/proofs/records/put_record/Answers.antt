@@ -1,14 +1,12 @@
 -- The record's end, and one more block.
-use Rattle.tape_writer.proofs.Words.{rules, arith, length, ◌≡◌, refl, ◌∙◌, ◌++◌, ◌∷◌, [], sym}
-use Rattle.tape_writer.proofs.Words.{subst, ap, inl, inr, err_from_is_err_and, Packing, IsWritable}
+use Rattle.tape_writer.proofs.Words.{rules, arith, length, refl, ◌∙◌, sym}
+use Rattle.tape_writer.proofs.Words.{ap, inl, inr, err_from_is_err_and, Packing}
 use Rattle.tape_writer.proofs.Packed.{packing_first, packing_last, packing_with, judged_next}
 use Rattle.tape_writer.proofs.{Words.offers_shape, Packed.judged_more, Stuck.stuck_put}
 use Rattle.tape_writer.proofs.Room.{begun_spanned, offered_room, taken_room}
 use Rattle.tape_writer.proofs.{Left.mid_left, Last.lasting_then, Last.lasting_self}
 use Rattle.std.proofs.lemmas.List.{take_rest}
-use Rattle.tape_writer.specs.Inside.{IsStuck}
 use Rattle.tape_blocks.specs.declared.offer.Offer.TheVariants.{BlockReady}
-use Rattle.tape_label.specs.declared.values.Format.TheVariants.{Spanned}
 use Rattle.tape_writer.proofs.records.put_record.Goals as goal
 
 pub offers-init : goal.offers-init
@@ -21,13 +19,13 @@ offers-init g c = record {
   judged = inl (refl, refl, refl);
   lasting = lasting_self _ _ _;
   asked = λ w. w;
-  packing = λ set_id fs records k. packing_first _ _ _ _ _ _ _ _ _ _ k;
+  packing = λ set_id fs records k. packing_first _ _ k;
 }
 
 pub returns-in-Ok-Taken-clause-packed : goal.returns-in-Ok-Taken-clause-packed
 returns-in-Ok-Taken-clause-packed g c = λ set_id fs records k.
     let offers = rw c.in-Ok-Taken.field-0-is at c.in-Ok-Taken.ensures.ok in
-    packing_last _ _ _ _ _ _ _ _ _ _ _ _ c.in-Ok-Taken.ensures.judged offers
+    packing_last _ _ _ _ c.in-Ok-Taken.ensures.judged offers
     (c.offers.invariant.packing set_id fs records k)
 
 pub offers-preserved : goal.offers-preserved
@@ -64,7 +62,7 @@ offers-preserved g c =
       packing = λ set_id fs records k.
           rw (take_rest c.offers.rest.now c.in-Ok-BlockReady.taken)
           (let now = c.offers.invariant.packing set_id fs records k in
-          packing_with _ _ _ _ _ _ _ _ _ _ _ _ _ _ _ _ c.in-Ok-BlockReady.ensures.judged offers
+          packing_with _ _ _ _ _ c.in-Ok-BlockReady.ensures.judged offers
           c.in_ok-flush-in-Ok-BlockReady.ensures.emptied now
           (c.in_ok-flush-in-Ok-BlockReady.ensures.flushed offers.0 set_id now.draft now.is_open));
     }
@@ -76,9 +74,7 @@ returns-in_err-flush-in-Ok-BlockReady-clause-stuck g c =
     let p = err_from_is_err_and c.from_residual.result c.from_residual.ensures.1 in
     rw (p.1, p.2) (λ e set_id fs records k.
     let q = c.in_err-flush-in-Ok-BlockReady.ensures.stuck e in
-    subst (λ t. IsStuck (g.T.TapeOut.holds t.out) c.args.volumes.now c.args.capacity
-    set_id c.args.file.now t.course fs (records ++ c.args.whole.now ∷ [])) (sym q.0)
-    (stuck_put _ _ _ _ _ _ _ _ _ _ _ _ _ c.in-Ok-BlockReady.ensures.judged offers
+    rw q.0 (stuck_put _ _ _ _ _ c.in-Ok-BlockReady.ensures.judged offers
     (c.offers.invariant.packing set_id fs records k) q.1))
 
 pub returns-in-Ok-Taken-clause-room : goal.returns-in-Ok-Taken-clause-room
@@ -89,8 +85,8 @@ returns-in-Ok-Taken-clause-room g c =
       arith,
       c.offers.invariant.room,
       taken_room (length c.args.volumes.now) c.args.capacity c.offers.tape.course c.offers.packer
-          c.offer.new.self c.offers.rest.now (subst IsWritable shape c.requires.ready.writable)
-          (λ e. subst (λ s. s.format ≡ Spanned) shape (c.offers.invariant.begun e))
+          c.offer.new.self c.offers.rest.now (rw shape at c.requires.ready.writable)
+          (λ e. rw shape at (c.offers.invariant.begun e))
           c.in-Ok-Taken.ensures.judged offers,
     )
 
@@ -100,8 +96,8 @@ returns-in_err-flush-in-Ok-BlockReady-clause-front g c =
     let offers = rw c.in-Ok-BlockReady.field-0-is at c.in-Ok-BlockReady.ensures.ok in
     let p = err_from_is_err_and c.from_residual.result c.from_residual.ensures.1 in
     rw (p.1, p.2) (λ set_id fs records k not.
-    mid_left _ _ _ _ _ _ _ _ _ _ _ _ _ _ _ c.in-Ok-BlockReady.ensures.judged offers
-    (λ e t h. subst (λ z. g.T.TapeOut.holds z.out t)
-    (sym (c.in_err-flush-in-Ok-BlockReady.ensures.stuck e).0) h)
+    mid_left {H = g.T.TapeOut.holds c.offers.tape.out} {K = g.T.TapeOut.holds c.flush.new.tape.out}
+    _ (λ e t h. rw (c.in_err-flush-in-Ok-BlockReady.ensures.stuck e).0 h) _ _ _ _ _
+    c.in-Ok-BlockReady.ensures.judged offers
     (λ d o other. c.in_err-flush-in-Ok-BlockReady.ensures.front offers.0 set_id d o other)
     (c.offers.invariant.packing set_id fs records k))

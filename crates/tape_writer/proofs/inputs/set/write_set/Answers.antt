@@ -1,18 +1,18 @@
-use Rattle.tape_writer.proofs.Words.{◌≤◌, [], ap, sym, subst, ◌∙◌, map, inl, inr, refl}
-use Rattle.tape_writer.proofs.{Words.least_capacity, Last.rose_none, Fronts.behind_writing}
-use Rattle.tape_writer.proofs.inputs.Refusing.{head_fault}
-use Rattle.tape_writer.proofs.inputs.Filing.{set_of_images, if_cut, all_known, of_plan}
-use Rattle.tape_writer.proofs.inputs.Leaving.{left_without, refused_left, finish_other}
-use Rattle.tape_writer.specs.{LeftOf.GaveUpIn, LeftOf.IsLeftOfAll, Images.Holds}
-use Rattle.tape_writer.specs.WriteFaults.{IsFaultOfCut, IsFilesFault, IsOfWriter}
-use Rattle.tape_writer.specs.{Refusals.IsFinishFault, ToldFiles.IfAllKnown, ToldFiles.told_files}
-use Rattle.tape_writer.specs.WriteSet.{IsSetOfImages}
+use Rattle.tape_writer.proofs.Words.{◌≡◌, subst, List, Head1, Option, ℕ, [], ap, sym, ◌∙◌, map, inl}
+use Rattle.tape_writer.proofs.{Words.inr, Words.refl, Last.rose_none, inputs.Refusing.head_fault}
+use Rattle.tape_writer.proofs.Fronts.{behind_writing}
+use Rattle.tape_writer.proofs.inputs.Filing.{set_of_images, all_known, of_plan}
+use Rattle.tape_writer.proofs.inputs.Leaving.{left_without, refused_left, other_than}
+use Rattle.tape_writer.specs.{ToldFiles.told_files, Refusals.IsFinishFault}
+use Rattle.tape_writer.specs.{WriteSet.IsSetOfImages, LeftOf.GaveUpIn, LeftOf.IsLeftOfAll}
+use Rattle.tape_writer.specs.{declared.fault.WriteFault.TheVariants.OutOfVolumes, Images.Holds}
 use Rattle.tape_writer.proofs.inputs.set.write_set.Goals as goal
 
 pub returns-clause-written : goal.returns-clause-written
 returns-clause-written g c fresh =
     let plan = c.args.plan in
-    let inputs = map (λ f. (f.head, g.R.Read.remaining f.reader)) c.args.files.now in
+    let inputs : List (Head1 × Option (List ℕ)) =
+    map (λ f. (f.head, g.R.Read.remaining f.reader)) c.args.files.now in
     let begun = c.in-Ok.ensures.told (c.new-tapes.ensures.held fresh) in
     let made = c.in-Ok.ensures.made in
     let told = c.in_default-write_files.ensures.told [] begun in
@@ -27,10 +27,7 @@ returns-clause-written g c fresh =
     ∙ ap (λ w. w.set_id) made in
     let store = c.into_parts-images.ensures.store
     ∙ ap (λ t. t.store) c.into_parts-tapes.ensures.out in
-    if_cut (λ cut. IfAllKnown inputs (λ fs.
-    IsSetOfImages (H images) plan.volumes.items plan.capacity plan.set_id
-    (told_files plan.set_id plan.shape cut 1 fs))) _ _ c.in-Some.cut c.in-Some.is c.cut_of.ensures
-    (all_known inputs _ _ told (λ fs w.
+    rw (sym c.cut_of.ensures ∙ c.in-Some.is) (all_known inputs _ _ told (λ fs w.
     subst (λ s. IsSetOfImages (H images) plan.volumes.items plan.capacity plan.set_id
     (told_files s plan.shape c.in-Some.cut 1 fs)) (ap (λ w. w.set_id) made)
     (set_of_images H whole images plan.volumes.items plan.capacity plan.set_id _
@@ -41,32 +38,33 @@ returns-clause-written g c fresh =
 
 pub returns-in-Err-write_files-clause-stuck : goal.returns-in-Err-write_files-clause-stuck
 returns-in-Err-write_files-clause-stuck g c fresh = λ e.
-    let inputs = map (λ f. (f.head, g.R.Read.remaining f.reader)) c.args.files.now in
+    let inputs : List (Head1 × Option (List ℕ)) =
+    map (λ f. (f.head, g.R.Read.remaining f.reader)) c.args.files.now in
     let left = c.left-in-Err-write_files in
-    inr (of_plan c.args.plan _ _ c.write_files.new.writer _ _ _
-    (λ cut s w. GaveUpIn (Holds g.S.ImageStore.holds w.out) w s [] c.args.plan.shape cut inputs) _ _
-    c.in-Some.is c.cut_of.ensures c.in-Ok.ensures.made (refl, refl, refl) c.write_files.ensures.same
+    inr (rw (sym c.cut_of.ensures ∙ c.in-Some.is) (of_plan c.args.plan _ _ c.write_files.new.writer
+    _ _ _ (λ s w. GaveUpIn (Holds g.S.ImageStore.holds w.out) w s [] c.args.plan.shape
+    c.in-Some.cut inputs) c.in-Ok.ensures.made (refl, refl, refl) c.write_files.ensures.same
     c.into_out-in-Err-write_files.ensures left.ensures.images left.ensures.under_way
     (c.in-Err-write_files.ensures.stuck (sym left.ensures.fault ∙ e) []
-    (c.in-Ok.ensures.told (c.new-tapes.ensures.held fresh))))
+    (c.in-Ok.ensures.told (c.new-tapes.ensures.held fresh)))))
 
 pub returns-in-Err-write_files-clause-front : goal.returns-in-Err-write_files-clause-front
 returns-in-Err-write_files-clause-front g c fresh =
     let plan = c.args.plan in
-    let inputs = map (λ f. (f.head, g.R.Read.remaining f.reader)) c.args.files.now in
+    let inputs : List (Head1 × Option (List ℕ)) =
+    map (λ f. (f.head, g.R.Read.remaining f.reader)) c.args.files.now in
     let made = c.in-Ok.ensures.made in
     let whole = c.write_files.new.writer in
     let left = c.left-in-Err-write_files in
     let H = g.S.ImageStore.holds in
     let out = c.in-Err-write_files.ensures.front (ap (λ w. w.phase) made) []
     (c.in-Ok.ensures.told (c.new-tapes.ensures.held fresh)) in
-    inr (of_plan plan _ _ whole _ _ _ (λ cut s w.
-    IsLeftOfAll (Holds H w.out) w ⊥ left.result.fault s [] plan.shape cut inputs) _ _ c.in-Some.is
-    c.cut_of.ensures made (refl, refl, refl) c.write_files.ensures.same
+    inr (rw (sym c.cut_of.ensures ∙ c.in-Some.is) (of_plan plan _ _ whole _ _ _ (λ s w.
+    IsLeftOfAll (Holds H w.out) w ⊥ left.result.fault s [] plan.shape c.in-Some.cut inputs)
+    made (refl, refl, refl) c.write_files.ensures.same
     c.into_out-in-Err-write_files.ensures left.ensures.images left.ensures.under_way
-    (subst (λ f. IsLeftOfAll (Holds H whole.out) whole ⊥ f c.in-Ok.writer.set_id [] plan.shape
-    c.in-Some.cut inputs) (sym left.ensures.fault) (left_without (Holds H whole.out) _ _ _ _ []
-    plan.shape _ _ rose_none (inl out))))
+    (rw left.ensures.fault (left_without (Holds H whole.out) _ _ _ _ [] plan.shape _ _ rose_none
+    (inl out)))))
 
 pub returns-in-Err-write_files-clause-unfit : goal.returns-in-Err-write_files-clause-unfit
 returns-in-Err-write_files-clause-unfit g c unfit some =
@@ -74,9 +72,7 @@ returns-in-Err-write_files-clause-unfit g c unfit some =
     let left = c.left-in-Err-write_files in
     let back = c.into_out-in-Err-write_files in
     let kept = (c.in-Err-write_files.ensures.unfit (ap (λ w. w.phase) made)
-    (λ writable room. unfit writable
-    (subst (λ d. least_capacity c.args.plan.shape ≤ d) (ap (λ w. w.capacity) made) room)) some).0
-    in (
+    (rw (ap (λ w. w.capacity) made) unfit) some).0 in (
       left.ensures.images ∙ (ap (λ t. t.store) back.ensures ∙ (ap (λ w. w.out.store) kept
           ∙ (ap (λ w. w.out.store) made ∙ c.new-tapes.ensures.store))),
       left.ensures.under_way ∙ (ap (λ t. t.image) back.ensures ∙ (ap (λ w. w.out.image) kept
@@ -89,13 +85,14 @@ pub returns-in-Err-finish-clause-stuck : goal.returns-in-Err-finish-clause-stuck
 returns-in-Err-finish-clause-stuck g c fresh = λ e.
     let between = (c.in_default-write_files.ensures.stands
     (ap (λ w. w.phase) c.in-Ok.ensures.made)).0 in
-    absurd (subst (IsOfWriter (IsFinishFault c.write_files.new.writer.course.volume))
-    (sym c.left-in-Err-finish.ensures.fault ∙ e) (c.in-Err-finish.ensures.due between))
+    let fault : c.in-Err-finish.fault ≡ OutOfVolumes = cc in
+    absurd (rw fault at (c.in-Err-finish.ensures.due between))
 
 pub returns-in-Err-finish-clause-front : goal.returns-in-Err-finish-clause-front
 returns-in-Err-finish-clause-front g c fresh =
     let plan = c.args.plan in
-    let inputs = map (λ f. (f.head, g.R.Read.remaining f.reader)) c.args.files.now in
+    let inputs : List (Head1 × Option (List ℕ)) =
+    map (λ f. (f.head, g.R.Read.remaining f.reader)) c.args.files.now in
     let made = c.in-Ok.ensures.made in
     let between = (c.in_default-write_files.ensures.stands (ap (λ w. w.phase) made)).0 in
     let whole = c.finish.new.self in
@@ -103,14 +100,14 @@ returns-in-Err-finish-clause-front g c fresh =
     let H = g.S.ImageStore.holds in
     let one = c.write_files.ensures.same in
     let two = c.finish.ensures.same in
-    inr (of_plan plan _ _ whole _ _ _ (λ cut s w.
-    IsLeftOfAll (Holds H w.out) w ⊥ left.result.fault s [] plan.shape cut inputs) _ _ c.in-Some.is
-    c.cut_of.ensures made (refl, refl, refl) (two.0 ∙ one.0, two.1 ∙ one.1, two.2 ∙ one.2)
+    inr (rw (sym c.cut_of.ensures ∙ c.in-Some.is) (of_plan plan _ _ whole _ _ _ (λ s w.
+    IsLeftOfAll (Holds H w.out) w ⊥ left.result.fault s [] plan.shape c.in-Some.cut inputs)
+    made (refl, refl, refl) (two.0 ∙ one.0, two.1 ∙ one.1, two.2 ∙ one.2)
     c.into_out-in-Err-finish.ensures left.ensures.images left.ensures.under_way
-    (subst (λ f. IsLeftOfAll (Holds H whole.out) whole ⊥ f c.in-Ok.writer.set_id [] plan.shape
-    c.in-Some.cut inputs) (sym left.ensures.fault) (inr (
+    (rw left.ensures.fault (inr (
       λ e. rose_none (c.in-Err-finish.ensures.cause.1 cc),
-      finish_other _ c.in-Err-finish.fault (c.in-Err-finish.ensures.due between),
+      other_than (IsFinishFault _) c.in-Err-finish.fault (λ n. n)
+          (c.in-Err-finish.ensures.due between),
       all_known inputs _ _ (c.in_default-write_files.ensures.told []
           (c.in-Ok.ensures.told (c.new-tapes.ensures.held fresh))) (λ fs w.
           refused_left (Holds H) c.write_files.new.writer whole c.in-Err-finish.fault _ _
@@ -118,24 +115,19 @@ returns-in-Err-finish-clause-front g c fresh =
           (λ same writing. inl (behind_writing (Holds H whole.out) whole _
           (ap (λ w. w.phase) same ∙ between) writing))
           (λ e. inr (c.in-Err-finish.ensures.front _ w e))),
-    ))))
+    )))))
 
 pub returns-in-Err-finish-clause-unfit : goal.returns-in-Err-finish-clause-unfit
 returns-in-Err-finish-clause-unfit g c unfit some =
     let made = c.in-Ok.ensures.made in
     absurd (c.in_default-write_files.ensures.unfit (ap (λ w. w.phase) made)
-    (λ writable room. unfit writable
-    (subst (λ d. least_capacity c.args.plan.shape ≤ d) (ap (λ w. w.capacity) made) room)) some).1
+    (rw (ap (λ w. w.capacity) made) unfit) some).1
 
 -- ---- a head cannot be written
 
 pub returns-then-not-are_text_heads-clause-due : goal.returns-then-not-are_text_heads-clause-due
 returns-then-not-are_text_heads-clause-due g c =
     let plan = c.args.plan in
-    let inputs = map (λ f. (f.head, g.R.Read.remaining f.reader)) c.args.files.now in
-    let left = c.left-then-not-are_text_heads in
-    subst (λ k. IsFaultOfCut plan inputs k left.result.fault)
-    (sym (sym c.cut_of.ensures ∙ c.in-Some.is)) (inr (inl (subst
-    (IsFilesFault plan.capacity plan.shape c.in-Some.cut 0 inputs) (sym left.ensures.fault)
-    (head_fault _ (λ f. (f.head, g.R.Read.remaining f.reader)) plan.capacity plan.shape _ 0 _
-    (λ all. cc (c.if-not-are_text_heads.ensures.1 all))))))
+    rw (sym c.cut_of.ensures ∙ c.in-Some.is, c.left-then-not-are_text_heads.ensures.fault)
+    (inr (inl (head_fault _ (λ f. (f.head, g.R.Read.remaining f.reader)) plan.capacity plan.shape _
+    0 _ (λ all. cc (c.if-not-are_text_heads.ensures.1 all)))))

@@ -1,50 +1,33 @@
-use Rattle.tape_writer.proofs.Words.{rules, ◌∷◌, [], Ok, mark, sym, ap, ◌∙◌}
-use Rattle.tape_writer.specs.{Tapes.UnderWay, Front.HoldsFront, declared.course.Course.Course}
+use Rattle.tape_writer.proofs.Words.{rules, ◌∷◌, [], mark, sym, ap, ◌∙◌}
+use Rattle.tape_writer.specs.{Tapes.UnderWay, declared.course.Course.Course}
 use Rattle.tape_writer.proofs.Fronts.{err_any, front_closed, front_here, front_items, waits}
-use Rattle.tape_writer.proofs.{Ends.end_written, Last.lasting_self, Left.is_begun}
+use Rattle.tape_writer.proofs.{Ends.end_written, Left.is_begun}
 use Rattle.tape_writer.proofs.set.SetWriter.finish.Goals as goal
 
 pub returns-in_err-mark-clause-front : goal.returns-in_err-mark-clause-front
 returns-in_err-mark-clause-front g c =
     rw (← c.self.view_is) (λ told k. err_any c.from_residual.result _ (λ f ends.
     let H = g.T.TapeOut.holds c.mark.new.self.out in
-    let begun = is_begun _ _ _ _ _ told (search rules) (waits _ _ told (search rules) k) in
-    end_written (HoldsFront H) (HoldsFront H) _ _ _ _ told
-    (g.T.TapeOut.holds c.self.inside.tape.out) c.self.invariant.wide begun.1 begun.0 (Ok tt)
-    (λ vs items h. front_items H vs items (mark ∷ []) (front_here H (UnderWay vs items)
-    (c.in_err-mark.ensures.err (UnderWay vs items) h))) (λ t h. front_closed H t h)))
+    end_written c.self.invariant.wide (λ vs items h. front_items H vs items (mark ∷ [])
+    (front_here H (UnderWay vs items) (c.in_err-mark.ensures.err (UnderWay vs items) h)))
+    (λ t h. front_closed H t h)
+    (is_begun _ _ _ _ _ told (search rules) (waits _ _ told (search rules) k))))
 
 pub returns-in-Err-clause-front : goal.returns-in-Err-clause-front
 returns-in-Err-clause-front g c =
     rw (← c.self.view_is) (λ told k ends.
     let H = g.T.TapeOut.holds c.close.new.self in
-    let begun = is_begun _ _ _ _ _ told (search rules) (waits _ _ told (search rules) k) in
-    end_written (g.T.TapeOut.holds c.mark.new.self.out) (HoldsFront H) _ _ _ _ told
-    (g.T.TapeOut.holds c.self.inside.tape.out) c.self.invariant.wide begun.1 begun.0 (Ok tt)
-    c.in_ok-mark.ensures.ok (λ t h. front_closed H t (front_here H t (c.in-Err.ensures.err t h))))
+    end_written c.self.invariant.wide c.in_ok-mark.ensures.ok
+    (λ t h. front_closed H t (front_here H t (c.in-Err.ensures.err t h)))
+    (is_begun _ _ _ _ _ told (search rules) (waits _ _ told (search rules) k)))
 
 pub returns-clause-told : goal.returns-clause-told
 returns-clause-told g c =
-    rw (← c.self.view_is) (λ told k.
-    let begun = is_begun _ _ _ _ _ told (search rules) (waits _ _ told (search rules) k) in record {
+    rw (← c.self.view_is) (λ told k. record {
       kept = k.kept;
-      stands = end_written (g.T.TapeOut.holds c.mark.new.self.out)
-          (g.T.TapeOut.holds c.close.new.self) _ _ _ _ told
-          (g.T.TapeOut.holds c.self.inside.tape.out) c.self.invariant.wide begun.1 begun.0 (Ok tt)
-          c.in_ok-mark.ensures.ok c.in_default.ensures.ok;
+      stands = end_written c.self.invariant.wide c.in_ok-mark.ensures.ok c.in_default.ensures.ok
+          (is_begun _ _ _ _ _ told (search rules) (waits _ _ told (search rules) k));
     })
-
-pub returns-in-Filing-clause-lasting : goal.returns-in-Filing-clause-lasting
-returns-in-Filing-clause-lasting g c = lasting_self _ _ _
-
-pub returns-in-Failed-clause-lasting : goal.returns-in-Failed-clause-lasting
-returns-in-Failed-clause-lasting g c = lasting_self _ _ _
-
-pub returns-in-Finished-clause-lasting : goal.returns-in-Finished-clause-lasting
-returns-in-Finished-clause-lasting g c = lasting_self _ _ _
-
-pub returns-then-self-eq0-clause-lasting : goal.returns-then-self-eq0-clause-lasting
-returns-then-self-eq0-clause-lasting g c = lasting_self _ _ _
 
 pub returns-clause-asked : goal.returns-clause-asked
 returns-clause-asked g c =

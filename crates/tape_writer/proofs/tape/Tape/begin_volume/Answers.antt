@@ -1,9 +1,7 @@
 -- A volume with its label, or a prefix of it.
-use Rattle.tape_writer.proofs.Words.{◌∷◌, [], refl, subst, block}
-use Rattle.tape_writer.specs.{Tapes.UnderWay, Tapes.all_volumes, Front.HoldsFront}
+use Rattle.tape_writer.proofs.{Words.◌∷◌, Words.[], Words.refl, Words.block, Last.lasting_err}
 use Rattle.tape_writer.proofs.Fronts.{front_here, front_changed, took}
-use Rattle.tape_writer.proofs.Last.{lasting_err}
-use Rattle.tape_writer.specs.Labels.{volume_label}
+use Rattle.tape_writer.specs.{Tapes.all_volumes, Labels.volume_label}
 use Rattle.tape_writer.proofs.tape.Tape.begin_volume.Goals as goal
 
 pub returns-in-Err-clause-lasting : goal.returns-in-Err-clause-lasting
@@ -19,7 +17,6 @@ pub returns-clause-front : goal.returns-clause-front
 unfolding volume_label
 returns-clause-front g c = λ tapes h.
     let H = g.T.TapeOut.holds c.block.new.self.out in
-    subst (λ z. HoldsFront H (UnderWay (all_volumes tapes) (block z ∷ [])))
-    c.write_vol1.ensures.text
-    (took (g.T.TapeOut.holds c.change_volume.new.self) H (block c.write_vol1.result ∷ []) _
-    c.block.ensures.ok c.block.ensures.err (all_volumes tapes) [] (c.in_default.ensures.ok tapes h))
+    rw (← c.write_vol1.ensures.text) (took (g.T.TapeOut.holds c.change_volume.new.self) H
+    (block c.write_vol1.result ∷ []) _ c.block.ensures.ok c.block.ensures.err (all_volumes tapes)
+    [] (c.in_default.ensures.ok tapes h))

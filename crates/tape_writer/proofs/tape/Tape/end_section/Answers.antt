@@ -1,5 +1,5 @@
 -- The end of a section, or a prefix of it.
-use Rattle.tape_writer.proofs.Words.{◌++◌, ◌∷◌, [], List, subst, ◌∙◌, ap, TapeItem, block, mark}
+use Rattle.tape_writer.proofs.Words.{◌++◌, ◌∷◌, [], List, ◌∙◌, ap, TapeItem, block, mark}
 use Rattle.tape_writer.specs.Tapes.{UnderWay}
 use Rattle.tape_writer.specs.Labels.{trailer_label, second_label, second_kind}
 use Rattle.tape_writer.proofs.Fronts.{front_here, front_items, front_behind, front_thrice}
@@ -31,9 +31,7 @@ returns-in_err-block-2-clause-front g c = λ vs items h.
     block (trailer_label file course.sect course.count c.args.eof) ∷ [] in
     let second : List TapeItem = block (second_label file (second_kind c.args.eof)) ∷ mark ∷ [] in
     let one = c.in_ok-mark.ensures.ok vs items h in
-    let two = subst (λ z. g.T.TapeOut.holds c.block.new.self.out
-    (UnderWay vs ((items ++ mark ∷ []) ++ block z ∷ []))) text
-    (c.in_ok-block.ensures.ok vs (items ++ mark ∷ []) one) in
+    let two = rw text at (c.in_ok-block.ensures.ok vs (items ++ mark ∷ []) one) in
     front_thrice (g.T.TapeOut.holds c.block-2.new.self.out) vs items (mark ∷ []) trailer second
     (front_items _ vs ((items ++ mark ∷ []) ++ trailer) second
     (front_here _ (UnderWay vs ((items ++ mark ∷ []) ++ trailer))
@@ -50,12 +48,9 @@ returns-clause-front g c = λ vs items h.
     block (trailer_label file course.sect course.count c.args.eof) ∷ [] in
     let second : List TapeItem = block (second_label file (second_kind c.args.eof)) ∷ [] in
     let one = c.in_ok-mark.ensures.ok vs items h in
-    let two = subst (λ z. g.T.TapeOut.holds c.block.new.self.out
-    (UnderWay vs ((items ++ mark ∷ []) ++ block z ∷ []))) text
-    (c.in_ok-block.ensures.ok vs (items ++ mark ∷ []) one) in
-    let three = subst (λ z. g.T.TapeOut.holds c.block-2.new.self.out (UnderWay vs
-    (((items ++ mark ∷ []) ++ trailer) ++ block z ∷ []))) text2 (c.in_ok-block-2.ensures.ok vs
-    ((items ++ mark ∷ []) ++ trailer) two) in
+    let two = rw text at (c.in_ok-block.ensures.ok vs (items ++ mark ∷ []) one) in
+    let three = rw text2 at
+    (c.in_ok-block-2.ensures.ok vs ((items ++ mark ∷ []) ++ trailer) two) in
     let H = g.T.TapeOut.holds c.mark-2.new.self.out in
     front_thrice H vs items (mark ∷ []) trailer (second ++ mark ∷ []) (front_assoc H vs
     ((items ++ mark ∷ []) ++ trailer) second (mark ∷ []) (took

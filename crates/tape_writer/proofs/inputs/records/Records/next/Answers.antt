@@ -1,6 +1,7 @@
-use Rattle.tape_writer.proofs.Words.{arith, rules, refl, subst, vec_capacity, err_from_is_err_and}
+use Rattle.tape_writer.specs.Records.{Adds}
+use Rattle.tape_writer.proofs.Words.{subst}
+use Rattle.tape_writer.proofs.Words.{arith, rules, refl, vec_capacity, err_from_is_err_and}
 use Rattle.std.proofs.lemmas.Grind.{common_steps}
-use Rattle.tape_writer.specs.Records.{Adds, GrowsLong}
 use Rattle.tape_writer.proofs.inputs.Cutting.{read_ahead, used, piece_taken, piece_more, next_given}
 use Rattle.tape_writer.proofs.inputs.{Cutting.taken, Refusing.no_room, Refusing.grows_long}
 use Rattle.tape_writer.proofs.inputs.records.Records.next.Goals as goal
@@ -47,21 +48,18 @@ returns-in_err-fill-clause-taken g c =
 -- the record is longer than the limit, or than the capacity of the buffer
 pub returns-then-piece-self-clause-long : goal.returns-then-piece-self-clause-long
 returns-then-piece-self-clause-long g c = λ _.
-    let old = c.pieces.self.content.items in
     let piece = c.piece-piece in
-    no_room _ _ _ _ _ _ _ _ _ _ c.pieces.invariant.so_far c.fill.ensures.bytes
-    (omega (arith, c.pieces.invariant.limit)) c.pieces.invariant.cut c.pieces.invariant.fresh (subst
-    (GrowsLong c.pieces.self.limit c.pieces.self.cut old) c.as_slice-bytes.ensures (grows_long _ _ _
-    _ piece.result.content piece.result.taken piece.result.ended piece.ensures.within.0
-    piece.ensures.within.1 (grind (arith, common_steps)) (piece.ensures.adds old (search rules))))
+    rw c.pieces.invariant.fresh (no_room _ _ _ _ c.pieces.invariant.so_far c.fill.ensures.bytes
+    (omega (arith, c.pieces.invariant.limit)) (rw (c.as_slice-bytes.ensures, c.pieces.invariant.cut)
+    at (grows_long c.pieces.self.limit _ _ _ piece.result.content piece.result.taken
+    piece.result.ended piece.ensures.within.0 piece.ensures.within.1 (grind (arith, common_steps))
+    (piece.ensures.adds c.pieces.self.content.items (search rules)))))
 
 pub returns-in-Err-clause-memory : goal.returns-in-Err-clause-memory
 returns-in-Err-clause-memory g c = λ _.
-    let old = c.pieces.self.content.items in
-    let most = vec_capacity c.pieces.self.content in
     let piece = c.piece-piece in
-    no_room _ _ _ _ _ _ _ _ _ _ c.pieces.invariant.so_far c.fill.ensures.bytes
-    c.pieces.invariant.room c.pieces.invariant.cut c.pieces.invariant.fresh (subst
-    (GrowsLong most c.pieces.self.cut old) c.as_slice-bytes.ensures (grows_long _ _ _ _
-    piece.result.content piece.result.taken piece.result.ended piece.ensures.within.0
-    piece.ensures.within.1 (search rules) (piece.ensures.adds old (search rules))))
+    rw c.pieces.invariant.fresh (no_room _ _ _ _ c.pieces.invariant.so_far c.fill.ensures.bytes
+    c.pieces.invariant.room (rw (c.as_slice-bytes.ensures, c.pieces.invariant.cut)
+    at (grows_long (vec_capacity c.pieces.self.content) _ _ _ piece.result.content
+    piece.result.taken piece.result.ended piece.ensures.within.0 piece.ensures.within.1
+    (search rules) (piece.ensures.adds c.pieces.self.content.items (search rules)))))
