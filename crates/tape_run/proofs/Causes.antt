@@ -1,20 +1,17 @@
 -- The causes for which records were not written: the cause of one call, if no call before it was
 -- refused.
-use Rattle.std.proofs.Common.{◌≡◌, ◌<◌, ℕ, suc, ◌+◌, List, [], ◌∷◌, ◌++◌, take, Bool, false, refl}
+use Rattle.std.proofs.Common.{◌≡◌, ◌<◌, ℕ, suc, ◌+◌, List, [], ◌∷◌, ◌++◌, take, Bool, refl}
 use Rattle.std.proofs.Common.{sym, inl, inr, subst, ◌∙◌, arith}
-use Rattle.std.specs.Prelude.{◌≢◌, ◌⊎◌}
-use Rattle.tape_blocks.specs.{Block.Portion, declared.parts.Form.Form}
+use Rattle.tape_blocks.specs.{Block.Portion}
 use Rattle.tape_core.specs.{Weight.Rose, Weight.IsFront, Crash.lost, Point.Point}
 use Rattle.tape_core.specs.{declared.sink.PartSink.Ghosts, declared.sink.SinkFault.SinkFault}
 use Rattle.tape_run.specs.declared.fault.RunFault.TheVariants.{Sink, NoSuchPoint, TooFewReels}
-use Rattle.tape_run.specs.{declared.extract.out_sink.OutSink.OutSink, SessionState.SessionState}
+use Rattle.tape_run.specs.declared.fault.RunFault.TheVariants.{OutOfMemory, OtherFile}
+use Rattle.tape_run.specs.{SessionState.SessionState, Steps.IsRefused, Steps.Saved, Steps.WentBack}
 use Rattle.tape_run.specs.declared.fault.EngineFault.{EngineFault}
 use Rattle.tape_run.specs.declared.fault.EngineFault.TheVariants.{Run, WriteFailed}
-use Rattle.tape_run.specs.declared.fault.RunFault.TheVariants.{OutOfMemory, OtherFile}
-use Rattle.tape_run.specs.Causes.{EndingFails, ExtractFails, ReadingFails, RefusesAny, IsCalm}
+use Rattle.tape_run.specs.Causes.{ExtractFails, ReadingFails, RefusesAny, IsCalm}
 use Rattle.tape_run.specs.Seen.{seen, IsKept, IfSeen, IsSeen}
-use Rattle.tape_run.specs.Steps.{IsRefused, Saved, WentBack}
-use Rattle.tape_set.specs.declared.position.Position.TheVariants.{Finished}
 
 -- no call was refused before
 pub refused_then : {S : Type 0} (refusals : S → ℕ) (refuses : S → SinkFault → S → Type 0)
@@ -108,22 +105,6 @@ of_causes holds refusals refuses = record {
   refuses_change = refuses;
   crashes = λ s. lost;
 }
-
--- the output of a session was not ended after the images were read
-pub ended_for : {W : Type 0} (holds : OutSink W → List Portion → Type 0)
-    (refusals : OutSink W → ℕ) (refuses : OutSink W → SinkFault → OutSink W → Type 0)
-    (old mid new : SessionState (OutSink W)) (form : Form) (fault : EngineFault)
-    → refusals new.sink ≡ refusals old.sink
-    → mid.core.position ≡ Finished
-    → (fault ≢ WriteFailed → (new ≡ mid)
-    × EndingFails mid.sink.begun mid.sink.form form fault)
-    → ReadingFails (of_causes holds refusals refuses) false fault old new
-    ⊎ ((new.core.position ≡ Finished) × EndingFails new.sink.begun new.sink.form form fault)
-ended_for holds refusals refuses old mid new form (Run fault) calm done ends =
-    let (same, fails) = ends (λ is. absurd (cc is)) in
-    inr (subst (λ (s : SessionState (OutSink _)). (s.core.position ≡ Finished)
-    × EndingFails s.sink.begun s.sink.form form (Run fault)) (sym same) (done, fails))
-ended_for holds refusals refuses old mid new form WriteFailed calm done ends = inl calm
 
 -- ---- counts
 

@@ -11,15 +11,14 @@ use Rattle.tape_set.specs.{declared.position.Position.Position, Reach.passes, La
 use Rattle.tape_set.specs.Layout.{FileSet, items, entries}
 use Rattle.tape_set.specs.Reading.{Reading, IsReadingOf, as_read}
 use Rattle.tape_core.specs.{Point.Point, Stands.weight_of, Table.saved, Weight.IsFront}
-use Rattle.tape_run.specs.{declared.fault.RunFault.RunFault, declared.script.Step.Step}
-use Rattle.tape_run.specs.{declared.fault.RunFault.TheVariants.TooFewReels, History.IsHistory}
+use Rattle.tape_run.specs.{declared.fault.RunFault.RunFault, Runs.Runs, Runs.RunsUpTo, Runs.Fails}
+use Rattle.tape_run.specs.{declared.script.Step.Step, History.IsHistory, Seen.Seen, Seen.IsSession}
+use Rattle.tape_run.specs.{declared.fault.RunFault.TheVariants.TooFewReels, CasesOfSaves.comes_now}
 use Rattle.tape_run.specs.declared.script.Step.TheVariants.{Reel, Save, Restart}
 use Rattle.tape_run.specs.{Crash.IsOf, Crash.LastAlone, Headline.HasStopped, Headline.StopsStep}
-use Rattle.tape_run.specs.{CrashRuns.IsPlaceOf, Runs.Runs, Runs.RunsUpTo, Runs.Fails}
+use Rattle.tape_run.specs.{CrashRuns.IsPlaceOf, CasesOfRuns.CasesOfStops}
 use Rattle.tape_run.specs.WorkedHistory.{worked_set, vol1, hdr1}
-use Rattle.tape_run.specs.{CasesOfSaves.comes_now, CasesOfRuns.CasesOfStops}
 use Rattle.tape_run.specs.Mount.{MountEvent, foreign_reel, reads, IsMount}
-use Rattle.tape_run.specs.Seen.{Seen, IsSession}
 use Rattle.tape_run.specs.Steps.{Reeled, ReelFails, Saved, WentBack}
 use Rattle.tape_run.specs.Cases.{CasesOfMounts, CasesOfMade, CasesOfCrashes, came_by}
 use Rattle.tape_run.proofs.ExamplesOfSaves.{one_note, of_one_note}

@@ -5,11 +5,10 @@ use Rattle.tape_blocks.specs.Block.{Portion}
 use Rattle.tape_set.specs.{Before.before, Layout.FileSet, Lawful.IsLawful, Reach.far}
 use Rattle.tape_set.specs.Reading.{Reading}
 use Rattle.tape_core.specs.{Point.Point, Stands.Stands}
-use Rattle.tape_run.specs.declared.{script.Step.TheVariants.Reel}
-use Rattle.tape_run.specs.{Headline.HasRun, History.Course, History.IsHistory, CrashRuns.IsResumed}
-use Rattle.tape_run.specs.{CrashRuns.ResumedGoesOn, Mount.reads, Seen.Seen, OneEntry.HasOneEach}
-use Rattle.tape_run.specs.{Passing.Told, CasesOfCatalogues.met, CasesOfLaws.CasesOfRunLaws}
-use Rattle.tape_run.specs.CasesOfLaws.{CasesOfCatalogueLaws}
+use Rattle.tape_run.specs.{declared.script.Step.TheVariants.Reel, History.Course, History.IsHistory}
+use Rattle.tape_run.specs.{Headline.HasRun, Mount.reads, OneEntry.HasOneEach, Passing.Told}
+use Rattle.tape_run.specs.{CrashRuns.IsResumed, CrashRuns.ResumedGoesOn, CasesOfCatalogues.met}
+use Rattle.tape_run.specs.{Seen.Seen, CasesOfLaws.CasesOfRunLaws, CasesOfLaws.CasesOfCatalogueLaws}
 use Rattle.tape_run.specs.declared.section.SectionState.TheVariants.{Good, Cut}
 use Rattle.tape_run.specs.Lacks.{LackIsFirst, IsFoundWhole, IsFirstLack, lack_of}
 

@@ -2,7 +2,8 @@
 use Rattle.std.proofs.Common.{◌≡◌, ◌⊎◌, ℕ, List, [], ◌∷◌, length, Bool, Some, None, refl, sym, ap}
 use Rattle.std.proofs.Common.{arith, inl, inr, ◌∙◌}
 use Rattle.tape_blocks.specs.Block.{Portion}
-use Rattle.tape_core.specs.{Point.Point, Weight.Rose}
+use Rattle.tape_core.specs.{Point.Point, Weight.Rose, declared.sink.SinkFault.SinkFault}
+use Rattle.tape_core.specs.declared.sink.SinkFault.TheVariants.{Device, Full, Failed}
 use Rattle.tape_core.proofs.Crashes.{or_nothing}
 use Rattle.tape_run.specs.{CasesOfSaves.comes_now, CasesOfSaves.weighing, CasesOfSeen.CasesOfSeen}
 use Rattle.tape_run.specs.{CasesOfSeen.counting, Crash.BringsNoMore, Given.IfTold}
@@ -10,8 +11,6 @@ use Rattle.tape_run.specs.{Steps.RefusesRestart, SessionState.SessionState}
 use Rattle.tape_run.specs.Seen.{seen, IsKept, IfSeen, IsSeen}
 use Rattle.tape_run.specs.Causes.{ExtractFails, ReadingFails, RefusesAny}
 use Rattle.tape_run.specs.declared.fault.{EngineFault.TheVariants.Run, RunFault.TheVariants.Sink}
-use Rattle.tape_core.specs.declared.sink.SinkFault.{SinkFault}
-use Rattle.tape_core.specs.declared.sink.SinkFault.TheVariants.{Device, Full, Failed}
 
 each_part : (s : SessionState ℕ) (p : Portion) → s.sink ≡ 1
     → IfSeen counting s (λ is. is.parts ≡ p ∷ []) → (q : Portion) → q ≡ p

@@ -6,12 +6,11 @@ use Rattle.std.proofs.lemmas.List.{map-append, take-map, length-take-le}
 use Rattle.tape_set.specs.{Layout.FileSet, Lawful.IsLawful, declared.position.Position.Position}
 use Rattle.tape_core.specs.{Point.Point, State.State, Stands.Stands, Stands.weight_of, Table.saved}
 use Rattle.tape_run.specs.Mount.{MountEvent, reads, foreign_reel, saves, restarts, IsMountOf}
-use Rattle.tape_run.specs.{Mount.after_mount, declared.script.Step.Step, Runs.Runs}
+use Rattle.tape_run.specs.{Mount.after_mount, History.after, History.course_of, History.IsHistory}
+use Rattle.tape_run.specs.{declared.script.Step.Step, Seen.Seen, Seen.AreNotes, Seen.IsSession}
+use Rattle.tape_run.specs.{Runs.Runs, Given.failed_of, Given.counted, Given.counted_up}
 use Rattle.tape_run.specs.declared.script.Step.TheVariants.{Reel, Save, Restart}
-use Rattle.tape_run.specs.Given.{failed_of, counted, counted_up}
-use Rattle.tape_run.specs.{Seen.Seen, Seen.AreNotes, Seen.IsSession, Headline.Ran, Headline.HasRun}
-use Rattle.tape_run.specs.Steps.{Reeled, Saved, WentBack}
-use Rattle.tape_run.specs.History.{after, course_of, IsHistory}
+use Rattle.tape_run.specs.{Headline.Ran, Headline.HasRun, Steps.Reeled, Steps.Saved, Steps.WentBack}
 use Rattle.tape_core.proofs.Standing.{stood, noted}
 use Rattle.tape_run.proofs.Lead.{led_nothing, led_reel, led_save, led_restart}
 use Rattle.tape_run.proofs.Notes.{same_front, notes_grow, notes_push, note_at}

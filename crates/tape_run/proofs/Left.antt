@@ -9,13 +9,12 @@ use Rattle.tape_core.specs.declared.sink.PartSink.{Ghosts}
 use Rattle.tape_core.proofs.Crashes.{only_among, only_same, only_then}
 use Rattle.tape_run.specs.Crash.{IsHere, IsNoteOf, IsLast, IsHeld, KeepsLast, LeavesStep}
 use Rattle.tape_run.specs.declared.fault.RunFault.TheVariants.{Sink, NoSuchPoint, TooFewReels}
-use Rattle.tape_run.specs.{Crash.LeavesSaved, Crash.IsWalked, Given.is_device, Stopping.RefusesSave}
-use Rattle.tape_run.specs.{Reeling.IsKeptFor, Reeling.counts_differ, SessionState.SessionState}
-use Rattle.tape_run.specs.{Seen.Seen, Seen.seen, Seen.IsKept, Steps.Reeled, Steps.SaveFails}
-use Rattle.tape_run.specs.declared.fault.EngineFault.TheVariants.{Run}
-use Rattle.tape_run.specs.declared.fault.RunFault.{RunFault}
+use Rattle.tape_run.specs.{Crash.LeavesSaved, Crash.IsWalked, Seen.Seen, Seen.seen, Seen.IsKept}
 use Rattle.tape_run.specs.declared.fault.RunFault.TheVariants.{OutOfMemory, OtherFile}
-use Rattle.tape_run.specs.declared.reel_reader.ReelAnswer.{ReelAnswer}
+use Rattle.tape_run.specs.{Given.is_device, declared.fault.RunFault.RunFault}
+use Rattle.tape_run.specs.{Stopping.RefusesSave, declared.reel_reader.ReelAnswer.ReelAnswer}
+use Rattle.tape_run.specs.{Reeling.IsKeptFor, Reeling.counts_differ, Steps.Reeled, Steps.SaveFails}
+use Rattle.tape_run.specs.{SessionState.SessionState, declared.fault.EngineFault.TheVariants.Run}
 use Rattle.tape_run.proofs.{Crashes.only_nothing, Sessions.kept_at}
 use Rattle.tape_run.proofs.Notes.{front_self, front_trans, same_front}
 

@@ -55,7 +55,6 @@ mod ListExamples
 mod PlacedExamples
 mod WithoutOffsets
 mod Reporting
-pub mod SurveyChain
 pub mod SurveyDigest
 pub mod SurveyCompared
 pub mod SurveyCopies
@@ -64,11 +63,8 @@ pub mod SurveyConflicts
 mod SurveyListed
 pub mod SurveySound
 pub mod SurveyDisputes
-mod SurveyJoins
-mod SurveyProblems
-mod SurveyCounts
 mod SurveyLooks
-mod SurveyTexts
+mod SurveyRead
 mod SurveyOrder
 mod SurveyStands
 mod SurveyVolumes

@@ -3,8 +3,7 @@ use Rattle.std.proofs.Common.{◌≡◌, ◌≢◌, ◌⊎◌, inl, inr, ℕ, Bo
 use Rattle.std.proofs.Common.{Some, None, refl, sym, ap, subst, ◌∙◌, true, length, arith}
 use Rattle.std.proofs.Common.{length-append}
 use Rattle.tape_set.specs.declared.position.{Position.TheVariants.Finished, Want.Want}
-use Rattle.tape_core.specs.Table.{in_phase, mounted}
-use Rattle.tape_core.specs.declared.sink.PartSink.{Ghosts}
+use Rattle.tape_core.specs.{Table.in_phase, Table.mounted, declared.sink.PartSink.Ghosts}
 use Rattle.tape_run.specs.ExtractingLocated.{IsHeld, Stretch, IsPartOf, AreFrom, held_behind}
 use Rattle.tape_run.specs.ExtractingLocated.{ReadsPart, ReadsLocated, ReadsSections, EndsReading}
 use Rattle.tape_run.specs.ExtractingLocated.{BeginsOn, NextBeginsOn}

@@ -5,9 +5,8 @@ use Rattle.tape_blocks.specs.Block.{Portion}
 use Rattle.tape_image.specs.{Begins.Walks, Reader.IfKnown, Tape.TapeItem}
 use Rattle.tape_image.proofs.Walks.{Walks-nil}
 use Rattle.tape_set.specs.{Layout.FileSet, Lawful.IsLawful}
-use Rattle.tape_core.specs.{Known.is_finished, Place.IsPlaced, Place.rest_of, State.State}
-use Rattle.tape_core.specs.Table.{in_phase, mount_of}
-use Rattle.tape_core.specs.declared.sink.PartSink.{Ghosts}
+use Rattle.tape_core.specs.{Known.is_finished, State.State, declared.sink.PartSink.Ghosts}
+use Rattle.tape_core.specs.{Place.IsPlaced, Place.rest_of, Table.in_phase, Table.mount_of}
 use Rattle.tape_run.specs.{ByTable.delivered_parts, ByTable.IsLed, GoesBehind.ReeledBehind}
 use Rattle.tape_run.specs.{Lead.Lead, Lead.over_reel, Mount.MountEvent, Mount.IsMount}
 use Rattle.tape_run.specs.{Reels.behind_items, Steps.Reeled, SessionState.SessionState}

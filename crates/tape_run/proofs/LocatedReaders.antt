@@ -7,12 +7,11 @@ use Rattle.tape_image.specs.Tape.{TapeItem, block, bad, mark}
 use Rattle.tape_image.proofs.Walks.{Walks-trans}
 use Rattle.tape_set.specs.declared.position.Position.{Position}
 use Rattle.tape_set.specs.declared.position.Position.TheVariants.{Awaits, Finished}
-use Rattle.tape_core.specs.Behind.{AreInOrder, behind_of, mounted_behind}
-use Rattle.tape_core.specs.{Known.is_finished, Place.rest_of, State.State}
 use Rattle.tape_core.specs.Table.{Outcome, at_item, in_phase, unless_complete, step_of, mount_of}
-use Rattle.tape_core.specs.Table.{mounted}
-use Rattle.tape_core.specs.declared.event.{Answer.Answer, Phase.Phase, Answer.TheVariants.Useless}
-use Rattle.tape_core.specs.declared.event.Phase.TheVariants.{Broken}
+use Rattle.tape_core.specs.{Behind.AreInOrder, Behind.behind_of, Behind.mounted_behind, State.State}
+use Rattle.tape_core.specs.{Known.is_finished, Place.rest_of, Table.mounted}
+use Rattle.tape_core.specs.{declared.event.Answer.Answer, declared.event.Answer.TheVariants.Useless}
+use Rattle.tape_core.specs.{declared.event.Phase.Phase, declared.event.Phase.TheVariants.Broken}
 use Rattle.tape_core.specs.declared.event.Phase.TheVariants as phases
 use Rattle.tape_core.specs.declared.event.Reason.TheVariants as reasons
 use Rattle.tape_run.specs.ByTable.{parts_by, delivered_parts, IsLed}

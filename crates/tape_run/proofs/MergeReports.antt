@@ -7,13 +7,9 @@ use Rattle.std.specs.Io.KnownBytes.{Appends}
 use Rattle.tape_image.specs.{declared.item.Ending.Ending, Written.AppendsFront}
 use Rattle.tape_image.specs.Reader.{Status, going, ended, failed, ending_of}
 use Rattle.tape_image.specs.declared.item.Ending.TheVariants as endings
-use Rattle.tape_run.specs.MergeLines.{lines_from, reading_text, line_of, reading_line, name_at}
-use Rattle.tape_run.specs.{declared.merge.line.MergedEnd.MergedEnd, MergeNow.SomeEnds}
-use Rattle.tape_run.specs.declared.merge.reading.Reading.{Reading}
-use Rattle.tape_run.specs.declared.merge.line.HasLine.{HasLine}
-use Rattle.tape_run.specs.declared.merge.line.ReadingLine.{ReadingLine}
+use Rattle.tape_run.specs.{MergeLines.lines_from, declared.merge.line.MergedEnd.MergedEnd}
+use Rattle.tape_run.specs.{MergeNow.SomeEnds, declared.merge.reading.Reading.Reading}
 use Rattle.tape_run.specs.declared.merge.line.MergedEnd.TheVariants.{Marked, Physical, Cut}
-use Rattle.tape_run.specs.MergeLines.{has_of, has_line, item_line, with_name, has_text}
 use Rattle.tape_run.proofs.Reporting.{front_then}
 
 -- ---- lines
@@ -65,31 +61,6 @@ reports_all {A} line number xs old new le h =
     subst (λ t. Appends old new t) (sym (h.rest
     ∙ ap (λ (l : List A). h.done ++ lines_from line number l) (drop_all number xs le)
     ∙ append-nil h.done)) h.wrote
-
--- the line about a reading, as it is built
-pub named_reading : {R : Type 0} (names : List (List ℕ)) (n : ℕ) (r : Reading R) (l : ReadingLine)
-    (short text name line : List ℕ) → l ≡ line_of r → short ≡ reading_text (n + 1) l
-    → text ≡ short → name ≡ name_at names n → line ≡ with_name text name
-    → line ≡ reading_line names n r
-named_reading names n r l short text name line is shown same named joined =
-    joined ∙ ap (λ t. with_name t name) (same ∙ shown
-    ∙ ap (λ (x : ReadingLine). reading_text (n + 1) x) is)
-    ∙ ap (λ t. with_name (reading_text (n + 1) (line_of r)) t) named
-
--- the line about an item, as it is built
-pub named_item : {R : Type 0} (names : List (List ℕ)) (n : ℕ) (r : Reading R) (has : HasLine)
-    (short text name line : List ℕ) → has_of r ≡ Some has → short ≡ has_text (n + 1) has
-    → text ≡ short → name ≡ name_at names n → line ≡ with_name text name
-    → line ≡ has_line names n r
-named_item names n r has short text name line is shown same named joined =
-    joined ∙ ap (λ t. with_name t name) (same ∙ shown)
-    ∙ ap (λ t. with_name (has_text (n + 1) has) t) named
-    ∙ ap (λ (o : Option HasLine). item_line o n (name_at names n)) (sym is)
-
--- there is no item
-pub item_none : (o : Option HasLine) (number : ℕ) (name : List ℕ) → o ≡ None
-    → item_line o number name ≡ []
-item_none o number name is = ap (λ (o : Option HasLine). item_line o number name) is
 
 -- ---- how the merged image ends
 

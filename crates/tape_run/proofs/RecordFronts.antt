@@ -83,16 +83,6 @@ front_starts form ahead old parts weight is e limit =
       each = λ all. (refl, refl);
     }
 
--- a part that is not written, after which no record is
-pub front_counts : (form : Form) (ahead after : List Portion → Type 0) (all : Bool)
-    (written count next : ℕ) (old new : Option (List ℕ)) (parts : List Portion) (part : Part)
-    → Fronts form ahead all written count old new parts
-    → ((xs : List Portion) → ahead xs → GivesPart (Ok (Some part)) xs after)
-    → (count ≤ 999999999999999 → next ≡ with_end (leaves part.span) count) → (still : Bool)
-    → still ≡ false → Fronts form after still written next old new parts
-front_counts form ahead after all written count next old new parts part f gives counts still e =
-    grind (arith, ends, ends_next)
-
 pub front_writes : (form : Form) (ahead after : List Portion → Type 0) (all : Bool)
     (written count next : ℕ) (old mid new : Option (List ℕ)) (parts : List Portion) (part : Part)
     → Fronts form ahead all written count old mid parts → all ≡ true

@@ -1,5 +1,5 @@
 -- The part of a report that has been written, and the text that comes next.
-use Rattle.std.proofs.Common.{◌≡◌, inl, inr, ℕ, ◌+◌, ◌-◌, ◌<◌, suc, Bool, List, [], ◌∷◌, ◌++◌}
+use Rattle.std.proofs.Common.{◌≡◌, ℕ, ◌+◌, ◌-◌, ◌<◌, suc, Bool, List, [], ◌∷◌, ◌++◌}
 use Rattle.std.proofs.Common.{length, Option, option_map, Result, Ok, Err, IfOk, OnOk, refl, sym}
 use Rattle.std.proofs.Common.{ap, subst, ◌∙◌, arith, append_assoc, append-nil, length-append}
 use Rattle.std.proofs.KnownBytes.{Appends-trans, Appends-nil}
@@ -8,7 +8,7 @@ use Rattle.std.specs.{List.flat_map, Io.KnownBytes.Appends}
 use Rattle.tape_run.specs.Checked.{Reel, IsReel, AddsImage, AddsImages, summary, summary_behind}
 use Rattle.tape_run.specs.{declared.section.ImageLine.ImageLine, Passing.Told, Lacks.found_all}
 use Rattle.tape_run.specs.CheckLine.{image_line, image_lines}
-use Rattle.tape_run.specs.Checked.{Reports, ReportsInPart, TellsImage, TellsImages, StopsAtImage}
+use Rattle.tape_run.specs.Checked.{Reports, ReportsInPart, TellsImage, TellsImages}
 use Rattle.tape_run.specs.Reeling.{Mounting, AreMounted}
 use Rattle.tape_image.specs.Written.{AppendsFront}
 use Rattle.tape_run.proofs.Turns.{one_mounted}
@@ -133,15 +133,13 @@ not_mounted size gives remaining shelf now left number mid old w within same s =
       wrote = (image_lines 1 s.lines, summary_behind unread mid, s.wrote, refl);
     }
 
--- a fault occurred at the image with this number
-pub stops_at : {L R : Type 0} (size : L → ℕ) (gives : Mounting L R)
+-- a fault occurred while the image with this number was read: nothing more was written
+pub not_read : {L R : Type 0} (size : L → ℕ) (gives : Mounting L R)
     (remaining : R → Option (List ℕ)) (shelf now next : L) (number : ℕ) (mid : List Told)
-    (old w new : Option (List ℕ)) (image : Option R) → number < size shelf
+    (old w : Option (List ℕ)) (image : Option R) → number < size shelf
     → ReadSoFar gives remaining shelf now number mid old w → gives now number image next
-    → StopsAtImage (option_map remaining image) (number + 1) mid w new
-    → ReportsInPart size gives remaining shelf next old new
-stops_at size gives remaining shelf now next number mid old w new image within s gave (inl none) =
-    let lines = image_lines 1 s.lines in
+    → ReportsInPart size gives remaining shelf next old w
+not_read size gives remaining shelf now next number mid old w image within s gave =
     let unread = size shelf - number in
     record {
       first = s.reels;
@@ -154,16 +152,20 @@ stops_at size gives remaining shelf now next number mid old w new image within s
       lines = s.lines;
       sections = mid;
       read = s.read;
-      wrote = (
-        lines ++ [],
-        summary_behind unread mid,
-        Appends-trans old w new lines [] s.wrote none,
-        ap (λ l. l ++ summary_behind unread mid) (sym (append-nil lines)),
-      );
+      wrote = (image_lines 1 s.lines, summary_behind unread mid, s.wrote, refl);
     }
-stops_at size gives remaining shelf now next number mid old w new image within s gave (inr part) =
-    let line = part.0 in
-    let d = part.1 in
+
+-- a prefix of the line of the image with this number was written
+pub line_stops : {L R : Type 0} (size : L → ℕ) (gives : Mounting L R)
+    (remaining : R → Option (List ℕ)) (shelf now next : L) (number : ℕ) (mid d : List Told)
+    (old w new : Option (List ℕ)) (image : Option R) (line : Option ImageLine)
+    → number < size shelf → ReadSoFar gives remaining shelf now number mid old w
+    → gives now number image next → AddsImage (option_map remaining image) line mid d
+    → AppendsFront w new (image_line (number + 1) line)
+    → ReportsInPart size gives remaining shelf next old new
+line_stops size gives remaining shelf now next number mid d old w new image line within s gave adds
+    part
+    =
     let reel = option_map remaining image in
     let unread = size shelf - (number + 1) in
     let first = s.reels ++ reel ∷ [] in
@@ -182,10 +184,10 @@ stops_at size gives remaining shelf now next number mid old w new image within s
       few = (omega arith, omega arith);
       lines = s.lines ++ line ∷ [];
       sections = d;
-      read = read_more s.reels s.lines [] mid d reel line s.read part.2;
+      read = read_more s.reels s.lines [] mid d reel line s.read adds;
       wrote = front_then old w new (image_lines 1 s.lines)
           (image_line (number + 1) line) (summary_behind unread d)
-          (image_lines 1 (s.lines ++ line ∷ []) ++ summary_behind unread d) s.wrote part.3
+          (image_lines 1 (s.lines ++ line ∷ []) ++ summary_behind unread d) s.wrote part
           (ap (λ l. l ++ summary_behind unread d) told);
     }
 

@@ -137,9 +137,7 @@ pub gone_on : {S L R : Type 0} (gs : Ghosts S)
 gone_on {S} {L} {R} gs size before gives remaining back old mid new
     shelf between left said told
     says rounds h count took some other =
-    let t = subst (λ n. TakesAll gs size n gives remaining back true mid new
-    between left
-    told says) count took in
+    let t = rw count at took in
     let whole = whole_round t.turns size new.core t.most t.all some in
     let r : Round = record { turns = t.turns; behind = new.core } in (
       rounds ++ r ∷ [],
@@ -199,10 +197,8 @@ takes_rounds {S} {L} {R} gs size count before gives remaining back
       between = between;
       told = told;
       gone = h;
-      last = subst (λ n. TakesAll gs count n gives remaining back true mid
-          new between left
-          told says) lines took;
-      enough = subst (λ n. IsEnough count n (wanted mid.core) (wanted new.core)) lines enough;
+      last = rw lines at took;
+      enough = rw lines at enough;
     })
 
 -- a fault ended one more pass
@@ -227,9 +223,7 @@ stops_round {S} {L} {R} gs size count before gives remaining back
       between = between;
       told = told;
       gone = h;
-      last = subst (λ n. StopsReading gs count n gives remaining back true
-          mid new between left
-          told says fault) lines stopped;
+      last = rw lines at stopped;
     })
 
 -- whether this was the last pass, from the part that is missing

@@ -6,11 +6,10 @@ use Rattle.std.proofs.Math.Seq.{take-add}
 use Rattle.tape_blocks.specs.Block.{Portion}
 use Rattle.tape_core.specs.{Crash.AddsOnly, Crash.Crashes, declared.sink.PartSink.Ghosts}
 use Rattle.tape_core.proofs.Crashes.{only_then}
-use Rattle.tape_run.specs.{Headline.reels_in, Made.HasMade, Made.IsMade, Runs.Runs}
-use Rattle.tape_run.specs.{Seen.seen, Seen.IsKept, SessionState.SessionState}
-use Rattle.tape_run.specs.declared.script.Step.{Step}
+use Rattle.tape_run.specs.{Headline.reels_in, Made.HasMade, Made.IsMade, SessionState.SessionState}
+use Rattle.tape_run.specs.{Runs.Runs, Crash.IsOf, Crash.StoodAt, Crash.LastAlone, Crash.is_saved}
+use Rattle.tape_run.specs.{Seen.seen, Seen.IsKept, declared.script.Step.Step}
 use Rattle.tape_run.specs.declared.script.Step.TheVariants.{Reel, Save, Restart}
-use Rattle.tape_run.specs.Crash.{IsOf, StoodAt, LastAlone, is_saved}
 use Rattle.tape_run.proofs.{Crashes.stood_here, Made.made_more, Made.all_made}
 
 -- The first n steps succeeded, in a session whose sink contained these parts before: the current

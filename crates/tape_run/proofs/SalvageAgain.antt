@@ -9,26 +9,24 @@ use Rattle.tape_blocks.specs.Tight.{Filled}
 use Rattle.tape_set.specs.Layout.{FileSet, Section, Placed, section_of, ends_file}
 use Rattle.tape_set.specs.Lawful.{IsLawful, FileForm, HasForm, TellsForm}
 use Rattle.tape_set.specs.{Laws.StandsIn, Reading.Reading}
-use Rattle.tape_set.proofs.{Everywhere.every_stands, Numbering.placed}
+use Rattle.tape_set.proofs.{Everywhere.every, Everywhere.every_stands, Numbering.placed}
 use Rattle.tape_set.proofs.Volumes.{Rising, sections_on_rise}
 use Rattle.tape_run.specs.declared.salvage.ending.SectionEnd.TheVariants.{FileEnds, Continues}
 use Rattle.tape_run.specs.SalvageTaking.{Taken, after_taken, end_of_taken, form_for, has_form}
 use Rattle.tape_run.specs.SalvageSections.{SectionRead, IsRead, IsOther, filled_of, key_of}
 use Rattle.tape_run.specs.SalvageSets.{items_read, IsCompleteOr, copies_on, HasVolume, IsReadAgain}
-use Rattle.tape_run.specs.{Noted.same_key, SalvageCopies.start_of, SalvageBlocks.Salvaged}
-use Rattle.tape_run.specs.{SalvageRecords.Piece, SalvageRecords.torn, SalvageEnds.without_rest}
-use Rattle.tape_run.specs.{SalvageImage.EndsData, SalvageWhole.Blocks, SalvageWhole.piece_after}
-use Rattle.tape_run.specs.{SalvageFile.closed_copy, SalvageFile.IsTakenFrom, SalvageTaking.end_by}
-use Rattle.tape_run.specs.declared.salvage.Content.TheVariants.{Records}
-use Rattle.tape_run.specs.declared.salvage.copies.SectionCopy.{SectionCopy}
-use Rattle.tape_run.specs.{declared.salvage.walk.Closing.Closing, SalvageSections.read_volume}
+use Rattle.tape_run.specs.{declared.salvage.ending.SectionEnd.TheVariants.Unknown, Noted.same_key}
+use Rattle.tape_run.specs.{SalvageTaking.end_by, SalvageSets.IsHad, SalvageSets.IsRanked}
+use Rattle.tape_run.specs.{SalvageSections.read_volume, SalvageRecords.Piece, SalvageRecords.torn}
+use Rattle.tape_run.specs.{SalvageCopies.start_of, SalvageFile.closed_copy, SalvageFile.IsTakenFrom}
+use Rattle.tape_run.specs.{SalvageBlocks.Salvaged, declared.salvage.copies.SectionCopy.SectionCopy}
+use Rattle.tape_run.specs.{SalvageEnds.without_rest, SalvageWhole.Blocks, SalvageWhole.piece_after}
+use Rattle.tape_run.specs.{SalvageImage.EndsData, declared.salvage.Content.TheVariants.Records}
+use Rattle.tape_run.specs.declared.salvage.walk.Closing.{Closing}
 use Rattle.tape_run.specs.declared.section.SectionKey.{SectionKey}
-use Rattle.tape_run.specs.declared.salvage.ending.SectionEnd.TheVariants.{Unknown}
 use Rattle.tape_run.specs.SalvageChoice.{firsts, is_considered, is_on, IsBest, form_of_file}
-use Rattle.tape_run.specs.SalvageSets.{IsHad, IsRanked}
 use Rattle.tape_run.proofs.SalvageReadings.{all_in_two, others, placed_of}
-use Rattle.tape_run.proofs.{SalvageFile.AreRead, SalvageFile.taken_adds, SalvageChoice.all_map}
-use Rattle.tape_run.proofs.StayingGood.{key_again}
+use Rattle.tape_run.proofs.{SalvageFile.AreRead, SalvageFile.taken_adds, StayingGood.key_again}
 use Rattle.tape_run.proofs.SalvageGood.{IsGood, copies_good, has_copy, good_placed, good_sect}
 
 -- ---- the copies that are considered
@@ -127,7 +125,7 @@ module _ (set : FileSet) (file : ℕ) (all : List (Option Reading)) (copies : Li
 
   -- the copies have the ranks of what the images have
   pub ranked_are : AllByRecursion (IsRanked set all) copies
-  ranked_are = all_map (IsGood set file all) (IsRanked set all) (λ c g. record {
+  ranked_are = every (IsGood set file all) (IsRanked set all) (λ c g. record {
     reading = g.reading;
     image = g.image;
     placed = g.section.placed;

@@ -1,25 +1,24 @@
 -- A section that was being recovered when an error came, and the sections before it.
 use Rattle.std.proofs.Common.{◌≡◌, inl, inr, ℕ, ◌+◌, ◌<◌, true, false, List, [], ◌++◌, length}
-use Rattle.std.proofs.Common.{Option, Some, None, refl, sym, subst, ◌∙◌, arith}
-use Rattle.std.specs.{Prelude.if◌then◌else◌, Io.KnownBytes.Appends}
+use Rattle.std.proofs.Common.{Option, Some, None, refl, sym, ◌∙◌, arith}
+use Rattle.std.specs.{Io.KnownBytes.Appends}
 use Rattle.tape_image.specs.{Tape.TapeItem, Written.AppendsFront}
 use Rattle.tape_image.proofs.{Walks.known_start, Pieces.front_more, Pieces.front_behind}
 use Rattle.tape_set.specs.Lawful.{FileForm}
-use Rattle.tape_run.specs.SalvageTaking.{MountsIf, MountsTaken, StopsCopy, StopsSection}
-use Rattle.tape_run.specs.SalvageTaking.{StopsTaking, form_for, has_form, copy_text, taken_text}
-use Rattle.tape_run.specs.SalvageTaking.{AreTaken, GoOn, after_all, all_text, last_end, last_text}
-use Rattle.tape_run.specs.{declared.salvage.Content.Content, Reeling.Mounting}
+use Rattle.tape_run.specs.SalvageTaking.{MountsTaken, StopsCopy, StopsSection, StopsTaking}
+use Rattle.tape_run.specs.SalvageTaking.{form_for, has_form, copy_text, taken_text, after_all}
+use Rattle.tape_run.specs.SalvageTaking.{all_text, file_text, next_section, image_number}
+use Rattle.tape_run.specs.{SalvageTaking.items_text, SalvageCopies.believed, SalvageCopies.start_of}
+use Rattle.tape_run.specs.declared.salvage.Content.{Content}
+use Rattle.tape_run.specs.{Reeling.Mounting, SalvageBlocks.Salvaged, SalvageBlocks.ReportsFront}
 use Rattle.tape_run.specs.{declared.salvage.ending.SectionEnd.SectionEnd, SalvageLine.section_line}
 use Rattle.tape_run.specs.declared.salvage.ending.SectionEnd.TheVariants.{Continues}
 use Rattle.tape_run.specs.declared.salvage.copies.SectionCopy.{SectionCopy}
 use Rattle.tape_run.specs.declared.salvage.recovery.Recovery.{Recovery}
 use Rattle.tape_run.specs.declared.salvage.walk.Expected.{Expected}
-use Rattle.tape_run.specs.SalvageCopies.{believed, start_of}
-use Rattle.tape_run.specs.SalvageBlocks.{Salvaged, ReportsFront}
 use Rattle.tape_run.specs.SalvageChoice.{firsts, IsBest, last_section, form_of_file}
 use Rattle.tape_run.specs.SalvageImage.{RecoversSection, BeginsWith, salvaged_from, text_from}
 use Rattle.tape_run.specs.SalvageEnds.{no_section_text, no_form_text, read_again_text}
-use Rattle.tape_run.specs.SalvageTaking.{file_text, next_section, image_number, items_text}
 use Rattle.tape_run.proofs.{Fitting.no_text, SalvageTaking.TakenSoFar}
 
 pub begins_empty : (before : Option (List ℕ)) → BeginsWith before []
@@ -53,15 +52,10 @@ pub items_begun : {W : Type 0} (contents : W → Option (List ℕ)) (before : Op
     × ReportsFront contents old said says lines
 items_begun contents before c sect form origin most old said one says first count line
     (items, begins, part) =
-    let key = c.section.key in (
+    let r = rw (first, count) at part in (
       items_text sect c form items,
       (items, inl (begins, refl)),
-      subst (λ o. ReportsFront contents old one says (λ g. text_from key most form o g items)
-          → ReportsFront contents old said says (items_text sect c form items)) (sym first)
-          (subst (λ m. ReportsFront contents old one says
-          (λ g. text_from key m form (start_of c) g items)
-          → ReportsFront contents old said says (items_text sect c form items)) (sym count)
-          (λ r start g h. front_behind said one says _ _ line (r start g h))) part,
+      λ start g h. front_behind said one says _ _ line (r start g h),
     )
 
 -- they were, but the end of the section was not
@@ -77,16 +71,13 @@ pub end_begun : {W : Type 0} (contents : W → Option (List ℕ)) (before after 
 end_begun contents before after c sect form origin most old mid said one two says read first count
     line found part =
     let key = c.section.key in
-    let r = subst (λ m. RecoversSection contents before after (start_of c) key m form old mid one
-    two read) count
-    (subst (λ o. RecoversSection contents before after o key most form old mid one two read) first
-    found) in (
+    let r = rw (first, count) at found in (
       copy_text sect c form (Some r.items),
       (r.items, inr (after, r.is_ended, r.reads, refl)),
       λ start g h.
           let a = r.recovers start g h in
           front_behind said one says _ _ line (front_behind one two says _ _ a.1
-          (subst (λ n. ReportsFront contents mid two says (read_again_text n c)) r.count part start
+          ((rw r.count at part) start
           (salvaged_from key (believed c) form (start_of c) g r.items) a.0)),
     )
 
@@ -131,9 +122,7 @@ module _ {W L R : Type 0} (contents : W → Option (List ℕ)) (gives : Mounting
       → Begun sect shelf left old said says
   without_form sect c shelf left old said says best off same part =
       begun sect (Some c) shelf left old said says best
-      (subst (λ b. MountsIf b gives remaining c shelf left None) (sym off) (same, refl))
-      (subst (λ b. ReportsFront contents old said says
-      (λ g. if b then no_section_text sect g else no_form_text sect g)) (sym off) part)
+      (rw off (same, refl)) (rw off part)
 
   pub without_image : (sect : ℕ) (c : SectionCopy) (shelf left : L) (old : Recovery W)
       (said says : Option (List ℕ)) → IsBest (firsts sect None copies) (Some c)
@@ -142,9 +131,7 @@ module _ {W L R : Type 0} (contents : W → Option (List ℕ)) (gives : Mounting
       → Begun sect shelf left old said says
   without_image sect c shelf left old said says best on gave part =
       begun sect (Some c) shelf left old said says best
-      (subst (λ b. MountsIf b gives remaining c shelf left None) (sym on) (None, gave, refl))
-      (subst (λ b. ReportsFront contents old said says
-      (λ g. if b then no_section_text sect g else no_form_text sect g)) (sym on) part)
+      (rw on (None, gave, refl)) (rw on part)
 
   pub copy_begun : (sect : ℕ) (c : SectionCopy) (device : R) (shelf left : L) (old : Recovery W)
       (said says : Option (List ℕ)) → IsBest (firsts sect None copies) (Some c)
@@ -179,32 +166,23 @@ module _ {W L R : Type 0} (contents : W → Option (List ℕ)) (gives : Mounting
       (said w says : Option (List ℕ)) → n < last_section copies → known ≡ form_of_file copies
       → TakenSoFar contents gives remaining copies content known n end shelf now old mid said w
       → Begun (n + 1) now left mid w says → Stopped shelf left old said says
-  stops_in n end shelf now left old mid said w says within form s (part, begins, fronts) =
-      let at : n + 1 ≡ length s.taken + 1 = omega (arith, s.counted) in
+  stops_in n end shelf now left old mid said w says within form so_far (part, begins, fronts) =
+      let s = rw form at so_far in
+      let many : n + 1 ≡ length s.taken + 1 = omega (arith, s.counted) in
       let less : length s.taken < last_section copies = omega (arith, s.counted, within) in
-      let lines = λ (f : Option FileForm) (g : Salvaged). all_text content f 1 s.taken g
-      ++ part (after_all content f s.taken g) in (
-        lines (form_of_file copies),
+      let known_now = form_of_file copies in (
+        (λ (g : Salvaged). all_text content known_now 1 s.taken g
+            ++ part (after_all content known_now s.taken g)),
         record {
           taken = s.taken;
           mid = now;
-          took = subst (λ f. AreTaken gives remaining copies content f 1 shelf s.taken now) form
-              s.took;
-          are = inr (inl (
-            subst (λ f. GoOn content f s.taken) form s.on,
-            less,
-            part,
-            subst (λ f. StopsSection gives remaining copies content f (length s.taken + 1) now left
-                part) form
-                (subst (λ m. StopsSection gives remaining copies content known m now left part) at
-                begins),
-            refl,
-          ));
+          took = s.took;
+          are = inr (inl (s.on, less, part, rw (form, many) at begins, refl));
         },
-        subst (λ f. ReportsFront contents old said says (lines f)) form (λ start g h.
+        λ start g h.
             let r = s.recovers start g h in
             front_behind said w says _ _ r.1
-            (fronts start (after_all content known s.taken g) r.0)),
+            (fronts start (after_all content known_now s.taken g) r.0),
       )
 
   -- after all sections that were found
@@ -213,29 +191,17 @@ module _ {W L R : Type 0} (contents : W → Option (List ℕ)) (gives : Mounting
       → TakenSoFar contents gives remaining copies content known n end shelf now old mid said w
       → end ≡ Continues → ReportsFront contents mid w says (no_section_text (next_section n))
       → Stopped shelf now old said says
-  stops_last n end shelf now old mid said w says all form s on missed = (
-    file_text content copies s.taken,
-    record {
-      taken = s.taken;
-      mid = now;
-      took = subst (λ f. AreTaken gives remaining copies content f 1 shelf s.taken now) form s.took;
-      are = inr (inr (
-        inl (subst (λ f. GoOn content f s.taken) form s.on, s.counted ∙ all),
-        refl,
-        refl,
-      ));
-    },
-    subst (λ f. ReportsFront contents old said says
-        (λ g. all_text content f 1 s.taken g ++ last_text (last_end content f s.taken)
-        (next_section (length s.taken)) (after_all content f s.taken g))) form
-        (subst (λ e. ReportsFront contents old said says
-        (λ g. all_text content known 1 s.taken g
-        ++ last_text e (next_section (length s.taken)) (after_all content known s.taken g)))
-        (sym on ∙ s.last)
-        (subst (λ m. ReportsFront contents old said says
-        (λ g. all_text content known 1 s.taken g
-        ++ no_section_text (next_section m) (after_all content known s.taken g))) (sym s.counted)
-        (λ start g h.
-        let r = s.recovers start g h in
-        front_behind said w says _ _ r.1 (missed start (after_all content known s.taken g) r.0)))),
-  )
+  stops_last n end shelf now old mid said w says all form so_far on missed =
+      let s = rw form at so_far in (
+        file_text content copies s.taken,
+        record {
+          taken = s.taken;
+          mid = now;
+          took = s.took;
+          are = inr (inr (inl (s.on, s.counted ∙ all), refl, refl));
+        },
+        rw (sym s.last ∙ on, s.counted) (λ start g h.
+            let r = s.recovers start g h in
+            front_behind said w says _ _ r.1
+            (missed start (after_all content (form_of_file copies) s.taken g) r.0)),
+      )

@@ -4,21 +4,12 @@ use Rattle.std.proofs.Common.{◌∷◌, ◌++◌, length, Option, Some, None, r
 use Rattle.std.proofs.Common.{arith, append_assoc, append-nil, ◌⊎◌, inl, inr}
 use Rattle.std.proofs.lemmas.List.{take_more}
 use Rattle.std.specs.{Prelude.if◌then◌else◌, List.AllByRecursion}
+use Rattle.tape_set.proofs.Everywhere.{every, every-append}
 use Rattle.tape_run.specs.SalvageChoice.{is_considered, firsts, last_image, IsBest, IsChoice}
 use Rattle.tape_run.specs.{declared.salvage.copies.SectionCopy.SectionCopy, SalvageCopies.rank}
 use Rattle.tape_run.specs.SalvageChoice.{last_section}
 
 -- ---- the best copy
-
-pub all_append : {X : Type 0} (P : X → Type 0) (xs ys : List X) → AllByRecursion P xs
-    → AllByRecursion P ys → AllByRecursion P (xs ++ ys)
-all_append P [] ys a b = b
-all_append P (x ∷ xs) ys (h, a) b = (h, all_append P xs ys a b)
-
-pub all_map : {X : Type 0} (P Q : X → Type 0) → ((x : X) → P x → Q x) → (xs : List X)
-    → AllByRecursion P xs → AllByRecursion Q xs
-all_map P Q f [] a = tt
-all_map P Q f (x ∷ xs) (h, a) = (f x h, all_map P Q f xs a)
 
 -- one more copy
 pub record More (sect : ℕ) (last : Option ℕ) (cs : List SectionCopy) (c : SectionCopy) (b : Bool)
@@ -58,7 +49,7 @@ still_best cs b c lower (front, rest, is, less, most) = (
   rest ++ c ∷ [],
   ap (λ (l : List SectionCopy). l ++ c ∷ []) is ∙ append_assoc front (b ∷ rest) (c ∷ []),
   less,
-  all_append (λ d. rank d ≤ rank b) rest (c ∷ []) most (lower, tt),
+  every-append (λ d. rank d ≤ rank b) rest (c ∷ []) most (lower, tt),
 )
 
 pub new_best : (cs : List SectionCopy) (b c : SectionCopy) → rank b < rank c
@@ -68,11 +59,11 @@ new_best cs b c more_rank (front, rest, is, less, most) = (
   [],
   refl,
   subst (AllByRecursion (λ d. rank d < rank c)) (sym is)
-      (all_append (λ d. rank d < rank c) front (b ∷ rest)
-      (all_map (λ d. rank d < rank b) (λ d. rank d < rank c)
+      (every-append (λ d. rank d < rank c) front (b ∷ rest)
+      (every (λ d. rank d < rank b) (λ d. rank d < rank c)
       (λ d h. omega (arith, h, more_rank)) front less) (
         more_rank,
-        all_map (λ d. rank d ≤ rank b) (λ d. rank d < rank c)
+        every (λ d. rank d ≤ rank b) (λ d. rank d < rank c)
             (λ d h. omega (arith, h, more_rank)) rest most,
       )),
   tt,
@@ -95,11 +86,11 @@ best_with c cs (Some b, (front, rest, is, less, most)) = elim (one_of (rank b) (
       refl,
       tt,
       subst (AllByRecursion (λ d. rank d ≤ rank c)) (sym is)
-          (all_append (λ d. rank d ≤ rank c) front (b ∷ rest)
-          (all_map (λ d. rank d < rank b) (λ d. rank d ≤ rank c)
+          (every-append (λ d. rank d ≤ rank c) front (b ∷ rest)
+          (every (λ d. rank d < rank b) (λ d. rank d ≤ rank c)
           (λ d h. omega (arith, h, low)) front less) (
             low,
-            all_map (λ d. rank d ≤ rank b) (λ d. rank d ≤ rank c)
+            every (λ d. rank d ≤ rank b) (λ d. rank d ≤ rank c)
                 (λ d h. omega (arith, h, low)) rest most,
           )),
     ),

@@ -7,6 +7,7 @@ use Rattle.tape_label.specs.declared.values.{Head1.Head1, Trail1.Trail1}
 use Rattle.tape_label.specs.{Reading.head1_at, Reading.trail1_at}
 use Rattle.tape_label.proofs.First.{head1_again, trail1_again}
 use Rattle.tape_set.specs.Lawful.{label_count}
+use Rattle.tape_set.proofs.Everywhere.{every, every-append}
 use Rattle.tape_run.specs.declared.salvage.walk.{OpenSection.OpenSection, Closing.Closing}
 use Rattle.tape_run.specs.declared.section.SectionKey.{SectionKey}
 use Rattle.tape_run.specs.SalvageWalk.{FoundAt, section_by, sections_in}
@@ -16,7 +17,6 @@ use Rattle.tape_run.specs.SalvageClosed.{IsNoMark, IsClosedIn, IsThere, digest_i
 use Rattle.tape_run.specs.SalvageDamaged.{AnySection, if_read, to_trailer, from_trailer}
 use Rattle.tape_run.specs.SalvageDamaged.{any_sections, any_volume, IsPlainSection, AreApart}
 use Rattle.tape_run.specs.SalvageDamaged.{key_in, IsExact, IsFoundExactly, ClosedAreExact}
-use Rattle.tape_run.proofs.SalvageChoice.{all_append, all_map}
 use Rattle.tape_run.proofs.{SalvageClosed.closed_are_there, SalvageVolumes.volume_no_heads}
 use Rattle.tape_run.proofs.SalvageOpened.{key_is, long}
 use Rattle.tape_run.proofs.SalvagePlaces.{same_place, between}
@@ -35,10 +35,10 @@ module _ (set_id : List ℕ) where
     to_all : (P : TapeItem → Type 0) (key : SectionKey)
         → ((x : TapeItem) → IsNone set_id key x → P x) → ((g : Bool) → P (if_read g mark))
         → (r : AnySection) → IsPlainSection set_id volumes r → AllByRecursion P (to_trailer r)
-    to_all P key f m r p = all_append P (read_labels r.headers) _ (all_map (IsNone set_id key) P f
+    to_all P key f m r p = every-append P (read_labels r.headers) _ (every (IsNone set_id key) P f
         (read_labels r.headers) (plain_labels set_id key r.headers p.headers)) (
           m r.first_mark,
-          all_append P (read_blocks r.blocks) _ (all_map (IsNone set_id key) P f
+          every-append P (read_blocks r.blocks) _ (every (IsNone set_id key) P f
               (read_blocks r.blocks) (plain_blocks set_id key r.blocks p.blocks))
               (m r.second_mark, tt),
         )
@@ -50,8 +50,8 @@ module _ (set_id : List ℕ) where
     after_all : (P : TapeItem → Type 0) (key : SectionKey)
         → ((x : TapeItem) → IsNone set_id key x → P x) → ((g : Bool) → P (if_read g mark))
         → (r : AnySection) → IsPlainSection set_id volumes r → AllByRecursion P (after_trailer r)
-    after_all P key f m r p = all_append P (read_labels r.trailers) _
-        (all_map (IsNone set_id key) P f (read_labels r.trailers)
+    after_all P key f m r p = every-append P (read_labels r.trailers) _
+        (every (IsNone set_id key) P f (read_labels r.trailers)
         (plain_labels set_id key r.trailers p.trailers)) (m r.last_mark, tt)
 
     to_heads : (r : AnySection) → IsPlainSection set_id volumes r
@@ -116,8 +116,8 @@ module _ (set_id : List ℕ) where
               (sym (append_assoc (to_trailer r) (from_trailer r ++ any_sections rs) tail
               ∙ ap (λ (l : List TapeItem). to_trailer r ++ l)
               (append_assoc (from_trailer r) (any_sections rs) tail)))
-              (all_append (NotOwn key) (to_trailer r) _ (to_own key r p)
-              (all_append (NotOwn key) (from_trailer r) _
+              (every-append (NotOwn key) (to_trailer r) _ (to_own key r p)
+              (every-append (NotOwn key) (from_trailer r) _
               (trailer_own key r.trailer r p o, after_own key r p) rest)),
         )
 
@@ -268,14 +268,14 @@ module _ (set_id : List ℕ) where
         let place = same_place (NotOwn key) prefix (block c.trailer) (c.rest ++ more) (to_trailer r)
         (if_read r.trailer (block r.placed.section.trailer)) after
         (λ off. off c.trail c.ends mine) (to_own key r p)
-        (all_append (NotOwn key) (after_trailer r) _ (after_own key r p)
+        (every-append (NotOwn key) (after_trailer r) _ (after_own key r p)
         (later_own key s.rest tail later others (mark_own set_id key last, tt)))
         (sym split ∙ s.items) in
         let exact = between c.labels c.data_items (read_labels r.headers) (read_blocks r.blocks)
         (if_read r.first_mark mark) (if_read r.second_mark mark) c.no_labels c.no_data
-        (all_map (IsNone set_id key) IsNoMark (λ x h. h.off) (read_labels r.headers)
+        (every (IsNone set_id key) IsNoMark (λ x h. h.off) (read_labels r.headers)
         (plain_labels set_id key r.headers p.headers))
-        (all_map (IsNone set_id key) IsNoMark (λ x h. h.off) (read_blocks r.blocks)
+        (every (IsNone set_id key) IsNoMark (λ x h. h.off) (read_blocks r.blocks)
         (plain_blocks set_id key r.blocks p.blocks)) place.before in
         let trail_is = block_is r.trailer r.placed.section.trailer c.trailer place.here in
         let trails : t ≡ c.trail = cc (sym (trail1_again r.placed.section.trailer t label.label)

@@ -256,7 +256,7 @@ sections_append r rs =
     ap (λ (l : List TapeItem). h ∷ l) (append_assoc a (b ++ []) (any_sections rs)
     ∙ ap (λ (l : List TapeItem). a ++ (l ++ any_sections rs)) (append-nil b))
 
-abbrev placed_of : List AnySection → List Placed
+abbrev pub placed_of : List AnySection → List Placed
 placed_of rs = map (λ (r : AnySection). r.placed) rs
 
 record ReadSections (set : FileSet) (ps : List Placed) (gs : List Bool) : Type 0 where

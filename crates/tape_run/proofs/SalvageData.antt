@@ -24,6 +24,7 @@ use Rattle.tape_run.proofs.{SalvageOpened.one_more, SalvageGaps.text_data, Salva
 use Rattle.tape_run.proofs.SalvagedSoFar.{text_from-append, closings-append, read_at_mark}
 use Rattle.tape_run.proofs.SalvageRest.{no_number, none_by, rest_none}
 use Rattle.tape_run.proofs.SalvageSections.{is_number, no_mark}
+use Rattle.tape_run.proofs.SalvageSetGaps.{data_append}
 use Rattle.tape_run.proofs.SalvageFresh.{Fresh, enters, not_read, starts}
 
 -- ---- the items
@@ -157,15 +158,6 @@ module _ (key : SectionKey) where
     has_data_by true (Outside n) g (x ∷ xs) fits is fresh none = absurd (cc is)
     has_data_by _ _ g _ fits is fresh none = absurd (cc is)
 
-    data-append : (s : Expected) (xs ys : List TapeItem) → data_in key most s (xs ++ ys)
-        ≡ data_in key most s xs ++ data_in key most (expected_after s xs) ys
-    data-append s [] ys = refl
-    data-append s (x ∷ xs) ys =
-        let d = datum (number_in key most s) x in
-        ap (λ (l : List TapeItem). d ++ l) (data-append (step s x).0 xs ys)
-        ∙ sym (append_assoc d (data_in key most (step s x).0 xs)
-        (data_in key most (expected_after (step s x).0 xs) ys))
-
     no_datum : (m : Option ℕ) → datum m mark ≡ []
     no_datum None = refl
     no_datum (Some n) = refl
@@ -184,7 +176,7 @@ module _ (key : SectionKey) where
         let m = number_in key most t in
         let z = salvaged_from key most form s g front in
         let d : data_in key most s (front ++ mark ∷ []) ≡ data_in key most s front =
-        data-append s front (mark ∷ [])
+        data_append key most s front (mark ∷ [])
         ∙ ap (λ (l : List TapeItem). data_in key most s front ++ (l ++ [])) (no_datum m)
         ∙ append-nil (data_in key most s front) in
         record {

@@ -1,11 +1,11 @@
 -- A file recovered from readings of volumes of a valid set.
 use Rattle.std.proofs.Common.{◌≡◌, ℕ, ◌&&◌, nat_lt, Bool, true, false, List, [], ◌∷◌, ◌++◌, Option}
 use Rattle.std.proofs.Common.{Some, refl, sym, ap, subst, ◌∙◌, arith, append-nil, append_assoc, ◌+◌}
-use Rattle.std.proofs.Common.{if◌then◌else◌, is_some}
-use Rattle.std.specs.List.{AllByRecursion}
-use Rattle.std.proofs.lemmas.Bool.Decides.{nat_tests}
+use Rattle.std.proofs.{Common.if◌then◌else◌, Common.is_some, lemmas.Bool.Decides.nat_tests}
 use Rattle.std.proofs.lemmas.Bool.{or_parts}
+use Rattle.std.specs.List.{AllByRecursion}
 use Rattle.tape_set.specs.Lawful.{FileForm}
+use Rattle.tape_set.proofs.Everywhere.{every-append}
 use Rattle.tape_run.specs.declared.salvage.walk.{Closing.Closing, Expected.TheVariants.Outside}
 use Rattle.tape_run.specs.declared.salvage.Content.TheVariants.{Records}
 use Rattle.tape_run.specs.declared.salvage.copies.SectionCopy.{SectionCopy}
@@ -18,7 +18,6 @@ use Rattle.tape_run.specs.SalvageEnds.{with_end, with_count, without_gap, ended,
 use Rattle.tape_run.specs.SalvageTaking.{Taken, after_taken, after_copy, after_all, has_form}
 use Rattle.tape_run.specs.SalvageFile.{closed_copy, IsTakenFrom, AreTakenFrom, blocks_of}
 use Rattle.tape_run.specs.SalvageFile.{RecoversBlocks, RecoversFile, RecoversUpToGap}
-use Rattle.tape_run.proofs.SalvageChoice.{all_append}
 use Rattle.tape_run.proofs.SalvageSections.{salvaged_blocks, piece_of}
 use Rattle.tape_run.proofs.SalvageWhole.{gives_whole, all_whole}
 use Rattle.tape_run.proofs.SalvageGrows.{after_append, never_less}
@@ -139,7 +138,7 @@ all_add set_id volumes known form (t ∷ ts) (r ∷ rs) g (x, xs) =
       none = λ e.
           let b = rest.none e in
           let a = one.none b.0 in
-          (a.0, all_append (λ b. b.0 ≡ true) _ _ a.1 b.1);
+          (a.0, every-append (λ b. b.0 ≡ true) _ _ a.1 b.1);
     }
 
 pub recovers_blocks : RecoversBlocks
@@ -159,7 +158,7 @@ recovers_blocks set_id volumes known form eof ts t rs r xs x =
           let b = last.none (ap (λ (z : Salvaged). z.missing) (sym whole) ∙ e) in
           let a = front.none b.0 in
           subst (λ l. AllByRecursion (λ b. b.0 ≡ true) l) (sym joined)
-          (all_append (λ b. b.0 ≡ true) _ _ a.1 b.1),
+          (every-append (λ b. b.0 ≡ true) _ _ a.1 b.1),
     )
 
 pub recovers_file : RecoversFile

@@ -1,27 +1,24 @@
 -- A section of a valid set is found to close.
 use Rattle.std.proofs.Common.{◌≡◌, ℕ, Bool, true, false, List, [], ◌∷◌, ◌++◌, Option, Some, None}
-use Rattle.std.proofs.Common.{map, refl, sym, ap, subst, ◌∙◌, append_assoc, append-nil, length, Ok}
+use Rattle.std.proofs.Common.{map, refl, sym, ap, subst, ◌∙◌, append_assoc, append-nil}
 use Rattle.std.proofs.Common.{if◌then◌else◌, ◌==◌}
 use Rattle.std.specs.List.{AllByRecursion}
 use Rattle.tape_image.specs.Tape.{TapeItem, block, bad, mark}
-use Rattle.tape_label.specs.declared.values.Kind.TheVariants as kinds
-use Rattle.tape_label.specs.{declared.values.Head1.Head1, declared.values.Trail1.Trail1}
-use Rattle.tape_label.specs.{Kinds.kind_at, Reading.head1_at, Reading.head2_at, Reading.trail1_at}
-use Rattle.tape_set.specs.{Layout.Volume, Lawful.FileForm, Lawful.IsVolume, Lawful.label_count}
+use Rattle.tape_set.specs.{Layout.Volume, Lawful.IsVolume}
 use Rattle.tape_run.specs.declared.salvage.walk.Expected.TheVariants.{Outside, Second, Headers}
 use Rattle.tape_run.specs.SalvageWalk.{step, expected_after, found_from, in_list, FoundSection}
-use Rattle.tape_run.specs.SalvageWalk.{FoundAt, read_after, one_further, form_by, open_section}
+use Rattle.tape_run.specs.SalvageWalk.{FoundAt, read_after, one_further, open_section}
 use Rattle.tape_run.specs.SalvageSections.{SectionRead, IsRead, Labels, AreLabels, read_labels}
 use Rattle.tape_run.specs.SalvageSections.{read_section, read_sections, read_volume, key_of}
 use Rattle.tape_run.specs.{declared.salvage.walk.OpenSection.OpenSection, SalvageWalk.sections_in}
-use Rattle.tape_run.specs.{declared.salvage.walk.Closing.Closing, SalvageWhole.not_read}
+use Rattle.tape_run.specs.{declared.salvage.walk.Closing.Closing}
 use Rattle.tape_run.specs.declared.salvage.walk.Expected.{Expected}
 use Rattle.tape_run.specs.declared.salvage.walk.Expected.TheVariants.{Trailer, Trailers, Next, Over}
 use Rattle.tape_run.specs.SalvageSections.{MayBegin, after_trailers, FindsSection}
 use Rattle.tape_run.proofs.SalvageSteps.{gathered, Quiet, quiet_data, section_walked, outside}
 use Rattle.tape_run.proofs.{SalvagedSoFar.expected_after-append, SalvageVolumes.volume_no_heads}
-use Rattle.tape_run.proofs.SalvageOpened.{trailer_step, may_after, AllRead}
-use Rattle.tape_run.proofs.SalvageSteps.{FirstIsRead}
+use Rattle.tape_run.proofs.SalvageOpened.{trailer_step, may_after}
+use Rattle.tape_run.proofs.SalvageSteps.{IsAsRead}
 
 pub found_from-append : (s : Expected) (n : ℕ) (xs ys : List TapeItem)
     → found_from s n (xs ++ ys)
@@ -103,17 +100,7 @@ pub record IsFound (set_id : List ℕ) (r : SectionRead) (found : FoundAt) : Typ
   pub section : OpenSection
   pub closing : Closing
   pub is : found ≡ (place, (section, Some closing))
-  pub key : section.key ≡ key_of set_id r
-  pub blocks : section.blocks ≡ length r.blocks
-  pub count : closing.count ≡ label_count (length r.blocks)
-  pub after : section.after ≡ None
-  pub unread : section.unreadable ≡ not_read r.blocks
-  pub certain : AllRead r.headers → not_read r.blocks ≡ 0 → section.certain ≡ None
-  pub doubt : section.certain ≡ None → not_read r.blocks ≡ 0
-  pub eof : (t : Trail1) → trail1_at r.placed.section.trailer ≡ Ok t → closing.eof ≡ t.eof
-  pub form : (h : Head1) (f : FileForm) → head1_at r.placed.section.hdr1 ≡ Ok h
-      → FirstIsRead r.headers → kind_at r.placed.section.hdr2 ≡ Some kinds.Hdr2
-      → form_by h.file_id (head2_at r.placed.section.hdr2) ≡ Some f → section.form ≡ Some f
+  pub has : IsAsRead set_id r section closing
 
 pub record FindsOne (set_id : List ℕ) (r : SectionRead) (s : Expected) (before : ℕ) : Type 0 where
   pub found : FoundAt
@@ -137,15 +124,7 @@ finds_one set_id volumes r s before read may =
         section = w.section;
         closing = w.closing;
         is = refl;
-        key = w.key;
-        blocks = w.blocks;
-        count = w.count;
-        after = w.after;
-        unread = w.unread;
-        certain = w.certain;
-        doubt = w.doubt;
-        eof = w.eof;
-        form = w.form;
+        has = w.has;
       };
       only = at.1;
       after = w.walk.after;
@@ -159,9 +138,9 @@ finds_section set_id volumes r s before read may =
       f.closing,
       f.place,
       one.only ∙ ap (λ (t : FoundAt). t ∷ []) f.is,
-      f.key,
-      f.blocks,
-      f.count,
+      f.has.key,
+      f.has.blocks,
+      f.has.count,
     )
 
 -- ---- a volume

@@ -1,8 +1,7 @@
 -- The copies that are found on images of a valid set's volumes.
 use Rattle.std.proofs.Common.{◌≡◌, ℕ, ◌+◌, Bool, true, false, List, [], ◌∷◌, ◌++◌, length, Some}
-use Rattle.std.proofs.Common.{None, refl, sym, ap, subst, ◌∙◌, inl, inr, map, append-nil}
-use Rattle.std.proofs.{Common.if◌then◌else◌, Common.◌==◌, lemmas.Bool.and_parts}
-use Rattle.std.proofs.lemmas.Slice.Eq.{bytes_eq-Decides}
+use Rattle.std.proofs.Common.{None, refl, sym, ap, subst, ◌∙◌, inl, inr, append-nil, if◌then◌else◌}
+use Rattle.std.proofs.{Common.◌==◌, lemmas.Bool.and_parts, lemmas.Slice.Eq.bytes_eq-Decides}
 use Rattle.std.specs.{Str.bytes_eq, List.AllByRecursion}
 use Rattle.tape_image.specs.{Tape.TapeItem, Tape.block, Begins.Stop, Begins.Begins, Step.IsCause}
 use Rattle.tape_image.specs.declared.item.ImageCause.{ImageCause}
@@ -10,7 +9,7 @@ use Rattle.tape_image.specs.declared.item.ImageCause.TheVariants.{Truncated, Dev
 use Rattle.tape_image.proofs.{Callers.front_of_image, Uniqueness.Begins-one, Walks.IfKnown-at}
 use Rattle.tape_set.specs.Layout.{FileSet, Placed, on, sections}
 use Rattle.tape_set.specs.Lawful.{IsLawful, label_count}
-use Rattle.tape_set.proofs.Everywhere.{every_stands, every_front}
+use Rattle.tape_set.proofs.Everywhere.{every_stands, every_front, every, every-append}
 use Rattle.tape_set.proofs.{Numbering.section_stands, Volumes.IsOn, Volumes.sections_on_are}
 use Rattle.tape_run.specs.SalvageDamagedSets.{IsPlainSet, AreAnyRead, IsOtherHead, IsAnyCopy}
 use Rattle.tape_run.specs.{declared.section.SectionKey.SectionKey, Added.StopsBehind}
@@ -22,8 +21,7 @@ use Rattle.tape_run.specs.SalvageCopies.{is_of, copy_of, of_file}
 use Rattle.tape_run.specs.SalvageDamaged.{AnySection, IsPlainSection, IsFoundExactly}
 use Rattle.tape_run.specs.SalvageDamagedSets.{IsExactIf, FoundAreExact}
 use Rattle.tape_run.proofs.{Fronts.walks_before, SalvageClosed.closed_are_there, SalvageOpened.long}
-use Rattle.tape_run.proofs.SalvageDamagedSets.{closed_of_set_are_exact}
-use Rattle.tape_run.proofs.SalvageChoice.{all_append, all_map}
+use Rattle.tape_run.proofs.SalvageDamagedSets.{closed_of_set_are_exact, placed_of}
 
 -- ---- the items that were read come first among those of the image
 
@@ -58,9 +56,6 @@ no_head : (set_id : List ℕ) (front : List TapeItem) (b : List ℕ) (rest : Lis
     → AllByRecursion (IsOtherHead set_id) (front ++ block b ∷ rest) → IsOtherHead set_id (block b)
 no_head set_id [] b rest (h, all) = h
 no_head set_id (x ∷ front) b rest (h, all) = no_head set_id front b rest all
-
-abbrev placed_of : List AnySection → List Placed
-placed_of rs = map (λ (r : AnySection). r.placed) rs
 
 placed_at : (a : List AnySection) (s : AnySection) (b : List AnySection)
     → placed_of (a ++ s ∷ b) ≡ placed_of a ++ s.placed ∷ placed_of b
@@ -134,12 +129,12 @@ module _ (set : FileSet) (file n : ℕ) (l : IsLawful set) where
       → AllByRecursion (IsExactIf set) (of_file set.set_id file n (sections_in its))
   image_exact plain its all more splits (inl (r, reading, is)) =
       let x = closed_of_set_are_exact set r its more l reading plain (sym splits ∙ is) in
-      each_exact (sections_in its) (all_map (IsFoundExactly set.set_id x.0 its) Exact
+      each_exact (sections_in its) (every (IsFoundExactly set.set_id x.0 its) Exact
       (λ t h. on_volume its x.0 r.volume x.1 t h) (sections_in its) x.2)
   image_exact plain its all more splits (inr other) =
       let none = every_front (IsOtherHead set.set_id) its more
       (subst (AllByRecursion (IsOtherHead set.set_id)) splits other) in
-      each_exact (sections_in its) (all_map (IsThere its) Exact
+      each_exact (sections_in its) (every (IsThere its) Exact
       (λ t h. on_foreign its none t h) (sections_in its) (closed_are_there its))
 
 pub found_are_exact : FoundAreExact
@@ -158,5 +153,5 @@ found_are_exact set file n (Some (Some bytes) ∷ reels) old copies text l plain
     let (more, splits) = stops_front found.items xs found.stop bytes ys end stop stops begins in
     found_are_exact set file (n + 1) reels mid copies rest l plain images finds
     (subst (AllByRecursion (IsExactIf set)) (sym found.seen)
-    (all_append (IsExactIf set) old (of_file set.set_id file n (sections_in found.items)) all
+    (every-append (IsExactIf set) old (of_file set.set_id file n (sections_in found.items)) all
     (image_exact set file n l plain found.items xs more splits copy)))

@@ -9,9 +9,8 @@ use Rattle.tape_set.specs.Lawful.{FileForm}
 use Rattle.tape_run.specs.SalvageBlocks.{Salvaged, salvaged_at, text_at, gap_text, torn_text}
 use Rattle.tape_run.specs.SalvageGaps.{salvaged_data, Gap, BlockLine, a_gap, a_torn, a_refused}
 use Rattle.tape_run.specs.SalvageGaps.{block_line, block_lines, gaps_in, IsReadable, StartsReadable}
-use Rattle.tape_run.specs.{SalvageBlocks.refused_text, SalvageWalk.first_of, SalvageGaps.AreGaps}
-use Rattle.tape_run.specs.SalvageRecords.{found_fault, is_cut}
-use Rattle.tape_run.specs.SalvageClosed.{IsNoMark}
+use Rattle.tape_run.specs.{SalvageBlocks.refused_text, SalvageGaps.AreGaps, SalvageClosed.IsNoMark}
+use Rattle.tape_run.specs.{SalvageWalk.first_of, SalvageRecords.found_fault, SalvageRecords.is_cut}
 use Rattle.tape_run.proofs.SalvageComing.{not_bad}
 
 -- ---- lines

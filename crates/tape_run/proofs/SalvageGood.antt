@@ -9,7 +9,7 @@ use Rattle.tape_label.proofs.{First.head1_again, First.trail1_again, Apart.kind_
 use Rattle.tape_set.specs.Layout.{FileSet, Section, Placed, nth, on}
 use Rattle.tape_set.specs.{Layout.sections, Layout.section_of, Layout.ends_file, Lawful.IsLawful}
 use Rattle.tape_set.specs.{Lawful.FileForm, Lawful.TellsForm, Laws.StandsIn, Reading.Reading}
-use Rattle.tape_set.proofs.Everywhere.{every_stands, stands_behind, stands_before}
+use Rattle.tape_set.proofs.Everywhere.{every_stands, stands_behind, stands_before, every-append}
 use Rattle.tape_set.proofs.{Numbering.placed, Forms.trailer_ends}
 use Rattle.tape_set.proofs.Volumes.{IsOn, sections_on_are, wanted_lies}
 use Rattle.tape_run.specs.declared.salvage.walk.{OpenSection.OpenSection, Closing.Closing}
@@ -19,7 +19,7 @@ use Rattle.tape_run.specs.SalvageCopies.{is_of, copy_of, of_file, rank}
 use Rattle.tape_run.specs.SalvageSections.{SectionRead, IsRead, key_of}
 use Rattle.tape_run.specs.{SalvageFile.closed_copy, SalvageReadings.IsReadVolume}
 use Rattle.tape_run.specs.SalvageSets.{items_read, IsCompleteOr, copies_on, HasVolume, rank_of}
-use Rattle.tape_run.proofs.{SalvageChoice.all_append, SalvageSteps.AreHeads, StayingGood.key_again}
+use Rattle.tape_run.proofs.{SalvageSteps.AreHeads, StayingGood.key_again}
 use Rattle.tape_run.proofs.{WholeVolumes.some_of, SalvageRanks.form_read, SalvageRanks.found_rank}
 use Rattle.tape_run.proofs.SalvageFound.{IsFound, AreFound, volume_found}
 use Rattle.tape_run.proofs.SalvageReadings.{placed_of, ReadVolume, volume_read}
@@ -64,7 +64,7 @@ module _ (set : FileSet) (file : ℕ) (all : List (Option Reading)) where
         section = u;
         closed = Some k;
         skip = option_map (λ m. f.place - m - u.blocks) a;
-      }) f.after in
+      }) f.has.after in
       record {
         reading = r;
         image = at;
@@ -76,13 +76,13 @@ module _ (set : FileSet) (file : ℕ) (all : List (Option Reading)) where
         found = u;
         closing = k;
         copy = copy;
-        key = f.key;
-        own = ap (λ (z : _). z.file) (sym f.key) ∙ number;
-        blocks = f.blocks;
-        eof = f.eof label (trail1_again x.trailer label trailer.label)
+        key = f.has.key;
+        own = ap (λ (z : _). z.file) (sym f.has.key) ∙ number;
+        blocks = f.has.blocks;
+        eof = f.has.eof label (trail1_again x.trailer label trailer.label)
             ∙ trailer_ends x label trailer.label;
-        form = λ form told. f.form told.head form (head1_again x.hdr1 told.head told.hdr1) first.0
-            (kind_again x.hdr2 kinds.Hdr2 told.hdr2.kind) (form_read form x told);
+        form = λ form told. f.has.form told.head form (head1_again x.hdr1 told.head told.hdr1)
+            first.0 (kind_again x.hdr2 kinds.Hdr2 told.hdr2.kind) (form_read form x told);
         rank_is = ap rank copy ∙ found_rank set.set_id n s t f first.1;
       }
 
@@ -135,7 +135,7 @@ module _ (set : FileSet) (file : ℕ) (all : List (Option Reading)) where
       let e : n + 0 ≡ n = omega arith in
       let at : slice_get all n ≡ Some (Some r) =
       ap (λ v. slice_get all v) (sym e) ∙ sym (there 0) in
-      all_append IsGood (of_file set.set_id file n (sections_in (items_read set r)))
+      every-append IsGood (of_file set.set_id file n (sections_in (items_read set r)))
       (copies_on set file (n + 1) rs)
       (of_file_good n r f.read.volume at [] f.read.volume.reads (sections_in (items_read set r))
       refl f.read.firsts f.read.volume.are_read f.found)
@@ -212,7 +212,7 @@ module _ (set : FileSet) (file sect : ℕ) (w : Section) (l : IsLawful set)
       let (t, among, g) = found_at set.set_id a s b (sections_in (items_read set r))
       (subst (λ xs. AreFound set.set_id xs (sections_in (items_read set r))) is f.found) in
       let key : g.section.key ≡ record { set_id = set.set_id; file = file; sect = sect } =
-      g.key ∙ ap (λ (p : Placed). record { set_id = set.set_id; file = p.file; sect = p.sect })
+      g.has.key ∙ ap (λ (p : Placed). record { set_id = set.set_id; file = p.file; sect = p.sect })
       here in
       let again = key_again (record { set_id = set.set_id; file = file; sect = sect }) in
       let ids = (and_parts (bytes_eq set.set_id set.set_id)

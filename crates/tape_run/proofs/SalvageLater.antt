@@ -3,9 +3,9 @@ use Rattle.std.proofs.Common.{◌≡◌, ℕ, Bool, true, false, List, [], ◌�
 use Rattle.std.proofs.Common.{Ok, Err, refl, sym, ap, subst, ◌∙◌, ◌⊎◌, inl, inr, if◌then◌else◌}
 use Rattle.std.specs.List.{AllByRecursion}
 use Rattle.tape_image.specs.Tape.{TapeItem, block, bad, mark}
-use Rattle.tape_label.specs.declared.values.{Head1.Head1, Trail1.Trail1}
-use Rattle.tape_label.specs.declared.label.LabelFault.{LabelFault}
-use Rattle.tape_label.specs.Reading.{head1_at, trail1_at}
+use Rattle.tape_label.specs.{declared.values.Head1.Head1, Reading.head1_at, Reading.trail1_at}
+use Rattle.tape_label.specs.{declared.values.Trail1.Trail1, declared.label.LabelFault.LabelFault}
+use Rattle.tape_set.proofs.Everywhere.{every-append}
 use Rattle.tape_run.specs.declared.salvage.walk.{OpenSection.OpenSection, Closing.Closing}
 use Rattle.tape_run.specs.declared.salvage.walk.Expected.{Expected}
 use Rattle.tape_run.specs.declared.salvage.walk.Expected.TheVariants.{Outside, Second, Headers}
@@ -15,7 +15,6 @@ use Rattle.tape_run.specs.declared.salvage.walk.Expected.TheVariants.{UnnamedTra
 use Rattle.tape_run.specs.SalvageWalk.{step, expected_after, closed_by, closes, found_from, in_list}
 use Rattle.tape_run.specs.SalvageWalk.{FoundAt, FoundSection, one_further, open_section, read_after}
 use Rattle.tape_run.specs.SalvageWalk.{sections_in, unclosed_by}
-use Rattle.tape_run.proofs.SalvageChoice.{all_append}
 
 -- parts of a section that was found
 abbrev is_closed : Option FoundSection → Bool
@@ -119,7 +118,7 @@ module _ (P : Expected → List TapeItem → OpenSection → Closing → Type 0)
   all_come : (s : Expected) (n : ℕ) (xs : List TapeItem)
       → AllByRecursion (PAt P s xs) (found_from s n xs)
   all_come s n [] = tt
-  all_come s n (x ∷ xs) = all_append (PAt P s (x ∷ xs)) (in_list n (step s x).1)
+  all_come s n (x ∷ xs) = every-append (PAt P s (x ∷ xs)) (in_list n (step s x).1)
       (found_from (step s x).0 (one_further n) xs)
       (in_list_comes s (x ∷ xs) n (step s x).1 (λ v k e. ends_here s x xs v k e))
       (all_back s x xs (found_from (step s x).0 (one_further n) xs)
@@ -130,6 +129,6 @@ module _ (P : Expected → List TapeItem → OpenSection → Closing → Type 0)
   all_found items =
       let o = Outside 0 in
       let last = in_list (read_after 0 items) (open_section (expected_after o items)) in
-      all_append (PAt P o items) (found_from o 0 items) last (all_come o 0 items)
+      every-append (PAt P o items) (found_from o 0 items) last (all_come o 0 items)
       (in_list_comes o items (read_after 0 items) (open_section (expected_after o items))
       (λ v k e. still_open o items v k e))

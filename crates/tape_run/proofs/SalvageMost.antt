@@ -6,15 +6,15 @@ use Rattle.std.proofs.lemmas.Bool.Decides.{nat_tests}
 use Rattle.std.specs.List.{AllByRecursion}
 use Rattle.tape_set.specs.Layout.{FileSet, Section, Placed, on, sections, section_of}
 use Rattle.tape_set.specs.{Lawful.IsLawful, Laws.StandsIn, Reading.Reading}
-use Rattle.tape_set.proofs.Everywhere.{every_stands, stands_behind, stands_before}
+use Rattle.tape_set.proofs.Everywhere.{every, every-append, every_stands, stands_behind}
+use Rattle.tape_set.proofs.Everywhere.{stands_before}
 use Rattle.tape_set.proofs.{Numbering.placed, Volumes.IsOn, Volumes.sections_on_are}
 use Rattle.tape_run.specs.{declared.salvage.copies.SectionCopy.SectionCopy, SalvageCopies.rank}
 use Rattle.tape_run.specs.SalvageChoice.{firsts, is_considered, IsBest}
 use Rattle.tape_run.specs.{SalvageSections.IsRead, SalvageWhole.Blocks, SalvageWhole.not_read}
 use Rattle.tape_run.specs.SalvageSets.{IsCompleteOr, copies_on, HasBlocks, rank_of, NoneHasMore}
-use Rattle.tape_run.proofs.{SalvageChoice.all_append, SalvageChoice.all_map, SalvageOpened.long}
-use Rattle.tape_run.proofs.{SalvageReadings.placed_of, SalvageSame.same_blocks}
-use Rattle.tape_run.proofs.SalvageAgain.{IsOne, firsts_all}
+use Rattle.tape_run.proofs.{SalvageOpened.long, SalvageSame.same_blocks}
+use Rattle.tape_run.proofs.{SalvageReadings.placed_of, SalvageAgain.IsOne, SalvageAgain.firsts_all}
 use Rattle.tape_run.proofs.SalvageGood.{IsGood, copies_good, good_placed, placed_at, image_has}
 
 -- ---- the copies that are considered
@@ -82,7 +82,7 @@ best_most : (cs : List SectionCopy) (c d : SectionCopy) → IsBest cs (Some c) �
 best_most cs c d (front, rest, is, less, most) among =
     let le : rank c ≤ rank c = omega arith in
     every_stands (λ x. rank x ≤ rank c) _ _ (subst (AllByRecursion (λ x. rank x ≤ rank c)) (sym is)
-    (all_append (λ x. rank x ≤ rank c) _ (c ∷ rest) (all_map (λ x. rank x < rank c)
+    (every-append (λ x. rank x ≤ rank c) _ (c ∷ rest) (every (λ x. rank x < rank c)
     (λ x. rank x ≤ rank c) (λ x h. omega (arith, h)) _ less) (le, most))) among
 
 -- ---- the number of blocks

@@ -1,19 +1,18 @@
 -- One section, recovered from its best copy.
-use Rattle.std.proofs.Common.{◌≡◌, ℕ, Bool, true, false, List, ◌++◌}
-use Rattle.std.proofs.Common.{Option, Some, None, refl, sym, ap, subst, ◌∙◌, if◌then◌else◌}
-use Rattle.std.specs.Io.KnownBytes.{Appends}
+use Rattle.std.proofs.Common.{◌≡◌, ℕ, Bool, true, false, List, ◌++◌, Option, Some, None, refl}
 use Rattle.std.proofs.KnownBytes.{Appends-trans}
+use Rattle.std.specs.Io.KnownBytes.{Appends}
 use Rattle.tape_set.specs.Lawful.{FileForm}
 use Rattle.tape_run.specs.declared.salvage.ending.SectionEnd.{SectionEnd}
 use Rattle.tape_run.specs.declared.salvage.ending.SectionEnd.TheVariants.{Unknown}
 use Rattle.tape_run.specs.declared.salvage.{Content.Content, copies.SectionCopy.SectionCopy}
 use Rattle.tape_run.specs.declared.salvage.{recovery.Recovery.Recovery, walk.Expected.Expected}
-use Rattle.tape_run.specs.{Reeling.Mounting, SalvageLine.section_line, SalvageWalk.expected_after}
+use Rattle.tape_run.specs.{Reeling.Mounting, SalvageLine.section_line}
 use Rattle.tape_run.specs.{SalvageCopies.believed, SalvageCopies.start_of, SalvageBlocks.Salvaged}
 use Rattle.tape_run.specs.{SalvageBlocks.Recovers, SalvageChoice.firsts, SalvageChoice.IsBest}
-use Rattle.tape_run.specs.SalvageImage.{RecoversSection, read_in, salvaged_from, text_from}
+use Rattle.tape_run.specs.SalvageImage.{RecoversSection, salvaged_from}
 use Rattle.tape_run.specs.SalvageTaking.{TakesSection, TakesCopy, end_by, image_number, form_for}
-use Rattle.tape_run.specs.SalvageTaking.{has_form, MountsIf, after_copy, copy_text}
+use Rattle.tape_run.specs.SalvageTaking.{has_form}
 use Rattle.tape_run.specs.SalvageEnds.{without_rest, no_section_text, no_form_text, read_again}
 use Rattle.tape_run.specs.SalvageEnds.{read_again_text}
 
@@ -43,27 +42,17 @@ pub copy_taken : {W : Type 0} (contents : W → Option (List ℕ)) (before after
     → TakesCopy contents before c sect form old new said says end
 copy_taken contents before after c sect form origin most old mid new said one two says end read
     begins same line found e is =
-    let key = c.section.key in
-    let r = subst (λ o. RecoversSection contents before after o key most form old mid one two read)
-    begins found in
+    let r = rw (begins, same) at found in
     record {
       items = r.items;
       after = after;
       is_ended = r.is_ended;
       reads = r.reads;
-      recovers = subst (λ m. Recovers contents old new said says
-          (λ g. read_again (read_in key (expected_after (start_of c) r.items)) c
-          (salvaged_from key m form (start_of c) g r.items))
-          (λ g. section_line sect (image_number c.image) c.section.blocks
-          ++ (text_from key m form (start_of c) g r.items
-          ++ read_again_text (read_in key (expected_after (start_of c) r.items)) c
-          (salvaged_from key m form (start_of c) g r.items)))) same
-          (λ start g h.
+      recovers = λ start g h.
           let a = r.recovers start g h in
-          let b = subst (λ n. Recovers contents mid new two says (read_again n c)
-          (read_again_text n c)) r.count e start
-          (salvaged_from key most form (start_of c) g r.items) a.0 in
-          (b.0, three_texts said one two says _ _ _ line a.1 b.1));
+          let b = (rw r.count at e) start
+          (salvaged_from c.section.key (believed c) form (start_of c) g r.items) a.0 in
+          (b.0, three_texts said one two says _ _ _ line a.1 b.1);
       ends = is;
     }
 
@@ -76,13 +65,6 @@ module _ {W L R : Type 0} (contents : W → Option (List ℕ)) (gives : Mounting
 
   abbrev can_read : SectionCopy → Bool
   can_read c = has_form content (form_of c)
-
-  -- the result for a section without items, whether or not its blocks can be read
-  abbrev WithoutItems : ℕ → SectionCopy → Bool → Recovery W → Recovery W → Option (List ℕ)
-      → Option (List ℕ) → Type 0
-  WithoutItems sect c b old new said says = Recovers contents old new said says
-      (λ g. if b then without_rest g else without_rest g)
-      (λ g. if b then no_section_text sect g else no_form_text sect g)
 
   pub no_copy : (sect : ℕ) (shelf left : L) (old new : Recovery W) (said says : Option (List ℕ))
       → IsBest (firsts sect None copies) None → left ≡ shelf
@@ -106,8 +88,8 @@ module _ {W L R : Type 0} (contents : W → Option (List ℕ)) (gives : Mounting
   no_form sect c shelf left old new said says best off same r = record {
     taken = record { copy = Some c; items = None };
     best = best;
-    mounts = subst (λ b. MountsIf b gives remaining c shelf left None) (sym off) (same, refl);
-    recovers = subst (λ b. WithoutItems sect c b old new said says) (sym off) r;
+    mounts = rw off (same, refl);
+    recovers = rw off r;
     ends = refl;
   }
 
@@ -120,8 +102,8 @@ module _ {W L R : Type 0} (contents : W → Option (List ℕ)) (gives : Mounting
   no_image sect c shelf left old new said says best on gave r = record {
     taken = record { copy = Some c; items = None };
     best = best;
-    mounts = subst (λ b. MountsIf b gives remaining c shelf left None) (sym on) (None, gave, refl);
-    recovers = subst (λ b. WithoutItems sect c b old new said says) (sym on) r;
+    mounts = rw on (None, gave, refl);
+    recovers = rw on r;
     ends = refl;
   }
 
@@ -135,11 +117,7 @@ module _ {W L R : Type 0} (contents : W → Option (List ℕ)) (gives : Mounting
   from_copy sect c device shelf left old new said says end best on gave t = record {
     taken = record { copy = Some c; items = Some t.items };
     best = best;
-    mounts = subst (λ b. MountsIf b gives remaining c shelf left (Some t.items)) (sym on)
-        (Some device, gave, (t.after, t.is_ended, t.reads));
-    recovers = subst (λ b. Recovers contents old new said says
-        (λ g. if b then after_copy c (form_of c) (Some t.items) g else without_rest g)
-        (λ g. if b then copy_text sect c (form_of c) (Some t.items) g else no_form_text sect g))
-        (sym on) t.recovers;
-    ends = t.ends ∙ ap (λ b. if b then end_by c.closed else Unknown) (sym on);
+    mounts = rw on (Some device, gave, (t.after, t.is_ended, t.reads));
+    recovers = rw on t.recovers;
+    ends = rw on t.ends;
   }

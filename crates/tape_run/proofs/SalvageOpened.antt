@@ -1,13 +1,12 @@
 -- A section of a valid set during the walk over its items: the effect of its labels and blocks.
 use Rattle.std.proofs.Common.{◌≡◌, ◌<◌, ◌≤◌, ℕ, ◌+◌, Bool, true, false, List, [], ◌∷◌, suc, length}
 use Rattle.std.proofs.Common.{Option, Some, None, Ok, Result, refl, ap, ◌∙◌, arith, if◌then◌else◌}
-use Rattle.std.proofs.Common.{◌==◌, min, option_map}
-use Rattle.std.proofs.lemmas.Bool.Decides.{nat_tests}
+use Rattle.std.proofs.{Common.◌==◌, Common.min, Common.option_map, lemmas.Bool.Decides.nat_tests}
 use Rattle.tape_image.specs.Tape.{block}
 use Rattle.tape_label.specs.declared.values.{Kind.Kind, Head1.Head1, Head2.Head2, Trail1.Trail1}
 use Rattle.tape_label.specs.declared.label.LabelFault.{LabelFault}
-use Rattle.tape_label.specs.declared.values.Kind.TheVariants as kinds
 use Rattle.tape_label.specs.Reading.{head1_at, head2_at, trail1_at}
+use Rattle.tape_label.specs.declared.values.Kind.TheVariants as kinds
 use Rattle.tape_set.specs.Lawful.{FileForm}
 use Rattle.tape_run.specs.declared.salvage.walk.{OpenSection.OpenSection, Closing.Closing}
 use Rattle.tape_run.specs.declared.salvage.walk.Expected.{Expected}

@@ -11,9 +11,8 @@ use Rattle.tape_set.specs.Layout.{Section}
 use Rattle.tape_set.specs.Lawful.{FileForm, TellsForm, binding_len, label_count}
 use Rattle.tape_core.specs.{Known.known_of, Range.form_in_range}
 use Rattle.tape_run.specs.SalvageWalk.{FoundAt, form_by, form_of}
-use Rattle.tape_run.specs.SalvageCopies.{is_complete, rank}
-use Rattle.tape_run.specs.{SalvageWhole.not_read, SalvageSections.SectionRead}
-use Rattle.tape_run.specs.{SalvageFile.closed_copy, SalvageSets.rank_of}
+use Rattle.tape_run.specs.{SalvageCopies.is_complete, SalvageCopies.rank, SalvageFile.closed_copy}
+use Rattle.tape_run.specs.{SalvageWhole.not_read, SalvageSections.SectionRead, SalvageSets.rank_of}
 use Rattle.tape_run.proofs.{SalvageOpened.AllRead, SalvageFound.IsFound}
 
 -- ---- the form that the labels record
@@ -55,7 +54,7 @@ all_known set_id n s t f heads b e =
     let u = f.section in
     let k = f.closing in
     let counted : (k.count == label_count u.blocks) ≡ true =
-    eq-eqb k.count (label_count u.blocks) (f.count ∙ ap label_count (sym f.blocks)) in
+    eq-eqb k.count (label_count u.blocks) (f.has.count ∙ ap label_count (sym f.has.blocks)) in
     ap (λ (c : Bool). is_none u.certain && is_none (if c then None else Some k.count)) counted
     ∙ by b e u.certain refl
   where
@@ -63,12 +62,12 @@ all_known set_id n s t f heads b e =
         → (is_none o && true) ≡ b
     by true e None is = refl
     by false e None is =
-        let none = f.doubt is in
+        let none = f.has.doubt is in
         let z : (not_read s.blocks == 0) ≡ true = eq-eqb (not_read s.blocks) 0 none in
         absurd (cc (sym z ∙ e))
     by true e (Some m) is =
         let none : not_read s.blocks ≡ 0 = grind (arith, nat_tests, e) in
-        absurd (cc (sym is ∙ f.certain heads none))
+        absurd (cc (sym is ∙ f.has.certain heads none))
     by false e (Some m) is = refl
 
 pub found_rank : (set_id : List ℕ) (n : ℕ) (s : SectionRead) (t : FoundAt) (f : IsFound set_id s t)
@@ -77,5 +76,6 @@ found_rank set_id n s t f heads =
     let u = f.section in
     ap (λ (b : Bool). (if b then 4294967296 else 0) + (u.blocks - u.unreadable))
     (all_known set_id n _ t f heads (not_read s.blocks == 0) refl) ∙ ap (λ (m : ℕ).
-    (if not_read s.blocks == 0 then 4294967296 else 0) + (m - u.unreadable)) f.blocks ∙ ap (λ
-    (m : ℕ). (if not_read s.blocks == 0 then 4294967296 else 0) + (length s.blocks - m)) f.unread
+    (if not_read s.blocks == 0 then 4294967296 else 0) + (m - u.unreadable)) f.has.blocks ∙ ap (λ
+    (m : ℕ). (if not_read s.blocks == 0 then 4294967296 else 0) + (length s.blocks - m))
+    f.has.unread

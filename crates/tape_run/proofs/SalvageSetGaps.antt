@@ -30,7 +30,7 @@ module _ (key : SectionKey) (most : ℕ) where
   same_gathered s a (x ∷ xs) = same_gathered (step s x).0 (with_datum s a x) xs
       ∙ append_assoc a (datum (number_in key most s) x) (data_in key most (step s x).0 xs)
 
-  data_append : (s : Expected) (xs ys : List TapeItem) → data_in key most s (xs ++ ys)
+  pub data_append : (s : Expected) (xs ys : List TapeItem) → data_in key most s (xs ++ ys)
       ≡ data_in key most s xs ++ data_in key most (expected_after s xs) ys
   data_append s xs ys =
       sym (same_gathered s [] (xs ++ ys)) ∙ gathered-append with_datum s [] xs ys

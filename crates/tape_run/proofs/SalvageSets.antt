@@ -7,7 +7,8 @@ use Rattle.std.specs.List.{AllByRecursion}
 use Rattle.tape_set.specs.Layout.{FileSet, Section, Placed, nth, numbered, file_of, section_of}
 use Rattle.tape_set.specs.{Layout.ends_file, Laws.StandsIn, Reading.Reading}
 use Rattle.tape_set.specs.Lawful.{IsLawful, FileForm, HasForm, Ends}
-use Rattle.tape_set.proofs.{Everywhere.nth_found, AllVolumes.file_is_lawful}
+use Rattle.tape_set.proofs.Everywhere.{every, every-append, nth_found}
+use Rattle.tape_set.proofs.AllVolumes.{file_is_lawful}
 use Rattle.tape_run.specs.declared.salvage.ending.SectionEnd.TheVariants.{FileEnds, Continues}
 use Rattle.tape_run.specs.SalvageTaking.{Taken, after_taken, after_all, end_of_taken, GoOn}
 use Rattle.tape_run.specs.SalvageSets.{IsCompleteOr, copies_on, HasVolume, IsReadAgainIf}
@@ -21,11 +22,10 @@ use Rattle.tape_run.specs.SalvageTaking.{last_end, at_last, after_file}
 use Rattle.tape_run.specs.SalvageWhole.{Blocks, piece_after}
 use Rattle.tape_run.specs.SalvageSets.{AreReadAgain, AreHad, joined, IsRecovered, RecoversSet}
 use Rattle.tape_run.proofs.SalvageAgain.{ranked_are, lost, filled_lost, none_read, lost_done}
-use Rattle.tape_run.proofs.SalvageChoice.{all_append, all_map, last_at, last_most}
-use Rattle.tape_run.proofs.{SalvageGrows.after_append, SalvageFile.AreRead}
-use Rattle.tape_run.proofs.SalvageSetBlocks.{recovered}
-use Rattle.tape_run.proofs.SalvageGood.{IsGood, has_copy, good_on, good_sect}
 use Rattle.tape_run.proofs.SalvageAgain.{copies_are, Step, known_step, lost_step, get_less}
+use Rattle.tape_run.proofs.{SalvageChoice.last_at, SalvageChoice.last_most, SalvageFile.AreRead}
+use Rattle.tape_run.proofs.{SalvageGrows.after_append, SalvageSetBlocks.recovered}
+use Rattle.tape_run.proofs.SalvageGood.{IsGood, has_copy, good_on, good_sect}
 
 -- ---- the end of the file
 
@@ -143,7 +143,7 @@ module _ (set : FileSet) (file : ℕ) (f : List Section) (all : List (Option Rea
     none = λ e.
         let b = r.none e in
         let a = s.none b.0 in
-        (a.0, all_append (λ b. b.0 ≡ true) s.blocks (joined r.sections) a.1 b.1);
+        (a.0, every-append (λ b. b.0 ≡ true) s.blocks (joined r.sections) a.1 b.1);
   }
 
   more_follow : (i n : ℕ) (w : Section) (ss : List Section) → At i (w ∷ ss) → Ends (w ∷ ss)
@@ -278,7 +278,7 @@ module _ (set : FileSet) (file : ℕ) (f : List Section) (all : List (Option Rea
 
   -- no copy has a number beyond the last section
   within : last_section copies ≤ length f
-  within = last_most copies (length f) (all_map (IsGood set file all)
+  within = last_most copies (length f) (every (IsGood set file all)
       (λ c. c.section.key.sect ≤ length f) (λ c g. one c g) copies
       (copies_are set file all copies form l complete same))
     where

@@ -68,6 +68,21 @@ pub record Quiet {A : Type 0} (act : Expected → A → TapeItem → A) : Type 0
   pub trailers : (u : OpenSection) (k : Closing) (a : A) (b : List ℕ)
       → act (Trailers u k) a (block b) ≡ a
 
+-- the section and its end are those of this section
+pub record IsAsRead (set_id : List ℕ) (r : SectionRead) (section : OpenSection) (closing : Closing)
+    : Type 0 where
+  pub key : section.key ≡ key_of set_id r
+  pub blocks : section.blocks ≡ length r.blocks
+  pub count : closing.count ≡ label_count (length r.blocks)
+  pub after : section.after ≡ None
+  pub unread : section.unreadable ≡ not_read r.blocks
+  pub certain : AllRead r.headers → not_read r.blocks ≡ 0 → section.certain ≡ None
+  pub doubt : section.certain ≡ None → not_read r.blocks ≡ 0
+  pub eof : (t : Trail1) → trail1_at r.placed.section.trailer ≡ Ok t → closing.eof ≡ t.eof
+  pub form : (h : Head1) (f : FileForm) → head1_at r.placed.section.hdr1 ≡ Ok h
+      → FirstIsRead r.headers → kind_at r.placed.section.hdr2 ≡ Some kinds.Hdr2
+      → form_by h.file_id (head2_at r.placed.section.hdr2) ≡ Some f → section.form ≡ Some f
+
 module _ {A : Type 0} (act : Expected → A → TapeItem → A) where
   pub follow : (s t u : Expected) (a b c : A) (xs ys : List TapeItem) → Walk act s a xs t b
       → Walk act t b ys u c → Walk act s a (xs ++ ys) u c
@@ -195,17 +210,7 @@ module _ {A : Type 0} (act : Expected → A → TapeItem → A) where
     pub section : OpenSection
     pub closing : Closing
     pub walk : Walk act s a (read_section r) (after_trailers r.trailers) (ends section closing)
-    pub key : section.key ≡ key_of set_id r
-    pub blocks : section.blocks ≡ length r.blocks
-    pub count : closing.count ≡ label_count (length r.blocks)
-    pub after : section.after ≡ None
-    pub unread : section.unreadable ≡ not_read r.blocks
-    pub certain : AllRead r.headers → not_read r.blocks ≡ 0 → section.certain ≡ None
-    pub doubt : section.certain ≡ None → not_read r.blocks ≡ 0
-    pub eof : (t : Trail1) → trail1_at r.placed.section.trailer ≡ Ok t → closing.eof ≡ t.eof
-    pub form : (h : Head1) (f : FileForm) → head1_at r.placed.section.hdr1 ≡ Ok h
-        → FirstIsRead r.headers → kind_at r.placed.section.hdr2 ≡ Some kinds.Hdr2
-        → form_by h.file_id (head2_at r.placed.section.hdr2) ≡ Some f → section.form ≡ Some f
+    pub has : IsAsRead set_id r section closing
 
   pub section_walked : Quiet act → (set_id : List ℕ) (volumes : ℕ) (r : SectionRead)
       (s : Expected) (a b c : A) (ends : OpenSection → Closing → A) → IsRead set_id volumes r
@@ -257,19 +262,21 @@ module _ {A : Type 0} (act : Expected → A → TapeItem → A) where
             (ap (λ p. p.0) (trailer_step w y.trailer t at closed))
             (q.trailer w c y.trailer t at closed)))
             (trailers q w k c d r.trailers read.none (on_end z k) (on_bad z k))))));
-        key = same_trailed w r.trailers ∙ whose;
-        blocks = omega (arith, later, all, two.none);
-        count = trailer.count ∙ ap label_count (sym n);
-        after = after_trailed w r.trailers (after_section v r.blocks ∙ two.after);
-        unread =
-            let e = unread_section v r.blocks (omega (arith, two.unread, n, read.is.few)) in
-            let f = (unread_trailed w r.trailers).0 in omega (arith, e, f, two.unread);
-        certain = λ heads none. (unread_trailed w r.trailers).1
-            ∙ certain_section v r.blocks (two.certain heads) none;
-        doubt = λ e. (doubt_section v r.blocks (sym (unread_trailed w r.trailers).1 ∙ e)).1;
-        eof = λ t' is. let same : t ≡ t' = cc (sym at ∙ is) in ap (λ (x : Trail1). x.eof) same;
-        form = λ h' f is first kind has.
-            let same : h ≡ h' = cc (sym (head1_again y.hdr1 h header.label) ∙ is) in
-            form_trailed w r.trailers f (form_section v r.blocks ∙ two.form first kind
-            ∙ ap (λ (x : Head1). form_by x.file_id (head2_at y.hdr2)) same ∙ has);
+        has = record {
+          key = same_trailed w r.trailers ∙ whose;
+          blocks = omega (arith, later, all, two.none);
+          count = trailer.count ∙ ap label_count (sym n);
+          after = after_trailed w r.trailers (after_section v r.blocks ∙ two.after);
+          unread =
+              let e = unread_section v r.blocks (omega (arith, two.unread, n, read.is.few)) in
+              let f = (unread_trailed w r.trailers).0 in omega (arith, e, f, two.unread);
+          certain = λ heads none. (unread_trailed w r.trailers).1
+              ∙ certain_section v r.blocks (two.certain heads) none;
+          doubt = λ e. (doubt_section v r.blocks (sym (unread_trailed w r.trailers).1 ∙ e)).1;
+          eof = λ t' is. let same : t ≡ t' = cc (sym at ∙ is) in ap (λ (x : Trail1). x.eof) same;
+          form = λ h' f is first kind has.
+              let same : h ≡ h' = cc (sym (head1_again y.hdr1 h header.label) ∙ is) in
+              form_trailed w r.trailers f (form_section v r.blocks ∙ two.form first kind
+              ∙ ap (λ (x : Head1). form_by x.file_id (head2_at y.hdr2)) same ∙ has);
+        };
       }

@@ -1,10 +1,10 @@
 -- The sections of a file, recovered one after another.
 use Rattle.std.proofs.Common.{◌≡◌, ◌≢◌, inl, inr, ℕ, ◌+◌, ◌<◌, List, [], ◌∷◌, ◌++◌, length, Option}
 use Rattle.std.proofs.Common.{None, refl, sym, ap, subst, ◌∙◌, arith, append_assoc, append-nil}
-use Rattle.std.proofs.Common.{length-append}
+use Rattle.std.proofs.{Common.length-append, KnownBytes.Appends-nil}
 use Rattle.std.specs.Io.KnownBytes.{Appends}
-use Rattle.std.proofs.KnownBytes.{Appends-nil}
 use Rattle.tape_set.specs.Lawful.{FileForm}
+use Rattle.tape_set.proofs.Everywhere.{every-append}
 use Rattle.tape_run.specs.declared.salvage.{Content.Content, ending.SectionEnd.SectionEnd}
 use Rattle.tape_run.specs.declared.salvage.copies.SectionCopy.{SectionCopy}
 use Rattle.tape_run.specs.declared.salvage.recovery.Recovery.{Recovery}
@@ -15,7 +15,7 @@ use Rattle.tape_run.specs.SalvageChoice.{firsts, IsBest, last_section, form_of_f
 use Rattle.tape_run.specs.SalvageTaking.{Taken, after_taken, taken_text, end_of_taken, AreTaken}
 use Rattle.tape_run.specs.SalvageTaking.{MountsTaken, after_all, all_text, GoOn, last_end}
 use Rattle.tape_run.specs.SalvageTaking.{TakesSection, TakesFile, at_last, last_text, next_section}
-use Rattle.tape_run.proofs.{SalvageChoice.all_append, SalvageOne.recovers_then}
+use Rattle.tape_run.proofs.SalvageOne.{recovers_then}
 
 module _ {W L R : Type 0} (contents : W → Option (List ℕ)) (gives : Mounting L R)
     (remaining : R → Option (List ℕ)) (copies : List SectionCopy) (content : Content)
@@ -141,7 +141,8 @@ module _ {W L R : Type 0} (contents : W → Option (List ℕ)) (gives : Mounting
         taken = s.taken ++ u ∷ [];
         counted = o.counted;
         took = o.took;
-        on = all_append (λ v. end_of_taken content known v.copy v.items ≢ FileEnds) s.taken (u ∷ [])
+        on = every-append (λ v. end_of_taken content known v.copy v.items ≢ FileEnds) s.taken
+            (u ∷ [])
             s.on ((λ e. on (t.ends ∙ e)), tt);
         last = t.ends ∙ sym o.last;
         recovers = o.recovers;
@@ -193,25 +194,14 @@ module _ {W L R : Type 0} (contents : W → Option (List ℕ)) (gives : Mounting
       → TakenSoFar n end shelf now old mid said w → end ≡ Continues → known ≡ form_of_file copies
       → Recovers contents mid new w says without_rest (no_section_text (next_section n))
       → TakesFile contents gives remaining copies content shelf now old new said says
-  continues_file n end shelf now old mid new said w says all s on form missed = record {
-    taken = s.taken;
-    took = subst (λ f. AreTaken gives remaining copies content f 1 shelf s.taken now) form s.took;
-    all = inl (subst (λ f. GoOn content f s.taken) form s.on, s.counted ∙ all);
-    recovers = subst (λ f. Recovers contents old new said says
-        (λ g. at_last (last_end content f s.taken) (after_all content f s.taken g))
-        (λ g. all_text content f 1 s.taken g ++ last_text (last_end content f s.taken)
-        (next_section (length s.taken)) (after_all content f s.taken g))) form
-        (subst (λ e. Recovers contents old new said says
-        (λ g. at_last e (after_all content known s.taken g))
-        (λ g. all_text content known 1 s.taken g
-        ++ last_text e (next_section (length s.taken)) (after_all content known s.taken g)))
-        (sym on ∙ s.last)
-        (subst (λ m. Recovers contents old new said says
-        (λ g. without_rest (after_all content known s.taken g))
-        (λ g. all_text content known 1 s.taken g
-        ++ no_section_text (next_section m) (after_all content known s.taken g)))
-        (sym s.counted)
-        (recovers_then contents old mid new said w says (after_all content known s.taken)
-        without_rest (all_text content known 1 s.taken) (no_section_text (next_section n))
-        s.recovers missed)));
-  }
+  continues_file n end shelf now old mid new said w says all so_far on form missed =
+      let s = rw form at so_far in
+      record {
+        taken = s.taken;
+        took = s.took;
+        all = inl (s.on, s.counted ∙ all);
+        recovers = rw (sym s.last ∙ on, s.counted) (recovers_then contents old mid new said w says
+            (after_all content (form_of_file copies) s.taken) without_rest
+            (all_text content (form_of_file copies) 1 s.taken) (no_section_text (next_section n))
+            s.recovers missed);
+      }

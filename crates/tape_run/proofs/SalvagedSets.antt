@@ -9,7 +9,7 @@ use Rattle.tape_image.specs.Begins.{Stop, Begins, Walks, image_limit}
 use Rattle.tape_image.proofs.{Callers.front_of_image, Uniqueness.Begins-one}
 use Rattle.tape_image.proofs.Walks.{IfKnown-at, TakesFault-begins}
 use Rattle.tape_set.specs.{Layout.FileSet, Lawful.FileForm, Before.section_parts, Reading.Reading}
-use Rattle.tape_set.proofs.{Everywhere.every_stands, AllVolumes.file_is_lawful}
+use Rattle.tape_set.proofs.{Everywhere.every, Everywhere.every_stands, AllVolumes.file_is_lawful}
 use Rattle.tape_run.specs.SalvageTaking.{Taken, AreTaken, AreAllSections, MountsTaken, MountsIf}
 use Rattle.tape_run.specs.SalvagedSets.{IsImage, HasOpened, AreImages, NoneFailed, IsReadToEnd}
 use Rattle.tape_run.specs.{declared.salvage.Content.Content, declared.section.ImageStop.ImageStop}
@@ -23,9 +23,8 @@ use Rattle.tape_run.specs.SalvageChoice.{form_of_file, firsts, IsBest}
 use Rattle.tape_run.specs.SalvageTaking.{has_form, form_for, after_file, IsReadOf}
 use Rattle.tape_run.specs.SalvageSets.{items_read, copies_on, IsReadAgainIf, AreReadAgain}
 use Rattle.tape_run.specs.SalvagedSets.{RecoversSets}
-use Rattle.tape_run.proofs.{SalvageChoice.all_map, SalvageGood.IsGood, SalvageGood.copies_good}
+use Rattle.tape_run.proofs.{SalvageGood.IsGood, SalvageGood.copies_good, SalvageText.writes_output}
 use Rattle.tape_run.proofs.{SalvageAgain.IsOne, SalvageAgain.firsts_all, SalvageSets.recovers_set}
-use Rattle.tape_run.proofs.SalvageText.{writes_output}
 
 -- if the reader did not fail, all items of the image were read
 all_items : (its xs : List TapeItem) (stop : ImageStop) (bytes ys : List ℕ) (end : ℕ) (why : Stop)
@@ -233,7 +232,7 @@ recovers_sets contents size gives remaining task out shelf left stands said says
     (x.all ∙ count) ([], refl) x.mounted x.finds calm in
     let good = subst (AllByRecursion (IsGood set file rs)) (sym is)
     (copies_good set file rs l cs) in
-    let have = all_map (IsGood set file rs)
+    let have = every (IsGood set file rs)
     (HasReading set file task.set_id same gives remaining rs shelf images)
     (λ c g. have_reading c g) copies good in
     let known = form_of_file copies in

@@ -1,12 +1,11 @@
 -- Sections that are good in a catalogue remain good, and sections reported as good become good.
 use Rattle.std.proofs.Common.{◌≡◌, ℕ, Bool, true, false, List, [], ◌∷◌, Option, Some, None, refl}
 use Rattle.std.proofs.Common.{ap, ◌∙◌, arith, if◌then◌else◌, ◌==◌, ◌&&◌}
-use Rattle.std.specs.List.{AllByRecursion}
 use Rattle.std.proofs.lemmas.{Slice.Eq.bytes_eq-Decides, Bool.Decides.nat_tests}
-use Rattle.tape_run.specs.declared.section.{SectionKey.SectionKey, SectionState.SectionState}
-use Rattle.tape_run.specs.declared.section.Entry.{Entry}
-use Rattle.tape_run.specs.declared.section.SectionState.TheVariants.{Good}
-use Rattle.tape_run.specs.{Passing.Told, Lacks.entry_at, Lacks.IsGoodAt}
+use Rattle.std.specs.List.{AllByRecursion}
+use Rattle.tape_run.specs.{declared.section.SectionKey.SectionKey, Lacks.entry_at, Lacks.IsGoodAt}
+use Rattle.tape_run.specs.{declared.section.SectionState.SectionState, declared.section.Entry.Entry}
+use Rattle.tape_run.specs.{declared.section.SectionState.TheVariants.Good, Passing.Told}
 use Rattle.tape_run.specs.Noted.{same_key, is_good, better, noted, noted_all}
 
 pub key_again : (k : SectionKey) → same_key k k ≡ true
@@ -29,7 +28,7 @@ kept_good old new e = grind (arith, good_is)
 better_good : (old new : Entry) → new.state ≡ Good → (better old new).state ≡ Good
 better_good old new e = grind (arith, good_is)
 
-abbrev at_if : Bool → Entry → Option Entry → Option Entry
+abbrev pub at_if : Bool → Entry → Option Entry → Option Entry
 at_if b e rest = if b then Some e else rest
 
 abbrev note_if : Bool → Told → List Told → Told → List Told

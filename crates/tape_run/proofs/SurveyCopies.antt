@@ -1,8 +1,8 @@
 -- The good copies of sections, as they are read.
 use Rattle.std.proofs.Common.{◌≡◌, ℕ, Bool, true, false, List, [], ◌∷◌, ◌++◌, Option, Some, None}
-use Rattle.std.proofs.Common.{refl, sym, ap, ◌∙◌, append_assoc, append-nil, if◌then◌else◌}
+use Rattle.std.proofs.Common.{refl, sym, append_assoc, append-nil, if◌then◌else◌}
 use Rattle.tape_image.specs.Tape.{TapeItem, block}
-use Rattle.tape_run.specs.SurveyCopies.{Copy, blocks_with, good_told, copies_from, copies_on}
+use Rattle.tape_run.specs.SurveyCopies.{Copy, blocks_with, good_told, copies_from}
 use Rattle.tape_run.specs.SurveyCopies.{Copied, with_good, with_told, with_copies, copied_in}
 use Rattle.tape_run.specs.{declared.passing.Phase.Phase, Noted.is_good, SurveyCopies.digest_in}
 use Rattle.tape_run.specs.declared.passing.Phase.TheVariants.{Volume, Data}
@@ -27,12 +27,7 @@ copies_from-append : (p : Phase) (blocks : List (List ℕ)) (xs : List TapeItem)
     ++ good_told (step (phase_after p xs) x).1 (blocks_after blocks p xs)
 copies_from-append p blocks [] x = append-nil (good_told (step p x).1 blocks)
 copies_from-append p blocks (y ∷ ys) x =
-    ap (λ (r : List Copy). good_told (step p y).1 blocks ++ r)
-    (copies_from-append (step p y).0 (blocks_with blocks p y) ys x)
-    ∙ sym (append_assoc (good_told (step p y).1 blocks)
-    (copies_from (step p y).0 (blocks_with blocks p y) ys)
-    (good_told (step (phase_after (step p y).0 ys) x).1
-    (blocks_after (blocks_with blocks p y) (step p y).0 ys)))
+    rw (copies_from-append (step p y).0 (blocks_with blocks p y) ys x, append_assoc)
 
 with_copies-append : (image : ℕ) (c : Copied) (xs ys : List Copy)
     → with_copies image c (xs ++ ys) ≡ with_copies image (with_copies image c xs) ys
@@ -89,14 +84,15 @@ copied_more items image old digest mid phase item told next new s stands is put 
     let p = phase_after Volume items in
     let blocks = blocks_after [] Volume items in
     record {
-      digested = goes ∙ ap (λ (r : Phase). digest_in digest r item) stands
-          ∙ ap (λ d. digest_in d p item) s.digested ∙ digest_is blocks p item
-          ∙ ap digest_of (sym (blocks_after-append [] Volume items item));
-      copied = put ∙ ap (λ (t : Option Told). with_told mid image t digest) is
-          ∙ ap (λ (r : Phase). with_told mid image (step r item).1 digest) stands
-          ∙ ap (λ d. with_told mid image (step p item).1 d) s.digested
-          ∙ told_is image mid (step p item).1 blocks
-          ∙ ap (λ (c : Copied). with_copies image c (good_told (step p item).1 blocks)) s.copied
-          ∙ sym (with_copies-append image old (copies_on items) (good_told (step p item).1 blocks))
-          ∙ ap (with_copies image old) (sym (copies_from-append Volume [] items item));
+      digested = rw (goes, stands, s.digested, blocks_after-append [] Volume items item)
+          (digest_is blocks p item);
+      copied = rw (
+        put,
+        is,
+        stands,
+        s.digested,
+        s.copied,
+        copies_from-append Volume [] items item,
+        with_copies-append,
+      ) (told_is image (copied_in image old items) (step p item).1 blocks);
     }

@@ -90,9 +90,7 @@ pub with_words : (ds : List ℕ) (b : List ℕ) (front all : List ℕ)
     → all ≡ side_over front (drop (length b / 8 * 8) b) → all ≡ side_over ds (words_of b)
 unfolding words_of
 with_words ds b front all words bytes =
-    let ones = drop (length b / 8 * 8) b in
-    bytes ∙ ap (λ f. side_over f ones) words
-    ∙ sym (side_over-append ds (map (from_le_bytes w64) (first_chunks 8 (length b / 8) b)) ones)
+    rw (bytes, words, side_over-append)
 
 pub digest_below : (d w : ℕ) → digest_by d w < 2 ^ 64
 unfolding digest_by

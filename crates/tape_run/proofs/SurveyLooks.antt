@@ -103,8 +103,7 @@ pub labels_noted : (old mid new : List Filed) (p : Phase) (x : TapeItem) (head :
     (form : Option (FileKey × Head2)) → mid ≡ with_met old head → head ≡ head_in p x
     → new ≡ with_form mid form → form ≡ form_in p x → new ≡ with_label old p x
 labels_noted old mid new p x head form noted is formed found =
-    formed ∙ ap (with_form mid) found
-    ∙ ap (λ (r : List Filed). with_form r (form_in p x)) (noted ∙ ap (with_met old) is)
+    rw (formed, found, noted, is)
 
 pub looks_more : (all left next : Option (List ℕ)) (p q image : ℕ) (item : TapeItem)
     (sections : List Told) (files : List Filed) (located : List Located) (known : Copied)
@@ -127,32 +126,24 @@ looks_more all left next p q image item sections files located known phase after
     is adds lists digests looks =
     let items = s.so_far.items in
     let stands : phase ≡ phase_after Volume items = s.so_far.stands in
-    let behind = phase_after Volume items in
     record {
       count = s.count + 1;
       so_far = one_more all left next p q s.count item sections phase after mid told s.so_far takes
           goes notes;
-      counted = ap (λ (f : ImageSummary). f.items) looks ∙ ap (λ n. n + 1) s.counted;
-      glance = looks ∙ ap (λ (r : Phase). look_to g phase item r) goes
-          ∙ ap (λ (r : Phase). look_to g r item (step r item).0) stands
-          ∙ ap (λ (f : ImageSummary). look_to f behind item (step behind item).0) s.glance
-          ∙ sym (look_all-append blank_glance Volume items item);
-      named = names ∙ ap (λ (r : Phase). with_label named r item) stands
-          ∙ ap (λ (r : List Filed). with_label r behind item) s.named
-          ∙ sym (with_all-append files Volume items item);
-      places = places ∙ ap (λ (r : Phase). with_location mid there image (head_in r item)) stands
-          ∙ ap (λ (r : List Told). with_location r there image (head_in behind item))
-          s.so_far.noted
-          ∙ ap (λ (r : List Located). with_location (noted_all sections (told_from Volume items)) r
-          image (head_in behind item)) s.places
-          ∙ sym (locate_all-append image sections located Volume items item);
+      counted = rw (looks, s.counted);
+      glance = rw (looks, goes, stands, s.glance, look_all-append blank_glance Volume items item);
+      named = rw (names, stands, s.named, with_all-append files Volume items item);
+      places = rw (
+        places,
+        stands,
+        s.so_far.noted,
+        s.places,
+        locate_all-append image sections located Volume items item,
+      );
       copied = copied_more items image known digest found phase item here then copies s.copied
           stands
           is adds digests;
-      damages = lists ∙ ap (λ (o : Option Told). listed ++ damages_in (in_list o)) is
-          ∙ ap (λ (r : Phase). listed ++ damages_in (in_list (step r item).1)) stands
-          ∙ ap (λ (r : List SectionLine). r ++ damages_in (in_list (step behind item).1)) s.damages
-          ∙ sym (damages_in-append items item);
+      damages = rw (lists, is, stands, s.damages, damages_in-append items item);
     }
 
 -- all damaged sections of the image are listed

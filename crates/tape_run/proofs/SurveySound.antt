@@ -8,16 +8,15 @@ use Rattle.std.specs.{List.AllByRecursion, Map.lookup}
 use Rattle.indexmap.specs.IndexMap.{insert_entry}
 use Rattle.tape_run.specs.SurveyCopies.{Copy, copies_on, Noted, Disputed, Copied, with_same}
 use Rattle.tape_run.specs.SurveyCopies.{with_other, copy_note, noted_at, with_conflict, with_good}
-use Rattle.tape_run.specs.{declared.section.Lack.Lack, declared.section.SectionKey.SectionKey}
-use Rattle.tape_run.specs.{declared.section.SectionState.TheVariants.Good, Checked.Reel}
+use Rattle.tape_run.specs.{SurveyCopies.with_copies, SurveyCopies.is_agreed, SurveyDigest.digest_of}
+use Rattle.tape_run.specs.{declared.section.Lack.Lack, declared.survey.view.ImageSurvey.ImageSurvey}
+use Rattle.tape_run.specs.{declared.section.SectionKey.SectionKey, Checked.Reel, Passing.Told}
+use Rattle.tape_run.specs.{declared.section.SectionState.TheVariants.Good, SurveyGlance.or_else}
 use Rattle.tape_run.specs.{declared.survey.copies.CopyNote.CopyNote, Noted.same_key, Noted.is_good}
-use Rattle.tape_run.specs.{declared.survey.view.ImageSurvey.ImageSurvey, Passing.Told}
-use Rattle.tape_run.specs.{Reeling.Mounting, SurveyDigest.digest_of, SurveyGlance.or_else}
-use Rattle.tape_run.specs.{SurveyTally.is_whole_sight, SurveySets.all_good, SurveySets.is_all}
-use Rattle.tape_run.specs.Lacks.{lacks, is_none_lacking, found_all}
+use Rattle.tape_run.specs.{Reeling.Mounting, Lacks.lacks, Lacks.is_none_lacking, Lacks.found_all}
+use Rattle.tape_run.specs.{SurveyTally.is_whole_sight, SurveyFiles.Filed, SurveyFiles.any_differs}
+use Rattle.tape_run.specs.SurveySets.{all_good, is_all}
 use Rattle.tape_run.specs.SurveyConflicts.{Placed, placed_on, placed_in, all_placed}
-use Rattle.tape_run.specs.SurveyCopies.{with_copies, is_agreed}
-use Rattle.tape_run.specs.SurveyFiles.{Filed, any_differs}
 use Rattle.tape_run.specs.SurveyRead.{Found, nothing_found, IsViewed, AreViewed}
 use Rattle.tape_run.specs.SurveySound.{IsWhole, Agree, IsSound}
 use Rattle.tape_run.proofs.{KeepingPlaces.one_key, StayingGood.key_again, SurveyConflicts.of_all}
@@ -64,7 +63,7 @@ none_lacks : (ls : List Lack) → is_none_lacking ls ≡ true → ls ≡ []
 none_lacks [] e = refl
 none_lacks (l ∷ ls) e = absurd (cc e)
 
-none_missing : (ts : List Told) → found_all ts ≡ true → lacks ts ≡ []
+pub none_missing : (ts : List Told) → found_all ts ≡ true → lacks ts ≡ []
 none_missing [] e = absurd (cc e)
 none_missing (t ∷ ts) e = none_lacks (lacks (t ∷ ts)) e
 

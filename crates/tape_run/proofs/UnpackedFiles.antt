@@ -7,7 +7,7 @@ use Rattle.tape_run.specs.declared.{survey.view.ImageSurvey.ImageSurvey, unpack.
 use Rattle.tape_run.specs.{Lacks.SetFiles, Reeling.Mounting}
 use Rattle.tape_run.specs.SurveyRead.{Found, nothing_found, IsViewed, AreViewed}
 use Rattle.tape_run.specs.Unpacking.{file_at, files_from, set_files}
-use Rattle.tape_run.proofs.{Listing.take_get, SurveyTexts.viewed_more}
+use Rattle.tape_run.proofs.{Listing.take_get, SurveyRead.viewed_more}
 
 -- the first images were read
 pub record ViewedSoFar {L R : Type 0} (gives : Mounting L R) (remaining : R → Option (List ℕ))

@@ -1,7 +1,6 @@
 -- What `check` reports for complete copies, and where sections reported as good were found.
 use Rattle.std.proofs.Common.{◌≡◌, ◌⊎◌, inl, inr, ℕ, Bool, true, false, List, [], ◌∷◌, ◌++◌, Option}
-use Rattle.std.proofs.Common.{Some, None, refl, sym, ap, subst, ◌∙◌, append-nil, map, if◌then◌else◌}
-use Rattle.std.proofs.Common.{flat_map}
+use Rattle.std.proofs.Common.{Some, None, refl, sym, ap, subst, ◌∙◌, append-nil, map, flat_map}
 use Rattle.std.specs.List.{AllByRecursion}
 use Rattle.tape_set.specs.Layout.{FileSet, Placed, sections}
 use Rattle.tape_run.specs.declared.section.{SectionKey.SectionKey, Entry.Entry}
@@ -12,8 +11,9 @@ use Rattle.tape_run.specs.{WholeSet.behind_copies, CheckLine.image_lines, CheckL
 use Rattle.tape_run.specs.{CheckLine.found_line, Checked.Reel, Checked.AddsImages}
 use Rattle.tape_run.specs.{Checked.summary_of, WholeReels.AreWholeCopies, WholeReels.IsListedGood}
 use Rattle.tape_run.specs.WholeReels.{WholeSetIsTold, IsShownOn, GoodWasSeen}
-use Rattle.tape_run.specs.Lacks.{entry_at, IsGoodAt, line_of, lacks, is_none_lacking, found_all}
+use Rattle.tape_run.specs.Lacks.{entry_at, IsGoodAt, line_of, lacks, found_all}
 use Rattle.tape_run.proofs.KeepingPlaces.{one_key, none_stands}
+use Rattle.tape_run.proofs.{StayingGood.at_if, SurveySound.none_missing}
 use Rattle.tape_run.proofs.{WholeCopies.whole_copies, WholeSets.whole_set, WholeSets.all_found}
 
 -- after complete copies the catalogue contains the sections of these copies
@@ -30,9 +30,6 @@ copies_read set (Some (Some bytes) ∷ reels) (Some line ∷ lines) (k ∷ ks) c
     whole_copies set k bytes after c line read.0 whole.0 whole.1 adds in
     copies_read set reels lines ks read.0 d read.2 whole.2 ∙ ap (λ m. behind_copies set m ks) mid
 copies_read set _ _ _ c d read whole = absurd whole
-
-abbrev found_if : Bool → Entry → Option Entry → Option Entry
-found_if b e other = if b then Some e else other
 
 -- one more section before it
 listed_behind : (x : Told) (listed : List SectionLine) (key : SectionKey) → IsListedGood listed key
@@ -52,7 +49,7 @@ the_same : (a b : Entry) → Some a ≡ Some b → a ≡ b
 the_same a b is = cc
 
 listed_here : (x : Told) (xs : List Told) (key : SectionKey) (b : Bool) (e : Entry)
-    → same_key key x.0 ≡ b → e.state ≡ Good → found_if b x.1 (entry_at xs key) ≡ Some e
+    → same_key key x.0 ≡ b → e.state ≡ Good → at_if b x.1 (entry_at xs key) ≡ Some e
     → (entry_at xs key ≡ Some e → IsListedGood (map line_of xs) key)
     → IsListedGood (map line_of (x ∷ xs)) key
 listed_here x xs key true e same good is more =
@@ -83,14 +80,6 @@ all_listed set c [] all = tt
 all_listed set c (x ∷ xs) all =
     (listed_good c (key_in set x) all.0.entry all.0.there all.0.good, all_listed set c xs all.1)
 
-none_lacks : (ls : List Lack) → is_none_lacking ls ≡ true → ls ≡ []
-none_lacks [] is = refl
-none_lacks (l ∷ ls) is = absurd (cc is)
-
-found_none : (c : List Told) → found_all c ≡ true → lacks c ≡ []
-found_none [] is = absurd (cc is)
-found_none (t ∷ ts) is = none_lacks (lacks (t ∷ ts)) is
-
 -- the summary if nothing is missing
 summed : (c : List Told) (found : Bool) (ls : List Lack) → found ≡ true → ls ≡ []
     → summary_of (map line_of c) ls found ≡ flat_map section_line (map line_of c) ++ found_line
@@ -108,7 +97,7 @@ whole_told set ks reels text found lawful each some report whole =
       all = report.all ∙ all;
       listed = map line_of d;
       told = report.told ∙ ap (λ t. image_lines 1 report.lines ++ t) (summed d (found_all d)
-          (lacks d) all (found_none d all));
+          (lacks d) all (none_missing d all));
       good = all_listed set d (sections set)
           (subst (λ c. AllByRecursion (λ x. IsGoodAt c (key_in set x)) (sections set)) (sym same)
           (whole_set set ks [] lawful each));

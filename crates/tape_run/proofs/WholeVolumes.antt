@@ -17,14 +17,13 @@ use Rattle.tape_set.specs.Layout.{entries_on, items, ends_file}
 use Rattle.tape_set.specs.Lawful.{IsLawful, IsVolume, IsVolumeLabel, label_count}
 use Rattle.tape_set.proofs.{Everywhere.every_at, Everywhere.nth_found, Forms.form_told}
 use Rattle.tape_set.proofs.{Forms.trailer_ends, Volumes.IsOn, Volumes.sections_on_are}
-use Rattle.tape_run.specs.declared.section.{SectionKey.SectionKey, SectionState.TheVariants.Good}
-use Rattle.tape_run.specs.declared.passing.Phase.{Phase}
-use Rattle.tape_run.specs.declared.passing.Phase.TheVariants.{Volume as AtVolume, Labels, Second}
-use Rattle.tape_run.specs.declared.passing.Phase.TheVariants.{Next, Over}
 use Rattle.tape_run.specs.Passing.{Told, met_by, header_with, volume_with, step, in_list, told_from}
+use Rattle.tape_run.specs.{declared.section.SectionKey.SectionKey, declared.passing.Phase.Phase}
+use Rattle.tape_run.specs.{declared.section.SectionState.TheVariants.Good, Noted.noted_all}
+use Rattle.tape_run.specs.declared.passing.Phase.TheVariants.{Next, Over}
 use Rattle.tape_run.specs.Passing.{under_way, met_in}
-use Rattle.tape_run.specs.{Noted.noted_all, Lacks.IsGoodAt}
-use Rattle.tape_run.specs.WholeSet.{key_in, WholeVolumeIsGood}
+use Rattle.tape_run.specs.{Lacks.IsGoodAt, WholeSet.key_in, WholeSet.WholeVolumeIsGood}
+use Rattle.tape_run.specs.declared.passing.Phase.TheVariants.{Volume as AtVolume, Labels, Second}
 use Rattle.tape_run.proofs.SectionRuns.{Runs, runs_nil, runs_append, runs_step, section_items}
 use Rattle.tape_run.proofs.SectionRuns.{IsWhole, runs_section, good_told}
 use Rattle.tape_run.proofs.StayingGood.{become_good}

@@ -13,13 +13,12 @@ use Rattle.tape_set.specs.{declared.position.Position.TheVariants.Finished, Reac
 use Rattle.tape_set.specs.Layout.{Section, section_of}
 use Rattle.tape_set.specs.Position.{start, at_part, want_at}
 use Rattle.tape_core.specs.{Stands.Stands, declared.sink.SinkFault.SinkFault}
-use Rattle.tape_run.specs.{declared.script.Step.Step, declared.script.Step.TheVariants.Reel}
-use Rattle.tape_run.specs.{declared.fault.RunFault.TheVariants.Sink, CrashRuns.IsResumed}
+use Rattle.tape_run.specs.{declared.script.Step.Step, declared.fault.RunFault.TheVariants.Sink}
+use Rattle.tape_run.specs.{declared.script.Step.TheVariants.Reel, Seen.Seen, Seen.IsSession}
+use Rattle.tape_run.specs.{CrashRuns.IsResumed, Given.AreGivenBy, Given.failed_of, Given.counted_up}
 use Rattle.tape_run.specs.{Mount.MountEvent, Mount.IsMountOf, Mount.reads, Mount.cut, Back.reels_of}
 use Rattle.tape_run.specs.History.{Course, course, course_of, IsHistory}
-use Rattle.tape_run.specs.Given.{AreGivenBy, failed_of, counted_up}
 use Rattle.tape_run.specs.Headline.{begins, HasRun, HasStopped, StopsStep}
-use Rattle.tape_run.specs.Seen.{Seen, IsSession}
 use Rattle.tape_run.specs.WorkedHistory.{worked_set, section_1, section_2, first, reel_1, reading}
 use Rattle.tape_run.specs.WorkedDays.{DaysAreWorked, IsWhole, once, twice, two_reels, behind_one}
 use Rattle.tape_run.proofs.{Back.none_of, CrashRuns.goes_on, Fronts.fronts_are_mounts}

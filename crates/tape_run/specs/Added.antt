@@ -1,9 +1,8 @@
 -- The sections that an image adds to a catalogue.
 use Rattle.std.specs.Prelude.{◌≡◌, ℕ, List, length, Option, IfSome}
-use Rattle.tape_image.specs.declared.item.Ending.{Ending}
-use Rattle.tape_image.specs.declared.item.Ending.TheVariants as endings
+use Rattle.tape_image.specs.{declared.item.Ending.Ending, Step.TakesEnd, Step.TakesFault}
 use Rattle.tape_image.specs.{Tape.TapeItem, Begins.Walks, Reader.IfKnown}
-use Rattle.tape_image.specs.Step.{TakesEnd, TakesFault}
+use Rattle.tape_image.specs.declared.item.Ending.TheVariants as endings
 use Rattle.tape_run.specs.declared.section.{ImageStop.ImageStop, ImageLine.ImageLine}
 use Rattle.tape_run.specs.declared.passing.Phase.TheVariants.{Volume}
 use Rattle.tape_run.specs.declared.section.ImageStop.TheVariants.{Marked, Physical, Fault}

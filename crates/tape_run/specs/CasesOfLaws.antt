@@ -12,22 +12,21 @@ use Rattle.tape_run.specs.CrashRuns.{StoodComesBack, StandsAcrossCrashes, ComesB
 use Rattle.tape_run.specs.WholeReels.{WholeSetIsTold, GoodWasSeen, AreWholeCopies, IsToldWhole}
 use Rattle.tape_run.specs.WholeSet.{HasEach, AreAllGood, behind_copies, WholeVolumeIsGood}
 use Rattle.tape_run.specs.WholeSet.{WholeSetIsGood, WholeSetLacksNothing, WholeSetIsFound}
-use Rattle.tape_run.specs.{declared.script.Step.Step, declared.script.Step.TheVariants.Reel}
-use Rattle.tape_run.specs.{declared.fault.RunFault.RunFault, declared.section.ImageLine.ImageLine}
 use Rattle.tape_run.specs.declared.fault.RunFault.TheVariants.{OutOfMemory, OtherFile}
-use Rattle.tape_run.specs.declared.section.SectionState.TheVariants.{Good, Cut}
-use Rattle.tape_run.specs.{Added.Adds, CasesOfCatalogues.met, Checked.IsReport, Crash.StoodAt}
-use Rattle.tape_run.specs.{Fronts.FrontsAreMounts, Fronts.GivenIsHistory, Given.AreGivenBy}
-use Rattle.tape_run.specs.{History.IsHistory, Lead.AreItems, Lead.ItemsAreThere, Headline.HasRun}
-use Rattle.tape_run.specs.{Listing.OneListing, Listing.IsListing, Noted.noted_all, Noted.StandsIn}
-use Rattle.tape_run.specs.{OneEntry.HasOneEach, OneEntry.OneEntryASection, Seen.Seen}
-use Rattle.tape_run.specs.{Passing.Told, Passing.met_in, Shown.Shown, Shown.GoodAreShown}
-use Rattle.tape_run.specs.Lacks.{LackIsFirst, IsFoundWhole, IsFirstLack, lack_of, found_all}
 use Rattle.tape_run.specs.CrashRuns.{Outlives, AreHistories, IsResumed, ResumedGoesOn}
-use Rattle.tape_run.specs.Mount.{MountEvent, IsMountOf, cut, reads}
-use Rattle.tape_run.specs.Runs.{RunsUpTo, OnlyRefusalsStop, IsRefusal}
-use Rattle.tape_run.specs.WholeReels.{IsShownOn}
+use Rattle.tape_run.specs.{WholeReels.IsShownOn, Added.Adds, Checked.IsReport, Given.AreGivenBy}
 use Rattle.tape_run.specs.WholeSet.{WholeCopiesAreAdded, IsWholeCopy, IsNoDevice}
+use Rattle.tape_run.specs.{declared.script.Step.Step, Fronts.FrontsAreMounts, Fronts.GivenIsHistory}
+use Rattle.tape_run.specs.{declared.script.Step.TheVariants.Reel, Lead.AreItems, Lead.ItemsAreThere}
+use Rattle.tape_run.specs.{declared.fault.RunFault.RunFault, Listing.OneListing, Listing.IsListing}
+use Rattle.tape_run.specs.{declared.section.ImageLine.ImageLine, Noted.noted_all, Noted.StandsIn}
+use Rattle.tape_run.specs.declared.section.SectionState.TheVariants.{Good, Cut}
+use Rattle.tape_run.specs.{CasesOfCatalogues.met, OneEntry.HasOneEach, OneEntry.OneEntryASection}
+use Rattle.tape_run.specs.{Crash.StoodAt, Mount.MountEvent, Mount.IsMountOf, Mount.cut, Mount.reads}
+use Rattle.tape_run.specs.{History.IsHistory, Runs.RunsUpTo, Runs.OnlyRefusalsStop, Runs.IsRefusal}
+use Rattle.tape_run.specs.Headline.{HasRun}
+use Rattle.tape_run.specs.{Seen.Seen, Passing.Told, Passing.met_in, Shown.Shown, Shown.GoodAreShown}
+use Rattle.tape_run.specs.Lacks.{LackIsFirst, IsFoundWhole, IsFirstLack, lack_of, found_all}
 use Rattle.tape_run.specs.Checked as checked
 
 -- of laws of runs

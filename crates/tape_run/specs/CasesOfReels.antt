@@ -20,13 +20,12 @@ use Rattle.tape_run.specs.ByTable.{parts_from, parts_by, parts_at, delivered_par
 use Rattle.tape_run.specs.Lead.{Noted, Lead, at_start, lead, AreItems, AreNoted, StandsThere}
 use Rattle.tape_run.specs.Reels.{Reads, ReadsReel, ReadsToBlock, EndedByItem, EndedByMedium}
 use Rattle.tape_run.specs.Reels.{EndedByFault, Leaves, StopsAt, GoesOn, answers_to, behind_items}
-use Rattle.tape_run.specs.{declared.reel_reader.ReelAnswer.ReelAnswer, declared.script.Step.Step}
-use Rattle.tape_run.specs.{declared.fault.RunFault.RunFault, ByTable.StopsInside, ByTable.IsCutAt}
+use Rattle.tape_run.specs.{ByTable.StopsInside, ByTable.IsCutAt, declared.fault.RunFault.RunFault}
+use Rattle.tape_run.specs.{Lead.StopsBy, Reels.delivered_by, declared.script.Step.Step, Seen.Seen}
+use Rattle.tape_run.specs.{declared.reel_reader.ReelAnswer.ReelAnswer, Steps.Reeled, Steps.CutShort}
 use Rattle.tape_run.specs.declared.fault.RunFault.TheVariants.{Sink, OutOfMemory}
 use Rattle.tape_run.specs.declared.script.Step.TheVariants.{Reel, Save, Restart}
 use Rattle.tape_run.specs.Headline.{HasRun, IsRead, HasStopped, reels_in}
-use Rattle.tape_run.specs.{Lead.StopsBy, Reels.delivered_by, Seen.Seen}
-use Rattle.tape_run.specs.Steps.{Reeled, CutShort}
 use Rattle.tape_run.specs.WorkedHistory.{block_0, block_1, vol1, hdr1, hdr2, first}
 
 -- ---- what a reel answers

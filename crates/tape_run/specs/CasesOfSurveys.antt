@@ -7,20 +7,19 @@ use Rattle.tape_label.specs.declared.values.Kind.TheVariants as kinds
 use Rattle.tape_label.specs.{Kinds.HasKind, Vol1.IsVol1, Head1.IsHead1, Trail1.IsTrail1}
 use Rattle.tape_label.specs.VolumeLabels.{is_volume_label}
 use Rattle.tape_run.specs.SurveyLaws.{course_of, has_left, end_marks, IsSectionInOrder, IsBegun}
-use Rattle.tape_run.specs.{declared.survey.course.ExpectedItem.ExpectedItem, Noted.noted_all}
-use Rattle.tape_run.specs.{declared.survey.dates.Date.Date, declared.survey.Wording.Wording}
-use Rattle.tape_run.specs.{declared.survey.view.ImageSurvey.ImageSurvey, Passing.met_in}
-use Rattle.tape_run.specs.declared.survey.course.LabelOrder.TheVariants.{Blank, Ended, Leaves}
-use Rattle.tape_run.specs.{CasesOfExtracts.Known, CasesOfExtracts.Readers, Reeling.Took}
-use Rattle.tape_run.specs.{Dates.date_of, Dates.date_text, Added.StopsBehind, SurveySets.is_all}
-use Rattle.tape_run.specs.SurveyConflicts.{TellsDispute, all_placed}
-use Rattle.tape_run.specs.SurveyCopies.{copied_in, disputed, disputed_on}
-use Rattle.tape_run.specs.{SurveyFiles.filed_in, SurveyGlance.glance_of, SurveyGlance.damages_in}
 use Rattle.tape_run.specs.SurveyLaws.{IsVolumeInOrder, IsFirstAstray, LeavesThere, EndedIsVolume}
-use Rattle.tape_run.specs.SurveyLocations.{located_in, next_image}
+use Rattle.tape_run.specs.{declared.survey.course.ExpectedItem.ExpectedItem, SurveyFiles.filed_in}
+use Rattle.tape_run.specs.{Noted.noted_all, Survey.survey_text, Survey.Surveys, Survey.SurveysFront}
+use Rattle.tape_run.specs.{declared.survey.dates.Date.Date, declared.survey.Wording.Wording}
+use Rattle.tape_run.specs.{declared.survey.view.ImageSurvey.ImageSurvey, SurveyTally.is_whole_sight}
+use Rattle.tape_run.specs.{Passing.met_in, SurveyConflicts.TellsDispute, SurveyConflicts.all_placed}
+use Rattle.tape_run.specs.declared.survey.course.LabelOrder.TheVariants.{Blank, Ended, Leaves}
+use Rattle.tape_run.specs.{CasesOfExtracts.Known, CasesOfExtracts.Readers, SurveySets.is_all}
+use Rattle.tape_run.specs.{Reeling.Took, SurveyLocations.located_in, SurveyLocations.next_image}
+use Rattle.tape_run.specs.Dates.{date_of, date_text}
+use Rattle.tape_run.specs.{Added.StopsBehind, SurveyGlance.glance_of, SurveyGlance.damages_in}
+use Rattle.tape_run.specs.SurveyCopies.{copied_in, disputed, disputed_on}
 use Rattle.tape_run.specs.SurveyRead.{Found, nothing_found, IsViewed, AreViewed}
-use Rattle.tape_run.specs.SurveyTally.{is_whole_sight}
-use Rattle.tape_run.specs.Survey.{survey_text, Surveys, SurveysFront}
 
 -- a day of the calendar
 abbrev pub date : ℕ → ℕ → ℕ → Date

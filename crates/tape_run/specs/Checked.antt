@@ -67,12 +67,6 @@ pub record TellsImages {L R : Type 0} (size : L → ℕ) (gives : Mounting L R)
   pub read : AddsImages reels lines [] sections
   pub wrote : Appends old new (image_lines 1 lines)
 
--- A fault came at the image with this number: nothing more was written, or the image was read and a
--- prefix of its line was written.
-abbrev pub StopsAtImage : Reel → ℕ → List Told → Option (List ℕ) → Option (List ℕ) → Type 0
-StopsAtImage reel n c old new = Appends old new [] ⊎ ((line : Option ImageLine) × (d : List Told)
-    × AddsImage reel line c d × AppendsFront old new (image_line n line))
-
 -- The text is the report on these images, and the result is whether all was found. After the images
 -- the catalogue has these sections.
 pub record IsReport (reels : List Reel) (text : List ℕ) (found : Bool) : Type 0 where

@@ -3,12 +3,11 @@ use Rattle.std.specs.Prelude.{◌≡◌, ℕ, List, [], ◌∷◌, ◌++◌, Opt
 use Rattle.tape_image.specs.declared.item.ImageCause.TheVariants.{Truncated}
 use Rattle.tape_blocks.specs.declared.parts.Span.TheVariants.{Whole, First, Middle, Last}
 use Rattle.tape_blocks.specs.Block.{Portion}
+use Rattle.tape_blocks.specs.declared.parts.Form.TheVariants.{Lines, Raw}
 use Rattle.tape_set.specs.declared.position.Want.{Want}
 use Rattle.tape_core.specs.declared.event.{Answer.TheVariants.Useless, Reason.TheVariants.ReelEnded}
-use Rattle.tape_run.specs.declared.reel_reader.ReelAnswer.{ReelAnswer}
-use Rattle.tape_blocks.specs.declared.parts.Form.TheVariants.{Lines, Raw}
-use Rattle.tape_run.specs.RecordText.{output_of}
-use Rattle.tape_run.specs.ReelLine.{reel_line, reel_lines, awaits_line}
+use Rattle.tape_run.specs.{declared.reel_reader.ReelAnswer.ReelAnswer, RecordText.output_of}
+use Rattle.tape_run.specs.ReelLine.{reel_line, reel_lines, last_line}
 
 -- a record AB, a record CDE in three parts, and an unfinished record that begins with F
 abbrev pub worked_parts : List Portion
@@ -45,9 +44,9 @@ pub record ExtractIsWorked : Type 0 where
       ++ codes "\n"
   pub reels : reel_lines 1 (None ∷ worked_end ∷ [])
       ≡ reel_line 1 None ++ (reel_line 2 worked_end ++ [])
-  pub awaits : awaits_line (worked_want 0)
+  pub awaits : last_line (Some (worked_want 0)) 5
       ≡ codes "AWAITS " ++ decimal 9 ++ codes " " ++ decimal 1 ++ codes " " ++ decimal 2
       ++ [] ++ codes "\n"
-  pub awaits_part : awaits_line (worked_want 7)
+  pub awaits_part : last_line (Some (worked_want 7)) 5
       ≡ codes "AWAITS " ++ decimal 9 ++ codes " " ++ decimal 1 ++ codes " " ++ decimal 2
       ++ (codes " " ++ decimal 7) ++ codes "\n"

@@ -9,13 +9,12 @@ use Rattle.tape_set.specs.{Layout.FileSet, Lawful.IsLawful, declared.position.Po
 use Rattle.tape_set.specs.declared.position.Position.TheVariants.{Awaits, Finished}
 use Rattle.tape_core.specs.{Known.is_finished, Place.IsPlaced, State.State, Table.mount_of}
 use Rattle.tape_core.specs.{declared.event.Phase.TheVariants.Broken, declared.sink.PartSink.Ghosts}
-use Rattle.tape_run.specs.{ByTable.IsLed, Crash.IsWalked, ExtractingNow.IsPut, Given.IsGiven}
-use Rattle.tape_run.specs.{GoesBehind.PassedOver, Lead.Lead, Lead.over_reel, Lacks.key_at}
-use Rattle.tape_run.specs.{Mount.MountEvent, Mount.IsMount, Mount.after_mount, Noted.same_key}
-use Rattle.tape_run.specs.{Reeling.Mounting, Seen.Seen, Seen.IfSeen, Seen.IsSeen}
-use Rattle.tape_run.specs.{SessionState.SessionState, SurveyLocations.Located}
-use Rattle.tape_run.specs.declared.extract.located.Mounted.{Mounted}
-use Rattle.tape_run.specs.declared.survey.files.FileKey.{FileKey}
+use Rattle.tape_run.specs.{ByTable.IsLed, Given.IsGiven, Lacks.key_at}
+use Rattle.tape_run.specs.{Crash.IsWalked, GoesBehind.PassedOver, Noted.same_key, Reeling.Mounting}
+use Rattle.tape_run.specs.{ExtractingNow.IsPut, Mount.MountEvent, Mount.IsMount, Mount.after_mount}
+use Rattle.tape_run.specs.{Lead.Lead, Lead.over_reel, declared.extract.located.Mounted.Mounted}
+use Rattle.tape_run.specs.{Seen.Seen, Seen.IfSeen, Seen.IsSeen, SurveyLocations.Located}
+use Rattle.tape_run.specs.{SessionState.SessionState, declared.survey.files.FileKey.FileKey}
 
 -- ---- an image that stays open
 

@@ -39,7 +39,7 @@ kind_at mark = kinds.Mark
 
 -- the row of the item with this number, of this kind, with a cell for each reading
 abbrev pub row_text : ℕ → ItemKind → List ℕ → List ℕ
-row_text n kind cells = decimal n ++ codes "\t" ++ kind_text kind ++ cells ++ codes "\n"
+row_text n kind cells = (decimal n ++ (codes "\t" ++ kind_text kind)) ++ cells ++ codes "\n"
 
 -- the row of an item of the merged tape, if it has one, given the item of each reading
 abbrev pub log_row : ℕ → TapeItem → List (Option TapeItem) → List ℕ

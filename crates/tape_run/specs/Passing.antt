@@ -52,18 +52,10 @@ told_with met (Ok trail) =
     else (Over, Some (cut met))
 told_with met (Err _) = (Over, Some (cut met))
 
--- after a block where a section's trailer label is expected
-abbrev pub told_by : Met → List ℕ → Phase × Option Told
-told_by met b = told_with met (trail1_at b)
-
 -- after a block that was read as a volume label, or could not be read as one
 abbrev pub volume_with : Result Vol1 LabelFault → Phase
 volume_with (Ok label) = Labels label.volume
 volume_with (Err _) = Over
-
--- after the first block
-abbrev pub volume_phase : List ℕ → Phase
-volume_phase b = volume_with (vol1_at b)
 
 -- a section's first label was read
 abbrev pub met_by : List ℕ → Head1 → Met
@@ -96,7 +88,7 @@ labels_phase v b = if is_volume_label b then Labels v else header_phase v b Over
 -- further headers, a mark, data, a mark, a trailer label, further trailers, a mark; then a second
 -- mark.
 abbrev pub step : Phase → TapeItem → Phase × Option Told
-step Volume (block b) = (volume_phase b, None)
+step Volume (block b) = (volume_with (vol1_at b), None)
 step Volume bad = (Over, None)
 step Volume mark = (Over, None)
 step (Labels v) (block b) = (labels_phase v b, None)
@@ -111,7 +103,7 @@ step (Headers met) mark = (Data met, None)
 step (Data met) (block b) = (Data (with_block met false), None)
 step (Data met) bad = (Data (with_block met true), None)
 step (Data met) mark = (Trailer met, None)
-step (Trailer met) (block b) = told_by met b
+step (Trailer met) (block b) = told_with met (trail1_at b)
 step (Trailer met) bad = (Over, Some (cut met))
 step (Trailer met) mark = (Over, Some (cut met))
 step (Trailers v) (block b) = (Trailers v, None)

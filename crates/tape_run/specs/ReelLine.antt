@@ -60,23 +60,15 @@ outcome_text (Some answer) = answer_text answer.answer ++ end_text answer.fault
 abbrev pub reel_line : ℕ → Option ReelAnswer → List ℕ
 reel_line n outcome = codes "REEL " ++ decimal n ++ codes " " ++ outcome_text outcome ++ codes "\n"
 
--- the last line for a complete file, with the number of its records
-abbrev pub complete_line : ℕ → List ℕ
-complete_line records = codes "COMPLETE " ++ decimal records ++ codes "\n"
-
 -- the number of delivered parts of the missing block, if any
 abbrev pub part_text : ℕ → List ℕ
 part_text part = if part == 0 then [] else codes " " ++ decimal part
 
--- the last line of the report on an incomplete file: the missing part
-abbrev pub awaits_line : Want → List ℕ
-awaits_line want = codes "AWAITS " ++ decimal want.file ++ codes " " ++ decimal want.sect
-    ++ codes " " ++ decimal want.block ++ part_text want.part ++ codes "\n"
-
 -- the last line: the missing part, or the number of records in the file
 abbrev pub last_line : Option Want → ℕ → List ℕ
-last_line None records = complete_line records
-last_line (Some want) records = awaits_line want
+last_line None records = codes "COMPLETE " ++ decimal records ++ codes "\n"
+last_line (Some want) records = codes "AWAITS " ++ decimal want.file ++ codes " "
+    ++ decimal want.sect ++ codes " " ++ decimal want.block ++ part_text want.part ++ codes "\n"
 
 -- the lines of images, the first of which has this number
 abbrev pub reel_lines : ℕ → List (Option ReelAnswer) → List ℕ

@@ -7,15 +7,14 @@ use Rattle.tape_blocks.specs.{Block.Portion, Spans.InOrder}
 use Rattle.tape_set.specs.{Layout.Volume, Lawful.IsVolume, Lawful.FileForm}
 use Rattle.tape_run.specs.SalvageWhole.{Blocks, IsBlock, all_parts, parts_with, whole_parts}
 use Rattle.tape_run.specs.SalvageSections.{SectionRead, IsRead, IsOther, Labels, AreLabels, key_of}
-use Rattle.tape_run.specs.{Noted.same_key, SalvageBlocks.Salvaged, SalvageBlocks.none_salvaged}
-use Rattle.tape_run.specs.{SalvageRecords.nothing, SalvageImage.EndsData, SalvageGaps.data_in}
-use Rattle.tape_run.specs.{declared.salvage.walk.OpenSection.OpenSection, SalvageWhole.piece_after}
+use Rattle.tape_run.specs.{SalvageWhole.piece_after, declared.salvage.walk.OpenSection.OpenSection}
+use Rattle.tape_run.specs.{SalvageSections.read_volume, SalvageSections.read_blocks, Noted.same_key}
+use Rattle.tape_run.specs.{SalvageBlocks.Salvaged, SalvageBlocks.none_salvaged, SalvageGaps.data_in}
+use Rattle.tape_run.specs.{SalvageRecords.nothing, declared.salvage.copies.SectionCopy.SectionCopy}
+use Rattle.tape_run.specs.{SalvageImage.EndsData, declared.salvage.Content.TheVariants.Records}
 use Rattle.tape_run.specs.declared.salvage.walk.Closing.{Closing}
 use Rattle.tape_run.specs.declared.salvage.walk.Expected.TheVariants.{Outside}
-use Rattle.tape_run.specs.declared.salvage.Content.TheVariants.{Records}
-use Rattle.tape_run.specs.declared.salvage.copies.SectionCopy.{SectionCopy}
 use Rattle.tape_run.specs.SalvageTaking.{Taken, form_for, after_all}
-use Rattle.tape_run.specs.SalvageSections.{read_volume, read_blocks}
 
 -- a copy of a section that closes, found by its HDR1
 abbrev pub closed_copy : ℕ → OpenSection → Closing → SectionCopy

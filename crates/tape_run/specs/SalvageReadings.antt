@@ -6,11 +6,10 @@ use Rattle.tape_image.specs.Tape.{TapeItem}
 use Rattle.tape_set.specs.Layout.{FileSet, Volume, items, entries, nth, on, sections}
 use Rattle.tape_set.specs.{Lawful.IsLawful, Lawful.IsVolume, Lawful.FileForm, Reading.Reading}
 use Rattle.tape_set.specs.{Reading.IsReadingOf, Reading.as_read, Reach.passes}
-use Rattle.tape_run.specs.declared.salvage.walk.Expected.TheVariants.{Outside}
-use Rattle.tape_run.specs.{SalvageBlocks.Salvaged, SalvageImage.salvaged_from}
-use Rattle.tape_run.specs.SalvageWhole.{piece_after}
 use Rattle.tape_run.specs.SalvageSections.{SectionRead, IsRead, Labels, AreLabels, read_volume}
-use Rattle.tape_run.specs.SalvageSections.{key_of, IsReadTo}
+use Rattle.tape_run.specs.declared.salvage.walk.Expected.TheVariants.{Outside}
+use Rattle.tape_run.specs.{SalvageBlocks.Salvaged, SalvageSections.key_of, SalvageSections.IsReadTo}
+use Rattle.tape_run.specs.{SalvageImage.salvaged_from, SalvageWhole.piece_after}
 
 -- The items are those of volume k of the set, of which these labels and sections were read.
 pub record IsReadVolume (set : FileSet) (k : ℕ) (xs : List TapeItem) : Type 0 where

@@ -4,14 +4,13 @@ use Rattle.std.specs.{Prelude.None, Prelude.slice_get, List.AllByRecursion, Io.K
 use Rattle.tape_image.specs.{Tape.TapeItem, Begins.Stop, Begins.Begins}
 use Rattle.tape_set.specs.Layout.{FileSet, Section, numbered, file_of}
 use Rattle.tape_set.specs.{Lawful.IsLawful, Before.section_parts, Reading.Reading}
-use Rattle.tape_run.specs.{declared.salvage.Content.TheVariants.Records, Checked.Reel}
-use Rattle.tape_run.specs.{declared.salvage.SalvageTask.SalvageTask, Reeling.Mounting}
-use Rattle.tape_run.specs.{declared.salvage.copies.SectionCopy.SectionCopy, RecordText.output_of}
-use Rattle.tape_run.specs.{WholeSet.IsNoDevice, SalvageWalk.sections_in, SalvageRecords.parts_text}
-use Rattle.tape_run.specs.{SalvageCopies.of_file, SalvageCopies.start_of, SalvageBlocks.Salvaged}
-use Rattle.tape_run.specs.{SalvageImage.EndsData, SalvageTaking.Taken}
+use Rattle.tape_run.specs.{declared.salvage.Content.TheVariants.Records, SalvageBlocks.Salvaged}
+use Rattle.tape_run.specs.{Checked.Reel, Reeling.Mounting, WholeSet.IsNoDevice, SalvageTaking.Taken}
+use Rattle.tape_run.specs.{declared.salvage.SalvageTask.SalvageTask, SalvageImage.EndsData}
+use Rattle.tape_run.specs.{declared.salvage.copies.SectionCopy.SectionCopy, SalvageWalk.sections_in}
+use Rattle.tape_run.specs.{RecordText.output_of, Salvaging.FindsOnAll, Salvaging.Salvages}
+use Rattle.tape_run.specs.{SalvageRecords.parts_text, SalvageCopies.of_file, SalvageCopies.start_of}
 use Rattle.tape_run.specs.SalvageSets.{items_read, IsCompleteOr, HasVolume, IsRecovered}
-use Rattle.tape_run.specs.Salvaging.{FindsOnAll, Salvages}
 
 -- ---- the images
 

@@ -5,9 +5,8 @@ use Rattle.tape_image.specs.Tape.{TapeItem, block, mark}
 use Rattle.tape_label.specs.declared.values.Kind.TheVariants as kinds
 use Rattle.tape_label.specs.declared.values.{Vol1.Vol1, Head1.Head1, Trail1.Trail1}
 use Rattle.tape_label.specs.{Kinds.HasKind, Vol1.IsVol1, Head1.IsHead1, Trail1.IsTrail1}
-use Rattle.tape_run.specs.declared.section.{SectionKey.SectionKey, Entry.Entry}
-use Rattle.tape_run.specs.declared.section.SectionState.TheVariants.{Good}
-use Rattle.tape_run.specs.Passing.{met_in}
+use Rattle.tape_run.specs.{declared.section.SectionKey.SectionKey, declared.section.Entry.Entry}
+use Rattle.tape_run.specs.{declared.section.SectionState.TheVariants.Good, Passing.met_in}
 use Rattle.tape_set.specs.Lawful.{label_count}
 
 -- the first item is the volume label of the volume with this identifier

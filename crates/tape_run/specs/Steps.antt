@@ -3,13 +3,12 @@ use Rattle.std.specs.Prelude.{◌≡◌, ℕ, ◌+◌, ◌≤◌, Bool, List, �
 use Rattle.std.specs.Prelude.{slice_get, Option, ◌⊎◌}
 use Rattle.tape_image.specs.{Tape.TapeItem, Tape.block, Begins.Stop, Begins.Begins}
 use Rattle.tape_set.specs.{Layout.FileSet, Lawful.IsLawful, Position.at_part, Position.next_block}
-use Rattle.tape_blocks.specs.Block.{Portion}
 use Rattle.tape_set.specs.declared.position.Position.{Position}
-use Rattle.tape_core.specs.{Point.Point, State.State, Table.saved, Table.mount_of, Stands.weight_of}
-use Rattle.tape_core.specs.Weight.{IsFront, Rose}
-use Rattle.tape_core.specs.Place.{IsPlaced, place_of, rest_of}
-use Rattle.tape_core.specs.declared.sink.{PartSink.Ghosts, SinkFault.SinkFault}
-use Rattle.tape_core.specs.declared.sink.SinkFault.TheVariants.{Failed}
+use Rattle.tape_blocks.specs.Block.{Portion}
+use Rattle.tape_core.specs.{Point.Point, State.State, Weight.IsFront, Weight.Rose}
+use Rattle.tape_core.specs.{Table.saved, Table.mount_of, declared.sink.SinkFault.TheVariants.Failed}
+use Rattle.tape_core.specs.{Stands.weight_of, Place.IsPlaced, Place.place_of, Place.rest_of}
+use Rattle.tape_core.specs.{declared.sink.PartSink.Ghosts, declared.sink.SinkFault.SinkFault}
 use Rattle.tape_run.specs.declared.fault.RunFault.{RunFault}
 use Rattle.tape_run.specs.declared.fault.RunFault.TheVariants.{Sink, NoSuchPoint, TooFewReels}
 use Rattle.tape_run.specs.declared.fault.RunFault.TheVariants.{OutOfMemory, OtherFile}

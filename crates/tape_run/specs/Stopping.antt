@@ -2,19 +2,17 @@
 use Rattle.std.specs.Prelude.{◌≡◌, ◌≢◌, ◌⊎◌, ℕ, ◌+◌, ◌-◌, ◌<◌, ◌≤◌, List, length, map, Option, Some}
 use Rattle.std.specs.Prelude.{None, IfSome, Bool, true, false}
 use Rattle.std.specs.Io.KnownBytes.{Appends}
-use Rattle.tape_core.specs.{Place.rest_of, State.State, Weight.IsFront}
-use Rattle.tape_core.specs.declared.sink.PartSink.{Ghosts}
-use Rattle.tape_core.specs.declared.sink.SinkFault.TheVariants.{Device}
+use Rattle.tape_core.specs.{Place.rest_of, declared.sink.PartSink.Ghosts}
+use Rattle.tape_core.specs.{State.State, Weight.IsFront, declared.sink.SinkFault.TheVariants.Device}
 use Rattle.tape_image.specs.Written.{AppendsFront}
 use Rattle.tape_run.specs.Reeling.{Turn, answer_of, Mounting, AreFirstTurns, Follows, IsKeptFor}
+use Rattle.tape_run.specs.{Reeling.counts_differ, declared.fault.RunFault.TheVariants.Sink}
 use Rattle.tape_run.specs.{Crash.LeavesSaved, Given.is_device, ReelLine.reel_lines}
-use Rattle.tape_run.specs.{Reeling.counts_differ, SessionState.SessionState}
+use Rattle.tape_run.specs.{SessionState.SessionState, declared.reel_reader.ReelAnswer.ReelAnswer}
 use Rattle.tape_run.specs.Seen.{Seen, IsKept, IfSeen, IsSeen, IsSeenUnless}
 use Rattle.tape_run.specs.Steps.{Reeled, ReelFails, SaveFails, RestartFails, Unmoved}
 use Rattle.tape_run.specs.{declared.fault.EngineFault.EngineFault, declared.fault.RunFault.RunFault}
 use Rattle.tape_run.specs.declared.fault.EngineFault.TheVariants.{Run, WriteFailed}
-use Rattle.tape_run.specs.declared.fault.RunFault.TheVariants.{Sink}
-use Rattle.tape_run.specs.declared.reel_reader.ReelAnswer.{ReelAnswer}
 
 -- After a reel no checkpoint was made, for this reason; or a session that rolls back after a
 -- suspect reel did not.

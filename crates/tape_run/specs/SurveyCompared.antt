@@ -17,10 +17,6 @@ abbrev pub section_front : SectionKey → List ℕ
 section_front key = trimmed_text key.set_id ++ (codes " file " ++ (decimal key.file
     ++ (codes " section " ++ (decimal key.sect ++ codes ": "))))
 
--- the number of copies that agree
-abbrev pub agreed_text : ℕ → List ℕ
-agreed_text copies = codes "good, " ++ (decimal copies ++ codes " copies agree\n")
-
 -- the copies on two images differ
 abbrev pub conflict_text : List (List ℕ) → ℕ → ℕ → List ℕ
 conflict_text names first other = codes "CONFLICT, " ++ name_at names first ++ codes " and "
@@ -28,7 +24,7 @@ conflict_text names first other = codes "CONFLICT, " ++ name_at names first ++ c
 
 -- the result of comparing the copies of a section
 abbrev pub verdict_by : List (List ℕ) → CopyNote → Option ℕ → List ℕ
-verdict_by names note None = agreed_text note.copies
+verdict_by names note None = codes "good, " ++ (decimal note.copies ++ codes " copies agree\n")
 verdict_by names note (Some other) = conflict_text names note.image other
 
 abbrev pub verdict_text : List (List ℕ) → CopyNote → List ℕ
@@ -51,8 +47,8 @@ other_cells names (Some other) = name_at names other ++ codes "\tCONFLICT\n"
 
 -- the row of a section
 abbrev pub copy_row : List (List ℕ) → Noted → List ℕ
-copy_row names x = row_front x.0 x.1.copies ++ name_at names x.1.image ++ codes "\t"
-    ++ other_cells names x.1.other
+copy_row names x = row_front x.0 x.1.copies ++ (name_at names x.1.image ++ (codes "\t"
+    ++ other_cells names x.1.other))
 
 -- the section has only one good copy
 abbrev pub is_alone : CopyNote → Bool

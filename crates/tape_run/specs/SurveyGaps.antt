@@ -1,5 +1,5 @@
 -- Numbers of files without any label found.
-use Rattle.std.specs.Prelude.{ℕ, zero, suc, ◌+◌, ◌-◌, Bool, if◌then◌else◌, List, [], ◌++◌, nat_lt}
+use Rattle.std.specs.Prelude.{ℕ, zero, suc, ◌-◌, Bool, if◌then◌else◌, List, [], ◌++◌, nat_lt}
 use Rattle.std.specs.Prelude.{is_some, codes, decimal}
 use Rattle.tape_run.specs.declared.survey.Wording.{Wording}
 use Rattle.tape_run.specs.declared.survey.Wording.TheVariants.{Words, Rows}
@@ -15,30 +15,27 @@ abbrev pub gap_first : Found → List ℕ → ℕ → ℕ
 gap_first d set_id zero = 1
 gap_first d set_id (suc n) = if is_found d set_id (suc n) then suc (suc n) else gap_first d set_id n
 
--- the file numbers from `first` to `file - 1`
+-- the numbers from `first` to `next - 1`
 abbrev pub numbers_text : ℕ → ℕ → List ℕ
-numbers_text first file = decimal first
-    ++ (if nat_lt first (file - 1) then codes "-" ++ decimal (file - 1) else [])
+numbers_text first next =
+    if nat_lt first (next - 1) then decimal first ++ (codes "-" ++ decimal (next - 1))
+    else decimal first
+
+-- the ending of a plural, if there is more than one such number
+abbrev pub plural : ℕ → ℕ → List ℕ
+plural first next = if nat_lt first (next - 1) then codes "s" else []
 
 -- the line of `unpack` for such numbers
 abbrev pub numbers_line : List ℕ → ℕ → ℕ → List ℕ
 numbers_line set_id first file = codes "FILE " ++ identifier_text set_id ++ codes " "
     ++ numbers_text first file ++ codes " NOT FOUND\n"
 
--- the line of `survey`
-abbrev pub gap_line : ℕ → ℕ → List ℕ
-gap_line first file = (if nat_lt (first + 1) file then codes "  files " else codes "  file ")
-    ++ numbers_text first file ++ codes ": not found\n"
-
--- their row
-abbrev pub gap_row : List ℕ → ℕ → ℕ → List ℕ
-gap_row set_id first file = codes "FILE\t" ++ trimmed_text set_id ++ codes "\t"
-    ++ numbers_text first file ++ codes "\t\t\tMISSING\t1\t\t\t1:MISSING;\t\t\t\n"
-
--- the text for them
+-- the line or the row of `survey`
 abbrev pub gap_by : Wording → List ℕ → ℕ → ℕ → List ℕ
-gap_by Words set_id first file = gap_line first file
-gap_by Rows set_id first file = gap_row set_id first file
+gap_by Words set_id first file = codes "  file" ++ (plural first file ++ (codes " "
+    ++ (numbers_text first file ++ codes ": not found\n")))
+gap_by Rows set_id first file = codes "FILE\t" ++ (trimmed_text set_id ++ (codes "\t"
+    ++ (numbers_text first file ++ codes "\t\t\tMISSING\t1\t\t\t1:MISSING;\t\t\t\n")))
 
 -- the text for the file numbers from `first` to `file - 1`, if there are any
 abbrev pub gap_text : Wording → List ℕ → ℕ → ℕ → List ℕ

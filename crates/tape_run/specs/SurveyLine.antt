@@ -1,9 +1,8 @@
 -- The description of an image in a survey. The text is for people, and may change.
 use Rattle.std.specs.Prelude.{Bool, true, false, length, take, ◌-◌, ℕ, ◌==◌, nat_lt, map}
 use Rattle.std.specs.Prelude.{if◌then◌else◌, List, [], ◌++◌, codes, decimal, Option, Some, None}
-use Rattle.tape_image.specs.declared.item.ImageFault.{ImageFault}
 use Rattle.std.specs.List.{flat_map, repeat, suffix_len}
-use Rattle.tape_image.specs.Fault.{number_of}
+use Rattle.tape_image.specs.{declared.item.ImageFault.ImageFault, Fault.number_of}
 use Rattle.tape_label.specs.declared.values.Head1.{Head1}
 use Rattle.tape_run.specs.declared.section.{ImageStop.ImageStop, SectionKey.SectionKey}
 use Rattle.tape_run.specs.declared.section.{SectionLine.SectionLine, SectionState.SectionState}
@@ -12,13 +11,13 @@ use Rattle.tape_run.specs.declared.survey.course.{ExpectedItem.ExpectedItem, Lab
 use Rattle.tape_run.specs.declared.survey.{line.ImageState.ImageState, view.ImageSurvey.ImageSurvey}
 use Rattle.tape_run.specs.declared.section.SectionState.TheVariants.{Good, Bad, Count, Cut}
 use Rattle.tape_run.specs.declared.section.ImageStop.TheVariants.{Marked, Physical, Fault}
-use Rattle.tape_run.specs.declared.survey.glance.First.TheVariants as firsts
-use Rattle.tape_run.specs.declared.survey.course.ExpectedItem.TheVariants as wanted
 use Rattle.tape_run.specs.declared.survey.course.LabelOrder.TheVariants.{Follows, Blank, Ended}
 use Rattle.tape_run.specs.declared.survey.course.LabelOrder.TheVariants.{Leaves}
-use Rattle.tape_run.specs.declared.survey.line.ImageState.TheVariants as states
 use Rattle.tape_run.specs.{Identifier.printed, Quoting.name_text}
 use Rattle.tape_run.specs.SurveyTally.{is_no_image, state_of}
+use Rattle.tape_run.specs.declared.survey.glance.First.TheVariants as firsts
+use Rattle.tape_run.specs.declared.survey.course.ExpectedItem.TheVariants as wanted
+use Rattle.tape_run.specs.declared.survey.line.ImageState.TheVariants as states
 
 -- a space
 abbrev pub is_space : ℕ → Bool

@@ -2,11 +2,10 @@
 use Rattle.std.specs.Prelude.{◌≡◌, ℕ, ◌+◌, ◌&&◌, Bool, true, false, List, [], ◌∷◌, Option, Some}
 use Rattle.std.specs.Prelude.{None}
 use Rattle.tape_image.specs.{Tape.TapeItem, Reader.IfKnown}
-use Rattle.tape_run.specs.declared.survey.view.ImageSurvey.{ImageSurvey}
-use Rattle.tape_run.specs.{Added.StopsBehind, Checked.Reel, Noted.noted_all, Passing.Told}
-use Rattle.tape_run.specs.{Passing.met_in, Reeling.Mounting, SurveyFiles.Filed}
-use Rattle.tape_run.specs.{SurveyFiles.filed_in, SurveyGlance.glance_of, SurveyGlance.damages_in}
-use Rattle.tape_run.specs.SurveyTally.{is_whole_sight}
+use Rattle.tape_run.specs.{declared.survey.view.ImageSurvey.ImageSurvey, SurveyTally.is_whole_sight}
+use Rattle.tape_run.specs.{Added.StopsBehind, SurveyGlance.glance_of, SurveyGlance.damages_in}
+use Rattle.tape_run.specs.{Checked.Reel, Noted.noted_all, Reeling.Mounting}
+use Rattle.tape_run.specs.{Passing.Told, Passing.met_in, SurveyFiles.Filed, SurveyFiles.filed_in}
 use Rattle.tape_run.specs.SurveyCopies.{Copied, no_copies, copied_in}
 use Rattle.tape_run.specs.SurveyLocations.{Located, located_in, next_image}
 

@@ -16,7 +16,7 @@ use Rattle.tape_run.specs.{Dates.date_cell, Passing.Told, SurveyCopies.dispute_a
 use Rattle.tape_run.specs.{SurveyFiles.note_at, SurveyFiles.file_key, Quoting.name_text}
 use Rattle.tape_run.specs.{SurveyLine.trimmed_text, SurveyLine.seen_text, SurveyRead.Found}
 use Rattle.tape_run.specs.SurveyTally.{is_sound}
-use Rattle.tape_run.specs.SurveySets.{standing_of, is_mixed, is_whole_file, rest_lines}
+use Rattle.tape_run.specs.SurveySets.{standing_of, is_mixed, rest_lines}
 
 -- the state of an image: whether it is in conflict, or else was read completely without damage
 abbrev pub whole_cell : Bool → Bool → List ℕ
@@ -128,5 +128,5 @@ form_cells None = codes "\t\t\t"
 -- the row of a file, with a column for all sections that are damaged or missing
 abbrev pub file_row : Found → List ℕ → ℕ → List ℕ
 file_row d set_id file = (file_cells d set_id file
-    ++ rest_lines Rows (is_whole_file d.sections set_id file) d.sections set_id file)
+    ++ rest_lines Rows d.sections set_id file)
     ++ (form_cells (note_at d.files (file_key set_id file)) ++ codes "\n")

@@ -1,7 +1,7 @@
 -- What a survey says of sets and their files. The text is for people, and may change.
-use Rattle.std.specs.Prelude.{ℕ, zero, suc, ◌+◌, ◌-◌, ◌&&◌, ◌||◌, not, nat_lt, Bool, true, false}
+use Rattle.std.specs.Prelude.{ℕ, zero, suc, ◌+◌, ◌-◌, ◌&&◌, ◌||◌, not, Bool, true, false}
 use Rattle.std.specs.Prelude.{if◌then◌else◌, List, [], ◌∷◌, ◌++◌, codes, decimal, Option, Some}
-use Rattle.std.specs.{Prelude.None, Prelude.is_some, List.flat_map}
+use Rattle.std.specs.{Prelude.None, Prelude.is_some, Prelude.length, List.flat_map, List.repeat}
 use Rattle.tape_run.specs.declared.survey.sets.Standing.TheVariants.{Complete, Damaged, Behind}
 use Rattle.tape_run.specs.{declared.section.Entry.Entry, declared.survey.files.FileNote.FileNote}
 use Rattle.tape_run.specs.{declared.survey.sets.Standing.Standing, declared.survey.Wording.Wording}
@@ -14,34 +14,21 @@ use Rattle.tape_run.specs.{SurveyProblems.problem_lines, SurveyTally.is_none}
 use Rattle.tape_run.specs.Lacks.{entry_at, key_at, lack_of, found_all}
 use Rattle.tape_run.specs.SurveyFiles.{note_at, file_key, any_differs}
 
--- a missing section, with what is known of the one before it
-abbrev pub behind_by : ℕ → Option Entry → Standing
-behind_by sect (Some before) = Behind sect before.volume
-behind_by sect None = Missing sect
-
--- a missing section, with its own entry and that of the section before it
-abbrev pub wanted_by : ℕ → Option Entry → Option Entry → Standing
-wanted_by sect (Some entry) before = Damaged sect entry
-wanted_by sect None before = behind_by sect before
-
--- the state of a file without this section
-abbrev pub wanted_at : List Told → List ℕ → ℕ → ℕ → Standing
-wanted_at c set_id file sect = wanted_by sect (entry_at c (key_at set_id file sect))
-    (entry_at c (key_at set_id file (sect - 1)))
+-- the state of a file without this section; the entries are those of it and of the one before it
+abbrev pub state_without : ℕ → Option Entry → Option Entry → Standing
+state_without sect (Some entry) before = Damaged sect entry
+state_without sect None (Some before) = Behind sect before.volume
+state_without sect None None = Missing sect
 
 -- the state of a file with this missing section
 abbrev pub standing_by : List Told → List ℕ → ℕ → Option ℕ → Standing
 standing_by c set_id file None = Complete
-standing_by c set_id file (Some sect) = wanted_at c set_id file sect
+standing_by c set_id file (Some sect) = state_without sect (entry_at c (key_at set_id file sect))
+    (entry_at c (key_at set_id file (sect - 1)))
 
 -- the state of a file: it is complete if none of its sections is missing from the catalogue
 abbrev pub standing_of : List Told → List ℕ → ℕ → Standing
 standing_of c set_id file = standing_by c set_id file (lack_of c set_id file)
-
--- a number in at least four columns
-abbrev pub number_text : ℕ → List ℕ
-number_text n = (if nat_lt n 10 then codes "   " else if nat_lt n 100 then codes "  "
-    else if nat_lt n 1000 then codes " " else []) ++ decimal n
 
 -- the facts about a file in its labels: its identifier, and when it was created
 abbrev pub known_text : Option FileNote → List ℕ
@@ -66,23 +53,24 @@ file_word mixed disputed complete =
     else if disputed then codes "conflict: good copies of a section differ"
     else if complete then codes "complete" else codes "incomplete"
 
--- the first line of a file, which may be in conflict or complete
+-- the first line of a file, which may be in conflict or complete; its number has at least four
+-- columns
 abbrev pub head_line : ℕ → Option FileNote → Bool → Bool → List ℕ
-head_line file note disputed complete = number_text file ++ (codes " " ++ (known_text note
-    ++ (codes "  " ++ (file_word (is_mixed note) disputed complete ++ codes "\n"))))
+head_line file note disputed complete = let number = decimal file in
+    repeat (4 - length number) (codes " ") ++ (number ++ (codes " " ++ (known_text note
+    ++ (codes "  " ++ (file_word (is_mixed note) disputed complete ++ codes "\n")))))
 
 -- the damaged and missing sections of a file, unless it is complete
-abbrev pub rest_lines : Wording → Bool → List Told → List ℕ → ℕ → List ℕ
-rest_lines y true c set_id file = []
-rest_lines y false c set_id file = problem_lines y c set_id file
+unfoldable pub rest_lines : Wording → List Told → List ℕ → ℕ → List ℕ
+rest_lines y c set_id file =
+    if is_whole_file c set_id file then [] else problem_lines y c set_id file
 
 -- the lines about a file: its state and, unless it is complete, its damaged and missing sections
 abbrev pub file_lines : Found → List ℕ → ℕ → List ℕ
 file_lines d set_id file =
-    let complete = is_whole_file d.sections set_id file in
     let key = file_key set_id file in
-    head_line file (note_at d.files key) (is_some (dispute_at d.copies key)) complete
-    ++ rest_lines Words complete d.sections set_id file
+    head_line file (note_at d.files key) (is_some (dispute_at d.copies key))
+    (is_whole_file d.sections set_id file) ++ rest_lines Words d.sections set_id file
 
 -- the file is complete, no label of another file has its number, and no good copies of its sections
 -- differ
@@ -129,8 +117,3 @@ all_good (t ∷ ts) = is_good t.1.state && all_good ts
 abbrev pub is_all : Found → Bool
 is_all d = d.whole && (found_all d.sections && (all_good d.sections
     && (not (any_differs d.files) && is_agreed d.copies.conflicts)))
-
--- the last line
-abbrev pub last_text : Bool → List ℕ
-last_text all =
-    if all then codes "All files are complete, and every image was read to its end.\n" else []

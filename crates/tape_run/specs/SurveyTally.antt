@@ -3,17 +3,16 @@
 use Rattle.std.specs.Prelude.{ℕ, ◌+◌, ◌==◌, ◌&&◌, nat_le, min, length, Bool, true, false}
 use Rattle.std.specs.Prelude.{if◌then◌else◌, List, [], ◌∷◌, ◌++◌, codes, decimal, Option, Some}
 use Rattle.std.specs.Prelude.{None}
-use Rattle.tape_image.specs.declared.item.ImageFault.{ImageFault}
-use Rattle.tape_image.specs.Fault.{number_of}
+use Rattle.tape_image.specs.{declared.item.ImageFault.ImageFault, Fault.number_of}
 use Rattle.tape_run.specs.declared.section.{ImageStop.ImageStop, SectionKey.SectionKey}
 use Rattle.tape_run.specs.declared.survey.course.LabelOrder.{LabelOrder}
 use Rattle.tape_run.specs.declared.survey.course.LabelOrder.TheVariants.{Ended}
 use Rattle.tape_run.specs.declared.survey.{glance.First.First, line.ImageState.ImageState}
 use Rattle.tape_run.specs.declared.survey.{tally.Tally.Tally, view.ImageSurvey.ImageSurvey}
 use Rattle.tape_run.specs.declared.section.ImageStop.TheVariants.{Marked, Physical, Fault}
+use Rattle.tape_run.specs.SurveyCopies.{Held, disputed_on}
 use Rattle.tape_run.specs.declared.survey.glance.First.TheVariants as firsts
 use Rattle.tape_run.specs.declared.survey.line.ImageState.TheVariants as states
-use Rattle.tape_run.specs.SurveyCopies.{Held, disputed_on}
 
 -- the image does not end with a fault
 abbrev pub is_end : ImageStop → Bool
@@ -132,10 +131,6 @@ not_tapes_text n =
     if n == 0 then [] else if n == 1 then codes ", 1 not a tape"
     else codes ", " ++ (decimal n ++ codes " not tapes")
 
--- the number of images
-abbrev pub images_text : ℕ → List ℕ
-images_text n = if n == 1 then codes "1 image" else decimal n ++ codes " images"
-
 -- the numbers of images that are not volumes without damage
 abbrev pub counts_text : Tally → List ℕ
 counts_text t = count_text t.blank (codes "blank")
@@ -145,5 +140,8 @@ counts_text t = count_text t.blank (codes "blank")
 
 -- the line of all images
 abbrev pub tally_line : Tally → List ℕ
-tally_line t = images_text t.images ++ (codes ": " ++ (decimal t.ok ++ (codes " ok"
+tally_line t =
+    if t.images == 1
+    then codes "1 image: " ++ (decimal t.ok ++ (codes " ok" ++ (counts_text t ++ codes "\n")))
+    else decimal t.images ++ (codes " images: " ++ (decimal t.ok ++ (codes " ok"
     ++ (counts_text t ++ codes "\n"))))

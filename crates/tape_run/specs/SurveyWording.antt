@@ -1,6 +1,6 @@
 -- The text of a survey, in words or in rows.
 use Rattle.std.specs.Prelude.{ℕ, zero, suc, ◌+◌, ◌-◌, Bool, if◌then◌else◌, List, [], ◌++◌, Option}
-use Rattle.std.specs.List.{flat_map}
+use Rattle.std.specs.{Prelude.true, Prelude.false, Prelude.codes, List.flat_map}
 use Rattle.tape_run.specs.declared.{section.SectionKey.SectionKey, survey.Wording.Wording}
 use Rattle.tape_run.specs.declared.{survey.tally.Tally.Tally, survey.view.ImageSurvey.ImageSurvey}
 use Rattle.tape_run.specs.declared.survey.Wording.TheVariants.{Words, Rows}
@@ -10,7 +10,6 @@ use Rattle.tape_run.specs.{SurveyLine.image_line, SurveyRead.Found, SurveyTally.
 use Rattle.tape_run.specs.SurveyGaps.{is_found, gap_first, gap_text}
 use Rattle.tape_run.specs.SurveyRows.{image_row, section_row, file_row}
 use Rattle.tape_run.specs.SurveySets.{file_lines, set_line, sure_files, strays_text, is_all}
-use Rattle.tape_run.specs.SurveySets.{last_text}
 
 -- the text about an image with a section whose good copies differ, if any
 abbrev pub image_text : Wording → List ℕ → Option ImageSurvey → Option SectionKey → List ℕ
@@ -44,22 +43,20 @@ set_front Rows d x = []
 abbrev pub set_text : Wording → Found → SetFiles → List ℕ
 set_text y d x = set_front y d x ++ file_texts y d x.0 1 x.1
 
--- sets
-abbrev pub set_texts : Wording → Found → List SetFiles → List ℕ
-set_texts y d sets = flat_map (set_text y d) sets
-
 -- all sets that were found, in the order in which they were found first
 abbrev pub sets_text : Wording → Found → List ℕ
-sets_text y d = set_texts y d (sets_from [] d.sections)
+sets_text y d = flat_map (set_text y d) (sets_from [] d.sections)
 
 -- the text before the sets: in rows, each section that was found
 abbrev pub sections_text : Wording → List Told → List ℕ
 sections_text Words c = []
 sections_text Rows c = flat_map section_row c
 
--- the last lines, which rows do not have: the number of images, and whether all is well
+-- the last lines, which rows do not have: the number of images, and a line if all is well
 abbrev pub end_text : Wording → Tally → Bool → List ℕ
-end_text Words t all = tally_line t ++ last_text all
+end_text Words t true =
+    tally_line t ++ codes "All files are complete, and every image was read to its end.\n"
+end_text Words t false = tally_line t
 end_text Rows t all = []
 
 -- the text after the images, which have these names and numbers

@@ -20,21 +20,17 @@ unpack_outcome_text NotFound = codes "NOT FOUND"
 unpack_outcome_text Failed = codes "FAILED"
 unpack_outcome_text Salvaged = codes "SALVAGED"
 
--- the first words of a line: set and number
-abbrev pub file_front : List ℕ → ℕ → List ℕ
-file_front set_id file =
-    codes "FILE " ++ identifier_text set_id ++ codes " " ++ decimal file ++ codes " "
-
 -- a path, if there is one
 abbrev pub path_text : List ℕ → List ℕ
 path_text [] = []
 path_text (b ∷ bs) = codes " " ++ name_text (b ∷ bs)
 
--- the line of a file: its outcome with any details, and the path of its records or its stage
+-- the line of a file: its set and number, its outcome with any details, and the path of its records
+-- or its stage
 abbrev pub file_line : List ℕ → ℕ → UnpackOutcome → List ℕ → List ℕ → List ℕ
 file_line set_id file outcome details path =
-    file_front set_id file ++ unpack_outcome_text outcome ++ details ++ path_text path
-    ++ codes "\n"
+    (codes "FILE " ++ (identifier_text set_id ++ (codes " " ++ (decimal file ++ codes " "))))
+    ++ unpack_outcome_text outcome ++ details ++ path_text path ++ codes "\n"
 
 -- the word that a line reports about a name
 abbrev pub notice_text : Notice → List ℕ

@@ -8,11 +8,10 @@ use Rattle.tape_set.specs.declared.position.{Position.Position, Position.TheVari
 use Rattle.tape_set.specs.Position.{start, awaiting, want_at}
 use Rattle.tape_set.specs.Layout.{FileSet, Section, Volume}
 use Rattle.tape_set.specs.{Lawful.IsLawful, Before.before, Reading.Reading}
-use Rattle.tape_run.specs.declared.script.Step.{Step}
+use Rattle.tape_run.specs.{declared.script.Step.Step, Headline.begins, Headline.IsRead, Seen.Seen}
 use Rattle.tape_run.specs.declared.script.Step.TheVariants.{Reel, Save, Restart}
 use Rattle.tape_run.specs.Mount.{MountEvent, reads, foreign_reel, saves, restarts}
-use Rattle.tape_run.specs.History.{Course, course, IsHistory}
-use Rattle.tape_run.specs.{Given.AreGivenBy, Headline.begins, Headline.IsRead, Seen.Seen}
+use Rattle.tape_run.specs.{History.Course, History.course, History.IsHistory, Given.AreGivenBy}
 
 -- ---- the set: a record of 30 letters A in segments of 13, 13 and 4
 

@@ -3,20 +3,20 @@
 
 ghost use Rattle.std.specs.Prelude.{◌≡◌, [], map, option_map, IfOk, IfErr, OnOk, OnErr};
 ghost use Rattle.std.specs.{List.flat_map, Io.KnownBytes.Appends};
-ghost use Rattle.tape_run.specs.Checked.{AddsImage, TellsImage, TellsImages, StopsAtImage};
+ghost use Rattle.tape_run.specs.Checked.{AddsImage, TellsImages};
 ghost use Rattle.tape_run.specs.Lacks.{line_of, set_lacks, found_all};
 ghost use Rattle.tape_run.specs.CheckLine.{section_line, lack_line};
 ghost use Rattle.tape_run.specs.Checked.{last_line, summary, Reports, ReportsInPart, IsCheckFault};
 ghost use Rattle.tape_image.specs.Written.{AppendsFront};
 
 use crate::catalogue::Catalogue;
-use crate::check_line::{image_line, lack_line, section_line};
+use crate::check_line::{ImageRow, state_text};
 use crate::extract::images::ImageSource;
 use crate::fault::{EngineFault, NO_MEMORY, WriteFailed};
-use crate::report::{Sets, found_all, line_of, next_lack, sets_of};
+use crate::report::{Sets, found_all, next_lack, sets_of};
 use crate::section::ImageLine;
 use crate::sections::Sections;
-use crate::text::{flush, write_text};
+use crate::text::{Identifier, flush, pass_line, write_line, write_text};
 use std::alloc::{AllocError, Global};
 use std::io::{Read, Write};
 
@@ -50,7 +50,7 @@ pub fn check_to<R: Read + Drop, L: ImageSource<R>, P: Write>(
     summarize(alloc, &catalogue.sections, report)
 }
 
-/// Opens the images in their order, adds the sections on each, and writes a line for it.
+/// Opens the images in their order, adds the sections on each, and writes and flushes its line.
 fn check_images<R: Read + Drop, L: ImageSource<R>, P: Write>(
     catalogue: &mut Catalogue,
     images: &mut L,
@@ -67,28 +67,12 @@ fn check_images<R: Read + Drop, L: ImageSource<R>, P: Write>(
         let Ok(image) = images.mount(number) else {
             return Err(NO_MEMORY);
         };
-        check_image(catalogue, image, number + 1, report)?;
+        let Ok(met) = read_image(catalogue, image) else {
+            return Err(NO_MEMORY);
+        };
+        let number = number + 1;
+        pass_line(report, &ImageRow { number, met })?;
     }
-    Ok(())
-}
-
-/// Adds the sections on an image, writes the image's line, and flushes it.
-fn check_image<R: Read + Drop, P: Write>(
-    catalogue: &mut Catalogue,
-    image: Option<R>,
-    number: usize,
-    report: &mut P,
-) -> Result<(), EngineFault>
-    ensures ok { OnOk result (TellsImage (option_map R.remaining image) number
-        catalogue.old catalogue.new (P.contents report.old) (P.contents report.new)) }
-    ensures front { OnErr result (StopsAtImage (option_map R.remaining image) number
-        catalogue.old (P.contents report.old) (P.contents report.new)) }
-    ensures fault { IfErr result IsCheckFault }
-{
-    let Ok(met) = read_image(catalogue, image) else {
-        return Err(NO_MEMORY);
-    };
-    pass_on(report, &image_line(number, &met))?;
     Ok(())
 }
 
@@ -144,8 +128,12 @@ fn write_sections<P: Write>(report: &mut P, sections: &Sections) -> Result<(), W
         let Some((key, entry)) = sections.get_index(place) else {
             unreachable!()
         };
-        let line = section_line(&line_of(key, entry));
-        write_text(report, &line)?;
+        let (set_id, volume) = (Identifier(&key.set_id), Identifier(&entry.volume));
+        let (file, sect, blocks) = (key.file, key.sect, entry.blocks);
+        let state = state_text(entry.state);
+        let name = format_args!("{set_id} {file} {sect}");
+        let line = format_args!("SECTION {name} {volume} {blocks} {state}\n");
+        write_line(report, &line)?;
     }
     Ok(())
 }
@@ -163,8 +151,9 @@ fn write_lacks<P: Write>(
 {
     let (mut place, mut file) = (0usize, 0u16);
     'search: while let Some((set, lack)) = next_lack(sections, sets, place, file) {
-        let line = lack_line(&lack);
-        write_text(report, &line)?;
+        let set_id = Identifier(&lack.set_id);
+        let (number, sect) = (lack.file, lack.sect);
+        write_line(report, &format_args!("LACKS {set_id} {number} {sect}\n"))?;
         place = set;
         file = lack.file;
     }

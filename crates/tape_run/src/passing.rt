@@ -2,10 +2,10 @@
 
 ghost use Rattle.std.specs.Prelude.{◌≡◌, ◌<◌};
 ghost use Rattle.tape_image.specs.{Reader.tape_item, Tape.block, Tape.bad, Tape.mark};
-ghost use Rattle.tape_label.specs.Kinds.{kind_at};
+ghost use Rattle.tape_label.specs.{Kinds.kind_at, Reading.vol1_at, Reading.trail1_at};
 ghost use Rattle.tape_set.specs.Lawful.{most_blocks};
-ghost use Rattle.tape_run.specs.Passing.{under_way, blocks_of, volume_phase, labels_phase};
-ghost use Rattle.tape_run.specs.Passing.{header_phase, second_with, told_by, step};
+ghost use Rattle.tape_run.specs.Passing.{under_way, blocks_of, volume_with, labels_phase};
+ghost use Rattle.tape_run.specs.Passing.{header_phase, second_with, told_with, step};
 
 use crate::met::{Met, Told};
 use crate::section::SectionKey;
@@ -37,7 +37,7 @@ pub(crate) enum Phase {
 
 /// Returns what is expected after the first block.
 fn volume_phase(block: &[u8]) -> Phase
-    ensures { result ≡ volume_phase block.now }
+    ensures { result ≡ volume_with (vol1_at block.now) }
 {
     match read_vol1(block) {
         Ok(label) => Phase::Labels(label.volume),
@@ -78,7 +78,7 @@ fn labels_phase(volume: Field<6>, bytes: &[u8]) -> Phase
 /// Returns what is expected after a block in place of a section's trailer label, with the completed
 /// section.
 fn told_by(met: Met, block: &[u8]) -> (Phase, Option<Told>)
-    ensures { result ≡ told_by met block.now }
+    ensures { result ≡ told_with met (trail1_at block.now) }
 {
     match read_trail1(block) {
         Ok(trail) if met.closes(&trail) => (Phase::Trailers(met.volume), Some(met.told(&trail))),

@@ -45,11 +45,8 @@ pub fn quoted_char(c: char) -> ArrayString<8>
         text.push(char::from(hex(number / 16 % 16)));
         text.push(char::from(hex(number % 16)));
     } else {
-        match text.try_push(c) {
-            Ok(()) => {}
-            // A character has at most four bytes.
-            Err(_) => unreachable!(),
-        }
+        // A character has at most four bytes.
+        text.try_push(c).unwrap();
     }
     text
 }

@@ -1,7 +1,7 @@
 //! `salvage`: recovers the readable parts of a file that no image has completely.
 
 ghost use Rattle.std.specs.Prelude.{◌≡◌, ◌<◌, ◌⊎◌, ◌&&◌, not, Bool, Option, Some, List, ℕ, OnOk};
-ghost use Rattle.std.specs.Prelude.{option_map, OnErr, IfOk, IfErr};
+ghost use Rattle.std.specs.Prelude.{option_map, OnErr, IfOk, IfErr, if◌then◌else◌, codes};
 ghost use Rattle.std.specs.Io.KnownBytes.{Appends};
 ghost use Rattle.tape_run.specs.Checked.{IsCheckFault};
 ghost use Rattle.tape_run.specs.Salvaging.{FindsOn, FindsAll, Salvages, StopsSalvage};
@@ -11,7 +11,6 @@ mod conflicts;
 mod copies;
 mod ending;
 mod image;
-mod line;
 mod mender;
 mod outside;
 mod recovery;
@@ -23,10 +22,9 @@ use crate::extract::images::ImageSource;
 use crate::fault::{EngineFault, NO_MEMORY};
 use crate::salvage::conflicts::report_conflicts;
 use crate::salvage::copies::{SectionCopy, copies_on};
-use crate::salvage::line::{last_line, not_opened_line};
 use crate::salvage::recovery::Recovery;
 use crate::salvage::sections::recover_sections;
-use crate::text::{flush, write_text};
+use crate::text::{flush, write_line};
 use std::alloc::Global;
 use std::io::{Read, Write};
 use tape_blocks::Form;
@@ -106,7 +104,8 @@ pub fn salvage_to<W: Write + Drop, R: Read + Drop, L: ImageSource<R>, O: Place<W
     let mut written = recovery.into_out();
     flush(&mut written)?;
     place.place(written)?;
-    write_text(report, &last_line(complete, records))?;
+    let word = last_word(complete);
+    write_line(report, &format_args!("{word} {records}\n"))?;
     flush(report)?;
     Ok(complete)
 }
@@ -116,6 +115,13 @@ fn is_complete(missing: bool, conflict: bool) -> bool
     ensures { result ≡ (not missing && not conflict) }
 {
     !missing && !conflict
+}
+
+/// Returns the first word of the last line.
+fn last_word(complete: bool) -> &'static str
+    ensures { result.now ≡ (if complete then codes "COMPLETE" else codes "SALVAGED") }
+{
+    if complete { "COMPLETE" } else { "SALVAGED" }
 }
 
 /// Finds the copies of the file's sections on the images.
@@ -167,7 +173,8 @@ fn find_on<R: Read + Drop, P: Write>(
             copies_on(alloc, &task.set_id, task.file, number, &mut device, copies)
         }
         None => {
-            write_text(report, &not_opened_line(number + 1))?;
+            let number = number + 1;
+            write_line(report, &format_args!("IMAGE {number} NOT OPENED\n"))?;
             Ok(())
         }
     }

@@ -9,7 +9,6 @@ ghost use Rattle.tape_image.specs.Written.{AppendsFront};
 
 use crate::fault::WriteFailed;
 use arrayvec::{ArrayString, ArrayVec};
-use std::alloc::{AllocError, Global};
 use std::fmt::{self, Display, Write as _};
 use std::io::Write;
 use std::str;
@@ -35,10 +34,7 @@ pub fn put<const N: usize>(text: &mut ArrayVec<u8, N>, more: &[u8])
     ensures items { text.new.items ≡ text.old.items ++ more.now }
     ensures len { array_vec_len text.new ≡ array_vec_len text.old + length more.now }
 {
-    match text.try_extend_from_slice(more) {
-        Ok(()) => {}
-        Err(_) => unreachable!(),
-    }
+    text.try_extend_from_slice(more).unwrap();
 }
 
 /// Appends a number in decimals, without leading zeros.
@@ -132,19 +128,6 @@ impl<const W: usize> Display for Trimmed<'_, W> {
     }
 }
 
-/// Appends a text.
-pub(crate) fn append<D: Display + Drop>(
-    alloc: Global,
-    texts: &mut Vec<u8>,
-    text: D,
-) -> Result<(), AllocError>
-    ensures { OnOk result (IfSome (D.output text) (λ bytes.
-        texts.new.items ≡ texts.old.items ++ bytes)) }
-{
-    let text = text.to_string(alloc)?;
-    texts.extend_from_slice(text.as_bytes())
-}
-
 /// Writes all of the text.
 ///
 /// # Errors
@@ -187,6 +170,21 @@ pub fn write_line<W: Write, D: Display>(writer: &mut W, line: &D) -> Result<(), 
         Ok(()) => write_text(writer, text.as_bytes()),
         Err(_) => Err(WriteFailed),
     }
+}
+
+/// Writes a line in a single call, and flushes.
+///
+/// # Errors
+///
+/// Returns `WriteFailed` like `write_line` and `flush`.
+pub(crate) fn pass_line<W: Write, D: Display>(writer: &mut W, line: &D) -> Result<(), WriteFailed>
+    ensures ok { OnOk result (IfSome (D.output line.now) (λ text.
+        Appends (W.contents writer.old) (W.contents writer.new) text)) }
+    ensures err { OnErr result (IfSome (D.output line.now) (λ text.
+        AppendsFront (W.contents writer.old) (W.contents writer.new) text)) }
+{
+    write_line(writer, line)?;
+    flush(writer)
 }
 
 /// Flushes the writer.

@@ -3,7 +3,7 @@
 ghost use Rattle.std.specs.Prelude.{◌≡◌, ◌≤◌, ◌++◌, Some};
 ghost use Rattle.arrayvec.specs.ArrayString.{array_string_len};
 ghost use Rattle.tape_run.specs.ReelLine.{answer_text, end_text, reason_text, reel_line};
-ghost use Rattle.tape_run.specs.ReelLine.{part_text, awaits_line, complete_line, last_line};
+ghost use Rattle.tape_run.specs.ReelLine.{part_text, last_line};
 
 use crate::reel_reader::ReelAnswer;
 use crate::text::push_decimal;
@@ -109,41 +109,28 @@ impl fmt::Display for EndText {
 /// The length of the longest last line.
 pub type ReportLine = ArrayString<256>;
 
-/// Returns the last line: the missing part, or that the file is complete, with the number of its
-/// records.
+/// Returns the last line: the file's number and the section and block that are missing, with the
+/// number of delivered parts of the block if it is not 0; or that the file is complete, with the
+/// number of its records.
 pub fn last_line(want: Option<Want>, records: u64) -> ReportLine
     ensures { result.bytes ≡ last_line want records }
 {
+    let mut line = ReportLine::new();
     match want {
-        Some(want) => awaits_line(&want),
-        None => complete_line(records),
+        Some(want) => {
+            line.push_str("AWAITS ");
+            push_decimal(&mut line, u64::from(want.file));
+            line.push_str(" ");
+            push_decimal(&mut line, u64::from(want.sect));
+            line.push_str(" ");
+            push_decimal(&mut line, u64::from(want.block));
+            put_part(&mut line, want.part);
+        }
+        None => {
+            line.push_str("COMPLETE ");
+            push_decimal(&mut line, records);
+        }
     }
-}
-
-/// Returns the last line of a complete file.
-fn complete_line(records: u64) -> ReportLine
-    ensures { result.bytes ≡ complete_line records }
-{
-    let mut line = ReportLine::new();
-    line.push_str("COMPLETE ");
-    push_decimal(&mut line, records);
-    line.push_str("\n");
-    line
-}
-
-/// Returns the last line of an incomplete file: the file's number, the missing section and block,
-/// and the part if it is not 0.
-fn awaits_line(want: &Want) -> ReportLine
-    ensures { result.bytes ≡ awaits_line want.now }
-{
-    let mut line = ReportLine::new();
-    line.push_str("AWAITS ");
-    push_decimal(&mut line, u64::from(want.file));
-    line.push_str(" ");
-    push_decimal(&mut line, u64::from(want.sect));
-    line.push_str(" ");
-    push_decimal(&mut line, u64::from(want.block));
-    put_part(&mut line, want.part);
     line.push_str("\n");
     line
 }

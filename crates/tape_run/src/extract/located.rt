@@ -155,81 +155,35 @@ fn read_section<S: PartSink, R: Read + Drop, L: ImageSource<R>>(
     ensures read_only { IfErr result (λ fault. fault ≢ EngineFault.WriteFailed) }
     ensures calm { OnOk result (IsCalm S.PartSink session.old session.new) }
 {
-    let key = session.file_key();
+    let file = session.file_key();
     match held {
         Some(held) => {
             if held.number == number
-                && held.file.set_id == key.set_id
-                && held.file.file < key.file
+                && held.file.set_id == file.set_id
+                && held.file.file < file.file
             {
-                return Ok(read_on(session, held)?);
+                let mut device = held.device;
+                let answer = session.reel_behind(&mut device)?;
+                if ends_section(&answer) {
+                    return Ok(Some(Mounted {
+                        number,
+                        file,
+                        device,
+                    }));
+                }
+                return Ok(None);
             }
         }
         None => {}
     }
-    match images.mount(number) {
-        Ok(Some(device)) => Ok(read_front(session, device, number)?),
-        Ok(None) => Ok(None),
-        Err(_) => Err(NO_MEMORY),
-    }
-}
-
-/// Reads an image from its start.
-fn read_front<S: PartSink, R: Read + Drop>(
-    session: &mut Session<S>,
-    device: R,
-    number: usize,
-) -> Result<Option<Mounted<R>>, RunFault>
-    requires waits { session.old.core.position ≢ Finished }
-    ensures ok { IfOk result (ReadsPart S.PartSink R.remaining (R.remaining device)
-        session.old session.new) }
-    ensures file { (session.new.core.set_id ≡ session.old.core.set_id)
-        × (session.new.core.file ≡ session.old.core.file) }
-    ensures reads { ReadsOnly S.PartSink session.old session.new }
-    ensures unfinished { IfOk result (λ after. after ≡ None
-        → session.new.core.position ≢ Finished) }
-    ensures cause { IfErr result (λ fault.
-        ReadingFails S.PartSink false (engine.Run fault) session.old session.new) }
-    ensures calm { OnOk result (IsCalm S.PartSink session.old session.new) }
-{
-    let mut device = device;
+    let Ok(image) = images.mount(number) else {
+        return Err(NO_MEMORY);
+    };
+    let Some(mut device) = image else {
+        return Ok(None);
+    };
     let answer = session.reel(&mut device)?;
     if ends_section(&answer) {
-        let file = session.file_key();
-        return Ok(Some(Mounted {
-            number,
-            file,
-            device,
-        }));
-    }
-    Ok(None)
-}
-
-/// Continues an image where the session of an earlier file left it.
-fn read_on<S: PartSink, R: Read + Drop>(
-    session: &mut Session<S>,
-    held: Mounted<R>,
-) -> Result<Option<Mounted<R>>, RunFault>
-    requires waits { session.old.core.position ≢ Finished }
-    requires same_set { held.file.set_id ≡ session.old.core.set_id }
-    requires later { held.file.file < session.old.core.file }
-    ensures ok { IfOk result (λ after. (whole : Option (List ℕ))
-        → IsHeld R.remaining (Some held) whole
-        → ReadsPart S.PartSink R.remaining whole session.old session.new after) }
-    ensures file { (session.new.core.set_id ≡ session.old.core.set_id)
-        × (session.new.core.file ≡ session.old.core.file) }
-    ensures reads { ReadsOnly S.PartSink session.old session.new }
-    ensures unfinished { IfOk result (λ after. after ≡ None
-        → session.new.core.position ≢ Finished) }
-    ensures cause { IfErr result (λ fault.
-        ReadingFails S.PartSink false (engine.Run fault) session.old session.new) }
-    ensures calm { OnOk result (IsCalm S.PartSink session.old session.new) }
-{
-    let number = held.number;
-    let mut device = held.device;
-    let answer = session.reel_behind(&mut device)?;
-    if ends_section(&answer) {
-        let file = session.file_key();
         return Ok(Some(Mounted {
             number,
             file,

@@ -7,11 +7,10 @@ ghost use Rattle.tape_run.specs.MergeLog.{log_head, verdict_cell, verdict_cells,
 ghost use Rattle.tape_run.specs.{MergeLines.kind_text, MergeLog.row_now};
 
 use super::candidate::Candidate;
-use super::line::{ItemKind, put_kind};
 use super::reading::{Reading, Verdict};
 use crate::fault::WriteFailed;
 use crate::quoting::name_text;
-use crate::text::{Text, put, put_decimal, write_text};
+use crate::text::{write_line, write_text};
 use std::alloc::{AllocError, Global};
 use std::io::{Read, Write};
 
@@ -48,7 +47,7 @@ pub(crate) fn log_item<R: Read, G: Write>(
     if witnesses > 1 && !has_bad(readings) {
         return Ok(());
     }
-    write_text(log, &row_head(number, kind))?;
+    write_line(log, &format_args!("{number}\t{kind}"))?;
     log_cells(readings, log)?;
     write_text(log, b"\n")
 }
@@ -74,17 +73,6 @@ fn has_bad<R: Read>(readings: &[Reading<'_, R>]) -> bool
         }
     }
     false
-}
-
-/// The number and the kind of an item.
-fn row_head(number: u64, kind: ItemKind) -> Text
-    ensures { result.items ≡ decimal number ++ codes "\t" ++ kind_text kind }
-{
-    let mut row = Text::new();
-    put_decimal(&mut row, number);
-    put(&mut row, b"\t");
-    put_kind(&mut row, kind);
-    row
 }
 
 /// The item of a reading there.

@@ -14,10 +14,7 @@ ghost use Rattle.tape_run.specs.declared.merge.line.MergedEnd.TheVariants.{Marke
 ghost use Rattle.tape_run.specs.declared.merge.now.MergeEnd.TheVariants.{Differs};
 ghost use Rattle.tape_run.specs.declared.merge.now.MergeStop.TheVariants as stops;
 
-use super::line::{
-    MergedEnd, differ_line, has_of, has_text, line_of, merged_line, name_at, reading_text,
-    with_name,
-};
+use super::line::{MergedEnd, Miscounted, has_line, reading_line};
 use super::log::log_head;
 use super::open::{merge_to, open_all};
 use super::reading::Reading;
@@ -26,7 +23,7 @@ use crate::check::pass_on;
 use crate::extract::Place;
 use crate::extract::images::ImageSource;
 use crate::fault::WriteFailed;
-use crate::text::{flush, write_text};
+use crate::text::{flush, pass_line, write_text};
 use std::alloc::{AllocError, Global};
 use std::io::{Read, Write};
 use tape_image::{Ending, ImageWriteFault, ImageWriter};
@@ -208,12 +205,15 @@ fn merge_readings<R: Read, W: Write + Drop, O: Place<W>, G: Write, P: Write>(
                 return Err(MergeStop::LogFailed);
             };
             place.place(written)?;
-            pass_on(report, &merged_line(&merged, end))?;
+            let (items, bad, alone) = (merged.items, merged.bad, merged.alone);
+            let rest = Miscounted(merged.miscounted);
+            let line = format_args!("MERGED {items} {bad} {alone} {end}{rest}");
+            pass_line(report, &line)?;
             Ok(whole_or_partial(&merged, end))
         }
         Err(MergeFault::Differ(item)) => {
             report_readings(alloc, readings, names, report)?;
-            pass_on(report, &differ_line(item))?;
+            pass_line(report, &format_args!("DIFFER {item}\n"))?;
             report_items(alloc, readings, names, report)?;
             Ok(MergeEnd::Differs)
         }
@@ -293,8 +293,7 @@ fn report_readings<R: Read, P: Write>(
     ensures err { IfErr result (Misses (λ _. ⊥) (λ _. ⊥)) }
 {
     for number in 0..readings.len() {
-        let text = reading_text(number + 1, &line_of(&readings[number]));
-        let line = with_name(alloc, &text, name_at(names, number))?;
+        let line = reading_line(alloc, names, number, &readings[number])?;
         pass_on(report, line.as_slice())?;
     }
     Ok(())
@@ -314,14 +313,8 @@ fn report_items<R: Read, P: Write>(
     ensures err { IfErr result (Misses (λ _. ⊥) (λ _. ⊥)) }
 {
     for number in 0..readings.len() {
-        match has_of(&readings[number]) {
-            Some(has) => {
-                let text = has_text(number + 1, &has);
-                let line = with_name(alloc, &text, name_at(names, number))?;
-                pass_on(report, line.as_slice())?;
-            }
-            None => {}
-        }
+        let line = has_line(alloc, names, number, &readings[number])?;
+        pass_on(report, line.as_slice())?;
     }
     Ok(())
 }

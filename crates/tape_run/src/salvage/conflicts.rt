@@ -9,8 +9,7 @@ ghost use Rattle.tape_run.specs.SalvageConflicts.{has_conflict, text_if};
 
 use crate::fault::WriteFailed;
 use crate::salvage::copies::{SectionCopy, best_copy, last_section};
-use crate::salvage::line::conflict_line;
-use crate::text::write_text;
+use crate::text::write_line;
 use std::io::Write;
 
 /// Returns whether both copies are complete copies of one section, but have different blocks.
@@ -42,10 +41,10 @@ fn report_copy<P: Write>(
     if !are_conflicting(best, copy) {
         return Ok(any);
     }
+    let sect = copy.section.key.sect;
     let used = best.image.saturating_add(1);
     let other = copy.image.saturating_add(1);
-    let line = conflict_line(copy.section.key.sect, used, other);
-    write_text(report, &line)?;
+    write_line(report, &format_args!("CONFLICT {sect} {used} {other}\n"))?;
     Ok(true)
 }
 

@@ -12,10 +12,9 @@ ghost use Rattle.tape_run.specs.declared.salvage.ending.SectionEnd.TheVariants.{
 
 use crate::fault::WriteFailed;
 use crate::salvage::copies::SectionCopy;
-use crate::salvage::line::{no_form_line, no_section_line, open_gap_line, unsure_line};
 use crate::salvage::recovery::Recovery;
 use crate::salvage::walk::Closing;
-use crate::text::write_text;
+use crate::text::write_line;
 use std::io::Write;
 
 /// The end of a section.
@@ -67,7 +66,8 @@ fn write_unsure<P: Write>(
         (unsure_text sect first blocks)) }
 {
     if first < blocks {
-        return write_text(report, &unsure_line(sect, first, blocks - 1));
+        let last = blocks - 1;
+        return write_line(report, &format_args!("UNSURE {sect} {first} {last}\n"));
     }
     Ok(())
 }
@@ -81,7 +81,8 @@ impl<W: Write> Recovery<W> {
             (P.contents report.new) (no_section_text sect)) }
     {
         self.tear(sect, 0, report)?;
-        write_text(report, &no_section_line(sect, self.mender.records()))?;
+        let records = self.mender.records();
+        write_line(report, &format_args!("GAP {sect} - - {records}\n"))?;
         Ok(())
     }
 
@@ -93,7 +94,8 @@ impl<W: Write> Recovery<W> {
             (P.contents report.new) (no_form_text sect)) }
     {
         self.tear(sect, 0, report)?;
-        write_text(report, &no_form_line(sect, self.mender.records()))?;
+        let records = self.mender.records();
+        write_line(report, &format_args!("NO FORM {sect} {records}\n"))?;
         Ok(())
     }
 
@@ -110,7 +112,8 @@ impl<W: Write> Recovery<W> {
             (P.contents report.new) (open_text sect first)) }
     {
         self.tear(sect, first, report)?;
-        write_text(report, &open_gap_line(sect, first, self.mender.records()))?;
+        let records = self.mender.records();
+        write_line(report, &format_args!("GAP {sect} {first} - {records}\n"))?;
         Ok(())
     }
 

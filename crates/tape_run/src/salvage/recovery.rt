@@ -12,9 +12,8 @@ ghost use Rattle.tape_run.specs.{Checked.IsCheckFault, SalvageEnds.count_text};
 ghost use Rattle.tape_run.specs.SalvageBlocks.{with_block_text, salvaged_at, text_at};
 
 use crate::fault::{EngineFault, WriteFailed};
-use crate::salvage::line::{count_line, gap_line, refused_line, torn_line};
 use crate::salvage::mender::Mender;
-use crate::text::write_text;
+use crate::text::write_line;
 use std::alloc::Global;
 use std::io::Write;
 use tape_blocks::{BlockFault, Form};
@@ -46,8 +45,9 @@ fn write_gap<P: Write>(
 {
     match gap {
         Some(first) => {
-            let line = gap_line(sect, first, next.saturating_sub(1), records);
-            write_text(report, &line)
+            let last = next.saturating_sub(1);
+            let line = format_args!("GAP {sect} {first} {last} {records}\n");
+            write_line(report, &line)
         }
         None => Ok(()),
     }
@@ -67,8 +67,7 @@ fn write_torn<P: Write>(
         (torn_text is sect number records)) }
 {
     if is {
-        let line = torn_line(sect, number, records);
-        return write_text(report, &line);
+        return write_line(report, &format_args!("TORN {sect} {number} {records}\n"));
     }
     Ok(())
 }
@@ -90,8 +89,9 @@ fn write_refused<P: Write>(
     match fault {
         Some(fault) => {
             write_torn(report, begun, sect, number, records)?;
-            let line = refused_line(sect, number, fault, records);
-            write_text(report, &line)
+            let (cause, place) = (fault.number(), fault.place);
+            let line = format_args!("REFUSED {sect} {number} {cause} {place} {records}\n");
+            write_line(report, &line)
         }
         None => Ok(()),
     }
@@ -173,7 +173,7 @@ impl<W: Write> Recovery<W> {
             (P.contents report.new) (count_text sect label blocks)) }
     {
         if let Some(label) = label {
-            write_text(report, &count_line(sect, label, blocks))?;
+            write_line(report, &format_args!("COUNT {sect} {label} {blocks}\n"))?;
             self.missing = true;
         }
         Ok(())

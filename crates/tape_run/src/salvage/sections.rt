@@ -14,9 +14,8 @@ use crate::salvage::Content;
 use crate::salvage::copies::{SectionCopy, best_copy, form_of_file, last_section};
 use crate::salvage::ending::SectionEnd;
 use crate::salvage::image::recover_section;
-use crate::salvage::line::section_line;
 use crate::salvage::recovery::Recovery;
-use crate::text::write_text;
+use crate::text::write_line;
 use std::alloc::Global;
 use std::io::{Read, Write};
 use tape_core::Known;
@@ -142,8 +141,8 @@ fn recover_copy<W: Write, R: Read, P: Write>(
         (P.contents report.new) lines) }
     ensures fault { IfErr result IsCheckFault }
 {
-    let line = section_line(sect, copy.image.saturating_add(1), copy.section.blocks);
-    write_text(report, &line)?;
+    let (number, blocks) = (copy.image.saturating_add(1), copy.section.blocks);
+    write_line(report, &format_args!("SECTION {sect} {number} {blocks}\n"))?;
     let key = copy.section.key;
     let read = recover_section(
         image,

@@ -1,37 +1,31 @@
 //! The report of a survey on sections with more than one complete copy.
-ghost use Rattle.std.specs.Prelude.{◌≡◌, ◌++◌, map, IfOk, OnOk};
+ghost use Rattle.std.specs.Prelude.{◌≡◌, ◌++◌, map, OnOk};
 ghost use Rattle.tape_run.specs.SurveyCompared.{name_at, conflict_text, verdict_text, copy_line};
-ghost use Rattle.tape_run.specs.SurveyCompared.{other_cells, copy_row};
-ghost use Rattle.tape_run.specs.SurveyCompared.{is_alone, copy_text, copies_text};
+ghost use Rattle.tape_run.specs.SurveyCompared.{other_cells, copy_row, is_alone, copy_text};
+ghost use Rattle.tape_run.specs.SurveyCompared.{copies_text};
 
 use super::Wording;
 use super::copies::{CopyNote, CopyNotes};
 use crate::quoting::name_text;
 use crate::section::SectionKey;
 use crate::text::Trimmed;
-use std::alloc::{AllocError, Global};
+use std::alloc::AllocError;
 
 /// Appends the name of image number `image`.
 #[tactic(auto, using(crate::proofs::SurveyCompared::is_name))]
-fn add_name(
-    alloc: Global,
-    text: &mut Vec<u8>,
-    names: &[&str],
-    image: usize,
-) -> Result<(), AllocError>
+fn add_name(text: &mut Vec<u8>, names: &[&str], image: usize) -> Result<(), AllocError>
     ensures { OnOk result (text.new.items
         ≡ text.old.items ++ name_at (map (λ n. n.now) names.now) image) }
 {
     if image >= names.len() {
         return Ok(());
     }
-    let name = name_text(alloc, names[image])?;
+    let name = name_text(*text.allocator(), names[image])?;
     text.extend_from_slice(name.as_slice())
 }
 
 /// Appends that the copies on two images differ.
 fn add_conflict(
-    alloc: Global,
     line: &mut Vec<u8>,
     names: &[&str],
     first: usize,
@@ -41,27 +35,22 @@ fn add_conflict(
         ≡ line.old.items ++ conflict_text (map (λ n. n.now) names.now) first other) }
 {
     line.extend_from_slice(b"CONFLICT, ")?;
-    add_name(alloc, line, names, first)?;
+    add_name(line, names, first)?;
     line.extend_from_slice(b" and ")?;
-    add_name(alloc, line, names, other)?;
+    add_name(line, names, other)?;
     line.extend_from_slice(b" differ ('tape compare' shows where)\n")?;
     Ok(())
 }
 
 /// Appends the result of comparing the copies of a section.
-fn add_verdict(
-    alloc: Global,
-    line: &mut Vec<u8>,
-    names: &[&str],
-    note: &CopyNote,
-) -> Result<(), AllocError>
+fn add_verdict(line: &mut Vec<u8>, names: &[&str], note: &CopyNote) -> Result<(), AllocError>
     ensures { OnOk result (line.new.items
         ≡ line.old.items ++ verdict_text (map (λ n. n.now) names.now) note.now) }
 {
     match note.other {
-        Some(other) => add_conflict(alloc, line, names, note.image, other),
+        Some(other) => add_conflict(line, names, note.image, other),
         None => {
-            let copies = note.copies;
+            let (alloc, copies) = (*line.allocator(), note.copies);
             let text = format!(in alloc; "good, {copies} copies agree\n")?;
             line.extend_from_slice(text.as_bytes())
         }
@@ -70,7 +59,6 @@ fn add_verdict(
 
 /// Appends the line about a section.
 fn add_line(
-    alloc: Global,
     texts: &mut Vec<u8>,
     names: &[&str],
     key: &SectionKey,
@@ -79,50 +67,46 @@ fn add_line(
     ensures { OnOk result (texts.new.items ≡ texts.old.items
         ++ copy_line (map (λ n. n.now) names.now) (key.now, note.now)) }
 {
+    let alloc = *texts.allocator();
     let (set_id, file, sect) = (Trimmed(&key.set_id), key.file, key.sect);
     let front = format!(in alloc; "{set_id} file {file} section {sect}: ")?;
     texts.extend_from_slice(front.as_bytes())?;
-    add_verdict(alloc, texts, names, note)
+    add_verdict(texts, names, note)
 }
 
 /// Appends the name of the image whose copy differs, if any, and the result.
-fn add_other(
-    alloc: Global,
-    row: &mut Vec<u8>,
-    names: &[&str],
-    other: Option<usize>,
-) -> Result<(), AllocError>
+fn add_other(row: &mut Vec<u8>, names: &[&str], other: Option<usize>) -> Result<(), AllocError>
     ensures { OnOk result (row.new.items
         ≡ row.old.items ++ other_cells (map (λ n. n.now) names.now) other) }
 {
     match other {
         Some(other) => {
-            add_name(alloc, row, names, other)?;
+            add_name(row, names, other)?;
             row.extend_from_slice(b"\tCONFLICT\n")
         }
         None => row.extend_from_slice(b"\tAGREE\n"),
     }
 }
 
-/// Returns the row for a section.
-fn copy_row(
-    alloc: Global,
+/// Appends the row for a section.
+fn add_row(
+    texts: &mut Vec<u8>,
     names: &[&str],
     key: &SectionKey,
     note: &CopyNote,
-) -> Result<Vec<u8>, AllocError>
-    ensures { IfOk result (λ row. row.items
-        ≡ copy_row (map (λ n. n.now) names.now) (key.now, note.now)) }
+) -> Result<(), AllocError>
+    ensures { OnOk result (texts.new.items ≡ texts.old.items
+        ++ copy_row (map (λ n. n.now) names.now) (key.now, note.now)) }
 {
+    let alloc = *texts.allocator();
     let (set_id, file, sect) = (Trimmed(&key.set_id), key.file, key.sect);
     let copies = note.copies;
     let rest = format!(in alloc; "{sect}\t{copies}\t")?;
     let front = format!(in alloc; "COPIES\t{set_id}\t{file}\t{rest}")?;
-    let mut row = Vec::from_slice(alloc, front.as_bytes())?;
-    add_name(alloc, &mut row, names, note.image)?;
-    row.push(b'\t')?;
-    add_other(alloc, &mut row, names, note.other)?;
-    Ok(row)
+    texts.extend_from_slice(front.as_bytes())?;
+    add_name(texts, names, note.image)?;
+    texts.push(b'\t')?;
+    add_other(texts, names, note.other)
 }
 
 /// Returns whether a section has only one complete copy.
@@ -134,7 +118,6 @@ fn is_alone(note: &CopyNote) -> bool
 
 /// Appends the text for a section, unless it has only one complete copy.
 fn add_text(
-    alloc: Global,
     texts: &mut Vec<u8>,
     wording: Wording,
     names: &[&str],
@@ -148,27 +131,23 @@ fn add_text(
         return Ok(());
     }
     match wording {
-        Wording::Words => add_line(alloc, texts, names, key, note),
-        Wording::Rows => {
-            let row = copy_row(alloc, names, key, note)?;
-            texts.extend_from_slice(row.as_slice())
-        }
+        Wording::Words => add_line(texts, names, key, note),
+        Wording::Rows => add_row(texts, names, key, note),
     }
 }
 
-/// Returns the text for each section with more than one complete copy.
-pub(crate) fn copies_text(
-    alloc: Global,
+/// Appends the text for each section with more than one complete copy.
+pub(crate) fn add_copies(
+    texts: &mut Vec<u8>,
     wording: Wording,
     names: &[&str],
     notes: &CopyNotes,
-) -> Result<Vec<u8>, AllocError>
-    ensures { IfOk result (λ texts. texts.items
-        ≡ copies_text wording (map (λ n. n.now) names.now) notes.now.entries) }
+) -> Result<(), AllocError>
+    ensures { OnOk result (texts.new.items ≡ texts.old.items
+        ++ copies_text wording (map (λ n. n.now) names.now) notes.now.entries) }
 {
-    let mut texts = Vec::new(alloc);
     for (key, note) in notes {
-        add_text(alloc, &mut texts, wording, names, key, note)?;
+        add_text(texts, wording, names, key, note)?;
     }
-    Ok(texts)
+    Ok(())
 }

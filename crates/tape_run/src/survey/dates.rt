@@ -1,7 +1,7 @@
 //! The dates of labels.
 ghost use Rattle.std.specs.Prelude.{◌≡◌, ◌≤◌, IfSome, Some};
 ghost use Rattle.tape_run.specs.Dates.{century, is_leap, february, in_months, in_year, in_century};
-ghost use Rattle.tape_run.specs.Dates.{date_of, day_text, date_text, two_digits};
+ghost use Rattle.tape_run.specs.Dates.{date_of, day_text, two_digits};
 
 use std::fmt;
 use tape_label::{Field, digits_value};
@@ -101,21 +101,6 @@ impl fmt::Display for Date {
         let month = TwoDigits(self.month);
         let day = TwoDigits(self.day);
         write!(f, "{year}-{month}-{day}")
-    }
-}
-
-/// The date of a label, for example 1985-04-23, or spaces if there is none.
-#[derive(Clone, Copy)]
-pub(crate) struct DateText<'a>(pub(crate) &'a Field<6>);
-
-impl fmt::Display for DateText<'_> {
-    ghost output = { λ text. Some (date_text (date_of text.0.now)) };
-
-    fn fmt<W: fmt::Write>(&self, f: &mut fmt::Formatter<W>) -> fmt::Result {
-        match date_of(self.0) {
-            Some(date) => write!(f, "{date}"),
-            None => write!(f, "          "),
-        }
     }
 }
 

@@ -1,13 +1,14 @@
 //! File numbers that were not found, between those that were.
-ghost use Rattle.std.specs.Prelude.{◌≡◌, ◌≤◌, ◌<◌, ◌-◌, ◌++◌};
+ghost use Rattle.std.specs.Prelude.{◌≡◌, ◌≤◌, ◌<◌, ◌-◌, ◌++◌, IfOk, string_bytes};
 ghost use Rattle.arrayvec.specs.ArrayVec.{array_vec_len};
-ghost use Rattle.tape_run.specs.SurveyGaps.{is_found, gap_first, numbers_text, gap_line, gap_row};
-ghost use Rattle.tape_run.specs.SurveyGaps.{gap_text, numbers_line};
+ghost use Rattle.tape_run.specs.SurveyGaps.{is_found, gap_first, numbers_text, plural, gap_text};
+ghost use Rattle.tape_run.specs.SurveyGaps.{numbers_line};
 
 use super::Wording;
 use super::files::FileKey;
 use super::view::Findings;
-use crate::text::{Text, put, put_decimal, put_identifier, put_trimmed};
+use crate::text::{Text, Trimmed, put, put_decimal, put_identifier};
+use std::alloc::{AllocError, Global};
 use tape_label::Field;
 
 /// Returns whether a header label of file `file` of the set was found.
@@ -63,48 +64,49 @@ pub fn numbers_line(set_id: &Field<6>, first: u16, file: u16) -> Text
     text
 }
 
-/// Returns the line for the file numbers `first` to `file - 1`, for which no label was found.
-fn gap_line(first: u16, file: u16) -> Text
-    requires { first < file }
-    ensures { result.items ≡ gap_line first file }
+/// Returns the numbers `first` to `next - 1`.
+pub(crate) fn numbers_text(alloc: Global, first: u16, next: u16) -> Result<String, AllocError>
+    ensures { IfOk result (λ text. string_bytes text ≡ numbers_text first next) }
 {
-    let mut text = Text::new();
-    put(
-        &mut text,
-        if first + 1 < file {
-            b"  files "
-        } else {
-            b"  file "
-        },
-    );
-    put_numbers(&mut text, first, file);
-    put(&mut text, b": not found\n");
-    text
+    let last = next.saturating_sub(1);
+    if first < last {
+        format!(in alloc; "{first}-{last}")
+    } else {
+        format!(in alloc; "{first}")
+    }
 }
 
-/// Returns the row for the file numbers `first` to `file - 1`, for which no label was found.
-fn gap_row(set_id: Field<6>, first: u16, file: u16) -> Text
-    requires { first < file }
-    ensures { result.items ≡ gap_row set_id first file }
+/// Returns the ending of a plural, if there is more than one number from `first` to `next - 1`.
+pub(crate) fn plural(first: u16, next: u16) -> &'static str
+    ensures { result.now ≡ plural first next }
 {
-    let mut text = Text::new();
-    put(&mut text, b"FILE\t");
-    put_trimmed(&mut text, &set_id);
-    put(&mut text, b"\t");
-    put_numbers(&mut text, first, file);
-    put(&mut text, b"\t\t\tMISSING\t1\t\t\t1:MISSING;\t\t\t\n");
-    text
+    if first < next.saturating_sub(1) {
+        "s"
+    } else {
+        ""
+    }
 }
 
-/// Returns the text for the file numbers `first` to `file - 1`, for which no label was found.
-pub(crate) fn gap_text(wording: Wording, set_id: Field<6>, first: u16, file: u16) -> Text
-    ensures { result.items ≡ gap_text wording set_id first file }
+/// Returns the text for the file numbers `first` to `file - 1`, for which no label was found, if
+/// there are any.
+pub(crate) fn gap_text(
+    alloc: Global,
+    wording: Wording,
+    set_id: &Field<6>,
+    first: u16,
+    file: u16,
+) -> Result<String, AllocError>
+    ensures { IfOk result (λ text. string_bytes text ≡ gap_text wording set_id.now first file) }
 {
     if first >= file {
-        return Text::new();
+        return Ok(String::new(alloc));
     }
+    let numbers = numbers_text(alloc, first, file)?;
+    let (set_id, plural) = (Trimmed(set_id), plural(first, file));
     match wording {
-        Wording::Words => gap_line(first, file),
-        Wording::Rows => gap_row(set_id, first, file),
+        Wording::Words => format!(in alloc; "  file{plural} {numbers}: not found\n"),
+        Wording::Rows => {
+            format!(in alloc; "FILE\t{set_id}\t{numbers}\t\t\tMISSING\t1\t\t\t1:MISSING;\t\t\t\n")
+        }
     }
 }

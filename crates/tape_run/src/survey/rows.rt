@@ -12,7 +12,7 @@ use super::files::{FileKey, FileNote};
 use super::glance::First;
 use super::sets::{Standing, is_mixed, standing_of};
 use super::view::{Findings, ImageSurvey};
-use crate::check_line::{state_text, stop_text};
+use crate::check_line::state_text;
 use crate::quoting::name_text;
 use crate::section::{Entry, SectionKey};
 use crate::text::Trimmed;
@@ -59,7 +59,8 @@ fn sight_cells(
     let counts = format!(in alloc; "{items}\t{files}\t{bad}")?;
     let rest = format!(in alloc; "{head}\t{counts}\t")?;
     let mut cells = format!(in alloc; "{whole}\t{volume}\t{rest}")?.into_bytes();
-    cells.extend_from_slice(&stop_text(&sight.stop))?;
+    let stop = sight.stop;
+    cells.extend_from_slice(format!(in alloc; "{stop}")?.as_bytes())?;
     cells.push(b'\t')?;
     cells.extend_from_slice(owner_cell(alloc, &glance.first)?.as_bytes())?;
     Ok(cells)

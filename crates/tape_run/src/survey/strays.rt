@@ -1,5 +1,5 @@
 //! Damaged sections that follow the end of a complete file.
-ghost use Rattle.std.specs.Prelude.{◌≡◌, ◌++◌, IfOk, OnOk};
+ghost use Rattle.std.specs.Prelude.{◌≡◌, ◌++◌, OnOk};
 ghost use Rattle.tape_run.specs.SurveySets.{stray_text, strays_text};
 
 use super::Wording;
@@ -8,11 +8,10 @@ use super::sets::is_whole_file;
 use crate::section::{Entry, SectionKey};
 use crate::sections::Sections;
 use crate::text::Trimmed;
-use std::alloc::{AllocError, Global};
+use std::alloc::AllocError;
 
 /// Appends the line of a section, if it is damaged and its file is complete without it.
 fn add_stray(
-    alloc: Global,
     texts: &mut Vec<u8>,
     sections: &Sections,
     key: &SectionKey,
@@ -24,6 +23,7 @@ fn add_stray(
     if entry.state.is_good() || !is_whole_file(sections, key.set_id, key.file) {
         return Ok(());
     }
+    let alloc = *texts.allocator();
     let (damage, volume) = (damage_text(entry.state), Trimmed(&entry.volume));
     let rest = format!(in alloc; "{damage} on {volume}: the file ends before it\n")?;
     let (set_id, file, sect) = (Trimmed(&key.set_id), key.file, key.sect);
@@ -31,23 +31,23 @@ fn add_stray(
     texts.extend_from_slice(line.as_bytes())
 }
 
-/// Returns the lines of damaged sections whose files are complete. Rows have the states of all
+/// Appends the lines of damaged sections whose files are complete. Rows have the states of all
 /// sections.
-pub(crate) fn strays_text(
-    alloc: Global,
+pub(crate) fn add_strays(
+    texts: &mut Vec<u8>,
     wording: Wording,
     sections: &Sections,
-) -> Result<Vec<u8>, AllocError>
-    ensures { IfOk result (λ texts. texts.items ≡ strays_text wording sections.now.entries) }
+) -> Result<(), AllocError>
+    ensures { OnOk result (texts.new.items
+        ≡ texts.old.items ++ strays_text wording sections.now.entries) }
 {
-    let mut texts = Vec::new(alloc);
     match wording {
-        Wording::Rows => Ok(texts),
+        Wording::Rows => Ok(()),
         Wording::Words => {
             for (key, entry) in sections {
-                add_stray(alloc, &mut texts, sections, key, entry)?;
+                add_stray(texts, sections, key, entry)?;
             }
-            Ok(texts)
+            Ok(())
         }
     }
 }

@@ -1,9 +1,11 @@
 //! The number of images of a survey in each state.
-ghost use Rattle.std.specs.Prelude.{◌≡◌, Some};
-ghost use Rattle.tape_run.specs.SurveyTally.{with_state, count_text, not_tapes_text};
-ghost use Rattle.tape_run.specs.SurveyTally.{images_text, counts_text, tally_line};
+ghost use Rattle.std.specs.Prelude.{◌≡◌, IfOk, Some, string_bytes};
+ghost use Rattle.tape_run.specs.SurveyTally.{with_state, count_text, not_tapes_text, counts_text};
+ghost use Rattle.tape_run.specs.{SurveyTally.tally_line, SurveyWording.end_text};
 
+use super::Wording;
 use super::line::ImageState;
+use std::alloc::{AllocError, Global};
 use std::fmt;
 
 /// The number of images in each state.
@@ -85,22 +87,6 @@ impl fmt::Display for NotTapesText {
     }
 }
 
-/// The number of images.
-#[derive(Clone, Copy)]
-struct ImagesText(u32);
-
-impl fmt::Display for ImagesText {
-    ghost output = { λ text. Some (images_text text.0) };
-
-    fn fmt<W: fmt::Write>(&self, f: &mut fmt::Formatter<W>) -> fmt::Result {
-        let number = self.0;
-        match number {
-            1 => write!(f, "1 image"),
-            _ => write!(f, "{number} images"),
-        }
-    }
-}
-
 /// The text for the images that are not volumes without damage.
 #[derive(Clone, Copy)]
 struct CountsText(Tally);
@@ -123,17 +109,34 @@ impl fmt::Display for CountsText {
     }
 }
 
-/// The line about all images.
-#[derive(Clone, Copy)]
-pub(crate) struct TallyLine(pub(crate) Tally);
+/// Returns the line about all images.
+fn tally_line(alloc: Global, tally: &Tally) -> Result<String, AllocError>
+    ensures { IfOk result (λ line. string_bytes line ≡ tally_line tally.now) }
+{
+    let (ok, counts) = (tally.ok, CountsText(*tally));
+    match tally.images {
+        1 => format!(in alloc; "1 image: {ok} ok{counts}\n"),
+        images => format!(in alloc; "{images} images: {ok} ok{counts}\n"),
+    }
+}
 
-impl fmt::Display for TallyLine {
-    ghost output = { λ line. Some (tally_line line.0) };
-
-    fn fmt<W: fmt::Write>(&self, f: &mut fmt::Formatter<W>) -> fmt::Result {
-        let ok = self.0.ok;
-        let images = ImagesText(self.0.images);
-        let counts = CountsText(self.0);
-        write!(f, "{images}: {ok} ok{counts}\n")
+/// Returns the last lines, which rows do not have: the number of images in each state, and another
+/// line if all is well.
+pub(crate) fn end_text(
+    alloc: Global,
+    wording: Wording,
+    tally: &Tally,
+    all: bool,
+) -> Result<String, AllocError>
+    ensures { IfOk result (λ text. string_bytes text ≡ end_text wording tally.now all) }
+{
+    match (wording, all) {
+        (Wording::Rows, _) => Ok(String::new(alloc)),
+        (Wording::Words, false) => tally_line(alloc, tally),
+        (Wording::Words, true) => {
+            let line = tally_line(alloc, tally)?;
+            let last = "All files are complete, and every image was read to its end.";
+            format!(in alloc; "{line}{last}\n")
+        }
     }
 }

@@ -4,7 +4,7 @@ ghost use Rattle.std.specs.Prelude.{◌≡◌, length, IfOk, OnOk, option_map};
 ghost use Rattle.tape_image.specs.Reader.{going};
 ghost use Rattle.tape_run.specs.declared.fault.RunFault.TheVariants as faults;
 ghost use Rattle.tape_run.specs.SurveyRead.{ViewsItems, IsViewed, AreViewed, nothing_found};
-ghost use Rattle.tape_run.specs.SurveyTally.{is_whole_sight, is_sound, is_ended, is_none, is_end};
+ghost use Rattle.tape_run.specs.SurveyTally.{is_whole_sight, is_sound, is_ended, is_end};
 
 use super::copies::Copies;
 use super::course::LabelOrder;
@@ -75,16 +75,6 @@ pub(crate) fn is_ended(course: LabelOrder) -> bool
     }
 }
 
-/// Returns whether nothing was found.
-fn is_none(file: Option<u16>) -> bool
-    ensures { result ≡ is_none file }
-{
-    match file {
-        Some(_) => false,
-        None => true,
-    }
-}
-
 /// Returns whether the image does not end with a fault.
 pub(crate) fn is_end(stop: ImageStop) -> bool
     ensures { result ≡ is_end stop }
@@ -100,7 +90,7 @@ impl ImageSurvey {
     pub(crate) fn is_whole(&self) -> bool
         ensures { result ≡ is_whole_sight self.now }
     {
-        is_ended(self.glance.course) && is_none(self.glance.unread) && is_end(self.stop)
+        is_ended(self.glance.course) && self.glance.unread.is_none() && is_end(self.stop)
     }
 
     /// Returns whether the items are a complete volume whose files can be read, and no section is

@@ -1,13 +1,12 @@
 //! The lines that `unpack` prints.
 ghost use Rattle.std.specs.Prelude.{◌≡◌, ◌++◌, IfOk};
-ghost use Rattle.tape_run.specs.UnpackLine.{file_front, path_text, file_line, unpack_outcome_text};
+ghost use Rattle.tape_run.specs.UnpackLine.{path_text, file_line, unpack_outcome_text};
 ghost use Rattle.tape_run.specs.UnpackLine.{notice_text, notice_line};
 
 use super::SetFile;
 use crate::quoting::name_text;
-use crate::text::{Text, put, put_decimal, put_identifier};
+use crate::text::Identifier;
 use std::alloc::{AllocError, Global};
-use tape_label::Field;
 
 /// The outcome of a file, or the outcome that it would have.
 #[derive(Clone, Copy, PartialEq, Eq)]
@@ -66,26 +65,13 @@ pub fn file_line(
     ensures { IfOk result (λ line.
         line.items ≡ file_line file.now.set_id file.now.file outcome details.now path.now) }
 {
-    let front = file_front(&file.set_id, file.file);
-    let mut line = Vec::from_slice(alloc, &front)?;
+    let (set_id, number) = (Identifier(&file.set_id), file.file);
+    let mut line = format!(in alloc; "FILE {set_id} {number} ")?.into_bytes();
     line.extend_from_slice(unpack_outcome_text(outcome))?;
     line.extend_from_slice(details)?;
     put_path(alloc, &mut line, path)?;
     line.push(b'\n')?;
     Ok(line)
-}
-
-/// Appends the words before the path.
-fn file_front(set_id: &Field<6>, file: u16) -> Text
-    ensures { result.items ≡ file_front set_id.now file }
-{
-    let mut text = Text::new();
-    put(&mut text, b"FILE ");
-    put_identifier(&mut text, set_id);
-    put(&mut text, b" ");
-    put_decimal(&mut text, u64::from(file));
-    put(&mut text, b" ");
-    text
 }
 
 /// Appends a space and the path, if there is one.

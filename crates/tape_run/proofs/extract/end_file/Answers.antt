@@ -16,14 +16,6 @@ returns-in_err-end_report-clause-err g c =
       is_written = λ held was. inl (refl, inr (λ none. absurd (cc none)));
     })
 
-pub returns-in-Some-clause-ok : goal.returns-in-Some-clause-ok
-returns-in-Some-clause-ok g c = record {
-  wanted = sym c.in-Some.is ∙ c.want.ensures;
-  records = 0;
-  line = c.in_ok-end_report.ensures.ok;
-  is_written = λ held was. tt;
-}
-
 pub returns-in_err-records-clause-err : goal.returns-in_err-records-clause-err
 returns-in_err-records-clause-err g c =
     let none : None ≡ want_at c.args.session.now.core.file c.args.session.now.core.position =
@@ -57,11 +49,3 @@ returns-in_err-end_report-2-clause-err g c =
         inr (c.in_ok-records.ensures.ok held was).1,
       );
     })
-
-pub returns-clause-ok : goal.returns-clause-ok
-returns-clause-ok g c = record {
-  wanted = search rules;
-  records = c.in_ok-records.records;
-  line = c.in_ok-end_report-2.ensures.ok;
-  is_written = λ held was. c.in_ok-records.ensures.ok held was;
-}

@@ -1,9 +1,8 @@
 use Rattle.std.proofs.Common.{◌≡◌, ◌+◌, Ok, Err, ap, subst, ◌∙◌, arith, rules}
-use Rattle.std.specs.Io.KnownBytes.{Appends}
 use Rattle.tape_image.specs.{Reader.tape_item, Reader.ending_of, Written.AppendsFront}
 use Rattle.tape_image.proofs.Callers.{gave, met_end, met_fault, same_some}
 use Rattle.tape_image.proofs.Steps.{least_four}
-use Rattle.tape_run.specs.{Placed.placed_end, declared.fault.ListFault.TheVariants.WriteFailed}
+use Rattle.tape_run.specs.{declared.fault.ListFault.TheVariants.WriteFailed}
 use Rattle.tape_run.proofs.ListedSoFar.{line_is, one_more, ends_at, stops_at_item, stops_at_end}
 use Rattle.tape_run.proofs.ListedSoFar.{stops_at_fault, write_failed}
 use Rattle.tape_run.proofs.list.list_items.Goals as goal
@@ -26,9 +25,7 @@ items-preserved g c =
       same_device = c.next.follows.holds-at-none.same_device ∙ c.items.invariant.same_device;
       so_far = one_more _ _ c.items.image.left next.left c.items.image.place next.place
           c.items.number item _ _ _ c.items.invariant.so_far step.takes
-          (subst (Appends (g.W.Write.contents c.items.writer)
-          (g.W.Write.contents c.write_shown.new.writer)) text
-          c.in_ok-write_shown-in-Ok-Some.ensures.ok);
+          (rw text at c.in_ok-write_shown-in-Ok-Some.ensures.ok);
     }
 
 pub returns-in_err-write_shown-in-Ok-Some-clause-fault :
@@ -58,11 +55,7 @@ returns-in_err-write_end-in-Ok-None-clause-fault g c =
     (c.in-Ok-None.is ∙ ap Ok c.in-Ok-None.field-0-is) in
     let ending = same_some c.in-Some.ending met.ending c.ending.result c.in-Some.is
     (c.ending.ensures ∙ ap ending_of met.ended) in
-    let wrote = AppendsFront (g.W.Write.contents c.items.writer)
-    (g.W.Write.contents c.write_end.new.writer) in
-    let part = subst (λ e. wrote (placed_end c.args.offsets e next.place)) ending
-    (subst (λ q. wrote (placed_end c.args.offsets c.in-Some.ending q)) c.place.ensures
-    c.in_err-write_end-in-Ok-None.ensures.err) in
+    let part = rw (c.place.ensures, ending) at c.in_err-write_end-in-Ok-None.ensures.err in
     let failed : c.from_residual-in_err-write_end-in-Ok-None.result ≡ Err WriteFailed =
     search rules in
     write_failed _ _ _ _ _ _ failed
@@ -76,11 +69,7 @@ returns-in-Ok-None-clause-ok g c =
     (c.in-Ok-None.is ∙ ap Ok c.in-Ok-None.field-0-is) in
     let ending = same_some c.in-Some.ending met.ending c.ending.result c.in-Some.is
     (c.ending.ensures ∙ ap ending_of met.ended) in
-    let wrote = Appends (g.W.Write.contents c.items.writer)
-    (g.W.Write.contents c.write_end.new.writer) in
-    let line = subst (λ e. wrote (placed_end c.args.offsets e next.place)) ending
-    (subst (λ q. wrote (placed_end c.args.offsets c.in-Some.ending q)) c.place.ensures
-    c.in_ok-write_end-in-Ok-None.ensures.ok) in
+    let line = rw (c.place.ensures, ending) at c.in_ok-write_end-in-Ok-None.ensures.ok in
     ends_at _ _ c.items.image.left next.left c.items.image.place next.place c.items.number
     met.ending _ _ _ c.items.invariant.so_far met.takes line
 

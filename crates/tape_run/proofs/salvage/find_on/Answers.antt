@@ -1,20 +1,16 @@
-use Rattle.std.proofs.Common.{inr, refl, sym, subst, ◌∙◌, ◌+◌, option_map}
-use Rattle.tape_image.specs.Written.{AppendsFront}
+use Rattle.std.proofs.Common.{inr, refl, sym, subst, ◌+◌, option_map}
 use Rattle.tape_image.proofs.Pieces.{on_err}
 use Rattle.tape_run.specs.{SalvageLine.not_opened_line, Salvaging.FindsOn}
 use Rattle.tape_run.proofs.salvage.find_on.Goals as goal
 
-pub returns-in_err-write_text-in-None-clause-front :
-    goal.returns-in_err-write_text-in-None-clause-front
-returns-in_err-write_text-in-None-clause-front g c =
+pub returns-in_err-write_line-in-None-clause-front :
+    goal.returns-in_err-write_line-in-None-clause-front
+returns-in_err-write_line-in-None-clause-front g c =
     let task = c.args.task.now in
     let line = not_opened_line (c.args.number + 1) in
     on_err c.from_residual.result _ (inr (
       line,
       subst (λ i. FindsOn task.set_id task.file c.args.number (option_map g.R.Read.remaining i)
           c.args.copies.now.items c.args.copies.now.items line) (sym c.in-None.is) (refl, refl),
-      subst (AppendsFront (g.P.Write.contents c.args.report.now)
-          (g.P.Write.contents c.write_text.new.writer))
-          (c.deref.ensures.0 ∙ c.not_opened_line.ensures)
-          c.in_err-write_text-in-None.ensures.err,
+      c.in_err-write_line-in-None.ensures.err,
     ))

@@ -1,4 +1,4 @@
-use Rattle.std.proofs.Common.{map, [], sym, subst, arith}
+use Rattle.std.proofs.Common.{map, [], subst, arith}
 use Rattle.std.proofs.lemmas.Result.{IfErr-weaker, on_ok_weaker}
 use Rattle.tape_run.specs.{CrashRuns.LivesOn, Seen.seen}
 use Rattle.tape_run.proofs.{CrashRuns.lives_on}
@@ -13,8 +13,8 @@ returns-clause-crash g c = λ held was bytes e.
     let last = crashes c.run-result.new.session.sink in
     let left = map g.R.Read.remaining c.run-result.new.reels in
     let resumed = c.resume-session.ensures.resumed held in
-    let adds = c.run-result.ensures.crash held (subst (λ s. g.S.PartSink.holds s held)
-    (sym c.resume-session.ensures.sink) was) (c.resume-session.ensures.kept held) in
+    let adds = c.run-result.ensures.crash held (rw c.resume-session.ensures.sink was)
+    (c.resume-session.ensures.kept held) in
     subst (λ s. LivesOn point held steps bytes left (crashes s).returns last.returns × LivesOn point
     held steps bytes left ((crashes s).returned (crashes s).moment)
     (last.returned (crashes s).moment)) c.resume-session.ensures.sink (
@@ -25,9 +25,8 @@ returns-clause-crash g c = λ held was bytes e.
 
 pub returns-clause-delivers : goal.returns-clause-delivers
 returns-clause-delivers g c = on_ok_weaker c.run-result.result (λ run held was.
-    let same = sym c.resume-session.ensures.sink in
     let first = seen g.S.PartSink c.resume-session.result held in
-    let (now, has, (k, reads)) = run held (subst (λ s. g.S.PartSink.holds s held) same was)
+    let (now, has, (k, reads)) = run held (rw c.resume-session.ensures.sink was)
     (c.resume-session.ensures.kept held) in (
       first,
       c.resume-session.ensures.resumed held,
@@ -37,9 +36,8 @@ returns-clause-delivers g c = on_ok_weaker c.run-result.result (λ run held was.
 
 pub returns-clause-stopped : goal.returns-clause-stopped
 returns-clause-stopped g c = IfErr-weaker c.run-result.result _ _ (λ fault run held was.
-    let same = sym c.resume-session.ensures.sink in
     let first = seen g.S.PartSink c.resume-session.result held in
-    let (now, has, (k, stops)) = run held (subst (λ s. g.S.PartSink.holds s held) same was)
+    let (now, has, (k, stops)) = run held (rw c.resume-session.ensures.sink was)
     (c.resume-session.ensures.kept held) in
     (first, c.resume-session.ensures.resumed held, (now, has, λ bytes e. (stops bytes e).0)))
     c.run-result.ensures.stopped

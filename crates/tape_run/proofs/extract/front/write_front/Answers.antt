@@ -1,9 +1,7 @@
-use Rattle.std.proofs.Common.{rules, ◌≡◌, ◌+◌, Ok, false, ap, subst, ◌∙◌, arith, sym}
+use Rattle.std.proofs.Common.{rules, ◌≡◌, Ok, false, ap, ◌∙◌, arith}
 use Rattle.tape_blocks.specs.Spans.{leaves}
-use Rattle.tape_core.specs.Walks.{GivesPart}
 use Rattle.tape_image.proofs.Pieces.{on_err}
-use Rattle.tape_run.specs.OutSinks.{with_end}
-use Rattle.tape_run.proofs.RecordFronts.{front_starts, front_counts, front_writes, front_failed}
+use Rattle.tape_run.proofs.RecordFronts.{front_starts, front_writes, front_failed}
 use Rattle.tape_run.proofs.{RecordFronts.front_refused, RecordFronts.front_ended, Walked.walk_on}
 use Rattle.tape_run.proofs.extract.front.write_front.Goals as goal
 
@@ -28,8 +26,8 @@ returns-in_err-write_part-in-Ok-Some-clause-err g c =
     (λ parts was. front_failed c.args.form (g.S.PartWalk.ahead c.parts.sink) (g.S.PartWalk.ahead
     next) c.parts.all c.parts.written c.parts.records _ _ _ parts c.in-Ok-Some.part
     (c.parts.invariant.1 parts was) c.if-all.true
-    (λ xs is. subst (λ r. GivesPart r xs (g.S.PartWalk.ahead next)) (c.in-Ok-Some.is
-    ∙ ap Ok c.in-Ok-Some.field-0-is) (c.next_part.follows.holds-at-none.gives xs is))
+    (λ xs is. rw (c.in-Ok-Some.is ∙ ap Ok c.in-Ok-Some.field-0-is) at
+    (c.next_part.follows.holds-at-none.gives xs is))
     ends c.in_err-write_part-in-Ok-Some.ensures.err)
 
 pub parts-preserved-then-all : goal.parts-preserved-then-all
@@ -44,36 +42,18 @@ parts-preserved-then-all g c =
           c.saturating_add-records.result _ _ _ parts c.in-Ok-Some.part
           (c.parts.invariant.1 parts was)
           c.if-all.true
-          (λ xs is. subst (λ r. GivesPart r xs (g.S.PartWalk.ahead next)) (c.in-Ok-Some.is
-          ∙ ap Ok c.in-Ok-Some.field-0-is) (c.next_part.follows.holds-at-none.gives xs is))
+          (λ xs is. rw (c.in-Ok-Some.is ∙ ap Ok c.in-Ok-Some.field-0-is) at
+          (c.next_part.follows.holds-at-none.gives xs is))
           ends c.in_ok-write_part-in-Ok-Some.ensures.ok
           (λ few. omega (arith, few, c.saturating_add-records.ensures)),
-    )
-
-pub parts-preserved : goal.parts-preserved
-parts-preserved g c =
-    let next = c.next_part.follows.lender-at-none in
-    let ends : leaves c.in-Ok-Some.part.span ≡ false =
-    search (rules, c.leaves.ensures, c.if-leaves.false) in (
-      walk_on _ _ _ _ _ (c.in-Ok-Some.is ∙ ap Ok c.in-Ok-Some.field-0-is) c.parts.invariant.0
-          c.next_part.follows.holds-at-none,
-      λ parts was. front_counts c.args.form (g.S.PartWalk.ahead c.parts.sink)
-          (g.S.PartWalk.ahead next) c.parts.all c.parts.written c.parts.records
-          c.saturating_add-records.result _ _ parts c.in-Ok-Some.part
-          (c.parts.invariant.1 parts was)
-          (λ xs is. subst (λ r. GivesPart r xs (g.S.PartWalk.ahead next)) (c.in-Ok-Some.is
-          ∙ ap Ok c.in-Ok-Some.field-0-is) (c.next_part.follows.holds-at-none.gives xs is))
-          (λ few. let n : c.saturating_add-records.result ≡ c.parts.records + 1 =
-          omega (arith, few, c.saturating_add-records.ensures) in
-          n ∙ ap (λ b. with_end b c.parts.records) (sym ends)) c.parts.all c.if-all.false,
     )
 
 pub returns-in-Ok-None-clause-ok : goal.returns-in-Ok-None-clause-ok
 returns-in-Ok-None-clause-ok g c = λ parts was.
     let next = c.next_part.follows.lender-at-none in
     front_ended _ _ (g.S.PartWalk.ahead next) _ _ _ _ _ parts (c.parts.invariant.1 parts was)
-    (λ xs is. subst (λ r. GivesPart r xs (g.S.PartWalk.ahead next)) (c.in-Ok-None.is ∙ ap Ok
-    c.in-Ok-None.field-0-is) (c.next_part.follows.holds-at-none.gives xs is))
+    (λ xs is. rw (c.in-Ok-None.is ∙ ap Ok c.in-Ok-None.field-0-is) at
+    (c.next_part.follows.holds-at-none.gives xs is))
 
 pub returns-in-Err-clause-err : goal.returns-in-Err-clause-err
 returns-in-Err-clause-err g c = λ parts was. front_refused _ _ _ _ _ _ _ parts

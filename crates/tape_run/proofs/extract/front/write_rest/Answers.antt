@@ -1,6 +1,5 @@
-use Rattle.std.proofs.Common.{rules, ◌≡◌, ◌<◌, ◌≤◌, Ok, ap, subst, ◌∙◌, arith, inr, refl, ◌+◌}
+use Rattle.std.proofs.Common.{rules, ◌≡◌, ◌<◌, ◌≤◌, Ok, ap, ◌∙◌, arith, inr, refl, ◌+◌}
 use Rattle.tape_blocks.specs.Spans.{leaves}
-use Rattle.tape_core.specs.Walks.{GivesPart}
 use Rattle.tape_image.proofs.Pieces.{on_err}
 use Rattle.tape_run.specs.OutSinks.{with_end}
 use Rattle.tape_run.proofs.Streams.{stream_starts, stream_skips, stream_writes, stream_failed}
@@ -31,8 +30,8 @@ returns-in_err-write_part-in-Ok-Some-clause-err g c =
     (λ parts was e. stream_failed c.args.form (g.S.PartWalk.ahead c.parts.sink) (g.S.PartWalk.ahead
     next) c.args.front.written c.parts.ended c.args.front.records _ _ _ parts c.in-Ok-Some.part
     (c.parts.invariant.1 parts was e) le more e
-    (λ xs is. subst (λ r. GivesPart r xs (g.S.PartWalk.ahead next)) (c.in-Ok-Some.is
-    ∙ ap Ok c.in-Ok-Some.field-0-is) (c.next_part.follows.holds-at-none.gives xs is))
+    (λ xs is. rw (c.in-Ok-Some.is ∙ ap Ok c.in-Ok-Some.field-0-is) at
+    (c.next_part.follows.holds-at-none.gives xs is))
     c.in_err-write_part-in-Ok-Some.ensures.err)
 
 pub parts-preserved : goal.parts-preserved
@@ -51,8 +50,8 @@ parts-preserved g c =
             (g.S.PartWalk.ahead next) c.args.front.written c.parts.ended _ c.args.front.records
             _ _ _ parts c.in-Ok-Some.part (c.parts.invariant.1 parts was e)
             (omega (arith, w.if-ended-front.true)) more e
-            (λ xs is. subst (λ r. GivesPart r xs (g.S.PartWalk.ahead next)) (c.in-Ok-Some.is
-            ∙ ap Ok c.in-Ok-Some.field-0-is) (c.next_part.follows.holds-at-none.gives xs is))
+            (λ xs is. rw (c.in-Ok-Some.is ∙ ap Ok c.in-Ok-Some.field-0-is) at
+            (c.next_part.follows.holds-at-none.gives xs is))
             w.in_ok-write_part-in-Ok-Some.ensures.ok
             same,
       )
@@ -62,8 +61,8 @@ parts-preserved g c =
             (g.S.PartWalk.ahead next) c.args.front.written c.parts.ended _ _ _ parts
             c.in-Ok-Some.part (c.parts.invariant.1 parts was e)
             (omega (arith, w.if-ended-front.false))
-            (λ xs is. subst (λ r. GivesPart r xs (g.S.PartWalk.ahead next)) (c.in-Ok-Some.is
-            ∙ ap Ok c.in-Ok-Some.field-0-is) (c.next_part.follows.holds-at-none.gives xs is))
+            (λ xs is. rw (c.in-Ok-Some.is ∙ ap Ok c.in-Ok-Some.field-0-is) at
+            (c.next_part.follows.holds-at-none.gives xs is))
             same,
       )
     ]
@@ -78,8 +77,8 @@ returns-in-Ok-None-clause-cause g c =
           (g.S.PartWalk.ahead c.parts.sink) (g.S.PartWalk.ahead next) c.args.front.written
           c.parts.ended
           c.args.front.records _ _ parts (c.parts.invariant.1 parts was e) more e
-          (λ xs is. subst (λ r. GivesPart r xs (g.S.PartWalk.ahead next)) (c.in-Ok-None.is
-          ∙ ap Ok c.in-Ok-None.field-0-is) (c.next_part.follows.holds-at-none.gives xs is)),
+          (λ xs is. rw (c.in-Ok-None.is ∙ ap Ok c.in-Ok-None.field-0-is) at
+          (c.next_part.follows.holds-at-none.gives xs is)),
     ))
 
 pub returns-clause-ok : goal.returns-clause-ok

@@ -1,10 +1,8 @@
 use Rattle.std.proofs.Common.{◌≡◌, ◌-◌, Bool, true, false, length, Some, refl, sym, subst, ◌∙◌}
 use Rattle.std.proofs.Common.{arith, rules, inl, inr}
 use Rattle.std.specs.Bool.{OnTrue, OnFalse}
-use Rattle.tape_core.specs.Place.{rest_of}
-use Rattle.tape_run.specs.{Crash.LeavesStep, Seen.seen, declared.fault.EngineFault.TheVariants.Run}
-use Rattle.tape_run.specs.Reeling.{Opened, IsKeptFor, IsTurn, counts_differ}
-use Rattle.tape_run.specs.Stopping.{IsStopped, NotNoted, RefusesSave}
+use Rattle.tape_run.specs.Seen.{seen}
+use Rattle.tape_run.specs.{Reeling.Opened, Reeling.IsTurn, Reeling.counts_differ, Stopping.NotNoted}
 use Rattle.tape_run.proofs.Causes.{calm_back, calm_reel, calm_saved, calm_then}
 use Rattle.tape_run.proofs.{Ended.told_err, Lasting.last_stays, Lasting.last_then}
 use Rattle.tape_run.proofs.Left.{left_then, restart_left, save_left}
@@ -122,7 +120,7 @@ returns-in_err-restart-clause-left g c =
     let mid = c.reel.new.self in
     let (now, has, (front, keeps, reeled)) = c.in_ok-answer.ensures.ok held was in
     let still = kept_for c.args.back (seen sink old held) (seen sink mid now) keeps kept in
-    let kept_now = subst (λ z. IsKeptFor z (seen sink mid now)) c.if-back.true still in
+    let kept_now = rw c.if-back.true at still in
     let n = c.saturating_sub-last.result in
     let last : n ≡ length mid.notes - 1 =
     omega (arith, c.saturating_sub-last.ensures, c.notes.ensures) in
@@ -140,8 +138,7 @@ returns-in_err-save-clause-left g c =
     let (now, has, (front, keeps, reeled)) = c.in_ok-answer.ensures.ok held was in
     let (end, has_end, fails) = c.in_err-save.ensures.err now has in
     let fault = c.in_err-save.field-0.0 in
-    subst (λ image. LeavesStep sink c.args.back (RefusesSave g.R.Read.remaining (seen sink old held)
-    image (Run fault) (rest_of new.core)) old held new) (sym c.in-Some.is)
+    rw c.in-Some.is
     (left_then sink c.args.back _ old mid new held now c.in_ok-answer.ensures.notes front kept
     (c.reel.ensures.crash held was) (save_left sink g.R.Read.remaining c.args.back fault
     c.in-Some.device (g.R.Read.remaining c.reel.new.device) c.in_ok-answer.answer
@@ -159,8 +156,7 @@ returns-in_err-save-clause-stops g c =
     let mid = seen sink c.reel.new.self now in
     let new = seen sink c.save.new.self end in
     let fault = c.in_err-save.field-0.0 in
-    subst (λ image. IsStopped sink g.R.Read.remaining c.args.back old image (Run fault)
-    c.save.new.self) (sym c.in-Some.is) (
+    rw c.in-Some.is (
       end,
       (λ live. has_end),
       step_stops c.args.back (g.R.Read.remaining c.in-Some.device)

@@ -1,22 +1,17 @@
-use Rattle.std.proofs.Common.{◌≡◌, ◌+◌, [], ◌∷◌, ◌++◌, length, refl, sym, ap, subst, ◌∙◌, arith}
+use Rattle.std.proofs.Common.{◌≡◌, ◌+◌, [], ◌∷◌, ◌++◌, length, refl, sym, ap, ◌∙◌, arith}
 use Rattle.std.proofs.Common.{rules, length-append, map, inl, inr, None}
 use Rattle.std.proofs.KnownBytes.{Appends-nil}
-use Rattle.std.specs.Io.KnownBytes.{Appends}
-use Rattle.tape_image.specs.Written.{AppendsFront}
-use Rattle.tape_run.specs.{ReelLine.reel_line, ReelLine.reel_lines, Seen.seen}
-use Rattle.tape_run.specs.Reeling.{answer_of, IsTurn}
-use Rattle.tape_run.specs.declared.fault.EngineFault.TheVariants.{Run}
+use Rattle.tape_run.specs.{ReelLine.reel_lines, Seen.seen, Reeling.answer_of, Reeling.IsTurn}
 use Rattle.tape_run.proofs.{Fitting.whole_text, Lasting.last_same, Lasting.last_then}
 use Rattle.tape_run.proofs.Turns.{front_behind, line_behind, one_mounted, follows_then}
-use Rattle.tape_run.proofs.{Causes.calm_same, Causes.calm_then, Causes.then_fails, Ended.told_err}
+use Rattle.tape_run.proofs.{Causes.calm_same, Causes.calm_then, Ended.told_err}
 use Rattle.tape_run.proofs.{Left.left_saved, Left.same_left, StoppedThere.stopped_there}
 use Rattle.tape_run.proofs.extract.images.read_round.Goals as goal
 
 pub returns-in_err-outcome-clause-err : goal.returns-in_err-outcome-clause-err
 returns-in_err-outcome-clause-err g c =
     let (turns, e, are, lines, none, f, calm) = c.loop-number.invariant in
-    let mounted = subst (λ n. g.L.ImageSource.gives c.loop-number.images n c.in-Ok.image
-    c.mount.new.self) (sym e) c.in-Ok.ensures.ok in
+    let mounted = rw (sym e) at c.in-Ok.ensures.ok in
     told_err _ _ _ c.from_residual.ensures.1 (record {
       turns = turns;
       image = c.in-Ok.image;
@@ -44,9 +39,8 @@ returns-in_err-write_line-clause-err g c =
     let taken = c.in_ok-outcome.ensures.ok in
     let n = c.args.lines + c.loop-number.number + 1 in
     let number : n ≡ c.args.lines + 1 + length turns = omega (arith, e) in
-    let at : c.loop-number.number ≡ 0 + length turns = omega (arith, e) in
-    let mounted = subst (λ m. g.L.ImageSource.gives c.loop-number.images m c.in-Ok.image
-    c.mount.new.self) at c.in-Ok.ensures.ok in
+    let here : c.loop-number.number ≡ 0 + length turns = omega (arith, e) in
+    let mounted = rw here at c.in-Ok.ensures.ok in
     let all = turns ++ taken.turn ∷ [] in
     let count : length all ≡ length turns + 1 = length-append turns (taken.turn ∷ []) in
     told_err _ _ _ c.from_residual-in_err-write_line.ensures.1 (record {
@@ -63,9 +57,7 @@ returns-in_err-write_line-clause-err g c =
       fewer = λ other. absurd (other refl);
       no_more = λ none. refl;
       lines = front_behind (c.args.lines + 1) _ _ _ turns taken.turn n number lines
-          (subst (λ o. AppendsFront (g.P.Write.contents c.loop-number.report)
-          (g.P.Write.contents c.write_line.new.writer) (reel_line n o)) (sym taken.answers)
-          c.in_err-write_line.ensures.err);
+          (rw (sym taken.answers) at c.in_err-write_line.ensures.err);
       told = λ other. absurd (other refl);
       follows = λ held was kept.
           let (now, has, (still, follows, lasts)) = f held was kept in
@@ -134,18 +126,15 @@ loop-number-preserved g c =
     let n = c.loop-number.number in
     let taken = c.in_ok-outcome.ensures.ok in
     let number : c.args.lines + n + 1 ≡ c.args.lines + 1 + length turns = omega (arith, e) in
-    let at : n ≡ 0 + length turns = omega (arith, e) in
-    let mounted = subst (λ m. g.L.ImageSource.gives c.loop-number.images m c.in-Ok.image
-    c.mount.new.self) at c.in-Ok.ensures.ok in (
+    let here : n ≡ 0 + length turns = omega (arith, e) in
+    let mounted = rw here at c.in-Ok.ensures.ok in (
       turns ++ taken.turn ∷ [],
       length-append turns (taken.turn ∷ []) ∙ ap (λ m. m + 1) e,
       one_mounted g.L.ImageSource.gives (IsTurn g.R.Read.remaining) c.args.images.now 0 turns
           c.loop-number.images
           taken.turn c.in-Ok.image c.mount.new.self are mounted taken.is_turn,
       line_behind (c.args.lines + 1) _ _ _ turns taken.turn _ number lines
-          (subst (λ o. Appends (g.P.Write.contents c.loop-number.report)
-          (g.P.Write.contents c.write_line.new.writer) (reel_line (c.args.lines + n + 1) o))
-          (sym taken.answers) c.in_ok-write_line.ensures.ok),
+          (rw (sym taken.answers) at c.in_ok-write_line.ensures.ok),
       λ zero. absurd (omega (arith, zero)),
       λ held was kept.
           let (now, has, (still, follows, lasts)) = f held was kept in
@@ -164,22 +153,3 @@ loop-number-preserved g c =
       calm_then g.S.PartSink c.args.session.now c.loop-number.session c.read_image.new.session calm
           c.in_ok-outcome.ensures.calm,
     )
-
-pub returns-in_err-outcome-clause-cause : goal.returns-in_err-outcome-clause-cause
-returns-in_err-outcome-clause-cause g c =
-    let (turns, e, are, lines, none, f, calm) = c.loop-number.invariant in
-    told_err _ _ _ c.from_residual.ensures.1 (then_fails g.S.PartSink
-    g.S.PartSink.refuses_change c.args.back (Run c.in_err-outcome.field-0.0)
-    c.args.session.now c.loop-number.session c.read_image.new.session calm
-    c.in_err-outcome.ensures.cause)
-
-pub returns-in_err-write_line-clause-cause : goal.returns-in_err-write_line-clause-cause
-returns-in_err-write_line-clause-cause g c =
-    let (turns, e, are, lines, none, f, calm) = c.loop-number.invariant in
-    let all = calm_then g.S.PartSink c.args.session.now c.loop-number.session
-    c.read_image.new.session calm c.in_ok-outcome.ensures.calm in
-    told_err _ _ _ c.from_residual-in_err-write_line.ensures.1 all.calm
-
-pub returns-in_default-clause-cause : goal.returns-in_default-clause-cause
-returns-in_default-clause-cause g c =
-    let (turns, e, are, lines, none, f, calm) = c.loop-number.invariant in calm.calm

@@ -1,10 +1,10 @@
-use Rattle.std.proofs.Common.{◌≡◌, ℕ, inl, inr, refl, sym, subst, ap, ◌∙◌, arith, rules, not}
+use Rattle.std.proofs.Common.{◌≡◌, ℕ, inl, inr, refl, sym, ap, ◌∙◌, arith, rules, not}
 use Rattle.std.proofs.Common.{is_some, true, false, List, Option, Some, None}
 use Rattle.std.specs.Map.{lookup}
 use Rattle.tape_set.specs.{Position.want_at, declared.position.Want.Want}
 use Rattle.tape_core.specs.State.{State}
 use Rattle.tape_run.specs.{Lacks.key_at, Noted.same_key, SurveyLocations.Located}
-use Rattle.tape_run.specs.ExtractingLocated.{IsHeld, BeginsOn, NextBeginsOn, held_behind}
+use Rattle.tape_run.specs.ExtractingLocated.{BeginsOn, NextBeginsOn, held_behind}
 use Rattle.tape_run.specs.declared.survey.files.FileKey.{FileKey}
 use Rattle.tape_run.proofs.Located.{nothing_read, section_read, read_some, section_failed}
 use Rattle.tape_run.proofs.Located.{nothing_open, read_open, located_open, sections_read, not_none}
@@ -20,9 +20,7 @@ next_on : (entries : List Located) (core : State) (key : FileKey) (want : Want) 
     → NextBeginsOn entries core image
 next_on entries core key want image set file wants found = λ sect block part at.
     let is : want.sect ≡ sect = ap wanted_sect (wants ∙ ap (want_at core.file) at) in
-    ap (λ k. lookup (same_key k) entries)
-    (ap (λ x. key_at x core.file sect) (sym set) ∙ ap (λ x. key_at key.set_id x sect) (sym file)
-    ∙ ap (λ x. key_at key.set_id key.file x) (sym is)) ∙ found
+    rw (set, file, is) at found
 
 -- on that image a section of the file begins
 begins_on : (entries : List Located) (core first : State) (key : FileKey) (sect image : ℕ)
@@ -30,12 +28,8 @@ begins_on : (entries : List Located) (core first : State) (key : FileKey) (sect 
     → core.file ≡ first.file
     → lookup (same_key (key_at key.set_id key.file sect)) entries ≡ Some image
     → BeginsOn entries first image
-begins_on entries core first key sect image set file same_set same_file found = (
-  sect,
-  ap (λ k. lookup (same_key k) entries)
-      (ap (λ x. key_at x first.file sect) (sym (set ∙ same_set))
-      ∙ ap (λ x. key_at key.set_id x sect) (sym (file ∙ same_file))) ∙ found,
-)
+begins_on entries core first key sect image set file same_set same_file found =
+    (sect, rw (set ∙ same_set, file ∙ same_file) at found)
 
 pub sections-init : goal.sections-init
 sections-init g c = record {
@@ -74,8 +68,7 @@ sections-preserved g c =
           c.read_section.new.images _ _ (held_behind whole s.stretches) _
           (ap is_some c.take-held.ensures.value ∙ is_open)
           (c.in_ok-mounted.ensures.ok (held_behind whole s.stretches)
-          (subst (λ m. IsHeld g.R.Read.remaining m (held_behind whole s.stretches))
-          (sym c.take-held.ensures.value) s.held)) in (
+          (rw c.take-held.ensures.value s.held)) in (
             section_read g.S.PartSink _ g.L.ImageSource.gives g.R.Read.remaining
                 c.args.session.now c.sections.session c.read_section.new.session
                 c.args.images.now c.sections.images c.read_section.new.images
@@ -117,8 +110,7 @@ returns-then-is_none-clause-ok g c whole held =
     c.read_section.new.images _ _ (held_behind whole s.stretches) _
     (ap is_some c.take-held.ensures.value ∙ is_open)
     (c.in_ok-mounted.ensures.ok (held_behind whole s.stretches)
-    (subst (λ m. IsHeld g.R.Read.remaining m (held_behind whole s.stretches))
-    (sym c.take-held.ensures.value) s.held)))
+    (rw c.take-held.ensures.value s.held)))
     none (c.in_ok-mounted.ensures.unfinished none)
 
 pub returns-then-from-next-clause-ok : goal.returns-then-from-next-clause-ok

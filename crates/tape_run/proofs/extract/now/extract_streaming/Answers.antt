@@ -1,7 +1,7 @@
 use Rattle.std.proofs.Common.{rules, ◌≡◌, [], Some, None, refl, sym, ◌∙◌, inl, inr}
 use Rattle.tape_set.specs.Position.{want_at}
 use Rattle.tape_run.specs.OutSinks.{TellsAlways}
-use Rattle.tape_run.proofs.{Causes.ended_for, Ended.told_err, Extracted.none_finished}
+use Rattle.tape_run.proofs.{Ended.told_err, Extracted.none_finished}
 use Rattle.tape_run.proofs.{Fitting.no_text, StoppedThere.session_walked}
 use Rattle.tape_run.proofs.Now.{extracted_now, stops_reading_now, stops_at_end_now}
 use Rattle.tape_run.proofs.extract.now.extract_streaming.Goals as goal
@@ -82,27 +82,3 @@ returns-clause-ok g c =
     c.place_output.ensures.same c.place_output.ensures.calm
     c.in_ok-read_images.ensures.ok none c.in_ok-end_report-2.ensures.ok
     c.in_ok-records.ensures.ok
-
-pub returns-in_err-read_images-clause-cause : goal.returns-in_err-read_images-clause-cause
-returns-in_err-read_images-clause-cause g c =
-    told_err _ _ _ c.from_residual.ensures.1 (inl c.in_err-read_images.ensures.cause)
-
-pub returns-in_err-end_report-clause-cause : goal.returns-in_err-end_report-clause-cause
-returns-in_err-end_report-clause-cause g c =
-    told_err _ _ _ c.from_residual-in_err-end_report.ensures.1
-    (rw c.in_err-end_report.ensures.fault (inl c.in_ok-read_images.ensures.calm.calm))
-
-pub returns-in_err-records-clause-cause : goal.returns-in_err-records-clause-cause
-returns-in_err-records-clause-cause g c =
-    let mid = c.read_images.new.session in
-    let none : None ≡ want_at mid.core.file mid.core.position = search rules in
-    told_err _ _ _ c.from_residual-in_err-records.ensures.1 (ended_for _ _ _ c.args.session.now
-    mid c.place_output.new.self c.args.form c.in_err-records.field-0.0
-    (c.place_output.ensures.calm ∙ c.in_ok-read_images.ensures.calm.calm)
-    (none_finished mid.core.file mid.core.position none) c.in_err-records.ensures.cause)
-
-pub returns-in_err-end_report-2-clause-cause : goal.returns-in_err-end_report-2-clause-cause
-returns-in_err-end_report-2-clause-cause g c =
-    told_err _ _ _ c.from_residual-in_err-end_report-2.ensures.1
-    (rw c.in_err-end_report-2.ensures.fault
-    (inl (c.place_output.ensures.calm ∙ c.in_ok-read_images.ensures.calm.calm)))

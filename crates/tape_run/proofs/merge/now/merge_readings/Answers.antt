@@ -1,4 +1,4 @@
-use Rattle.std.proofs.Common.{◌≡◌, map, inl, inr, rules, refl, subst, sym, ◌∙◌, [], ◌++◌}
+use Rattle.std.proofs.Common.{◌≡◌, map, inl, inr, rules, refl, sym, [], ◌++◌}
 use Rattle.std.proofs.{Common.append-nil, KnownBytes.Appends-trans}
 use Rattle.std.specs.Io.KnownBytes.{Appends}
 use Rattle.tape_image.specs.Written.{AppendsFront}
@@ -16,7 +16,7 @@ returns-in-Ok-merge_to-clause-ok g c =
     let names = map (λ n. n.now) c.args.names.now in
     let old = g.P.Write.contents c.args.report.now in
     let mid = g.P.Write.contents c.report_readings.new.report in
-    let new = g.P.Write.contents c.pass_on.new.report in
+    let new = g.P.Write.contents c.pass_line.new.writer in
     comes_whole c.args.readings.now names _ _ _ _ _ c.end_of-end.result _ _
     c.whole_or_partial.ensures (
     made c.args.readings.now c.merge_to.new.readings c.in-Ok-merge_to.merged _ _
@@ -31,8 +31,7 @@ returns-in-Ok-merge_to-clause-ok g c =
     (lines_from (reading_line names) 0 c.merge_to.new.readings)
     (merged_line c.in-Ok-merge_to.merged c.end_of-end.result)
     c.in_ok-report_readings-in-Ok-merge_to.ensures.ok
-    (subst (λ t. Appends mid new t) (c.deref.ensures.0 ∙ c.merged_line.ensures)
-    c.in_ok-pass_on-in-Ok-merge_to.ensures.ok)))
+    c.in_ok-pass_line-in-Ok-merge_to.ensures.ok))
 
 pub returns-in-Err-Write-clause-cause : goal.returns-in-Err-Write-clause-cause
 returns-in-Err-Write-clause-cause g c =
@@ -96,19 +95,17 @@ returns-in_err-report_readings-in-Err-Differ-clause-left g c =
     c.in-Err-Differ.ensures.still_all _ _
     c.in_err-report_readings-in-Err-Differ.ensures.front)
 
-pub returns-in_err-pass_on-in-Err-Differ-clause-left :
-    goal.returns-in_err-pass_on-in-Err-Differ-clause-left
-returns-in_err-pass_on-in-Err-Differ-clause-left g c =
-    let text : c.deref-in-Err-Differ.result.now ≡ differ_line c.in-Err-Differ.item =
-    search rules in
-    err_stays c.from_residual-in_err-pass_on-in-Err-Differ.result g.O.Place.stands _ _ _
+pub returns-in_err-pass_line-in-Err-Differ-clause-left :
+    goal.returns-in_err-pass_line-in-Err-Differ-clause-left
+returns-in_err-pass_line-in-Err-Differ-clause-left g c =
+    let wrote : AppendsFront (g.P.Write.contents c.report_readings-in-Err-Differ.new.report)
+    (g.P.Write.contents c.pass_line-in-Err-Differ.new.writer) (differ_line c.in-Err-Differ.item)
+    = search rules in
+    err_stays c.from_residual-in_err-pass_line-in-Err-Differ.result g.O.Place.stands _ _ _
     (says_differ c.args.readings.now c.merge_to.new.readings _ _ c.in-Err-Differ.item
     c.in-Err-Differ.field-0 _ _ c.in-Err-Differ.ensures.fault c.in-Err-Differ.field-0-is
     c.in-Err-Differ.ensures.still_all _ _ _
-    c.in_ok-report_readings-in-Err-Differ.ensures.ok
-    (subst (λ t. AppendsFront (g.P.Write.contents c.report_readings-in-Err-Differ.new.report)
-    (g.P.Write.contents c.pass_on-in-Err-Differ.new.report) t) text
-    c.in_err-pass_on-in-Err-Differ.ensures.err))
+    c.in_ok-report_readings-in-Err-Differ.ensures.ok wrote)
 
 pub returns-in_err-report_items-in-Err-Differ-clause-left :
     goal.returns-in_err-report_items-in-Err-Differ-clause-left
@@ -116,32 +113,29 @@ returns-in_err-report_items-in-Err-Differ-clause-left g c =
     let names = map (λ n. n.now) c.args.names.now in
     let old = g.P.Write.contents c.args.report.now in
     let first = g.P.Write.contents c.report_readings-in-Err-Differ.new.report in
-    let second = g.P.Write.contents c.pass_on-in-Err-Differ.new.report in
-    let text : c.deref-in-Err-Differ.result.now ≡ differ_line c.in-Err-Differ.item =
-    search rules in
+    let second = g.P.Write.contents c.pass_line-in-Err-Differ.new.writer in
+    let wrote : Appends first second (differ_line c.in-Err-Differ.item) = search rules in
     err_stays c.from_residual-in_err-report_items-in-Err-Differ.result g.O.Place.stands _ _ _
     (says_items c.args.readings.now c.merge_to.new.readings _ _ c.in-Err-Differ.item
     c.in-Err-Differ.field-0 _ _ c.in-Err-Differ.ensures.fault c.in-Err-Differ.field-0-is
     c.in-Err-Differ.ensures.still_all old second
     _
     (Appends-trans old first second (lines_from (reading_line names) 0 c.merge_to.new.readings)
-    (differ_line c.in-Err-Differ.item) c.in_ok-report_readings-in-Err-Differ.ensures.ok
-    (subst (λ t. Appends first second t) text c.in_ok-pass_on-in-Err-Differ.ensures.ok))
+    (differ_line c.in-Err-Differ.item) c.in_ok-report_readings-in-Err-Differ.ensures.ok wrote)
     c.in_err-report_items-in-Err-Differ.ensures.front)
 
-pub returns-in_err-pass_on-in-Ok-merge_to-clause-left :
-    goal.returns-in_err-pass_on-in-Ok-merge_to-clause-left
-returns-in_err-pass_on-in-Ok-merge_to-clause-left g c =
+pub returns-in_err-pass_line-in-Ok-merge_to-clause-left :
+    goal.returns-in_err-pass_line-in-Ok-merge_to-clause-left
+returns-in_err-pass_line-in-Ok-merge_to-clause-left g c =
     let names = map (λ n. n.now) c.args.names.now in
     let old = g.P.Write.contents c.args.report.now in
     let mid = g.P.Write.contents c.report_readings.new.report in
-    let new = g.P.Write.contents c.pass_on.new.report in
+    let new = g.P.Write.contents c.pass_line.new.writer in
     let lines = lines_from (reading_line names) 0 c.merge_to.new.readings in
     let last = merged_line c.in-Ok-merge_to.merged c.end_of-end.result in
     let wrote : AppendsFront old new (lines ++ last) = front_then old mid new lines last []
     (lines ++ last) c.in_ok-report_readings-in-Ok-merge_to.ensures.ok
-    (subst (λ t. AppendsFront mid new t) (c.deref.ensures.0 ∙ c.merged_line.ensures)
-    c.in_err-pass_on-in-Ok-merge_to.ensures.err) (sym (append-nil (lines ++ last))) in
+    c.in_err-pass_line-in-Ok-merge_to.ensures.err (sym (append-nil (lines ++ last))) in
     let (end, fits) = some_end c.in-Ok-merge_to.merged.bad c.in-Ok-merge_to.merged.miscounted
     c.end_of-end.result in
     err_write _ g.O.Place.stands _ _ _ _ (search rules) (inr (

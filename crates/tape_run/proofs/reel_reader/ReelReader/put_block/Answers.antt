@@ -1,4 +1,4 @@
-use Rattle.std.proofs.Common.{◌≡◌, ◌≤◌, ◌++◌, ℕ, Bool, take, drop, ap, sym, subst, refl, ◌∙◌}
+use Rattle.std.proofs.Common.{◌≡◌, take, drop, ap, sym, refl, ◌∙◌}
 use Rattle.tape_blocks.specs.{Block.Holds, Judged.begun_behind}
 use Rattle.tape_set.specs.Position.{part_of}
 use Rattle.tape_core.specs.{Table.after_block, Table.saved, Place.place_of, Place.rest_of}
@@ -19,16 +19,12 @@ returns-in-Err-clause-err g c = λ held parts k known_is h was.
     let n = c.in-Err.refused.part in
     let begun : c.in-Err.refused.begun
     ≡ begun_behind core.begun (drop (part_of core.position) (take n parts)) =
-    few.begun_now
-    ∙ (ap (λ (b : Bool). begun_behind b (drop c.args.awaited.now.part (take n parts))) awaited.begun
-    ∙ ap (λ (f : ℕ). begun_behind core.begun (drop f (take n parts))) awaited.part) in
+    rw (awaited.begun, awaited.part) at few.begun_now in
     record {
       n = n;
-      from = subst (λ (f : ℕ). f ≤ n) awaited.part few.from;
+      from = rw awaited.part at few.from;
       within = few.within;
-      held_now =
-          subst (λ (f : ℕ). g.S.PartSink.holds c.put_parts.new.sink (held ++ drop f (take n parts)))
-          awaited.part few.held_now;
+      held_now = rw awaited.part at few.held_now;
       back =
           ap rest_of c.go_back.ensures.back
           ∙ ap (λ b. place_of (refused_point (saved core 0) (saved behind 0) n b)) begun;

@@ -1,6 +1,4 @@
-use Rattle.std.proofs.Common.{rules, sym, subst}
-use Rattle.tape_image.specs.Written.{AppendsFront}
-use Rattle.tape_run.specs.SalvageConflicts.{conflict_text}
+use Rattle.std.proofs.Common.{rules}
 use Rattle.tape_run.proofs.SalvageConflicts.{compared_more, compared_front}
 use Rattle.tape_image.proofs.Pieces.{on_err}
 use Rattle.tape_run.proofs.salvage.conflicts.report_section.Goals as goal
@@ -13,8 +11,6 @@ loop-copy-preserved g c = compared_more _ c.copy-item.result c.args.copies.now
 
 pub returns-in_err-any-clause-front : goal.returns-in_err-any-clause-front
 returns-in_err-any-clause-front g c = on_err c.from_residual.result _
-    (subst (λ b. AppendsFront (g.P.Write.contents c.args.report.now)
-    (g.P.Write.contents c.report_copy.new.report) (conflict_text b c.args.copies.now))
-    (sym c.in-Some.is) (compared_front c.in-Some.best c.copy-item.result c.args.copies.now
+    (rw c.in-Some.is (compared_front c.in-Some.best c.copy-item.result c.args.copies.now
     c.loop-copy.copy-index _ _ _ _ _ (search rules) c.copy-item.is c.loop-copy.invariant
     c.in_err-any.ensures.front))

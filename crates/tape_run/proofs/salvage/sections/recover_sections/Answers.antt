@@ -1,8 +1,6 @@
-use Rattle.std.proofs.Common.{◌≡◌, subst, arith}
+use Rattle.std.proofs.Common.{◌≡◌, arith}
 use Rattle.tape_image.proofs.Pieces.{on_err}
-use Rattle.tape_run.specs.SalvageBlocks.{Recovers, ReportsFront}
 use Rattle.tape_run.specs.{SalvageChoice.last_section, SalvageTaking.next_section}
-use Rattle.tape_run.specs.SalvageEnds.{no_section_text, without_rest}
 use Rattle.tape_run.proofs.SalvageTaking.{more_taken, ends_file, continues_file}
 use Rattle.tape_run.proofs.SalvageBegun.{stops_in, stops_last}
 use Rattle.tape_run.proofs.salvage.sections.recover_sections.Goals as goal
@@ -36,9 +34,7 @@ returns-in_ok-miss_section-in-Continues-clause-ok g c =
     continues_file g.W.Write.contents g.L.ImageSource.gives g.R.Read.remaining
     c.args.copies.now c.args.content _ n _ _ _ _ _ _ _ _ _ all c.loop-before.invariant
     c.in-Continues.is c.form_of_file-form.ensures
-    (subst (λ m. Recovers g.W.Write.contents c.loop-before.recovery c.miss_section.new.self
-    (g.P.Write.contents c.loop-before.report) (g.P.Write.contents c.miss_section.new.report)
-    without_rest (no_section_text m)) next c.in_ok-miss_section-in-Continues.ensures.ok)
+    (rw next at c.in_ok-miss_section-in-Continues.ensures.ok)
 
 pub returns-in_err-end-clause-front : goal.returns-in_err-end-clause-front
 returns-in_err-end-clause-front g c =
@@ -63,6 +59,4 @@ returns-in_err-miss_section-in-Continues-clause-front g c =
     on_err c.from_residual-in_err-miss_section-in-Continues.result _ (stops_last g.W.Write.contents
     g.L.ImageSource.gives g.R.Read.remaining c.args.copies.now c.args.content _ n _ _ _ _ _ _ _ _
     all c.form_of_file-form.ensures c.loop-before.invariant c.in-Continues.is
-    (subst (λ m. ReportsFront g.W.Write.contents c.loop-before.recovery
-    (g.P.Write.contents c.loop-before.report) (g.P.Write.contents c.miss_section.new.report)
-    (no_section_text m)) next c.in_err-miss_section-in-Continues.ensures.front))
+    (rw next at c.in_err-miss_section-in-Continues.ensures.front))

@@ -1,6 +1,9 @@
-use Rattle.tape_run.proofs.SurveyChain.{file_linked}
+use Rattle.std.proofs.Common.{◌≡◌, suc, ◌+◌, ◌-◌, append_assoc, arith}
 use Rattle.tape_run.proofs.survey.volumes.chain_of.Goals as goal
 
 pub loop-before-preserved : goal.loop-before-preserved
-loop-before-preserved c = file_linked c.args.findings.now c.args.set_id _ _ _ c.loop-before.before
-    c.args.greatest c.loop-before-test.true c.in_ok-add_file.ensures c.loop-before.invariant
+loop-before-preserved c =
+    let left = c.args.greatest - (c.loop-before.before + 1) in
+    let one : c.args.greatest - c.loop-before.before ≡ suc left =
+    omega (arith, c.loop-before-test.true) in
+    rw (c.in_ok-add_file.ensures, append_assoc) (rw one at c.loop-before.invariant)

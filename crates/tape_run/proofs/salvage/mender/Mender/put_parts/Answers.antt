@@ -1,8 +1,6 @@
-use Rattle.std.proofs.Common.{◌≡◌, ℕ, ◌∷◌, [], List, map, Ok, sym, ap, subst, ◌∙◌, append-nil}
+use Rattle.std.proofs.Common.{◌≡◌, ◌∷◌, [], map, Ok, sym, ap, subst, ◌∙◌, append-nil}
 use Rattle.std.proofs.lemmas.List.{map-append}
-use Rattle.tape_label.specs.declared.values.Format.{Format}
-use Rattle.tape_set.specs.Lawful.{FileForm}
-use Rattle.tape_blocks.specs.{Block.Portion, Block.Holds, Judged.judged, Parts.view}
+use Rattle.tape_blocks.specs.{Judged.judged, Parts.view}
 use Rattle.tape_blocks.proofs.JudgedLaws.{judged_found}
 use Rattle.tape_core.specs.Parts.{parts_in}
 use Rattle.tape_core.proofs.BlockLaws.{parts_in_it}
@@ -29,16 +27,6 @@ loop-part-preserved g c = λ start p h.
     (map-append view l.yielded (c.in-Some.part ∷ [])) ∙ with_one_more p (map view l.yielded) _))
     more
 
--- the parts of the block, by its shape
-held_in_form : (form : FileForm) (format : Format) (rec_len offset : ℕ) (block : List ℕ)
-    (parts : List Portion) → format ≡ form.format → rec_len ≡ form.rec_len → offset ≡ form.offset
-    → Holds format rec_len offset block parts
-    → Holds form.format form.rec_len form.offset block parts
-held_in_form form format rec_len offset block parts f r o h =
-    subst (λ z. Holds z form.rec_len form.offset block parts) f
-    (subst (λ z. Holds format z form.offset block parts) r
-    (subst (λ z. Holds format rec_len z block parts) o h))
-
 pub returns-clause-ok : goal.returns-clause-ok
 returns-clause-ok g c =
     let s = c.shape_of.result in
@@ -54,8 +42,6 @@ returns-clause-ok g c =
     c.in-None.ensures.steps.0 in
     let same : map view c.loop-part.yielded ≡ parts_in form c.args.block.now =
     sym (at ∙ append-nil (map view c.loop-part.yielded))
-    ∙ sym (parts_in_it form c.args.block.now h.0 (held_in_form form s.format s.rec_len s.offset
-    c.args.block.now h.0 e.format e.rec_len e.offset h.1)) in
+    ∙ sym (parts_in_it form c.args.block.now h.0 (simp (e.format, e.rec_len, e.offset) at h.1)) in
     λ start p was.
-    subst (λ z. HasPiece g.W.Write.contents start c.loop-part.self (with_parts p z)) same
-    (c.loop-part.invariant start p was)
+    rw same at (c.loop-part.invariant start p was)

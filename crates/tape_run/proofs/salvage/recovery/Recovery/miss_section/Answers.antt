@@ -1,5 +1,4 @@
-use Rattle.std.proofs.Common.{◌≡◌, ap, subst, ◌∙◌}
-use Rattle.tape_image.specs.Written.{AppendsFront}
+use Rattle.std.proofs.Common.{◌∙◌}
 use Rattle.tape_image.proofs.Pieces.{on_err, front_more, front_behind}
 use Rattle.tape_run.specs.SalvageLine.{no_section_line}
 use Rattle.tape_run.proofs.salvage.recovery.Recovery.miss_section.Goals as goal
@@ -9,12 +8,9 @@ returns-in_err-tear-clause-front g c = on_err c.from_residual.result _ (λ start
     front_more _ _ _ (no_section_line c.args.sect z.piece.records)
     (c.in_err-tear.ensures.front start z h))
 
-pub returns-in_err-write_text-clause-front : goal.returns-in_err-write_text-clause-front
-returns-in_err-write_text-clause-front g c =
-    on_err c.from_residual-in_err-write_text.result _ (λ start z h.
+pub returns-in_err-write_line-clause-front : goal.returns-in_err-write_line-clause-front
+returns-in_err-write_line-clause-front g c =
+    on_err c.from_residual-in_err-write_line.result _ (λ start z h.
     let a = c.in_ok-tear.ensures.ok start z h in
-    let line : c.deref.result.now ≡ no_section_line c.args.sect z.piece.records = c.deref.ensures.0
-    ∙ c.no_section_line.ensures
-    ∙ ap (no_section_line c.args.sect) (c.records.ensures ∙ a.0.piece.counts) in
-    front_behind _ _ _ _ _ a.1 (subst (AppendsFront (g.P.Write.contents c.tear.new.report)
-    (g.P.Write.contents c.write_text.new.writer)) line c.in_err-write_text.ensures.err))
+    front_behind _ _ _ _ _ a.1
+    (rw (c.records-records.ensures ∙ a.0.piece.counts) at c.in_err-write_line.ensures.err))
