@@ -287,11 +287,11 @@ def tidied(lines):
 
 def words_of_source():
     """Each argument of the commands with the name of its text, as in the sources."""
-    parts = [("command_line.rt",), ("words.rt",),
+    parts = [("command_line.rt",), ("command_spec.rt",), ("words.rt",),
              *((words_of(name),) for name in COMMANDS if name != "compare")]
     source = "".join(read(SOURCE, *part) for part in parts)
     rows = re.findall(r'Word\(\s*"([^"]+)",\s*Kind::(\w+).*?help::(\w+)', source, re.S)
-    options = ("Flag", "FlagOf", "TextOption", "TextOptions", "NumberOption", "NameOption")
+    options = ("Flag", "TextOption", "TextOptions", "NumberOption", "NameOption")
     pairs = {("--" + name if kind in options else name, text) for name, kind, text in rows}
     for one in re.findall(r"Arg::new\(alloc, \"[^;{}]*", source):
         name = re.search(r'\.long\("([\w-]+)"\)', one)

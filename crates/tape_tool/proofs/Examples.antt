@@ -6,19 +6,18 @@ use Rattle.std.specs.Fmt.{digits}
 use Rattle.tape_stage.specs.{declared.disk.Disk.Ghosts, Staged.new_slots}
 use Rattle.tape_stage.proofs.Once.{staged_once}
 use Rattle.tape_tool.specs.Cases.{CasesOfEnds, CasesOfFaults, CasesOfLines, CasesOfNames}
-use Rattle.tape_tool.specs.{Cases.CasesOfStaging, Ends.exit_status, Ends.IsWrongWords}
+use Rattle.tape_tool.specs.{Cases.CasesOfStaging, Ends.IsWrongWords, Names.end_byte, Names.names_in}
 use Rattle.tape_tool.specs.declared.program.End.TheVariants.{Done, Incomplete}
-use Rattle.tape_tool.specs.Names.{end_byte, names_in}
 use Rattle.tape_tool.specs.Staging.{IsOfFile, IsUnmade, first_point}
 use Rattle.tape_tool.proofs.Unmade.{unmade_nil}
 
 never_done : IsWrongWords Done → ⊥
-never_done (inl e) = absurd (let n : 0 ≡ 2 = ap exit_status e in omega arith)
-never_done (inr e) = absurd (let n : 0 ≡ 1 = ap exit_status e in omega arith)
+never_done (inl e) = cc
+never_done (inr e) = cc
 
 never_incomplete : IsWrongWords Incomplete → ⊥
-never_incomplete (inl e) = absurd (let n : 3 ≡ 2 = ap exit_status e in omega arith)
-never_incomplete (inr e) = absurd (let n : 3 ≡ 1 = ap exit_status e in omega arith)
+never_incomplete (inl e) = cc
+never_incomplete (inr e) = cc
 
 pub cases_of_ends : CasesOfEnds
 cases_of_ends = record {
@@ -38,29 +37,11 @@ cases_of_ends = record {
 }
 
 pub cases_of_faults : CasesOfFaults
-cases_of_faults = record {
-  of_files = refl;
-  of_writers = refl;
-  of_sets = λ fault. refl;
-  of_files_written = λ fault. refl;
-  of_engines = λ fault. (refl, refl);
-  of_lists = λ fault. (refl, refl);
-}
+cases_of_faults = assumption
 
 pub cases_of_lines : CasesOfLines
 unfolding digits
-cases_of_lines = record {
-  image = refl;
-  label = refl;
-  write = refl;
-  file = refl;
-  run = refl;
-  stage = refl;
-  in_use = refl;
-  no_memory = refl;
-  volumes = refl;
-  none_written = refl;
-}
+cases_of_lines = assumption
 
 no_name : (null : Bool) → names_in null [] ≡ []
 no_name true = refl

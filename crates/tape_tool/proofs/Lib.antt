@@ -1,6 +1,5 @@
 mod Sessions
 mod Unmade
-mod StageReport
 mod LinesOfVolumes
 mod ListedNames
 pub mod Sizing

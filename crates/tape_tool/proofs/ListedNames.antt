@@ -1,9 +1,9 @@
 -- Names in a list.
-use Rattle.std.proofs.Common.{◌≡◌, ℕ, zero, suc, ◌+◌, ◌<◌, ◌≤◌, nat_lt, Bool, true, false, List, []}
-use Rattle.std.proofs.Common.{◌∷◌, ◌++◌, map, length, drop, get_or, slice_get, Option, Some, None}
-use Rattle.std.proofs.Common.{refl, sym, ap, ◌∙◌, arith, cond, append_assoc, append-nil}
-use Rattle.std.proofs.{lemmas.Bool.Decides.nat_tests, lemmas.List.drop_more, lemmas.List.map-append}
-use Rattle.std.proofs.lemmas.Option.{slice_get_past}
+use Rattle.std.proofs.Common.{◌≡◌, ℕ, ◌+◌, ◌<◌, nat_lt, Bool, true, false, List, [], ◌∷◌, ◌++◌}
+use Rattle.std.proofs.Common.{map, length, take, get_or, slice_get, Option, Some, None, refl, sym}
+use Rattle.std.proofs.Common.{ap, ◌∙◌, arith, cond, append-nil}
+use Rattle.std.proofs.{lemmas.Bool.Decides.nat_tests, lemmas.List.take_more, lemmas.List.map-append}
+use Rattle.std.proofs.lemmas.{List.Elements.filter_map-append, Option.slice_get_past}
 use Rattle.std.specs.List.{cons_option, filter, filter_map}
 use Rattle.tape_tool.specs.Names.{end_byte, is_name, pieces_of, names_in}
 
@@ -32,45 +32,30 @@ all_named view words names pieces null text named cut = ap (map view) named
     ∙ map-append view words (filter (λ p. is_name (view p)) pieces)
     ∙ ap (λ v. map view words ++ v) (mapped_names view pieces ∙ ap (filter is_name) cut)
 
+taken : (f : ℕ → Option (List ℕ)) (numbers : List ℕ) (i : ℕ) → i < length numbers
+    → filter_map f (take (i + 1) numbers)
+    ≡ filter_map f (take i numbers) ++ cons_option (f (get_or numbers i 0)) []
+taken f numbers i within = ap (filter_map f) (take_more numbers i 0 within)
+    ∙ filter_map-append f (take i numbers) (get_or numbers i 0 ∷ [])
+
 -- one more place: there is a name, or none
 pub one_more : {X : Type 0} (view : X → List ℕ) (f : ℕ → Option (List ℕ)) (items more : List X)
-    (numbers rest : List ℕ) (n : ℕ) (name : X) → numbers ≡ n ∷ rest → f n ≡ Some (view name)
-    → more ≡ items ++ name ∷ []
-    → map view more ++ filter_map f rest ≡ map view items ++ filter_map f numbers
-one_more view f items more numbers rest n name is found pushed =
-    ap (λ l. map view l ++ filter_map f rest) pushed
-    ∙ ap (λ l. l ++ filter_map f rest) (map-append view items (name ∷ []))
-    ∙ append_assoc (map view items) (view name ∷ []) (filter_map f rest)
-    ∙ ap (λ l. map view items ++ l) (sym (ap (filter_map f) is
-    ∙ ap (λ o. cons_option o (filter_map f rest)) found))
+    (numbers : List ℕ) (i : ℕ) (name : X) → i < length numbers
+    → f (get_or numbers i 0) ≡ Some (view name) → more ≡ items ++ name ∷ []
+    → map view items ≡ filter_map f (take i numbers)
+    → map view more ≡ filter_map f (take (i + 1) numbers)
+one_more view f items more numbers i name within found pushed was = ap (map view) pushed
+    ∙ map-append view items (name ∷ []) ∙ ap (λ l. l ++ view name ∷ []) was
+    ∙ sym (taken f numbers i within
+    ∙ ap (λ o. filter_map f (take i numbers) ++ cons_option o []) found)
 
-pub none_more : {X : Type 0} (view : X → List ℕ) (f : ℕ → Option (List ℕ)) (items more : List X)
-    (numbers rest : List ℕ) (n : ℕ) → numbers ≡ n ∷ rest → f n ≡ None → more ≡ items
-    → map view more ++ filter_map f rest ≡ map view items ++ filter_map f numbers
-none_more view f items more numbers rest n is found same =
-    ap (λ l. map view l ++ filter_map f rest) same
-    ∙ ap (λ l. map view items ++ l) (sym (ap (filter_map f) is
-    ∙ ap (λ o. cons_option o (filter_map f rest)) found))
-
--- the number at a place, and those after it
-pub place_of : (k : ℕ) (numbers : List ℕ) (n : ℕ) → k < length numbers → n ≡ get_or numbers k n
-    → drop k numbers ≡ n ∷ drop (k + 1) numbers
-place_of k numbers n within is = drop_more numbers k n within
-    ∙ ap (λ m. m ∷ drop (k + 1) numbers) (sym is)
+pub none_more : (f : ℕ → Option (List ℕ)) (numbers : List ℕ) (i : ℕ) → i < length numbers
+    → f (get_or numbers i 0) ≡ None → filter_map f (take i numbers)
+    ≡ filter_map f (take (i + 1) numbers)
+none_more f numbers i within none = sym (taken f numbers i within
+    ∙ ap (λ o. filter_map f (take i numbers) ++ cons_option o []) none
+    ∙ append-nil (filter_map f (take i numbers)))
 
 pub slice_past : {X : Type 0} (xs : List X) (n : ℕ) → false ≡ nat_lt n (length xs)
     → slice_get xs n ≡ None
 slice_past xs n past = slice_get_past xs n (grind (arith, nat_tests))
-
-drop_over : (k : ℕ) (numbers : List ℕ) → length numbers ≤ k → drop k numbers ≡ []
-drop_over zero [] le = refl
-drop_over zero (n ∷ numbers) le = absurd (omega (arith, le))
-drop_over (suc k) [] le = refl
-drop_over (suc k) (n ∷ numbers) le = drop_over k numbers (omega arith)
-
-pub all_taken : {X : Type 0} (view : X → List ℕ) (f : ℕ → Option (List ℕ)) (items : List X) (k : ℕ)
-    (numbers : List ℕ) → length numbers ≤ k
-    → map view items ++ filter_map f (drop k numbers) ≡ filter_map f numbers
-    → map view items ≡ filter_map f numbers
-all_taken view f items k numbers le taken = sym (append-nil (map view items))
-    ∙ ap (λ l. map view items ++ filter_map f l) (sym (drop_over k numbers le)) ∙ taken

@@ -22,10 +22,9 @@ use Rattle.tape_run.specs.{declared.fault.RunFault.RunFault, SessionState.Sessio
 use Rattle.tape_run.specs.declared.fault.RunFault.TheVariants as runs
 use Rattle.tape_run.specs.declared.fault.EngineFault.TheVariants as engine
 use Rattle.tape_run.specs.declared.fault.ListFault.TheVariants as list
-use Rattle.tape_stage.specs.{Found.IsBadPlace, Salvaged.Remains, Salvaged.RemainsNone}
-use Rattle.tape_stage.specs.Staged.{Staged, HoldsNone, Holding}
+use Rattle.tape_stage.specs.{Found.IsBadPlace, Staged.Staged, Staged.HoldsNone, Staged.Holding}
+use Rattle.tape_stage.specs.{Salvaged.Remains, Salvaged.RemainsNone, declared.stage.Stage.Stage}
 use Rattle.tape_stage.specs.{Stages.Returns, Stages.Returned, declared.disk.Disk.Ghosts}
-use Rattle.tape_stage.specs.declared.stage.Stage.{Stage}
 use Rattle.tape_stage.specs.declared.stage.StageFault.TheVariants as stages
 use Rattle.tape_tool.specs.declared.fault.ToolFault.TheVariants.{Image, Label, Write, File, Run}
 use Rattle.tape_tool.specs.Ends.{exit_status, end_of, check_end, extract_end, help_end, words_end}
@@ -33,10 +32,10 @@ use Rattle.tape_tool.specs.Fault.{file_number, write_number, no_memory, of_syste
 use Rattle.tape_tool.specs.Staging.{IsOfFile, first_point, StandsAt, GoesOn, Says, IsUnopened}
 use Rattle.tape_tool.specs.{declared.program.End.End, declared.fault.ToolFault.ToolFault}
 use Rattle.tape_tool.specs.declared.program.End.TheVariants.{Done, Faulted, WrongWords, Incomplete}
-use Rattle.tape_tool.specs.declared.fault.ToolFault.TheVariants.{Stage as OfStage, StageInUse}
 use Rattle.tape_tool.specs.{Ends.no_words_end, Ends.IsRefusalEnd, Fault.of_list, Report.report}
 use Rattle.tape_tool.specs.{Names.end_byte, Names.pieces_of, Names.names_in, Diagnostics.fault_line}
 use Rattle.tape_tool.specs.Staging.{FailsBy, IsUnmade, RefusesBeginning}
+use Rattle.tape_tool.specs.declared.fault.ToolFault.TheVariants.{Stage as OfStage, StageInUse}
 use Rattle.tape_tool.specs.declared.staging.StagingFault.TheVariants as staging
 use Rattle.tape_tool.specs.declared.refusal.Refusal.TheVariants as unfits
 

@@ -1,5 +1,6 @@
 -- What `write` prints.
-use Rattle.std.specs.Prelude.{ℕ, List, [], ◌∷◌, ◌++◌, length, codes, decimal}
+use Rattle.std.specs.{Prelude.ℕ, Prelude.List, Prelude.◌++◌, Prelude.length, Prelude.codes}
+use Rattle.std.specs.{Prelude.decimal, List.flat_map}
 use Rattle.tape_writer.specs.declared.system.image_files.Ended.{Ended}
 
 -- a volume: its identifier, and how many bytes its image has
@@ -12,11 +13,6 @@ abbrev pub files_line : ℕ → ℕ → List ℕ
 files_line files volumes =
     codes "FILES " ++ decimal files ++ codes " VOLUMES " ++ decimal volumes ++ codes "\n"
 
--- the lines of volumes
-abbrev pub volume_lines : List Ended → List ℕ
-volume_lines [] = []
-volume_lines (ended ∷ more) = volume_line ended ++ volume_lines more
-
 -- a line for each volume, and a last one
 abbrev pub report : ℕ → List Ended → List ℕ
-report files ended = volume_lines ended ++ files_line files (length ended)
+report files ended = flat_map volume_line ended ++ files_line files (length ended)

@@ -16,11 +16,7 @@ pub const CHECK: &CommandSpec = &CommandSpec {
     name: "check",
     about: help::ABOUT_CHECK,
     after_help: help::AFTER_CHECK,
-    words: &[
-        Word("IMAGE", Kind::AnyTexts, help::IMAGES),
-        Word("files-from", Kind::TextOption("LIST"), help::FROM),
-        Word("null", Kind::FlagOf("files-from"), help::NULL),
-    ],
+    words: &[Word("IMAGE", Kind::Images, help::IMAGES)],
 };
 
 pub const SURVEY: &CommandSpec = &CommandSpec {
@@ -28,9 +24,7 @@ pub const SURVEY: &CommandSpec = &CommandSpec {
     about: help::ABOUT_SURVEY,
     after_help: help::AFTER_SURVEY,
     words: &[
-        Word("IMAGE", Kind::AnyTexts, help::IMAGES),
-        Word("files-from", Kind::TextOption("LIST"), help::FROM),
-        Word("null", Kind::FlagOf("files-from"), help::NULL),
+        Word("IMAGE", Kind::Images, help::IMAGES),
         Word("tsv", Kind::Flag, help::ROWS),
     ],
 };

@@ -160,11 +160,9 @@ fn order_of<'a>(alloc: Global, name: &str, words: &ArgMatches<'a>) -> Result<Ord
         "list" => Order::List(list_order(words)?),
         "check" => Order::Check(named_once(alloc, words, help::TOO_MANY_TO_CHECK)?),
         "survey" => {
-            let is_rows = words.get_flag("tsv");
-            let wording = if is_rows {
-                Wording::Rows
-            } else {
-                Wording::Words
+            let wording = match words.get_flag("tsv") {
+                true => Wording::Rows,
+                false => Wording::Words,
             };
             Order::Survey(named_once(alloc, words, help::TOO_MANY_TO_SURVEY)?, wording)
         }

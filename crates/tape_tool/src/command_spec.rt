@@ -1,6 +1,7 @@
 //! Tables of commands and their arguments.
 ghost use Rattle.tape_tool.specs.Words.{IsMistake};
 
+use crate::help;
 use crate::shown::Shown;
 use clap::builder::ValueParser;
 use clap::error::ErrorKind;
@@ -28,14 +29,12 @@ pub enum Kind {
     Number(u64, u64),
     /// One or more texts.
     Texts,
-    /// Any number of texts, also none.
-    AnyTexts,
+    /// Any number of images, also none, and the options for a list of further names.
+    Images,
     /// The same, so that a second text gets an error message of its own. Contains the usage line.
     AtMostOne(&'static str),
     /// An option without a value.
     Flag,
-    /// An option without a value, which requires the option with this name.
-    FlagOf(&'static str),
     /// An option with a text, for which help shows this name.
     TextOption(&'static str),
     /// The same, which may be repeated.
@@ -45,6 +44,11 @@ pub enum Kind {
     /// An option with one of several values: the name that help shows, the values, and the default.
     NameOption(&'static str, &'static [&'static str], &'static [&'static str]),
 }
+
+/// The options for a list of names.
+const LIST: &Word = &Word("files-from", Kind::TextOption("LIST"), help::FROM);
+
+const NULL: &Word = &Word("null", Kind::Flag, help::NULL);
 
 /// Returns the parser's command for `command_spec`, with its arguments.
 pub fn command_of<'a>(
@@ -63,8 +67,13 @@ pub fn command_of<'a>(
         .bin_name(called.as_str())?;
     for word in command_spec.words {
         command = command.arg(argument(alloc, word)?)?;
-        if let Kind::AtMostOne(usage) = word.1 {
-            command = command.override_usage(usage);
+        match word.1 {
+            Kind::AtMostOne(usage) => command = command.override_usage(usage),
+            Kind::Images => {
+                let null = argument(alloc, NULL)?.requires_arg("files-from")?;
+                command = command.arg(argument(alloc, LIST)?)?.arg(null)?;
+            }
+            _ => {}
         }
     }
     Ok(command)
@@ -77,12 +86,8 @@ fn argument<'a>(alloc: Global, word: &Word) -> Result<Arg<'a>, AllocError> {
     Ok(match *kind {
         Kind::Text | Kind::Number(_, _) => arg.required(true),
         Kind::Texts => arg.required(true).num_args(1..),
-        Kind::AnyTexts | Kind::AtMostOne(_) => arg.num_args(..),
+        Kind::Images | Kind::AtMostOne(_) => arg.num_args(..),
         Kind::Flag => arg.long(*name).action(ArgAction::SetTrue),
-        Kind::FlagOf(option) => {
-            let flag = arg.long(*name).action(ArgAction::SetTrue);
-            flag.requires_arg(option)?
-        }
         Kind::TextOption(value) => arg.long(*name).value_name(value),
         Kind::TextOptions(value) => { arg.long(*name).value_name(value).action(ArgAction::Append) }
         Kind::NumberOption(_, default) => {

@@ -56,7 +56,6 @@ pub enum FaultSite<'a> {
 impl fmt::Display for FaultSite<'_> {
     fn fmt<W: fmt::Write>(&self, f: &mut fmt::Formatter<W>) -> fmt::Result {
         match self {
-            FaultSite::Unknown => Ok(()),
             FaultSite::Volume(folder, prefix, number) => {
                 let [a, b, c] = prefix.characters.map(char::from);
                 let folder = Shown(*folder);
@@ -142,9 +141,9 @@ pub fn reason_of<R: Runtime>(rt: &R, fault: ToolFault, site: FaultSite<'_>) -> O
         _ => return None,
     }
     match site {
-        FaultSite::Image(path) | FaultSite::List(Some(path)) | FaultSite::Stage(path) => unread(
-            rt, path,
-        ),
+        FaultSite::Image(path) | FaultSite::List(Some(path)) | FaultSite::Stage(path) => {
+            unread(rt, path)
+        }
         FaultSite::Input(word) => unread(rt, split(word).1),
         FaultSite::Out(path) | FaultSite::New(path) | FaultSite::Log(path) => {
             fs::metadata(rt, folder_of(path)).err()
@@ -152,11 +151,7 @@ pub fn reason_of<R: Runtime>(rt: &R, fault: ToolFault, site: FaultSite<'_>) -> O
         FaultSite::Folder(path) | FaultSite::Images(path) | FaultSite::Volume(path, _, _) => {
             fs::metadata(rt, path).err()
         }
-        FaultSite::Unknown
-        | FaultSite::Lines
-        | FaultSite::Stdin
-        | FaultSite::List(None)
-        | FaultSite::Listed(_) => None,
+        _ => None,
     }
 }
 
@@ -164,16 +159,14 @@ pub fn reason_of<R: Runtime>(rt: &R, fault: ToolFault, site: FaultSite<'_>) -> O
 /// opened, since that might block.
 fn unread<R: Runtime>(rt: &R, path: &str) -> Option<io::Error> {
     match fs::metadata(rt, path) {
-        Ok(found) if found.is_file() || found.is_dir() => {}
-        Ok(_) => return None,
-        Err(error) => return Some(error),
+        Ok(found) if found.is_file() || found.is_dir() => {
+            File::open(rt, path)
+                .and_then(|mut file| file.read(&mut [0]))
+                .err()
+        }
+        Ok(_) => None,
+        Err(error) => Some(error),
     }
-    let mut file = match File::open(rt, path) {
-        Ok(file) => file,
-        Err(error) => return Some(error),
-    };
-    let mut byte = [0; 1];
-    file.read(&mut byte).err()
 }
 
 /// Returns the explanation of `fault`: what happened, what was saved, and what to do next.

@@ -15,11 +15,11 @@ use crate::screen::{Host, Progress};
 use crate::staging::session_in;
 use crate::words::{FORM, form_of, named, number_of, out_of, set_id_of, text_of};
 use clap::ArgMatches;
-pub use draft::{Draft, OutName};
+pub use draft::Draft;
 pub use out::{Way, way_to_out};
 pub use out_file::Output;
 use std::alloc::Global;
-use std::io::{BufWriter, Write};
+use std::io::Write;
 use std::{fs, io};
 use tape_blocks::Form;
 use tape_core::{MemorySink, PartWalk, SinkFault};
@@ -29,9 +29,6 @@ use tape_run::{
     extract_located, extract_streaming, extract_to, find_files, last_line, write_text,
 };
 use tape_set::Want;
-
-/// The maximum number of output bytes that are buffered.
-pub const HELD: usize = 65_536;
 
 /// The request to `extract`: a file of a set, to be recovered from images in their order.
 #[derive(Drop)]
@@ -61,9 +58,7 @@ pub const EXTRACT: &CommandSpec = &CommandSpec {
         Word("SET", Kind::Text, help::SET),
         Word("FILE", Kind::Number(1, 9_999), help::FILE),
         Word("OUT", Kind::Text, help::OUT),
-        Word("IMAGE", Kind::AnyTexts, help::REELS),
-        Word("files-from", Kind::TextOption("LIST"), help::FROM),
-        Word("null", Kind::FlagOf("files-from"), help::NULL),
+        Word("IMAGE", Kind::Images, help::REELS),
         FORM,
         Word("stage", Kind::TextOption("PATH"), help::STAGE),
         Word("again", Kind::Flag, help::AGAIN),
@@ -105,21 +100,15 @@ pub fn extract<'a, R: Progress>(
     let way = way_to_out(rt.host(), task.out, task.stage, order.images.list, named)?;
     let names = names_to_read(rt, task, named)?;
     let images = &mut Images::new(rt, names.as_slice());
-    if explained {
-        images.reels = Some(0);
-    }
+    images.reels = explained.then_some(0);
     let Some(path) = task.stage else {
         return Ok(extract_now(rt, task, images, way)?);
     };
-    let mut session = match session_in(rt.host(), path, task.set_id, task.file) {
-        Ok(session) => session,
-        Err(fault) => {
-            *site = FaultSite::Stage(path);
-            return Err(Refusal::from(fault));
-        }
-    };
+    *site = FaultSite::Stage(path);
+    let mut session = session_in(rt.host(), path, task.set_id, task.file)?;
+    *site = FaultSite::Out(task.out);
     let output = Output::new(rt, task.out, way)?;
-    let end = gather(rt, task, images, output, &mut io::writer(rt), &mut session);
+    let end = gather(task, images, output, &mut io::writer(rt), &mut session);
     if let End::Faulted(ToolFault::Run(_)) = end {
         *site = FaultSite::Stage(path);
     }
@@ -166,30 +155,19 @@ fn extract_now<R: Progress>(
     let output = Output::new(rt, task.out, way)?;
     match output {
         Output::New(draft) if !task.again => {
-            let Draft { mut name, file } = draft;
-            let end = match session_into(rt.alloc(), task, file) {
+            let Draft { mut name, out } = draft;
+            let sink = OutSink::new(out, task.form);
+            let end = match Session::new(rt.alloc(), task.set_id, task.file, sink) {
                 Ok(mut session) => {
                     let session = &mut session;
                     end_as_written(extract_streaming(session, images, task.form, &mut name, report))
                 }
-                Err(end) => end,
+                Err(_) => End::WrongWords,
             };
             Ok(name.ended(end))
         }
-        output => Ok(gather(rt, task, images, output, report, &mut session)),
+        output => Ok(gather(task, images, output, report, &mut session)),
     }
-}
-
-/// Returns a session whose records are written to `file`.
-fn session_into<F: Write + Drop>(
-    alloc: Global,
-    task: &Task<'_>,
-    file: F,
-) -> Result<Session<OutSink<BufWriter<F>>>, End> {
-    let out = BufWriter::with_capacity(alloc, HELD, file).map_err(|_| End::Faulted(OUT_OF_MEMORY))?;
-    Session::new(alloc, task.set_id, task.file, OutSink::new(out, task.form)).map_err(
-        |_| End::WrongWords,
-    )
 }
 
 /// Returns how the run ends: a part that could not be stored is a record that could not be written.
@@ -204,7 +182,6 @@ fn end_as_written(answer: Result<Option<Want>, EngineFault>) -> End {
 
 /// Reads the images into the session, and writes the recovered file to `output` if it is complete.
 pub fn gather<R: Progress, S: PartWalk + Drop, P: Write>(
-    rt: &R,
     task: &Task<'_>,
     images: &mut Images<'_, R>,
     output: Output<'_, R>,
@@ -212,15 +189,12 @@ pub fn gather<R: Progress, S: PartWalk + Drop, P: Write>(
     session: &mut Session<S>,
 ) -> End {
     let mut output = output;
-    if let Ok(mut out) = BufWriter::with_capacity(rt.alloc(), HELD, &mut output) {
-        let answer = if task.again {
-            extract_in_passes(session, images, task.form, &mut out, report)
-        } else {
-            extract_to(session, images, task.form, &mut out, report)
-        };
-        return out.get_mut().ended(extract_end(answer));
-    }
-    output.ended(End::Faulted(OUT_OF_MEMORY))
+    let answer = if task.again {
+        extract_in_passes(session, images, task.form, &mut output, report)
+    } else {
+        extract_to(session, images, task.form, &mut output, report)
+    };
+    output.ended(extract_end(answer))
 }
 
 /// Recovers a file from the images that contain its sections, and prints the last line if it is
@@ -233,8 +207,9 @@ pub fn extract_whole<'a, R: Progress, P: Write>(
     locations: &Locations,
     report: &mut P,
 ) -> Result<End, ToolFault> {
-    let Draft { mut name, file } = Draft::over(rt, task.out, None)?;
-    let end = match session_into(rt.alloc(), task, file) {
+    let Draft { mut name, out } = Draft::over(rt, task.out, None)?;
+    let sink = OutSink::new(out, task.form);
+    let end = match Session::new(rt.alloc(), task.set_id, task.file, sink) {
         Ok(mut session) => {
             let session = &mut session;
             match extract_located(session, images, mounted, locations, task.form, &mut name) {
@@ -246,7 +221,7 @@ pub fn extract_whole<'a, R: Progress, P: Write>(
                 Err(fault) => end_as_written(Err(fault)),
             }
         }
-        Err(end) => end,
+        Err(_) => End::WrongWords,
     };
     Ok(name.ended(end))
 }

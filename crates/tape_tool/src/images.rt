@@ -141,8 +141,8 @@ pub fn in_reading_order<'n>(
     let (set_id, file) = key;
     let numbers = met.reading_order(alloc, set_id, file, true)?;
     let mut order = Vec::new(alloc);
-    for place in 0..numbers.len() {
-        if let Some(name) = names.get(numbers[place]) {
+    for number in &numbers {
+        if let Some(name) = names.get(*number) {
             order.push(*name)?;
         }
     }
@@ -266,12 +266,11 @@ impl<'a, R: Progress> ImageSource<Image<R>> for Images<'a, R> {
             Ok(bytes) => Some(image_of(self.rt, number, self.names.len(), bytes)?),
             Err(_) => None,
         };
-        if let Some(reels) = self.reels {
-            let reel = reels.saturating_add(1);
+        if let Some(reel) = &mut self.reels {
+            *reel = reel.saturating_add(1);
             let _ = self
                 .rt
                 .eprint(format_args!("  REEL {reel}: {}\n", Shown(*name)));
-            self.reels = Some(reel);
         }
         Ok(image)
     }

@@ -9,7 +9,7 @@ use crate::screen::Progress;
 use crate::words::{folder_of, number_of, prefix_of};
 use clap::ArgMatches;
 use std::io;
-use tape_run::{flush, write_text};
+use tape_run::write_text;
 use tape_writer::Prefix;
 use tape_writer::system::{image_path, make_image};
 
@@ -53,7 +53,5 @@ pub fn init<'a, R: Progress>(
     }
     *site = FaultSite::Lines;
     let line = format!(in rt.alloc(); "INIT {}\n", order.count)?;
-    let out = &mut io::writer(rt);
-    write_text(out, line.as_bytes())?;
-    Ok(flush(out)?)
+    Ok(write_text(&mut io::writer(rt), line.as_bytes())?)
 }

@@ -45,7 +45,7 @@ pub fn list_order<'a>(matches: &ArgMatches<'a>) -> Result<ListOrder<'a>, Refusal
 }
 
 /// The fault if a buffer cannot be allocated.
-const NO_MEMORY: ToolFault = ToolFault::Image(ImageFault {
+pub const NO_MEMORY: ToolFault = ToolFault::Image(ImageFault {
     place: 0,
     cause: ImageCause::OutOfMemory,
 });

@@ -2,7 +2,7 @@
 
 use crate::command_spec::{CommandSpec, Kind, Word};
 use crate::explain::FaultSite;
-use crate::extract::{Draft, HELD, OutName};
+use crate::extract::Draft;
 use crate::fault::{FileFault, OUT_OF_MEMORY, ToolFault};
 use crate::help;
 use crate::images::{Images, Named, names_of};
@@ -12,9 +12,8 @@ use crate::screen::Progress;
 use crate::words::{named, out_of};
 use clap::ArgMatches;
 use std::alloc::Global;
-use std::fs::File;
 use std::io;
-use std::io::{BufWriter, Sink, Write};
+use std::io::{Sink, Write};
 use tape_image::{ImageCause, ImageFault};
 use tape_run::{MergeEnd, MergeStop, Place, WriteFailed, merge_now};
 
@@ -35,9 +34,7 @@ pub const MERGE: &CommandSpec = &CommandSpec {
     words: &[
         Word("OUT", Kind::Text, help::MERGED_OUT),
         Word("log", Kind::TextOption("LOG"), help::LOG),
-        Word("IMAGE", Kind::AnyTexts, help::READINGS),
-        Word("files-from", Kind::TextOption("LIST"), help::FROM),
-        Word("null", Kind::FlagOf("files-from"), help::NULL),
+        Word("IMAGE", Kind::Images, help::READINGS),
     ],
 };
 
@@ -45,11 +42,7 @@ pub const COMPARE: &CommandSpec = &CommandSpec {
     name: "compare",
     about: help::ABOUT_COMPARE,
     after_help: help::AFTER_COMPARE,
-    words: &[
-        Word("IMAGE", Kind::AnyTexts, help::READINGS),
-        Word("files-from", Kind::TextOption("LIST"), help::FROM),
-        Word("null", Kind::FlagOf("files-from"), help::NULL),
-    ],
+    words: &[Word("IMAGE", Kind::Images, help::READINGS)],
 };
 
 pub fn merge_order<'a>(alloc: Global, matches: &ArgMatches<'a>) -> Result<MergeOrder<'a>, Refusal> {
@@ -63,7 +56,8 @@ pub fn merge_order<'a>(alloc: Global, matches: &ArgMatches<'a>) -> Result<MergeO
 }
 
 /// Merges the readings named in the arguments into a new image, and creates its log if one is
-/// requested. On error, `site` says where it occurred.
+/// requested. The log gets its name before the merged image does, and loses it again if the merged
+/// image cannot get its own. On error, `site` says where it occurred.
 pub fn merge<'a, R: Progress>(
     rt: &R,
     order: &MergeOrder<'a>,
@@ -73,46 +67,29 @@ pub fn merge<'a, R: Progress>(
     let names = readings_of(rt, &order.images, &mut text, site)?;
     let names = names.as_slice();
     *site = FaultSite::New(order.out);
-    let Draft { mut name, file } = Draft::new(rt, order.out)?;
-    let end = match (BufWriter::with_capacity(rt.alloc(), HELD, file), order.log) {
-        (Ok(out), None) => {
+    let Draft { mut name, out } = Draft::new(rt, order.out)?;
+    let end = match order.log {
+        None => {
             let rows = &mut io::sink();
             merge_files(rt, &order.images, names, out, &mut name, rows, None, site)
         }
-        (Ok(out), Some(log)) => merge_logged(rt, order, log, names, out, &mut name, site),
-        (Err(_), _) => End::Faulted(OUT_OF_MEMORY),
+        Some(path) => {
+            *site = FaultSite::Log(path);
+            match Draft::new(rt, path) {
+                Ok(mut draft) => {
+                    *site = FaultSite::New(order.out);
+                    let (name, rows, log) = (&mut name, &mut draft, Some(path));
+                    let end = merge_files(rt, &order.images, names, out, name, rows, log, site);
+                    if !name.has_taken() {
+                        draft.name.give_back();
+                    }
+                    draft.name.ended(end)
+                }
+                Err(fault) => End::Faulted(fault),
+            }
+        }
     };
     Ok(name.ended(end))
-}
-
-/// Merges the images named `names`, and creates the log. The log gets its name before the merged
-/// image does, and loses it again if the merged image cannot get its own.
-fn merge_logged<'a, R: Progress>(
-    rt: &R,
-    order: &MergeOrder<'a>,
-    log: &'a str,
-    names: &[&str],
-    out: BufWriter<File>,
-    name: &mut OutName<'_, R>,
-    site: &mut FaultSite<'a>,
-) -> End {
-    *site = FaultSite::Log(log);
-    let mut draft = match Draft::new(rt, log) {
-        Ok(draft) => draft,
-        Err(fault) => return End::Faulted(fault),
-    };
-    *site = FaultSite::New(order.out);
-    let end = match BufWriter::with_capacity(rt.alloc(), HELD, &mut draft) {
-        Ok(mut rows) => {
-            let (rows, log) = (&mut rows, Some(log));
-            merge_files(rt, &order.images, names, out, name, rows, log, site)
-        }
-        Err(_) => End::Faulted(OUT_OF_MEMORY),
-    };
-    if !name.has_taken() {
-        draft.name.give_back();
-    }
-    draft.name.ended(end)
 }
 
 /// Compares the readings named in the arguments. On error, `site` says where it occurred.

@@ -133,11 +133,10 @@ pub fn way_to_take(
 /// Removes the file at `path`, which this program created, if it exists. If that fails, reports
 /// that the file remains.
 pub fn remove<R: Progress>(rt: &R, path: &str) {
-    match fs::remove_file(rt.host(), path) {
-        Err(error) if error.kind() != ErrorKind::NotFound => {
-            let name = Shown(path);
-            let _ = rt.eprint(format_args!("tape: \"{name}\" could not be removed\n"));
-        }
-        _ => {}
+    if let Err(error) = fs::remove_file(rt.host(), path)
+        && error.kind() != ErrorKind::NotFound
+    {
+        let name = Shown(path);
+        let _ = rt.eprint(format_args!("tape: \"{name}\" could not be removed\n"));
     }
 }

@@ -2,8 +2,7 @@
 
 use crate::command_spec::{CommandSpec, Kind, Word};
 use crate::explain::FaultSite;
-use crate::extract::{Draft, HELD};
-use crate::fault::OUT_OF_MEMORY;
+use crate::extract::Draft;
 use crate::help;
 use crate::images::{Images, Named, names_of};
 use crate::program::{End, check_end};
@@ -13,7 +12,6 @@ use crate::words::{form_of, named, number_of, out_of, set_id_of, text_of};
 use clap::ArgMatches;
 use std::alloc::Global;
 use std::io;
-use std::io::BufWriter;
 use tape_blocks::Form;
 use tape_run::{Content, SalvageTask, salvage_to};
 
@@ -35,9 +33,7 @@ pub const SALVAGE: &CommandSpec = &CommandSpec {
         Word("SET", Kind::Text, help::SET),
         Word("FILE", Kind::Number(1, 9_999), help::FILE),
         Word("OUT", Kind::Text, help::OUT_OF_SALVAGE),
-        Word("IMAGE", Kind::AnyTexts, help::SHELF),
-        Word("files-from", Kind::TextOption("LIST"), help::FROM),
-        Word("null", Kind::FlagOf("files-from"), help::NULL),
+        Word("IMAGE", Kind::Images, help::SHELF),
         Word(
             "form",
             Kind::NameOption("FORM", FORMS_OF_SALVAGE, &["lines"]),
@@ -80,12 +76,8 @@ pub fn salvage<'a, R: Progress>(
     let mut text = String::new(rt.alloc());
     let names = names_of(rt.host(), &order.images, &mut text, site)?;
     *site = FaultSite::Out(order.out);
-    let Draft { mut name, file } = Draft::new(rt, order.out)?;
-    let (alloc, report) = (rt.alloc(), &mut io::writer(rt));
-    let images = &mut Images::new(rt, names.as_slice());
-    let end = match BufWriter::with_capacity(alloc, HELD, file) {
-        Ok(out) => check_end(salvage_to(alloc, &order.task, images, out, &mut name, report)),
-        Err(_) => End::Faulted(OUT_OF_MEMORY),
-    };
+    let Draft { mut name, out } = Draft::new(rt, order.out)?;
+    let (images, report) = (&mut Images::new(rt, names.as_slice()), &mut io::writer(rt));
+    let end = check_end(salvage_to(rt.alloc(), &order.task, images, out, &mut name, report));
     Ok(name.ended(end))
 }

@@ -3,8 +3,8 @@ pub mod show;
 
 use crate::command_spec::{CommandSpec, Kind, Word};
 use crate::explain::FaultSite;
-use crate::extract::{HELD, Output, way_to_out};
-use crate::fault::{OUT_OF_MEMORY, ToolFault};
+use crate::extract::{Output, way_to_out};
+use crate::fault::ToolFault;
 use crate::help;
 use crate::program::{End, stage_end};
 use crate::refusal::{Refusal, open};
@@ -15,7 +15,7 @@ use clap::ArgMatches;
 use show::show_stage;
 use std::fs::{File, Metadata, OpenFile};
 use std::io;
-use std::io::{BufWriter, Error, ErrorKind, Read, Seek, SeekFrom, Write};
+use std::io::{Error, ErrorKind, Read, Seek, SeekFrom, Write};
 use tape_blocks::Form;
 use tape_stage::{BufferedFile, buffered_file};
 
@@ -62,55 +62,35 @@ pub fn stage<'a, R: Progress>(
     site: &mut FaultSite<'a>,
 ) -> Result<End, Refusal> {
     let mut way = None;
-    *site = FaultSite::Lines;
     if let Some(out) = order.out {
         *site = FaultSite::Out(out);
-        let way_out = way_to_out(rt.host(), out, Some(order.stage), None, &[])?;
-        way = Some((out, way_out));
+        way = Some(way_to_out(rt.host(), out, Some(order.stage), None, &[])?);
     }
-    let disk = match disk_of(rt.host(), order.stage) {
-        Ok(disk) => disk,
-        Err(fault) => {
-            *site = FaultSite::Stage(order.stage);
-            return Err(Refusal::from(fault));
+    *site = FaultSite::Stage(order.stage);
+    let disk = disk_of(rt.host(), order.stage)?;
+    let (alloc, report) = (rt.alloc(), &mut io::writer(rt));
+    let end = match (order.out, way) {
+        (Some(out), Some(way)) => {
+            *site = FaultSite::Out(out);
+            let (form, mut out) = (Some(order.form), Output::new(rt, out, way)?);
+            let (shown, _) = show_stage(alloc, disk, order.damaged, form, &mut out, report);
+            out.ended(stage_end(shown))
+        }
+        _ => {
+            *site = FaultSite::Lines;
+            let out = &mut io::sink();
+            stage_end(show_stage(alloc, disk, order.damaged, None, out, report).0)
         }
     };
-    let output = match way {
-        None => None,
-        Some((out, way)) => Some(Output::new(rt, out, way)?),
-    };
-    let end = show_in(rt, order, disk, output);
     if let End::Faulted(ToolFault::Stage(_)) = end {
         *site = FaultSite::Stage(order.stage);
     }
     Ok(end)
 }
 
-type StageDisk = BufferedFile<ReadOnly<File>>;
-
-/// Shows the stage on `disk`, and writes its records to `output` if there is one.
-fn show_in<R: Progress>(
-    rt: &R,
-    order: &StageOrder<'_>,
-    disk: StageDisk,
-    output: Option<Output<'_, R>>,
-) -> End {
-    let (alloc, report) = (rt.alloc(), &mut io::writer(rt));
-    let Some(mut output) = output else {
-        let out = &mut io::sink();
-        return stage_end(show_stage(alloc, disk, order.damaged, None, out, report).0);
-    };
-    if let Ok(mut out) = BufWriter::with_capacity(alloc, HELD, &mut output) {
-        let form = Some(order.form);
-        let (shown, _) = show_stage(alloc, disk, order.damaged, form, &mut out, report);
-        return out.get_mut().ended(stage_end(shown));
-    }
-    output.ended(End::Faulted(OUT_OF_MEMORY))
-}
-
 /// Opens the file of the stage at `path` for reading only, unless another run is writing to it. On
 /// a file system without locks, other runs are not excluded.
-fn disk_of<R: Host>(rt: &R, path: &str) -> Result<StageDisk, ToolFault> {
+fn disk_of<R: Host>(rt: &R, path: &str) -> Result<BufferedFile<ReadOnly<File>>, ToolFault> {
     let file = open(rt, path)?;
     locked_stage(file.try_lock_shared())?;
     buffered_file(rt.alloc(), ReadOnly { file }).map_err(|fault| ToolFault::Stage(fault))

@@ -34,9 +34,7 @@ pub const UNPACK: &CommandSpec = &CommandSpec {
     after_help: help::AFTER_UNPACK,
     words: &[
         Word("DIR", Kind::Text, help::FOLDER_OF_FILES),
-        Word("IMAGE", Kind::AnyTexts, help::SHELF),
-        Word("files-from", Kind::TextOption("LIST"), help::FROM),
-        Word("null", Kind::FlagOf("files-from"), help::NULL),
+        Word("IMAGE", Kind::Images, help::SHELF),
         FORM,
         Word("set", Kind::TextOption("SET"), help::SET_TO_UNPACK),
         Word("file", Kind::TextOptions("N|NAME"), help::FILES_TO_UNPACK),

@@ -4,11 +4,12 @@ use crate::command_line::Order;
 use crate::extract::are_files;
 use crate::images::{Images, names_of};
 use crate::screen::Progress;
+use crate::shown::Shown;
 use crate::unpack::UnpackOrder;
 use crate::words::set_id_of;
 use std::alloc::{AllocError, Global};
 use tape_label::Field;
-use tape_run::{FoundFiles, SectionKey, find_files, means, name_text, volume_of};
+use tape_run::{FoundFiles, SectionKey, find_files, means, volume_of};
 
 /// The maximum number of sets, or of files, that an explanation lists.
 const MOST: usize = 8;
@@ -152,10 +153,9 @@ impl Shelf<'_> {
         else {
             return Ok(None);
         };
-        let name = name_text(self.alloc, *name)?;
-        let name = String::from_utf8_lossy(self.alloc, name.as_slice())?;
+        let name = Shown(*name);
         let Some(volume) = volume_of(image) else {
-            return Ok(Some(name));
+            return Ok(Some(format!(in self.alloc; "{name}")?));
         };
         let volume = shown(self.alloc, &volume)?;
         Ok(Some(format!(in self.alloc; "volume {volume}, image {name}")?))

@@ -3,7 +3,7 @@
 ghost use Rattle.std.specs.Prelude.{◌≡◌, None};
 ghost use Rattle.tape_tool.specs.Guards.{is_written_in_place};
 
-use crate::fault::{FileFault, ToolFault};
+use crate::fault::{FileFault, OUT_OF_MEMORY, ToolFault};
 use crate::program::End;
 use crate::refusal::{FileId, Taking, remove, way_to_take};
 use crate::screen::{Host, Progress};
@@ -144,11 +144,14 @@ impl<R: Progress> Place<BufWriter<File>> for OutName<'_, R> {
     }
 }
 
+/// The maximum number of output bytes that are buffered.
+pub const HELD: usize = 65_536;
+
 /// A draft that gets the output's name when it is flushed, since everything is written by then.
 #[derive(Drop)]
 pub struct Draft<'a, R: Progress> {
     pub name: OutName<'a, R>,
-    pub file: File,
+    pub out: BufWriter<File>,
 }
 
 /// The maximum number of draft names that are tried.
@@ -218,7 +221,11 @@ impl<'a, R: Progress> Draft<'a, R> {
                         name.clear();
                         break;
                     }
-                    return Ok(Some(Draft { name, file }));
+                    let Ok(out) = BufWriter::with_capacity(rt.alloc(), HELD, file) else {
+                        name.clear();
+                        return Err(OUT_OF_MEMORY);
+                    };
+                    return Ok(Some(Draft { name, out }));
                 }
                 Ok(None) => {}
                 Err(kind) if is_written_in_place(kind, before.is_some()) => return Ok(None),
@@ -230,12 +237,14 @@ impl<'a, R: Progress> Draft<'a, R> {
 }
 
 impl<R: Progress> Write for Draft<'_, R> {
+    #[inline(always)]
     fn write(&mut self, buf: &[u8]) -> io::Result<usize> {
-        self.file.write(buf)
+        self.out.write(buf)
     }
 
     fn flush(&mut self) -> io::Result<()> {
-        self.name.take(&self.file)
+        self.out.flush()?;
+        self.name.take(self.out.get_ref())
     }
 }
 

@@ -95,11 +95,9 @@ fn is_one_name<R: Host>(rt: &R, one: &str, other: &str) -> Result<bool, FileFaul
     if name_in_folder(one) != name_in_folder(other) {
         return Ok(false);
     }
-    let (here, there) = (
-        fs::metadata(rt, folder_of(one)),
-        fs::metadata(rt, folder_of(other)),
-    );
-    match (found(here)?, found(there)?) {
+    let here = found(fs::metadata(rt, folder_of(one)))?;
+    let there = found(fs::metadata(rt, folder_of(other)))?;
+    match (here, there) {
         (Some(here), Some(there)) => Ok(same_file(&here, &there)),
         _ => Ok(false),
     }

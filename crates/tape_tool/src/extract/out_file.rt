@@ -1,13 +1,13 @@
 //! The files that records are written to.
-use super::draft::Draft;
+use super::draft::{Draft, HELD};
 use super::out::Way;
-use crate::fault::{FileFault, ToolFault};
+use crate::fault::{FileFault, OUT_OF_MEMORY, ToolFault};
 use crate::program::End;
 use crate::refusal::FileId;
 use crate::screen::Progress;
 use std::fs::{File, OpenOptions};
 use std::io;
-use std::io::{Error, ErrorKind, Write};
+use std::io::{BufWriter, Error, ErrorKind, Write};
 use tape_writer::system::is_unable;
 
 /// The file that the records of an output are written to.
@@ -16,7 +16,7 @@ pub enum Output<'a, R: Progress> {
     /// A new file, which gets the output's name when it is flushed.
     New(Draft<'a, R>),
     /// The output itself, because of its kind, or because its directory accepts no new files.
-    InPlace(OutFile<'a, R>),
+    InPlace(BufWriter<OutFile<'a, R>>),
 }
 
 impl<'a, R: Progress> Output<'a, R> {
@@ -29,13 +29,17 @@ impl<'a, R: Progress> Output<'a, R> {
                 None => before,
             },
         };
-        Ok(Output::InPlace(OutFile {
+        let file = OutFile {
             rt,
             path,
             before,
             file: None,
             refused: None,
-        }))
+        };
+        match BufWriter::with_capacity(rt.alloc(), HELD, file) {
+            Ok(out) => Ok(Output::InPlace(out)),
+            Err(_) => Err(OUT_OF_MEMORY),
+        }
     }
 
     /// Ends a run with `end`, or with the reason why the output could not be created. Removes a
@@ -43,7 +47,7 @@ impl<'a, R: Progress> Output<'a, R> {
     pub fn ended(&mut self, end: End) -> End {
         match self {
             Output::New(draft) => draft.name.ended(end),
-            Output::InPlace(file) => match file.refused {
+            Output::InPlace(out) => match out.get_ref().refused {
                 Some(fault) => End::Faulted(ToolFault::File(fault)),
                 None => end,
             },
@@ -52,17 +56,18 @@ impl<'a, R: Progress> Output<'a, R> {
 }
 
 impl<R: Progress> Write for Output<'_, R> {
+    #[inline(always)]
     fn write(&mut self, buf: &[u8]) -> io::Result<usize> {
         match self {
             Output::New(draft) => draft.write(buf),
-            Output::InPlace(file) => file.write(buf),
+            Output::InPlace(out) => out.write(buf),
         }
     }
 
     fn flush(&mut self) -> io::Result<()> {
         match self {
             Output::New(draft) => draft.flush(),
-            Output::InPlace(file) => file.flush(),
+            Output::InPlace(out) => out.flush(),
         }
     }
 }

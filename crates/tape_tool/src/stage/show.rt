@@ -15,7 +15,7 @@ use std::io::Write;
 use tape_blocks::Form;
 use tape_core::{Checkpoint, PartWalk};
 use tape_run::text::{put, put_decimal, put_identifier};
-use tape_run::{WriteFailed, flush, last_line, write_part, write_text};
+use tape_run::{flush, last_line, write_part, write_text};
 use tape_set::Want;
 use tape_stage::{Disk, Salvage, Stage, StageFault};
 
@@ -79,7 +79,7 @@ pub fn show_stage<D: Disk + Drop, W: Write, P: Write>(
     if let Err(fault) = write_in(&mut stage, records, form, out) {
         return (Err(fault), stage.into_disk());
     }
-    match tell(report, &point, ending, records) {
+    match write_text(report, &lines_of(&point, ending, records)) {
         Ok(()) => (Ok(ending), stage.into_disk()),
         Err(_) => {
             let fault = ToolFault::File(FileFault::WriteFailed);
@@ -102,12 +102,8 @@ fn ending_at(
 {
     match broken {
         None => Ok(StageEnding::Whole(point.position.want(point.file))),
-        Some(place) => {
-            if damaged {
-                return Ok(StageEnding::Broken(place));
-            }
-            Err(ToolFault::Stage(StageFault::BadFrame(place)))
-        }
+        Some(place) if damaged => Ok(StageEnding::Broken(place)),
+        Some(place) => Err(ToolFault::Stage(StageFault::BadFrame(place))),
     }
 }
 
@@ -148,22 +144,6 @@ fn write_in<D: Disk, W: Write>(
         }
     }
     Ok(flush(out)?)
-}
-
-/// Prints the line about the stage, and the line about its end.
-fn tell<P: Write>(
-    report: &mut P,
-    point: &Checkpoint,
-    ending: StageEnding,
-    records: u64,
-) -> Result<(), WriteFailed>
-    ensures ok { OnOk result (Appends (P.contents report.old) (P.contents report.new)
-        (told_with point.now ending records)) }
-    ensures err { OnErr result (AppendsFront (P.contents report.old) (P.contents report.new)
-        (told_with point.now ending records)) }
-{
-    write_text(report, &lines_of(point, ending, records))?;
-    flush(report)
 }
 
 /// A buffer for both lines, which are shorter.

@@ -28,8 +28,8 @@
 use super::fake_system::{Odd, called};
 use super::image::{example, payroll};
 use std::alloc::{AllocError, Global};
-use std::fs::{File, OpenOptions, Permissions};
-use std::io::{ErrorKind, Write};
+use std::fs::{OpenOptions, Permissions};
+use std::io::ErrorKind;
 use std::os::unix;
 use std::os::unix::fs::PermissionsExt;
 use std::test::Fail;
@@ -276,8 +276,7 @@ fn mode_of(text: &str) -> Permissions {
 }
 
 pub fn put(rt: &HostRuntime, path: &str, bytes: &[u8]) -> Result<bool, Fail> {
-    let mut file = File::create(rt, path)?;
-    file.write_all(bytes)?;
+    fs::write(rt, path, bytes)?;
     Ok(true)
 }
 
@@ -303,10 +302,6 @@ fn has_text(rt: &HostRuntime, path: &str, text: &str) -> Result<bool, Fail> {
     let place = place.parse::<usize>().unwrap_or(usize::MAX);
     let text = bytes_of(rt.alloc(), text)?;
     let bytes = fs::read(rt, path)?;
-    Ok(
-        bytes
-            .as_slice()
-            .get(place..)
-            .is_some_and(|rest| rest.starts_with(text.as_slice())),
-    )
+    let rest = bytes.as_slice().get(place..).unwrap_or(&[]);
+    Ok(rest.starts_with(text.as_slice()))
 }

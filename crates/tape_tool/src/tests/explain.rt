@@ -2,9 +2,9 @@
 //! missing.
 use super::calls::follow_in;
 use crate::explain::{Explanation, FaultSite};
-use crate::fault::{OUT_OF_MEMORY, ToolFault};
+use crate::fault::{FileFault, OUT_OF_MEMORY, ToolFault};
+use crate::list::NO_MEMORY;
 use std::test::Fail;
-use tape_image::{ImageCause, ImageFault};
 use tape_run::RunFault;
 
 /// Runs that end with a fault: the line about its site, and the beginning of its explanation.
@@ -20,6 +20,8 @@ const SITES: &str = "
     1: list --explain told_cut.tap
     ~   Image: told_cut.tap
     ~   The image ends in the middle of a block: it was cut off.
+    1: list told.gz --explain
+    ~   This does not look like a .tap image.
     1$ --explain list lost.tap
     ~   Image: lost.tap: No such file or directory
     ~   The image could not be opened.
@@ -68,24 +70,12 @@ fn faults_have_their_places(rt: HostRuntime) -> Result<(), Fail> {
     follow_in(&rt, "sites", SITES)
 }
 
-/// The fault of a gzip file.
-const NO_IMAGE: ToolFault = ToolFault::Image(ImageFault {
-    place: 0,
-    cause: ImageCause::Reserved(529_205_248),
-});
-
-const NO_MEMORY: ToolFault = ToolFault::Image(ImageFault {
-    place: 0,
-    cause: ImageCause::OutOfMemory,
-});
-
 /// Faults without a run here, and the beginning of their explanation.
 const TOLD: &[(ToolFault, FaultSite<'_>, &str)] = &[
     (
-        NO_IMAGE,
+        ToolFault::File(FileFault::ReadFailed),
         FaultSite::Stdin,
-        "  Image: standard input
-  This does not look like a .tap image.",
+        "  Image: standard input\n",
     ),
     (NO_MEMORY, FaultSite::Image("a.tap"), "  Out of memory."),
     (OUT_OF_MEMORY, FaultSite::Out("o"), "  Out of memory."),

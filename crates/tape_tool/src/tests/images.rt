@@ -16,7 +16,6 @@ const READ: &str = "
     0: survey check2.tap check1.tap
     3: survey check2.tap lost.tap check1.tap | survey check1.tap
     2: survey
-    0: survey --help
     # The last line of a list counts even without a line feed, and an empty line is ignored.
     put check.names check1.tap\\0A\\0Acheck2.tap
     put check.nulls check2.tap\\00
@@ -81,10 +80,8 @@ const MERGED: &str = "
     damaged log2.tap 2
     worked log3.tap
     0: merge --log log.tsv logged.tap log1.tap log2.tap
-    length log.tsv 70
-    at log.tsv 0 ITEM\\09KIND\\09log1.tap\\09log2.tap\\0A
-    at log.tsv 28 6\\09BLOCK 400\\09BAD\\09GOOD\\0A
-    at log.tsv 49 7\\09BLOCK 400\\09GOOD\\09BAD\\0A
+    has log.tsv ITEM\\09KIND\\09log1.tap\\09log2.tap\\0A6\\09BLOCK 400\\09BAD\\09GOOD\\0A\
+        7\\09BLOCK 400\\09GOOD\\09BAD\\0A
     at logged.tap 676 \\90\\01\\00\\00
     file fault 1: merge --log log.tsv log4.tap log1.tap log2.tap
     file fault 1: merge --log log1.tap log4.tap log1.tap log2.tap
@@ -92,10 +89,8 @@ const MERGED: &str = "
     file fault 2: merge --log missing/log.tsv log4.tap log1.tap log2.tap
     3: merge --log log4.tsv log4.tap log1.tap log3.tap
     2: merge --log - log4.tap log1.tap log2.tap
-    length log.tsv 70
-    at log.tsv 0 ITEM\\09KIND\\09log1.tap\\09log2.tap\\0A
-    at log.tsv 28 6\\09BLOCK 400\\09BAD\\09GOOD\\0A
-    at log.tsv 49 7\\09BLOCK 400\\09GOOD\\09BAD\\0A
+    has log.tsv ITEM\\09KIND\\09log1.tap\\09log2.tap\\0A6\\09BLOCK 400\\09BAD\\09GOOD\\0A\
+        7\\09BLOCK 400\\09GOOD\\09BAD\\0A
     missing log4.tap log4.tsv .tape-1.part .tape-2.part
     worked word1.tap
     put merge.names word1.tap\\0Aword1.tap\\0A
@@ -108,7 +103,6 @@ const MERGED: &str = "
     missing new1.tap new1.tap.part
     0: merge new1.tap --files-from merge.names
     is_worked new1.tap
-    0: merge --help | compare --help
 ";
 
 #[test]
@@ -136,7 +130,6 @@ const WRITTEN: &str = "
     2: init | init . ABC | init . ABC 0 | init . ABC 99999999999999999999 | init . ABC -1
     2: init . ABC one | init . ABC 1 2
     file fault 2: init missing ABC 1
-    0: init --help
     # The example image is written to a new file and over a blank volume, but not over a volume that
     # has files.
     records p.bin
@@ -188,7 +181,6 @@ const WRITTEN: &str = "
     2: write . WRD 100000 A=B --format S --record 80 | write . WRD 100000 A=B --form raw
     2: write . WRD 100000 A=B --format X | write . WRD 100000 A=B --form blocks
     2: write . WRD 100000 A=B --block 4294967296 | write . WRD 100000 A=B --record -1
-    0: write --help
     fill nine.txt 9996 9
     fill rest.bin 81 9
     # Faults, in the order in which they are checked.

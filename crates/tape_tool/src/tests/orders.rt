@@ -234,6 +234,8 @@ const SAID: &str = "
     | Usage: tape list [--offsets] [IMAGE]
     0: check --help
     | --explain
+    0: survey --help | compare --help | merge --help | extract --help | unpack --help
+    0: salvage --help | stage --help | init --help | write --help
     0: help list
     | zcat reel.tap.gz | tape list
     2: init '' ABC 2

@@ -2,12 +2,7 @@
 //! opened.
 use super::calls::follow_in;
 use super::fake_system::{Odd, called};
-use crate::write::report::say;
-use std::io;
-use std::io::Write;
 use std::test::Fail;
-use tape_label::Field;
-use tape_writer::system::Ended;
 
 const CALLS: &str = "
     front seen_cut.tap 2288
@@ -168,34 +163,5 @@ fn many_images(rt: HostRuntime) -> Result<(), Fail> {
         line.push_str(" lost.tap")?;
         assert_eq!(rt; called(&rt, line.as_str(), Odd::Nothing)?.status, 2);
     }
-    Ok(())
-}
-
-/// A writer that accepts all bytes, and fails at each flush.
-#[derive(Drop)]
-struct Unflushed {
-    taken: Vec<u8>,
-}
-
-impl Write for Unflushed {
-    fn write(&mut self, buf: &[u8]) -> io::Result<usize> {
-        self.taken.extend_from_slice(buf)?;
-        Ok(buf.len())
-    }
-
-    fn flush(&mut self) -> io::Result<()> {
-        Err(io::Error::from(io::ErrorKind::Other))
-    }
-}
-
-/// The lines of `write` are printed, and nothing more, even if flushing them fails.
-#[test]
-fn a_failed_flush(rt: HostRuntime) -> Result<(), Fail> {
-    let taken = Vec::new(rt.alloc());
-    let mut shut = Unflushed { taken };
-    let volume = Field::of_bytes(*b"ABC001");
-    let is_told = say(&mut shut, 1, &[Ended { volume, size: 2484 }]).is_err();
-    let wanted = b"VOLUME ABC001 2484\nFILES 1 VOLUMES 1\n".as_slice();
-    assert!(rt; is_told && shut.taken.as_slice() == wanted);
     Ok(())
 }

@@ -92,7 +92,6 @@ const UNPACKED: &str = "
     2: unpack | unpack unpacked | unpack '' unpack2.tap | unpack unpack2.tap unpack2.tap
     is_worked unpack2.tap
     file fault 2: unpack missing unpack2.tap
-    0: unpack --help
 ";
 
 #[test]
@@ -207,7 +206,6 @@ const SALVAGED: &str = "
     2: salvage | salvage ABC001 1 salvaged.word | salvage ABC001 1 - x.tap
     2: salvage ABC001 1 salvaged.word x.tap --form tap
     missing salvaged.word
-    0: salvage --help
 ";
 
 #[test]

@@ -1,19 +1,17 @@
 //! The report of `unpack`: its lines, and how many files they were about.
 
 use super::UnpackOrder;
-use crate::fault::{FaultLine, FileFault, ToolFault};
+use crate::fault::{FaultLine, ToolFault};
 use crate::program::End;
-use crate::screen::Host;
 use arrayvec::ArrayVec;
 use std::alloc::Global;
+use std::io;
 use std::io::Write;
-use std::{fs, io};
 use tape_label::Field;
 use tape_run::{
     FileChoice, FoundFiles, Notice, SetFile, Tally, UnpackOutcome, is_of_set, is_read, means,
     notice_line, report_file, report_numbers, total_line, write_text,
 };
-use tape_writer::system::found;
 
 /// The lines of the report, and how many files they were about.
 #[derive(Drop)]
@@ -75,12 +73,12 @@ fn report_absent<P: Write>(
     lines: &mut Lines<P>,
 ) -> Result<bool, ToolFault> {
     let set_id = choice.set_id;
-    if let Some(set) = order.set {
-        if !files.iter().any(|file| is_of_set(set_id, file)) {
-            lines.tally.count(UnpackOutcome::NotFound, 1);
-            notify(Notice::NoSet, set, lines)?;
-            return Ok(false);
-        }
+    if let Some(set) = order.set
+        && !files.iter().any(|file| is_of_set(set_id, file))
+    {
+        lines.tally.count(UnpackOutcome::NotFound, 1);
+        notify(Notice::NoSet, set, lines)?;
+        return Ok(false);
     }
     let mut all = true;
     for word in choice.words {
@@ -141,20 +139,12 @@ pub fn after_word(line: &[u8]) -> &[u8] {
 
 /// Returns how the recovery of a file would end, by its sections alone; the line says which one is
 /// complete on no image.
-pub fn listed<R: Host>(
-    rt: &R,
-    file: &SetFile,
-    out: &str,
-    last: &mut LastLine,
-) -> Result<End, ToolFault> {
-    if found(fs::symlink_metadata(rt, out))?.is_some() {
-        return Err(ToolFault::File(FileFault::Exists));
-    }
+pub fn listed(file: &SetFile, last: &mut LastLine) -> End {
     let Some(sect) = file.lacks else {
-        return Ok(End::Done);
+        return End::Done;
     };
     let _ = write!(last, "LACKS {sect}\n");
-    Ok(End::Incomplete)
+    End::Incomplete
 }
 
 /// A writer that remembers the last line, as far as its buffer has room.

@@ -35,13 +35,6 @@ struct Source<'n, R: Progress> {
     mounted: Option<Mounted<Image<R>>>,
 }
 
-/// The paths of an unpacked file and of its stage.
-#[derive(Drop)]
-struct Paths {
-    out: String,
-    stage: String,
-}
-
 /// Recovers every file on the images that the arguments name. On error, `site` says where it
 /// occurred.
 pub fn unpack<'a, R: Progress>(
@@ -128,23 +121,25 @@ fn unpack_file<R: Progress, P: Write>(
         out.push(char::from(*byte))?;
     }
     let stage = format!(in alloc; "{out}.stage")?;
-    unpack_to(source, file, &Paths { out, stage }, lines)
+    unpack_to(source, file, out.as_str(), stage.as_str(), lines)
 }
 
-/// Unpacks a file to `paths`, unless a file with its name exists.
+/// Unpacks a file to `out`, unless a file with its name exists, and saves what there is of an
+/// incomplete one to `stage`.
 fn unpack_to<R: Progress, P: Write>(
     source: &mut Source<'_, R>,
     file: &SetFile,
-    paths: &Paths,
+    out: &str,
+    stage: &str,
     lines: &mut Lines<P>,
 ) -> Ended {
-    let (out, stage) = (paths.out.as_str(), paths.stage.as_str());
     let mut last = LastLine::new();
     let is_list = source.order.list;
-    let done = if is_list {
-        listed(source.rt.host(), file, out, &mut last)
-    } else {
-        unpacked(source, file, paths, &mut last)
+    let done = match found(fs::symlink_metadata(source.rt.host(), out)) {
+        Ok(Some(_)) => Err(ToolFault::File(FileFault::Exists)),
+        Ok(None) if is_list => Ok(listed(file, &mut last)),
+        Ok(None) => unpacked(source, file, out, stage, &mut last),
+        Err(fault) => Err(ToolFault::File(fault)),
     };
     let (outcome, path, end) = match (done, is_list) {
         (Ok(end @ End::Done), false) => (UnpackOutcome::Complete, out, end),
@@ -163,30 +158,28 @@ fn unpack_to<R: Progress, P: Write>(
     Ok(end)
 }
 
-/// Recovers a file, unless something has its name, and removes the stage of a complete one, since
-/// the file then contains all that the stage had.
+/// Recovers a file, and removes the stage of a complete one, since the file then contains all that
+/// the stage had.
 fn unpacked<R: Progress>(
     source: &mut Source<'_, R>,
     file: &SetFile,
-    paths: &Paths,
+    out: &str,
+    stage: &str,
     last: &mut LastLine,
 ) -> Result<End, ToolFault> {
-    let (rt, stage) = (source.rt, paths.stage.as_str());
-    if found(fs::symlink_metadata(rt.host(), paths.out.as_str()))?.is_some() {
-        return Err(ToolFault::File(FileFault::Exists));
-    }
+    let rt = source.rt;
     // A link is not followed to a stage.
     let is_staged = match found(fs::symlink_metadata(rt.host(), stage))? {
         Some(there) if !there.is_file() => return Err(ToolFault::File(FileFault::NotOpened)),
         there => there.is_some(),
     };
-    match recover(source, file, paths, is_staged, last)? {
+    match recover(source, file, out, stage, is_staged, last)? {
         End::Faulted(fault) => Err(fault),
         end => {
             if end == End::Done {
                 remove(rt, stage);
                 if source.order.salvage {
-                    Salvaged::of(rt.alloc(), paths.out.as_str())?.remove(rt)?;
+                    Salvaged::of(rt.alloc(), out)?.remove(rt)?;
                 }
             }
             Ok(end)
@@ -240,14 +233,15 @@ fn salvage_file<R: Progress, P: Write>(
 fn recover<R: Progress>(
     source: &mut Source<'_, R>,
     file: &SetFile,
-    paths: &Paths,
+    out: &str,
+    stage: &str,
     is_staged: bool,
     last: &mut LastLine,
 ) -> Result<End, ToolFault> {
     let at_once = Task {
         set_id: file.set_id,
         file: file.file,
-        out: paths.out.as_str(),
+        out,
         form: source.order.form,
         stage: None,
         again: false,
@@ -269,7 +263,7 @@ fn recover<R: Progress>(
         again: true,
         ..at_once
     };
-    recover_on(source, &in_passes, paths.stage.as_str(), last)
+    recover_on(source, &in_passes, stage, last)
 }
 
 /// Recovers a file on the stage at `path` from the images that may have its missing parts, in the
@@ -297,5 +291,5 @@ fn recover_on<R: Progress>(
     }
     let images = &mut Images::new(rt, names.as_slice());
     let output = Output::New(Draft::over(rt, task.out, None)?);
-    Ok(gather(rt, task, images, output, last, &mut session))
+    Ok(gather(task, images, output, last, &mut session))
 }

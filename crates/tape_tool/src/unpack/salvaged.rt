@@ -5,7 +5,7 @@
 ghost use Rattle.std.specs.Prelude.{None};
 
 use super::report::LastLine;
-use crate::extract::{Draft, HELD};
+use crate::extract::Draft;
 use crate::fault::{FileFault, ToolFault};
 use crate::images::Images;
 use crate::program::{End, end_of};
@@ -42,13 +42,13 @@ struct Summed {
 }
 
 impl Summed {
-    /// Creates a buffered writer to `file`, which also computes the checksum of the bytes.
-    fn new(alloc: Global, file: File) -> Result<Summed, ToolFault> {
-        Ok(Summed {
-            out: BufWriter::with_capacity(alloc, HELD, file).map_err(|_| AllocError)?,
+    /// Creates a writer to `out`, which also computes the checksum of the bytes.
+    fn new(out: BufWriter<File>) -> Summed {
+        Summed {
+            out,
             sum: Sha256::new(),
             last: LastLine::new(),
-        })
+        }
     }
 }
 
@@ -109,21 +109,19 @@ impl Salvaged {
         last: &mut LastLine,
     ) -> Result<(), ToolFault> {
         let (records, report) = self.earlier(rt.host())?;
-        let Draft { mut name, file } = Draft::over(rt, self.records.as_str(), records)?;
+        let Draft { mut name, out } = Draft::over(rt, self.records.as_str(), records)?;
         let end = match Draft::over(rt, self.report.as_str(), report) {
             Ok(draft) => {
                 let Draft {
                     name: mut of_report,
-                    file: lines,
+                    out: lines,
                 } = draft;
-                let end = match written(rt, task, names, file, lines, last) {
-                    Ok((records, report)) => {
-                        let placed = of_report.place(report).and_then(|()| name.place(records));
-                        end_of(placed.map_err(|fault| ToolFault::from(fault)))
-                    }
-                    Err(fault) => End::Faulted(fault),
-                };
-                of_report.ended(end)
+                let done = written(rt, task, names, out, lines, last);
+                let placed = done.and_then(|(records, report)| {
+                    of_report.place(report)?;
+                    Ok(name.place(records)?)
+                });
+                of_report.ended(end_of(placed))
             }
             Err(fault) => End::Faulted(fault),
         };
@@ -180,12 +178,12 @@ fn written<R: Progress>(
     rt: &R,
     task: &SalvageTask,
     names: &[&str],
-    records: File,
-    lines: File,
+    records: BufWriter<File>,
+    lines: BufWriter<File>,
     last: &mut LastLine,
 ) -> Result<(BufWriter<File>, BufWriter<File>), ToolFault> {
     let alloc = rt.alloc();
-    let mut report = Summed::new(alloc, lines)?;
+    let mut report = Summed::new(lines);
     for (number, name) in names.iter().enumerate() {
         let front = format!(in alloc; "FROM {} ", number.saturating_add(1))?;
         write_text(&mut report, front.as_bytes())?;
@@ -194,8 +192,8 @@ fn written<R: Progress>(
     }
     let mut kept = Kept(None);
     let images = &mut Images::new(rt, names);
-    let out = Summed::new(alloc, records)?;
-    salvage_to(alloc, task, images, out, &mut kept, &mut report)?;
+    let records = Summed::new(records);
+    salvage_to(alloc, task, images, records, &mut kept, &mut report)?;
     let Some(records) = kept.0 else {
         return Err(ToolFault::File(FileFault::WriteFailed));
     };

@@ -6,7 +6,7 @@ ghost use Rattle.tape_tool.specs.Report.{volume_line, files_line, report};
 use arrayvec::ArrayVec;
 use std::io::Write;
 use tape_run::text::{put, put_decimal};
-use tape_run::{WriteFailed, flush, write_text};
+use tape_run::{WriteFailed, write_text};
 use tape_writer::system::Ended;
 
 /// A buffer for one line. The last line is the longest one.
@@ -16,8 +16,7 @@ type Line = ArrayVec<u8, 64>;
 ///
 /// # Errors
 ///
-/// Returns `WriteFailed` if a write or the flush fails. In each case the text printed so far is a
-/// prefix of the lines.
+/// Returns `WriteFailed` if a write fails. The text printed so far is then a prefix of the lines.
 pub fn say<W: Write>(writer: &mut W, files: u64, ended: &[Ended]) -> Result<(), WriteFailed>
     ensures ok { OnOk result
         (Appends (W.contents writer.old) (W.contents writer.new) (report files ended.now)) }
@@ -27,8 +26,7 @@ pub fn say<W: Write>(writer: &mut W, files: u64, ended: &[Ended]) -> Result<(), 
     for volume in ended {
         write_text(writer, &volume_line(volume))?;
     }
-    write_text(writer, &files_line(files, ended.len() as u64))?;
-    flush(writer)
+    write_text(writer, &files_line(files, ended.len() as u64))
 }
 
 /// Returns the line about a volume.

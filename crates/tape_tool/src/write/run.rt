@@ -98,11 +98,8 @@ fn record_length(order: &WriteOrder<'_>) -> u32
 
 /// Returns the head of the file that argument `word` names.
 fn head_for(word: &str) -> Result<Head1, ToolFault> {
-    let (id, _) = split(word);
-    match Field::new(id) {
-        Ok(file_id) => Ok(head_of(file_id)),
-        Err(fault) => Err(ToolFault::Label(fault)),
-    }
+    let file_id = Field::new(split(word).0).map_err(|fault| ToolFault::Label(fault))?;
+    Ok(head_of(file_id))
 }
 
 /// Returns a file's identifier and its path: the text before and after the first equals sign.
@@ -164,20 +161,16 @@ fn find_inputs<'r, 'a: 'r, R: Host>(
 /// was refused.
 fn look_ahead<R: Host>(rt: &R, order: &WriteOrder<'_>) -> Result<(), Refusal> {
     let images = images_of(rt, order)?;
+    let images = images.as_slice();
     if images.is_empty() {
         return Ok(());
     }
     for word in order.files.as_slice() {
         let (_, path) = split(word);
-        match found(fs::metadata(rt, path))? {
-            Some(input)
-                if images
-                    .as_slice()
-                    .iter()
-                    .any(|image| same_file(image, &input)) => {
-                return Err(Refusal::Words(help::INPUT_IS_IMAGE));
-            }
-            _ => {}
+        if let Some(input) = found(fs::metadata(rt, path))?
+            && images.iter().any(|image| same_file(image, &input))
+        {
+            return Err(Refusal::Words(help::INPUT_IS_IMAGE));
         }
     }
     Ok(())

@@ -1,15 +1,13 @@
-use Rattle.std.proofs.Common.{◌≡◌, ℕ, false, refl, sym, subst, Option, Some}
+use Rattle.std.proofs.Common.{◌≡◌, ℕ, false, refl, sym, ap, subst, ◌∙◌, Option, Some}
+use Rattle.std.specs.Io.KnownBytes.{Appends}
 use Rattle.std.proofs.KnownBytes.{Keeps-refl}
 use Rattle.tape_core.specs.Weight.{Rose}
 use Rattle.tape_stage.specs.{OnlyReading.OnlyReads, Salvaged.Remains, declared.disk.Disk.Ghosts}
 use Rattle.tape_stage.specs.declared.stage.StageFault.TheVariants.{BadFrame, Failed, Full}
-use Rattle.tape_stage.proofs.Remaining.{broken_bad, broken_none, none_staged}
+use Rattle.tape_image.specs.Written.{AppendsFront}
+use Rattle.tape_stage.proofs.Remaining.{broken_bad, broken_none, none_staged, whole_staged}
 use Rattle.tape_stage.proofs.{Passing.reads_then, Results.no_frame_any, Results.no_frame_says}
-use Rattle.tape_tool.specs.StageReport.{GivesFront, in_part, in_records, unopened}
-use Rattle.tape_tool.specs.declared.fault.ToolFault.TheVariants.{File}
-use Rattle.tape_tool.specs.declared.stage.show.StageEnding.{StageEnding}
-use Rattle.tape_writer.specs.declared.system.fault.FileFault.TheVariants.{WriteFailed}
-use Rattle.tape_tool.proofs.StageReport.{gives_front, shows}
+use Rattle.tape_tool.specs.StageReport.{in_lines, in_part, in_records, told_with, unopened}
 use Rattle.tape_tool.proofs.stage.show.show_stage.Goals as goal
 
 -- ---- no stage was opened
@@ -55,33 +53,41 @@ returns-in-Err-write_in-clause-err g c honest =
 
 -- ---- the lines could not be printed
 
-pub returns-in-Err-tell-clause-err : goal.returns-in-Err-tell-clause-err
-returns-in-Err-tell-clause-err g c honest =
+pub returns-in-Err-write_text-clause-err : goal.returns-in-Err-write_text-clause-err
+returns-in-Err-write_text-clause-err g c honest =
     let opened = c.in-Ok.opened in
     let found = c.in-Ok.ensures.remains honest in
     let ends = c.in-Ok-ending_at.ensures.ok in
-    let wrote = c.in_default.ensures.ok found.1 found.3 found.4 in
-    let out = g.W.Write.contents c.args.out.now in
-    let written = g.W.Write.contents c.write_in.new.out in
-    let said = g.P.Write.contents c.args.report.now in
-    let says = g.P.Write.contents c.tell.new.report in
     in_part found.0 opened.point opened.broken found.1 found.2 ends.1
-    (subst (λ (ending : StageEnding). GivesFront opened.point ending c.args.form out written said
-    says found.1 (File WriteFailed)) ends.0
-    (gives_front opened.point c.in-Ok-ending_at.ending c.args.form out written said says found.1
-    opened.records found.4 wrote c.in-Err-tell.ensures.err))
+    (in_lines (c.in_default.ensures.ok found.1 found.3 found.4)
+    (subst (AppendsFront (g.P.Write.contents c.args.report.now)
+    (g.P.Write.contents c.write_text.new.writer)) (c.deref.ensures.0 ∙ c.lines_of.ensures
+    ∙ ap (λ e. told_with opened.point e opened.records) ends.0
+    ∙ ap (told_with opened.point _) found.4) c.in-Err-write_text.ensures.err) refl)
 
 -- ---- everything succeeded
 
-pub returns-in-Ok-tell-clause-ok : goal.returns-in-Ok-tell-clause-ok
-returns-in-Ok-tell-clause-ok g c honest =
+pub returns-in-Ok-write_text-clause-ok : goal.returns-in-Ok-write_text-clause-ok
+returns-in-Ok-write_text-clause-ok g c honest =
     let opened = c.in-Ok.opened in
     let found = c.in-Ok.ensures.remains honest in
     let ends = c.in-Ok-ending_at.ensures.ok in
-    let wrote = c.in_default.ensures.ok found.1 found.3 found.4 in
-    shows opened.point c.in-Ok-ending_at.ending c.args.form _ _ _ _ found.1
-    (g.D.Disk.seen c.args.disk) c.args.damaged found.0 opened.broken opened.records
-    found.2 ends.1 ends.0 found.4 wrote c.in-Ok-tell.ensures.ok
+    record {
+      generation = found.0;
+      point = opened.point;
+      broken = opened.broken;
+      parts = found.1;
+      remains = found.2;
+      whole = λ no. (ends.1 no, whole_staged _ found.0 _ _ found.1 (ends.1 no) found.2);
+      ends = ends.0;
+      gives = record {
+        wrote = c.in_default.ensures.ok found.1 found.3 found.4;
+        told = subst (Appends (g.P.Write.contents c.args.report.now)
+            (g.P.Write.contents c.write_text.new.writer)) (c.deref.ensures.0 ∙ c.lines_of.ensures
+            ∙ ap (told_with opened.point c.in-Ok-ending_at.ending) found.4)
+            c.in-Ok-write_text.ensures.ok;
+      };
+    }
 
 -- ---- the disk is only read, and failed if Device is returned
 
@@ -111,16 +117,16 @@ returns-in-Err-write_in-clause-cause g c honest told =
     (subst (λ n. Rose n (g.D.Disk.faults c.write_in.new.stage.disk)) e.calm.1
     (c.in-Err-write_in.ensures.cause (cc told) e.sealed.1 found.1 found.3 found.4))
 
-pub returns-in-Err-tell-clause-reads : goal.returns-in-Err-tell-clause-reads
-returns-in-Err-tell-clause-reads g c =
+pub returns-in-Err-write_text-clause-reads : goal.returns-in-Err-write_text-clause-reads
+returns-in-Err-write_text-clause-reads g c =
     let e = c.in-Ok.ensures in
     read_twice g.D.Disk _ _ _ _ (λ h. (e.remains h).3.honest
     (c.in-Ok.opened.stage.settled e.sealed.1)) e.reads c.write_in.ensures.reads
-    c.into_disk-in-Err-tell.ensures
+    c.into_disk-in-Err-write_text.ensures
 
-pub returns-in-Ok-tell-clause-reads : goal.returns-in-Ok-tell-clause-reads
-returns-in-Ok-tell-clause-reads g c =
+pub returns-in-Ok-write_text-clause-reads : goal.returns-in-Ok-write_text-clause-reads
+returns-in-Ok-write_text-clause-reads g c =
     let e = c.in-Ok.ensures in
     read_twice g.D.Disk _ _ _ _ (λ h. (e.remains h).3.honest
     (c.in-Ok.opened.stage.settled e.sealed.1)) e.reads c.write_in.ensures.reads
-    c.into_disk-in-Ok-tell.ensures
+    c.into_disk-in-Ok-write_text.ensures
