@@ -2,9 +2,10 @@
 
 ghost use Rattle.std.specs.Prelude.{◌≡◌, ◌<◌, ◌≤◌, ◌^◌, ℕ, [], Ok, Some};
 ghost use Rattle.tape_label.specs.{Vol1.IsVol1, Head1.IsHead1, Head1.HeadFits, Head2.Head2Fits};
-ghost use Rattle.tape_label.specs.{Trail1.IsTrail1, Trail1.TrailFits, Kinds.IsSecond, Laws.readings};
-ghost use Rattle.tape_label.specs.{Cases.CasesOfNumbers, Widths.IsWide, Widths.IsWideVolume};
-ghost use Rattle.tape_label.specs.{Laws.IsNotBoth, Laws.IsSecondLabel, Kinds.HasKind};
+ghost use Rattle.tape_label.specs.{Trail1.IsTrail1, Trail1.TrailFits, Cases.CasesOfNumbers};
+ghost use Rattle.tape_label.specs.Kinds.{IsSecond, HasKind};
+ghost use Rattle.tape_label.specs.Widths.{IsWide, IsWideVolume};
+ghost use Rattle.tape_label.specs.Laws.{IsNotBoth, IsSecondLabel, readings};
 
 use crate::label::LabelFault;
 use crate::reading::{digits_of, digits_value, read_head1, read_head2, read_trail1, read_vol1};
