@@ -160,9 +160,10 @@ fn order_of<'a>(alloc: Global, name: &str, words: &ArgMatches<'a>) -> Result<Ord
         "list" => Order::List(list_order(words)?),
         "check" => Order::Check(named_once(alloc, words, help::TOO_MANY_TO_CHECK)?),
         "survey" => {
-            let wording = match words.get_flag("tsv") {
-                true => Wording::Rows,
-                false => Wording::Words,
+            let wording = if words.get_flag("tsv") {
+                Wording::Rows
+            } else {
+                Wording::Words
             };
             Order::Survey(named_once(alloc, words, help::TOO_MANY_TO_SURVEY)?, wording)
         }

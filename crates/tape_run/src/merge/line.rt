@@ -100,16 +100,11 @@ pub(crate) fn reading_line<R: Read>(
 {
     let name = name_at(names, number);
     let (image, items, bad) = (number + 1, reading.items, reading.bad);
-    match stop_of(reading) {
-        Some(stop) => {
-            let text = format!(in alloc; "IMAGE {image} {items} {bad} {stop}")?;
-            with_name(alloc, text, name)
-        }
-        None => {
-            let text = format!(in alloc; "IMAGE {image} {items} {bad} -")?;
-            with_name(alloc, text, name)
-        }
-    }
+    let text = match stop_of(reading) {
+        Some(stop) => format!(in alloc; "IMAGE {image} {items} {bad} {stop}")?,
+        None => format!(in alloc; "IMAGE {image} {items} {bad} -")?,
+    };
+    with_name(alloc, text, name)
 }
 
 /// Returns how a reading stopped, if it has.
@@ -138,25 +133,14 @@ pub(crate) fn has_line<R: Read>(
 {
     let name = name_at(names, number);
     let (image, kind, from) = (number + 1, kind_of(reading.length), reading.from);
-    match reading.verdict {
-        Verdict::First => {
-            let text = format!(in alloc; "HAS {image} A {kind} {from}")?;
-            with_name(alloc, text, name)
-        }
-        Verdict::Second => {
-            let text = format!(in alloc; "HAS {image} B {kind} {from}")?;
-            with_name(alloc, text, name)
-        }
-        Verdict::Third => {
-            let text = format!(in alloc; "HAS {image} C {kind} {from}")?;
-            with_name(alloc, text, name)
-        }
-        Verdict::Bad => {
-            let text = format!(in alloc; "HAS {image} - BAD {from}")?;
-            with_name(alloc, text, name)
-        }
-        Verdict::Ended | Verdict::Failed(_) => Ok(Vec::new(alloc)),
-    }
+    let text = match reading.verdict {
+        Verdict::First => format!(in alloc; "HAS {image} A {kind} {from}")?,
+        Verdict::Second => format!(in alloc; "HAS {image} B {kind} {from}")?,
+        Verdict::Third => format!(in alloc; "HAS {image} C {kind} {from}")?,
+        Verdict::Bad => format!(in alloc; "HAS {image} - BAD {from}")?,
+        Verdict::Ended | Verdict::Failed(_) => return Ok(Vec::new(alloc)),
+    };
+    with_name(alloc, text, name)
 }
 
 /// Returns an item that could be read, given its length: no block is empty.
