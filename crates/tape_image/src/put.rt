@@ -3,10 +3,9 @@
 //! This loop replaces std's `write_all`, which calls an interrupted writer again: here any error is
 //! a failure. A writer that accepts no bytes has failed too, and is not called again.
 
-ghost use Rattle.std.specs.Prelude.{◌≡◌, ◌≤◌, length, take, replicate, OnOk, OnErr, IsOkUnless};
-ghost use Rattle.std.specs.Io.KnownBytes.{Appends};
+ghost use Rattle.std.specs.Prelude.{◌≡◌, ◌≤◌, length, take, replicate};
 ghost use Rattle.byteorder.specs.Endian.{little_bytes};
-ghost use Rattle.tape_image.specs.{Written.AppendsFront, Written.written_block, Word.longest_block};
+ghost use Rattle.tape_image.specs.{Written.Writes, Written.written_block, Word.longest_block};
 
 use crate::item::ImageWriteFault;
 use byteorder::{ByteOrder, LittleEndian};
@@ -21,10 +20,7 @@ const SPELLED: usize = SHORT + 9;
 
 /// Writes all of `bytes`, or a prefix of them if the writer fails.
 pub(crate) fn put<W: Write>(device: &mut W, bytes: &[u8]) -> Result<(), ImageWriteFault>
-    ensures ok { OnOk result (Appends (W.contents device.old) (W.contents device.new) bytes.now) }
-    ensures err { OnErr result
-        (AppendsFront (W.contents device.old) (W.contents device.new) bytes.now) }
-    ensures fault { IsOkUnless result ImageWriteFault.Device }
+    ensures { Writes (W.contents device.old) (W.contents device.new) bytes.now result }
 {
     let mut rest = bytes;
     'writes: while !rest.is_empty() {
@@ -39,11 +35,7 @@ pub(crate) fn put<W: Write>(device: &mut W, bytes: &[u8]) -> Result<(), ImageWri
 
 /// Writes a word, least significant byte first.
 pub(crate) fn put_word<W: Write>(device: &mut W, word: u32) -> Result<(), ImageWriteFault>
-    ensures ok { OnOk result
-        (Appends (W.contents device.old) (W.contents device.new) (little_bytes 4 word)) }
-    ensures err { OnErr result
-        (AppendsFront (W.contents device.old) (W.contents device.new) (little_bytes 4 word)) }
-    ensures fault { IsOkUnless result ImageWriteFault.Device }
+    ensures { Writes (W.contents device.old) (W.contents device.new) (little_bytes 4 word) result }
 {
     let mut bytes = [0u8; 4];
     LittleEndian::write_u32(&mut bytes, word);
@@ -52,11 +44,7 @@ pub(crate) fn put_word<W: Write>(device: &mut W, word: u32) -> Result<(), ImageW
 
 /// Writes the last word, and flushes the writer.
 pub(crate) fn put_last<W: Write>(device: &mut W, word: u32) -> Result<(), ImageWriteFault>
-    ensures ok { OnOk result
-        (Appends (W.contents device.old) (W.contents device.new) (little_bytes 4 word)) }
-    ensures err { OnErr result
-        (AppendsFront (W.contents device.old) (W.contents device.new) (little_bytes 4 word)) }
-    ensures fault { IsOkUnless result ImageWriteFault.Device }
+    ensures { Writes (W.contents device.old) (W.contents device.new) (little_bytes 4 word) result }
 {
     put_word(device, word)?;
     match device.flush() {
@@ -68,11 +56,8 @@ pub(crate) fn put_last<W: Write>(device: &mut W, word: u32) -> Result<(), ImageW
 /// Writes a block: its word, its bytes, a pad byte if their number is odd, and its word again.
 pub(crate) fn put_block<W: Write>(device: &mut W, content: &[u8]) -> Result<(), ImageWriteFault>
     requires { length content.now ≤ longest_block }
-    ensures ok { OnOk result
-        (Appends (W.contents device.old) (W.contents device.new) (written_block content.now)) }
-    ensures err { OnErr result
-        (AppendsFront (W.contents device.old) (W.contents device.new) (written_block content.now)) }
-    ensures fault { IsOkUnless result ImageWriteFault.Device }
+    ensures { Writes (W.contents device.old) (W.contents device.new)
+        (written_block content.now) result }
 {
     if content.len() <= SHORT {
         let mut spelled = [0u8; SPELLED];

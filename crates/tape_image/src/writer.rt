@@ -4,7 +4,7 @@ ghost use Rattle.std.specs.Prelude.{◌≡◌};
 ghost use Rattle.byteorder.specs.Endian.{little_bytes};
 ghost use Rattle.tape_image.specs.{Tape.bad, Tape.mark, Word.end_word, Written.written};
 
-use crate::block::{BAD, END, IMAGE_LIMIT, LONGEST_BLOCK, MARK, WORD, extent_of_block};
+use crate::block::{BAD, END, Found, IMAGE_LIMIT, LONGEST_BLOCK, MARK, WORD};
 use crate::item::ImageWriteFault;
 use crate::put::{put, put_block, put_last, put_word};
 use std::io::Write;
@@ -89,7 +89,7 @@ impl<W: Write + Drop> ImageWriter<W> {
         if content.is_empty() || content.len() > LONGEST_BLOCK as usize {
             return Err(ImageWriteFault::BlockLength);
         }
-        let extent = extent_of_block(content.len() as u32);
+        let extent = Found::Block(content.len() as u32).extent();
         self.has_room(extent)?;
         let put = put_block(&mut self.device, content);
         self.note(put, extent, Phase::Open)
