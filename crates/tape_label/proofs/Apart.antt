@@ -1,14 +1,16 @@
 -- No block is two kinds of label, and a reading function refuses all other kinds.
 use Rattle.std.proofs.Common.{arith, ◌≡◌, ℕ, List, [], ◌∷◌, length, Bool, true, false, cond, eqb}
-use Rattle.std.proofs.Common.{Option, None, Some, Err, refl, sym, subst, ◌∙◌}
+use Rattle.std.proofs.Common.{Option, None, Some, Result, Ok, Err, refl, sym, subst, ◌∙◌}
 use Rattle.std.proofs.{lemmas.Bool.eqb-true, lemmas.Slice.Eq.bytes_eq-Decides}
 use Rattle.std.specs.{List.find, Str.bytes_eq}
 use Rattle.tape_label.specs.Kinds.{identifier, HasKind, IsFirstTrailer, IsSecond, kind_named}
 use Rattle.tape_label.specs.{Kinds.kind_at, declared.values.Kind.Kind, Positions.positions}
-use Rattle.tape_label.specs.Reading.{vol1_at, head1_at, trail1_at, end_at, head2_at}
+use Rattle.tape_label.specs.Reading.{◌>>=◌, eighty, of_kind, begins_as, vol1_fields, vol1_at}
+use Rattle.tape_label.specs.Reading.{head_at, head1_at, trail1_at, end_at, head2_at}
+use Rattle.tape_label.specs.{declared.label.LabelFault.LabelFault, Labels.no_kind}
 use Rattle.tape_label.specs.declared.label.LabelFault.TheVariants as faults
 use Rattle.tape_label.specs.declared.values.Kind.TheVariants as kinds
-use Rattle.tape_label.proofs.Steps.{size_again}
+use Rattle.tape_label.proofs.Steps.{size_again, begins_found}
 
 -- ---- the kind as a function of the block
 
@@ -51,18 +53,6 @@ HasKind-unique block a b p q = some_is a b (sym (kind_again block a p) ∙ kind_
 
 -- ---- labels of other kinds
 
-pub vol1_refuses : (block : List ℕ) (kind : Kind) → HasKind block kind → (kind ≡ kinds.Vol1 → ⊥)
-    → vol1_at block ≡ Err faults.Identifier
-unfolding vol1_at
-vol1_refuses block kinds.Vol1 has other = absurd (other refl)
-vol1_refuses block _ has other = rw (size_again block has.size, has.named) refl
-
-pub head1_refuses : (block : List ℕ) (kind : Kind) → HasKind block kind → (kind ≡ kinds.Hdr1 → ⊥)
-    → head1_at block ≡ Err faults.Identifier
-unfolding head1_at
-head1_refuses block kinds.Hdr1 has other = absurd (other refl)
-head1_refuses block _ has other = rw (size_again block has.size, has.named) refl
-
 pub head2_refuses : (block : List ℕ) (kind : Kind) → HasKind block kind → (IsSecond kind → ⊥)
     → head2_at block ≡ Err faults.Identifier
 unfolding head2_at
@@ -77,3 +67,61 @@ unfolding trail1_at end_at
 trail1_refuses block kinds.Eof1 has other = absurd (other tt)
 trail1_refuses block kinds.Eov1 has other = absurd (other tt)
 trail1_refuses block _ has other = rw (size_again block has.size, has.named) refl
+
+-- ---- blocks of no expected kind
+
+-- a block of 80 characters that is not of a kind does not begin as that kind
+begins_otherwise : (label : List ℕ) (kind : Kind) (b : Bool) → begins_as label kind ≡ b
+    → (HasKind label kind → ⊥) → length label ≡ 80 → b ≡ false
+begins_otherwise label kind true e none size =
+    absurd (none (record { size = size; named = begins_found label kind e }))
+begins_otherwise label kind false e none size = refl
+
+-- the first two tests of a block that is not of the kind
+tests_refuse : {A : Type 0} (label : List ℕ) (kind : Kind) (next : Result A LabelFault)
+    → (HasKind label kind → ⊥)
+    → (eighty label >>= λ _. of_kind label kind >>= λ _. next) ≡ Err (no_kind label)
+tests_refuse label kind next none = go (eqb (length label) 80) refl
+  where
+    go : (b : Bool) → eqb (length label) 80 ≡ b
+        → (eighty label >>= λ _. of_kind label kind >>= λ _. next) ≡ Err (no_kind label)
+    go true e =
+        let z = begins_otherwise label kind (begins_as label kind) refl none (eqb-true _ _ e) in
+        rw (e, z) refl
+    go false e = rw e refl
+
+pub vol1_none : (label : List ℕ) → (HasKind label kinds.Vol1 → ⊥)
+    → vol1_at label ≡ Err (no_kind label)
+unfolding vol1_at
+vol1_none label none = tests_refuse label kinds.Vol1 (Ok (vol1_fields label)) none
+
+pub head1_none : (label : List ℕ) → (HasKind label kinds.Hdr1 → ⊥)
+    → head1_at label ≡ Err (no_kind label)
+unfolding head1_at
+head1_none label none = tests_refuse label kinds.Hdr1 (head_at label) none
+
+pub head2_none : (label : List ℕ) → ((kind : Kind) → IsSecond kind → HasKind label kind → ⊥)
+    → head2_at label ≡ Err (no_kind label)
+unfolding head2_at
+head2_none label none = go (eqb (length label) 80) refl
+  where
+    go : (b : Bool) → eqb (length label) 80 ≡ b → head2_at label ≡ Err (no_kind label)
+    go true e =
+        let no : (kind : Kind) → IsSecond kind → begins_as label kind ≡ false =
+        λ kind is. begins_otherwise label kind (begins_as label kind) refl (none kind is)
+        (eqb-true _ _ e) in
+        rw (e, no kinds.Hdr2 tt, no kinds.Eof2 tt, no kinds.Eov2 tt) refl
+    go false e = rw e refl
+
+pub trail1_none : (label : List ℕ) → ((kind : Kind) → IsFirstTrailer kind → HasKind label kind → ⊥)
+    → trail1_at label ≡ Err (no_kind label)
+unfolding trail1_at end_at
+trail1_none label none = go (eqb (length label) 80) refl
+  where
+    go : (b : Bool) → eqb (length label) 80 ≡ b → trail1_at label ≡ Err (no_kind label)
+    go true e =
+        let no : (kind : Kind) → IsFirstTrailer kind → begins_as label kind ≡ false =
+        λ kind is. begins_otherwise label kind (begins_as label kind) refl (none kind is)
+        (eqb-true _ _ e) in
+        rw (e, no kinds.Eof1 tt, no kinds.Eov1 tt) refl
+    go false e = rw e refl

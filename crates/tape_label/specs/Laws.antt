@@ -1,5 +1,5 @@
 -- Laws about labels. Each is the contract of a function of the module `laws`.
-use Rattle.std.specs.Prelude.{◌≡◌, ℕ, ◌+◌, List, Result, Ok, Err}
+use Rattle.std.specs.Prelude.{ℕ, ◌+◌, List, Result, Ok, Err}
 use Rattle.tape_label.specs.declared.{label.LabelFault.LabelFault, values.Kind.Kind}
 use Rattle.tape_label.specs.{declared.values.Head2.Head2, Head2.IsHead2}
 use Rattle.tape_label.specs.Reading.{vol1_at, head1_at, head2_at, trail1_at}

@@ -112,6 +112,7 @@ pub enum Label {
 ///
 /// Returns `NotEighty` if the block does not have 80 characters; `Identifier` if it does not begin
 /// with the identifier of one of the seven kinds; otherwise the fault of the function for its kind.
+#[tactic(auto, unfolding(crate::specs::Labels::label_at))]
 pub fn read_label(block: &[u8]) -> Result<Label, LabelFault>
     // A label that is read has these fields,
     ensures found { IfOk result (IsLabel block.now) }
@@ -125,27 +126,18 @@ pub fn read_label(block: &[u8]) -> Result<Label, LabelFault>
     // The result is this function of the block.
     ensures exact { result ≡ label_at block.now }
 {
-    label_at(block)
+    match kind(block) {
+        None => Err(no_kind(block)),
+        Some(Kind::Vol1) => Ok(Label::Vol1(read_vol1(block)?)),
+        Some(Kind::Hdr1) => Ok(Label::Head1(read_head1(block)?)),
+        Some(Kind::Eof1 | Kind::Eov1) => Ok(Label::Trail1(read_trail1(block)?)),
+        Some(kind) => Ok(Label::Second(kind, read_head2(block)?)),
+    }
 }
 
-/// Reads the label by its kind.
-#[tactic(auto, unfolding(crate::specs::Labels::label_at))]
-fn label_at(block: &[u8]) -> Result<Label, LabelFault>
-    ensures { result ≡ label_at block.now }
-{
-    let Some(kind) = kind(block) else {
-        return Err(no_kind(block));
-    };
-    Ok(match kind {
-        Kind::Vol1 => Label::Vol1(read_vol1(block)?),
-        Kind::Hdr1 => Label::Head1(read_head1(block)?),
-        Kind::Hdr2 | Kind::Eof2 | Kind::Eov2 => Label::Second(kind, read_head2(block)?),
-        Kind::Eof1 | Kind::Eov1 => Label::Trail1(read_trail1(block)?),
-    })
-}
-
-/// Returns the reason why a block that is of none of the seven kinds is not a label.
-fn no_kind(block: &[u8]) -> LabelFault
+/// Returns the reason why a block that is of none of the expected kinds is not such a label:
+/// `NotEighty`, or `Identifier` if it has 80 characters.
+pub fn no_kind(block: &[u8]) -> LabelFault
     ensures { result ≡ no_kind block.now }
 {
     if block.len() == 80 {

@@ -5,11 +5,10 @@
 mod label;
 pub mod laws;
 mod reading;
-mod text;
 mod values;
 mod writing;
 
-pub use label::{Label, LabelFault, is_volume_label, kind, read_label};
+pub use label::{Label, LabelFault, is_volume_label, kind, no_kind, read_label};
 pub use reading::{digits_of, digits_value, read_head1, read_head2, read_trail1, read_vol1};
 pub use values::{
     Field, Format, Head1, Head2, Kind, Trail1, Vol1, first_other, is_a_character, same_field,

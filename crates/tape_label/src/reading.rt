@@ -4,12 +4,12 @@ ghost use Rattle.std.specs.Prelude.{◌≡◌, ◌≢◌, IfOk, Ok, Err, length,
 ghost use Rattle.std.specs.Prelude.{IfSome, Some, None, if◌then◌else◌};
 ghost use Rattle.std.specs.Str.{all_ascii_digits};
 ghost use Rattle.tape_label.specs.Reading.{vol1_at, vol1_fields, head_at, head1_at, trail1_at};
-ghost use Rattle.tape_label.specs.Reading.{head2_at, character_at, number_at, end_at, format_at};
+ghost use Rattle.tape_label.specs.Reading.{head2_at, character_at, number_at, format_at};
 ghost use Rattle.tape_label.specs.{Vol1.IsVol1, Head1.IsHead1, Head2.IsHead2, Trail1.IsTrail1};
 ghost use Rattle.tape_label.specs.Kinds.{HasKind, IsFirstTrailer, IsSecond};
-ghost use Rattle.tape_label.specs.{Reading.offset_at, Digits.digits, Digits.number_of};
+ghost use Rattle.tape_label.specs.Digits.{digits, number_of};
 
-use crate::label::LabelFault;
+use crate::label::{LabelFault, kind, no_kind};
 use crate::values::{Format, Head1, Head2, Kind, Trail1, Vol1, field_at};
 
 /// Returns the number with the given digits, which may have leading zeros, or `None` if a byte is
@@ -77,22 +77,9 @@ pub(crate) fn number_at(label: &[u8], first: u8, last: u8, least: u64) -> Result
     }
 }
 
-/// Returns true for `EOF1` and false for `EOV1`.
-#[tactic(auto, unfolding(crate::specs::Reading::end_at))]
-pub(crate) fn end_at(label: &[u8]) -> Result<bool, LabelFault>
-    requires { length label.now ≡ 80 }
-    ensures { result ≡ end_at label.now }
-{
-    match &label[..4] {
-        b"EOF1" => Ok(true),
-        b"EOV1" => Ok(false),
-        _ => Err(LabelFault::Identifier),
-    }
-}
-
 /// Reads the record format of a second label.
 #[tactic(auto, unfolding(crate::specs::Reading::format_at))]
-pub(crate) fn format_at(label: &[u8]) -> Result<Format, LabelFault>
+fn format_at(label: &[u8]) -> Result<Format, LabelFault>
     requires { length label.now ≡ 80 }
     ensures { result ≡ format_at label.now }
 {
@@ -104,26 +91,13 @@ pub(crate) fn format_at(label: &[u8]) -> Result<Format, LabelFault>
     }
 }
 
-/// Reads the buffer offset of a second label. Some systems leave the field blank if the offset is
-/// 0.
-#[tactic(auto, unfolding(crate::specs::Reading::offset_at))]
-pub(crate) fn offset_at(label: &[u8]) -> Result<u8, LabelFault>
-    requires { length label.now ≡ 80 }
-    ensures { result ≡ offset_at label.now }
-{
-    if &label[50..52] == b"  ".as_slice() {
-        return Ok(0);
-    }
-    let offset = number_at(label, 51, 52, 0)?;
-    Ok(offset as u8)
-}
-
 /// Reads a volume label (ECMA-13, 4th edition, "Volume Header Label"). Accepts any version at
 /// position 80 and anything in reserved positions.
 ///
 /// # Errors
 ///
 /// Returns `NotEighty`; then `Identifier` if the label does not begin with `VOL1`.
+#[tactic(auto, unfolding(crate::specs::Reading::vol1_at))]
 pub fn read_vol1(label: &[u8]) -> Result<Vol1, LabelFault>
     // A label that is read has these fields,
     ensures found { IfOk result (IsVol1 label.now) }
@@ -137,7 +111,16 @@ pub fn read_vol1(label: &[u8]) -> Result<Vol1, LabelFault>
     // and for any other block the first fault is returned.
     ensures fault { result ≡ vol1_at label.now }
 {
-    vol1_at(label)
+    let Some(Kind::Vol1) = kind(label) else {
+        return Err(no_kind(label));
+    };
+    Ok(Vol1 {
+        volume: field_at(label, 5),
+        access: character_at(label, 11),
+        implementation: field_at(label, 25),
+        owner: field_at(label, 38),
+        version: character_at(label, 80),
+    })
 }
 
 /// Reads a first header label (ECMA-13, 4th edition, "First File Header Label"). Accepts any block
@@ -148,6 +131,7 @@ pub fn read_vol1(label: &[u8]) -> Result<Vol1, LabelFault>
 /// Returns, in this order: `NotEighty`; `Identifier` if the label does not begin with `HDR1`;
 /// `NotDigits(28)` and `FieldRange(28)` for the section number; `NotDigits(32)` and
 /// `FieldRange(32)` for the sequence number.
+#[tactic(auto, unfolding(crate::specs::Reading::head1_at))]
 pub fn read_head1(label: &[u8]) -> Result<Head1, LabelFault>
     ensures found { IfOk result (IsHead1 label.now) }
     ensures only { (fields : Head1) → IsHead1 label.now fields → result ≡ Ok fields }
@@ -155,7 +139,10 @@ pub fn read_head1(label: &[u8]) -> Result<Head1, LabelFault>
         → result ≡ Err LabelFault.Identifier }
     ensures fault { result ≡ head1_at label.now }
 {
-    head1_at(label)
+    let Some(Kind::Hdr1) = kind(label) else {
+        return Err(no_kind(label));
+    };
+    head_at(label)
 }
 
 /// Reads a second header or trailer label, `HDR2`, `EOF2` or `EOV2` (ECMA-13, 4th edition, "Second
@@ -167,6 +154,7 @@ pub fn read_head1(label: &[u8]) -> Result<Head1, LabelFault>
 /// Returns, in this order: `NotEighty`; `Identifier` if the label begins otherwise; `Format`;
 /// `NotDigits(6)` for the block length; `NotDigits(11)` for the record length, and `FieldRange(11)`
 /// if it is 0 and the format is `Fixed`; `NotDigits(51)` for the buffer offset.
+#[tactic(auto, unfolding(crate::specs::Reading::head2_at, crate::specs::Reading::offset_at))]
 pub fn read_head2(label: &[u8]) -> Result<Head2, LabelFault>
     ensures found { IfOk result (λ fields. (which : Kind) × IsHead2 label.now which fields) }
     ensures only { (which : Kind) (fields : Head2) → IsHead2 label.now which fields
@@ -175,7 +163,28 @@ pub fn read_head2(label: &[u8]) -> Result<Head2, LabelFault>
         → result ≡ Err LabelFault.Identifier }
     ensures fault { result ≡ head2_at label.now }
 {
-    head2_at(label)
+    let Some(Kind::Hdr2 | Kind::Eof2 | Kind::Eov2) = kind(label) else {
+        return Err(no_kind(label));
+    };
+    let format = format_at(label)?;
+    let block_len = number_at(label, 6, 10, 0)? as u32;
+    let least = match format {
+        Format::Fixed => 1,
+        Format::Counted | Format::Spanned => 0,
+    };
+    let rec_len = number_at(label, 11, 15, least)? as u32;
+    // Some systems leave the field blank if the offset is 0.
+    let offset = if &label[50..52] == b"  ".as_slice() {
+        0
+    } else {
+        number_at(label, 51, 52, 0)? as u8
+    };
+    Ok(Head2 {
+        format,
+        block_len,
+        rec_len,
+        offset,
+    })
 }
 
 /// Reads a first trailer label, `EOF1` or `EOV1` (ECMA-13, 4th edition, end of file and end of
@@ -185,6 +194,7 @@ pub fn read_head2(label: &[u8]) -> Result<Head2, LabelFault>
 ///
 /// The errors are those of `read_head1`, with the identifiers `EOF1` and `EOV1`, and then
 /// `NotDigits(55)` for the block count.
+#[tactic(auto, unfolding(crate::specs::Reading::trail1_at))]
 pub fn read_trail1(label: &[u8]) -> Result<Trail1, LabelFault>
     ensures found { IfOk result (IsTrail1 label.now) }
     ensures only { (fields : Trail1) → IsTrail1 label.now fields → result ≡ Ok fields }
@@ -192,27 +202,14 @@ pub fn read_trail1(label: &[u8]) -> Result<Trail1, LabelFault>
         → result ≡ Err LabelFault.Identifier }
     ensures fault { result ≡ trail1_at label.now }
 {
-    trail1_at(label)
-}
-
-/// Returns the volume label, or the fault of the first test that fails.
-#[tactic(auto, unfolding(crate::specs::Reading::vol1_at))]
-fn vol1_at(label: &[u8]) -> Result<Vol1, LabelFault>
-    ensures { result ≡ vol1_at label.now }
-{
-    if label.len() != 80 {
-        return Err(LabelFault::NotEighty);
-    }
-    if &label[..4] != b"VOL1".as_slice() {
-        return Err(LabelFault::Identifier);
-    }
-    Ok(Vol1 {
-        volume: field_at(label, 5),
-        access: character_at(label, 11),
-        implementation: field_at(label, 25),
-        owner: field_at(label, 38),
-        version: character_at(label, 80),
-    })
+    let eof = match kind(label) {
+        Some(Kind::Eof1) => true,
+        Some(Kind::Eov1) => false,
+        _ => return Err(no_kind(label)),
+    };
+    let head = head_at(label)?;
+    let blocks = number_at(label, 55, 60, 0)? as u32;
+    Ok(Trail1 { eof, head, blocks })
 }
 
 /// Reads the fields that first header labels and first trailer labels share.
@@ -234,61 +231,5 @@ fn head_at(label: &[u8]) -> Result<Head1, LabelFault>
         expires: field_at(label, 48),
         access: character_at(label, 54),
         implementation: field_at(label, 61),
-    })
-}
-
-/// Returns the first header label, or the fault of the first test that fails.
-#[tactic(auto, unfolding(crate::specs::Reading::head1_at))]
-fn head1_at(label: &[u8]) -> Result<Head1, LabelFault>
-    ensures { result ≡ head1_at label.now }
-{
-    if label.len() != 80 {
-        return Err(LabelFault::NotEighty);
-    }
-    if &label[..4] != b"HDR1".as_slice() {
-        return Err(LabelFault::Identifier);
-    }
-    head_at(label)
-}
-
-/// Returns the first trailer label, or the fault of the first test that fails.
-#[tactic(auto, unfolding(crate::specs::Reading::trail1_at))]
-fn trail1_at(label: &[u8]) -> Result<Trail1, LabelFault>
-    ensures { result ≡ trail1_at label.now }
-{
-    if label.len() != 80 {
-        return Err(LabelFault::NotEighty);
-    }
-    let eof = end_at(label)?;
-    let head = head_at(label)?;
-    let blocks = number_at(label, 55, 60, 0)? as u32;
-    Ok(Trail1 { eof, head, blocks })
-}
-
-/// Returns the second label, or the fault of the first test that fails.
-#[tactic(auto, unfolding(crate::specs::Reading::head2_at))]
-fn head2_at(label: &[u8]) -> Result<Head2, LabelFault>
-    ensures { result ≡ head2_at label.now }
-{
-    if label.len() != 80 {
-        return Err(LabelFault::NotEighty);
-    }
-    match &label[..4] {
-        b"HDR2" | b"EOF2" | b"EOV2" => {}
-        _ => return Err(LabelFault::Identifier),
-    }
-    let format = format_at(label)?;
-    let block_len = number_at(label, 6, 10, 0)? as u32;
-    let least = match format {
-        Format::Fixed => 1,
-        Format::Counted | Format::Spanned => 0,
-    };
-    let rec_len = number_at(label, 11, 15, least)? as u32;
-    let offset = offset_at(label)?;
-    Ok(Head2 {
-        format,
-        block_len,
-        rec_len,
-        offset,
     })
 }

@@ -1,19 +1,25 @@
-use Rattle.std.proofs.Common.{sym, ◌∙◌}
-use Rattle.tape_label.specs.Vol1.{IsVol1}
-use Rattle.tape_label.proofs.First.{vol1_found, vol1_again, vol1_kind}
-use Rattle.tape_label.proofs.{Steps.is_found, Apart.vol1_refuses}
+use Rattle.std.proofs.Common.{◌≡◌, Err, refl, ap, sym, ◌∙◌, arith}
+use Rattle.tape_label.specs.{Kinds.HasKind, Labels.no_kind}
+use Rattle.tape_label.specs.declared.values.Kind.TheVariants as kinds
+use Rattle.tape_label.specs.declared.label.LabelFault.TheVariants as faults
+use Rattle.tape_label.proofs.Apart.{vol1_none}
 use Rattle.tape_label.proofs.reading.read_vol1.Goals as goal
 
-pub returns-clause-found : goal.returns-clause-found
-returns-clause-found c = is_found c.vol1_at.result (IsVol1 c.args.label.now)
-    (λ x e. vol1_found c.args.label.now x (sym c.vol1_at.ensures ∙ e))
-
-pub returns-clause-only : goal.returns-clause-only
-returns-clause-only c = λ x is. c.vol1_at.ensures ∙ vol1_again c.args.label.now x is
-
-pub returns-clause-other : goal.returns-clause-other
-returns-clause-other c =
-    λ kind has other. c.vol1_at.ensures ∙ vol1_refuses c.args.label.now kind has other
-
-pub returns-clause-any : goal.returns-clause-any
-returns-clause-any c = λ has. c.vol1_at.ensures ∙ vol1_kind c.args.label.now has
+pub returns-in_default : goal.returns-in_default
+returns-in_default c =
+    let label = c.args.label.now in
+    let none : HasKind label kinds.Vol1 → ⊥ = λ has.
+    let e = c.kind.ensures.only kinds.Vol1 has in
+    elim c.in_default.branch [
+      | goal.in_default-via-in-Some+in_default w ↦ grind arith
+      | goal.in_default-via-in_default w ↦ grind arith
+    ] in
+    record {
+      found = tt;
+      only = λ fields is. absurd (none is.kind);
+      any = λ has. absurd (none has);
+      other = λ kind has other.
+          let z : no_kind label ≡ faults.Identifier = rw has.size refl in
+          ap Err (c.no_kind.ensures ∙ z);
+      fault = ap Err c.no_kind.ensures ∙ sym (vol1_none label none);
+    }

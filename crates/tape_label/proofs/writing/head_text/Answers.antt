@@ -1,5 +1,5 @@
 use Rattle.std.proofs.Common.{append_assoc}
-use Rattle.tape_label.proofs.text.head_text.Goals as goal
+use Rattle.tape_label.proofs.writing.head_text.Goals as goal
 
 pub returns-clause-text : goal.returns-clause-text
 returns-clause-text c =

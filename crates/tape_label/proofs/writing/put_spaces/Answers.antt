@@ -1,5 +1,5 @@
 use Rattle.std.proofs.{Common.ℕ, Common.refl, Common.arith, lemmas.List.take-replicate}
-use Rattle.tape_label.proofs.text.put_spaces.Goals as goal
+use Rattle.tape_label.proofs.writing.put_spaces.Goals as goal
 
 pub returns-clause-items : goal.returns-clause-items
 returns-clause-items c =
