@@ -4,7 +4,7 @@ ghost use Rattle.std.specs.Prelude.{◌≡◌, Bool, List, IfOk, IfErr, Ok, Err,
 ghost use Rattle.std.specs.Prelude.{IfSome, None};
 ghost use Rattle.tape_blocks.specs.{declared.check.BlockFault.BlockFault, Numbers.cause_number};
 ghost use Rattle.tape_blocks.specs.{Checked.Passes, Units.unit_at, Units.counted, Units.padding_by};
-ghost use Rattle.tape_blocks.specs.Block.{Portion, Holds, first_other, span_by};
+ghost use Rattle.tape_blocks.specs.Block.{Portion, Holds, first_other};
 ghost use Rattle.tape_blocks.specs.{Faults.HasFault, Judged.judged, Spans.InOrder};
 
 use crate::parts::{Shape, Span};
@@ -84,11 +84,11 @@ pub(crate) struct Found {
     pub len: usize,
 }
 
-/// Returns a fault with `cause` at offset 0.
-fn fault(cause: BlockCause) -> Result<Option<Found>, BlockFault>
-    ensures { result ≡ Err (record { place = 0; cause = cause }) }
+/// Returns the fault `cause` at `place`.
+fn refuse<T>(place: usize, cause: BlockCause) -> Result<T, BlockFault>
+    ensures { result ≡ Err (record { place = place; cause = cause }) }
 {
-    Err(BlockFault { place: 0, cause })
+    Err(BlockFault { place, cause })
 }
 
 /// Returns the index of the first byte that is not a circumflex, or `None` if all bytes are
@@ -108,23 +108,7 @@ fn padding(bytes: &[u8]) -> Result<Option<Found>, BlockFault>
 {
     match first_other(bytes) {
         None => Ok(None),
-        Some(place) => Err(BlockFault {
-            place,
-            cause: BlockCause::BadPadding,
-        }),
-    }
-}
-
-/// Returns the span with the given indicator, or `None` if there is no such span.
-fn span_by(indicator: u8) -> Option<Span>
-    ensures { result ≡ span_by indicator }
-{
-    match indicator {
-        b'0' => Some(Span::Whole),
-        b'1' => Some(Span::First),
-        b'2' => Some(Span::Middle),
-        b'3' => Some(Span::Last),
-        _ => None,
+        Some(place) => refuse(place, BlockCause::BadPadding),
     }
 }
 
@@ -139,12 +123,12 @@ fn counted(span: Span, head: usize, bytes: &[u8]) -> Result<Option<Found>, Block
     ensures place { IfErr result (λ f. f.place ≡ 0) }
 {
     if bytes.len() < head {
-        return fault(BlockCause::BadCount);
+        return refuse(0, BlockCause::BadCount);
     }
     match digits_value(&bytes[head - 4..head]) {
-        None => fault(BlockCause::BadCount),
-        Some(count) if (count as usize) < head => fault(BlockCause::BadCount),
-        Some(count) if bytes.len() < count as usize => fault(BlockCause::PastEnd),
+        None => refuse(0, BlockCause::BadCount),
+        Some(count) if (count as usize) < head => refuse(0, BlockCause::BadCount),
+        Some(count) if bytes.len() < count as usize => refuse(0, BlockCause::PastEnd),
         Some(count) => Ok(Some(Found {
             span,
             head,
@@ -153,31 +137,8 @@ fn counted(span: Span, head: usize, bytes: &[u8]) -> Result<Option<Found>, Block
     }
 }
 
-/// Reads a record of `rec_len` bytes. Fewer bytes than that must be padding.
-#[tactic(auto, unfolding(crate::specs::Units::unit_at))]
-#[inline(always)]
-fn fixed(rec_len: usize, bytes: &[u8]) -> Result<Option<Found>, BlockFault>
-    ensures exact { result ≡ unit_at Format.Fixed rec_len bytes.now }
-    ensures inside { IfOk result (λ unit. IfSome unit (λ found.
-        (found.head ≤ found.len) × (found.len ≤ length bytes.now))) }
-    ensures more { IfOk result (λ unit. IfSome unit (λ found. found.len ≡ rec_len)) }
-    ensures place { IfErr result (λ f. f.place ≡ 0) }
-{
-    if bytes.len() >= rec_len {
-        return Ok(Some(Found {
-            span: Span::Whole,
-            head: 0,
-            len: rec_len,
-        }));
-    }
-    match first_other(bytes) {
-        None => Ok(None),
-        Some(_) => fault(BlockCause::NotMultiple),
-    }
-}
-
-/// Reads the unit at the start of `bytes`, or returns `None` for padding. The offset of a fault is
-/// counted from the start of `bytes`.
+/// Reads the unit at the start of `bytes`, or returns `None` for padding; in format F fewer bytes
+/// than `rec_len` must be padding. The offset of a fault is counted from the start of `bytes`.
 #[tactic(auto, unfolding(crate::specs::Units::unit_at))]
 #[inline(always)]
 pub(crate) fn unit_at(
@@ -193,54 +154,31 @@ pub(crate) fn unit_at(
     ensures place { IfErr result (λ f. f.place ≤ length bytes.now) }
 {
     match format {
-        Format::Fixed => fixed(rec_len, bytes),
+        Format::Fixed if bytes.len() >= rec_len => Ok(Some(Found {
+            span: Span::Whole,
+            head: 0,
+            len: rec_len,
+        })),
+        Format::Fixed => match first_other(bytes) {
+            None => Ok(None),
+            Some(_) => refuse(0, BlockCause::NotMultiple),
+        },
         Format::Counted => match bytes {
             [] => Ok(None),
             [b'^', ..] => padding(bytes),
             _ => counted(Span::Whole, 4, bytes),
         },
-        Format::Spanned => match bytes {
-            [] => Ok(None),
-            [b'^', ..] => padding(bytes),
-            [indicator, ..] => match span_by(*indicator) {
-                None => fault(BlockCause::BadIndicator),
-                Some(span) => counted(span, 5, bytes),
-            },
-        },
-    }
-}
-
-/// Refuses the block, with `cause` at `place`.
-fn refuse(place: usize, cause: BlockCause) -> Result<bool, BlockFault>
-    ensures { result ≡ Err (record { place = place; cause = cause }) }
-{
-    Err(BlockFault { place, cause })
-}
-
-/// Walks over the units of a block, up to the first offset at which no unit in span order begins.
-fn judge(shape: &Shape, begun: bool, block: &[u8]) -> Result<bool, BlockFault>
-    ensures { result ≡ judged shape.now.format shape.now.rec_len shape.now.offset begun block.now }
-{
-    let offset = usize::from(shape.offset);
-    if block.len() < offset {
-        return refuse(0, BlockCause::ShortOffset);
-    }
-    let mut going = begun;
-    let mut place = offset;
-    'units: loop {
-        if place == block.len() {
-            return Ok(going);
-        }
-        match unit_at(shape.format, shape.rec_len as usize, &block[place..]) {
-            Err(fault) => return refuse(place + fault.place, fault.cause),
-            Ok(None) => return Ok(going),
-            Ok(Some(found)) => {
-                if found.span.continues() != going {
-                    return refuse(place, BlockCause::SpanBroken);
-                }
-                going = found.span.leaves();
-                place += found.len;
-            }
+        Format::Spanned => {
+            let span = match bytes {
+                [] => return Ok(None),
+                [b'^', ..] => return padding(bytes),
+                [b'0', ..] => Span::Whole,
+                [b'1', ..] => Span::First,
+                [b'2', ..] => Span::Middle,
+                [b'3', ..] => Span::Last,
+                _ => return refuse(0, BlockCause::BadIndicator),
+            };
+            counted(span, 5, bytes)
         }
     }
 }
@@ -281,5 +219,27 @@ pub fn check_block(shape: &Shape, begun: bool, block: &[u8]) -> Result<bool, Blo
     ensures exact { result
         ≡ judged shape.now.format shape.now.rec_len shape.now.offset begun block.now }
 {
-    judge(shape, begun, block)
+    let offset = usize::from(shape.offset);
+    if block.len() < offset {
+        return refuse(0, BlockCause::ShortOffset);
+    }
+    let mut going = begun;
+    let mut place = offset;
+    // Walks over the units, up to the first offset at which no unit in span order begins.
+    'units: loop {
+        if place == block.len() {
+            return Ok(going);
+        }
+        match unit_at(shape.format, shape.rec_len as usize, &block[place..]) {
+            Err(fault) => return refuse(place + fault.place, fault.cause),
+            Ok(None) => return Ok(going),
+            Ok(Some(found)) => {
+                if found.span.continues() != going {
+                    return refuse(place, BlockCause::SpanBroken);
+                }
+                going = found.span.leaves();
+                place += found.len;
+            }
+        }
+    }
 }

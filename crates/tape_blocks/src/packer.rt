@@ -11,7 +11,7 @@ ghost use Rattle.tape_blocks.specs.Packing.{IsRefused, emptied, size_of, with_pa
 
 use crate::offer::{Offer, PackFault};
 use crate::parts::Shape;
-use crate::put::{put_padding, put_unit};
+use crate::put::put_unit;
 use crate::writing::{has_record_length, has_room, head_len, padded_len, span};
 use std::alloc::{AllocError, Global};
 use std::marker::Model;
@@ -170,7 +170,7 @@ impl Packer {
             return None;
         }
         let end = padded_len(&self.shape, self.len);
-        put_padding(self.block.as_mut_slice(), self.len, end);
+        self.block[self.len..end].fill(b'^');
         self.len = offset;
         self.closed = false;
         Some(&self.block[..end])

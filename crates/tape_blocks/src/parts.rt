@@ -2,7 +2,7 @@
 
 ghost use Rattle.std.specs.Prelude.{◌≡◌, ◌≤◌, List, ◌↔◌, IsTrue, false};
 ghost use Rattle.tape_label.specs.declared.values.Format.TheVariants.{Fixed};
-ghost use Rattle.tape_blocks.specs.Spans.{continues, leaves};
+ghost use Rattle.tape_blocks.specs.{Block.indicator, Spans.continues, Spans.leaves};
 
 use crate::check::unit_at;
 use tape_label::{Format, Head2};
@@ -113,6 +113,18 @@ impl Span {
         ensures { result ≡ leaves self }
     {
         matches!(self, Span::First | Span::Middle)
+    }
+
+    /// Returns the indicator of the span, a digit from `0` to `3`.
+    pub fn indicator(self) -> u8
+        ensures { result ≡ indicator self }
+    {
+        match self {
+            Span::Whole => b'0',
+            Span::First => b'1',
+            Span::Middle => b'2',
+            Span::Last => b'3',
+        }
     }
 }
 

@@ -1,8 +1,8 @@
 //! Writes into a block that has room.
 
-ghost use Rattle.std.specs.Prelude.{◌≡◌, ◌≢◌, ◌+◌, ◌-◌, ◌<◌, ◌≤◌, ◌++◌, length, take, replicate};
+ghost use Rattle.std.specs.Prelude.{◌≡◌, ◌≢◌, ◌+◌, ◌<◌, ◌≤◌, ◌++◌, length, take};
 ghost use Rattle.tape_label.specs.Digits.{digits};
-ghost use Rattle.tape_blocks.specs.Block.{spelling, indicator, head_len};
+ghost use Rattle.tape_blocks.specs.Block.{spelling, head_len};
 
 use crate::parts::Span;
 use crate::writing::head_len;
@@ -27,18 +27,6 @@ fn put_count(block: &mut [u8], place: usize, count: usize)
     put(block, place, &digits_of::<4>(count as u64));
 }
 
-/// Returns the indicator of the span.
-fn indicator(span: Span) -> u8
-    ensures { result ≡ indicator span }
-{
-    match span {
-        Span::Whole => b'0',
-        Span::First => b'1',
-        Span::Middle => b'2',
-        Span::Last => b'3',
-    }
-}
-
 /// Writes the unit of a part at offset `place`.
 pub(crate) fn put_unit(block: &mut [u8], place: usize, format: Format, span: Span, bytes: &[u8])
     requires room { place + (head_len format + length bytes.now) ≤ length block.old }
@@ -51,19 +39,9 @@ pub(crate) fn put_unit(block: &mut [u8], place: usize, format: Format, span: Spa
         Format::Fixed => {}
         Format::Counted => put_count(block, place, 4 + bytes.len()),
         Format::Spanned => {
-            put(block, place, &[indicator(span)]);
+            put(block, place, &[span.indicator()]);
             put_count(block, place + 1, 5 + bytes.len());
         }
     }
     put(block, place + head_len(format), bytes);
-}
-
-/// Writes circumflexes from offset `place` to `end`.
-pub(crate) fn put_padding(block: &mut [u8], place: usize, end: usize)
-    requires order { place ≤ end }
-    requires room { end ≤ length block.old }
-    ensures front { take end block.new ≡ take place block.old ++ replicate (end - place) 94 }
-    ensures len { length block.new ≡ length block.old }
-{
-    block[place..end].fill(b'^');
 }

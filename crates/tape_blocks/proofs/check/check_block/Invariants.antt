@@ -1,7 +1,7 @@
 use Rattle.std.proofs.Common.{◌≤◌, ◌-◌, length, drop}
 use Rattle.std.specs.Prelude.{List}
 use Rattle.tape_blocks.specs.{Block.Portion, Faults.IsFront}
-use Rattle.tape_blocks.proofs.check.judge.Given as goal
+use Rattle.tape_blocks.proofs.check.check_block.Given as goal
 
 abbrev pub invariant-units : goal.invariant-units
 invariant-units l = record {
