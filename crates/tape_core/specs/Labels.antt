@@ -1,15 +1,10 @@
 -- How blocks are read as labels, and how labels are compared.
-use Rattle.std.specs.Prelude.{ℕ, ◌==◌, ◌&&◌, not, Bool, false, if◌then◌else◌, List, length, Option}
+use Rattle.std.specs.Prelude.{ℕ, ◌==◌, ◌&&◌, not, Bool, false, List, Option}
 use Rattle.std.specs.{Prelude.Some, Prelude.None, Str.bytes_eq}
 use Rattle.tape_label.specs.{declared.values.Head1.Head1, declared.values.Head2.Head2}
-use Rattle.tape_label.specs.{declared.label.LabelFault.LabelFault, Formats.letter}
-use Rattle.tape_label.specs.declared.label.LabelFault.TheVariants as faults
+use Rattle.tape_label.specs.{Formats.letter}
 use Rattle.tape_set.specs.Lawful.{FileForm, binding_len}
 use Rattle.tape_core.specs.declared.event.Heading.{Heading}
-
--- the fault of a block that is not of the expected kind
-abbrev pub not_of_kind : List ℕ → LabelFault
-not_of_kind block = if length block == 80 then faults.Identifier else faults.NotEighty
 
 -- the fields of an HDR1 that are remembered while its section is read
 abbrev pub heading_of : Head1 → Heading

@@ -8,6 +8,7 @@ use Rattle.tape_label.specs.declared.label.LabelFault.{LabelFault}
 use Rattle.tape_label.specs.declared.label.LabelFault.TheVariants as faults
 use Rattle.tape_label.specs.declared.values.Kind.TheVariants as kinds
 use Rattle.tape_label.specs.{Kinds.kind_at, VolumeLabels.is_volume_label}
+use Rattle.tape_label.specs.Labels.{no_kind}
 use Rattle.tape_label.specs.Reading.{head1_at, head2_at, trail1_at}
 use Rattle.tape_blocks.specs.declared.{check.BlockFault.BlockFault, parts.Shape.Shape}
 use Rattle.tape_blocks.specs.Judged.{judged}
@@ -29,7 +30,7 @@ use Rattle.tape_core.specs.declared.event.Phase.TheVariants.{Over, Broken, Volum
 use Rattle.tape_core.specs.declared.event.Phase.TheVariants.{Header2, Headers, DataPassed}
 use Rattle.tape_core.specs.declared.event.Phase.TheVariants.{DataWanted, TrailerPassed}
 use Rattle.tape_core.specs.declared.event.Phase.TheVariants.{TrailerWanted, Trailers, NextFile}
-use Rattle.tape_core.specs.Labels.{not_of_kind, heading_of, form_at, other_file_id, other_shape}
+use Rattle.tape_core.specs.Labels.{heading_of, form_at, other_file_id, other_shape}
 use Rattle.tape_core.specs.{Parts.begun_before, Parts.other_front, Point.Point, State.State}
 
 -- ---- answers
@@ -95,7 +96,7 @@ at_head2 core heading (Ok g) =
 abbrev pub second_label : State → Heading → Bool → List ℕ → Option Kind → Outcome
 second_label core heading false bytes (Some kinds.Hdr2) = passed core (Headers heading None)
 second_label core heading true bytes (Some kinds.Hdr2) = at_head2 core heading (head2_at bytes)
-second_label core heading wanted bytes _ = useless core (BadLabel (not_of_kind bytes))
+second_label core heading wanted bytes _ = useless core (BadLabel (no_kind bytes))
 
 -- the phase after the mark that ends the headers: data, of the section needed or of a skipped
 -- section
@@ -143,18 +144,6 @@ abbrev pub at_data : State → Heading → FileForm → ℕ → List ℕ → Out
 at_data core heading form seen bytes =
     if nat_lt seen (block_of core.position) then passed core (DataWanted heading form (seen + 1))
     else at_awaited core heading form bytes
-
--- an unreadable item: it is skipped if it is a block that was delivered already
-abbrev pub at_bad_data : State → Heading → FileForm → ℕ → Outcome
-at_bad_data core heading form seen =
-    if nat_lt seen (block_of core.position) then passed core (DataWanted heading form (seen + 1))
-    else useless core BadItem
-
--- the mark after the data: no block that was delivered already may be missing
-abbrev pub at_data_end : State → Heading → FileForm → ℕ → Outcome
-at_data_end core heading form seen =
-    if nat_lt seen (block_of core.position) then useless core SectionDiffers
-    else passed core (TrailerWanted heading form)
 
 -- whether the numbers in the trailer differ from those in the header
 abbrev pub other_numbers : Heading → Trail1 → Bool
@@ -210,7 +199,7 @@ at_block core (TrailerWanted heading form) bytes =
 at_block core Trailers bytes = passed core Trailers
 at_block core NextFile bytes = at_head1 core (head1_at bytes)
 
--- a tape mark
+-- a tape mark; the mark after the data must follow all blocks that were delivered already
 abbrev pub at_mark : State → Phase → Outcome
 at_mark core Over = useless core ReelEnded
 at_mark core Broken = broken core reasons.Broken
@@ -219,18 +208,22 @@ at_mark core VolumeLabels = useless core NotLabelled
 at_mark core (Header2 heading wanted) = useless core (BadLabel faults.Identifier)
 at_mark core (Headers heading wanted) = passed core (data_phase heading wanted)
 at_mark core (DataPassed heading) = passed core (TrailerPassed heading)
-at_mark core (DataWanted heading form seen) = at_data_end core heading form seen
+at_mark core (DataWanted heading form seen) =
+    if nat_lt seen (block_of core.position) then useless core SectionDiffers
+    else passed core (TrailerWanted heading form)
 at_mark core (TrailerPassed heading) = useless core (BadLabel faults.Identifier)
 at_mark core (TrailerWanted heading form) = useless core (BadLabel faults.Identifier)
 at_mark core Trailers = passed core NextFile
 at_mark core NextFile = useless core NotOnReel
 
--- an unreadable item
+-- an unreadable item; it is skipped if it is a block that was delivered already
 abbrev pub at_bad : State → Phase → Outcome
 at_bad core Over = useless core ReelEnded
 at_bad core Broken = broken core reasons.Broken
 at_bad core (DataPassed heading) = passed core (DataPassed heading)
-at_bad core (DataWanted heading form seen) = at_bad_data core heading form seen
+at_bad core (DataWanted heading form seen) =
+    if nat_lt seen (block_of core.position) then passed core (DataWanted heading form (seen + 1))
+    else useless core BadItem
 at_bad core _ = useless core BadItem
 
 -- the end of the reel
@@ -305,20 +298,18 @@ saved core staged = record {
   staged = staged;
 }
 
--- the reader at the checkpoint's position, with no reading in progress
-abbrev pub restarted : State → Point → State
-restarted core point = record core {
-  position = point.position;
-  begun = point.begun;
-  known = point.known;
-  phase = Over;
-}
-
--- whether the checkpoint belongs to the reader's set and file
-abbrev pub is_of_file : State → Point → Bool
-is_of_file core point = bytes_eq core.set_id point.set_id && (core.file == point.file)
-
--- a checkpoint of another set or file is refused, and changes nothing
+-- the reader at the checkpoint's position, with no reading in progress; a checkpoint of another set
+-- or file is refused, and changes nothing
 abbrev pub restart_of : State → Point → Result (Unit {0}) CoreFault × State
-restart_of core point = if is_of_file core point then (Ok tt, restarted core point)
+restart_of core point =
+    if bytes_eq core.set_id point.set_id && (core.file == point.file)
+    then (
+      Ok tt,
+      record core {
+        position = point.position;
+        begun = point.begun;
+        known = point.known;
+        phase = Over;
+      },
+    )
     else (Err OtherFile, core)

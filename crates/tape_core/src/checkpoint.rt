@@ -1,14 +1,13 @@
 //! Checkpoints, the form of a file stored in them, and their valid values.
 
-ghost use Rattle.std.specs.Prelude.{◌≡◌, ◌↔◌, ◌<◌, ◌≤◌, ◌-◌, ◌++◌, ℕ, List, true, false, length};
+ghost use Rattle.std.specs.Prelude.{◌≡◌, ◌↔◌, ◌<◌, ◌≤◌, ◌-◌, ◌++◌, ℕ, true, false, length};
 ghost use Rattle.std.specs.Prelude.{take, drop, is_some, IfSome, IsSome};
 ghost use Rattle.tape_image.specs.Tape.{TapeItem};
 ghost use Rattle.tape_blocks.specs.{Judged.begun_behind, Packing.longest_block};
 ghost use Rattle.tape_set.specs.{Layout.FileSet, Before.before};
 ghost use Rattle.tape_core.specs.Known.{PositionFits, StandFits, IsFileNumber, is_finished};
-ghost use Rattle.tape_core.specs.Range.{in_range, length_in_range, form_in_range};
 ghost use Rattle.tape_core.specs.Known.{most_staged, IsForm, may_span, known_of};
-ghost use Rattle.tape_core.specs.{Range.position_in_range, Range.known_where_due, Point.point_of};
+ghost use Rattle.tape_core.specs.{Range.in_range, Range.form_in_range, Point.point_of};
 
 use std::marker::Model;
 use tape_label::{Field, Format};
@@ -80,7 +79,17 @@ impl Checkpoint {
         ensures range { is_some result
             ≡ in_range (point_of set_id file position begun known staged) }
     {
-        if !is_in_range(file, position, begun, &known, staged) {
+        let place_fits = match position {
+            Position::Awaits { sect, part, .. } => 1 <= sect && sect <= 9_999 && part <= 99_999,
+            Position::Finished => !begun,
+        };
+        if !place_fits
+            || file == 0
+            || file > 9_999
+            || known.is_some() == position.is_start()
+            || begun && !may_span(&known)
+            || staged > MOST_STAGED
+        {
             return None;
         }
         Some(Checkpoint::of(set_id, file, position, begun, known, staged))
@@ -141,18 +150,6 @@ impl Checkpoint {
             → Stands set old.file result (before set old.file old.position
             ++ take (part - d.part) (drop d.part d.filled.parts)) }
     {
-        self.in_block(p, part, begun, staged)
-    }
-
-    /// Returns the checkpoint that `inside_block` returns.
-    fn in_block(&self, p: Position, part: u32, begun: bool, staged: u64) -> Checkpoint
-        requires numbers { PositionFits p }
-        requires waits { is_finished p ≡ false }
-        requires some { (1 ≤ part) × (part ≤ longest_block) }
-        requires known { is_some self.now.known ≡ true }
-        requires light { staged ≤ most_staged }
-        ensures value { result ≡ inside_block self.now p part begun staged }
-    {
         // In a file of another format no record is ever unfinished, so callers need not know the
         // format.
         let begun = begun && may_span(&self.known);
@@ -208,7 +205,11 @@ impl Known {
         // The result is this function of the arguments.
         ensures range { is_some result ≡ form_in_range (known_of format rec_len offset file_id) }
     {
-        if !(length_in_range(format, rec_len) && offset <= 99) {
+        let fits = match format {
+            Format::Fixed => 1 <= rec_len && rec_len <= 99_999,
+            Format::Counted | Format::Spanned => rec_len == 0,
+        };
+        if !fits || offset > 99 {
             return None;
         }
         Some(Known {
@@ -220,57 +221,8 @@ impl Known {
     }
 }
 
-/// Returns whether the record length is possible in the format.
-fn length_in_range(format: Format, rec_len: u32) -> bool
-    ensures { result ≡ length_in_range format rec_len }
-{
-    match format {
-        Format::Fixed => 1 <= rec_len && rec_len <= 99_999,
-        Format::Counted | Format::Spanned => rec_len == 0,
-    }
-}
-
 /// The maximum weight of staged parts.
 pub(crate) const MOST_STAGED: u64 = 999_999_999_999_999;
-
-/// Returns whether the numbers and flags can be those of a checkpoint.
-pub(crate) fn is_in_range(
-    file: u16,
-    position: Position,
-    begun: bool,
-    known: &Option<Known>,
-    staged: u64,
-) -> bool
-    ensures { (set_id : List ℕ) → result
-        ≡ in_range (point_of set_id file position begun known.now staged) }
-{
-    1 <= file
-        && file <= 9_999
-        && position_in_range(position)
-        && known_where_due(known, position)
-        && (!begun || may_span(known) && !matches!(position, Position::Finished))
-        && staged <= MOST_STAGED
-}
-
-/// Returns whether the numbers of the position are in range.
-fn position_in_range(position: Position) -> bool
-    ensures { result ≡ position_in_range position }
-{
-    match position {
-        Position::Awaits { sect, part, .. } => 1 <= sect && sect <= 9_999 && part <= 99_999,
-        Position::Finished => true,
-    }
-}
-
-/// Returns whether the form is known exactly if the position is not the start of the file.
-fn known_where_due(known: &Option<Known>, position: Position) -> bool
-    ensures { result ≡ known_where_due known.now position }
-{
-    match known {
-        Some(_) => !position.is_start(),
-        None => position.is_start(),
-    }
-}
 
 /// Returns whether the records of the file may continue in the next block.
 pub(crate) fn may_span(known: &Option<Known>) -> bool

@@ -11,7 +11,7 @@ ghost use Rattle.tape_image.specs.Tape.{TapeItem, bad};
 ghost use Rattle.tape_set.specs.Layout.{FileSet, nth, items, entries};
 ghost use Rattle.tape_set.specs.{Before.before, Before.IsIn, Lawful.IsLawful};
 ghost use Rattle.tape_set.specs.Reach.{far, passes};
-ghost use Rattle.tape_set.specs.Position.{start, want_at, sect_of, block_of, part_of};
+ghost use Rattle.tape_set.specs.Position.{start, want_at, sect_of, block_of};
 ghost use Rattle.tape_core.specs.State.{ToldFits, told};
 ghost use Rattle.tape_core.specs.Table as Table;
 
@@ -307,16 +307,6 @@ impl ReaderCore {
     {
         match self.position {
             Position::Awaits { block, .. } => block,
-            Position::Finished => 0,
-        }
-    }
-
-    /// Returns the number of delivered parts of the expected block, or 0 if the file is complete.
-    pub(crate) fn part(&self) -> u32
-        ensures { result ≡ part_of self.now.position }
-    {
-        match self.position {
-            Position::Awaits { part, .. } => part,
             Position::Finished => 0,
         }
     }

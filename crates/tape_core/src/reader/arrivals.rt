@@ -10,7 +10,7 @@ ghost use Rattle.tape_core.specs.Table as Table;
 use crate::event::{Answer, Awaited, Event, Phase, Reason};
 use crate::reader::ReaderCore;
 use crate::reader::judging::{judge_awaited, shape_of};
-use tape_label::{LabelFault, is_volume_label, kind, read_head1, read_trail1};
+use tape_label::{Kind, LabelFault, is_volume_label, kind, read_head1, read_trail1};
 use tape_set::Position;
 
 impl ReaderCore {
@@ -25,24 +25,15 @@ impl ReaderCore {
             return Answer::Complete;
         }
         match event {
-            Event::Block(block) => self.at_block(block),
+            // Data need no copy of the phase.
+            Event::Block(block) if matches!(self.phase, Phase::DataWanted(..)) => {
+                self.at_data(block)
+            }
+            Event::Block(block) => self.at_other_block(block),
             Event::Bad => self.at_bad(),
             Event::Mark => self.at_mark(),
-            Event::ReelEnd => self.at_reel_end(),
-        }
-    }
-
-    /// Processes a block. Data need no copy of the phase.
-    fn at_block(&mut self, block: &[u8]) -> Answer
-        requires { is_finished self.old.position ≡ false }
-        ensures table { (result, self.new) ≡ Table.at_block self.old self.old.phase block.now }
-        ensures checked { result ≡ Answer.Deliver
-            → Checked (Some (block' block.now)) self.old self.new }
-    {
-        if let Phase::DataWanted(..) = self.phase {
-            self.at_data(block)
-        } else {
-            self.at_other_block(block)
+            Event::ReelEnd if matches!(self.phase, Phase::Broken) => self.broken(Reason::Broken),
+            Event::ReelEnd => self.useless(Reason::ReelEnded),
         }
     }
 
@@ -56,9 +47,14 @@ impl ReaderCore {
         match phase {
             Phase::Over => self.useless(Reason::ReelEnded),
             Phase::Broken => self.broken(Reason::Broken),
-            Phase::Volume => self.first_label(kind(block)),
+            Phase::Volume if matches!(kind(block), Some(Kind::Vol1)) => {
+                self.passed(Phase::VolumeLabels)
+            }
             Phase::VolumeLabels if is_volume_label(block) => self.passed(Phase::VolumeLabels),
-            Phase::VolumeLabels => self.first_labels(block),
+            Phase::VolumeLabels if matches!(kind(block), Some(Kind::Hdr1)) => {
+                self.at_head1(read_head1(block))
+            }
+            Phase::Volume | Phase::VolumeLabels => self.useless(Reason::NotLabelled),
             Phase::Header2(heading, wanted) => self.second_label(heading, wanted, block),
             Phase::Headers(..) | Phase::DataPassed(_) | Phase::Trailers => Answer::Passed,
             Phase::DataWanted(..) => unreachable!(),
@@ -115,17 +111,6 @@ impl ReaderCore {
             _ => self.useless(Reason::BadItem),
         }
     }
-
-    /// Processes the end of the reel.
-    fn at_reel_end(&mut self) -> Answer
-        ensures table { (result, self.new) ≡ Table.at_reel_end self.old self.old.phase }
-        ensures silent { result ≢ Answer.Deliver }
-    {
-        match self.phase {
-            Phase::Broken => self.broken(Reason::Broken),
-            _ => self.useless(Reason::ReelEnded),
-        }
-    }
 }
 
 impl ReaderCore {
@@ -137,9 +122,14 @@ impl ReaderCore {
         ensures checked { result ≡ Answer.Deliver
             → Checked (Some (block' block.now)) self.old self.new }
     {
-        let number = self.block();
-        let part = self.part();
-        let begun = self.begun;
+        let Position::Awaits {
+            block: number,
+            part,
+            ..
+        } = self.position
+        else {
+            unreachable!()
+        };
         let Phase::DataWanted(_, form, seen) = &mut self.phase else {
             unreachable!()
         };
@@ -147,7 +137,7 @@ impl ReaderCore {
             *seen += 1;
             return Answer::Passed;
         }
-        match judge_awaited(form, number, part, begun, block) {
+        match judge_awaited(form, number, part, self.begun, block) {
             Err(why) => self.useless(why),
             Ok(end) => {
                 self.deliver(end);
@@ -201,11 +191,13 @@ impl ReaderCore {
         ensures set_id { self.new.set_id ≡ self.old.set_id }
         ensures file { self.new.file ≡ self.old.file }
     {
-        let number = self.block();
+        let Position::Awaits { block, .. } = self.position else {
+            unreachable!()
+        };
         let Phase::DataWanted(_, form, seen) = &mut self.phase else {
             unreachable!()
         };
-        *seen = number + 1;
+        *seen = block + 1;
         self.known = Some(*form);
         self.position = self.position.next_block();
         self.begun = end;

@@ -39,10 +39,14 @@ pub(crate) fn judge_awaited(
     if number == u32::MAX {
         return Err(Reason::SectionDiffers);
     }
-    let before = begun_before(form, part, begun, block);
+    let before = if part == 0 {
+        begun
+    } else {
+        goes_on_at(form.format, form.offset, block)
+    };
     match check_block(&shape_of(form), before, block) {
         Err(fault) => Err(Reason::BadBlock(fault)),
-        Ok(_) if other_front(form, part, begun, block) => Err(Reason::SectionDiffers),
+        Ok(_) if part > 0 && other_front(form, part, begun, block) => Err(Reason::SectionDiffers),
         Ok(end) => Ok(end),
     }
 }
@@ -81,30 +85,16 @@ fn goes_on_at(format: Format, offset: u8, block: &[u8]) -> bool
     }
 }
 
-/// Returns whether a record is unfinished at the start of the block, after `part` of its parts were
-/// delivered; `begun` says whether a record is unfinished before the expected part.
-fn begun_before(known: &Known, part: u32, begun: bool, block: &[u8]) -> bool
-    ensures { result ≡ Parts'.begun_before known.now part begun block.now }
-{
-    if part == 0 {
-        begun
-    } else {
-        goes_on_at(known.format, known.offset, block)
-    }
-}
-
 /// Returns whether `block`, already checked, differs from the block whose first `part` parts were
 /// delivered: it has no further part, or a record is unfinished after them although `begun` is
 /// false, or the converse.
 #[inline(always)]
 fn other_front(known: &Known, part: u32, begun: bool, block: &[u8]) -> bool
-    requires { (before : Bool) × (end : Bool)
+    requires some { 0 < part }
+    requires checked { (before : Bool) × (end : Bool)
         × (judged known.now.format known.now.rec_len known.now.offset before block.now ≡ Ok end) }
     ensures { result ≡ Parts'.other_front known.now part begun block.now }
 {
-    if part == 0 {
-        return false;
-    }
     let mut going = goes_on_at(known.format, known.offset, block);
     let mut left = part;
     for each in Parts::new(&shape_of(known), block) {

@@ -18,7 +18,7 @@ pub new-each-items-requires : goal.new-each-items-requires
 new-each-items-requires c =
     let s = c.shape_of.result in
     let e = c.shape_of.ensures in
-    let r = c.requires in
+    let r = c.requires.checked in
     let j : judged s.format s.rec_len s.offset r.0 c.args.block.now ≡ Ok r.1 =
     rw (e.format, e.rec_len, e.offset) r.2 in
     let h = judged_found s.format s.rec_len s.offset r.0 r.1 c.args.block.now s.some_record j in
@@ -55,7 +55,7 @@ pub returns-then-left-eq0 : goal.returns-then-left-eq0
 returns-then-left-eq0 c =
     let s = c.shape_of.result in
     let e = c.shape_of.ensures in
-    let r = c.requires in
+    let r = c.requires.checked in
     let i = c.loop-each.invariant in
     let all = parts_all c.args.known.now c.args.block.now r.0 r.1 s.format s.rec_len s.offset
     c.into_iter-each-iterator.result c.loop-each.each-iterator c.loop-each.yielded s.some_record
@@ -70,7 +70,7 @@ returns-then-left-eq0 c =
     ap not (beq_is c.loop-each.going c.args.begun)
     ∙ front_at c.args.known.now c.args.part c.args.begun c.loop-each.going
     c.args.block.now (map view c.loop-each.yielded) (parts_left c.next.new.self)
-    (view c.in-Some.each) is n c.if-part-eq0.false i.1
+    (view c.in-Some.each) is n (λ e. absurd (omega (arith, e, c.requires.some))) i.1
 
 pub loop-each-preserved : goal.loop-each-preserved
 loop-each-preserved c =
@@ -87,7 +87,7 @@ pub returns : goal.returns
 returns c =
     let s = c.shape_of.result in
     let e = c.shape_of.ensures in
-    let r = c.requires in
+    let r = c.requires.checked in
     let i = c.loop-each.invariant in
     let all = parts_all c.args.known.now c.args.block.now r.0 r.1 s.format s.rec_len s.offset
     c.into_iter-each-iterator.result c.loop-each.each-iterator c.loop-each.yielded s.some_record
@@ -100,4 +100,4 @@ returns c =
     let n : length (parts_in c.args.known.now c.args.block.now) ≡ length c.loop-each.yielded =
     ap length is ∙ length-map c.loop-each.yielded view in
     front_short c.args.known.now c.args.part c.args.begun c.args.block.now
-    (omega (arith, n, i.0)) c.if-part-eq0.false
+    (omega (arith, n, i.0)) (λ e. absurd (omega (arith, e, c.requires.some)))
