@@ -160,10 +160,10 @@ module _ {D : Type 0} {disk : Ghosts D} where
       survived t le before bytes (inr left) = stood t bytes before (inr (passes.now bytes left))
 
   -- a call that leaves the acknowledged data
-  pub adds_nothing : (old new : Stage D disk) (acked parts : List Portion)
+  pub adds_nothing : (old : Stage D disk) (new : D) (acked parts : List Portion)
       → disk.may_leave old.disk (disk.seen old.disk) → IsStage old acked parts
-      → Passes disk old.disk new.disk (StagedIn old.in_second old.generation old.acknowledged acked)
-      → AddsNothing (crashes_of old) (crashes_of new)
+      → Passes disk old.disk new (StagedIn old.in_second old.generation old.acknowledged acked)
+      → AddsNothing (crashes_of old) (crashes_on disk new)
   adds_nothing old new acked parts now is passes = adds_passed old _ (λ back there. ⊥) _ passes
       (λ bytes g back there was staged. inl (returned_old old _ parts _ _ _ _ now is was staged))
       (λ before bytes was. in_stands _ _ _ _ _ was)

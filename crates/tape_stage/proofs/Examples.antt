@@ -6,7 +6,7 @@ use Rattle.tape_stage.specs.Calls.{IsImage, WasImage, kept_or}
 use Rattle.tape_stage.specs.Cases.{CasesOfCrashes, CasesOfMoments, CasesOfFiles, CasesOfStages}
 use Rattle.tape_stage.specs.CasesOfSalvage.{CasesOfSalvage, cut_frame, frame_and_none}
 use Rattle.tape_stage.specs.{declared.disk.Disk.Ghosts, declared.stage.Stage.Stage, Reads.StageGave}
-use Rattle.tape_stage.specs.{Stages.IsAhead, Body.body_text, Disk.Torn, Frames.NoFrameAt}
+use Rattle.tape_stage.specs.{Stages.IsAhead, Body.body_text, Disk.Torn, Parts.NoFrameAt}
 use Rattle.tape_stage.specs.{Memory.first_of, Staged.HoldsNone, CasesOfLaws.CasesOfLaws}
 use Rattle.tape_stage.proofs.Once.{staged_remains}
 use Rattle.tape_blocks.specs.declared.parts.Span.TheVariants as spans
@@ -140,8 +140,17 @@ cases_of_files = record {
   staged_stays = λ old new g point parts k s.
       let cut = k g point parts s in (cut.front, cut.no_longer);
   frames_stay = λ old new k. (k.rest, k.long);
-  bad_place = λ bytes place b. (b.inside, b.high, b.walked, b.none, b.slot);
-  walked = λ bytes place w. (w.low, w.frames_are);
+  bad_place = λ bytes place (g, point, parts, r). (
+    g,
+    point,
+    parts,
+    r.framed.breaks.low,
+    omega (arith, r.framed.breaks.low, r.framed.holds.long),
+    r.framed.breaks.high,
+    r.framed.holds.frames_are,
+    r.framed.breaks.none,
+    r.slot,
+  );
   a_frame = record {
     room = omega arith;
     header = refl;

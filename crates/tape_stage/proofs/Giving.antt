@@ -1,7 +1,8 @@
 -- Frames can be read in only one way.
 use Rattle.std.proofs.Common.{◌≡◌, ℕ, ◌+◌, ◌-◌, ◌≤◌, ◌<◌, List, [], ◌∷◌, ◌++◌, length, take, drop}
 use Rattle.std.proofs.Common.{w32, refl, sym, ap, ◌∙◌, subst, arith, length-append, Bool, ◌⊎◌, inl}
-use Rattle.std.proofs.Common.{inr, ◌==◌, if◌then◌else◌, append_assoc, append-nil}
+use Rattle.std.proofs.Common.{inr, ◌==◌, if◌then◌else◌, append_assoc, append-nil, slice_set}
+use Rattle.std.proofs.{lemmas.List.length-take, lemmas.Slice.take-put_mid}
 use Rattle.std.proofs.lemmas.List.{take-take, take_at, take_all, drop_at, length-take-le}
 use Rattle.std.proofs.lemmas.List.{length-drop, drop-drop}
 use Rattle.std.proofs.{lemmas.Nat.from_be_bytes-to_be_bytes_4, Math.Seq.take-add}
@@ -9,7 +10,7 @@ use Rattle.std.specs.Int.{to_be_bytes, from_be_bytes}
 use Rattle.tape_core.specs.declared.sink.SinkFault.TheVariants.{Device, Failed}
 use Rattle.tape_core.specs.{Weight.Rose, declared.sink.SinkFault.SinkFault, Stands.weight_of}
 use Rattle.tape_stage.specs.Parts.{frame, frames, AllShort, IsFront}
-use Rattle.tape_stage.specs.{Frames.AheadIn, Frames.IsFrameAt, Frames.NoFrameAt, Staged.Holding}
+use Rattle.tape_stage.specs.{Parts.AheadIn, Parts.IsFrameAt, Parts.NoFrameAt, Staged.Holding}
 use Rattle.tape_stage.specs.{declared.disk.Disk.Ghosts, Stages.LendsNone, Disk.Holds}
 use Rattle.tape_blocks.specs.declared.parts.Span.TheVariants.{Whole, First, Middle, Last}
 use Rattle.tape_blocks.specs.{declared.parts.Span.Span, Block.Portion, Block.indicator}
@@ -90,6 +91,54 @@ one_write place part bytes old new is le holds =
         length-append (take place old) bytes,
         length-take-le place old le,
       ),
+    )
+
+-- the first byte is stored after those that follow it
+set_first : (b n rest : List ℕ) (d : ℕ) → 1 ≤ length b
+    → slice_set (take 1 b ++ (n ++ rest)) 0 d ≡ (d ∷ n) ++ rest
+set_first [] n rest d some = absurd (omega (arith, some))
+set_first (x ∷ b) n rest d some = refl
+
+-- a buffer with a frame at its start, whose first byte was stored after the next four
+abbrev pub stored : List ℕ → List ℕ → ℕ → List ℕ → ℕ → List ℕ
+stored b n d content size =
+    let filled : List ℕ = slice_set (take 1 b ++ (n ++ drop 4 (drop 1 b))) 0 d in
+    take 5 filled ++ (content ++ drop (5 + size - 5) (drop 5 filled))
+
+pub stored_is : (part : Portion) (b n content : List ℕ) (d : ℕ) → length part.bytes ≤ 99999
+    → 100004 ≤ length b → d ≡ indicator part.span → n ≡ to_be_bytes w32 (length part.bytes)
+    → content ≡ part.bytes → (length (stored b n d content (length part.bytes)) ≡ length b)
+    × (take (5 + length part.bytes) (stored b n d content (length part.bytes)) ≡ frame part)
+stored_is part b n content d short room first four after =
+    let k = length part.bytes in
+    let head : List ℕ = d ∷ n in
+    let rest : List ℕ = drop 4 (drop 1 b) in
+    let filled : List ℕ = slice_set (take 1 b ++ (n ++ rest)) 0 d in
+    let framed : filled ≡ head ++ rest = set_first b n rest d (omega (arith, room)) in
+    let is : head ≡ indicator part.span ∷ to_be_bytes w32 k =
+    ap (λ x. x ∷ n) first ∙ ap (λ l. indicator part.span ∷ l) four in
+    let size : length head ≡ 5 = ap length is in
+    let more : 5 ≤ length filled =
+    omega (arith, ap length framed, size, length-append head rest) in (
+      omega (
+        arith,
+        short,
+        room,
+        size,
+        ap length framed,
+        ap length after,
+        length-append head rest,
+        length-append content (drop (5 + k - 5) (drop 5 filled)),
+        length-append (take 5 filled) (content ++ drop (5 + k - 5) (drop 5 filled)),
+        length-take 5 filled,
+        length-drop 5 filled,
+        length-drop (5 + k - 5) (drop 5 filled),
+        length-drop 4 (drop 1 b),
+        length-drop 1 b,
+      ),
+      take-put_mid 5 _ filled content _ (omega (arith, ap length after)) more
+          ∙ ap (λ l. take 5 l ++ content) framed ∙ ap (λ l. l ++ content) (take_at head rest 5 size)
+          ∙ ap (λ l. head ++ l) after ∙ ap (λ l. l ++ part.bytes) is,
     )
 
 -- the span with the given digit

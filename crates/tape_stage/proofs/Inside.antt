@@ -5,7 +5,7 @@ use Rattle.std.proofs.Common.{drop, refl, sym, ap, ◌∙◌, arith, length-appe
 use Rattle.std.proofs.lemmas.List.{take-take}
 use Rattle.tape_blocks.specs.Block.{Portion}
 use Rattle.tape_core.specs.{Point.Point, Stands.weight_of}
-use Rattle.tape_stage.specs.{Found.IsBadPlace, Frames.AheadIn, Parts.frames, Parts.AllShort}
+use Rattle.tape_stage.specs.{Found.IsBadPlace, Parts.AheadIn, Parts.frames, Parts.AllShort}
 use Rattle.tape_stage.specs.Staged.{Holding, NamedIn, SameFrames}
 use Rattle.tape_stage.proofs.Giving.{frames-append, front_holding, length-frames, one_ahead}
 use Rattle.tape_stage.proofs.{Giving.size_same, Tears.best_of, Tears.open_reads, Torn.alike_piece}
@@ -67,38 +67,43 @@ bad_inside second g point weight front rest part old bytes holding named same mo
     (record { rest = part ∷ rest; whole = refl; weighs = refl }) holding in
     let one = one_ahead place (256 + weight) old (part ∷ rest) (omega (arith, sum, last))
     (ahead_of weight front (part ∷ rest) old holding) in
-    let is : part ≡ one.part = cc one.is in
-    record {
-      generation = g;
-      point = point;
-      slot = best_of second g point bytes (open_reads _ _ named.is_open ∙ named.body) named.other;
-      inside = omega (
-        arith,
-        more,
-        staged,
-        holding.long,
-        ap length same,
-        length-take point.staged (drop 256 bytes),
-        length-take point.staged (drop 256 old),
-        length-drop 256 bytes,
-        length-drop 256 old,
-      );
-      high = omega (arith, more);
-      walked = record {
-        low = omega arith;
-        parts = front;
-        frames_are = ap (λ (n : ℕ). take n (drop 256 bytes)) (omega arith)
-            ∙ sym (take-take w point.staged (drop 256 bytes) (omega (arith, more)))
-            ∙ ap (take w) same ∙ take-take w point.staged (drop 256 old) (omega (arith, more))
-            ∙ first.frames_are;
-        short = first.short;
-      };
-      none = λ span content frame.
-          let five : take 5 (drop place bytes) ≡ take 5 (drop place old) =
-          ap (take 5) (sym (drop-drop w 256 bytes)) ∙ alike_piece point.staged w 5
-          (drop 256 old) (drop 256 bytes) (omega (arith, frame.room)) same
-          ∙ ap (take 5) (drop-drop w 256 old) in
-          let size = size_same (length content) (length one.part.bytes) frame.short
-          one.frame_is.short (ap (drop 1) (sym frame.header ∙ five ∙ one.frame_is.header)) in
-          omega (arith, frame.room, size, less, ap (λ (p : Portion). length p.bytes) is);
-    }
+    let is : part ≡ one.part = cc one.is in (
+      g,
+      point,
+      front,
+      record {
+        slot = best_of second g point bytes (open_reads _ _ named.is_open ∙ named.body) named.other;
+        framed = record {
+          holds = record {
+            long = omega (
+              arith,
+              more,
+              staged,
+              holding.long,
+              ap length same,
+              length-take point.staged (drop 256 bytes),
+              length-take point.staged (drop 256 old),
+              length-drop 256 bytes,
+              length-drop 256 old,
+            );
+            frames_are = ap (λ (n : ℕ). take n (drop 256 bytes)) (omega arith)
+                ∙ sym (take-take w point.staged (drop 256 bytes) (omega (arith, more)))
+                ∙ ap (take w) same ∙ take-take w point.staged (drop 256 old) (omega (arith, more))
+                ∙ first.frames_are;
+            short = first.short;
+          };
+          breaks = record {
+            low = omega arith;
+            high = omega (arith, more);
+            none = λ span content frame.
+                let five : take 5 (drop place bytes) ≡ take 5 (drop place old) =
+                ap (take 5) (sym (drop-drop w 256 bytes)) ∙ alike_piece point.staged w 5
+                (drop 256 old) (drop 256 bytes) (omega (arith, frame.room)) same
+                ∙ ap (take 5) (drop-drop w 256 old) in
+                let size = size_same (length content) (length one.part.bytes) frame.short
+                one.frame_is.short (ap (drop 1) (sym frame.header ∙ five ∙ one.frame_is.header)) in
+                omega (arith, frame.room, size, less, ap (λ (p : Portion). length p.bytes) is);
+          };
+        };
+      },
+    )

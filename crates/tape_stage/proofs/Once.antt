@@ -2,9 +2,9 @@
 use Rattle.std.proofs.Common.{◌≡◌, inl, inr, ℕ, ◌+◌, ◌-◌, ◌≤◌, ◌<◌, min, List, [], ◌∷◌, length}
 use Rattle.std.proofs.Common.{Some, refl, sym, ap, ◌∙◌, subst, arith, Option, None, IfSome}
 use Rattle.tape_blocks.specs.{declared.parts.Span.Span, Block.Portion}
-use Rattle.tape_stage.specs.Frames.{AheadIn, IsFrameAt, NoFrameAt}
+use Rattle.tape_stage.specs.Parts.{AheadIn, IsFrameAt, NoFrameAt}
 use Rattle.tape_stage.specs.Salvaged.{BreaksAt, FramedTo, Remains, RemainsOnce}
-use Rattle.tape_stage.specs.StageLaws.{StandsOnce, ReadsOneOf, NamedStands, EitherStands}
+use Rattle.tape_stage.specs.Laws.{StandsOnce, ReadsOneOf, NamedStands, EitherStands}
 use Rattle.tape_stage.specs.{Body.Slot, Staged.Staged}
 use Rattle.tape_core.specs.Point.{Point}
 use Rattle.tape_stage.proofs.Tears.{staged_named}

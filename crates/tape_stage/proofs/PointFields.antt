@@ -14,7 +14,7 @@ use Rattle.tape_core.specs.Range.{length_in_range, form_in_range, in_range}
 use Rattle.tape_core.proofs.Ranges.{ranged, in_range_is}
 use Rattle.tape_stage.specs.Fields.{form_of, fields_of, form_as, known_as, known_by, point_by}
 use Rattle.tape_stage.specs.{declared.point.Form.Form, Text.Fit, Text.KnownFits, Text.IsWritable}
-use Rattle.tape_stage.specs.Range.{place_agrees, is_blank, form_agrees, is_right}
+use Rattle.tape_stage.specs.Fields.{place_agrees, is_blank, form_agrees, is_right}
 use Rattle.tape_stage.specs.{declared.point.Version.Version, declared.point.Fields.Fields}
 
 -- ---- a checkpoint's fields determine it

@@ -11,7 +11,7 @@ use Rattle.tape_stage.specs.{Text.IsPointText, Fields.form_of, Fields.fields_of,
 use Rattle.tape_stage.specs.{declared.point.text.PointFault.PointFault, Laws.IsTextOfOne}
 use Rattle.tape_stage.specs.{declared.point.Version.Version, declared.point.Fields.Fields}
 use Rattle.tape_stage.specs.declared.point.Version.TheVariants.{One, Two}
-use Rattle.tape_stage.specs.{Range.is_right, Reading.text_at, Reading.right_point, Reading.reading}
+use Rattle.tape_stage.specs.{Fields.is_right, Reading.text_at, Reading.right_point, Reading.reading}
 use Rattle.tape_stage.proofs.TextLaws.{Reads, text_found, text_again, reads_stand, stands_read}
 use Rattle.tape_stage.proofs.TextLaws.{reads_fit, stood}
 use Rattle.tape_stage.proofs.PointFields.{point_again, point_right, fields_again, right_writable}

@@ -7,13 +7,20 @@ use Rattle.tape_blocks.specs.Spans.{join, Joined, content_after, leaves}
 use Rattle.tape_blocks.specs.{Block.Portion, Block.indicator, declared.parts.Span.Span}
 use Rattle.tape_core.specs.Point.{Point}
 use Rattle.tape_stage.specs.Salvaged.{FramedTo, Remains, RemainsNone, WalkedOver}
-use Rattle.tape_stage.specs.Staged.{Holding, HoldsNone, Staged, WalkedTo}
-use Rattle.tape_stage.specs.{Found.IsFound, Found.IsBadPlace, Frames.NoFrameAt}
+use Rattle.tape_stage.specs.Staged.{Holding, HoldsNone, Staged}
+use Rattle.tape_stage.specs.{Found.IsFound, Found.IsBadPlace, Parts.NoFrameAt, Parts.AllShort}
 use Rattle.tape_stage.specs.{declared.stage.Found.Found, Parts.frame, Parts.frames}
 use Rattle.tape_stage.proofs.{Once.remains_once, Once.staged_remains, Tears.best_of}
 use Rattle.tape_stage.proofs.Giving.{put_holding}
 use Rattle.std.specs.Int.{to_be_bytes}
 use Rattle.tape_blocks.proofs.JoinLaws.{join_ends, join_goes_on}
+
+-- the frames from offset 256 to the offset `place` are those of some parts
+pub record WalkedTo (place : ℕ) (bytes : List ℕ) : Type 0 where
+  pub low : 256 ≤ place
+  pub parts : List Portion
+  pub frames_are : take (place - 256) (drop 256 bytes) ≡ frames parts
+  pub short : AllShort parts
 
 pub walked_holding : (place : ℕ) (bytes : List ℕ) → place ≤ length bytes
     → (walked : WalkedTo place bytes) → Holding (place - 256) walked.parts bytes
@@ -117,22 +124,7 @@ broken_none bytes g point place parts remains n next more staged =
 -- the offset of the damage is that of a bad frame
 pub broken_bad : (bytes : List ℕ) (g : ℕ) (point : Point) (place : ℕ) (parts : List Portion)
     → Remains bytes g point (Some place) parts → IsBadPlace bytes place
-broken_bad bytes g point place parts remains =
-    let framed = remains.framed in
-    record {
-      generation = g;
-      point = point;
-      slot = remains.slot;
-      inside = omega (arith, framed.breaks.low, framed.holds.long);
-      high = framed.breaks.high;
-      walked = record {
-        low = framed.breaks.low;
-        parts = parts;
-        frames_are = framed.holds.frames_are;
-        short = framed.holds.short;
-      };
-      none = framed.breaks.none;
-    }
+broken_bad bytes g point place parts remains = (g, point, parts, remains)
 
 -- without damage, all that is staged remains
 pub whole_staged : (bytes : List ℕ) (g : ℕ) (point : Point) (broken : Option ℕ)

@@ -4,7 +4,7 @@ use Rattle.std.proofs.Common.{◌≡◌, ◌⊎◌, ℕ, zero, suc, ◌+◌, ◌
 use Rattle.std.proofs.Common.{◌++◌, length, take, drop, inr, ◌-◌, replicate, refl, ◌∙◌, subst}
 use Rattle.std.proofs.Common.{arith, length-append, length-drop, append-nil}
 use Rattle.std.proofs.{lemmas.List.length-take-le, lemmas.List.take-append-le, lemmas.List.take_at}
-use Rattle.std.proofs.{lemmas.List.drop_at, lemmas.List.length-replicate, Props.props}
+use Rattle.std.proofs.{lemmas.List.drop_at, Props.props}
 use Rattle.tape_stage.specs.declared.disk.content.Call.TheVariants.{Look, Write, Cut, Sync}
 use Rattle.tape_stage.specs.{Disk.Torn, Disk.CutShort, declared.disk.content.Call.Call}
 
@@ -141,72 +141,11 @@ seen_left seen left (Cut len ∷ calls) fit now =
 seen_left seen left (Sync ∷ calls) fit now = seen_left seen
     (left_after seen left Sync) calls fit.1 refl
 
-pub worst_longer : (seen worst : List ℕ) (call : Call) → Fits seen call → length seen ≤ length worst
-    → length (after seen call) ≤ length (worst_after seen worst call)
-worst_longer seen worst Look fits le = le
-worst_longer seen worst (Write place bytes) fits le =
-    let a = length-append (take place seen ++ bytes.items)
-    (drop (place + length bytes.items) seen) in
-    let b = length-append (take place seen) bytes.items in
-    let c = length-append (take place worst ++ replicate (length bytes.items) 255)
-    (drop (place + length bytes.items) worst) in
-    let d = length-append (take place worst) (replicate (length bytes.items) 255) in
-    omega (
-      arith,
-      a,
-      b,
-      c,
-      d,
-      length-take-le place seen fits,
-      length-take-le place worst (omega arith),
-      length-replicate {A = ℕ} (length bytes.items) 255,
-      length-drop (place + length bytes.items) seen,
-      length-drop (place + length bytes.items) worst,
-    )
-worst_longer seen worst (Cut len) fits le = omega (
-  arith,
-  length-append (take len worst) (replicate (length worst - len) 255),
-  length-take-le len seen fits,
-  length-take-le len worst (omega arith),
-  length-replicate {A = ℕ} (length worst - len) 255,
-)
-worst_longer seen worst Sync fits le = omega arith
-
-worst_left : (seen : List ℕ) (left : List ℕ → Type 0) (worst : List ℕ) (calls : List Call)
-    → AllFit seen calls → left worst → length seen ≤ length worst
-    → left_by seen left calls (worst_by seen worst calls)
-worst_left seen left worst [] fit now le = now
-worst_left seen left worst (Look ∷ calls) fit now le = worst_left seen left worst calls fit.1 now le
-worst_left seen left worst (Write place bytes ∷ calls) fit now le =
-    let open_bytes : length (replicate (length bytes.items) 255) ≡ length bytes.items =
-    length-replicate {A = ℕ} (length bytes.items) 255 in
-    let torn = subst (λ (n : ℕ). Torn place n worst (take place worst
-    ++ replicate (length bytes.items) 255 ++ drop (place + n) worst)) open_bytes
-    (over place (replicate (length bytes.items) 255) worst (omega (arith, fit.0))) in
-    worst_left (after seen (Write place bytes)) (left_after seen left (Write place bytes))
-    (worst_after seen worst (Write place bytes)) calls fit.1
-    (worst, now, torn) (worst_longer seen worst (Write place bytes) fit.0 le)
-worst_left seen left worst (Cut len ∷ calls) fit now le = worst_left (take len seen)
-    (left_after seen left (Cut len)) (worst_after seen worst (Cut len)) calls fit.1 (
-      worst,
-      now,
-      cut_short len worst (replicate (length worst - len) 255) (omega (arith, fit.0))
-          (omega (arith, length-replicate {A = ℕ} (length worst - len) 255)),
-    ) (worst_longer seen worst (Cut len) fit.0 le)
-worst_left seen left worst (Sync ∷ calls) fit now le = worst_left seen
-    (left_after seen left Sync) seen calls fit.1 refl (omega arith)
-
 -- the bytes that reads return are a possible result of a crash
 pub seen_image : (first bytes : List ℕ) (calls : List Call) → AllFit first calls
     → seen_by first calls ≡ bytes → IsImage first calls bytes
 seen_image first bytes calls fit is = subst (λ (b : List ℕ). IsImage first calls b) is
     (seen_left first (λ d. d ≡ first) calls fit refl)
-
--- the worst contents are a possible result of a crash
-pub worst_image : (first worst : List ℕ) (calls : List Call) → AllFit first calls
-    → worst_by first first calls ≡ worst → IsImage first calls worst
-worst_image first worst calls fit is = subst (λ (b : List ℕ). IsImage first calls b) is
-    (worst_left first (λ d. d ≡ first) first calls fit refl (omega arith))
 
 -- the current moment is among those since an earlier moment
 pub counts : (seen : List ℕ) (left : List ℕ → Type 0) (calls : List Call) (t : ℕ) (c : List ℕ)

@@ -13,7 +13,7 @@ use Rattle.tape_core.specs.{Point.Point, Stands.weight_of, Weight.Rose}
 use Rattle.tape_core.specs.declared.sink.SinkFault.{SinkFault}
 use Rattle.tape_stage.specs.declared.stage.StageFault.TheVariants.{NoPoint, BadFrame, Device}
 use Rattle.tape_stage.specs.Staged.{Staged, Holding, HoldsNone, StandsLike, KeepsStaged}
-use Rattle.tape_stage.specs.Staged.{KeepsFrames, Loses, WalkedTo, Ready, StagedIn, slot_at, best}
+use Rattle.tape_stage.specs.Staged.{KeepsFrames, Loses, Ready, StagedIn, slot_at, best}
 use Rattle.tape_stage.specs.Stages.{Holds, IsAhead, IsStage, Returns, Survives, HasRefused}
 use Rattle.tape_stage.specs.declared.stage.StageFault.TheVariants.{OutOfMemory, Failed, Full}
 use Rattle.tape_stage.specs.Disk.{Torn, CutShort, Elapses, Follows, Allows, NoMore, Only}
@@ -27,7 +27,7 @@ use Rattle.tape_stage.specs.declared.stage.part_reader.PartReader.{PartReader}
 use Rattle.tape_stage.specs.{Body.body_text, Body.point_text, Reads.StageGave, Reads.HasRead}
 use Rattle.tape_stage.specs.{Calls.IsImage, Calls.WasImage, Calls.worst_by, OnlyReading.OnlyReads}
 use Rattle.tape_stage.specs.Faults.{SaysNone, IsNotDevice, OnBadFrame}
-use Rattle.tape_stage.specs.{Found.IsBadPlace, Frames.AheadIn, Frames.IsFrameAt, Frames.NoFrameAt}
+use Rattle.tape_stage.specs.{Found.IsBadPlace, Parts.AheadIn, Parts.IsFrameAt, Parts.NoFrameAt}
 use Rattle.tape_stage.specs.Holding.{with_held, LeftTorn, LeftSince}
 use Rattle.tape_stage.specs.Disk as disk
 
@@ -192,12 +192,11 @@ pub record CasesOfFiles : Type 0 where
       → (drop 256 new ≡ drop 256 old) × (length old ≤ length new)
   -- if a frame is bad, the current slot counts parts, the frames before the bad one are intact, and
   -- it is not
-  pub bad_place : (bytes : List ℕ) (place : ℕ) (b : IsBadPlace bytes place)
-      → (place ≤ length bytes) × (place < 256 + b.point.staged) × WalkedTo place bytes
-      × NoFrameAt place (min (256 + b.point.staged) (length bytes)) bytes
-      × (best (slot_at false bytes) (slot_at true bytes) ≡ Some (b.generation, b.point))
-  pub walked : (bytes : List ℕ) (place : ℕ) (w : WalkedTo place bytes) → (256 ≤ place)
-      × (take (place - 256) (drop 256 bytes) ≡ frames w.parts)
+  pub bad_place : (bytes : List ℕ) (place : ℕ) → IsBadPlace bytes place → (g : ℕ)
+      × (point : Point) × (parts : List Portion) × (256 ≤ place) × (place ≤ length bytes)
+      × (place < 256 + point.staged) × (take (place - 256) (drop 256 bytes) ≡ frames parts)
+      × NoFrameAt place (min (256 + point.staged) (length bytes)) bytes
+      × (best (slot_at false bytes) (slot_at true bytes) ≡ Some (g, point))
   -- a frame with one byte, A, has six bytes; five bytes contain no frame, and neither do six with
   -- another digit
   pub a_frame : IsFrameAt 0 6 (48 ∷ 0 ∷ 0 ∷ 0 ∷ 1 ∷ 65 ∷ []) Whole (65 ∷ [])

@@ -5,7 +5,7 @@ use Rattle.std.specs.Prelude.{◌≡◌, ◌⊎◌, ◌≤◌, ℕ, List, length
 use Rattle.tape_blocks.specs.Block.{Portion}
 use Rattle.tape_set.specs.Position.{block_of, part_of}
 use Rattle.tape_core.specs.Point.{Point, IsPoint}
-use Rattle.tape_stage.specs.StageLaws.{StandsOnce, ReadsOneOf, NamedStands, EitherStands}
+use Rattle.tape_stage.specs.Laws.{StandsOnce, ReadsOneOf, NamedStands, EitherStands}
 use Rattle.tape_stage.specs.{declared.point.Version.Version, declared.point.Version.TheVariants.One}
 use Rattle.tape_stage.specs.{declared.point.Version.TheVariants.Two, Fields.form_of}
 use Rattle.tape_stage.specs.{Laws.IsTextOfOne, Laws.IsTextOnce, Laws.HasBothTexts, Staged.Staged}

@@ -6,7 +6,7 @@ use Rattle.tape_blocks.specs.{declared.parts.Span.TheVariants.Whole, Block.Porti
 use Rattle.tape_core.specs.Point.{Point}
 use Rattle.tape_stage.specs.Salvaged.{FramedTo, Remains, RemainsNone, RemainsOnce}
 use Rattle.tape_stage.specs.Staged.{Staged, best, slot_at}
-use Rattle.tape_stage.specs.{Found.IsBadPlace, Found.IsFaultOf, Frames.NoFrameAt, Parts.frames}
+use Rattle.tape_stage.specs.{Found.IsBadPlace, Found.IsFaultOf, Parts.NoFrameAt, Parts.frames}
 use Rattle.tape_stage.specs.declared.stage.StageFault.TheVariants.{NoPoint, BadFrame}
 
 -- a whole record of one byte, A

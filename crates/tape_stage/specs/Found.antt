@@ -1,9 +1,9 @@
 -- The contents of the slots of a stage file.
-use Rattle.std.specs.Prelude.{◌≡◌, ℕ, ◌+◌, ◌≤◌, ◌<◌, min, length, true, false, not, List, Some}
-use Rattle.std.specs.Prelude.{◌==◌}
-use Rattle.tape_stage.specs.Staged.{best, WalkedTo, gate_at, slot_at, Loses}
+use Rattle.std.specs.Prelude.{◌≡◌, ◌==◌, ℕ, not, List, Some}
+use Rattle.tape_blocks.specs.Block.{Portion}
+use Rattle.tape_stage.specs.{Staged.gate_at, Staged.slot_at, Staged.Loses, Salvaged.Remains}
 use Rattle.tape_stage.specs.declared.stage.StageFault.TheVariants.{NoPoint, BadFrame}
-use Rattle.tape_stage.specs.{Frames.NoFrameAt, Salvaged.RemainsNone, declared.stage.Found.Found}
+use Rattle.tape_stage.specs.{Salvaged.RemainsNone, declared.stage.Found.Found}
 use Rattle.tape_stage.specs.declared.stage.StageFault.{StageFault}
 use Rattle.tape_core.specs.Point.{Point}
 
@@ -13,16 +13,10 @@ pub record IsFound (found : Found) (bytes : List ℕ) : Type 0 where
   pub other : Loses found.in_second found.generation (slot_at (not found.in_second) bytes)
   pub gate : found.other_open ≡ (gate_at (not found.in_second) bytes == 79)
 
--- The frames that the current slot counts are intact up to the offset `place`, before their end; at
--- that offset there is no frame that ends within the staged weight and the file.
-pub record IsBadPlace (bytes : List ℕ) (place : ℕ) : Type 0 where
-  pub generation : ℕ
-  pub point : Point
-  pub slot : best (slot_at false bytes) (slot_at true bytes) ≡ Some (generation, point)
-  pub inside : place ≤ length bytes
-  pub high : place < 256 + point.staged
-  pub walked : WalkedTo place bytes
-  pub none : NoFrameAt place (min (256 + point.staged) (length bytes)) bytes
+-- the parts remain that precede the offset `place`, where there is no valid frame
+abbrev pub IsBadPlace : List ℕ → ℕ → Type 0
+IsBadPlace bytes place = (g : ℕ) × (point : Point) × (parts : List Portion)
+    × Remains bytes g point (Some place) parts
 
 -- What a fault of opening says about the bytes: NoPoint, that no slot is valid; BadFrame, where the
 -- first bad frame is.

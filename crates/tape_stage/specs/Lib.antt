@@ -1,9 +1,7 @@
 -- definitions to believe, in this order; checkpoints:
 pub mod Fields
 pub mod Text
-pub mod Range
 pub mod Reading
-pub mod PointFaults
 -- disks, and the disk in memory:
 pub mod Disk
 pub mod Calls
@@ -15,7 +13,6 @@ pub mod Staged
 pub mod Moments
 pub mod Stages
 pub mod Found
-pub mod Frames
 pub mod Faults
 pub mod Reads
 -- stages that are only read, and the remains of damaged stages:
@@ -25,7 +22,6 @@ pub mod Salvaged
 pub mod Holding
 -- laws about these definitions, which are proved:
 pub mod Laws
-pub mod StageLaws
 -- examples, which ensure that the definitions do not say too little:
 pub mod Cases
 pub mod CasesOfLaws

@@ -11,7 +11,7 @@ use Rattle.tape_stage.specs.declared.point.Version.TheVariants.{One, Two}
 use Rattle.tape_stage.specs.declared.point.text.PointFault.{PointFault}
 use Rattle.tape_stage.specs.{declared.point.Version.Version, declared.point.Place.Place}
 use Rattle.tape_stage.specs.{declared.point.Flags.Flags, declared.point.Form.Form}
-use Rattle.tape_stage.specs.{declared.point.Fields.Fields, Fields.point_by, Range.is_right}
+use Rattle.tape_stage.specs.{declared.point.Fields.Fields, Fields.point_by, Fields.is_right}
 use Rattle.tape_stage.specs.declared.point.text.PointFault.TheVariants as faults
 
 -- the next step, unless a step has failed already
@@ -133,3 +133,11 @@ reading text = text_at text >>= λ read. right_point read.1
 -- the checkpoint with the given text, in either version, or `None`
 abbrev pub point_in : List ℕ → Option Point
 point_in text = result_ok (reading text)
+
+-- the fixed numbers of the faults, in the order of the tests
+abbrev pub number : PointFault → ℕ
+number faults.Length = 1
+number faults.Mark = 2
+number faults.Version = 3
+number (faults.Field position) = 4
+number faults.Range = 5

@@ -3,7 +3,7 @@ use Rattle.std.specs.Prelude.{◌≡◌, ℕ, ◌+◌, ◌-◌, ◌≤◌, ◌<�
 use Rattle.std.specs.Prelude.{Some, None, IfSome}
 use Rattle.tape_blocks.specs.{Block.Portion, Spans.join}
 use Rattle.tape_core.specs.Point.{Point}
-use Rattle.tape_stage.specs.{Frames.NoFrameAt, Staged.Holding, Staged.best, Staged.slot_at}
+use Rattle.tape_stage.specs.{Parts.NoFrameAt, Staged.Holding, Staged.best, Staged.slot_at}
 
 -- The frames after the first 256 bytes should have the weight `staged`, but they are damaged: no
 -- frame begins at `place` and ends within that weight and the file.

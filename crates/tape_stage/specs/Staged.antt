@@ -1,5 +1,5 @@
 -- The meaning of the bytes of a stage file.
-use Rattle.std.proofs.Common.{◌≡◌, ◌⊎◌, ℕ, ◌+◌, ◌≤◌, ◌<◌, ◌-◌, Bool, true, false, not, List, ◌∷◌}
+use Rattle.std.proofs.Common.{◌≡◌, ◌⊎◌, ℕ, ◌+◌, ◌≤◌, ◌<◌, Bool, true, false, not, List, ◌∷◌}
 use Rattle.std.proofs.Common.{length, take, drop, get_or, ◌++◌, replicate, Option, Some, None}
 use Rattle.std.proofs.Common.{if◌then◌else◌, ◌==◌, nat_lt, w32}
 use Rattle.std.specs.Int.{to_be_bytes}
@@ -90,13 +90,6 @@ IsEither second g point next parts more bytes = StagedIn second g point parts by
 -- the first bytes are those of contents that were possible before
 abbrev pub FrontOf : ℕ → (List ℕ → Type 0) → List ℕ → Type 0
 FrontOf place may_leave c = (d : List ℕ) × may_leave d × (take place c ≡ take place d)
-
--- the frames from offset 256 to the offset `place` are those of some parts
-pub record WalkedTo (place : ℕ) (bytes : List ℕ) : Type 0 where
-  pub low : 256 ≤ place
-  pub parts : List Portion
-  pub frames_are : take (place - 256) (drop 256 bytes) ≡ frames parts
-  pub short : AllShort parts
 
 -- the bytes c represent whatever the bytes `read` represent
 abbrev pub StandsLike : List ℕ → List ℕ → Type 0

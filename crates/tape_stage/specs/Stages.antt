@@ -8,7 +8,7 @@ use Rattle.tape_stage.specs.{declared.stage.StageFault.TheVariants.OutOfMemory, 
 use Rattle.tape_stage.specs.{declared.disk.Disk.Ghosts, Found.IsFaultOf, declared.stage.Stage.Stage}
 use Rattle.tape_stage.specs.{Body.most_generation, OnlyReading.OnlyReads, Salvaged.RemainsNone}
 use Rattle.tape_stage.specs.Faults.{IsNotDevice, OnBadFrame, SaysNone}
-use Rattle.tape_stage.specs.{Frames.AheadIn, Frames.NoFrameAt, declared.stage.StageFault.StageFault}
+use Rattle.tape_stage.specs.{Parts.AheadIn, Parts.NoFrameAt, declared.stage.StageFault.StageFault}
 use Rattle.tape_blocks.specs.Block.{Portion}
 use Rattle.tape_core.specs.{Crash.Crashes, Known.most_staged, Stands.weight_of, Weight.Rose}
 use Rattle.tape_core.specs.{declared.sink.SinkFault.SinkFault, Point.Point}
@@ -69,13 +69,13 @@ LendsNone disk readable walked weight old sink.Failed new = (readable ≡ false)
     ⊎ (disk.is_honest old → NoFrameAt (256 + walked) (256 + weight) (disk.seen old))
 LendsNone disk readable walked weight old _ new = ⊥
 
--- Why a change is refused, and what is left: the disk failed in the call, and the stage has failed;
--- or it had failed before, or there is no room for a part, or no generation for a checkpoint, and
--- only the refusal is counted.
+-- Why a change is refused, and what is left: the disk failed in the call, and the stage, which had
+-- not failed before, has failed; or it had failed before, or there is no room for a part, or no
+-- generation for a checkpoint, and only the refusal is counted.
 abbrev pub RefusesChange : {D : Type 0} {disk : Ghosts D} → Stage D disk → SinkFault → Stage D disk
     → Type 0
 RefusesChange {D} {disk} old sink.Device new = Rose (disk.faults old.disk) (disk.faults new.disk)
-    × (new.failed ≡ true)
+    × (old.failed ≡ false) × (new.failed ≡ true)
 RefusesChange old sink.Failed new = (old.failed ≡ true) × OnlyCounts old new
 RefusesChange old sink.Full new = ((most_staged < old.weight + (5 + longest_part))
     ⊎ (most_generation ≤ old.generation)) × OnlyCounts old new
@@ -108,12 +108,13 @@ HasRefused old new Full = new ≡ old
 HasRefused old new Failed = (new ≡ old) × (old.failed ≡ true)
 HasRefused old new _ = ⊥
 
--- How a call ends: with Ok only if the stage had not failed, and on a disk as honest as before;
--- otherwise refused as in `HasRefused`, with Device only if the disk failed. No disk becomes
--- honest, and the count of refused calls of the sink is unchanged.
+-- How a call ends: with Ok only if the stage had not failed, and on a disk as honest as before; the
+-- stage can then be used as before. Otherwise refused as in `HasRefused`, with Device only if the
+-- disk failed. No disk becomes honest, and the count of refused calls of the sink is unchanged.
 pub record EndsCall {A D : Type 0} {disk : Ghosts D} (old : Stage D disk)
     (result : Result A StageFault) (new : Stage D disk) : Type 0 where
   pub was_alive : OnOk result (old.failed ≡ false)
+  pub usable : OnOk result ((new.failed ≡ false) × (new.readable ≡ old.readable))
   pub refused : IfErr result (HasRefused old new)
   pub refusals : new.refused ≡ old.refused
   pub cause : IsErrOf result Device → Rose (disk.faults old.disk) (disk.faults new.disk)

@@ -8,7 +8,7 @@ ghost use Rattle.tape_core.specs.{Point.Point, Known.PositionFits};
 ghost use Rattle.tape_stage.specs.Fields.{fields_of, form_of, place_of, known_by, point_by};
 ghost use Rattle.tape_stage.specs.Text.{IsPointText, Fit, IsWritable, KnownFits};
 ghost use Rattle.tape_stage.specs.{Fields.position_by, declared.point.Version.TheVariants.Two};
-ghost use Rattle.tape_stage.specs.Range.{form_agrees, is_blank, is_right, place_agrees};
+ghost use Rattle.tape_stage.specs.Fields.{form_agrees, is_blank, is_right, place_agrees};
 ghost use Rattle.tape_stage.specs.{Reading.reading, declared.point.Version.Version};
 
 use crate::point::text::{PointFault, fields_text, text_at};

@@ -1,6 +1,6 @@
 //! A write buffer for a disk.
 ghost use Rattle.std.specs.Prelude.{◌≡◌, ◌+◌, ◌<◌, ◌≤◌, ◌^◌, [], length, max, OnOk, OnErr};
-ghost use Rattle.std.specs.{Prelude.vec_capacity, Bool.OnTrue};
+ghost use Rattle.std.specs.Prelude.{vec_capacity};
 ghost use Rattle.tape_stage.specs.Holding.{with_held, LeftTorn, LeftSince, held_long, held_over};
 ghost use Rattle.tape_stage.specs.{Holding.torn_same, Disk.NoMore, OnlyReading.Looks};
 ghost use Rattle.std.proofs.Common.{inr, ⊎_elim};
@@ -70,16 +70,6 @@ impl<D: Disk> WriteBehind<D> {
         self.start = 0;
         Ok(())
     }
-
-    /// Returns whether `size` bytes fit in the buffer, and their offsets from `place` are below
-    /// 2^64.
-    fn fits(&self, place: u64, size: usize) -> bool
-        ensures fits { OnTrue result
-            (length self.now.bytes.items + size ≤ vec_capacity self.now.bytes) }
-        ensures low { OnTrue result (place + size < 2 ^ 64) }
-    {
-        size <= self.bytes.capacity() - self.bytes.len() && place.checked_add(size as u64).is_some()
-    }
 }
 
 impl<D: Disk> Disk for WriteBehind<D> {
@@ -129,14 +119,14 @@ impl<D: Disk> Disk for WriteBehind<D> {
 
     #[inline(always)]
     fn write_at(&mut self, place: u64, bytes: &[u8]) -> Result<(), DiskFault> {
-        if self.start + self.bytes.len() as u64 == place {
-            if self.fits(place, bytes.len()) {
-                self.bytes.extend_from_slice(bytes).unwrap();
-                return Ok(());
-            }
+        let is_low = place.checked_add(bytes.len() as u64).is_some();
+        let room = self.bytes.capacity() - self.bytes.len();
+        if self.start + self.bytes.len() as u64 == place && bytes.len() <= room && is_low {
+            self.bytes.extend_from_slice(bytes).unwrap();
+            return Ok(());
         }
         self.pass_on()?;
-        if !self.fits(place, bytes.len()) {
+        if bytes.len() > self.bytes.capacity() || !is_low {
             return self.disk.write_at(place, bytes);
         }
         self.start = place;

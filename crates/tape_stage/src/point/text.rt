@@ -7,7 +7,7 @@ ghost use Rattle.tape_stage.specs.Reading.{version_by, state_position, fields_at
 ghost use Rattle.tape_stage.specs.Reading.{place_at, flags_at, form_at, number_at, flag_at};
 ghost use Rattle.tape_stage.specs.Reading.{format_at, tail_at};
 ghost use Rattle.tape_stage.specs.Text.{format_letter, Fit, pieces};
-ghost use Rattle.tape_stage.specs.{PointFaults.number, declared.point.Version.TheVariants.Two};
+ghost use Rattle.tape_stage.specs.{Reading.number, declared.point.Version.TheVariants.Two};
 
 use crate::point::{Fields, Flags, Form, Place, Version};
 use arrayvec::ArrayVec;

@@ -8,7 +8,7 @@ ghost use Rattle.tape_blocks.specs.Block.{Portion, indicator};
 ghost use Rattle.tape_core.specs.{Weight.Rose, Known.most_staged};
 ghost use Rattle.tape_stage.specs.Staged.{IsNoHeader, StagedIn, FrontOf};
 ghost use Rattle.tape_stage.specs.{OnlyReading.OnlyReads, Salvaged.WalkedIn, Salvaged.WalkedOver};
-ghost use Rattle.tape_stage.specs.{Moments.Passes, Frames.IsFrameAt, Frames.NoFrameAt};
+ghost use Rattle.tape_stage.specs.{Moments.Passes, Parts.IsFrameAt, Parts.NoFrameAt};
 ghost use Rattle.tape_stage.specs.Parts.{longest_part, IsFront};
 ghost use Rattle.tape_stage.specs.Stages.{IsStage, EndsCall};
 
@@ -177,8 +177,6 @@ impl<D: Disk> Stage<D> {
         ensures pending { self.new.pending ≡ self.old.pending }
         ensures slot { (self.new.in_second ≡ self.old.in_second)
             × (self.new.generation ≡ self.old.generation) }
-        ensures usable { OnOk result ((self.new.failed ≡ false)
-            × (self.new.readable ≡ self.old.readable)) }
         ensures ends { EndsCall self.old result self.new }
     {
         // No sync: bytes after that weight do not count, whether or not a crash leaves them.

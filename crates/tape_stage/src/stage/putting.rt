@@ -1,101 +1,22 @@
 //! A stage as a sink: appending parts, saving and walking.
 
 ghost use Rattle.std.specs.Prelude.{◌≡◌, ◌+◌, ◌≤◌, ◌<◌, ◌∷◌, ◌++◌, [], List, length, OnOk, OnErr};
-ghost use Rattle.std.specs.Prelude.{IsErrOf, ◌-◌, take, Err, true, false, IfErr, ◌≢◌, ◌⊎◌};
+ghost use Rattle.std.specs.Prelude.{◌-◌, Err, false, IfErr, ◌≢◌, ◌⊎◌};
 ghost use Rattle.std.proofs.Common.{inr};
-ghost use Rattle.tape_blocks.specs.{Block.Portion, Block.indicator, Parts.view};
+ghost use Rattle.tape_blocks.specs.{Block.Portion, Parts.view};
 ghost use Rattle.tape_core.specs.{Weight.Rose, Stands.weight_of, Known.most_staged};
 ghost use Rattle.tape_core.specs.Crash.{AddsNothing, AddsOnly, IsThis, ThisAlone};
-ghost use Rattle.tape_stage.specs.Stages.{IsStage, EndsCall, Holds, IsAhead, LendsNone, crashes_of};
+ghost use Rattle.tape_stage.specs.Stages.{IsStage, Holds, IsAhead, LendsNone, crashes_of};
 ghost use Rattle.tape_stage.specs.Staged.{StagedIn, KeepsFront, IsSaving, SameFrames};
 ghost use Rattle.tape_stage.specs.Stages.{HasNamed, IsPending, RefusesChange, SameStage};
-ghost use Rattle.tape_stage.specs.{Body.most_generation, Parts.longest_part, Parts.frame};
-ghost use Rattle.tape_stage.specs.{Moments.Passes, Disk.SameFact, Faults.sink_fault_of};
+ghost use Rattle.tape_stage.specs.{Body.most_generation, Parts.longest_part, Moments.Passes};
+ghost use Rattle.tape_stage.specs.{Disk.SameFact, Faults.sink_fault_of};
 
 use crate::disk::Disk;
 use crate::stage::frames::read_frame;
 use crate::stage::{MOST_STAGED, Stage, StageFault};
-use tape_blocks::{Part, Span};
+use tape_blocks::Part;
 use tape_core::{Checkpoint, PartSink, PartWalk, SinkFault};
-
-/// Returns the digit of a span.
-fn digit(span: Span) -> u8
-    ensures { result ≡ indicator span }
-{
-    match span {
-        Span::Whole => b'0',
-        Span::First => b'1',
-        Span::Middle => b'2',
-        Span::Last => b'3',
-    }
-}
-
-/// Writes a part's frame at the start of `buffer`.
-#[inline(always)]
-fn put_frame(buffer: &mut [u8], part: Part<'_>)
-    requires short { length part.bytes.now ≤ longest_part }
-    requires room { longest_part + 5 ≤ length buffer.old }
-    ensures { take (5 + length part.entry.bytes.now) buffer.new ≡ frame (view part.entry) }
-{
-    // The four bytes of the length, stored next to each other, are a single store.
-    buffer[1..5].copy_from_slice(&(part.bytes.len() as u32).to_be_bytes());
-    buffer[0] = digit(part.span);
-    buffer[5..5 + part.bytes.len()].copy_from_slice(part.bytes);
-}
-
-impl<D: Disk> Stage<D> {
-    /// Appends a part. It is not acknowledged yet.
-    ///
-    /// # Errors
-    ///
-    /// Returns `Failed` if the disk failed before, and `Full` if the total weight would exceed
-    /// 999,999,999,999,999; in both cases nothing is changed. After `Device` the stage must be
-    /// opened again.
-    #[inline(always)]
-    pub fn put_part(&mut self, part: Part<'_>) -> Result<(), StageFault>
-        requires { length part.bytes.now ≤ longest_part }
-        ensures ok { D.is_honest self.old.disk → OnOk result ((acked parts : List Portion)
-            → IsStage self.old acked parts
-            → IsStage self.new acked (parts ++ view part.entry ∷ [])) }
-        ensures any_moment { D.is_honest self.old.disk → (acked parts : List Portion)
-            → IsStage self.old acked parts → Passes D.Disk self.old.disk self.new.disk
-            (StagedIn self.old.in_second self.old.generation self.old.acknowledged acked) }
-        ensures kept { D.is_honest self.old.disk
-            → KeepsFront (256 + self.old.weight) (D.seen self.old.disk) (D.seen self.new.disk) }
-        ensures weight { OnOk result (self.new.weight ≡ self.old.weight +
-            (5 + length part.entry.bytes.now)) }
-        ensures acknowledged { self.new.acknowledged ≡ self.old.acknowledged }
-        ensures pending { self.new.pending ≡ self.old.pending }
-        ensures usable { OnOk result ((self.new.failed ≡ false)
-            × (self.new.readable ≡ self.old.readable)) }
-        ensures ends { EndsCall self.old result self.new }
-        ensures full { IsErrOf result StageFault.Full → (self.new ≡ self.old)
-            × (most_staged < self.old.weight + (5 + length part.entry.bytes.now)) }
-        ensures honest { SameFact (D.is_honest self.old.disk) (D.is_honest self.new.disk) }
-    {
-        if self.failed {
-            return Err(StageFault::Failed);
-        }
-        let size = 5 + part.bytes.len();
-        if size as u64 > MOST_STAGED - self.weight {
-            return Err(StageFault::Full);
-        }
-        put_frame(self.buffer.as_mut_slice(), part);
-        // No sync: the part counts once a checkpoint that includes it is saved, and saving begins
-        // with a sync.
-        match self.disk.write_at(256 + self.weight, &self.buffer[..size]) {
-            Ok(()) => {
-                self.weight += size as u64;
-                Ok(())
-            }
-            Err(_) => {
-                self.failed = true;
-                self.readable = false;
-                Err(StageFault::Device)
-            }
-        }
-    }
-}
 
 /// Returns the fault as a fault of a sink. The faults of opening do not occur here.
 fn sink_fault(fault: StageFault) -> SinkFault
@@ -128,6 +49,14 @@ impl<D: Disk> PartSink for Stage<D> {
     fn put(&mut self, part: Part<'_>) -> Result<(), SinkFault>
         requires { length part.bytes.now ≤ longest_part }
         ensures alive { OnOk result (self.old.failed ≡ false) }
+        ensures staged { D.is_honest self.old.disk → OnOk result ((acked parts : List Portion)
+            → IsStage self.old acked parts
+            → IsStage self.new acked (parts ++ view part.entry ∷ [])) }
+        ensures any_moment { D.is_honest self.old.disk → (acked parts : List Portion)
+            → IsStage self.old acked parts → Passes D.Disk self.old.disk self.new.disk
+            (StagedIn self.old.in_second self.old.generation self.old.acknowledged acked) }
+        ensures kept { D.is_honest self.old.disk
+            → KeepsFront (256 + self.old.weight) (D.seen self.old.disk) (D.seen self.new.disk) }
         ensures ok { OnOk result ((parts : List Portion) → Holds self.old parts
             → Holds self.new (parts ++ view part.entry ∷ [])) }
         ensures err { OnErr result ((parts : List Portion) → Holds self.old parts
@@ -147,15 +76,36 @@ impl<D: Disk> PartSink for Stage<D> {
             × (self.new.pending ≡ self.old.pending) }
         ensures usable { OnOk result ((self.new.failed ≡ false)
             × (self.new.readable ≡ self.old.readable)) }
+        ensures honest { SameFact (D.is_honest self.old.disk) (D.is_honest self.new.disk) }
     {
-        match self.put_part(part) {
+        // What a failed disk contains is known only once the stage is opened again.
+        if self.failed {
+            self.refused = self.refused.saturating_add(1);
+            return Err(SinkFault::Failed);
+        }
+        let size = 5 + part.bytes.len();
+        if size as u64 > MOST_STAGED - self.weight {
+            self.refused = self.refused.saturating_add(1);
+            return Err(SinkFault::Full);
+        }
+        let frame = self.buffer.as_mut_slice();
+        // The four bytes of the length, stored next to each other, are a single store.
+        frame[1..5].copy_from_slice(&(part.bytes.len() as u32).to_be_bytes());
+        frame[0] = part.span.indicator();
+        frame[5..size].copy_from_slice(part.bytes);
+        // No sync: the part counts once a checkpoint that includes it is saved, and saving begins
+        // with a sync.
+        match self.disk.write_at(256 + self.weight, &self.buffer[..size]) {
             Ok(()) => {
                 self.walked = 0;
+                self.weight += size as u64;
                 Ok(())
             }
-            Err(fault) => {
+            Err(_) => {
+                self.failed = true;
+                self.readable = false;
                 self.refused = self.refused.saturating_add(1);
-                Err(sink_fault(fault))
+                Err(SinkFault::Device)
             }
         }
     }

@@ -71,8 +71,6 @@ impl<D: Disk> Stage<D> {
         ensures calm { OnOk result (D.faults self.new.disk ≡ D.faults self.old.disk) }
         ensures frames { D.is_honest self.old.disk
             → KeepsFrames (D.seen self.old.disk) (D.seen self.new.disk) }
-        ensures usable { OnOk result ((self.new.failed ≡ false)
-            × (self.new.readable ≡ self.old.readable)) }
         ensures ends { EndsCall self.old result self.new }
     {
         if self.failed {
@@ -137,8 +135,6 @@ impl<D: Disk> Stage<D> {
         ensures frames { D.is_honest self.old.disk → OnOk result (SameFrames point.now.staged
             (D.seen self.old.disk) (D.seen self.new.disk)) }
         ensures weight { OnOk result (self.new.weight ≡ point.now.staged) }
-        ensures usable { OnOk result ((self.new.failed ≡ false)
-            × (self.new.readable ≡ self.old.readable)) }
         ensures ends { EndsCall self.old result self.new }
     {
         let staged = point.staged;

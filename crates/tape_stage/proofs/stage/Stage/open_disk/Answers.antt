@@ -3,15 +3,13 @@ use Rattle.tape_blocks.specs.Block.{Portion}
 use Rattle.tape_stage.specs.declared.stage.StageFault.TheVariants.{BadFrame, Device, Failed, Full}
 use Rattle.tape_stage.specs.{Salvaged.Remains, Stages.OpensOver, Staged.Holding}
 use Rattle.tape_stage.specs.{Stages.IsStaged, Staged.Ready}
-use Rattle.tape_stage.proofs.Remaining.{broken_bad, broken_none, found_remains, none_staged}
+use Rattle.tape_stage.proofs.Remaining.{broken_none, found_remains, none_staged}
 use Rattle.tape_stage.proofs.{Backs.ready_survives, Backs.ready_returns, Remaining.whole_framed}
 use Rattle.tape_stage.proofs.Openings.{IsOpened, cut_opened, cut_passes, cut_stopped, read_refuses}
 use Rattle.tape_stage.proofs.stage.Stage.open_disk.Goals.{After-cut_kept, In-Ok-cut_kept}
 use Rattle.tape_stage.proofs.{Finds.found_read, Held.stage_holds, Results.no_frame_says}
 use Rattle.tape_stage.proofs.stage.Stage.open_disk.Given.{Over}
 use Rattle.tape_stage.proofs.stage.Stage.open_disk.Goals as goal
-
--- ---- nothing was found
 
 pub returns-in-Err-clause-refused : goal.returns-in-Err-clause-refused
 returns-in-Err-clause-refused g c =
@@ -22,28 +20,21 @@ returns-in-Err-clause-refused g c =
     (λ h. no_frame_says old c.in-Err.fault (l.none h) l.no_frame) (λ e. l.ends.not_full (ap Err e))
     (λ e. l.ends.not_failed (ap Err e)) (λ e. l.ends.cause (ap Err e))
 
--- ---- a frame is damaged
-
 pub returns-in-Some-clause-refused : goal.returns-in-Some-clause-refused
 returns-in-Some-clause-refused g c =
     let l = c.in-Ok.ensures in
     let found = c.in-Ok.looked.0 in
     let place = c.in-Some.place in
     let old = g.D.Disk.seen c.args.disk in
-    let remains : g.D.Disk.is_honest c.args.disk → (parts : List Portion)
-    × Remains old found.generation found.point (Some place) parts = λ h.
-    let framed = l.framed h in (
-      framed.0,
-      found_remains _ _ _ _ (l.found h)
-          (rw c.in-Some.is at framed.1),
-    ) in
+    let remains : (h : g.D.Disk.is_honest c.args.disk) → Remains old found.generation found.point
+    (Some place) (l.framed h).0 =
+    λ h. found_remains _ _ _ _ (l.found h) (rw c.in-Some.is at (l.framed h).1) in
     read_refuses _ _ _ c.look.ensures.reads (BadFrame place)
-    (λ h says. broken_none _ _ _ place _ (remains h).1)
-    (λ h. broken_bad _ _ _ place _ (remains h).1) (λ e. let no : BadFrame place ≡ Full = e in cc)
+    (λ h says. broken_none _ _ _ place _ (remains h))
+    (λ h. (found.generation, found.point, (l.framed h).0, remains h))
+    (λ e. let no : BadFrame place ≡ Full = e in cc)
     (λ e. let no : BadFrame place ≡ Failed = e in cc)
     (λ e. absurd (let no : BadFrame place ≡ Device = e in cc))
-
--- ---- the bytes after the stage are removed
 
 whole : (g : Over) (c : After-cut_kept g) (h : g.D.Disk.is_honest c.args.disk)
     → Holding c.in-Ok.looked.0.point.staged (c.in-Ok.ensures.framed h).0 (g.D.Disk.seen c.args.disk)
@@ -58,13 +49,12 @@ passes g c h =
     (c.cut_kept.ensures.any_moment (l.ends.honest h) (l.durable h)))
 
 opened : (g : Over) (c : In-Ok-cut_kept g) (h : g.D.Disk.is_honest c.args.disk)
-    → Holding c.in-Ok.looked.0.point.staged (c.in-Ok.ensures.framed h).0 (g.D.Disk.seen c.args.disk)
     → IsOpened g.D.Disk c.in-Ok.looked.0 c.args.disk c.cut_kept.new.disk
-opened g c h holding =
+opened g c h =
     let l = c.in-Ok.ensures in
     let cut = c.in-Ok-cut_kept.ensures in
     cut_opened g.D.Disk _ _ _ c.look.ensures.reads h c.in-Ok.looked.0 (l.found h)
-    (l.framed h).0 holding
+    (l.framed h).0 (whole_framed _ _ _ _ c.in_default.is (l.framed h).1)
     (rw c.staged-weight.ensures.value at (cut.cut (l.ends.honest h)))
     (cut.synced.durable (l.ends.honest h))
 
@@ -109,13 +99,13 @@ staged g c parts ready = record {
 pub returns-clause-ok : goal.returns-clause-ok
 returns-clause-ok g c h =
     let at = goal.at.returns-clause-ok g c in
-    let is = opened g at.In-Ok-cut_kept h (whole g at.After-cut_kept h) in
+    let is = opened g at.In-Ok-cut_kept h in
     (is.parts, is.read, refl, staged g at.In-Ok-cut_kept is.parts is.ready)
 
 pub returns-clause-resumes : goal.returns-clause-resumes
 returns-clause-resumes g c h =
     let at = goal.at.returns-clause-resumes g c in
-    let is = opened g at.In-Ok-cut_kept h (whole g at.After-cut_kept h) in (
+    let is = opened g at.In-Ok-cut_kept h in (
       c.in-Ok.looked.0.generation,
       is.parts,
       is.read,
@@ -125,8 +115,5 @@ returns-clause-resumes g c h =
     )
 
 pub returns-clause-survives : goal.returns-clause-survives
-returns-clause-survives g c h =
-    let found = c.in-Ok.looked.0 in
-    let at = goal.at.returns-clause-survives g c in
-    let is = opened g at.In-Ok-cut_kept h (whole g at.After-cut_kept h) in
-    ready_survives _ _ _ _ _ _ _ is.ready
+returns-clause-survives g c h = ready_survives _ _ _ _ _ _ _
+    (opened g (goal.at.returns-clause-survives g c).In-Ok-cut_kept h).ready

@@ -1,7 +1,7 @@
 use Rattle.std.proofs.Common.{◌≡◌, ◌+◌, List, [], ◌∷◌, ◌++◌, take, drop, min, length, refl, sym, ap}
 use Rattle.std.proofs.Common.{subst, ◌∙◌, arith}
 use Rattle.tape_blocks.specs.{Block.Portion, Spans.join}
-use Rattle.tape_stage.specs.Frames.{NoFrameAt}
+use Rattle.tape_stage.specs.Parts.{NoFrameAt}
 use Rattle.tape_stage.proofs.stage.frames.walk.Goals.{After-min-limit, then-not-leaves}
 use Rattle.tape_stage.proofs.Passing.{follow, stands, weaken}
 use Rattle.tape_stage.proofs.Remaining.{counted_ends, counted_goes_on, walked_more, framed_broken}

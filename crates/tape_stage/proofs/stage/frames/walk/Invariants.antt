@@ -1,6 +1,7 @@
 use Rattle.std.proofs.Common.{◌≡◌, ◌-◌, ◌≤◌, length}
 use Rattle.tape_blocks.specs.Spans.{join}
-use Rattle.tape_stage.specs.{Disk.SameFact, Moments.Passes, Staged.WalkedTo}
+use Rattle.tape_stage.specs.{Disk.SameFact, Moments.Passes}
+use Rattle.tape_stage.proofs.Remaining.{WalkedTo}
 use Rattle.tape_stage.proofs.stage.frames.walk.Given as goal
 
 abbrev pub invariant-loop-place : goal.invariant-loop-place

@@ -7,31 +7,31 @@ use Rattle.tape_stage.proofs.disk.write_behind.WriteBehindDisk.write_at.Goals as
 
 -- ---- bytes appended to the buffer
 
-pub returns-then-fits-clause-written : goal.returns-then-fits-clause-written
-returns-then-fits-clause-written g c honest =
+pub returns-then-is_low-clause-written : goal.returns-then-is_low-clause-written
+returns-then-is_low-clause-written g c honest =
     let h = c.args.self.now in
     let end : c.args.place ≡ h.start + length h.bytes.items = omega arith in
     rw (c.extend_from_slice.ensures.items, c.unwrap.ensures, end) (holds_more h.start
     h.bytes.items c.args.bytes.now (g.D.Disk.seen h.disk)
     (omega (arith, g.met.D.Disk.long_as_seen h.disk honest, h.within)))
 
-pub returns-then-fits-clause-crash : goal.returns-then-fits-clause-crash
-returns-then-fits-clause-crash g c honest =
+pub returns-then-is_low-clause-crash : goal.returns-then-is_low-clause-crash
+returns-then-is_low-clause-crash g c honest =
     rw (c.extend_from_slice.ensures.items, c.unwrap.ensures)
     (added_follows (g.D.Disk.may_leave _) _ _ _ c.args.bytes.now (omega arith))
 
-pub returns-then-fits-clause-stays : goal.returns-then-fits-clause-stays
-returns-then-fits-clause-stays g c honest =
+pub returns-then-is_low-clause-stays : goal.returns-then-is_low-clause-stays
+returns-then-is_low-clause-stays g c honest =
     rw (c.extend_from_slice.ensures.items, c.unwrap.ensures)
     (more_stays (g.D.Disk.may_leave _) _ _ _)
 
-pub returns-then-fits-clause-any : goal.returns-then-fits-clause-any
-returns-then-fits-clause-any g c honest =
+pub returns-then-is_low-clause-any : goal.returns-then-is_low-clause-any
+returns-then-is_low-clause-any g c honest =
     rw (c.extend_from_slice.ensures.items, c.unwrap.ensures)
     (added_allows (g.D.Disk.may_leave _) _ _ _ c.args.bytes.now (omega arith))
 
-pub returns-then-fits-clause-time : goal.returns-then-fits-clause-time
-returns-then-fits-clause-time g c honest =
+pub returns-then-is_low-clause-time : goal.returns-then-is_low-clause-time
+returns-then-is_low-clause-time g c honest =
     rw (c.extend_from_slice.ensures.items, c.unwrap.ensures)
     (held_elapses _ _ _ _ _ _ _ _ _ _ (elapses_self _ _ _)
     (λ t x le held. inr (more_stays _ _ _ c.args.bytes.now x held)))
@@ -60,20 +60,20 @@ returns-clause-any g c honest =
 
 -- ---- the buffer written, and then more bytes than fit in it
 
-pub returns-then-not-fits-clause-stays : goal.returns-then-not-fits-clause-stays
-returns-then-not-fits-clause-stays g c honest =
+pub returns-then-bytes-capacity-clause-stays : goal.returns-then-bytes-capacity-clause-stays
+returns-then-bytes-capacity-clause-stays g c honest =
     let passed = c.in_ok-pass_on.ensures in
     then_stays _ _ _ _ _ passed.empty (passed.stays honest)
     (c.write_at.ensures.stays (passed.looks.honest.onward honest))
 
-pub returns-then-not-fits-clause-any : goal.returns-then-not-fits-clause-any
-returns-then-not-fits-clause-any g c honest =
+pub returns-then-bytes-capacity-clause-any : goal.returns-then-bytes-capacity-clause-any
+returns-then-bytes-capacity-clause-any g c honest =
     let passed = c.in_ok-pass_on.ensures in
     on_ok c.write_at.result (then_allows _ _ _ _ _ _ passed.empty (passed.stays honest))
     (c.write_at.ensures.any (passed.looks.honest.onward honest))
 
-pub returns-then-not-fits-clause-time : goal.returns-then-not-fits-clause-time
-returns-then-not-fits-clause-time g c honest =
+pub returns-then-bytes-capacity-clause-time : goal.returns-then-bytes-capacity-clause-time
+returns-then-bytes-capacity-clause-time g c honest =
     let passed = c.in_ok-pass_on.ensures in
     let onward = passed.looks.honest.onward honest in
     then_elapses _ _ _ _ _ _ _ _ _ _ _ _ _ passed.empty (passed.looks.crash honest)
