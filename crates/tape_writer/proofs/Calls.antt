@@ -39,16 +39,14 @@ pub last_told : {T : Type 0} (H : Tapes → Type 0) (w : SetState T) (o : OpenFi
 last_told H w o told is k = rw is at k.stands
 
 pub put_told : {T : Type 0} (H H' : Tapes → Type 0) (w : SetState T) (out : T) (vs : List Vol1)
-    (course : Course) (o : OpenFile) (q : Packing) (told : List Told) (r : List ℕ)
-    → w.phase ≡ Filing o → vs ≡ w.volumes
+    (course : Course) (o p : OpenFile) (told : List Told) (r : List ℕ)
+    → w.phase ≡ Filing o → vs ≡ w.volumes → p.file ≡ o.file
     → ((fs : List (List Section)) (records : List (List ℕ))
     → IsInside H vs w.capacity w.set_id o.file w.course o.packer fs records
-    → IsInside H' vs w.capacity w.set_id o.file course q fs (records ++ r ∷ []))
+    → IsInside H' vs w.capacity w.set_id o.file course p.packer fs (records ++ r ∷ []))
     → IsWriting H w told
-    → IsWriting H' (record w
-    { out = out; course = course; phase = Filing (record { file = o.file; packer = q }) })
-    (with_record told r)
-put_told H H' w out vs course o q told r is v packed k =
+    → IsWriting H' (record w { out = out; course = course; phase = Filing p }) (with_record told r)
+put_told H H' w out vs course o p told r is v same packed k =
     let last = last_told H w o told is k in
     let f = last.filing in
     record {
@@ -56,16 +54,16 @@ put_told H H' w out vs course o q told r is v packed k =
       stands = record {
         past = last.past;
         records = last.records ++ r ∷ [];
-        is_told = put_last told last.past o.file last.records r last.is_told;
-        filing = record {
+        is_told = rw same (put_last told last.past o.file last.records r last.is_told);
+        filing = rw same (record {
           files = f.files;
           filed = f.filed;
-          inside = subst (λ z. IsInside H' z w.capacity w.set_id o.file course q f.files
+          inside = subst (λ z. IsInside H' z w.capacity w.set_id o.file course p.packer f.files
               (last.records ++ r ∷ [])) v
               (packed f.files last.records
               (subst (λ z. IsInside H z w.capacity w.set_id o.file w.course o.packer f.files
               last.records) (sym v) f.inside));
-        };
+        });
       };
     }
 

@@ -5,6 +5,7 @@ use Rattle.tape_blocks.specs.Packing.{the_packing}
 use Rattle.tape_blocks.proofs.RunLaws.{run_begins}
 use Rattle.tape_writer.specs.declared.{course.Opened.Opened, course.Course.Course}
 use Rattle.tape_writer.specs.CasesOfDrafts.{CasesOfDrafts, CasesOfInside, nothing_yet, as_placed}
+use Rattle.tape_writer.specs.CasesOfDrafts.{CasesOfPositions, CasesInside}
 use Rattle.tape_writer.specs.Draft.{OfLast, IsDone, Steady, IsOpen, IsResting}
 use Rattle.tape_writer.specs.Inside.{IsBetween, IsFiling, IsFlat, IsWaiting}
 use Rattle.tape_writer.specs.{CasesOfDrafts.first_course, CasesOfDrafts.first_items, Labels.IsReady}
@@ -100,6 +101,65 @@ module _ (v : Vol1) (capacity : ℕ) (file : Opened) (used : ℕ) (ready : IsRea
     lengths = tt;
   }
 
+positions : (volumes : List Volume) (capacity : ℕ) (id : List ℕ) (file : Opened) (course : Course)
+    → CasesOfPositions volumes capacity id file course
+positions volumes capacity id file course = record {
+  done = λ n x y d.
+      (d.each.0, d.each.1.0, d.first, d.chain.0, d.ends.0, d.ends.1.0, d.changes.0);
+  between_files = λ u v b. (
+    b.volume,
+    b.few,
+    b.done,
+    (b.last (as_placed 1 1 u ∷ []) (as_placed 2 1 v) refl).1,
+    b.within,
+    b.used,
+    b.room,
+  );
+  none_open = λ d b. (b.no_sects, b.no_blocks);
+  none_empty = λ u past b.
+      let last : 1 ≡ 2 = (b.last [] (as_placed 1 1 u) refl).0 in omega (arith, last);
+  none_ended = λ past b. b.fresh refl;
+  inside_file = λ next u v s b w. (
+    w.sequence,
+    w.volume,
+    w.sect,
+    w.count,
+    w.of_set,
+    w.ready,
+    w.few,
+    w.sect_most,
+    w.count_most,
+    w.sized.0,
+  );
+  behind_sections = λ next u v s b w.
+      let before = as_placed 1 1 u ∷ as_placed 2 1 v ∷ [] in (
+        w.done,
+        w.goes before (as_placed 3 1 s) refl,
+        w.change before (as_placed 3 1 s) refl,
+        w.going.0.0,
+        w.going.0.1,
+      );
+  inside_room = λ next d w. (w.within, w.used, w.room);
+  none_ended_inside = λ next blocks past w. w.fresh refl;
+  some_block = λ u v s k. k.begins refl (as_placed 1 1 u ∷ as_placed 2 1 v ∷ [])
+      (as_placed 3 1 s) refl (sym k.inside.sequence);
+  begins_with = λ d k. k.inside;
+}
+
+pub cases_of_drafts : CasesOfDrafts
+cases_of_drafts = record {
+  in_their_order = λ u v s blocks. refl;
+  blocks_of_file = λ other file a b c d e. refl;
+  volumes_ended = λ v w x other file a b c d e. refl;
+  volume_open = λ v w x other file course a b c d e. refl;
+  volume_resting = λ v file a. refl;
+  section_here = λ file course blocks. (refl, refl, refl, refl);
+  of_last = λ x y z xs h. h (x ∷ []) y refl;
+  positions = positions;
+  roomy = λ capacity volumes course r. (r.room, r.count, r.some, r.sect, r.volume);
+  resting_first = resting_first;
+}
+
 waiting_first : (tapes : Tapes) (volumes : List Vol1) (capacity : ℕ) (id : List ℕ)
     (course : Course) → IsWaiting (λ t. t ≡ tapes) volumes capacity id course []
     → (course.volume ≡ 0) × (Ended [] ≡ tapes)
@@ -113,78 +173,27 @@ waiting_behind : (tapes : Tapes) (volumes : List Vol1) (capacity : ℕ) (id : Li
 waiting_behind tapes volumes capacity id course t (inl w) = absurd (let e = w.2 in cc e)
 waiting_behind tapes volumes capacity id course t (inr w) = w.0
 
-pub cases_of_drafts : CasesOfDrafts
-cases_of_drafts = record {
-  in_their_order = λ u v s blocks. refl;
-  blocks_of_file = λ other file a b c d e. refl;
-  volumes_ended = λ v w x other file a b c d e. refl;
-  volume_open = λ v w x other file course a b c d e. refl;
-  volume_resting = λ v file a. refl;
-  section_here = λ file course blocks. (refl, refl, refl, refl);
-  of_last = λ x y z xs h. h (x ∷ []) y refl;
-  done = λ volumes capacity id n x y d.
-      (d.each.0, d.each.1.0, d.first, d.chain.0, d.ends.0, d.ends.1.0, d.changes.0);
-  between_files = λ volumes capacity id course u v b. (
-    b.volume,
-    b.few,
-    b.done,
-    (b.last (as_placed 1 1 u ∷ []) (as_placed 2 1 v) refl).1,
-    b.within,
-    b.used,
-    b.room,
-  );
-  none_open = λ volumes capacity id course d b. (b.no_sects, b.no_blocks);
-  none_empty = λ volumes capacity id course u past b.
-      let last : 1 ≡ 2 = (b.last [] (as_placed 1 1 u) refl).0 in omega (arith, last);
-  none_ended = λ volumes capacity id course past b. b.fresh refl;
-  inside_file = λ volumes capacity id file course next u v s b w. (
-    w.sequence,
-    w.volume,
-    w.sect,
-    w.count,
-    w.of_set,
-    w.ready,
-    w.few,
-    w.sect_most,
-    w.count_most,
-    w.sized.0,
-  );
-  behind_sections = λ volumes capacity id file course next u v s b w.
-      let before = as_placed 1 1 u ∷ as_placed 2 1 v ∷ [] in (
-        w.done,
-        w.goes before (as_placed 3 1 s) refl,
-        w.change before (as_placed 3 1 s) refl,
-        w.going.0.0,
-        w.going.0.1,
-      );
-  inside_room = λ volumes capacity id file course next d w. (w.within, w.used, w.room);
-  none_ended_inside = λ volumes capacity id file course next blocks past w. w.fresh refl;
-  some_block = λ volumes capacity id file course u v s k.
-      k.begins refl (as_placed 1 1 u ∷ as_placed 2 1 v ∷ []) (as_placed 3 1 s) refl
-      (sym k.inside.sequence);
-  begins_with = λ volumes capacity id file course d k. k.inside;
-  roomy = λ capacity volumes course r. (r.room, r.count, r.some, r.sect, r.volume);
-  open_held = λ tapes volumes capacity id file course d o. (o.held, o.steady);
-  resting_held = λ tapes volumes capacity id course d r. (r.held, r.between);
-  resting_first = resting_first;
+inside : (tapes : Tapes) (volumes : List Vol1) (capacity : ℕ) (id : List ℕ) (file : Opened)
+    (course : Course) → CasesInside tapes volumes capacity id file course
+inside tapes volumes capacity id file course = record {
+  inside = λ p fs records i. (i.files, i.shape, i.ended, i.run, i.lengths, i.is_open);
+  middle = λ p fs records whole rest i. (i.files, i.shape, i.going, i.lengths, i.is_open);
+  flat = λ fs records i. (i.files, i.tight, i.lengths, i.is_open);
+  between = λ told b. (b.filed, b.resting);
+  filing = λ p past records f. (f.filed, f.inside);
+  waiting_first = waiting_first tapes volumes capacity id course;
+  waiting_behind = waiting_behind tapes volumes capacity id course;
+  stuck_open = λ fs records s. s.is_open;
+  open_held = λ d o. (o.held, o.steady);
+  resting_held = λ d r. (r.held, r.between);
 }
 
 pub cases_of_inside : CasesOfInside
 cases_of_inside = record {
-  inside = λ tapes volumes capacity id file course p fs records i.
-      (i.files, i.shape, i.ended, i.run, i.lengths, i.is_open);
-  middle = λ tapes volumes capacity id file course p fs records whole rest i.
-      (i.files, i.shape, i.going, i.lengths, i.is_open);
-  flat = λ tapes volumes capacity id file course fs records i.
-      (i.files, i.tight, i.lengths, i.is_open);
+  files = inside;
   lengths = λ shape r s h. (h.0, h.1.0);
-  between = λ tapes volumes capacity id course told b. (b.filed, b.resting);
-  filing = λ tapes volumes capacity id file course p past records f. (f.filed, f.inside);
-  waiting_first = waiting_first;
-  waiting_behind = waiting_behind;
   nothing_told = λ volumes capacity id. inl (refl, refl, refl);
   begun_first = begun_first;
   flat_first = flat_first;
-  stuck_open = λ tapes volumes capacity id file course fs records s. s.is_open;
   whole_records = λ shape records blocks next c. c.order;
 }

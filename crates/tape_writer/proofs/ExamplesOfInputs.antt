@@ -99,7 +99,6 @@ cases_of_set_faults = record {
   of_writer = λ one other h. h;
   read_is_not = λ h. h;
   length_only_so = λ h. h;
-  no_other_putting = (λ h. h, λ h. h, λ h. h, λ h. h);
   input_length_so = λ h. h;
   read_failed = λ shape. tt;
   of_no_file = λ capacity shape cut fault h. h;

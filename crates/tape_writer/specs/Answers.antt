@@ -1,13 +1,16 @@
 -- The meaning of the system's errors: only one kind of error says that a file does not exist.
-use Rattle.std.specs.Prelude.{Option, Some, None, Result, Ok, Err, Bool, true, false, ◌||◌, ℤ, pos}
-use Rattle.std.specs.{Prelude.if◌then◌else◌, Ordering.int_eq, declared.io.Error.Error}
-use Rattle.std.specs.{IoError.error_kind, IoError.raw_os_error, declared.fs.attrs.Metadata.Metadata}
-use Rattle.std.specs.{declared.io.ErrorKind.ErrorKind, declared.fs.locks.TryLockError.TryLockError}
-use Rattle.std.specs.declared.io.ErrorKind.TheVariants.{NotFound, Unsupported}
-use Rattle.tape_writer.specs.declared.system.answers.LockFault.{LockFault}
-use Rattle.tape_writer.specs.declared.system.answers.LockFault.TheVariants.{InUse, Failed}
-use Rattle.tape_writer.specs.declared.system.fault.FileFault.{FileFault}
-use Rattle.tape_writer.specs.declared.system.fault.FileFault.TheVariants.{NotOpened}
+use Rattle.std.specs.Prelude.{Bool, Err, None, Option, Some, true, Ok, Result, false, pos}
+use Rattle.std.specs.Prelude.{if◌then◌else◌, ℤ, ◌||◌}
+use Rattle.std.specs.{declared.io.ErrorKind.TheVariants.Unsupported}
+use Rattle.std.specs.{declared.io.ErrorKind.TheVariants.NotFound, declared.io.ErrorKind.ErrorKind}
+use Rattle.std.specs.{declared.fs.locks.TryLockError.TryLockError, declared.io.Error.Error}
+use Rattle.std.specs.{IoError.error_kind, IoError.raw_os_error, Ordering.int_eq}
+use Rattle.std.specs.{declared.fs.attrs.Metadata.Metadata}
+use Rattle.tape_writer.specs.{declared.system.answers.LockFault.TheVariants.Failed}
+use Rattle.tape_writer.specs.{declared.system.answers.LockFault.TheVariants.InUse}
+use Rattle.tape_writer.specs.{declared.system.answers.LockFault.LockFault}
+use Rattle.tape_writer.specs.{declared.system.fault.FileFault.FileFault}
+use Rattle.tape_writer.specs.{declared.system.fault.FileFault.TheVariants.NotOpened}
 use Rattle.std.specs.declared.fs.locks.TryLockError.TheVariants as attempts
 
 -- only an error of the kind `NotFound` says that no file exists

@@ -1,8 +1,8 @@
 -- Blank volumes: their labels, made from a prefix and a number, and their images.
-use Rattle.std.specs.Prelude.{◌≡◌, ◌⊎◌, ◌≤◌, ℕ, zero, suc, List, [], ◌∷◌, ◌++◌, length, replicate}
+use Rattle.std.specs.Prelude.{zero, ◌≤◌, List, [], length, suc, ℕ, ◌++◌, ◌∷◌, ◌≡◌, ◌⊎◌, replicate}
 use Rattle.std.specs.List.{AllByRecursion}
-use Rattle.tape_label.specs.{declared.values.Vol1.Vol1, Digits.digits, Written.text_of}
-use Rattle.tape_label.specs.{Written.vol1_pieces}
+use Rattle.tape_label.specs.{Written.vol1_pieces, Written.text_of, declared.values.Vol1.Vol1}
+use Rattle.tape_label.specs.{Digits.digits}
 
 -- a capital letter or a digit
 abbrev pub IsPrefixByte : ℕ → Type 0

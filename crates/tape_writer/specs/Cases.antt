@@ -1,37 +1,38 @@
 -- Test cases for the definitions of tapes, of the files passed to a writer, and of its refusals.
 -- They are part of the contract of the function `laws::cases`.
-use Rattle.byteorder.specs.Endian.{little_bytes}
-use Rattle.std.specs.Prelude.{◌≡◌, ◌≢◌, ◌≤◌, ◌+◌, ℕ, List, [], ◌∷◌, ◌++◌, length, map, take, Ok}
-use Rattle.std.specs.Prelude.{Err, Option, Some, None, true, false, ◌⊎◌, Result, codes}
+use Rattle.std.specs.Prelude.{None, ℕ, Result, false, length, ◌≡◌, Err, Ok, [], map, ◌+◌, ◌≢◌, ◌≤◌}
+use Rattle.std.specs.Prelude.{Option, ◌∷◌, ◌⊎◌, List, Some, codes, take, true, ◌++◌}
 use Rattle.std.specs.List.{AllByRecursion}
-use Rattle.tape_image.specs.Writer.{Writer, writing, finished, broken}
-use Rattle.tape_image.specs.{Tape.TapeItem, Tape.bad, Tape.mark, Word.end_word, Written.written}
-use Rattle.tape_image.specs.{Spelling.Leads, Spelling.Spells}
-use Rattle.tape_label.specs.{declared.values.Format.TheVariants.Fixed, declared.values.Head1.Head1}
-use Rattle.tape_label.specs.{declared.values.Vol1.Vol1}
-use Rattle.tape_blocks.specs.Tight.{Filled, Chain, IsDue, IsWritten, first_len, parts_of_all}
-use Rattle.tape_blocks.specs.{declared.parts.Shape.Shape, Packing.IsWritable, Spans.join}
-use Rattle.tape_blocks.specs.{Run.AreClosed}
-use Rattle.tape_set.specs.Tight.{IsTight, IsTightFile, least_capacity, takes_next}
-use Rattle.tape_set.specs.{Layout.Section, Layout.Placed, Layout.all_items, Lawful.IsLawful}
-use Rattle.tape_set.specs.{Before.section_parts, Sizes.items_size}
-use Rattle.tape_writer.specs.declared.{course.Course.Course, course.Opened.Opened}
-use Rattle.tape_writer.specs.declared.{fault.WriteFault.WriteFault, out.TapeOut.Ghosts}
-use Rattle.tape_writer.specs.declared.{phase.OpenFile.OpenFile, tape.Tape.Tape}
-use Rattle.tape_writer.specs.Images.{IsImageOf, IsImageSoFar, AreImagesOf, HandedOn, AreImages}
-use Rattle.tape_writer.specs.Images.{TakesNoMore, HasStopped, Images, Holds}
-use Rattle.tape_writer.specs.Labels.{first_label, second_label, trailer_label, second_kind}
-use Rattle.tape_writer.specs.Lasting.{Lasts, Lasting, TapeLasts, StaysAsked}
-use Rattle.tape_writer.specs.Refusals.{IsNewFault, IsBeginFault, IsPutFault, IsFinishFault}
-use Rattle.tape_writer.specs.State.{SetState, IsWriting, IsOutOfVolumes, Leaves, HasLength, Refuses}
-use Rattle.tape_writer.specs.Tapes.{Tapes, Ended, UnderWay, all_volumes, volume_at, Takes, Changes}
-use Rattle.tape_writer.specs.Tapes.{Closes, Keeps, Rose, Failures, Grows, HasCause, WasAsked}
-use Rattle.tape_writer.specs.Told.{Told, opened_by, with_record, labelled, IsWithin, IsOfFile}
-use Rattle.tape_writer.specs.{Blank.IsPrefix, Draft.open_blocks, Inside.Continues, Inside.IsStuck}
+use Rattle.byteorder.specs.Endian.{little_bytes}
+use Rattle.tape_image.specs.Writer.{finished, Writer, writing, broken}
+use Rattle.tape_image.specs.{Tape.TapeItem, Tape.mark, Tape.bad, Word.end_word, Spelling.Leads}
+use Rattle.tape_image.specs.{Spelling.Spells, Written.written}
+use Rattle.tape_label.specs.{declared.values.Head1.Head1, declared.values.Vol1.Vol1}
+use Rattle.tape_label.specs.{declared.values.Format.TheVariants.Fixed}
+use Rattle.tape_blocks.specs.Tight.{parts_of_all, first_len, Chain, Filled, IsDue, IsWritten}
+use Rattle.tape_blocks.specs.{Run.AreClosed, Packing.IsWritable, declared.parts.Shape.Shape}
+use Rattle.tape_blocks.specs.{Spans.join}
+use Rattle.tape_set.specs.Tight.{IsTight, IsTightFile, takes_next, least_capacity}
+use Rattle.tape_set.specs.{Before.section_parts, Lawful.IsLawful, Layout.Placed, Layout.Section}
+use Rattle.tape_set.specs.{Layout.all_items, Sizes.items_size}
+use Rattle.tape_writer.specs.Images.{AreImages, AreImagesOf, HasStopped, IsImageOf, TakesNoMore}
+use Rattle.tape_writer.specs.Images.{IsImageSoFar, HandedOn, Holds, Images}
+use Rattle.tape_writer.specs.Labels.{first_label, second_kind, second_label, trailer_label}
+use Rattle.tape_writer.specs.Lasting.{Lasting, Lasts, StaysAsked, TapeLasts}
+use Rattle.tape_writer.specs.Refusals.{IsBeginFault, IsFinishFault, IsNewFault, IsPutFault}
+use Rattle.tape_writer.specs.State.{HasAsked, IfFiling, IsWriting, Refuses, SameSet, SetState}
+use Rattle.tape_writer.specs.State.{Leaves, tape_of, HasLength, IsOutOfVolumes}
+use Rattle.tape_writer.specs.Tapes.{Changes, Closes, Ended, Grows, Keeps, Rose, Takes, Tapes}
+use Rattle.tape_writer.specs.Tapes.{Failures, HasCause, UnderWay, WasAsked, all_volumes, volume_at}
+use Rattle.tape_writer.specs.Told.{IsOfFile, IsWrittenSet, Told, labelled, opened_by, with_record}
+use Rattle.tape_writer.specs.Told.{AreFiled, IsFiled, IsWithin}
+use Rattle.tape_writer.specs.{Refusals.IsInFile, declared.course.Course.Course}
+use Rattle.tape_writer.specs.{declared.course.Opened.Opened, declared.fault.WriteFault.WriteFault}
+use Rattle.tape_writer.specs.{declared.out.TapeOut.Ghosts, declared.phase.OpenFile.OpenFile}
+use Rattle.tape_writer.specs.{declared.tape.Tape.Tape, Blank.IsPrefix, Draft.open_blocks}
 use Rattle.tape_writer.specs.{Faults.FailsByDevice, Faults.FailsWith, Faults.IsEnding}
-use Rattle.tape_writer.specs.{Fields.IsText, Fields.IsTextVolume, Fields.IsTextHead}
-use Rattle.tape_writer.specs.{Refusals.IsInFile, State.IfFiling, State.tape_of, State.HasAsked}
-use Rattle.tape_writer.specs.{State.SameSet, Told.IsFiled, Told.AreFiled, Told.IsWrittenSet}
+use Rattle.tape_writer.specs.{Fields.IsTextVolume, Fields.IsText, Fields.IsTextHead, Inside.IsStuck}
+use Rattle.tape_writer.specs.{Inside.Continues}
 use Rattle.tape_label.specs.declared.values.Kind.TheVariants as kinds
 use Rattle.tape_writer.specs.declared.fault.OutFault.TheVariants as out
 use Rattle.tape_writer.specs.declared.fault.WriteFault.TheVariants as faults
@@ -216,10 +217,11 @@ pub record CasesOfRefusals : Type 0 where
       × (IsBeginFault capacity n head shape faults.RecordLength → ⊥)
       × (IsBeginFault capacity n head shape faults.NoFile → ⊥)
   -- the faults of writing a record
-  pub put_length : (o : OpenFile) (bytes : List ℕ) → IsPutFault o bytes faults.RecordLength
-      → HasLength o bytes → ⊥
-  pub no_other_put : (o : OpenFile) (bytes : List ℕ) → (IsPutFault o bytes faults.NoFile → ⊥)
-      × (IsPutFault o bytes faults.TooMany → ⊥) × (IsPutFault o bytes faults.BadShape → ⊥)
+  pub put_length : (o : OpenFile) (bytes : List ℕ)
+      → IsPutFault (HasLength o bytes → ⊥) faults.RecordLength → HasLength o bytes → ⊥
+  pub no_other_put : (IsPutFault (Unit {0}) faults.NoFile → ⊥)
+      × (IsPutFault (Unit {0}) faults.TooMany → ⊥) × (IsPutFault (Unit {0}) faults.BadShape → ⊥)
+      × (IsPutFault (Unit {0}) faults.BadField → ⊥) × (IsPutFault (Unit {0}) faults.FileBegun → ⊥)
   -- the faults of finishing a set
   pub some_file : IsFinishFault 1 faults.NoFile → ⊥
   pub no_other_end : (IsFinishFault 0 faults.OutOfVolumes → ⊥)

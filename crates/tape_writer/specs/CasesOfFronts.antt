@@ -1,21 +1,24 @@
 -- Test cases for the definitions of the contents of the tapes after a refusal. They are part of the
 -- contract of the function `laws::cases`.
-use Rattle.std.specs.Prelude.{◌≡◌, ◌≢◌, ◌<◌, ◌⊎◌, ℕ, List, [], ◌∷◌, ◌++◌, Option, Some, length}
+use Rattle.std.specs.Prelude.{ℕ, ◌++◌, ◌∷◌, Some, [], length, ◌≡◌, ◌≢◌, ◌⊎◌, ◌<◌, List, Option}
 use Rattle.tape_image.specs.Tape.{TapeItem}
 use Rattle.tape_label.specs.{declared.values.Head1.Head1, declared.values.Vol1.Vol1}
-use Rattle.tape_blocks.specs.{declared.parts.Shape.Shape, Packing.Packing}
+use Rattle.tape_blocks.specs.{Packing.Packing, declared.parts.Shape.Shape}
 use Rattle.tape_set.specs.Layout.{Section}
-use Rattle.tape_writer.specs.Front.{Item, Change, Close, behind_steps, HoldsFront, IsMidRecord}
-use Rattle.tape_writer.specs.Front.{IsPartly, IsInLast, IsLeftInside, IsLeftBehind, IsLeftWhole}
+use Rattle.tape_writer.specs.Front.{Change, HoldsFront, IsInLast, IsLeftInside, IsMidRecord, Item}
+use Rattle.tape_writer.specs.Front.{Close, IsLeftBehind, IsLeftWhole, IsPartly, behind_steps}
+use Rattle.tape_writer.specs.Inside.{IsFlat, IsInside, IsPacking, IsWaiting}
+use Rattle.tape_writer.specs.LeftOf.{IsLeftIn, IsLeftOf, IsLeftOfAll, IsLeftSet, IsLeftUnbegun}
+use Rattle.tape_writer.specs.Told.{AreFiled, IsWrittenSet, Told, with_file}
 use Rattle.tape_writer.specs.{declared.course.Course.Course, declared.course.Opened.Opened}
-use Rattle.tape_writer.specs.{declared.inputs.cut.Cut.Cut, Tapes.Tapes, Tapes.Ended, Tapes.UnderWay}
-use Rattle.tape_writer.specs.{declared.inputs.set.SetPlan.SetPlan, declared.fault.SetFault.SetFault}
-use Rattle.tape_writer.specs.{State.SetState, Records.records_of, ToldFiles.with_records}
-use Rattle.tape_writer.specs.declared.fault.SetFault.TheVariants.{Write, ReadFailed}
-use Rattle.tape_writer.specs.declared.fault.WriteFault.TheVariants.{OutOfMemory, RecordLength}
-use Rattle.tape_writer.specs.Inside.{IsInside, IsPacking, IsFlat, IsWaiting}
-use Rattle.tape_writer.specs.Told.{Told, AreFiled, IsWrittenSet, with_file}
-use Rattle.tape_writer.specs.LeftOf.{IsLeftOf, IsLeftIn, IsLeftOfAll, IsLeftSet, IsLeftUnbegun}
+use Rattle.tape_writer.specs.{declared.fault.SetFault.SetFault}
+use Rattle.tape_writer.specs.{declared.fault.SetFault.TheVariants.Write}
+use Rattle.tape_writer.specs.{declared.fault.SetFault.TheVariants.ReadFailed}
+use Rattle.tape_writer.specs.{declared.fault.WriteFault.TheVariants.OutOfMemory}
+use Rattle.tape_writer.specs.{declared.fault.WriteFault.TheVariants.RecordLength}
+use Rattle.tape_writer.specs.{declared.inputs.set.SetPlan.SetPlan, declared.inputs.cut.Cut.Cut}
+use Rattle.tape_writer.specs.{Records.records_of, State.SetState, Tapes.Ended, Tapes.UnderWay}
+use Rattle.tape_writer.specs.{Tapes.Tapes, ToldFiles.with_records}
 
 -- prefixes, and contents that remain
 pub record CasesOfFronts : Type 0 where

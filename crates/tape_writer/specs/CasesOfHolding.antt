@@ -1,10 +1,10 @@
 -- Test cases for the definition of a write buffer. They are part of the contract of the function
 -- `laws::cases`.
-use Rattle.std.specs.Prelude.{◌≡◌, ℕ, ◌-◌, ◌^◌, true, false, List, [], ◌∷◌, None, Some, ◌++◌}
+use Rattle.std.specs.Prelude.{List, Some, [], true, ℕ, ◌++◌, ◌-◌, ◌^◌, ◌∷◌, ◌≡◌, None, false}
 use Rattle.std.specs.Io.KnownBytes.{Appends}
-use Rattle.tape_writer.specs.Holding.{Holding, taken, TakesAll, PassesOn, fresh, FileTakes}
-use Rattle.tape_writer.specs.Holding.{FilePasses, Stops}
 use Rattle.tape_image.specs.Written.{AppendsFront}
+use Rattle.tape_writer.specs.Holding.{FilePasses, Holding, PassesOn, Stops, TakesAll, fresh, taken}
+use Rattle.tape_writer.specs.Holding.{FileTakes}
 
 -- a write buffer, and an image file
 pub record CasesOfHolding : Type 0 where

@@ -1,31 +1,36 @@
 -- Test cases for the definitions of sets written from inputs. They are part of the contract of the
 -- function `laws::cases`.
-use Rattle.std.specs.Prelude.{◌≡◌, ◌⊎◌, ◌≤◌, ◌<◌, ℕ, List, [], ◌∷◌, ◌++◌, length, Option, Some}
-use Rattle.std.specs.Prelude.{None, true, false, Err}
-use Rattle.std.specs.List.{AllByRecursion, flat_map}
-use Rattle.tape_label.specs.declared.values.Format.TheVariants.{Fixed, Counted, Spanned}
-use Rattle.tape_label.specs.{declared.values.Head1.Head1, declared.values.Vol1.Vol1}
-use Rattle.tape_blocks.specs.{declared.parts.Shape.Shape, Packing.HasRecordLength}
-use Rattle.tape_writer.specs.Records.{records_of, records_from, longest_by, longest, IsFirstLong}
-use Rattle.tape_writer.specs.WriteFaults.{OneIsOther, IsOfWriter, IsPuttingFault, IsInputFault}
-use Rattle.tape_writer.specs.WriteFaults.{IsFileFault, IsFilesFault, IsWholeFault, IsFaultOfCut}
-use Rattle.tape_writer.specs.Records.{GrowsLong, Adds, given, to_come, left_of, last_record}
-use Rattle.tape_writer.specs.WriteFaults.{told_as, StopsByDevice, IsSetFault}
-use Rattle.tape_writer.specs.{declared.fault.SetFault.SetFault, declared.inputs.set.SetPlan.SetPlan}
-use Rattle.tape_writer.specs.{declared.inputs.cut.Cut.Cut, declared.inputs.records.Records.Records}
-use Rattle.tape_writer.specs.{declared.fault.WriteFault.WriteFault, declared.course.Opened.Opened}
-use Rattle.tape_writer.specs.{Refusals.IsNewFault, Images.HandedOn, Images.device_failures}
-use Rattle.tape_writer.specs.declared.fault.SetFault.TheVariants.{Write, ReadFailed}
-use Rattle.tape_writer.specs.declared.inputs.cut.Cut.TheVariants.{Lines, Length, Whole}
-use Rattle.tape_writer.specs.Tapes.{Tapes, Ended, Failures, Rose}
-use Rattle.tape_writer.specs.WriteSet.{cut_of, raw_cut, IsSetOfImages}
-use Rattle.tape_writer.specs.Told.{Told, opened_by, with_file, IsFiled, IsOfFile}
-use Rattle.tape_writer.specs.LeftOf.{GaveUp, GaveUpIn, GaveUpSet, HasNoVolume}
-use Rattle.tape_writer.specs.ToldFiles.{told_files, with_records, IfAllKnown}
-use Rattle.tape_writer.specs.RecordLaws.{IsLine, ended_line, LinesAreCut, PiecesAreCut, WholeIsOne}
-use Rattle.tape_writer.specs.State.{SetState, IsOutOfVolumes}
+use Rattle.std.specs.Prelude.{Some, [], ◌⊎◌, Err, List, Option, ◌∷◌, None, true, ℕ, ◌<◌, ◌≡◌, ◌≤◌}
+use Rattle.std.specs.Prelude.{◌++◌, false, length}
+use Rattle.std.specs.{List.AllByRecursion, List.flat_map}
+use Rattle.tape_label.specs.{declared.values.Format.TheVariants.Fixed}
+use Rattle.tape_label.specs.{declared.values.Format.TheVariants.Spanned}
+use Rattle.tape_label.specs.{declared.values.Format.TheVariants.Counted, declared.values.Vol1.Vol1}
+use Rattle.tape_label.specs.{declared.values.Head1.Head1}
+use Rattle.tape_blocks.specs.{Packing.HasRecordLength, declared.parts.Shape.Shape}
 use Rattle.tape_set.specs.Layout.{Section, Placed, numbered, all_items}
 use Rattle.tape_set.specs.Lawful.{IsFile}
+use Rattle.tape_writer.specs.RecordLaws.{IsLine, LinesAreCut, PiecesAreCut, WholeIsOne, ended_line}
+use Rattle.tape_writer.specs.Records.{Adds, GrowsLong, left_of, records_from, records_of, to_come}
+use Rattle.tape_writer.specs.Records.{IsFirstLong, given, last_record, longest, longest_by}
+use Rattle.tape_writer.specs.WriteFaults.{IsFileFault, IsFilesFault, IsInputFault, StopsByDevice}
+use Rattle.tape_writer.specs.WriteFaults.{IsOfWriter, IsSetFault, IsWholeFault, OneIsOther, told_as}
+use Rattle.tape_writer.specs.LeftOf.{GaveUpSet, GaveUp, GaveUpIn, HasNoVolume}
+use Rattle.tape_writer.specs.Tapes.{Failures, Rose, Ended, Tapes}
+use Rattle.tape_writer.specs.Told.{IsFiled, IsOfFile, Told, opened_by, with_file}
+use Rattle.tape_writer.specs.{WriteFaults.IsFaultOfCut, declared.fault.SetFault.SetFault}
+use Rattle.tape_writer.specs.{declared.fault.SetFault.TheVariants.ReadFailed}
+use Rattle.tape_writer.specs.{declared.fault.SetFault.TheVariants.Write}
+use Rattle.tape_writer.specs.{declared.fault.WriteFault.WriteFault, declared.inputs.cut.Cut.Cut}
+use Rattle.tape_writer.specs.{declared.inputs.cut.Cut.TheVariants.Lines}
+use Rattle.tape_writer.specs.{declared.inputs.cut.Cut.TheVariants.Whole}
+use Rattle.tape_writer.specs.{declared.inputs.cut.Cut.TheVariants.Length}
+use Rattle.tape_writer.specs.{declared.inputs.records.Records.Records, Images.HandedOn}
+use Rattle.tape_writer.specs.{Images.device_failures, Refusals.IsNewFault, Refusals.IsPutFault}
+use Rattle.tape_writer.specs.{State.IsOutOfVolumes, State.SetState, WriteSet.cut_of}
+use Rattle.tape_writer.specs.{WriteSet.IsSetOfImages, WriteSet.raw_cut}
+use Rattle.tape_writer.specs.{declared.course.Opened.Opened, declared.inputs.set.SetPlan.SetPlan}
+use Rattle.tape_writer.specs.{ToldFiles.IfAllKnown, ToldFiles.told_files, ToldFiles.with_records}
 use Rattle.tape_blocks.specs.declared.parts.Form.TheVariants as forms
 use Rattle.tape_writer.specs.declared.fault.WriteFault.TheVariants as faults
 use Rattle.tape_writer.specs.declared.inputs.records.InputFault.TheVariants as inputs
@@ -115,11 +120,7 @@ pub record CasesOfSetFaults : Type 0 where
   pub of_writer : (one other : WriteFault) → IsOfWriter (λ f. f ≡ one) (Write other)
       → other ≡ one
   pub read_is_not : IsOfWriter (λ f. Unit {0}) ReadFailed → ⊥
-  pub length_only_so : IsPuttingFault ⊥ faults.RecordLength → ⊥
-  pub no_other_putting : (IsPuttingFault (Unit {0}) faults.NoFile → ⊥)
-      × (IsPuttingFault (Unit {0}) faults.BadField → ⊥)
-      × (IsPuttingFault (Unit {0}) faults.TooMany → ⊥)
-      × (IsPuttingFault (Unit {0}) faults.FileBegun → ⊥)
+  pub length_only_so : IsPutFault ⊥ faults.RecordLength → ⊥
   pub input_length_so : IsInputFault ⊥ (Write faults.RecordLength) → ⊥
   pub read_failed : (shape : Shape) → IsInputFault (OneIsOther shape []) ReadFailed
   pub of_no_file : (capacity : ℕ) (shape : Shape) (cut : Cut) (fault : SetFault)

@@ -1,21 +1,21 @@
 -- A set that is being written: the contents of its volumes, and its structure so far.
-use Rattle.std.specs.Prelude.{◌≡◌, ◌<◌, ◌≤◌, ℕ, zero, suc, ◌+◌, List, [], ◌∷◌, ◌++◌, Bool, true}
-use Rattle.std.specs.Prelude.{false, length, map, slice_get}
+use Rattle.std.specs.Prelude.{List, false, length, ◌+◌, Bool, map, ℕ, ◌++◌, ◌≡◌, true, ◌<◌}
+use Rattle.std.specs.Prelude.{slice_get, zero, ◌∷◌, [], suc, ◌≤◌}
 use Rattle.std.specs.List.{AllByRecursion}
-use Rattle.tape_image.specs.Tape.{TapeItem, block, mark}
+use Rattle.tape_image.specs.{Tape.TapeItem, Tape.block, Tape.mark}
 use Rattle.tape_label.specs.declared.values.Vol1.{Vol1}
-use Rattle.tape_blocks.specs.{Tight.Filled, Tight.Chain, Packing.longest_block}
-use Rattle.tape_set.specs.Layout.{Section, Placed, Volume, Entry, a_mark, numbered, all_numbered}
-use Rattle.tape_set.specs.Layout.{on, all_entries, group_of, item_of, ends_file}
-use Rattle.tape_set.specs.Before.{blocks_of_all}
-use Rattle.tape_set.specs.Sizes.{items_size, headers_size, volume_end_size}
-use Rattle.tape_set.specs.Lawful.{IsSection, GoesOn, StartsOnFirst}
-use Rattle.tape_set.specs.Tight.{IsTightChange, IsTightEnd, EachBehind, ChainBehind}
-use Rattle.tape_writer.specs.declared.{course.Opened.Opened, course.Course.Course}
-use Rattle.tape_writer.specs.Tapes.{Tapes, UnderWay}
-use Rattle.tape_writer.specs.Labels.{IsReady, first_label, second_label, trailer_label, second_kind}
-use Rattle.tape_writer.specs.Labels.{header_items, trailer_items, volume_label}
-use Rattle.tape_writer.specs.Told.{labelled, IsOfFile, IsWithin}
+use Rattle.tape_blocks.specs.{Tight.Chain, Tight.Filled, Packing.longest_block}
+use Rattle.tape_set.specs.Layout.{Volume, Placed, ends_file, numbered, Entry, a_mark, all_entries}
+use Rattle.tape_set.specs.Layout.{all_numbered, group_of, item_of, on, Section}
+use Rattle.tape_set.specs.Tight.{IsTightChange, IsTightEnd, ChainBehind, EachBehind}
+use Rattle.tape_set.specs.{Sizes.items_size, Sizes.headers_size, Sizes.volume_end_size}
+use Rattle.tape_set.specs.{Lawful.GoesOn, Lawful.StartsOnFirst, Lawful.IsSection}
+use Rattle.tape_set.specs.{Before.blocks_of_all}
+use Rattle.tape_writer.specs.Labels.{IsReady, first_label, header_items, second_kind, trailer_label}
+use Rattle.tape_writer.specs.Labels.{second_label, trailer_items, volume_label}
+use Rattle.tape_writer.specs.{Tapes.Tapes, Tapes.UnderWay, Told.IsOfFile, Told.IsWithin}
+use Rattle.tape_writer.specs.{Told.labelled, declared.course.Course.Course}
+use Rattle.tape_writer.specs.{declared.course.Opened.Opened}
 use Rattle.tape_label.specs.declared.values.Kind.TheVariants as kinds
 
 -- The files that are finished; the finished sections of the current file, and the blocks of its

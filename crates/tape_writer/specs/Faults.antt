@@ -1,9 +1,9 @@
 -- The causes of the writer's faults, and their effects.
-use Rattle.std.specs.Prelude.{◌≡◌, ◌≢◌, Result, IfErr}
-use Rattle.tape_writer.specs.declared.fault.WriteFault.{WriteFault}
-use Rattle.tape_writer.specs.declared.fault.WriteFault.TheVariants.{OutOfVolumes, Device}
-use Rattle.tape_writer.specs.declared.fault.WriteFault.TheVariants.{OutOfMemory}
-use Rattle.tape_writer.specs.Tapes.{Failures, HasCause, Rose}
+use Rattle.std.specs.Prelude.{IfErr, ◌≡◌, Result, ◌≢◌}
+use Rattle.tape_writer.specs.{declared.fault.WriteFault.TheVariants.Device}
+use Rattle.tape_writer.specs.{declared.fault.WriteFault.TheVariants.OutOfMemory}
+use Rattle.tape_writer.specs.{declared.fault.WriteFault.TheVariants.OutOfVolumes, Tapes.Failures}
+use Rattle.tape_writer.specs.{Tapes.HasCause, Tapes.Rose, declared.fault.WriteFault.WriteFault}
 
 -- `Device` is returned only if the device failed in the call
 abbrev pub FailsByDevice : Failures → Result (Unit {0}) WriteFault → Failures → Type 0

@@ -1,7 +1,7 @@
 -- The fields of written labels consist of a-characters.
-use Rattle.std.specs.Prelude.{◌≡◌, ℕ, List, [], ◌∷◌, None}
-use Rattle.tape_label.specs.{Characters.first_other, declared.values.Vol1.Vol1}
-use Rattle.tape_label.specs.{declared.values.Head1.Head1}
+use Rattle.std.specs.Prelude.{List, None, [], ℕ, ◌∷◌, ◌≡◌}
+use Rattle.tape_label.specs.{declared.values.Head1.Head1, declared.values.Vol1.Vol1}
+use Rattle.tape_label.specs.{Characters.first_other}
 
 -- each byte is an a-character
 abbrev pub IsText : List ℕ → Type 0

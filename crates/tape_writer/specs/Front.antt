@@ -1,14 +1,14 @@
 -- The contents of the tapes after a call that was interrupted by a refusal: a prefix of the items
 -- that it was to write, and nothing else.
-use Rattle.std.specs.Prelude.{◌≡◌, ◌⊎◌, ℕ, List, [], ◌∷◌, ◌++◌}
+use Rattle.std.specs.Prelude.{List, ℕ, ◌++◌, ◌∷◌, ◌≡◌, ◌⊎◌, []}
 use Rattle.tape_image.specs.Tape.{TapeItem}
 use Rattle.tape_label.specs.declared.values.Vol1.{Vol1}
 use Rattle.tape_blocks.specs.Packing.{Packing}
 use Rattle.tape_set.specs.Layout.{Section}
-use Rattle.tape_writer.specs.declared.{course.Opened.Opened, course.Course.Course}
-use Rattle.tape_writer.specs.Inside.{IsInside, IsPacking, IsFlat, IsWaiting}
-use Rattle.tape_writer.specs.{Tapes.Tapes, Tapes.Ended, Tapes.UnderWay, Tapes.all_volumes}
-use Rattle.tape_writer.specs.{Told.Told, Told.AreFiled, Told.IsWrittenSet, State.SetState}
+use Rattle.tape_writer.specs.Inside.{IsFlat, IsInside, IsPacking, IsWaiting}
+use Rattle.tape_writer.specs.Tapes.{Tapes, UnderWay, all_volumes, Ended}
+use Rattle.tape_writer.specs.{declared.course.Course.Course, declared.course.Opened.Opened}
+use Rattle.tape_writer.specs.{State.SetState, Told.AreFiled, Told.IsWrittenSet, Told.Told}
 
 -- a step on tapes: an item is appended to the current volume, the next volume begins, or the last
 -- volume ends

@@ -1,7 +1,7 @@
 -- A write buffer: bytes that are buffered before they are written to a device.
-use Rattle.std.specs.Prelude.{◌≡◌, ◌⊎◌, ℕ, ◌+◌, ◌-◌, ◌^◌, ◌≤◌, min, Bool, true, false, List, []}
-use Rattle.std.specs.Prelude.{◌++◌, length, Option, None, Some}
-use Rattle.std.specs.Io.KnownBytes.{Appends, append_known}
+use Rattle.std.specs.Prelude.{Bool, Option, false, ℕ, ◌++◌, ◌+◌, ◌-◌, List, None, Some, [], length}
+use Rattle.std.specs.Prelude.{true, ◌^◌, ◌≡◌, min}
+use Rattle.std.specs.{Io.KnownBytes.Appends, Io.KnownBytes.append_known}
 use Rattle.tape_image.specs.Written.{AppendsFront}
 
 -- the contents of the device, if known, the buffered bytes, the number of bytes accepted, and
@@ -26,16 +26,6 @@ pub record TakesAll (bytes : List ℕ) (old new : Holding) : Type 0 where
 pub record PassesOn (old new : Holding) : Type 0 where
   pub passed : Appends old.device new.device old.held
   pub none : new.held ≡ []
-  pub size : new.size ≡ old.size
-  pub stands : new.failed ≡ false
-
--- a prefix of the buffered bytes was written, so that there is room for `count` further bytes, or
--- the buffer is empty
-pub record MakesRoom (count : ℕ) (old new : Holding) : Type 0 where
-  pub moved : List ℕ
-  pub passed : Appends old.device new.device moved
-  pub left : old.held ≡ moved ++ new.held
-  pub room : (length new.held + count ≤ 8192) ⊎ (new.held ≡ [])
   pub size : new.size ≡ old.size
   pub stands : new.failed ≡ false
 

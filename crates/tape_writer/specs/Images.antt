@@ -1,12 +1,12 @@
 -- The images of volumes.
+use Rattle.std.specs.Prelude.{Bool, List, None, length, ℕ, ◌++◌, ◌+◌, ◌<◌, ◌∷◌, ◌≡◌, [], false}
+use Rattle.std.specs.Prelude.{true, Option, Some, ◌≢◌, ◌⊎◌}
 use Rattle.byteorder.specs.Endian.{little_bytes}
-use Rattle.std.specs.Prelude.{◌≡◌, ◌≢◌, ◌⊎◌, ◌<◌, ℕ, ◌+◌, List, [], ◌∷◌, ◌++◌, Bool, true, false}
-use Rattle.std.specs.Prelude.{Option, Some, None, length}
-use Rattle.tape_image.specs.{Tape.TapeItem, Word.end_word, Begins.image_limit, Written.written}
-use Rattle.tape_image.specs.{Spelling.Leads, Spelling.Spells, Writer.Writer, Writer.writing}
-use Rattle.tape_image.specs.{Writer.finished}
+use Rattle.tape_image.specs.{Writer.finished, Writer.Writer, Writer.writing, Spelling.Leads}
+use Rattle.tape_image.specs.{Spelling.Spells, Word.end_word, Written.written, Tape.TapeItem}
+use Rattle.tape_image.specs.{Begins.image_limit}
 use Rattle.tape_set.specs.Sizes.{items_size}
-use Rattle.tape_writer.specs.Tapes.{Tapes, Ended, UnderWay, Failures}
+use Rattle.tape_writer.specs.Tapes.{Ended, Failures, Tapes, UnderWay}
 
 -- Volumes as images: the store of the images that have ended, the writer of the current image, if
 -- there is one, and the number of failed calls.

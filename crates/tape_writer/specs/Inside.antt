@@ -1,18 +1,19 @@
 -- The state of the writer inside a file and between two files: the contents of the tapes, and the
 -- files and records passed so far.
-use Rattle.std.specs.Prelude.{◌≡◌, ◌⊎◌, ◌≢◌, ◌≤◌, ℕ, List, [], ◌∷◌, ◌++◌, false, None, length, map}
+use Rattle.std.specs.Prelude.{[], ℕ, ◌∷◌, None, ◌≡◌, ◌≤◌, ◌⊎◌, false, length, map, ◌≢◌, List, ◌++◌}
 use Rattle.std.specs.List.{AllByRecursion}
 use Rattle.tape_label.specs.declared.values.Vol1.{Vol1}
-use Rattle.tape_blocks.specs.Tight.{Filled, first_len, parts_of_all}
+use Rattle.tape_blocks.specs.{Run.AreClosed, Run.RunOf, Run.Going, Tight.first_len, Tight.Filled}
+use Rattle.tape_blocks.specs.{Tight.parts_of_all, Spans.join, Spans.InOrder, Records.AreRecordsOf}
 use Rattle.tape_blocks.specs.{declared.parts.Shape.Shape, Packing.Packing, Packing.Given}
-use Rattle.tape_blocks.specs.{Block.Portion, Records.AreRecordsOf, Spans.InOrder, Spans.join}
-use Rattle.tape_blocks.specs.{Run.RunOf, Run.Going, Run.AreClosed}
+use Rattle.tape_blocks.specs.{Block.Portion}
 use Rattle.tape_set.specs.{Layout.Section, Tight.takes_next}
-use Rattle.tape_writer.specs.declared.{course.Opened.Opened, course.Course.Course}
-use Rattle.tape_writer.specs.declared.{out.TapeOut.Ghosts, tape.Tape.Tape}
-use Rattle.tape_writer.specs.Draft.{Draft, Within, IsOpen, IsResting, open_blocks, open_items}
-use Rattle.tape_writer.specs.{Draft.ended_volumes, Tapes.Tapes, Tapes.Ended, Tapes.UnderWay}
-use Rattle.tape_writer.specs.Told.{Told, AreFiled, labelled}
+use Rattle.tape_writer.specs.Draft.{Draft, IsOpen, IsResting, Within, ended_volumes, open_items}
+use Rattle.tape_writer.specs.{Draft.open_blocks, declared.course.Opened.Opened}
+use Rattle.tape_writer.specs.{declared.out.TapeOut.Ghosts, declared.tape.Tape.Tape}
+use Rattle.tape_writer.specs.{declared.phase.OpenFile.OpenFile, Tapes.Ended, Tapes.Tapes}
+use Rattle.tape_writer.specs.{Tapes.UnderWay, Told.AreFiled, Told.Told, Told.labelled}
+use Rattle.tape_writer.specs.{declared.course.Course.Course}
 use Rattle.tape_blocks.specs.Tight as packing
 
 -- Inside a file, after the finished files fs, the given records were passed.
@@ -135,11 +136,11 @@ abbrev pub IfOpen : {T : Type 0} → Ghosts T → List Vol1 → ℕ → Opened �
 IfOpen g volumes capacity file tape P = (set_id : List ℕ) (d : Draft)
     → IsOpen (g.holds tape.out) volumes capacity set_id file tape.course d → P set_id d
 
--- if the tapes are inside the file, with the given packer, P holds for the set's identifier, the
--- finished files and the records passed
-abbrev pub IfInside : {T : Type 0} → Ghosts T → List Vol1 → ℕ → Opened → Tape T → Packing
+-- if the tapes are inside the open file, P holds for the set's identifier, the finished files and
+-- the records passed
+abbrev pub IfInside : {T : Type 0} → Ghosts T → List Vol1 → ℕ → Tape T → OpenFile
     → (List ℕ → List (List Section) → List (List ℕ) → Type 0) → Type 0
-IfInside g volumes capacity file tape p P =
+IfInside g volumes capacity tape o P =
     (set_id : List ℕ) (fs : List (List Section)) (records : List (List ℕ))
-    → IsInside (g.holds tape.out) volumes capacity set_id file tape.course p fs records
+    → IsInside (g.holds tape.out) volumes capacity set_id o.file tape.course o.packer fs records
     → P set_id fs records

@@ -1,9 +1,9 @@
 -- The contents of tapes in memory.
-use Rattle.std.specs.Prelude.{ℕ, List, map, Option, Some, None}
-use Rattle.tape_image.specs.Tape.{TapeItem, block, mark}
-use Rattle.tape_writer.specs.Tapes.{Tapes, Ended, UnderWay, Failures}
-use Rattle.tape_writer.specs.declared.memory.Kept.{Kept}
-use Rattle.tape_writer.specs.declared.memory.Kept.TheVariants.{Block, Mark}
+use Rattle.std.specs.Prelude.{List, None, Option, Some, ℕ, map}
+use Rattle.tape_image.specs.{Tape.TapeItem, Tape.block, Tape.mark}
+use Rattle.tape_writer.specs.Tapes.{Ended, Failures, Tapes, UnderWay}
+use Rattle.tape_writer.specs.{declared.memory.Kept.Kept, declared.memory.Kept.TheVariants.Block}
+use Rattle.tape_writer.specs.{declared.memory.Kept.TheVariants.Mark}
 
 -- the state of tapes in memory that contracts see: their volumes, the number of misuses, and the
 -- number of failed allocations

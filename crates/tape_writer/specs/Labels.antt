@@ -1,10 +1,10 @@
 -- The labels that are written: each is the text that `tape_label` writes for its fields.
-use Rattle.std.specs.Prelude.{◌≤◌, ℕ, List, [], ◌∷◌, Bool, if◌then◌else◌}
-use Rattle.tape_image.specs.Tape.{TapeItem, block, mark}
+use Rattle.std.specs.Prelude.{if◌then◌else◌, Bool, ℕ, List, [], ◌∷◌, ◌≤◌}
+use Rattle.tape_image.specs.{Tape.mark, Tape.TapeItem, Tape.block}
 use Rattle.tape_label.specs.Written.{text_of, vol1_pieces, head1_pieces, head2_pieces}
-use Rattle.tape_label.specs.{declared.values.Vol1.Vol1, declared.values.Head1.Head1}
-use Rattle.tape_label.specs.{declared.values.Trail1.Trail1, declared.values.Kind.Kind}
-use Rattle.tape_label.specs.{Written.trail1_pieces, Widths.IsWide}
+use Rattle.tape_label.specs.{Written.trail1_pieces, declared.values.Head1.Head1}
+use Rattle.tape_label.specs.{declared.values.Vol1.Vol1, declared.values.Trail1.Trail1}
+use Rattle.tape_label.specs.{Widths.IsWide, declared.values.Kind.Kind}
 use Rattle.tape_blocks.specs.Packing.{IsWritable}
 use Rattle.tape_set.specs.{Lawful.label_count, Tight.second_of}
 use Rattle.tape_writer.specs.declared.course.Opened.{Opened}

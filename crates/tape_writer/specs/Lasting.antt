@@ -1,11 +1,11 @@
 -- The properties that every call preserves, whatever its result.
-use Rattle.std.specs.Prelude.{◌≡◌, ◌⊎◌, ℕ, List, [], ◌++◌, Result, OnOk}
+use Rattle.std.specs.Prelude.{List, OnOk, Result, ◌++◌, ◌≡◌, ◌⊎◌, [], ℕ}
 use Rattle.tape_image.specs.Tape.{TapeItem}
 use Rattle.tape_label.specs.declared.values.Vol1.{Vol1}
 use Rattle.tape_set.specs.Sizes.{items_size}
-use Rattle.tape_writer.specs.{declared.fault.WriteFault.WriteFault, declared.out.TapeOut.Ghosts}
-use Rattle.tape_writer.specs.declared.tape.Tape.{Tape}
-use Rattle.tape_writer.specs.Tapes.{Tapes, UnderWay, Failures, Grows, WasAsked, Ended}
+use Rattle.tape_writer.specs.Tapes.{Ended, Failures, Grows, Tapes, UnderWay, WasAsked}
+use Rattle.tape_writer.specs.{declared.out.TapeOut.Ghosts, declared.tape.Tape.Tape}
+use Rattle.tape_writer.specs.{declared.fault.WriteFault.WriteFault}
 
 -- There is a current volume of the counted size, and the given volumes ended first.
 pub record Lasts (H : Tapes → Type 0) (used : ℕ) (volumes : List (List TapeItem)) : Type 0 where

@@ -1,17 +1,17 @@
 -- The contents of the tapes if a set could not be written from inputs: when no volume is left, and
 -- whatever the fault.
-use Rattle.std.specs.Prelude.{◌≡◌, ◌⊎◌, ℕ, List, [], ◌++◌, length, Option, IfSome, ◌+◌}
+use Rattle.std.specs.Prelude.{List, length, ◌++◌, ◌+◌, ◌≡◌, ◌⊎◌, ℕ, IfSome, Option, []}
 use Rattle.std.specs.List.{AllByRecursion}
 use Rattle.tape_label.specs.declared.values.Head1.{Head1}
 use Rattle.tape_blocks.specs.declared.parts.Shape.{Shape}
-use Rattle.tape_writer.specs.ToldFiles.{with_records, InOne, told_files, IfAllKnown}
-use Rattle.tape_writer.specs.Front.{IsInLast, IsLeftInside, IsLeftBehind, IsLeftWhole}
-use Rattle.tape_writer.specs.{Tapes.Tapes, Told.Told, Told.with_file, State.SetState}
-use Rattle.tape_writer.specs.{State.IsOutOfVolumes, Records.records_of, Records.IsFirstLong}
-use Rattle.tape_writer.specs.{WriteSet.cut_of, WriteFaults.IsOfInput}
-use Rattle.tape_writer.specs.declared.{inputs.cut.Cut.Cut, inputs.set.SetPlan.SetPlan}
-use Rattle.tape_writer.specs.declared.{fault.SetFault.SetFault, fault.SetFault.TheVariants.Write}
-use Rattle.tape_writer.specs.declared.{fault.WriteFault.TheVariants.OutOfMemory}
+use Rattle.tape_writer.specs.Front.{IsInLast, IsLeftBehind, IsLeftInside, IsLeftWhole}
+use Rattle.tape_writer.specs.ToldFiles.{IfAllKnown, InOne, told_files, with_records}
+use Rattle.tape_writer.specs.{declared.fault.SetFault.SetFault, declared.inputs.set.SetPlan.SetPlan}
+use Rattle.tape_writer.specs.{declared.fault.SetFault.TheVariants.Write}
+use Rattle.tape_writer.specs.{declared.inputs.cut.Cut.Cut, Records.IsFirstLong, Records.records_of}
+use Rattle.tape_writer.specs.{State.IsOutOfVolumes, State.SetState, Tapes.Tapes, Told.Told}
+use Rattle.tape_writer.specs.{Told.with_file, WriteFaults.IsOfInput, WriteSet.cut_of}
+use Rattle.tape_writer.specs.{declared.fault.WriteFault.TheVariants.OutOfMemory}
 
 -- The writer has no volume left, after a prefix of the given records was passed after the files
 -- `told`: either the last of these records was refused, or the end of the file after it.

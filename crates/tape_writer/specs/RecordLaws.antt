@@ -1,8 +1,10 @@
 -- Laws about records, in terms of the input's format.
-use Rattle.std.specs.Prelude.{◌≡◌, ◌≢◌, ◌<◌, ℕ, List, [], ◌∷◌, ◌++◌, length}
-use Rattle.std.specs.List.{flat_map, AllByRecursion}
-use Rattle.tape_writer.specs.declared.inputs.cut.Cut.TheVariants.{Lines, Length, Whole}
-use Rattle.tape_writer.specs.Records.{records_of, last_record}
+use Rattle.std.specs.Prelude.{[], length, ℕ, ◌++◌, ◌∷◌, ◌≡◌, ◌≢◌, List, ◌<◌}
+use Rattle.std.specs.{List.AllByRecursion, List.flat_map}
+use Rattle.tape_writer.specs.{declared.inputs.cut.Cut.TheVariants.Length}
+use Rattle.tape_writer.specs.{declared.inputs.cut.Cut.TheVariants.Lines}
+use Rattle.tape_writer.specs.{declared.inputs.cut.Cut.TheVariants.Whole, Records.last_record}
+use Rattle.tape_writer.specs.{Records.records_of}
 
 -- no byte is a line feed
 abbrev pub IsLine : List ℕ → Type 0

@@ -1,12 +1,16 @@
 -- The records of an input.
-use Rattle.std.specs.Prelude.{ℕ, ◌+◌, ◌-◌, ◌≡◌, ◌<◌, ◌==◌, List, [], ◌∷◌, ◌++◌, Bool, true, false}
-use Rattle.std.specs.Prelude.{length, if◌then◌else◌, Option}
+use Rattle.std.specs.Prelude.{Bool, [], length, true, ℕ, ◌++◌, ◌+◌, if◌then◌else◌, List, Option}
+use Rattle.std.specs.Prelude.{false, ◌-◌, ◌<◌, ◌∷◌, ◌≡◌, ◌==◌}
 use Rattle.std.specs.Io.KnownBytes.{prepend_known}
-use Rattle.tape_label.specs.declared.values.Format.{Format}
-use Rattle.tape_label.specs.declared.values.Format.TheVariants.{Fixed, Counted, Spanned}
+use Rattle.tape_label.specs.{declared.values.Format.TheVariants.Counted}
+use Rattle.tape_label.specs.{declared.values.Format.TheVariants.Spanned}
+use Rattle.tape_label.specs.{declared.values.Format.TheVariants.Fixed}
+use Rattle.tape_label.specs.{declared.values.Format.Format}
 use Rattle.tape_blocks.specs.declared.parts.Shape.{Shape}
-use Rattle.tape_writer.specs.{declared.inputs.cut.Cut.Cut, declared.inputs.records.Records.Records}
-use Rattle.tape_writer.specs.declared.inputs.cut.Cut.TheVariants.{Lines, Length, Whole}
+use Rattle.tape_writer.specs.{declared.inputs.cut.Cut.TheVariants.Length}
+use Rattle.tape_writer.specs.{declared.inputs.cut.Cut.TheVariants.Lines}
+use Rattle.tape_writer.specs.{declared.inputs.cut.Cut.TheVariants.Whole}
+use Rattle.tape_writer.specs.{declared.inputs.records.Records.Records, declared.inputs.cut.Cut.Cut}
 
 -- The maximum length of a record, by format and record length. In format D the record length
 -- includes the four digits.

@@ -1,15 +1,14 @@
 -- The faults that the calls of a set writer return, and their causes: a fault that these
 -- definitions rule out is not returned.
-use Rattle.std.specs.Prelude.{◌≡◌, ◌<◌, ◌≤◌, ℕ, List, length, Option, Some, None}
+use Rattle.std.specs.Prelude.{None, Option, Some, ℕ, ◌≡◌, List, ◌≤◌, length, ◌<◌}
 use Rattle.std.specs.List.{AllByRecursion}
-use Rattle.tape_label.specs.{declared.values.Vol1.Vol1, declared.values.Head1.Head1}
-use Rattle.tape_blocks.specs.{declared.parts.Shape.Shape, Packing.IsWritable}
+use Rattle.tape_label.specs.{declared.values.Head1.Head1, declared.values.Vol1.Vol1}
+use Rattle.tape_blocks.specs.{Packing.IsWritable, declared.parts.Shape.Shape}
 use Rattle.tape_set.specs.Tight.{least_capacity}
-use Rattle.tape_writer.specs.{declared.phase.Phase.Phase, declared.phase.OpenFile.OpenFile}
-use Rattle.tape_writer.specs.declared.phase.Phase.TheVariants.{Filing, Between, Failed, Finished}
+use Rattle.tape_writer.specs.declared.phase.Phase.TheVariants.{Between, Failed, Filing, Finished}
+use Rattle.tape_writer.specs.{Fields.IsText, Fields.IsTextHead, Fields.IsTextVolume}
 use Rattle.tape_writer.specs.{declared.course.Opened.Opened, declared.fault.WriteFault.WriteFault}
-use Rattle.tape_writer.specs.Fields.{IsText, IsTextVolume, IsTextHead}
-use Rattle.tape_writer.specs.State.{HasLength}
+use Rattle.tape_writer.specs.{declared.phase.Phase.Phase, Faults.IsEnding}
 use Rattle.tape_writer.specs.declared.fault.WriteFault.TheVariants as faults
 
 -- the given file is the current file
@@ -42,13 +41,10 @@ IsBeginFault capacity n head shape faults.Device = Unit {0}
 IsBeginFault capacity n head shape faults.OutOfMemory = Unit {0}
 IsBeginFault capacity n head shape _ = ⊥
 
--- why a record cannot be written into the current file
-abbrev pub IsPutFault : OpenFile → List ℕ → WriteFault → Type 0
-IsPutFault o bytes faults.RecordLength = HasLength o bytes → ⊥
-IsPutFault o bytes faults.OutOfVolumes = Unit {0}
-IsPutFault o bytes faults.Device = Unit {0}
-IsPutFault o bytes faults.OutOfMemory = Unit {0}
-IsPutFault o bytes _ = ⊥
+-- why records cannot be written into the current file; `RecordLength` only if `other` holds
+abbrev pub IsPutFault : Type 0 → WriteFault → Type 0
+IsPutFault other faults.RecordLength = other
+IsPutFault other fault = IsEnding fault
 
 -- why a set cannot be finished after the given number of volumes
 abbrev pub IsFinishFault : ℕ → WriteFault → Type 0

@@ -1,8 +1,8 @@
 -- How much data a writer can still accept.
-use Rattle.std.specs.Prelude.{ℕ, ◌+◌, ◌-◌, ◌*◌, length}
-use Rattle.tape_blocks.specs.Packing.{Packing, size_of}
-use Rattle.tape_writer.specs.{declared.phase.Phase.Phase, declared.phase.Phase.TheVariants.Filing}
-use Rattle.tape_writer.specs.{declared.course.Course.Course, State.SetState}
+use Rattle.std.specs.Prelude.{◌*◌, length, ℕ, ◌+◌, ◌-◌}
+use Rattle.tape_blocks.specs.{Packing.size_of, Packing.Packing}
+use Rattle.tape_writer.specs.{declared.phase.Phase.TheVariants.Filing, State.SetState}
+use Rattle.tape_writer.specs.{declared.course.Course.Course, declared.phase.Phase.Phase}
 
 -- an upper bound of the bytes that can be accepted before no volume is left: the free bytes of the
 -- current block and the current volume, and for each further volume its capacity and a block

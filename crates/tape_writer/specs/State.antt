@@ -1,18 +1,19 @@
 -- A set writer as its callers see it, and its invariant after files were passed.
-use Rattle.std.specs.Prelude.{◌≡◌, ◌⊎◌, ◌≤◌, ℕ, ◌+◌, List, [], ◌∷◌, ◌++◌, false, length, map}
-use Rattle.std.specs.{Prelude.Result, Prelude.Err, List.AllByRecursion}
+use Rattle.std.specs.Prelude.{length, ℕ, ◌≡◌, Err, Result, [], ◌++◌, ◌+◌, ◌∷◌, ◌⊎◌, List, false}
+use Rattle.std.specs.{List.AllByRecursion, Prelude.map, Prelude.◌≤◌}
 use Rattle.tape_label.specs.{declared.values.Vol1.Vol1, Widths.IsWideVolume}
 use Rattle.tape_blocks.specs.Packing.{HasRecordLength}
 use Rattle.tape_set.specs.{Layout.Section, Tight.least_capacity}
-use Rattle.tape_writer.specs.declared.phase.Phase.TheVariants.{Between, Filing, Failed, Finished}
-use Rattle.tape_writer.specs.declared.fault.WriteFault.TheVariants.{OutOfVolumes, Device}
-use Rattle.tape_writer.specs.declared.{course.Opened.Opened, course.Course.Course}
-use Rattle.tape_writer.specs.declared.{out.TapeOut.Ghosts, tape.Tape.Tape, phase.Phase.Phase}
-use Rattle.tape_writer.specs.declared.{phase.OpenFile.OpenFile, fault.WriteFault.WriteFault}
-use Rattle.tape_writer.specs.declared.{fault.WriteFault.TheVariants.OutOfMemory}
-use Rattle.tape_writer.specs.Told.{Told, AreFiled, IsWrittenSet}
-use Rattle.tape_writer.specs.Inside.{IsFiling, IsWaiting, IsStuck}
-use Rattle.tape_writer.specs.{Tapes.Tapes, Tapes.WasAsked, Labels.IsReady, Draft.IsRoomy}
+use Rattle.tape_writer.specs.declared.phase.Phase.TheVariants.{Failed, Finished, Between, Filing}
+use Rattle.tape_writer.specs.{declared.course.Course.Course, declared.course.Opened.Opened}
+use Rattle.tape_writer.specs.{declared.fault.WriteFault.TheVariants.Device}
+use Rattle.tape_writer.specs.{declared.fault.WriteFault.TheVariants.OutOfVolumes}
+use Rattle.tape_writer.specs.{declared.fault.WriteFault.TheVariants.OutOfMemory}
+use Rattle.tape_writer.specs.{declared.fault.WriteFault.WriteFault, declared.phase.Phase.Phase}
+use Rattle.tape_writer.specs.{declared.out.TapeOut.Ghosts, declared.phase.OpenFile.OpenFile}
+use Rattle.tape_writer.specs.{declared.tape.Tape.Tape, Draft.IsRoomy, Inside.IsFiling}
+use Rattle.tape_writer.specs.{Inside.IsStuck, Inside.IsWaiting, Labels.IsReady, Tapes.Tapes}
+use Rattle.tape_writer.specs.{Tapes.WasAsked, Told.AreFiled, Told.Told, Told.IsWrittenSet}
 
 -- A writer: its output, the volumes and their capacity, the set's identifier, the files begun so
 -- far, the position on the volumes, and the phase.

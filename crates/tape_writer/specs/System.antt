@@ -1,10 +1,13 @@
 -- The names of files in their directories, and why a set was not written to image files.
-use Rattle.std.specs.Prelude.{◌≡◌, ◌≢◌, ◌⊎◌, ◌<◌, ℕ, List, [], ◌∷◌, ◌++◌, length, get_or, codes}
-use Rattle.std.specs.{Prelude.Bool, Prelude.true, Prelude.false, declared.io.ErrorKind.ErrorKind}
-use Rattle.std.specs.declared.io.ErrorKind.TheVariants.{InvalidInput, Unsupported}
-use Rattle.tape_writer.specs.declared.fault.SetFault.{SetFault}
-use Rattle.tape_writer.specs.declared.system.fault.SystemFault.{SystemFault}
-use Rattle.tape_writer.specs.declared.system.fault.SystemFault.TheVariants.{File, Write}
+use Rattle.std.specs.Prelude.{Bool, List, [], codes, length, true, ◌∷◌, ◌≡◌, ◌≢◌, false, ℕ, ◌++◌}
+use Rattle.std.specs.Prelude.{◌<◌, ◌⊎◌, get_or}
+use Rattle.std.specs.{declared.io.ErrorKind.TheVariants.Unsupported}
+use Rattle.std.specs.{declared.io.ErrorKind.TheVariants.InvalidInput}
+use Rattle.std.specs.{declared.io.ErrorKind.ErrorKind}
+use Rattle.tape_writer.specs.{declared.fault.SetFault.SetFault}
+use Rattle.tape_writer.specs.{declared.system.fault.SystemFault.TheVariants.Write}
+use Rattle.tape_writer.specs.{declared.system.fault.SystemFault.TheVariants.File}
+use Rattle.tape_writer.specs.{declared.system.fault.SystemFault.SystemFault}
 use Rattle.tape_writer.specs.declared.fault.SetFault.TheVariants as sets
 use Rattle.tape_writer.specs.declared.system.fault.FileFault.TheVariants as files
 

@@ -1,7 +1,7 @@
 -- The output: volumes of items, and the effect of the calls of a `TapeOut`.
 pub use Rattle.tape_set.specs.Counts.{Rose}
-use Rattle.std.specs.Prelude.{◌≡◌, ◌≤◌, ℕ, List, [], ◌∷◌, ◌++◌, Result, OnOk, OnErr, IfErr}
-use Rattle.std.specs.Prelude.{slice_get, unwrap_or, ◌+◌, Some}
+use Rattle.std.specs.Prelude.{IfErr, List, OnOk, Result, Some, ◌++◌, ◌+◌, ◌∷◌, ◌≡◌, [], slice_get}
+use Rattle.std.specs.Prelude.{ℕ, ◌≤◌, OnErr, unwrap_or}
 use Rattle.tape_image.specs.Tape.{TapeItem}
 use Rattle.tape_label.specs.declared.values.Vol1.{Vol1}
 

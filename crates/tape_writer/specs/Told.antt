@@ -1,15 +1,15 @@
 -- The files and records passed to a writer, and the meaning of writing them.
-use Rattle.std.specs.Prelude.{◌≡◌, ◌≤◌, ℕ, ◌+◌, List, [], ◌∷◌, ◌++◌, Bool, None, length, map, take}
+use Rattle.std.specs.Prelude.{Bool, List, None, take, ◌++◌, length, ℕ, [], map, ◌+◌, ◌∷◌, ◌≡◌, ◌≤◌}
 use Rattle.std.specs.List.{AllByRecursion}
 use Rattle.tape_image.specs.Tape.{TapeItem}
-use Rattle.tape_label.specs.{declared.values.Vol1.Vol1, declared.values.Head1.Head1}
+use Rattle.tape_label.specs.{declared.values.Head1.Head1, declared.values.Vol1.Vol1}
 use Rattle.tape_blocks.specs.{declared.parts.Shape.Shape, Spans.join}
-use Rattle.tape_set.specs.Layout.{FileSet, Section, Placed, Volume, numbered, all_items}
-use Rattle.tape_set.specs.{Before.section_parts, Lawful.IsLawful, Lawful.IsFile, Sizes.items_size}
-use Rattle.tape_set.specs.{Tight.IsTight, Tight.IsTightFile}
-use Rattle.tape_writer.specs.declared.course.Opened.{Opened}
-use Rattle.tape_writer.specs.Labels.{volume_label, first_label, second_label, trailer_label}
-use Rattle.tape_writer.specs.{Tapes.Tapes, Tapes.Ended, Labels.second_kind}
+use Rattle.tape_set.specs.Layout.{Volume, Placed, Section, all_items, numbered, FileSet}
+use Rattle.tape_set.specs.{Lawful.IsFile, Lawful.IsLawful, Tight.IsTight, Tight.IsTightFile}
+use Rattle.tape_set.specs.{Sizes.items_size, Before.section_parts}
+use Rattle.tape_writer.specs.Labels.{first_label, second_label, trailer_label, volume_label}
+use Rattle.tape_writer.specs.{Labels.second_kind, Tapes.Ended, Tapes.Tapes}
+use Rattle.tape_writer.specs.{declared.course.Opened.Opened}
 use Rattle.tape_label.specs.declared.values.Kind.TheVariants as kinds
 
 -- ---- passed

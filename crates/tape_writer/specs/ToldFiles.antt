@@ -1,9 +1,9 @@
 -- Files passed with the records of inputs.
-use Rattle.std.specs.Prelude.{◌≡◌, ℕ, ◌+◌, List, [], ◌∷◌, ◌++◌, length, Option, IfSome}
+use Rattle.std.specs.Prelude.{IfSome, List, Option, length, ℕ, ◌++◌, ◌∷◌, ◌≡◌, [], ◌+◌}
 use Rattle.tape_label.specs.declared.values.Head1.{Head1}
 use Rattle.tape_blocks.specs.declared.parts.Shape.{Shape}
-use Rattle.tape_writer.specs.{Told.Told, Told.with_record, Told.opened_by, Records.records_of}
-use Rattle.tape_writer.specs.declared.inputs.cut.Cut.{Cut}
+use Rattle.tape_writer.specs.{Records.records_of, Told.Told, Told.opened_by, Told.with_record}
+use Rattle.tape_writer.specs.{declared.inputs.cut.Cut.Cut}
 
 -- further records were passed for the last file
 abbrev pub with_records : List Told → List (List ℕ) → List Told

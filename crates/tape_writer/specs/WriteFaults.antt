@@ -1,17 +1,18 @@
 -- Why a set is not written from inputs: a fault that these definitions rule out is not returned.
-use Rattle.std.specs.Prelude.{◌≡◌, ◌+◌, ◌⊎◌, ℕ, List, [], ◌∷◌, length, Option, Some, None, IfSome}
-use Rattle.std.specs.Prelude.{IfErr, Result}
+use Rattle.std.specs.Prelude.{List, Option, length, IfErr, IfSome, None, Result, Some, [], ℕ, ◌+◌}
+use Rattle.std.specs.Prelude.{◌∷◌, ◌≡◌, ◌⊎◌}
 use Rattle.tape_label.specs.declared.values.Head1.{Head1}
-use Rattle.tape_blocks.specs.{declared.parts.Shape.Shape, Packing.HasRecordLength}
-use Rattle.tape_writer.specs.declared.fault.WriteFault.TheVariants.{BadShape, RecordLength}
-use Rattle.tape_writer.specs.declared.fault.WriteFault.TheVariants.{OutOfVolumes, Device}
-use Rattle.tape_writer.specs.{declared.fault.WriteFault.TheVariants.OutOfMemory, Records.records_of}
-use Rattle.tape_writer.specs.{declared.fault.WriteFault.WriteFault, declared.inputs.cut.Cut.Cut}
-use Rattle.tape_writer.specs.{declared.fault.SetFault.SetFault, declared.inputs.set.SetPlan.SetPlan}
-use Rattle.tape_writer.specs.{declared.inputs.records.InputFault.InputFault, WriteSet.cut_of}
-use Rattle.tape_writer.specs.declared.fault.SetFault.TheVariants.{Write, ReadFailed}
-use Rattle.tape_writer.specs.Refusals.{IsNewFault, IsBeginFault, IsFinishFault}
-use Rattle.tape_writer.specs.Tapes.{Failures, Rose}
+use Rattle.tape_blocks.specs.{Packing.HasRecordLength, declared.parts.Shape.Shape}
+use Rattle.tape_writer.specs.declared.fault.WriteFault.TheVariants.{BadShape, Device, RecordLength}
+use Rattle.tape_writer.specs.Refusals.{IsNewFault, IsBeginFault, IsFinishFault, IsPutFault}
+use Rattle.tape_writer.specs.{declared.fault.SetFault.TheVariants.ReadFailed}
+use Rattle.tape_writer.specs.{declared.fault.SetFault.TheVariants.Write}
+use Rattle.tape_writer.specs.{declared.fault.WriteFault.TheVariants.OutOfMemory}
+use Rattle.tape_writer.specs.{declared.fault.WriteFault.WriteFault}
+use Rattle.tape_writer.specs.{declared.inputs.records.InputFault.InputFault}
+use Rattle.tape_writer.specs.{declared.inputs.set.SetPlan.SetPlan, declared.fault.SetFault.SetFault}
+use Rattle.tape_writer.specs.{declared.inputs.cut.Cut.Cut, Records.records_of, Tapes.Failures}
+use Rattle.tape_writer.specs.{Tapes.Rose, WriteSet.cut_of}
 use Rattle.tape_writer.specs.declared.inputs.records.InputFault.TheVariants as inputs
 
 -- the fault that is returned for the fault of an input
@@ -45,17 +46,9 @@ abbrev pub IsOfWriter : (WriteFault → Type 0) → SetFault → Type 0
 IsOfWriter P (Write fault) = P fault
 IsOfWriter P ReadFailed = ⊥
 
--- why records are not written into a file; `RecordLength` only if `other` holds
-abbrev pub IsPuttingFault : Type 0 → WriteFault → Type 0
-IsPuttingFault other RecordLength = other
-IsPuttingFault other OutOfVolumes = Unit {0}
-IsPuttingFault other Device = Unit {0}
-IsPuttingFault other OutOfMemory = Unit {0}
-IsPuttingFault other _ = ⊥
-
--- the same for the records of an input
+-- why the records of an input are not written into a file; `RecordLength` only if `other` holds
 abbrev pub IsInputFault : Type 0 → SetFault → Type 0
-IsInputFault other (Write fault) = IsPuttingFault other fault
+IsInputFault other (Write fault) = IsPutFault other fault
 IsInputFault other ReadFailed = Unit {0}
 
 -- Why the file of an input is not written after n other files: it cannot begin, or its records are

@@ -1,11 +1,14 @@
 -- The result of `write_set`.
-use Rattle.std.specs.Prelude.{ℕ, List, Bool, Option, Some, None}
+use Rattle.std.specs.Prelude.{List, None, Option, ℕ, Bool, Some}
+use Rattle.tape_label.specs.{declared.values.Format.TheVariants.Counted}
+use Rattle.tape_label.specs.{declared.values.Format.TheVariants.Fixed}
+use Rattle.tape_label.specs.{declared.values.Format.TheVariants.Spanned}
 use Rattle.tape_label.specs.{declared.values.Format.Format, declared.values.Vol1.Vol1}
-use Rattle.tape_label.specs.declared.values.Format.TheVariants.{Fixed, Counted, Spanned}
-use Rattle.tape_blocks.specs.{declared.parts.Shape.Shape, declared.parts.Form.Form}
-use Rattle.tape_writer.specs.{Images.AreImages, Told.Told, Told.IsWrittenSet}
-use Rattle.tape_writer.specs.declared.inputs.cut.Cut.{Cut}
-use Rattle.tape_writer.specs.declared.inputs.cut.Cut.TheVariants.{Lines, Length, Whole}
+use Rattle.tape_blocks.specs.{declared.parts.Form.Form, declared.parts.Shape.Shape}
+use Rattle.tape_writer.specs.{declared.inputs.cut.Cut.TheVariants.Length}
+use Rattle.tape_writer.specs.{declared.inputs.cut.Cut.TheVariants.Lines}
+use Rattle.tape_writer.specs.{declared.inputs.cut.Cut.TheVariants.Whole, Images.AreImages}
+use Rattle.tape_writer.specs.{Told.IsWrittenSet, Told.Told, declared.inputs.cut.Cut.Cut}
 use Rattle.tape_blocks.specs.declared.parts.Form.TheVariants as forms
 
 -- The images passed to the store are exactly those of the volumes of a valid set without unused

@@ -103,29 +103,18 @@ impl MemoryTapes {
         }
     }
 
-    /// Returns the items of volume `volume`, counted from 0, or no items if there is no such
+    /// Returns the items of volume `index`, counted from 0, or no items if there is no such
     /// volume.
-    fn items(&self, volume: usize) -> &[Kept]
-        ensures { volume_of result.now ≡ volume_at self.now.tapes volume }
+    fn items(&self, index: usize) -> &[Kept]
+        ensures { volume_of result.now ≡ volume_at self.now.tapes index }
     {
-        match self.volume(volume) {
-            Some(items) => items.as_slice(),
-            None => &[],
+        match &self.current {
+            Some(current) if index == self.ended.len() => current.as_slice(),
+            _ => match nth(self.ended.as_slice(), index) {
+                Some(items) => items.as_slice(),
+                None => &[],
+            },
         }
-    }
-
-    /// Returns volume `volume`, counted from 0, or `None` if there is no such volume.
-    fn volume(&self, volume: usize) -> Option<&Vec<Kept>>
-        ensures { option_map (λ v. volume_of v.items) (option_copied result)
-            ≡ slice_get (all_volumes self.now.tapes) volume }
-    {
-        let Some(current) = &self.current else {
-            return nth(self.ended.as_slice(), volume);
-        };
-        if volume == self.ended.len() {
-            return Some(current);
-        }
-        nth(self.ended.as_slice(), volume)
     }
 
     /// Counts a call without a current volume.

@@ -1,9 +1,9 @@
 //! Writes records into the blocks of a file, each on the current volume if it has room and
 //! otherwise on the next volume.
 
-ghost use Rattle.std.specs.Prelude.{◌≡◌, ◌≢◌, ◌<◌, ◌≤◌, ◌+◌, ◌++◌, ◌∷◌, [], length, OnOk, IfErr};
-ghost use Rattle.std.specs.{Prelude.Ok, Prelude.Err, Prelude.false, List.AllByRecursion};
-ghost use Rattle.tape_blocks.specs.Packing.{emptied, HasRecordLength};
+ghost use Rattle.std.specs.Prelude.{◌≡◌, ◌≢◌, ◌<◌, ◌≤◌, ◌++◌, ◌∷◌, [], length, OnOk, IfErr, Ok};
+ghost use Rattle.std.specs.{Prelude.Err, List.AllByRecursion};
+ghost use Rattle.tape_blocks.specs.Packing.{emptied};
 ghost use Rattle.tape_label.specs.Widths.{IsWideVolume};
 ghost use Rattle.tape_set.specs.Tight.{least_capacity};
 ghost use Rattle.tape_writer.specs.Inside.{IsInside, IsStuck, IsLeftOut, Flushed, IfInside, IfOpen};
@@ -11,10 +11,12 @@ ghost use Rattle.tape_writer.specs.declared.course.Course.{Course};
 ghost use Rattle.tape_writer.specs.{Labels.IsReady, Lasting.TapeLasts, Lasting.StaysAsked};
 ghost use Rattle.tape_writer.specs.{Draft.IsRoomy, Front.HoldsFront, Front.IsMidRecord};
 ghost use Rattle.tape_writer.specs.{Faults.FailsWith, Faults.IsEnding, Room.room_of};
+ghost use Rattle.tape_writer.specs.State.{IsSoundOpen, HasLength};
 
 use crate::course::Opened;
 use crate::fault::WriteFault;
 use crate::out::TapeOut;
+use crate::phase::OpenFile;
 use crate::tape::Tape;
 use tape_blocks::{Offer, Packer};
 use tape_label::Vol1;
@@ -73,46 +75,38 @@ pub(crate) fn flush<T: TapeOut>(
 #[tactic(auto, using(crate::proofs::Last::kept))]
 pub(crate) fn put_record<T: TapeOut>(
     tape: &mut Tape<T>,
-    packer: &mut Packer,
-    file: &Opened,
+    current: &mut OpenFile,
     volumes: &[Vol1],
     capacity: u32,
     whole: &[u8],
 ) -> Result<(), WriteFault>
-    requires ready { IsReady file.now }
     requires wide { AllByRecursion IsWideVolume volumes.now }
-    requires roomy { IsRoomy capacity (length volumes.now) tape.old.course }
     requires volumes { length volumes.now ≤ 9999 }
-    requires capacity { least_capacity file.now.shape ≤ capacity }
-    requires shape { packer.old.shape ≡ file.now.shape }
-    requires opened { packer.old.closed ≡ false }
-    requires ended { packer.old.begun ≡ false }
-    ensures roomy { OnOk result (IsRoomy capacity (length volumes.now) tape.new.course) }
-    ensures packer { OnOk result ((packer.new.shape ≡ file.now.shape)
-        × (packer.new.closed ≡ false) × (packer.new.begun ≡ false)) }
-    ensures length { OnOk result (HasRecordLength
-        file.now.shape.format file.now.shape.rec_len (length whole.now)) }
+    requires sound { IsSoundOpen volumes.now capacity tape.old.course current.old }
+    ensures sound { OnOk result (IsSoundOpen volumes.now capacity tape.new.course current.new) }
+    ensures file { current.new.file ≡ current.old.file }
+    ensures length { OnOk result (HasLength current.old whole.now) }
     ensures refused { IfErr result (λ fault. fault ≡ WriteFault.RecordLength
-        → (tape.new ≡ tape.old) × (packer.new ≡ packer.old)
-        × (HasRecordLength file.now.shape.format file.now.shape.rec_len (length whole.now) → ⊥)) }
-    ensures always { (HasRecordLength file.now.shape.format file.now.shape.rec_len
-        (length whole.now) → ⊥)
-        → result ≡ Err WriteFault.RecordLength }
-    ensures packed { IfInside T.TapeOut volumes.now capacity file.now tape.old packer.old
+        → (tape.new ≡ tape.old) × (current.new ≡ current.old)
+        × (HasLength current.old whole.now → ⊥)) }
+    ensures always { (HasLength current.old whole.now → ⊥) → result ≡ Err WriteFault.RecordLength }
+    ensures packed { IfInside T.TapeOut volumes.now capacity tape.old current.old
         (λ set_id fs records. OnOk result (IsInside (T.holds tape.new.out) volumes.now capacity
-        set_id file.now tape.new.course packer.new fs (records ++ whole.now ∷ []))) }
+        set_id current.old.file tape.new.course current.new.packer fs
+        (records ++ whole.now ∷ []))) }
     ensures stuck { IfErr result (λ fault. fault ≡ WriteFault.OutOfVolumes
-        → IfInside T.TapeOut volumes.now capacity file.now tape.old packer.old
+        → IfInside T.TapeOut volumes.now capacity tape.old current.old
         (λ set_id fs records. IsStuck (T.holds tape.new.out) volumes.now capacity set_id
-        file.now tape.new.course fs (records ++ whole.now ∷ []))) }
+        current.old.file tape.new.course fs (records ++ whole.now ∷ []))) }
     // Whatever the fault, the tapes contain a prefix of the items that are written for the record.
-    ensures front { IfInside T.TapeOut volumes.now capacity file.now tape.old packer.old
+    ensures front { IfInside T.TapeOut volumes.now capacity tape.old current.old
         (λ set_id fs records. IfErr result (λ fault. IsEnding fault → (course : Course)
-        × IsMidRecord (HoldsFront (T.holds tape.new.out)) volumes.now capacity set_id file.now
-        course fs (records ++ whole.now ∷ []))) }
+        × IsMidRecord (HoldsFront (T.holds tape.new.out)) volumes.now capacity set_id
+        current.old.file course fs (records ++ whole.now ∷ []))) }
     // This ensures that no infinite input can keep the writer busy forever.
-    ensures room { OnOk result (room_of (length volumes.now) capacity tape.new.course packer.new
-        < room_of (length volumes.now) capacity tape.old.course packer.old) }
+    ensures room { OnOk result
+        (room_of (length volumes.now) capacity tape.new.course current.new.packer
+        < room_of (length volumes.now) capacity tape.old.course current.old.packer) }
     ensures asked { StaysAsked T.TapeOut volumes.now tape.old result tape.new }
     ensures ending { IfErr result (λ fault. fault ≢ WriteFault.RecordLength → IsEnding fault) }
     ensures lasting { TapeLasts T.TapeOut tape.old tape.new }
@@ -120,11 +114,11 @@ pub(crate) fn put_record<T: TapeOut>(
 {
     let mut rest = whole;
     'offers: loop {
-        match packer.offer(rest) {
+        match current.packer.offer(rest) {
             Err(_) => return Err(WriteFault::RecordLength),
             Ok(Offer::Taken) => return Ok(()),
             Ok(Offer::BlockReady(taken)) => {
-                flush(tape, packer, file, volumes, capacity)?;
+                flush(tape, &mut current.packer, &current.file, volumes, capacity)?;
                 rest = &rest[taken..];
             }
         }

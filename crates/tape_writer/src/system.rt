@@ -12,9 +12,7 @@ mod written;
 
 pub use answers::{LockFault, found, locked};
 pub use fault::{FileFault, SystemFault};
-pub use folder::{
-    folder_of, image_path, is_unable, name_in_folder, put_image_path, sync_folder_of,
-};
+pub use folder::{folder_of, image_path, is_unable, name_in_folder, sync_folder_of};
 pub use image_file::ImageFile;
 pub use image_files::{Ended, ImageFiles, VOLUMES};
 pub use input_file::InputFile;

@@ -9,11 +9,11 @@ ghost use Rattle.tape_blocks.specs.Tight.{Filled};
 ghost use Rattle.tape_set.specs.{Sizes.item_size, Tight.takes_next};
 ghost use Rattle.tape_writer.specs.Tapes.{Tapes, Ended, UnderWay, Takes, Keeps, Changes};
 ghost use Rattle.tape_writer.specs.Labels.{IsReady, header_items, trailer_items, volume_label};
+ghost use Rattle.tape_writer.specs.Labels.{second_label};
 ghost use Rattle.tape_writer.specs.{Tapes.all_volumes, Front.HoldsFront, Draft.IsRoomy};
 ghost use Rattle.tape_writer.specs.Lasting.{TapeLasts, LastsFirst, StaysAsked};
 ghost use Rattle.tape_writer.specs.{Draft.changed_course, Inside.HasPlace, Inside.IfOpen};
 ghost use Rattle.tape_writer.specs.Faults.{FailsWith, IsEnding, IsOfOut};
-ghost use Rattle.tape_writer.specs.Labels.{second_label, second_kind, trailer_label};
 
 use crate::course::{Course, Opened};
 use crate::fault::{WriteFault, fault_of};
@@ -44,13 +44,11 @@ impl<T: TapeOut> Tape<T> {
         ensures asked { (v : Vol1) → T.asked self.old.out v → T.asked self.new.out v }
         ensures out { IfErr result IsOfOut }
     {
-        match self.out.block(bytes) {
-            Ok(()) => {
-                self.course.used += (8 + bytes.len() + bytes.len() % 2) as u32;
-                Ok(())
-            }
-            Err(fault) => Err(fault_of(fault)),
+        if let Err(fault) = self.out.block(bytes) {
+            return Err(fault_of(fault));
         }
+        self.course.used += (8 + bytes.len() + bytes.len() % 2) as u32;
+        Ok(())
     }
 
     /// Writes a tape mark.
@@ -65,13 +63,11 @@ impl<T: TapeOut> Tape<T> {
         ensures asked { (v : Vol1) → T.asked self.old.out v → T.asked self.new.out v }
         ensures out { IfErr result IsOfOut }
     {
-        match self.out.mark() {
-            Ok(()) => {
-                self.course.used += 4;
-                Ok(())
-            }
-            Err(fault) => Err(fault_of(fault)),
+        if let Err(fault) = self.out.mark() {
+            return Err(fault_of(fault));
         }
+        self.course.used += 4;
+        Ok(())
     }
 
     /// Writes the headers of section number `sect`: HDR1, HDR2 and a mark.
@@ -128,8 +124,13 @@ impl<T: TapeOut> Tape<T> {
         ensures out { IfErr result IsOfOut }
     {
         self.mark()?;
-        self.block(&trailer_label(file, self.course.sect, self.course.count, eof))?;
-        self.block(&second_label(file, second_kind(eof)))?;
+        let trailer = Trail1 {
+            eof,
+            head: file.head_at(self.course.sect),
+            blocks: label_count(self.course.count),
+        };
+        self.block(&write_trail1(&trailer))?;
+        self.block(&second_label(file, if eof { Kind::Eof2 } else { Kind::Eov2 }))?;
         self.mark()
     }
 
@@ -230,27 +231,4 @@ fn second_label(file: &Opened, kind: Kind) -> [u8; 80]
         },
         kind,
     )
-}
-
-/// Returns EOF1 or EOV1 of a section with `count` data blocks.
-#[tactic(auto, unfolding(crate::specs::Labels::trailer_label))]
-fn trailer_label(file: &Opened, sect: u16, count: u32, eof: bool) -> [u8; 80]
-    requires ready { IsReady file.now }
-    requires first { 1 ≤ sect }
-    requires most { sect ≤ 9999 }
-    ensures { result ≡ trailer_label file.now sect count eof }
-{
-    write_trail1(&Trail1 {
-        eof,
-        head: file.head_at(sect),
-        blocks: label_count(count),
-    })
-}
-
-/// Returns the kind EOF2 if the file ends, otherwise EOV2.
-fn second_kind(eof: bool) -> Kind
-    ensures is { result ≡ second_kind eof }
-    ensures second { IsSecond result }
-{
-    if eof { Kind::Eof2 } else { Kind::Eov2 }
 }

@@ -1,13 +1,15 @@
 -- Records that are written one after another, until no volume is left.
 use Rattle.tape_writer.proofs.Words.{◌≡◌, ℕ, List, [], ◌∷◌, ◌++◌, Bool, true, Option, refl, sym, ap}
 use Rattle.tape_writer.proofs.Words.{◌∙◌, append_assoc, ◌≤◌, length, arith, IfSome, AllByRecursion}
-use Rattle.tape_writer.proofs.{Words.every, Words.IfKnown, Volumes.all_push, Calls.with_last}
+use Rattle.tape_writer.proofs.Words.{IfKnown, Head1, Shape, every, false}
+use Rattle.tape_writer.proofs.{Volumes.all_push, Calls.with_last}
 use Rattle.tape_image.proofs.Walks.{known_all, known_same, known_then}
 use Rattle.std.proofs.Common.{append-nil}
 use Rattle.tape_writer.specs.{declared.course.Opened.Opened, declared.inputs.cut.Cut.Cut}
 use Rattle.tape_writer.specs.{Told.Told, Told.with_record, Tapes.Tapes, Tapes.Failures, Tapes.Grows}
 use Rattle.tape_writer.specs.{ToldFiles.with_records, State.SetState, State.IsOutOfVolumes}
-use Rattle.tape_writer.specs.{Records.to_come, Records.given, LeftOf.GaveUp}
+use Rattle.tape_writer.specs.{Records.to_come, Records.given, Records.records_of, LeftOf.GaveUp}
+use Rattle.tape_writer.specs.{State.IsWriting, Told.with_file}
 
 -- records were returned and written, which moved the writer from `old` to `new`
 pub record Put (cut : Cut) (over over' : Bool) (all left : Option (List ℕ))
@@ -47,13 +49,23 @@ pub record PutWithin (n : ℕ) (cut : Cut) (over over' : Bool) (all left : Optio
   pub put : Put cut over over' all left old new
   pub within : AllByRecursion (λ r. length r ≤ n) put.records
 
-pub within_none : (n : ℕ) (cut : Cut) (over : Bool) (all : Option (List ℕ))
-    (old : List Told → Type 0) → PutWithin n cut over over all all old old
-within_none n cut over all old = record {
+-- the files passed when a file began
+abbrev pub Begun : {T : Type 0} → (Tapes → Type 0) → SetState T → Head1 → Shape → List Told
+    → Type 0
+Begun H w head shape t =
+    (told : List Told) × IsWriting H w told × (t ≡ with_file w.set_id told head shape)
+
+-- none of its records was returned yet
+pub within_begun : {T : Type 0} (H K : Tapes → Type 0) (old new : SetState T) (head : Head1)
+    (shape : Shape) (n : ℕ) (cut : Cut) (all left : Option (List ℕ)) → left ≡ all
+    → ((told : List Told) → IsWriting H old told
+    → IsWriting K new (with_file old.set_id told head shape))
+    → PutWithin n cut false false all left (Begun H old head shape) (IsWriting K new)
+within_begun H K old new head shape n cut all left same begins = record {
   put = record {
     records = [];
-    known = known_same all all _ refl (λ xs. refl);
-    told = λ told h. h;
+    known = known_same all left _ same (λ xs. refl);
+    told = λ t b. rw b.2 (begins b.0 b.1);
   };
   within = tt;
 }
@@ -71,6 +83,19 @@ within_one {n} {m} r p k step le fits = record {
       (every (λ x. length x ≤ n) (λ x. length x ≤ m) (λ x l. omega (arith, l, le))
       p.put.records p.within) fits;
 }
+
+-- no record is left, so all records of the input were written
+pub all_put : {n : ℕ} {cut : Cut} {b : Bool} {all left : Option (List ℕ)}
+    {old mid : List Told → Type 0} (c : Bool) (next : Option (List ℕ))
+    → PutWithin n cut false b all left old mid
+    → IfKnown left next (λ xs ys. to_come cut b xs ≡ to_come cut c ys) → c ≡ true
+    → (told : List Told) → old told
+    → IfKnown all next (λ xs ys. mid (with_records told (records_of cut xs)))
+all_put {cut = cut} {all = all} {left = left} c next p k over told h =
+    known_then all left next _ _ _ (λ xs ys zs e f.
+    let same : records_of cut xs ≡ p.put.records = e ∙ ap (λ l. p.put.records ++ l)
+    (f ∙ ap (λ o. to_come cut o zs) over) ∙ append-nil p.put.records in
+    rw same (p.put.told told h)) p.put.known k
 
 -- the records of a file that has just begun
 pub of_file : (told : List Told) (file : Opened) (before rs : List (List ℕ))

@@ -10,7 +10,7 @@ use Rattle.tape_writer.proofs.inputs.Putting.{Put, known_more}
 use Rattle.tape_image.proofs.Walks.{known_all, IfKnown-some}
 use Rattle.std.proofs.{lemmas.Option.IfSome_then, KnownBytes.Consumes-kept, Common.take-append-drop}
 use Rattle.tape_label.specs.Characters.{first_other}
-use Rattle.tape_writer.specs.WriteFaults.{IsFilesFault, told_as, OneIsOther, IsPuttingFault}
+use Rattle.tape_writer.specs.WriteFaults.{IsFilesFault, told_as, OneIsOther}
 use Rattle.tape_writer.specs.Records.{records_from, records_of, to_come, given, longest}
 use Rattle.tape_writer.specs.{WriteFaults.IsInputFault, WriteFaults.IsFileFault, Fields.IsTextHead}
 use Rattle.tape_writer.specs.Records.{ends_before, is_full, Adds, IsFirstLong, GrowsLong}
@@ -19,7 +19,7 @@ use Rattle.tape_writer.specs.{Told.Told, declared.inputs.records.InputFault.Inpu
 use Rattle.tape_writer.specs.{declared.fault.SetFault.TheVariants.Write, declared.phase.Phase.Phase}
 use Rattle.tape_writer.specs.{declared.inputs.cut.Cut.Cut, declared.phase.Phase.TheVariants.Filing}
 use Rattle.tape_writer.specs.{declared.course.Opened.Opened, Refusals.IsInFile, Refusals.IsPutFault}
-use Rattle.tape_writer.specs.{declared.phase.OpenFile.OpenFile, declared.fault.SetFault.SetFault}
+use Rattle.tape_writer.specs.declared.fault.SetFault.{SetFault}
 use Rattle.tape_writer.specs.{declared.fault.WriteFault.WriteFault, State.IfFiling, State.HasLength}
 use Rattle.tape_writer.specs.declared.inputs.cut.Cut.TheVariants.{Lines, Length, Whole}
 use Rattle.std.specs.Io.KnownBytes.{Consumes, Keeps}
@@ -155,29 +155,25 @@ put_other shape cut a b c all left next old mid r p k wrong =
 
 -- ---- faults of the writer
 
-of_put : (o : OpenFile) (bytes : List ℕ) (other : Type 0) (fault : WriteFault)
-    → IsPutFault o bytes fault → ((HasLength o bytes → ⊥) → other) → IsPuttingFault other fault
-of_put o bytes other faults.RecordLength due f = f due
-of_put o bytes other faults.OutOfVolumes due f = tt
-of_put o bytes other faults.Device due f = tt
-of_put o bytes other faults.OutOfMemory due f = tt
-of_put o bytes other _ due f = absurd due
+of_put : (wrong other : Type 0) (fault : WriteFault) → IsPutFault wrong fault → (wrong → other)
+    → IsPutFault other fault
+of_put wrong other faults.RecordLength due f = f due
+of_put wrong other _ due f = due
 
 -- a record was not written in the file
 pub put_fault : (file : Opened) (phase : Phase) (bytes : List ℕ) (other : Type 0)
-    (fault : WriteFault) → IsInFile file phase → IfFiling phase (λ o. IsPutFault o bytes fault)
+    (fault : WriteFault) → IsInFile file phase
+    → IfFiling phase (λ o. IsPutFault (HasLength o bytes → ⊥) fault)
     → ((HasRecordLength file.shape.format file.shape.rec_len (length bytes) → ⊥) → other)
-    → IsPuttingFault other fault
+    → IsPutFault other fault
 put_fault file (Filing o) bytes other fault is due f =
-    of_put o bytes other fault due (λ wrong. f (rw is at wrong))
+    of_put _ other fault due (λ wrong. f (rw is at wrong))
 put_fault file _ bytes other fault is due f = absurd is
 
 -- a fault that ends the writer is possible with any records
-pub of_ending : (other : Type 0) (fault : WriteFault) → IsEnding fault → IsPuttingFault other fault
-of_ending other faults.OutOfVolumes e = tt
-of_ending other faults.Device e = tt
-of_ending other faults.OutOfMemory e = tt
-of_ending other _ e = absurd e
+pub of_ending : (other : Type 0) (fault : WriteFault) → IsEnding fault → IsPutFault other fault
+of_ending other faults.RecordLength e = absurd e
+of_ending other _ e = e
 
 -- a fault at the end of a file ends the writer
 pub end_ends : (file : Opened) (phase : Phase) (f : WriteFault) → IsInFile file phase

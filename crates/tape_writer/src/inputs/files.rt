@@ -1,19 +1,16 @@
 //! Writes files from inputs.
 ghost use Rattle.std.specs.Prelude.{◌≡◌, ◌<◌, ◌≤◌, ◌++◌, ◌+◌, ◌∷◌, [], List, length, map, ◌⊎◌};
 ghost use Rattle.std.specs.Prelude.{OnOk, IfErr, IfSome, Some, Ok, Err};
-ghost use Rattle.tape_image.specs.Reader.{IfKnown};
 ghost use Rattle.tape_blocks.specs.Packing.{IsWritable};
 ghost use Rattle.tape_set.specs.Tight.{least_capacity};
-ghost use Rattle.tape_writer.specs.WriteFaults.{OneIsOther, IsInputFault, IsFileFault};
-ghost use Rattle.tape_writer.specs.WriteFaults.{IsFilesFault, told_as, StopsByDevice};
-ghost use Rattle.tape_writer.specs.{Tapes.Grows, Tapes.Rose, Refusals.IsInFile, Refusals.closed_by};
-ghost use Rattle.tape_writer.specs.{State.IsWriting, State.SameSet, declared.course.Opened.Opened};
+ghost use Rattle.tape_writer.specs.WriteFaults.{IsFileFault, IsFilesFault, told_as, StopsByDevice};
+ghost use Rattle.tape_writer.specs.{Tapes.Grows, Tapes.Rose, Refusals.closed_by, State.IsWriting};
+ghost use Rattle.tape_writer.specs.{State.SameSet, Records.records_of, ToldFiles.told_files};
 ghost use Rattle.tape_writer.specs.Told.{Told, opened_by, with_file};
+ghost use Rattle.tape_writer.specs.ToldFiles.{IfAllKnown};
 ghost use Rattle.tape_writer.specs.declared.fault.WriteFault.{WriteFault};
 ghost use Rattle.tape_writer.specs.declared.phase.Phase.TheVariants.{Between};
-ghost use Rattle.tape_writer.specs.ToldFiles.{with_records, told_files, IfAllKnown};
 ghost use Rattle.tape_writer.specs.LeftOf.{GaveUp, GaveUpIn, IsLeftOf, IsLeftIn, IsLeftUnbegun};
-ghost use Rattle.tape_writer.specs.Records.{records_of, to_come, left_of, longest as longest_of};
 
 use crate::fault::{SetFault, WriteFault};
 use crate::inputs::cut::{Cut, longest};
@@ -138,52 +135,17 @@ fn write_file<T: TapeOut + Drop, R: Read>(
     let Ok(mut records) = Records::new(alloc, input, cut, longest(&shape)) else {
         return Err(SetFault::Write(WriteFault::OutOfMemory));
     };
-    put_records(writer, &mut records)?;
-    match writer.end_file() {
-        Ok(()) => Ok(()),
-        Err(fault) => Err(SetFault::Write(fault)),
-    }
-}
-
-/// Writes the remaining records of an input into the current file.
-fn put_records<T: TapeOut + Drop, R: Read + Drop>(
-    writer: &mut SetWriter<T>,
-    records: &mut Records<R>,
-) -> Result<(), SetFault>
-    ensures same { SameSet writer.old writer.new }
-    ensures told { (told : List Told) → IsWriting (T.holds writer.old.out) writer.old told
-        → OnOk result (IfKnown (left_of R.remaining records.old) (left_of R.remaining records.new)
-        (λ xs ys. IsWriting (T.holds writer.new.out) writer.new
-        (with_records told (to_come records.old.cut records.old.over xs)))) }
-    ensures due { (file : Opened) → IsInFile file writer.old.phase
-        → records.old.limit ≡ longest_of file.shape
-        → IfErr result (IsInputFault (IfSome (left_of R.remaining records.old) (λ xs.
-        OneIsOther file.shape (to_come records.old.cut records.old.over xs)))) }
-    ensures stuck { IfErr result (λ fault. fault ≡ SetFault.Write WriteFault.OutOfVolumes
-        → (told : List Told) → IsWriting (T.holds writer.old.out) writer.old told
-        → IfSome (left_of R.remaining records.old) (λ xs.
-        GaveUp (T.holds writer.new.out) writer.new told
-        (to_come records.old.cut records.old.over xs))) }
-    ensures front { (file : Opened) → IsInFile file writer.old.phase
-        → (told : List Told) → IsWriting (T.holds writer.old.out) writer.old told
-        → IfErr result (λ fault. IfSome (left_of R.remaining records.old) (λ xs.
-        IsLeftOf (T.holds writer.new.out) writer.new
-        (Rose (T.failures writer.old.out).memory (T.failures writer.new.out).memory) fault told
-        (to_come records.old.cut records.old.over xs))) }
-    ensures count { Grows (T.failures writer.old.out) (T.failures writer.new.out) }
-    ensures cause { StopsByDevice (T.failures writer.old.out) result (T.failures writer.new.out) }
-    ensures stays { (file : Opened) → IsInFile file writer.old.phase
-        → OnOk result (IsInFile file writer.new.phase) }
-    ensures files { writer.new.files ≡ writer.old.files }
-{
     // An input may be infinite, but each record uses up some of the writer's room.
     'records: loop {
         match records.next() {
-            Ok(true) => match writer.put(records.record()) {
+            Ok(true) => match writer.put(records.content.as_slice()) {
                 Ok(()) => {}
                 Err(fault) => return Err(SetFault::Write(fault)),
             },
-            Ok(false) => return Ok(()),
+            Ok(false) => match writer.end_file() {
+                Ok(()) => return Ok(()),
+                Err(fault) => return Err(SetFault::Write(fault)),
+            },
             Err(fault) => return Err(fault_of(fault)),
         }
     }

@@ -29,6 +29,7 @@ pub struct Records<R> {
     pub limit: u32,
     /// Whether the end of the input was reached.
     pub over: bool,
+    /// The record that was read last.
     pub content: Vec<u8>,
     pub ahead: Chunk,
 }
@@ -55,13 +56,6 @@ impl<R: Read + Drop> Records<R> {
         })
     }
 
-    /// Returns the record that was read last.
-    pub fn record(&self) -> &[u8]
-        ensures { result.now ≡ self.now.content.items }
-    {
-        self.content.as_slice()
-    }
-
     /// Reads the next record, and returns false if no record is left. Does not call the reader
     /// again after its end.
     ///
@@ -69,7 +63,7 @@ impl<R: Read + Drop> Records<R> {
     ///
     /// Returns `ReadFailed` if the reader returns an error; `TooLong` as soon as the bytes read
     /// show that the record is longer than the limit, whatever follows; `OutOfMemory`. After an
-    /// error `record` returns the bytes that were read of the record; a further call drops them,
+    /// error `content` holds the bytes that were read of the record; a further call drops them,
     /// and takes the bytes after them for a new record.
     pub fn next(&mut self) -> Result<bool, InputFault>
         ensures given { IfOk result (λ more.

@@ -1,7 +1,6 @@
 //! Begins files.
 
-ghost use Rattle.std.specs.Prelude.{◌≡◌, ◌≢◌, ◌<◌, ◌≤◌, ◌+◌, [], List, length, OnOk, ◌⊎◌, IfErr};
-ghost use Rattle.std.specs.Prelude.{Err, Some};
+ghost use Rattle.std.specs.Prelude.{◌≡◌, ◌<◌, ◌≤◌, ◌+◌, ◌⊎◌, [], List, length, OnOk, IfErr, Some};
 ghost use Rattle.tape_blocks.specs.Packing.{IsWritable};
 ghost use Rattle.tape_set.specs.Tight.{least_capacity};
 ghost use Rattle.tape_writer.specs.{Fields.IsTextHead, Told.Told, Told.opened_by, Told.with_file};

@@ -1,14 +1,14 @@
 //! Writes records, ends files, and ends the set.
 
-ghost use Rattle.std.specs.Prelude.{◌≡◌, ◌⊎◌, ◌<◌, ◌+◌, ◌++◌, ◌∷◌, [], List, OnOk, IfErr};
+ghost use Rattle.std.specs.Prelude.{◌≡◌, ◌⊎◌, ◌<◌, ◌+◌, ◌++◌, ◌∷◌, [], List, OnOk, IfErr, Some};
 ghost use Rattle.tape_image.specs.Tape.{TapeItem, mark as mark_item};
 ghost use Rattle.tape_writer.specs.State.{IsWriting, Leaves, Refuses, IfFiling, HasLength, tape_of};
 ghost use Rattle.tape_writer.specs.{Tapes.Ended, Tapes.UnderWay, Lasting.TapeLasts, Room.room_left};
 ghost use Rattle.tape_writer.specs.Front.{IsLeftInside, IsLeftBehind, IsLeftWhole};
 ghost use Rattle.tape_writer.specs.{Faults.FailsWith, Faults.IsEnding, Told.Told, Told.with_record};
 ghost use Rattle.tape_writer.specs.State.{IsOutOfVolumes, HasAsked, SameSet};
-ghost use Rattle.tape_writer.specs.Refusals.{IsPutFault, IsFinishFault, IsInFile};
-ghost use Rattle.tape_writer.specs.declared.course.Opened.{Opened};
+ghost use Rattle.tape_writer.specs.Refusals.{IsPutFault, IsFinishFault, IsInFile, closed_by};
+ghost use Rattle.tape_writer.specs.declared.{course.Opened.Opened, fault.WriteFault.WriteFault};
 ghost use Rattle.tape_writer.specs.declared.phase.Phase.TheVariants.{Between, Failed, Finished};
 
 use crate::fault::{WriteFault, fault_of};
@@ -46,7 +46,8 @@ impl<T: TapeOut + Drop> SetWriter<T> {
             → Refuses self.old result self.new WriteFault.RecordLength) }
         ensures fits { OnOk result (IfFiling self.old.phase (λ o. HasLength o bytes.now)) }
         // Each fault is returned only for its cause.
-        ensures due { IfFiling self.old.phase (λ o. IfErr result (IsPutFault o bytes.now)) }
+        ensures due { IfFiling self.old.phase (λ o.
+            IfErr result (IsPutFault (HasLength o bytes.now → ⊥))) }
         ensures stays { (file : Opened) → IsInFile file self.old.phase
             → OnOk result (IsInFile file self.new.phase) }
         // Each record needs room, so only finitely many records are accepted.
@@ -69,20 +70,13 @@ impl<T: TapeOut + Drop> SetWriter<T> {
         ensures leaves { IfErr result (Leaves self.old self.new) }
         ensures cause { FailsWith (T.failures self.old.out) result (T.failures self.new.out) }
     {
-        let file = match &mut self.phase {
-            Phase::Filing(file) => file,
+        let open = match &mut self.phase {
+            Phase::Filing(open) => open,
             Phase::Between => return Err(WriteFault::NoFile),
             Phase::Failed => return Err(WriteFault::Failed),
             Phase::Finished => return Err(WriteFault::Finished),
         };
-        match put_record(
-            &mut self.tape,
-            &mut file.packer,
-            &file.file,
-            &self.volumes,
-            self.capacity,
-            bytes,
-        ) {
+        match put_record(&mut self.tape, open, &self.volumes, self.capacity, bytes) {
             Ok(()) => Ok(()),
             Err(fault) if fault == WriteFault::RecordLength => Err(fault),
             Err(fault) => {
@@ -158,12 +152,8 @@ impl<T: TapeOut + Drop> SetWriter<T> {
     #[tactic(auto, using(crate::proofs::Calls::calls))]
     pub fn finish(&mut self) -> Result<(), WriteFault>
         ensures same { SameSet self.old self.new }
-        ensures failed { self.old.phase ≡ Failed
-            → Refuses self.old result self.new WriteFault.Failed }
-        ensures finished { self.old.phase ≡ Finished
-            → Refuses self.old result self.new WriteFault.Finished }
-        ensures begun { IfFiling self.old.phase
-            (λ _. Refuses self.old result self.new WriteFault.FileBegun) }
+        ensures closed { (fault : WriteFault) → closed_by self.old.phase ≡ Some fault
+            → Refuses self.old result self.new fault }
         ensures no_file { self.old.phase ≡ Between → self.old.course.volume ≡ 0
             → Refuses self.old result self.new WriteFault.NoFile }
         ensures due { self.old.phase ≡ Between

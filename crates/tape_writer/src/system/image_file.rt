@@ -82,10 +82,8 @@ impl<'a, R: Host> ImageFile<'a, R> {
     }
 
     fn path(&self) -> Result<String, SystemFault> {
-        match image_path(self.rt.alloc(), self.folder, self.prefix, self.number) {
-            Ok(path) => Ok(path),
-            Err(_) => Err(NO_MEMORY),
-        }
+        let alloc = self.rt.alloc();
+        image_path(alloc, self.folder, self.prefix, self.number).map_err(|_| NO_MEMORY)
     }
 
     /// Opens the file if it is not open yet, after allocating its buffer.
@@ -101,13 +99,10 @@ impl<'a, R: Host> ImageFile<'a, R> {
             return Err(NO_MEMORY);
         };
         let path = self.path()?;
-        match open_image(self.rt, path.as_str(), self.prefix, self.number) {
-            Ok(file) => {
-                self.file = Some(WriteBehind::over(room, file));
-                Ok(())
-            }
-            Err(fault) => Err(SystemFault::File(fault)),
-        }
+        let opened = open_image(self.rt, path.as_str(), self.prefix, self.number);
+        let file = opened.map_err(|fault| SystemFault::File(fault))?;
+        self.file = Some(WriteBehind::over(room, file));
+        Ok(())
     }
 
     /// Accepts bytes, and opens the file when the first bytes are accepted.
@@ -117,10 +112,7 @@ impl<'a, R: Host> ImageFile<'a, R> {
     {
         self.make_ready()?;
         match &mut self.file {
-            Some(file) => match file.take(bytes) {
-                Ok(()) => Ok(()),
-                Err(fault) => Err(SystemFault::File(fault)),
-            },
+            Some(file) => file.take(bytes).map_err(|fault| SystemFault::File(fault)),
             None => unreachable!(),
         }
     }
@@ -131,10 +123,7 @@ impl<'a, R: Host> ImageFile<'a, R> {
         ensures err { OnErr result (FileStops [] self.old.file self.new.file) }
     {
         match &mut self.file {
-            Some(file) => match file.pass_on() {
-                Ok(()) => Ok(()),
-                Err(fault) => Err(SystemFault::File(fault)),
-            },
+            Some(file) => file.pass_on().map_err(|fault| SystemFault::File(fault)),
             None => Ok(()),
         }
     }

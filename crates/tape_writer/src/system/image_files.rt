@@ -31,7 +31,8 @@ pub struct ImageFiles<'a, R: Host> {
     prefix: Prefix,
     /// The number of files lent.
     lent: u16,
-    ended: Vec<Ended>,
+    /// The volumes whose images ended, and their sizes.
+    pub(crate) ended: Vec<Ended>,
     ghost room: { 256 ≤ vec_capacity ended },
 }
 
@@ -49,13 +50,6 @@ impl<'a, R: Host> ImageFiles<'a, R> {
             lent: 0,
             ended: Vec::with_capacity(rt.alloc(), usize::from(VOLUMES))?,
         })
-    }
-
-    /// Returns the volumes whose images ended, and their sizes.
-    pub fn into_ended(self) -> Vec<Ended>
-        ensures { result ≡ self.entry.ended }
-    {
-        self.ended
     }
 }
 

@@ -12,8 +12,8 @@ use std::fs::{File, OpenOptions};
 use std::io::{ErrorKind, Read, Seek, SeekFrom};
 use tape_image::fill;
 
-/// Creates an image file, or opens the existing file if it is a blank volume. The file is locked as
-/// long as it is open.
+/// Creates an image file, or opens the existing file if it is a blank volume, and truncates it. The
+/// file is locked as long as it is open.
 pub fn open_image<R: Host>(
     rt: &R,
     path: &str,
@@ -21,9 +21,23 @@ pub fn open_image<R: Host>(
     number: u16,
 ) -> Result<File, FileFault> {
     match make_file(rt, path) {
-        Err(FileFault::Exists) => open_blank(rt, path, prefix, number),
-        made => made,
+        Err(FileFault::Exists) => {}
+        made => return made,
     }
+    let mut options = OpenOptions::new();
+    options.read(true).write(true);
+    let Ok(mut there) = options.open(rt, path) else {
+        return Err(FileFault::NotOpened);
+    };
+    // A file that is not blank is not locked: another run may just have created it. Two runs may
+    // both find a blank volume, so the run that holds the lock checks again.
+    require_blank(&mut there, prefix, number)?;
+    let mut there = lock(there)?;
+    require_blank(&mut there, prefix, number)?;
+    if there.set_len(0).is_err() || there.seek(SeekFrom::Start(0)).is_err() {
+        return Err(FileFault::WriteFailed);
+    }
+    Ok(there)
 }
 
 /// Creates a file that must not exist yet, and locks it.
@@ -44,24 +58,6 @@ fn lock(file: File) -> Result<File, FileFault> {
         Err(LockFault::InUse) => Err(FileFault::Exists),
         Err(LockFault::Failed) => Err(FileFault::NotOpened),
     }
-}
-
-/// Opens an existing file if it is a blank volume, and truncates it. Two runs may both find a blank
-/// volume, so the run that holds the lock checks again.
-fn open_blank<R: Host>(rt: &R, path: &str, prefix: Prefix, number: u16) -> Result<File, FileFault> {
-    let mut options = OpenOptions::new();
-    options.read(true).write(true);
-    let Ok(mut there) = options.open(rt, path) else {
-        return Err(FileFault::NotOpened);
-    };
-    // A file that is not blank is not locked: another run may just have created it.
-    require_blank(&mut there, prefix, number)?;
-    let mut there = lock(there)?;
-    require_blank(&mut there, prefix, number)?;
-    if there.set_len(0).is_err() || there.seek(SeekFrom::Start(0)).is_err() {
-        return Err(FileFault::WriteFailed);
-    }
-    Ok(there)
 }
 
 /// Refuses `file` if it is not a blank volume.

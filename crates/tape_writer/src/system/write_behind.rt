@@ -1,7 +1,7 @@
 //! A write buffer for a device.
-ghost use Rattle.std.specs.Prelude.{◌≡◌, ◌⊎◌, ◌≤◌, ◌+◌, [], Err, false, length, vec_capacity, OnOk};
-ghost use Rattle.std.specs.{Prelude.OnErr, Prelude.IsOkUnless, Bool.OnTrue, Io.KnownBytes.Appends};
-ghost use Rattle.tape_writer.specs.Holding.{fresh, taken, TakesAll, PassesOn, MakesRoom, Stops};
+ghost use Rattle.std.specs.Prelude.{◌≡◌, ◌≤◌, [], Err, vec_capacity, OnOk, OnErr, IsOkUnless};
+ghost use Rattle.std.specs.Bool.{OnTrue};
+ghost use Rattle.tape_writer.specs.Holding.{fresh, TakesAll, PassesOn, Stops};
 
 use crate::system::bytes::put_all;
 use crate::system::fault::FileFault;
@@ -82,8 +82,17 @@ impl<W: Write + Drop> WriteBehind<W> {
             ((result ≡ Err FileFault.WriteFailed) × (self.new ≡ self.old)) }
         ensures fault { IsOkUnless result FileFault.WriteFailed }
     {
-        self.make_room(bytes.len())?;
-        self.hold(bytes)?;
+        if self.failed || bytes.len() > ROOM - self.held.len() {
+            self.pass_on()?;
+        }
+        if bytes.len() > ROOM {
+            if let Err(fault) = put_all(&mut self.device, bytes) {
+                self.failed = true;
+                return Err(fault);
+            }
+        } else {
+            self.held.extend_from_slice(bytes).unwrap();
+        }
         self.size = self.size.saturating_add(bytes.len() as u64);
         Ok(())
     }
@@ -109,44 +118,5 @@ impl<W: Write + Drop> WriteBehind<W> {
         }
         self.held.clear();
         Ok(())
-    }
-
-    /// Writes the buffered bytes if `count` further bytes do not fit. Returns an error if the
-    /// device failed.
-    fn make_room(&mut self, count: usize) -> Result<(), FileFault>
-        ensures ok { OnOk result (MakesRoom count self.old self.new) }
-        ensures err { OnErr result (Stops [] self.old self.new) }
-        ensures refused { OnTrue self.old.failed
-            ((result ≡ Err FileFault.WriteFailed) × (self.new ≡ self.old)) }
-        ensures fault { IsOkUnless result FileFault.WriteFailed }
-    {
-        if self.failed || count > ROOM - self.held.len() {
-            return self.pass_on();
-        }
-        Ok(())
-    }
-
-    /// Buffers `bytes` if they fit in an empty buffer; otherwise writes them, and the buffer stays
-    /// empty.
-    fn hold(&mut self, bytes: &[u8]) -> Result<(), FileFault>
-        requires stands { self.old.failed ≡ false }
-        requires room { (length self.old.held + length bytes.now ≤ 8192) ⊎ (self.old.held ≡ []) }
-        ensures ok { OnOk result (Appends (taken self.old) (taken self.new) bytes.now) }
-        ensures err { OnErr result (Stops bytes.now self.old self.new) }
-        ensures size { self.new.size ≡ self.old.size }
-        ensures stands { OnOk result (self.new.failed ≡ false) }
-        ensures fault { IsOkUnless result FileFault.WriteFailed }
-    {
-        if bytes.len() > ROOM {
-            if let Err(fault) = put_all(&mut self.device, bytes) {
-                self.failed = true;
-                return Err(fault);
-            }
-            return Ok(());
-        }
-        match self.held.extend_from_slice(bytes) {
-            Ok(()) => Ok(()),
-            Err(_) => unreachable!(),
-        }
     }
 }

@@ -52,7 +52,7 @@ pub fn write_in_folder<R: Host, I: Read>(
         form: plan.form,
     };
     match write_set(rt.alloc(), set, files, images) {
-        Ok(done) => Ok(done.images.into_ended()),
+        Ok(done) => Ok(done.images.ended),
         Err(refused) => Err(told(refused)),
     }
 }
@@ -92,16 +92,7 @@ fn told<R: Host>(refused: RefusedSet<ImageFiles<'_, R>>) -> SystemFault
     };
     match (fault, of_file) {
         (SetFault::Write(WriteFault::Device), Some(of_file)) => of_file,
-        (fault, _) => of_set(fault),
-    }
-}
-
-/// Returns the fault of a set as a fault of the system.
-fn of_set(fault: SetFault) -> SystemFault
-    ensures { result ≡ of_set fault }
-{
-    match fault {
-        SetFault::Write(fault) => SystemFault::Write(fault),
-        SetFault::ReadFailed => SystemFault::File(FileFault::ReadFailed),
+        (SetFault::Write(fault), _) => SystemFault::Write(fault),
+        (SetFault::ReadFailed, _) => SystemFault::File(FileFault::ReadFailed),
     }
 }

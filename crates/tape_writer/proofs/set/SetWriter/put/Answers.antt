@@ -16,6 +16,7 @@ pub returns-in-Ok-clause-told : goal.returns-in-Ok-clause-told
 returns-in-Ok-clause-told g c =
     rw (← c.self.view_is) (λ told k. put_told (g.T.TapeOut.holds c.self.inside.tape.out)
     (g.T.TapeOut.holds c.put_record.new.tape.out) _ _ _ _ _ _ told _ c.in-Filing.is (search rules)
+    c.put_record.ensures.file
     (λ fs records x. c.in-Ok.ensures.packed c.self.inside.set_id fs records x) k)
 
 pub returns-in-Err-2-clause-stuck : goal.returns-in-Err-2-clause-stuck
@@ -38,6 +39,6 @@ pub returns-in-Err-2-clause-front : goal.returns-in-Err-2-clause-front
 returns-in-Err-2-clause-front g c =
     rw (← c.self.view_is) (λ told k ends.
     left_put (g.T.TapeOut.holds c.self.inside.tape.out)
-    (g.T.TapeOut.holds c.put_record.new.tape.out) _ c.deref.result.now c.in-Filing.file told
+    (g.T.TapeOut.holds c.put_record.new.tape.out) _ c.deref.result.now c.in-Filing.open told
     c.args.bytes.now c.in-Filing.is (search rules)
     (λ fs records x. c.in-Err.ensures.front c.self.inside.set_id fs records x ends) k)
