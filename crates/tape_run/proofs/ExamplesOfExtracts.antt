@@ -115,7 +115,7 @@ cases_of_outputs = record {
   ends = λ spares first old turns want records form out now e.
       (e.wanted, e.are_steps, e.follows, e.is_written);
   ends_now = λ first old turns want records form stands e.
-      (e.wanted, e.are_steps, e.follows, e.is_put);
+      (e.wanted, e.are_steps, e.follows, e.is_written);
   left_there = left_there;
   left_unread = λ session behind shelf left form out now said says want e. (e.most, e.all);
   lines = λ session behind shelf left form out now said says want e. (e.lines, e.are_turns);

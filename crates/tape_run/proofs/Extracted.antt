@@ -13,6 +13,7 @@ use Rattle.tape_run.specs.{ReelLine.last_line, Stopping.StopsReading}
 use Rattle.tape_run.specs.Reeling.{Turn, TakesAll, Follows, goes_back, Mounting}
 use Rattle.tape_run.specs.declared.fault.EngineFault.{EngineFault}
 use Rattle.tape_run.specs.Extracting.{Ends, Extracts, Stops, EndsFile, StopsAtEnd, TellsEnd, Leaves}
+use Rattle.tape_run.specs.Extracting.{IsWritten}
 use Rattle.tape_image.specs.Written.{AppendsFront}
 use Rattle.tape_image.proofs.Pieces.{front_more, front_behind}
 use Rattle.tape_run.proofs.{Lasting.stood_walked, Left.left_walked, StoppedThere.stopped_walked}
@@ -25,7 +26,8 @@ abbrev pub ended : {S : Type 0} (spares : Bool) (g : Ghosts S) (mid : SessionSta
     (e : EndsFile g mid form out written said says want)
     → g.holds mid.sink now
     → Follows (goes_back old.notes) spares core old turns mid.core (seen g mid now)
-    → Ends spares core old turns want e.records form out written
+    → Ends (goes_back old.notes) spares core old turns want
+    (IsWritten want e.records form out written)
 ended spares g mid core old turns form out written said says want now e has f =
     record {
       last = mid.core;

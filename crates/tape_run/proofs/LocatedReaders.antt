@@ -16,7 +16,7 @@ use Rattle.tape_core.specs.declared.event.Phase.TheVariants as phases
 use Rattle.tape_core.specs.declared.event.Reason.TheVariants as reasons
 use Rattle.tape_run.specs.ByTable.{parts_by, delivered_parts, IsLed}
 use Rattle.tape_run.specs.ExtractingLocated.{PassesTo}
-use Rattle.tape_run.specs.GoesBehind.{EndsSection, PassedOver, ReadsBehind}
+use Rattle.tape_run.specs.GoesBehind.{EndsSection, PassedOver}
 use Rattle.tape_run.specs.Reels.{behind_items, Reads, ReadsReel}
 use Rattle.tape_run.specs.declared.{reel_reader.ReelAnswer.ReelAnswer, survey.files.FileKey.FileKey}
 use Rattle.tape_run.proofs.GoesBehindReels.{ended_well, leaves_behind, leaves_behind_again}
@@ -151,28 +151,23 @@ pub not_finished : (p : Position) → p ≢ Finished → is_finished p ≡ false
 not_finished (Awaits sect b part) waits = refl
 not_finished Finished waits = absurd (waits refl)
 
-pub reads_waits : (p : Position) (core new : State) (bytes left : List ℕ) (answer : ReelAnswer)
-    → is_finished p ≡ false → Reads p core bytes left answer new
-    → ReadsReel (mount_of core) bytes left answer new
-reads_waits (Awaits sect b part) core new bytes left answer waits r = r
-reads_waits Finished core new bytes left answer waits r = absurd (cc)
-
-pub behind_waits : (p : Position) (core new : State) (bytes left : List ℕ) (answer : ReelAnswer)
-    → is_finished p ≡ false → ReadsBehind p core bytes left answer new
-    → ReadsReel (behind_of core) bytes left answer new
-behind_waits (Awaits sect b part) core new bytes left answer waits r = r
-behind_waits Finished core new bytes left answer waits r = absurd (cc)
+pub reads_waits : (p : Position) (core mounted new : State) (bytes left : List ℕ)
+    (answer : ReelAnswer) → is_finished p ≡ false → Reads p core mounted bytes left answer new
+    → ReadsReel mounted bytes left answer new
+reads_waits (Awaits sect b part) core mounted new bytes left answer waits r = r
+reads_waits Finished core mounted new bytes left answer waits r = absurd (cc)
 
 pub held_front : (had left : Option (List ℕ)) (core new : State) (answer : ReelAnswer)
     (key : FileKey)
     → is_finished core.position ≡ false → key.set_id ≡ core.set_id → key.file ≡ core.file
     → EndsSection answer.answer
-    → IfKnown had left (λ bytes rest. Reads core.position core bytes rest answer new)
+    → IfKnown had left (λ bytes rest. Reads core.position core (mount_of core) bytes rest answer
+    new)
     → IfKnown had left (PassesTo key)
 held_front None left core new answer key waits set file ends r = tt
 held_front (Some bytes) None core new answer key waits set file ends r = r
 held_front (Some bytes) (Some left) core new answer key waits set file ends r =
-    passes_front _ _ _ _ _ _ waits set file ends (reads_waits _ _ _ _ _ _ waits r)
+    passes_front _ _ _ _ _ _ waits set file ends (reads_waits _ _ _ _ _ _ _ waits r)
 
 -- what the image that was mounted left: its front, where its bytes are known
 abbrev pub front_of : (whole had : Option (List ℕ)) (key : FileKey)
@@ -185,7 +180,8 @@ pub held_on : (whole had left : Option (List ℕ)) (core new : State) (answer : 
     (before key : FileKey) → is_finished core.position ≡ false → before.set_id ≡ core.set_id
     → before.file < core.file → key.set_id ≡ core.set_id → key.file ≡ core.file
     → EndsSection answer.answer → IfKnown whole had (PassesTo before)
-    → IfKnown had left (λ bytes rest. ReadsBehind core.position core bytes rest answer new)
+    → IfKnown had left (λ bytes rest. Reads core.position core (behind_of core) bytes rest answer
+    new)
     → IfKnown whole left (PassesTo key)
 held_on None had left core new answer before key waits same less set file ends p r = tt
 held_on (Some whole) None left core new answer before key waits same less set file ends p r =
@@ -196,4 +192,4 @@ held_on (Some whole) (Some had) (Some left) core new answer before key waits sam
     ends p r
     = passes_on core new p.front p.at whole had left answer key waits set file ends
     (λ sound. p.passed core (sym same) less waits sound) p.walks
-    (behind_waits core.position core new had left answer waits r)
+    (reads_waits core.position core (behind_of core) new had left answer waits r)

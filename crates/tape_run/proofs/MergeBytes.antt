@@ -10,7 +10,7 @@ use Rattle.tape_run.specs.MergedImages.{LastIsAt, no_item, last_item, TakesImage
 use Rattle.tape_run.specs.{declared.merge.Merged.Merged, declared.merge.MergeFault.MergeFault}
 use Rattle.tape_run.specs.{declared.merge.reading.Reading.Reading, MergeSteps.is_bad_one}
 use Rattle.tape_run.specs.MergeCalls.{AreAtFront, IfImages, Merges, FitsFault}
-use Rattle.tape_run.specs.MergedImages.{AllBegin, MergesImages, FaultsImages}
+use Rattle.tape_run.specs.MergedImages.{AllBegin, FaultsImages}
 use Rattle.tape_run.specs.MergeLaws.{AreFronts, TakesAs}
 use Rattle.tape_run.specs.declared.merge.MergeFault.TheVariants as faults
 use Rattle.tape_run.proofs.{MergeGiven.readers_give_images, MergeJoins.differ_for_good}
@@ -88,8 +88,8 @@ take_images _ _ _ _ front h = absurd h
 
 merges_images : {R : Type 0} (images : List (List ℕ)) (firsts nows : List (Reading R))
     (c : Merged) (old new : Writer) (log logged : Option (List ℕ))
-    → AreAtFront (map Some images) firsts → Merges firsts nows c old new log logged
-    → MergesImages images nows c old new log logged
+    → AreAtFront (map Some images) firsts → Merges (HaveTaken firsts nows) nows c old new log logged
+    → Merges (TakeImages images nows) nows c old new log logged
 merges_images images firsts nows c old new log logged front m = record {
   readings = m.readings;
   have = take_images images firsts nows m.readings front m.have;
@@ -178,9 +178,9 @@ faults_images images firsts nows old new (faults.Write fault) front d = record {
 
 pub ok_images : {R : Type 0} (result : Result Merged MergeFault) (firsts nows : List (Reading R))
     (old new : Writer) (log logged : Option (List ℕ))
-    → IfOk result (λ m. Merges firsts nows m old new log logged)
+    → IfOk result (λ m. Merges (HaveTaken firsts nows) nows m old new log logged)
     → IfOk result (λ m. IfImages firsts (λ images.
-    MergesImages images nows m old new log logged))
+    Merges (TakeImages images nows) nows m old new log logged))
 ok_images (Ok m) firsts nows old new log logged h =
     λ images front. merges_images images firsts nows m old new log logged front h
 ok_images (Err fault) firsts nows old new log logged h = tt

@@ -6,10 +6,10 @@ use Rattle.tape_image.specs.Tape.{TapeItem, block, bad, mark}
 use Rattle.tape_run.specs.declared.merge.reading.Reading.{Reading}
 use Rattle.tape_run.specs.declared.merge.reading.Verdict.{Verdict}
 use Rattle.tape_run.specs.declared.merge.reading.Verdict.TheVariants as verdicts
-use Rattle.tape_run.specs.MergeSteps.{joined, is_less, Compares, IsFirst}
+use Rattle.tape_run.specs.MergeSteps.{joined, Compares, IsFirst}
 use Rattle.tape_run.proofs.MergeNext.{disagrees_good}
 use Rattle.tape_run.proofs.MergeVerdicts.{Keeps, compares_keeps, disagrees_more, disagrees_other}
-use Rattle.tape_run.proofs.MergeVerdicts.{good_more, joined_good, less_of}
+use Rattle.tape_run.proofs.MergeVerdicts.{good_more, is_less, joined_good, less_of}
 
 -- ---- readings that were asked, by their items
 

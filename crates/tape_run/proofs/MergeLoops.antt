@@ -142,7 +142,7 @@ pub ends : {R : Type 0} (firsts olds nows : List (Reading R)) (a : Merged) (p : 
     (old mid new : Writer) (log row : Option (List ℕ)) (now beside : Option TapeItem)
     → SoFar firsts olds a p old mid log row
     → AskedAll olds nows None now None beside → beside ≡ None → now ≡ None → new ≡ mid
-    → Merges firsts nows a old new log row
+    → Merges (HaveTaken firsts nows) nows a old new log row
 ends firsts olds nows a p old mid new log row now beside s asked none is same =
     let h = round firsts olds nows a p old mid log row now beside s asked none in
     let shown : s.merged ++ best_items now ≡ s.merged =
@@ -228,7 +228,7 @@ pub comes_to_end : {R : Type 0} (firsts olds nows : List (Reading R)) (a : Merge
     (old mid new : Writer) (log row : Option (List ℕ)) (now other : Option TapeItem) (some : Bool)
     → SoFar firsts olds a p old mid log row
     → AskedAll olds nows None now None other → is_some other ≡ false → Puts now some mid new
-    → some ≡ false → Merges firsts nows a old new log row
+    → some ≡ false → Merges (HaveTaken firsts nows) nows a old new log row
 comes_to_end firsts olds nows a p old mid new log row now other some s h none puts is =
     let (no_item, same) =
     was_none now mid new (subst (λ (b : Bool). Puts now b mid new) is puts) in

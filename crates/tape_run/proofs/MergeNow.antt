@@ -15,8 +15,8 @@ use Rattle.tape_run.specs.declared.merge.now.MergeEnd.{MergeEnd}
 use Rattle.tape_run.specs.declared.merge.now.MergeEnd.TheVariants.{Whole, Partial, Differs}
 use Rattle.tape_run.specs.declared.merge.now.MergeStop.{MergeStop}
 use Rattle.tape_run.specs.declared.merge.reading.Reading.{Reading}
-use Rattle.tape_run.specs.MergeCalls.{AreAtFront, IfImages}
-use Rattle.tape_run.specs.MergedImages.{MergesImages, FaultsImages, DifferImages}
+use Rattle.tape_run.specs.MergeCalls.{AreAtFront, IfImages, Merges}
+use Rattle.tape_run.specs.MergedImages.{TakeImages, FaultsImages, DifferImages}
 use Rattle.tape_run.specs.MergeLines.{lines_from, reading_line, has_line, merged_line, differ_line}
 use Rattle.tape_run.specs.MergeNow.{ReportsNoImage, LeavesPlace}
 use Rattle.tape_run.specs.MergeLog.{log_head, log_rows}
@@ -87,7 +87,7 @@ err_write {T} result stands old new said made is h =
 pub says_front : {R : Type 0} (firsts nows : List (Reading R)) (counts : Merged)
     (first mid : Writer) (log logged : Option (List ℕ)) (names : List (List ℕ)) (same : Type 0)
     (old new : Option (List ℕ))
-    → IfImages firsts (λ images. MergesImages images nows counts first mid log logged)
+    → IfImages firsts (λ images. Merges (TakeImages images nows) nows counts first mid log logged)
     → length nows ≡ length firsts
     → AppendsFront old new (lines_from (reading_line names) 0 nows)
     → same ⊎ ReportsNoImage R (IfImages firsts) names (length firsts) old new
@@ -103,7 +103,7 @@ says_front firsts nows counts first mid log logged names same old new merges all
 pub says_lines : {R : Type 0} (firsts nows : List (Reading R)) (counts : Merged)
     (first mid : Writer) (log logged : Option (List ℕ)) (names : List (List ℕ)) (same : Type 0)
     (old new : Option (List ℕ))
-    → IfImages firsts (λ images. MergesImages images nows counts first mid log logged)
+    → IfImages firsts (λ images. Merges (TakeImages images nows) nows counts first mid log logged)
     → length nows ≡ length firsts
     → Appends old new (lines_from (reading_line names) 0 nows)
     → same ⊎ ReportsNoImage R (IfImages firsts) names (length firsts) old new
@@ -189,7 +189,7 @@ pub made : {R : Type 0} (firsts nows : List (Reading R)) (counts : Merged) (firs
     (log logged out put stands : Option (List ℕ)) (ends : MergedEnd) (end : MergeEnd)
     (names : List (List ℕ)) (logs says : List ℕ → Type 0)
     → first ≡ record { size = 0; standing = writing; contents = out }
-    → IfImages firsts (λ images. MergesImages images nows counts first mid log logged)
+    → IfImages firsts (λ images. Merges (TakeImages images nows) nows counts first mid log logged)
     → Appends mid.contents put (end_bytes ends) → stands ≡ put
     → FitsEnd counts.bad counts.miscounted ends end → EndsAs counts.items nows ends
     → ((rows : List ℕ) → Appends log logged rows → logs (log_head names ++ rows))

@@ -8,8 +8,8 @@ use Rattle.tape_run.specs.declared.merge.line.{MergedEnd.MergedEnd, MergedEnd.Th
 use Rattle.tape_run.specs.declared.merge.{Merged.Merged, MergeFault.MergeFault}
 use Rattle.tape_run.specs.declared.merge.{now.MergeStop.MergeStop, reading.Reading.Reading}
 use Rattle.tape_run.specs.declared.merge.MergeFault.TheVariants as faults
-use Rattle.tape_run.specs.MergeCalls.{IfImages, RefusesLast}
-use Rattle.tape_run.specs.MergedImages.{TakeImages, MergesImages, FaultsImages}
+use Rattle.tape_run.specs.MergeCalls.{IfImages, Merges, RefusesLast}
+use Rattle.tape_run.specs.MergedImages.{TakeImages, FaultsImages}
 use Rattle.tape_run.specs.MergeNow.{EndsAs, end_bytes, IsTooLong, Misses}
 use Rattle.tape_run.proofs.MergeNow.{items_put, misses_more, err_misses}
 
@@ -52,7 +52,7 @@ item_cause firsts nows old new out f fault size stop first is at h misses =
 end_too_long : {R : Type 0} (firsts nows : List (Reading R)) (counts : Merged)
     (first mid : Writer) (log logged out : Option (List ℕ)) (ends : MergedEnd) (size : ℕ)
     → first ≡ record { size = 0; standing = writing; contents = out }
-    → IfImages firsts (λ images. MergesImages images nows counts first mid log logged)
+    → IfImages firsts (λ images. Merges (TakeImages images nows) nows counts first mid log logged)
     → EndsAs counts.items nows ends
     → (ends ≡ Marked) × (size ≡ mid.size) × (image_limit < size + length (end_bytes ends))
     → IfImages firsts (λ images. IsTooLong R images size)
@@ -80,7 +80,7 @@ end_too_long firsts nows counts first mid log logged out ends size is merges how
 pub end_cause : {T R : Type 0} (result : Result T MergeStop) (firsts nows : List (Reading R))
     (counts : Merged) (first mid : Writer) (log logged out : Option (List ℕ)) (ends : MergedEnd)
     → first ≡ record { size = 0; standing = writing; contents = out }
-    → IfImages firsts (λ images. MergesImages images nows counts first mid log logged)
+    → IfImages firsts (λ images. Merges (TakeImages images nows) nows counts first mid log logged)
     → EndsAs counts.items nows ends
     → IfErr result (Misses (λ _. ⊥) (λ n. (ends ≡ Marked) × (n ≡ mid.size)
     × (image_limit < n + length (end_bytes ends))))

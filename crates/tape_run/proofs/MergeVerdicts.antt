@@ -3,13 +3,20 @@ use Rattle.std.proofs.Common.{◌≡◌, ◌≢◌, ◌⊎◌, inl, inr, List, [
 use Rattle.std.proofs.Common.{Bool, true, false, refl, sym, ap, subst, ◌∙◌}
 use Rattle.tape_image.specs.Tape.{TapeItem, block, bad, mark}
 use Rattle.tape_image.specs.Reader.{Status, going}
-use Rattle.tape_run.specs.MergeSteps.{agrees, joined, is_less, Takes, Compares, Asked, gives, stops}
+use Rattle.tape_run.specs.MergeSteps.{agrees, joined, Takes, Compares, Asked, gives, stops}
 use Rattle.tape_run.specs.{declared.merge.reading.Reading.Reading, MergeCalls.has_first}
 use Rattle.tape_run.specs.declared.merge.reading.Verdict.{Verdict}
 use Rattle.tape_run.specs.MergeSteps.{AskedAll, StopsAs, Judges, is_good_one, is_bad_one, one_if}
 use Rattle.tape_run.specs.MergeLog.{seen_cell, verdict_cell, is_bad_verdict}
 use Rattle.tape_run.specs.declared.merge.reading.Verdict.TheVariants as verdicts
 use Rattle.tape_run.proofs.MergeNext.{disagrees_good}
+
+-- there is no item yet, or a bad one
+abbrev pub is_less : Option TapeItem → Bool
+is_less None = true
+is_less (Some bad) = true
+is_less (Some (block bytes)) = false
+is_less (Some mark) = false
 
 -- ---- the best item and the other one
 

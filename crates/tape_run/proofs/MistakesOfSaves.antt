@@ -35,14 +35,15 @@ save_tells_no_sink S LS g d κs a point s held there older l was five back start
 -- the answer of a reel that is read from this position on, if the reader's bytes are known
 read_from : (old : State) (p : Position) (before after : Option (List ℕ)) (bytes left : List ℕ)
     (answer : ReelAnswer) (new : State)
-    → IfKnown before after (λ xs ys. Reads old.position old xs ys answer new)
+    → IfKnown before after (λ xs ys. Reads old.position old (mount_of old) xs ys answer new)
     → old.position ≡ p → before ≡ Some bytes → after ≡ Some left
-    → Reads p old bytes left answer new
+    → Reads p old (mount_of old) bytes left answer new
 read_from old p before after bytes left answer new k q b e =
-    let f : (xs ys : List ℕ) → Type 0 = λ xs ys. Reads old.position old xs ys answer new in
+    let f : (xs ys : List ℕ) → Type 0 =
+    λ xs ys. Reads old.position old (mount_of old) xs ys answer new in
     let r : f bytes left = subst (λ v. IfKnown (Some bytes) v f) e
     (subst (λ v. IfKnown v after f) b k) in
-    subst (λ v. Reads v old bytes left answer new) q r
+    subst (λ v. Reads v old (mount_of old) bytes left answer new) q r
 
 -- complete_without_end: of a complete file another answer than Complete.
 complete_without_end : (S : _) (R : _) (LS : _) (LR : _) (g : _) (d : _) (h : _) (e : _) (κs : _)

@@ -157,12 +157,12 @@ one_volume : (r : Result Vol1 LabelFault) → blocks_of (volume_with r) ≤ 0 + 
 one_volume (Ok label) = omega arith
 one_volume (Err _) = omega arith
 
-one_header : (v : List ℕ) (r : Result Head1 LabelFault) → blocks_of (header_with v r Over) ≤ 0 + 1
+one_header : (v : List ℕ) (r : Result Head1 LabelFault) → blocks_of (header_with v r) ≤ 0 + 1
 one_header v (Ok head) = omega arith
 one_header v (Err _) = omega arith
 
 one_labels : (v : List ℕ) (is : Bool) (r : Result Head1 LabelFault)
-    → blocks_of (if is then Labels v else header_with v r Over) ≤ 0 + 1
+    → blocks_of (if is then Labels v else header_with v r) ≤ 0 + 1
 one_labels v true r = omega arith
 one_labels v false r = one_header v r
 

@@ -46,7 +46,7 @@ extracted_now {S} {L} {R} gs size gives remaining old mid new shelf
                   are_steps false false old.core (seen gs old held) t.turns mid.core
                   (seen gs mid now) f;
               wanted = is;
-              is_put = wrote now has;
+              is_written = wrote now has;
             },
             (now, walked.kept now has, walked_seen gs mid new now walked calm),
           );

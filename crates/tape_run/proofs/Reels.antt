@@ -14,7 +14,7 @@ use Rattle.tape_core.specs.declared.event.Answer.TheVariants.{Complete, Useless}
 use Rattle.tape_core.specs.{Follows.IsFinal, Table.Outcome, Table.step_of, Table.saved}
 use Rattle.tape_run.specs.Reels.{behind_items, answers_to, GoesOn, delivered_by, ReadsReel}
 use Rattle.tape_run.specs.declared.reel_reader.ReelAnswer.{ReelAnswer}
-use Rattle.tape_run.specs.Reels.{ReadsToBlock, IsDelivery, StopsAt}
+use Rattle.tape_run.specs.Reels.{ReadsToBlock, StopsAt}
 use Rattle.tape_run.specs.Taking.{came_of, fault_of}
 use Rattle.tape_run.proofs.ByTable.{core_more}
 
@@ -27,6 +27,11 @@ pub record ReadsSoFar (old new : State) (blocks at : ℕ) (bytes left : List ℕ
   pub core : new ≡ behind_items old items
 
 -- ---- the events
+
+-- By the core's answer the item is the expected block, and a part of it was refused.
+abbrev pub IsDelivery : State → Option TapeItem → State → Type 0
+IsDelivery core came new = (content : List ℕ) × (came ≡ Some (block content))
+    × ((step_of core came).0 ≡ Deliver) × StopsAt (saved core 0) (saved (step_of core came).1 0) new
 
 final_ends : (answer : Answer) → GoesOn answer → IsFinal answer → ⊥
 final_ends answer (inl e) final = subst IsFinal e final

@@ -191,6 +191,20 @@ line_stops size gives remaining shelf now next number mid d old w new image line
           (ap (λ l. l ++ summary_behind unread d) told);
     }
 
+-- all images were read
+pub told_all : {L R : Type 0} (size : L → ℕ) (gives : Mounting L R)
+    (remaining : R → Option (List ℕ)) (shelf left : L) (number : ℕ) (d e : List Told)
+    (old new : Option (List ℕ)) → ReadSoFar gives remaining shelf left number d old new
+    → number ≡ size shelf → d ≡ e → TellsImages size gives remaining shelf left e old new
+told_all size gives remaining shelf left number d e old new s all same = record {
+  reels = s.reels;
+  mounted = s.mounted;
+  all = s.counted ∙ all;
+  lines = s.lines;
+  read = subst (AddsImages s.reels s.lines []) same s.read;
+  wrote = s.wrote;
+}
+
 -- the summary was written after the lines of all images
 pub reported : {L R : Type 0} (size : L → ℕ) (gives : Mounting L R)
     (remaining : R → Option (List ℕ)) (shelf left : L) (d : List Told)
@@ -264,6 +278,12 @@ text_front f all rest next x text old mid new s is same part =
     (subst (AppendsFront mid new) same part)
     (ap (flat_map f) whole ∙ flat_map-append f (s.done ++ x ∷ []) next
     ∙ ap (λ l. l ++ flat_map f next) (one_text f s.done x))
+
+-- all texts were written
+pub texts_done : {X : Type 0} (f : X → List ℕ) (all rest : List X) (old new : Option (List ℕ))
+    → TextsSoFar f all rest old new → rest ≡ [] → Appends old new (flat_map f all)
+texts_done f all rest old new s none = subst (λ l. Appends old new (flat_map f l))
+    (sym (s.whole ∙ ap (λ l. s.done ++ l) none ∙ append-nil s.done)) s.wrote
 
 pub if_ok_both : {T E : Type 0} (r : Result T E) (P Q : T → Type 0) (C : Type 0) → IfOk r P
     → OnOk r C → ((x : T) → P x → C → Q x) → IfOk r Q

@@ -5,11 +5,23 @@ use Rattle.std.proofs.Common.{arith, append_assoc, append-nil, ◌⊎◌, inl, i
 use Rattle.std.proofs.lemmas.List.{take_more}
 use Rattle.std.specs.{Prelude.if◌then◌else◌, List.AllByRecursion}
 use Rattle.tape_set.proofs.Everywhere.{every, every-append}
-use Rattle.tape_run.specs.SalvageChoice.{is_considered, firsts, last_image, IsBest, IsChoice}
+use Rattle.tape_run.specs.SalvageChoice.{is_considered, firsts, IsBest}
 use Rattle.tape_run.specs.{declared.salvage.copies.SectionCopy.SectionCopy, SalvageCopies.rank}
 use Rattle.tape_run.specs.SalvageChoice.{last_section}
 
 -- ---- the best copy
+
+-- the image of the last of these copies
+abbrev pub last_image : ℕ → Option ℕ → List SectionCopy → Option ℕ
+last_image sect last [] = last
+last_image sect last (c ∷ cs) =
+    if is_considered sect last c then last_image sect (Some c.image) cs else last_image sect last cs
+
+-- the best of these copies was chosen
+pub record IsChoice (sect : ℕ) (cs : List SectionCopy) (best : Option SectionCopy)
+    (last : Option ℕ) : Type 0 where
+  pub is_best : IsBest (firsts sect None cs) best
+  pub at : last ≡ last_image sect None cs
 
 -- one more copy
 pub record More (sect : ℕ) (last : Option ℕ) (cs : List SectionCopy) (c : SectionCopy) (b : Bool)

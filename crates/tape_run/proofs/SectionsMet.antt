@@ -104,7 +104,7 @@ shown_more items key entry more s = record {
 
 -- a section's first label was read
 pub headed : (items : List TapeItem) (v b : List ℕ) (r : Result Head1 LabelFault) → head1_at b ≡ r
-    → BeginsVolume items v → Stood (header_with v r Over) (items ++ block b ∷ [])
+    → BeginsVolume items v → Stood (header_with v r) (items ++ block b ∷ [])
 headed items v b (Ok head) e begins = record {
   volume = begins_more items v (block b ∷ []) begins;
   before = items;
@@ -123,7 +123,7 @@ begun b (Ok label) e = grind (arith, vol1_found)
 begun b (Err _) e = tt
 
 pub labels_or : (items : List TapeItem) (v b : List ℕ) (is : Bool) → BeginsVolume items v
-    → Stood (if is then Labels v else header_with v (head1_at b) Over) (items ++ block b ∷ [])
+    → Stood (if is then Labels v else header_with v (head1_at b)) (items ++ block b ∷ [])
 labels_or items v b true begins = begins_more items v (block b ∷ []) begins
 labels_or items v b false begins = headed items v b (head1_at b) refl begins
 

@@ -5,7 +5,7 @@ use Rattle.tape_blocks.specs.Block.{Portion}
 use Rattle.tape_image.specs.Reader.{IfKnown}
 use Rattle.tape_set.specs.declared.position.Position.TheVariants.{Finished}
 use Rattle.tape_core.proofs.Crashes.{only_same}
-use Rattle.tape_core.specs.{Place.rest_of, declared.sink.PartSink.Ghosts}
+use Rattle.tape_core.specs.{Place.rest_of, declared.sink.PartSink.Ghosts, Table.mount_of}
 use Rattle.tape_run.specs.{Crash.IsWalked, Given.is_device, Reels.Reads, Seen.Seen, Seen.seen}
 use Rattle.tape_run.specs.Reeling.{Opened, Follows, IsNoted, counts_differ}
 use Rattle.tape_run.specs.{SessionState.SessionState, Steps.Reeled}
@@ -59,7 +59,8 @@ step_stops back (Some bytes) left answer fault old mid new r n = inr (left, answ
 -- the turn of an image that was opened
 pub one_turn : {S : Type 0} (g : Ghosts S) (back spares : Bool) (a b c : SessionState S)
     (o : Opened) (held now last : List Portion) → a.core.position ≢ Finished
-    → IfKnown o.had o.left (λ bytes left. Reads a.core.position a.core bytes left o.answer b.core)
+    → IfKnown o.had o.left (λ bytes left. Reads a.core.position a.core (mount_of a.core) bytes left
+    o.answer b.core)
     → IfSome o.had (λ bytes. Reeled bytes o.left (is_device o.answer.fault) (seen g a held)
     (seen g b now))
     → IsNoted back spares (counts_differ o.answer.answer) o.noted (seen g b now) (seen g c last)

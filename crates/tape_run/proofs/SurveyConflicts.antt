@@ -3,7 +3,7 @@ use Rattle.std.proofs.Common.{◌≡◌, ℕ, ◌+◌, Bool, true, false, List, 
 use Rattle.std.proofs.Common.{Some, None, refl, sym, ap, subst, ◌∙◌, arith, append_assoc}
 use Rattle.std.proofs.Common.{append-nil, map, ◌==◌, ◌&&◌, if◌then◌else◌, option_map, cond}
 use Rattle.std.proofs.lemmas.Bool.Decides.{nat_tests}
-use Rattle.std.specs.List.{AllByRecursion}
+use Rattle.std.specs.{List.AllByRecursion, Option.option_or}
 use Rattle.indexmap.specs.IndexMap.{insert_entry}
 use Rattle.tape_image.specs.Tape.{TapeItem}
 use Rattle.tape_run.specs.SurveyConflicts.{Placed, placed_on, placed_in, all_placed, IsIn}
@@ -11,7 +11,7 @@ use Rattle.tape_run.specs.SurveyCopies.{Copy, copies_on, Noted, Copied, with_sam
 use Rattle.tape_run.specs.{declared.survey.copies.CopyNote.CopyNote, Checked.Reel, Noted.same_key}
 use Rattle.tape_run.specs.{declared.survey.view.ImageSurvey.ImageSurvey, Reeling.Mounting}
 use Rattle.tape_run.specs.{declared.section.SectionKey.SectionKey, SurveyDigest.digest_of}
-use Rattle.tape_run.specs.{SurveyGlance.or_else, SurveyConflicts.CopiesDiffer}
+use Rattle.tape_run.specs.SurveyConflicts.{CopiesDiffer}
 use Rattle.tape_run.specs.SurveyCopies.{copy_note, noted_at, with_good, with_copies}
 use Rattle.tape_run.specs.SurveyRead.{Found, nothing_found, IsViewed, AreViewed}
 use Rattle.tape_run.proofs.KeepingPlaces.{one_key}
@@ -104,7 +104,7 @@ note_first xs x = record {
 which : (xs : List Placed) (x : Placed) (key : SectionKey) (blocks digest : ℕ) (o : Option ℕ)
     (j : ℕ)
     → x.1.0.0 ≡ key → agrees blocks digest x ≡ false
-    → ((i : ℕ) → o ≡ Some i → Other xs key blocks digest i) → or_else o (Some x.0) ≡ Some j
+    → ((i : ℕ) → o ≡ Some i → Other xs key blocks digest i) → option_or o (Some x.0) ≡ Some j
     → Other (xs ++ x ∷ []) key blocks digest j
 which xs x key blocks digest None j k e h is = record {
   copy = x;

@@ -43,15 +43,15 @@ volume_as items blocks (Ok label) h = (h, tt)
 volume_as items blocks (Err _) h = (h, tt)
 
 header_as : (items : List TapeItem) (blocks : List (List ℕ)) (v : List ℕ)
-    (r : Result Head1 LabelFault) → Stood (header_with v r Over) items
-    → StoodAs (header_with v r Over) items blocks
+    (r : Result Head1 LabelFault) → Stood (header_with v r) items
+    → StoodAs (header_with v r) items blocks
 header_as items blocks v (Ok head) h = (h, tt)
 header_as items blocks v (Err _) h = (h, tt)
 
 labels_as : (items : List TapeItem) (blocks : List (List ℕ)) (v : List ℕ)
     (r : Result Head1 LabelFault) (is : Bool)
-    → Stood (if is then Labels v else header_with v r Over) items
-    → StoodAs (if is then Labels v else header_with v r Over) items blocks
+    → Stood (if is then Labels v else header_with v r) items
+    → StoodAs (if is then Labels v else header_with v r) items blocks
 labels_as items blocks v r true h = (h, tt)
 labels_as items blocks v r false h = header_as items blocks v r h
 

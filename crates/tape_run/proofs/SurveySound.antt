@@ -4,14 +4,14 @@ use Rattle.std.proofs.Common.{Some, None, refl, sym, ap, subst, ◌∙◌, arith
 use Rattle.std.proofs.Common.{append-nil, map, ◌==◌, ◌&&◌, not, if◌then◌else◌, option_map, cond}
 use Rattle.std.proofs.{Common.is_some, lemmas.Bool.Decides.nat_tests}
 use Rattle.std.proofs.lemmas.Bool.{and_parts, or_parts}
-use Rattle.std.specs.{List.AllByRecursion, Map.lookup}
+use Rattle.std.specs.{List.AllByRecursion, Map.lookup, Option.option_or}
 use Rattle.indexmap.specs.IndexMap.{insert_entry}
 use Rattle.tape_run.specs.SurveyCopies.{Copy, copies_on, Noted, Disputed, Copied, with_same}
 use Rattle.tape_run.specs.SurveyCopies.{with_other, copy_note, noted_at, with_conflict, with_good}
 use Rattle.tape_run.specs.{SurveyCopies.with_copies, SurveyCopies.is_agreed, SurveyDigest.digest_of}
 use Rattle.tape_run.specs.{declared.section.Lack.Lack, declared.survey.view.ImageSurvey.ImageSurvey}
 use Rattle.tape_run.specs.{declared.section.SectionKey.SectionKey, Checked.Reel, Passing.Told}
-use Rattle.tape_run.specs.{declared.section.SectionState.TheVariants.Good, SurveyGlance.or_else}
+use Rattle.tape_run.specs.declared.section.SectionState.TheVariants.{Good}
 use Rattle.tape_run.specs.{declared.survey.copies.CopyNote.CopyNote, Noted.same_key, Noted.is_good}
 use Rattle.tape_run.specs.{Reeling.Mounting, Lacks.lacks, Lacks.is_none_lacking, Lacks.found_all}
 use Rattle.tape_run.specs.{SurveyTally.is_whole_sight, SurveyFiles.Filed, SurveyFiles.any_differs}
@@ -137,7 +137,7 @@ no_conflict : (fs : List Disputed) (k : SectionKey) (b : Bool)
 no_conflict fs k true e = absurd (in_conflict fs k e)
 no_conflict fs k false e = (refl, e)
 
-some_other : (o : Option ℕ) (i : ℕ) → is_some (or_else o (Some i)) ≡ true
+some_other : (o : Option ℕ) (i : ℕ) → is_some (option_or o (Some i)) ≡ true
 some_other None i = refl
 some_other (Some j) i = refl
 

@@ -144,7 +144,7 @@ first_label b number (Err f) e = tt
 
 pub head_read : (items : List TapeItem) (sections : List (List TapeItem)) (p : Phase) (number : ℕ)
     (v b : List ℕ) (r : Result Head1 LabelFault) → head1_at b ≡ r → IsBegun items sections
-    → At (header_with v r Over) (left_by number p (header_with v r Over)) (items ++ block b ∷ [])
+    → At (header_with v r) (left_by number p (header_with v r)) (items ++ block b ∷ [])
 head_read items sections p number v b (Ok head) e begun = record {
   before = items;
   sections = sections;
@@ -160,8 +160,8 @@ head_read items sections p number v b (Err f) e begun = tt
 
 pub label_read : (items : List TapeItem) (number : ℕ) (v b : List ℕ) (is : Bool)
     → is_volume_label b ≡ is → IsBegun items []
-    → At (if is then Labels v else header_with v (head1_at b) Over)
-    (left_by number (Labels v) (if is then Labels v else header_with v (head1_at b) Over))
+    → At (if is then Labels v else header_with v (head1_at b))
+    (left_by number (Labels v) (if is then Labels v else header_with v (head1_at b)))
     (items ++ block b ∷ [])
 label_read items number v b true e begun = begun_label items b e begun
 label_read items number v b false e begun =

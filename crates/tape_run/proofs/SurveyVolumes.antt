@@ -207,8 +207,8 @@ blank_ends items h = record {
 }
 
 next_read : (items : List TapeItem) (number : ℕ) (v b : List ℕ) → Follow items
-    → At (header_with v (head1_at b) Over)
-    (left_by number (Next v) (header_with v (head1_at b) Over)) (items ++ block b ∷ [])
+    → At (header_with v (head1_at b))
+    (left_by number (Next v) (header_with v (head1_at b))) (items ++ block b ∷ [])
 next_read items number v b h = head_read _ _ (Next v) number v b (head1_at b) refl h.begun
 
 no_mark_block : (b : List ℕ) → block b ≢ mark

@@ -109,14 +109,14 @@ record MayBegin (v : List ℕ) (p : Phase) : Type 0 where
 
 next_begins : (v : List ℕ) → MayBegin v (Next v)
 next_begins v =
-    record { begins = λ b head kind is. ap (λ r. (header_with v r Over, None)) is; ends = refl }
+    record { begins = λ b head kind is. ap (λ r. (header_with v r, None)) is; ends = refl }
 
 labels_begin : (v : List ℕ) → MayBegin v (Labels v)
 labels_begin v = record {
   begins = λ b head kind is.
-      ap (λ (c : Bool). (if c then Labels v else header_with v (head1_at b) Over, None))
+      ap (λ (c : Bool). (if c then Labels v else header_with v (head1_at b), None))
       (no_volume_label b kinds.Hdr1 kind (λ e. cc e))
-      ∙ ap (λ r. (header_with v r Over, None)) is;
+      ∙ ap (λ r. (header_with v r, None)) is;
   ends = refl;
 }
 
@@ -126,7 +126,7 @@ runs_labels v [] h = runs_nil (Labels v)
 runs_labels v (l ∷ ls) (h, hs) =
     runs_append (Labels v) (Labels v) (Labels v) (block l ∷ []) (map block ls) [] []
     (runs_step (Labels v) (Labels v) (block l) None
-    (ap (λ (c : Bool). (if c then Labels v else header_with v (head1_at l) Over, None))
+    (ap (λ (c : Bool). (if c then Labels v else header_with v (head1_at l), None))
     (volume_label_again l (h.size, h.named))))
     (runs_labels v ls hs)
 

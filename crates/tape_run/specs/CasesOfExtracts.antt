@@ -9,7 +9,8 @@ use Rattle.tape_set.specs.declared.position.Want.{Want}
 use Rattle.tape_core.specs.declared.event.Answer.TheVariants.{SectionDone, Useless}
 use Rattle.tape_core.specs.declared.event.Reason.TheVariants.{BlockCount, Broken, BadItem}
 use Rattle.tape_core.specs.{Crash.lost, Place.rest_of, State.State, Weight.Rose, Point.Point}
-use Rattle.tape_core.specs.{Stands.weight_of, Table.saved, declared.sink.PartSink.Ghosts}
+use Rattle.tape_core.specs.{Stands.weight_of, declared.sink.PartSink.Ghosts}
+use Rattle.tape_core.specs.Table.{saved, mount_of}
 use Rattle.tape_core.specs.declared.sink.SinkFault.{SinkFault}
 use Rattle.tape_core.specs.declared.sink.SinkFault.TheVariants.{Device, Failed}
 use Rattle.tape_core.specs.declared.sink.SinkFault.TheVariants as sink
@@ -27,7 +28,7 @@ use Rattle.tape_run.specs.{ReelLine.reel_lines, ReelLine.last_line, SessionState
 use Rattle.tape_run.specs.{Steps.Saved, Steps.Unmoved, Steps.WentBack, OutSinks.with_end}
 use Rattle.tape_run.specs.Stopping.{IsStopped, NotNoted, StopsAt}
 use Rattle.tape_run.specs.Extracting.{IsWritten, Ends, Extracts, Stops, TellsEnd}
-use Rattle.tape_run.specs.ExtractingNow.{IsPut, EndsNow, ExtractsNow, StopsNow}
+use Rattle.tape_run.specs.ExtractingNow.{IsPut, ExtractsNow, StopsNow}
 use Rattle.tape_run.specs.Reeling.{AreTold, AreSteps}
 use Rattle.tape_run.specs.declared.script.Step.TheVariants.{Reel, Save, Restart}
 
@@ -116,8 +117,8 @@ pub record CasesOfTurns : Type 0 where
   pub told_alone : (b : List ℕ) → AreTold (None ∷ []) (b ∷ []) → ⊥
   pub reel_read : (back spares : Bool) (core next : State) (old new : Seen) (o : Opened)
       (r : ReadsAndNotes back spares core old o next new) → (core.position ≢ Finished)
-      × IfKnown o.had o.left (λ bytes left. Reads core.position core bytes left o.answer r.behind)
-      × (new.place ≡ rest_of next)
+      × IfKnown o.had o.left (λ bytes left. Reads core.position core (mount_of core) bytes left
+      o.answer r.behind) × (new.place ≡ rest_of next)
   pub waits : (back spares : Bool) (core last : State) (old new : Seen)
       → Follows back spares core old (None ∷ []) last new
       → (core.position ≢ Finished) × (last ≡ core) × (new ≡ old)
@@ -181,14 +182,15 @@ pub record CasesOfOutputs : Type 0 where
   -- the missing part is the one that the session needs at the position where its images led it
   pub ends : (spares : Bool) (first : State) (old : Seen) (turns : List Turn) (want : Option Want)
       (records : ℕ) (form : Form) (out now : Known)
-      (e : Ends spares first old turns want records form out now)
+      (e : Ends (goes_back old.notes) spares first old turns want
+      (IsWritten want records form out now))
       → (want ≡ want_at e.now.place.file e.now.place.position)
       × AreSteps (goes_back old.notes) turns old e.now
       × Follows (goes_back old.notes) spares first old turns e.last e.now
       × IsWritten want records form out now e.now.parts
   pub ends_now : (first : State) (old : Seen) (turns : List Turn) (want : Option Want)
       (records : ℕ) (form : Form) (stands : Known)
-      (e : EndsNow first old turns want records form ⊤ stands)
+      (e : Ends false false first old turns want (IsPut want ⊤ records form stands))
       → (want ≡ want_at e.now.place.file e.now.place.position) × AreSteps false turns old e.now
       × Follows false false first old turns e.last e.now
       × IsPut want ⊤ records form stands e.now.parts
@@ -220,8 +222,8 @@ pub record CasesOfOutputs : Type 0 where
   pub ends_as_told : (session : Listed) (shelf left : Readers) (form : Form)
       (stands said says : Known) (want : Option Want)
       (e : ExtractsListedNow session shelf left form stands said says want)
-      → EndsNow session.core (seen as_sink session session.sink) e.turns want e.records form ⊤
-      stands
+      → Ends false false session.core (seen as_sink session session.sink) e.turns want
+      (IsPut want ⊤ e.records form stands)
   -- at a fault only the images that were read and saved are reported
   pub only_turns_told : (session behind : Listed) (shelf left : Readers) (form : Form)
       (out now said says : Known)

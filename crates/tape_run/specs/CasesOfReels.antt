@@ -34,10 +34,10 @@ use Rattle.tape_run.specs.WorkedHistory.{block_0, block_1, vol1, hdr1, hdr2, fir
 pub record CasesOfAnswers : Type 0 where
   -- of a complete file nothing is read
   pub complete_reads_nothing : (core new : State) (bytes left : List ℕ) (answer : ReelAnswer)
-      → Reads Finished core bytes left answer new → (left ≡ bytes) × (answer.answer ≡ Complete)
-      × (answer.fault ≡ None) × (answer.blocks ≡ 0) × (new ≡ core)
+      → Reads Finished core (mount_of core) bytes left answer new → (left ≡ bytes)
+      × (answer.answer ≡ Complete) × (answer.fault ≡ None) × (answer.blocks ≡ 0) × (new ≡ core)
   pub else_a_reel : (core new : State) (bytes left : List ℕ) (answer : ReelAnswer)
-      → Reads (Awaits 1 0 0) core bytes left answer new
+      → Reads (Awaits 1 0 0) core (mount_of core) bytes left answer new
       → ReadsReel (mount_of core) bytes left answer new
   pub goes_on : GoesOn Passed × GoesOn Deliver × (GoesOn Complete → ⊥)
   pub blocks : delivered_by (Passed ∷ Deliver ∷ Deliver ∷ Complete ∷ []) ≡ 2

@@ -108,8 +108,8 @@ pub record CasesOfRounds : Type 0 where
       (e : AgainListed session behind shelf left form out now said says want)
       → IsKeptFor (goes_back session.notes)
       (seen as_sink session session.sink)
-      → (x : Ends true session.core (seen as_sink session session.sink)
-      (turns_of e.rounds ++ e.turns) want e.records form out now)
+      → (x : Ends (goes_back session.notes) true session.core (seen as_sink session session.sink)
+      (turns_of e.rounds ++ e.turns) want (IsWritten want e.records form out now))
       × GoesRound (goes_back session.notes) session.core
       (seen as_sink session session.sink) e.rounds e.turns x.last x.now
       × (x.now ≡ seen as_sink behind behind.sink)

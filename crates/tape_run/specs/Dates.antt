@@ -1,6 +1,6 @@
 -- The dates of labels: a character for the century, two digits for the year in it and three for the
 -- day of the year.
-use Rattle.std.specs.Prelude.{ℕ, ◌+◌, ◌-◌, ◌/◌, ◌%◌, ◌==◌, ◌&&◌, ◌||◌, not, nat_lt, nat_le, Bool}
+use Rattle.std.specs.Prelude.{ℕ, ◌+◌, ◌-◌, ◌/◌, ◌%◌, ◌==◌, ◌&&◌, ◌||◌, not, nat_lt, nat_le}
 use Rattle.std.specs.Prelude.{if◌then◌else◌, List, [], ◌∷◌, ◌++◌, Option, Some, None, codes}
 use Rattle.std.specs.{Prelude.decimal, Prelude.length, Str.all_ascii_digits}
 use Rattle.tape_label.specs.Digits.{number_of}
@@ -10,17 +10,11 @@ use Rattle.tape_run.specs.declared.survey.dates.Date.{Date}
 abbrev pub century : ℕ → Option ℕ
 century byte = if byte == 32 then Some 1900 else if byte == 48 then Some 2000 else None
 
--- a year has 366 days
-abbrev pub is_leap : ℕ → Bool
-is_leap year = (year % 4 == 0) && (not (year % 100 == 0) || (year % 400 == 0))
-
--- the number of days of February
-abbrev pub february : ℕ → ℕ
-february year = if is_leap year then 29 else 28
-
--- the number of days of each month
+-- the number of days of each month; some years have 366 days
 abbrev pub months : ℕ → List ℕ
-months year = 31 ∷ february year ∷ 31 ∷ 30 ∷ 31 ∷ 30 ∷ 31 ∷ 31 ∷ 30 ∷ 31 ∷ 30 ∷ 31 ∷ []
+months year = 31
+    ∷ (if (year % 4 == 0) && (not (year % 100 == 0) || (year % 400 == 0)) then 29 else 28)
+    ∷ 31 ∷ 30 ∷ 31 ∷ 30 ∷ 31 ∷ 31 ∷ 30 ∷ 31 ∷ 30 ∷ 31 ∷ []
 
 -- a day, counted from the first one of the last months of a year, which have these numbers of days
 abbrev pub in_months : List ℕ → ℕ → ℕ → Option Date

@@ -20,19 +20,18 @@ IsWritten (Some want) records form out written parts = ⊤
 IsWritten None records form out written parts = (records ≡ length (join parts).records)
     × Appends out written (output_of form parts)
 
--- The result of a session over the images that were read: its position is the missing part, and if
--- nothing is missing the records of the parts that it recovered were written. A session that had no
--- checkpoints, or read no suspect reel, is where the history of its mounts leads. One with a
--- checkpoint rolled back to the last one after each suspect reel; one without remains where such a
--- reel left it.
-pub record Ends (spares : Bool) (first : State) (old : Seen) (turns : List Turn)
-    (want : Option Want) (records : ℕ) (form : Form) (out written : Option (List ℕ)) : Type 0 where
+-- The result of a session over the images that were read: its position is the missing part, and the
+-- output is as its parts require. A session that had no checkpoints, or read no suspect reel, is
+-- where the history of its mounts leads. One that rolls back did so to its last checkpoint after
+-- each suspect reel; any other remains where such a reel left it.
+pub record Ends (back spares : Bool) (first : State) (old : Seen) (turns : List Turn)
+    (want : Option Want) (output : List Portion → Type 0) : Type 0 where
   pub last : State
   pub now : Seen
-  pub follows : Follows (goes_back old.notes) spares first old turns last now
-  pub are_steps : AreSteps (goes_back old.notes) turns old now
+  pub follows : Follows back spares first old turns last now
+  pub are_steps : AreSteps back turns old now
   pub wanted : want ≡ want_at now.place.file now.place.position
-  pub is_written : IsWritten want records form out written now.parts
+  pub is_written : output now.parts
 
 -- The last line was reported, with the missing part or the number of records in the file; and if
 -- nothing is missing, the records of the sink's parts were written.
@@ -93,7 +92,8 @@ pub record Extracts {S L R : Type 0} (g : Ghosts S) (size : L → ℕ) (gives : 
   pub records : ℕ
   pub lines : Appends said says (reel_lines 1 (map answer_of turns) ++ last_line want records)
   pub ends : IfSeen g old (λ was. IsKeptFor (goes_back old.notes) was
-      → (e : Ends false old.core was turns want records form out written)
+      → (e : Ends (goes_back was.notes) false old.core was turns want
+      (IsWritten want records form out written))
       × StoodSaved g old was.parts new e.now)
 
 -- A fault ended the run: the report is a prefix of such a report on the images that were processed,

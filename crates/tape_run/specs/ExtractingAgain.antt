@@ -9,7 +9,7 @@ use Rattle.tape_run.specs.Rounds.{Round, turns_of, core_behind, wanted, AreRound
 use Rattle.tape_run.specs.{Crash.LeavesSaved, Stopping.IsStopped, Stopping.RefusesSave}
 use Rattle.tape_run.specs.{declared.fault.EngineFault.EngineFault, Seen.Seen, Seen.IfSeen}
 use Rattle.tape_run.specs.declared.fault.EngineFault.TheVariants.{WriteFailed}
-use Rattle.tape_run.specs.Extracting.{Ends, TellsEnd, LeavesOutput}
+use Rattle.tape_run.specs.Extracting.{Ends, IsWritten, TellsEnd, LeavesOutput}
 use Rattle.tape_run.specs.{ReelLine.reel_lines, ReelLine.last_line, SessionState.SessionState}
 use Rattle.tape_run.specs.{Reeling.IsKeptFor, Reeling.StoodSaved, Rounds.IsEnough, Rounds.GoesRound}
 use Rattle.tape_image.specs.Written.{AppendsFront}
@@ -35,7 +35,8 @@ pub record ExtractsAgain {S L R : Type 0} (g : Ghosts S) (size : L → ℕ) (giv
   pub lines : Appends said says
       (reel_lines 1 (map answer_of (turns_of rounds ++ turns)) ++ last_line want records)
   pub ends : IfSeen g old (λ was. IsKeptFor (goes_back old.notes) was
-      → (e : Ends true old.core was (turns_of rounds ++ turns) want records form out written)
+      → (e : Ends (goes_back was.notes) true old.core was (turns_of rounds ++ turns) want
+      (IsWritten want records form out written))
       × GoesRound (goes_back old.notes) old.core was rounds turns e.last e.now
       × StoodSaved g old was.parts new e.now)
 

@@ -2,15 +2,15 @@
 use Rattle.std.specs.Prelude.{◌≡◌, ◌≢◌, ◌⊎◌, ℕ, ◌<◌, ◌≤◌, List, ◌++◌, length, map, Option, Some}
 use Rattle.std.specs.{Prelude.None, Prelude.⊤, Prelude.false, Io.KnownBytes.Appends}
 use Rattle.tape_blocks.specs.{Block.Portion, Spans.join, declared.parts.Form.Form}
-use Rattle.tape_set.specs.{declared.position.Position.TheVariants.Finished, Position.want_at}
+use Rattle.tape_set.specs.{declared.position.Position.TheVariants.Finished}
 use Rattle.tape_set.specs.declared.position.Want.{Want}
 use Rattle.tape_core.specs.{State.State, declared.sink.PartSink.Ghosts}
-use Rattle.tape_run.specs.Reeling.{Turn, answer_of, AreTurns, AreFirstTurns, Follows, AreSteps}
+use Rattle.tape_run.specs.Reeling.{Turn, answer_of, AreTurns, AreFirstTurns, Follows}
 use Rattle.tape_run.specs.{Seen.Seen, Seen.IfSeen, Seen.IsSeen, SessionState.SessionState}
-use Rattle.tape_run.specs.{Extracting.TellsEnd, Extracting.Leaves, Stopping.IsStopped}
+use Rattle.tape_run.specs.{Extracting.Ends, Extracting.TellsEnd, Extracting.Leaves}
 use Rattle.tape_run.specs.{declared.fault.EngineFault.EngineFault, RecordText.output_of}
 use Rattle.tape_run.specs.{declared.fault.EngineFault.TheVariants.WriteFailed, Reeling.Mounting}
-use Rattle.tape_run.specs.ReelLine.{reel_lines, last_line}
+use Rattle.tape_run.specs.{ReelLine.reel_lines, ReelLine.last_line, Stopping.IsStopped}
 use Rattle.tape_image.specs.Written.{AppendsFront}
 
 -- the contents of the output's name: unchanged if something is missing; otherwise exactly the
@@ -20,20 +20,10 @@ IsPut (Some want) tells records form stands parts = ⊤
 IsPut None tells records form stands parts = (records ≡ length (join parts).records)
     × (tells → stands ≡ Some (output_of form parts))
 
--- The result of a session over the images that were read. It never rolls back, because written
--- records cannot be dropped.
-pub record EndsNow (first : State) (old : Seen) (turns : List Turn) (want : Option Want)
-    (records : ℕ) (form : Form) (tells : Type 0) (stands : Option (List ℕ)) : Type 0 where
-  pub last : State
-  pub now : Seen
-  pub follows : Follows false false first old turns last now
-  pub are_steps : AreSteps false turns old now
-  pub wanted : want ≡ want_at now.place.file now.place.position
-  pub is_put : IsPut want tells records form stands now.parts
-
 -- Images were read in their order, all of them or up to the one that completed the file; a line was
 -- reported for each, and a last one; and if nothing is missing, the file with the output's name
--- contains exactly the records.
+-- contains exactly the records. The session never rolls back, because written records cannot be
+-- dropped.
 pub record ExtractsNow {S L R : Type 0} (g : Ghosts S) (size : L → ℕ) (gives : Mounting L R)
     (remaining : R → Option (List ℕ)) (session new : SessionState S) (shelf left : L) (form : Form)
     (tells : Type 0) (stands said says : Option (List ℕ)) (want : Option Want) : Type 0 where
@@ -44,7 +34,7 @@ pub record ExtractsNow {S L R : Type 0} (g : Ghosts S) (size : L → ℕ) (gives
   pub records : ℕ
   pub lines : Appends said says (reel_lines 1 (map answer_of turns) ++ last_line want records)
   pub ends : IfSeen g session (λ was.
-      (e : EndsNow session.core was turns want records form tells stands)
+      (e : Ends false false session.core was turns want (IsPut want tells records form stands))
       × IsSeen g new (λ is. e.now ≡ is))
 
 -- The output's name after a fault: it was not touched, and the last line, if anything of it was

@@ -1,10 +1,9 @@
 -- A reading of a later file continues after that of an earlier one, in the same image.
 use Rattle.std.specs.Prelude.{◌≡◌, ◌≢◌, ◌⊎◌, ℕ, Bool, false, List, [], ◌∷◌, ◌++◌, Option, Some}
-use Rattle.std.specs.{Prelude.None, List.AllByRecursion}
+use Rattle.std.specs.List.{AllByRecursion}
 use Rattle.tape_blocks.specs.Block.{Portion}
 use Rattle.tape_image.specs.{Begins.Stop, Begins.Begins, Begins.Walks, Tape.TapeItem}
-use Rattle.tape_set.specs.{declared.position.Position.Position, Layout.FileSet, Lawful.IsLawful}
-use Rattle.tape_set.specs.declared.position.Position.TheVariants.{Awaits, Finished}
+use Rattle.tape_set.specs.{Layout.FileSet, Lawful.IsLawful}
 use Rattle.tape_core.specs.{declared.event.Answer.Answer, declared.event.Phase.TheVariants.Broken}
 use Rattle.tape_core.specs.declared.event.Answer.TheVariants.{Passed, SectionDone, Complete}
 use Rattle.tape_core.specs.{Behind.AreInOrder, Behind.behind_of, State.State, Known.is_finished}
@@ -85,13 +84,6 @@ ReelFailsBehind bytes NoSuchPoint old new = ⊥
 ReelFailsBehind bytes TooFewReels old new = ⊥
 ReelFailsBehind bytes OutOfMemory old new = new ≡ old
 ReelFailsBehind bytes OtherFile old new = ⊥
-
--- What a continued reel answers and leaves unread: for a complete file nothing is read.
-abbrev pub ReadsBehind : Position → State → List ℕ → List ℕ → ReelAnswer → State → Type 0
-ReadsBehind Finished core bytes left answer new = (left ≡ bytes) × (answer.answer ≡ Complete)
-    × (answer.fault ≡ None) × (answer.blocks ≡ 0) × (new ≡ core)
-ReadsBehind (Awaits sect number part) core bytes left answer new =
-    ReadsReel (behind_of core) bytes left answer new
 
 -- So the headline is true of it: for every valid set and each history that the reel is, if it
 -- begins with these items, which were skipped, the session is where that history leads, with the

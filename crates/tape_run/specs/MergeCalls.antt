@@ -94,10 +94,10 @@ Puts (Some x) some old new = (some ≡ true) × PutItem x old new
 
 -- The readings were read to their ends, and the items of the least tape of which they are readings
 -- were written and counted. The log has the rows of these items.
-pub record Merges {R : Type 0} (firsts nows : List (Reading R)) (m : Merged) (old new : Writer)
-    (log logged : Option (List ℕ)) : Type 0 where
+pub record Merges {R : Type 0} (taken : List (List TapeItem) → Type 0) (nows : List (Reading R))
+    (m : Merged) (old new : Writer) (log logged : Option (List ℕ)) : Type 0 where
   pub readings : List (List TapeItem)
-  pub have : HaveTaken firsts nows readings
+  pub have : taken readings
   pub ended : AllStopped nows
   pub merged : List TapeItem
   pub is : IsMerged readings merged

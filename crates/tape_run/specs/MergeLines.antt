@@ -1,7 +1,7 @@
 -- The lines of `merge` and `compare`. Numbers are plain decimals, and a name is the rest of its
 -- line.
 use Rattle.std.specs.Prelude.{ℕ, ◌+◌, List, [], ◌∷◌, ◌++◌, codes, decimal, suc, zero, Option, Some}
-use Rattle.std.specs.Prelude.{None, slice_get, unwrap_or}
+use Rattle.std.specs.Prelude.{None, slice_get, unwrap_or, Bool, true, false}
 use Rattle.tape_image.specs.{declared.item.Ending.Ending, Reader.ending_of}
 use Rattle.tape_run.specs.declared.merge.reading.{Reading.Reading, Verdict.Verdict}
 use Rattle.tape_run.specs.declared.merge.line.{MergedEnd.MergedEnd, ItemKind.ItemKind}
@@ -94,6 +94,11 @@ line_by (verdicts.Failed fault) n len from name = []
 
 abbrev pub has_line : {R : Type 0} → List (List ℕ) → ℕ → Reading R → List ℕ
 has_line names number r = line_by r.verdict (number + 1) r.length r.from (name_at names number)
+
+-- the line about an item at the difference, or about the whole reading
+abbrev pub line_about : {R : Type 0} → Bool → List (List ℕ) → ℕ → Reading R → List ℕ
+line_about true names number r = has_line names number r
+line_about false names number r = reading_line names number r
 
 -- the lines about these readings, the first of which has the given number
 abbrev pub lines_from : {A : Type 0} → (ℕ → A → List ℕ) → ℕ → List A → List ℕ

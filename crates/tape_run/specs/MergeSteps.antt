@@ -30,13 +30,6 @@ joined (Some bad) x = x
 joined (Some (block bytes)) x = block bytes
 joined (Some mark) x = mark
 
--- there is no item yet, or a bad one
-abbrev pub is_less : Option TapeItem → Bool
-is_less None = true
-is_less (Some bad) = true
-is_less (Some (block bytes)) = false
-is_less (Some mark) = false
-
 -- the best item, if there is one
 abbrev pub best_items : Option TapeItem → List TapeItem
 best_items None = []
@@ -116,34 +109,6 @@ StopsAs verdicts.First status = ⊥
 StopsAs verdicts.Bad status = ⊥
 StopsAs verdicts.Second status = ⊥
 StopsAs verdicts.Third status = ⊥
-
--- whether the verdict is that of a reading that stopped
-abbrev pub is_stop : Verdict → Bool
-is_stop verdicts.First = false
-is_stop verdicts.Bad = false
-is_stop verdicts.Second = false
-is_stop verdicts.Third = false
-is_stop verdicts.Ended = true
-is_stop (verdicts.Failed fault) = true
-
--- the number of bad items that this verdict adds
-abbrev pub bad_count : Verdict → ℕ
-bad_count verdicts.First = 0
-bad_count verdicts.Bad = 1
-bad_count verdicts.Second = 0
-bad_count verdicts.Third = 0
-bad_count verdicts.Ended = 0
-bad_count (verdicts.Failed fault) = 0
-
--- The reader of a reading was asked for its next item, which has this length: the best item and the
--- other one changed in this way.
-pub data Answered (old new : Reader) (verdict : Verdict) (len : ℕ)
-    (best now other beside : Option TapeItem) : Type 0 where
-  with_item : (x : TapeItem) → old.status ≡ going → GivesItem old x new
-      → Compares verdict x best now other beside → len ≡ block_length x
-      → Answered old new verdict len best now other beside
-  without : Stopped old new → StopsAs verdict new.status → now ≡ best → beside ≡ other
-      → Answered old new verdict len best now other beside
 
 -- the count increased by n, but never exceeds its greatest value
 abbrev pub RisesBy : ℕ → ℕ → ℕ → Type 0

@@ -1,13 +1,12 @@
 -- Merging, in terms of the bytes of images.
-use Rattle.std.specs.Prelude.{◌≡◌, ◌⊎◌, ℕ, ◌+◌, List, [], ◌∷◌, ◌++◌, length, map, take, Option}
-use Rattle.std.specs.{Prelude.Some, Prelude.⊤, Io.KnownBytes.Appends}
+use Rattle.std.specs.Prelude.{◌≡◌, ◌⊎◌, ℕ, ◌+◌, List, [], ◌∷◌, ◌++◌, length, map, take}
+use Rattle.std.specs.Prelude.{Some, ⊤}
 use Rattle.tape_image.specs.{Tape.TapeItem, Begins.Stop, Begins.Begins, Begins.Walks}
 use Rattle.tape_image.specs.Writer.{Writer, PutItems}
-use Rattle.tape_run.specs.{declared.merge.Merged.Merged, declared.merge.MergeFault.MergeFault}
+use Rattle.tape_run.specs.{declared.merge.MergeFault.MergeFault, MergeLaws.TakesAs}
 use Rattle.tape_run.specs.{declared.merge.reading.Reading.Reading, Merging.IsMerged, Merging.Differ}
-use Rattle.tape_run.specs.MergeSteps.{bads, block_length, AllStopped, AreUpTo, AreJudgedAt}
-use Rattle.tape_run.specs.{MergeLaws.TakesAs, MergeLog.log_rows}
-use Rattle.tape_run.specs.MergeCalls.{Counts, HasWritten, RefusesLast, StopsLogging}
+use Rattle.tape_run.specs.MergeSteps.{bads, block_length, AreUpTo, AreJudgedAt}
+use Rattle.tape_run.specs.MergeCalls.{HasWritten, RefusesLast, StopsLogging}
 use Rattle.tape_run.specs.declared.merge.MergeFault.TheVariants as faults
 
 -- The fields record where the last item of the image begins, and its length.
@@ -44,19 +43,6 @@ AllBegin [] [] = ⊤
 AllBegin (bytes ∷ images) (r ∷ readings) =
     ((end : ℕ) × (stop : Stop) × Begins 0 bytes r end stop) × AllBegin images readings
 AllBegin _ _ = ⊥
-
--- The images were read to their ends, and merged: the items of the least tape of which they are
--- readings were written and counted. The log has the rows of these items.
-pub record MergesImages {R : Type 0} (images : List (List ℕ)) (nows : List (Reading R))
-    (m : Merged) (old new : Writer) (log logged : Option (List ℕ)) : Type 0 where
-  pub readings : List (List TapeItem)
-  pub have : TakeImages images nows readings
-  pub ended : AllStopped nows
-  pub merged : List TapeItem
-  pub is : IsMerged readings merged
-  pub count : Counts readings merged m
-  pub wrote : PutItems merged old new
-  pub rows : Appends log logged (log_rows 0 merged readings)
 
 -- There is no tape of which the images are readings. They were read up to the n-th item, at which
 -- they differ; each reading says how its item compares with the others. The items before that one

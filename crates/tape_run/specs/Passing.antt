@@ -65,22 +65,18 @@ met_by volume head =
     record { volume = volume; key = key; blocks = 0; bad = false }
 
 -- after a block that was read as a header label, or could not be read as one
-abbrev pub header_with : List ℕ → Result Head1 LabelFault → Phase → Phase
-header_with volume (Ok head) other = Second (met_by volume head)
-header_with volume (Err _) other = other
+abbrev pub header_with : List ℕ → Result Head1 LabelFault → Phase
+header_with volume (Ok head) = Second (met_by volume head)
+header_with volume (Err _) = Over
 
 -- after a block where a section may begin
-abbrev pub header_phase : List ℕ → List ℕ → Phase → Phase
-header_phase volume b other = header_with volume (head1_at b) other
+abbrev pub header_phase : List ℕ → List ℕ → Phase
+header_phase volume b = header_with volume (head1_at b)
 
 -- after a block of this kind where a section's second label is expected
 abbrev pub second_with : Met → Option Kind → Phase
 second_with met (Some kinds.Hdr2) = Headers met
 second_with met _ = Over
-
--- after a block where a further volume label or a section may begin
-abbrev pub labels_phase : List ℕ → List ℕ → Phase
-labels_phase v b = if is_volume_label b then Labels v else header_phase v b Over
 
 -- The phase after an item, and the section that it completes, if any.
 --
@@ -89,30 +85,19 @@ labels_phase v b = if is_volume_label b then Labels v else header_phase v b Over
 -- mark.
 abbrev pub step : Phase → TapeItem → Phase × Option Told
 step Volume (block b) = (volume_with (vol1_at b), None)
-step Volume bad = (Over, None)
-step Volume mark = (Over, None)
-step (Labels v) (block b) = (labels_phase v b, None)
-step (Labels v) bad = (Over, None)
-step (Labels v) mark = (Over, None)
+step (Labels v) (block b) = (if is_volume_label b then Labels v else header_phase v b, None)
 step (Second met) (block b) = (second_with met (kind_at b), None)
-step (Second met) bad = (Over, None)
-step (Second met) mark = (Over, None)
 step (Headers met) (block b) = (Headers met, None)
-step (Headers met) bad = (Over, None)
 step (Headers met) mark = (Data met, None)
 step (Data met) (block b) = (Data (with_block met false), None)
 step (Data met) bad = (Data (with_block met true), None)
 step (Data met) mark = (Trailer met, None)
 step (Trailer met) (block b) = told_with met (trail1_at b)
-step (Trailer met) bad = (Over, Some (cut met))
-step (Trailer met) mark = (Over, Some (cut met))
+step (Trailer met) _ = (Over, Some (cut met))
 step (Trailers v) (block b) = (Trailers v, None)
-step (Trailers v) bad = (Over, None)
 step (Trailers v) mark = (Next v, None)
-step (Next v) (block b) = (header_phase v b Over, None)
-step (Next v) bad = (Over, None)
-step (Next v) mark = (Over, None)
-step Over _ = (Over, None)
+step (Next v) (block b) = (header_phase v b, None)
+step _ _ = (Over, None)
 
 -- the section that is not complete if the items end here: it is cut
 abbrev pub under_way : Phase → Option Told

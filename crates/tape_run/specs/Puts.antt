@@ -5,15 +5,6 @@ use Rattle.tape_blocks.specs.{Block.Portion, Judged.begun_behind}
 use Rattle.tape_set.specs.Position.{part_of}
 use Rattle.tape_core.specs.{Point.Point, State.State, Table.saved, Stands.inside_block}
 use Rattle.tape_core.specs.Place.{place_of}
-use Rattle.tape_run.specs.declared.reel_reader.Refused.{Refused}
-
--- The parts of a block from the first on, up to the refused one, were put.
-pub record PutsFew (holds : List Portion → Type 0) (held parts : List Portion) (first : ℕ)
-    (begun : Bool) (r : Refused) : Type 0 where
-  pub from : first ≤ r.part
-  pub within : r.part < length parts
-  pub held_now : holds (held ++ drop first (take r.part parts))
-  pub begun_now : r.begun ≡ begun_behind begun (drop first (take r.part parts))
 
 -- the checkpoint at the refused part of a block: the one before the block if no part of it was put
 abbrev pub refused_point : Point → Point → ℕ → Bool → Point

@@ -8,7 +8,7 @@ use Rattle.tape_set.specs.declared.position.Position.TheVariants.{Finished}
 use Rattle.tape_core.specs.{State.State, declared.event.Answer.Answer, Place.rest_of, Point.Point}
 use Rattle.tape_core.specs.{declared.event.Answer.TheVariants.Useless, Stands.weight_of}
 use Rattle.tape_core.specs.declared.event.Reason.TheVariants.{BlockCount, Broken}
-use Rattle.tape_core.specs.{declared.sink.PartSink.Ghosts, Table.saved}
+use Rattle.tape_core.specs.{declared.sink.PartSink.Ghosts, Table.saved, Table.mount_of}
 use Rattle.tape_run.specs.{declared.reel_reader.ReelAnswer.ReelAnswer, Given.is_device, Reels.Reads}
 use Rattle.tape_run.specs.{Crash.KeepsLast, Crash.IsLast, Steps.Reeled, Steps.Saved, Steps.WentBack}
 use Rattle.tape_run.specs.Seen.{Seen, seen, IsKept, IfSeen, IsSeen}
@@ -112,7 +112,7 @@ pub record ReadsAndNotes (back spares : Bool) (core : State) (old : Seen) (o : O
   pub waits : core.position ≢ Finished
   pub behind : State
   pub answers : IfKnown o.had o.left
-      (λ bytes left. Reads core.position core bytes left o.answer behind)
+      (λ bytes left. Reads core.position core (mount_of core) bytes left o.answer behind)
   pub reeled : IfSome o.had (λ bytes. (mid : Seen)
       × Reeled bytes o.left (is_device o.answer.fault) old mid
       × IsNoted back spares (counts_differ o.answer.answer) o.noted mid new)

@@ -8,7 +8,7 @@ use Rattle.tape_image.specs.Step.{TakesEnd, TakesFault}
 use Rattle.tape_core.specs.{declared.event.Answer.Answer, State.State, Point.Point, Follows.IsFinal}
 use Rattle.tape_core.specs.declared.event.Answer.TheVariants.{Passed, Deliver, Complete}
 use Rattle.tape_core.specs.Place.{rest_of, place_of}
-use Rattle.tape_core.specs.Table.{step_of, mount_of, saved}
+use Rattle.tape_core.specs.Table.{step_of, saved}
 use Rattle.tape_set.specs.{Position.part_of, declared.position.Position.Position}
 use Rattle.tape_set.specs.declared.position.Position.TheVariants.{Awaits, Finished}
 use Rattle.tape_run.specs.{declared.reel_reader.ReelAnswer.ReelAnswer, Puts.refused_point}
@@ -94,17 +94,13 @@ pub record ReadsToBlock (new core : State) (bytes left : List ℕ) : Type 0 wher
   pub at : ℕ
   pub taken : Walks 0 bytes (items ++ block content ∷ []) at left
 
--- By the core's answer the item is the expected block, and a part of it was refused.
-abbrev pub IsDelivery : State → Option TapeItem → State → Type 0
-IsDelivery core came new = (content : List ℕ) × (came ≡ Some (block content))
-    × ((step_of core came).0 ≡ Deliver) × StopsAt (saved core 0) (saved (step_of core came).1 0) new
-
--- The answer of a reel, its unread bytes, and the state then: for a complete file nothing is read.
-abbrev pub Reads : Position → State → List ℕ → List ℕ → ReelAnswer → State → Type 0
-Reads Finished core bytes left answer new = (left ≡ bytes) × (answer.answer ≡ Complete)
+-- The answer of a reel, its unread bytes, and the state then: for a complete file nothing is read,
+-- otherwise the reel is read from the state in which it is mounted.
+abbrev pub Reads : Position → State → State → List ℕ → List ℕ → ReelAnswer → State → Type 0
+Reads Finished core mounted bytes left answer new = (left ≡ bytes) × (answer.answer ≡ Complete)
     × (answer.fault ≡ None) × (answer.blocks ≡ 0) × (new ≡ core)
-Reads (Awaits sect number part) core bytes left answer new =
-    ReadsReel (mount_of core) bytes left answer new
+Reads (Awaits sect number part) core mounted bytes left answer new =
+    ReadsReel mounted bytes left answer new
 
 -- The unread bytes of a reel that was not read to its end, if they are known, and the state then:
 -- the bytes after the refused block, or all bytes if memory was refused.

@@ -24,18 +24,6 @@ IsBest cs None = cs ≡ []
 IsBest cs (Some b) = (front rest : List SectionCopy) × (cs ≡ front ++ b ∷ rest)
     × AllByRecursion (λ c. rank c < rank b) front × AllByRecursion (λ c. rank c ≤ rank b) rest
 
--- the image of the last of these copies
-abbrev pub last_image : ℕ → Option ℕ → List SectionCopy → Option ℕ
-last_image sect last [] = last
-last_image sect last (c ∷ cs) =
-    if is_considered sect last c then last_image sect (Some c.image) cs else last_image sect last cs
-
--- the best of these copies was chosen
-pub record IsChoice (sect : ℕ) (cs : List SectionCopy) (best : Option SectionCopy)
-    (last : Option ℕ) : Type 0 where
-  pub is_best : IsBest (firsts sect None cs) best
-  pub at : last ≡ last_image sect None cs
-
 -- the form of the file's blocks that the first label with a form records
 abbrev pub form_of_file : List SectionCopy → Option FileForm
 form_of_file [] = None

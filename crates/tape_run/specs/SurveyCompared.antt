@@ -1,6 +1,6 @@
 -- The report of a survey on sections with more than one good copy. The lines are for people, and
 -- may change.
-use Rattle.std.specs.Prelude.{ℕ, ◌==◌, ◌&&◌, not, Bool, if◌then◌else◌, List, [], ◌++◌, codes}
+use Rattle.std.specs.Prelude.{ℕ, ◌==◌, ◌&&◌, not, if◌then◌else◌, List, [], ◌++◌, codes}
 use Rattle.std.specs.Prelude.{decimal, Option, Some, None, is_some, get_or}
 use Rattle.std.specs.List.{flat_map}
 use Rattle.tape_run.specs.declared.survey.{copies.CopyNote.CopyNote, Wording.Wording}
@@ -34,34 +34,27 @@ verdict_text names note = verdict_by names note note.other
 abbrev pub copy_line : List (List ℕ) → Noted → List ℕ
 copy_line names x = section_front x.0 ++ verdict_text names x.1
 
--- the first columns of a section's row
-abbrev pub row_front : SectionKey → ℕ → List ℕ
-row_front key copies = codes "COPIES\t" ++ (trimmed_text key.set_id ++ (codes "\t"
-    ++ (decimal key.file ++ (codes "\t" ++ (decimal key.sect ++ (codes "\t" ++ (decimal copies
-    ++ codes "\t")))))))
-
 -- the last columns: the name of the image whose copy differs, if any, and the result
 abbrev pub other_cells : List (List ℕ) → Option ℕ → List ℕ
-other_cells names None = codes "\tAGREE\n"
-other_cells names (Some other) = name_at names other ++ codes "\tCONFLICT\n"
+other_cells names None = codes "\t\tAGREE\n"
+other_cells names (Some other) = codes "\t" ++ name_at names other ++ codes "\tCONFLICT\n"
 
 -- the row of a section
 abbrev pub copy_row : List (List ℕ) → Noted → List ℕ
-copy_row names x = row_front x.0 x.1.copies ++ (name_at names x.1.image ++ (codes "\t"
-    ++ other_cells names x.1.other))
-
--- the section has only one good copy
-abbrev pub is_alone : CopyNote → Bool
-is_alone note = (note.copies == 1) && not (is_some note.other)
+copy_row names (key, note) =
+    (codes "COPIES\t" ++ (trimmed_text key.set_id ++ (codes "\t" ++ (decimal key.file
+    ++ (codes "\t" ++ (decimal key.sect ++ (codes "\t" ++ (decimal note.copies ++ codes "\t"))))))))
+    ++ name_at names note.image ++ other_cells names note.other
 
 -- the text for a section with more
 abbrev pub copy_by : Wording → List (List ℕ) → Noted → List ℕ
 copy_by Words names x = copy_line names x
 copy_by Rows names x = copy_row names x
 
--- the text for a section
+-- the text for a section, unless it has only one good copy
 abbrev pub copy_text : Wording → List (List ℕ) → Noted → List ℕ
-copy_text y names x = if is_alone x.1 then [] else copy_by y names x
+copy_text y names x =
+    if (x.1.copies == 1) && not (is_some x.1.other) then [] else copy_by y names x
 
 -- the texts for sections
 abbrev pub copies_text : Wording → List (List ℕ) → List Noted → List ℕ

@@ -1,7 +1,7 @@
 -- The good copies of sections, compared by their data blocks.
 use Rattle.std.specs.Prelude.{ℕ, ◌+◌, ◌==◌, ◌&&◌, min, Bool, true, false, if◌then◌else◌, List, []}
 use Rattle.std.specs.Prelude.{◌∷◌, ◌++◌, Option, Some, None, is_some}
-use Rattle.std.specs.{List.flat_map, Map.lookup}
+use Rattle.std.specs.{List.flat_map, Map.lookup, Option.option_or}
 use Rattle.indexmap.specs.IndexMap.{insert_entry}
 use Rattle.tape_image.specs.Tape.{TapeItem, block, bad, mark}
 use Rattle.tape_run.specs.declared.survey.{copies.CopyNote.CopyNote, files.FileKey.FileKey}
@@ -9,7 +9,7 @@ use Rattle.tape_run.specs.declared.{passing.Phase.Phase, section.SectionKey.Sect
 use Rattle.tape_run.specs.declared.passing.Phase.TheVariants.{Volume, Headers, Data}
 use Rattle.tape_run.specs.{Noted.same_key, Noted.is_good, Passing.Told, Passing.step}
 use Rattle.tape_run.specs.{SurveyDigest.digest_of, SurveyDigest.digest_with, SurveyFiles.same_file}
-use Rattle.tape_run.specs.{SurveyFiles.file_key, SurveyGlance.or_else}
+use Rattle.tape_run.specs.SurveyFiles.{file_key}
 
 -- ---- the good copies on an image
 
@@ -62,17 +62,13 @@ pub record Copied : Type 0 where
 abbrev pub no_copies : Copied
 no_copies = record { notes = []; conflicts = []; held = [] }
 
--- the number of copies with one more
-abbrev pub one_copy_more : ℕ → ℕ
-one_copy_more n = min (n + 1) 4294967295
-
 -- the record of a section after one more copy, which agrees with the first one
 abbrev pub with_same : CopyNote → CopyNote
-with_same n = record n { copies = one_copy_more n.copies }
+with_same n = record n { copies = min (n.copies + 1) 4294967295 }
 
 -- and after one more copy, on this image, which does not agree
 abbrev pub with_other : CopyNote → ℕ → CopyNote
-with_other n image = record n { other = or_else n.other (Some image) }
+with_other n image = record n { other = option_or n.other (Some image) }
 
 -- The record of a section after one more good copy, which is on this image and has this number of
 -- blocks and this digest: it agrees with the first copy if both are equal.
@@ -92,18 +88,15 @@ with_conflict files key differs =
     if differs then insert_entry same_file files (file_key key.set_id key.file) key.sect
     else files
 
--- after a copy on this image, with this record of its section
-abbrev pub with_note : Copied → ℕ → SectionKey → CopyNote → Copied
-with_note c image key note = record {
-  notes = insert_entry same_key c.notes key note;
-  conflicts = with_conflict c.conflicts key (is_some note.other);
-  held = c.held ++ (image, key) ∷ [];
-}
-
 -- after a good copy on this image, with this number of blocks and this digest
 abbrev pub with_good : Copied → ℕ → SectionKey → ℕ → ℕ → Copied
 with_good c image key blocks digest =
-    with_note c image key (copy_note (noted_at c.notes key) image blocks digest)
+    let note = copy_note (noted_at c.notes key) image blocks digest in
+    record {
+      notes = insert_entry same_key c.notes key note;
+      conflicts = with_conflict c.conflicts key (is_some note.other);
+      held = c.held ++ (image, key) ∷ [];
+    }
 
 -- after the section that was completed on this image, if any, with its digest
 abbrev pub with_told : Copied → ℕ → Option Told → ℕ → Copied
@@ -123,21 +116,11 @@ copied_in image c items = with_copies image c (copies_on items)
 
 -- ---- as they are read
 
--- the digest of the data blocks of the section that is being read, after a block
-abbrev pub digest_at : ℕ → Phase → List ℕ → ℕ
-digest_at digest (Data met) b = digest_with digest b
-digest_at digest p b = digest
-
--- and after a tape mark
-abbrev pub digest_past : ℕ → Phase → ℕ
-digest_past digest (Headers met) = 0
-digest_past digest p = digest
-
--- and after an item
+-- the digest of the data blocks of the section that is being read, after an item
 abbrev pub digest_in : ℕ → Phase → TapeItem → ℕ
-digest_in digest p (block b) = digest_at digest p b
-digest_in digest p bad = digest
-digest_in digest p mark = digest_past digest p
+digest_in digest (Headers met) mark = 0
+digest_in digest (Data met) (block b) = digest_with digest b
+digest_in digest p x = digest
 
 -- ---- questions about them
 

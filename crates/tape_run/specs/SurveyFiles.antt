@@ -10,7 +10,8 @@ use Rattle.tape_run.specs.{declared.survey.files.FileKey.FileKey, declared.passi
 use Rattle.tape_run.specs.{declared.survey.files.FileNote.FileNote, Passing.step}
 use Rattle.tape_run.specs.declared.section.SectionKey.{SectionKey}
 use Rattle.tape_run.specs.declared.passing.Phase.TheVariants.{Volume, Second}
-use Rattle.tape_run.specs.SurveyGlance.{head_in, or_else}
+use Rattle.tape_run.specs.SurveyGlance.{head_in}
+use Rattle.std.specs.Option.{option_or}
 
 -- a file, and its record
 abbrev pub Filed : Type 0
@@ -54,22 +55,16 @@ abbrev pub form_by : SectionKey → Option Kind → Result Head2 LabelFault → 
 form_by key (Some Hdr2) (Ok form) = Some (file_key key.set_id key.file, form)
 form_by key _ _ = None
 
--- the block as a second header label, if it is one that is supported and one is expected
-abbrev pub form_at : Phase → List ℕ → Option (FileKey × Head2)
-form_at (Second met) b = form_by met.key (kind_at b) (head2_at b)
-form_at _ b = None
-
--- the same for an item
+-- the item as a second header label, if it is one that is supported and one is expected
 abbrev pub form_in : Phase → TapeItem → Option (FileKey × Head2)
-form_in p (block b) = form_at p b
-form_in p bad = None
-form_in p mark = None
+form_in (Second met) (block b) = form_by met.key (kind_at b) (head2_at b)
+form_in _ _ = None
 
 -- the record of a file after one more second label: the label found first is kept
 abbrev pub with_form_of : List Filed → FileKey → Option FileNote → Head2 → List Filed
 with_form_of files key None form = files
 with_form_of files key (Some note) form =
-    insert_entry same_file files key (record note { form = or_else note.form (Some form) })
+    insert_entry same_file files key (record note { form = option_or note.form (Some form) })
 
 -- the files after a second header label, if one was found
 abbrev pub with_form : List Filed → Option (FileKey × Head2) → List Filed

@@ -27,8 +27,8 @@ plural first next = if nat_lt first (next - 1) then codes "s" else []
 
 -- the line of `unpack` for such numbers
 abbrev pub numbers_line : List ℕ → ℕ → ℕ → List ℕ
-numbers_line set_id first file = codes "FILE " ++ identifier_text set_id ++ codes " "
-    ++ numbers_text first file ++ codes " NOT FOUND\n"
+numbers_line set_id first file = codes "FILE " ++ (identifier_text set_id ++ (codes " "
+    ++ (numbers_text first file ++ codes " NOT FOUND\n")))
 
 -- the line or the row of `survey`
 abbrev pub gap_by : Wording → List ℕ → ℕ → ℕ → List ℕ

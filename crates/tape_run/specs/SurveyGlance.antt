@@ -1,7 +1,7 @@
 -- A summary of an image, from its items.
 use Rattle.std.specs.Prelude.{ℕ, ◌+◌, ◌==◌, ◌&&◌, not, Bool, true, false, if◌then◌else◌, List, []}
 use Rattle.std.specs.Prelude.{◌∷◌, length, Option, Some, None, is_some, Result, Ok, Err}
-use Rattle.std.specs.{List.flat_map, Str.bytes_eq}
+use Rattle.std.specs.{List.flat_map, Option.option_or, Str.bytes_eq}
 use Rattle.tape_image.specs.Tape.{TapeItem, block, bad, mark}
 use Rattle.tape_label.specs.declared.values.{Kind.Kind, Vol1.Vol1, Head1.Head1, Head2.Head2}
 use Rattle.tape_label.specs.declared.label.LabelFault.{LabelFault}
@@ -22,28 +22,16 @@ use Rattle.tape_run.specs.{Lacks.line_of, Noted.is_good, Passing.Told, Passing.s
 unfoldable pub is_ebcdic : List ℕ → Bool
 is_ebcdic b = (length b == 80) && bytes_eq (positions b 1 4) (229 ∷ 214 ∷ 211 ∷ 241 ∷ [])
 
--- a first block that is not a supported VOL1
-abbrev pub first_other : List ℕ → First
-first_other b = if is_ebcdic b then firsts.Ebcdic else firsts.Block (length b)
-
 -- a first block that was read as a volume label, or could not be
 abbrev pub first_by : List ℕ → Result Vol1 LabelFault → First
 first_by b (Ok label) = firsts.Volume label
-first_by b (Err _) = first_other b
-
--- a first block that was read as a volume label, or could not be read as one
-abbrev pub first_block : List ℕ → First
-first_block b = first_by b (vol1_at b)
+first_by b (Err _) = if is_ebcdic b then firsts.Ebcdic else firsts.Block (length b)
 
 -- the class of an image with this first item
 abbrev pub first_of : TapeItem → First
-first_of (block b) = first_block b
+first_of (block b) = first_by b (vol1_at b)
 first_of bad = firsts.Bad
 first_of mark = firsts.Mark
-
--- the class of an image after one more item, which has this number: the first item decides
-abbrev pub first_with : First → ℕ → TapeItem → First
-first_with first number x = if number == 1 then first_of x else first
 
 -- a block of this kind is a volume label
 abbrev pub is_kind_vol1 : Option Kind → Bool
@@ -53,72 +41,38 @@ is_kind_vol1 _ = false
 -- an item is a volume label
 abbrev pub is_vol1 : TapeItem → Bool
 is_vol1 (block b) = is_kind_vol1 (kind_at b)
-is_vol1 bad = false
-is_vol1 mark = false
-
--- the first of two values that exists
-abbrev pub or_else : {T : Type 0} → Option T → Option T → Option T
-or_else (Some x) second = Some x
-or_else None second = second
-
--- the number of the first volume label after the first item
-abbrev pub late_with : Option ℕ → ℕ → TapeItem → Option ℕ
-late_with late number x =
-    if not (number == 1) && is_vol1 x then or_else late (Some number) else late
+is_vol1 _ = false
 
 -- the label that was read, if the block could be read as one
 abbrev pub head_by : Result Head1 LabelFault → Option Head1
 head_by (Ok head) = Some head
 head_by (Err _) = None
 
--- the block as a header label, if it is one
-abbrev pub head_of : List ℕ → Option Head1
-head_of b = head_by (head1_at b)
-
--- the block as a header label, if it is one and a section may begin there
-abbrev pub head_at : Phase → List ℕ → Option Head1
-head_at (phases.Labels v) b = head_of b
-head_at (phases.Next v) b = head_of b
-head_at _ b = None
-
--- the same for an item
+-- the item as a header label, if it is one and a section may begin there
 abbrev pub head_in : Phase → TapeItem → Option Head1
-head_in p (block b) = head_at p b
-head_in p bad = None
-head_in p mark = None
+head_in (phases.Labels v) (block b) = head_by (head1_at b)
+head_in (phases.Next v) (block b) = head_by (head1_at b)
+head_in _ _ = None
 
--- the file, if its HDR2 cannot be read as one
-abbrev pub unread_with : ℕ → Result Head2 LabelFault → Option ℕ
-unread_with file (Ok head) = None
-unread_with file (Err _) = Some file
-
--- the file to which an unsupported HDR2 of this kind belongs
-abbrev pub unread_by : ℕ → Option Kind → List ℕ → Option ℕ
-unread_by file (Some kinds.Hdr2) b = unread_with file (head2_at b)
-unread_by file _ b = None
-
--- the same for a block in place of a second label
-abbrev pub unread_at : Phase → List ℕ → Option ℕ
-unread_at (phases.Second met) b = unread_by met.key.file (kind_at b) b
-unread_at _ b = None
+-- the file, if its block in place of a second label is an HDR2 that cannot be read as one
+abbrev pub unread_by : ℕ → Option Kind → Result Head2 LabelFault → Option ℕ
+unread_by file (Some kinds.Hdr2) (Err _) = Some file
+unread_by file _ _ = None
 
 -- the same for an item
 abbrev pub unread_in : Phase → TapeItem → Option ℕ
-unread_in p (block b) = unread_at p b
-unread_in p bad = None
-unread_in p mark = None
+unread_in (phases.Second met) (block b) = unread_by met.key.file (kind_at b) (head2_at b)
+unread_in _ _ = None
 
 -- the item expected in each phase
 abbrev pub wanted_in : Phase → ExpectedItem
 wanted_in phases.Volume = wanted.Volume
 wanted_in (phases.Labels v) = wanted.Section
 wanted_in (phases.Second met) = wanted.Second
-wanted_in (phases.Headers met) = wanted.Mark
-wanted_in (phases.Data met) = wanted.Mark
 wanted_in (phases.Trailer met) = wanted.Trailer
-wanted_in (phases.Trailers v) = wanted.Mark
 wanted_in (phases.Next v) = wanted.Next
 wanted_in phases.Over = wanted.End
+wanted_in _ = wanted.Mark
 
 -- an item left the order if nothing is expected after it
 abbrev pub left_by : ℕ → Phase → Phase → LabelOrder
@@ -153,9 +107,8 @@ course_with (Leaves n w) number p x next = Leaves n w
 
 -- an item is an unreadable block
 abbrev pub is_bad : TapeItem → Bool
-is_bad (block b) = false
 is_bad bad = true
-is_bad mark = false
+is_bad _ = false
 
 -- 1 if this is true, otherwise 0
 abbrev pub one_if : Bool → ℕ
@@ -186,12 +139,13 @@ blank_glance = record {
 abbrev pub look_to : ImageSummary → Phase → TapeItem → Phase → ImageSummary
 look_to g p x next = record {
   items = g.items + 1;
-  first = first_with g.first (g.items + 1) x;
-  late = late_with g.late (g.items + 1) x;
-  head = or_else g.head (head_in p x);
+  first = if g.items + 1 == 1 then first_of x else g.first;
+  late =
+      if not (g.items + 1 == 1) && is_vol1 x then option_or g.late (Some (g.items + 1)) else g.late;
+  head = option_or g.head (head_in p x);
   files = g.files + one_if (is_some (head_in p x));
   bad = g.bad + one_if (is_bad x);
-  unread = or_else g.unread (unread_in p x);
+  unread = option_or g.unread (unread_in p x);
   course = course_with g.course (g.items + 1) p x next;
 }
 

@@ -136,11 +136,7 @@ course_text between Blank stop = early_text between stop
 -- the label order that is described: an image without items has none
 abbrev pub course_shown : First → LabelOrder → LabelOrder
 course_shown firsts.Nothing course = Ended
-course_shown (firsts.Volume label) course = course
-course_shown firsts.Ebcdic course = course
-course_shown (firsts.Block n) course = course
-course_shown firsts.Bad course = course
-course_shown firsts.Mark course = course
+course_shown _ course = course
 
 -- the text of what the image probably is then
 abbrev pub guess_text : ImageFault → List ℕ

@@ -4,7 +4,7 @@ use Rattle.std.specs.Prelude.{ℕ, Bool, if◌then◌else◌, List, [], ◌∷�
 use Rattle.std.specs.Prelude.{Some, None, is_some, ◌||◌}
 use Rattle.tape_label.specs.Formats.{letter}
 use Rattle.tape_label.specs.declared.values.{Head1.Head1, Head2.Head2}
-use Rattle.tape_run.specs.declared.survey.glance.{First.First, ImageSummary.ImageSummary}
+use Rattle.tape_run.specs.declared.survey.glance.First.{First}
 use Rattle.tape_run.specs.declared.survey.{files.FileNote.FileNote, sets.Standing.Standing}
 use Rattle.tape_run.specs.declared.survey.{view.ImageSurvey.ImageSurvey, Wording.TheVariants.Rows}
 use Rattle.tape_run.specs.declared.section.SectionKey.{SectionKey}
@@ -39,45 +39,29 @@ head_cells (Some head) =
     trimmed_text head.set_id ++ (codes "\t" ++ trimmed_text head.implementation)
 head_cells None = codes "\t"
 
--- the numbers of items, sections and bad blocks
-abbrev pub count_cells : ImageSummary → List ℕ
-count_cells g =
-    decimal g.items ++ (codes "\t" ++ (decimal g.files ++ (codes "\t" ++ decimal g.bad)))
-
 -- the description of an image, which has a good copy of a section whose good copies differ or not,
--- or that it was not opened
-abbrev pub sight_cells : Option ImageSurvey → Bool → List ℕ
-sight_cells (Some s) disputed =
-    whole_cell disputed (is_sound s) ++ (codes "\t" ++ (volume_cell s.glance.first ++ (codes "\t"
-    ++ (head_cells s.glance.head ++ (codes "\t" ++ (count_cells s.glance ++ codes "\t"))))))
-    ++ stop_text s.stop ++ codes "\t" ++ owner_cell s.glance.first
-sight_cells None disputed = codes "NOT OPENED\t\t\t\t\t\t\t\t"
-
--- the description of an image in words, at the end of its row
-abbrev pub words_cell : Option ImageSurvey → Option SectionKey → List ℕ
-words_cell (Some s) key = codes "\t" ++ (seen_text (codes "; ") s key ++ codes "\n")
-words_cell None key = codes "\tnot opened\n"
+-- at last in words; or that it was not opened
+abbrev pub sight_cells : Option ImageSurvey → Option SectionKey → List ℕ
+sight_cells (Some s) key =
+    (codes "\t" ++ (whole_cell (is_some key) (is_sound s) ++ (codes "\t"
+    ++ (volume_cell s.glance.first ++ (codes "\t" ++ (head_cells s.glance.head ++ (codes "\t"
+    ++ (decimal s.glance.items ++ (codes "\t" ++ (decimal s.glance.files ++ (codes "\t"
+    ++ decimal s.glance.bad))))))))))) ++ (codes "\t" ++ (stop_text s.stop ++ (codes "\t"
+    ++ (owner_cell s.glance.first ++ (codes "\t" ++ (seen_text (codes "; ") s key
+    ++ codes "\n"))))))
+sight_cells None key = codes "\tNOT OPENED\t\t\t\t\t\t\t\t\tnot opened\n"
 
 -- the row of an image
 abbrev pub image_row : List ℕ → Option ImageSurvey → Option SectionKey → List ℕ
-image_row name sight key = codes "IMAGE\t" ++ name_text name ++ codes "\t"
-    ++ sight_cells sight (is_some key) ++ words_cell sight key
+image_row name sight key = codes "IMAGE\t" ++ name_text name ++ sight_cells sight key
 
--- the numbers of the section
-abbrev pub key_cells : List ℕ → ℕ → ℕ → List ℕ
-key_cells set_id file sect =
-    trimmed_text set_id ++ (codes "\t" ++ (decimal file ++ (codes "\t" ++ decimal sect)))
-
--- its trailer label ends the file
-abbrev pub eof_cell : Bool → List ℕ
-eof_cell eof = if eof then codes "EOF" else []
-
--- the row of a section
+-- the row of a section, with a word if its trailer label ends the file
 abbrev pub section_row : Told → List ℕ
 section_row (key, entry) =
-    codes "SECTION\t" ++ (key_cells key.set_id key.file key.sect ++ (codes "\t"
-    ++ (trimmed_text entry.volume ++ (codes "\t" ++ (decimal entry.blocks ++ (codes "\t"
-    ++ (state_text entry.state ++ (codes "\t" ++ (eof_cell entry.eof ++ codes "\n")))))))))
+    (codes "SECTION\t" ++ (trimmed_text key.set_id ++ (codes "\t" ++ (decimal key.file
+    ++ (codes "\t" ++ decimal key.sect))))) ++ (codes "\t" ++ (trimmed_text entry.volume
+    ++ (codes "\t" ++ (decimal entry.blocks ++ (codes "\t" ++ (state_text entry.state
+    ++ (codes "\t" ++ ((if entry.eof then codes "EOF" else []) ++ codes "\n"))))))))
 
 -- the facts about a file in its labels
 abbrev pub known_cells : Option FileNote → List ℕ

@@ -1,7 +1,8 @@
 -- What a survey says of sets and their files. The text is for people, and may change.
 use Rattle.std.specs.Prelude.{ℕ, zero, suc, ◌+◌, ◌-◌, ◌&&◌, ◌||◌, not, Bool, true, false}
 use Rattle.std.specs.Prelude.{if◌then◌else◌, List, [], ◌∷◌, ◌++◌, codes, decimal, Option, Some}
-use Rattle.std.specs.{Prelude.None, Prelude.is_some, Prelude.length, List.flat_map, List.repeat}
+use Rattle.std.specs.Prelude.{None, is_none, is_some, length}
+use Rattle.std.specs.List.{flat_map, repeat}
 use Rattle.tape_run.specs.declared.survey.sets.Standing.TheVariants.{Complete, Damaged, Behind}
 use Rattle.tape_run.specs.{declared.section.Entry.Entry, declared.survey.files.FileNote.FileNote}
 use Rattle.tape_run.specs.{declared.survey.sets.Standing.Standing, declared.survey.Wording.Wording}
@@ -10,7 +11,7 @@ use Rattle.tape_run.specs.declared.survey.Wording.TheVariants.{Words, Rows}
 use Rattle.tape_run.specs.{Dates.date_of, Dates.date_text, Identifier.identifier_text, Passing.Told}
 use Rattle.tape_run.specs.{SurveyCopies.dispute_at, SurveyCopies.is_agreed, SurveyGlance.one_if}
 use Rattle.tape_run.specs.{SurveyLine.trimmed_text, SurveyLine.damage_text, SurveyRead.Found}
-use Rattle.tape_run.specs.{SurveyProblems.problem_lines, SurveyTally.is_none}
+use Rattle.tape_run.specs.SurveyProblems.{problem_lines}
 use Rattle.tape_run.specs.Lacks.{entry_at, key_at, lack_of, found_all}
 use Rattle.tape_run.specs.SurveyFiles.{note_at, file_key, any_differs}
 
@@ -90,16 +91,13 @@ abbrev pub set_line : List ℕ → ℕ → ℕ → List ℕ
 set_line set_id complete files = codes "Set " ++ (trimmed_text set_id ++ (codes ": "
     ++ (decimal complete ++ (codes " of " ++ (decimal files ++ codes " files complete\n")))))
 
--- the line of a damaged section of a file that is complete without it
-abbrev pub stray_line : Told → List ℕ
-stray_line t = trimmed_text t.0.set_id ++ (codes " file " ++ (decimal t.0.file ++ (codes " section "
-    ++ (decimal t.0.sect ++ (codes " " ++ (damage_text t.1.state ++ (codes " on "
-    ++ (trimmed_text t.1.volume ++ codes ": the file ends before it\n"))))))))
-
 -- the line of a section, if the section is damaged and its file is complete without it
 abbrev pub stray_text : List Told → Told → List ℕ
 stray_text c t =
-    if is_good t.1.state || not (is_whole_file c t.0.set_id t.0.file) then [] else stray_line t
+    if is_good t.1.state || not (is_whole_file c t.0.set_id t.0.file) then []
+    else trimmed_text t.0.set_id ++ (codes " file " ++ (decimal t.0.file ++ (codes " section "
+    ++ (decimal t.0.sect ++ (codes " " ++ (damage_text t.1.state ++ (codes " on "
+    ++ (trimmed_text t.1.volume ++ codes ": the file ends before it\n"))))))))
 
 -- the lines of all such sections, in words; rows have the state of each section
 abbrev pub strays_text : Wording → List Told → List ℕ

@@ -2,7 +2,7 @@
 -- change.
 use Rattle.std.specs.Prelude.{ℕ, ◌+◌, ◌==◌, ◌&&◌, nat_le, min, length, Bool, true, false}
 use Rattle.std.specs.Prelude.{if◌then◌else◌, List, [], ◌∷◌, ◌++◌, codes, decimal, Option, Some}
-use Rattle.std.specs.Prelude.{None}
+use Rattle.std.specs.Prelude.{None, is_none}
 use Rattle.tape_image.specs.{declared.item.ImageFault.ImageFault, Fault.number_of}
 use Rattle.tape_run.specs.declared.section.{ImageStop.ImageStop, SectionKey.SectionKey}
 use Rattle.tape_run.specs.declared.survey.course.LabelOrder.{LabelOrder}
@@ -16,19 +16,13 @@ use Rattle.tape_run.specs.declared.survey.line.ImageState.TheVariants as states
 
 -- the image does not end with a fault
 abbrev pub is_end : ImageStop → Bool
-is_end Marked = true
-is_end Physical = true
 is_end (Fault fault) = false
+is_end _ = true
 
 -- the volume ended
 abbrev pub is_ended : LabelOrder → Bool
 is_ended Ended = true
 is_ended _ = false
-
--- nothing was found
-abbrev pub is_none : Option ℕ → Bool
-is_none None = true
-is_none (Some n) = false
 
 -- The items are a complete volume in its order, and each second header label can be read.
 abbrev pub is_whole_sight : ImageSurvey → Bool
@@ -64,9 +58,7 @@ abbrev pub state_by : First → ImageSurvey → ImageState
 state_by firsts.Nothing s = empty_state s.stop
 state_by (firsts.Volume label) s = volume_state s
 state_by firsts.Bad s = states.Damaged
-state_by firsts.Ebcdic s = states.Unsupported
-state_by (firsts.Block n) s = states.Unsupported
-state_by firsts.Mark s = states.Unsupported
+state_by _ s = states.Unsupported
 
 -- the state of an image: it is in conflict if it has a good copy of a section, given here, whose
 -- good copies differ

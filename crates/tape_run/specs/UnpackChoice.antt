@@ -24,12 +24,8 @@ Means word file = (word ≡ decimal file.file) ⊎ Fits word (trimmed_text file.
 abbrev pub IsOfSet : Option (List ℕ) → SetFile → Type 0
 IsOfSet set_id file = IfSome set_id (λ s. file.set_id ≡ s)
 
--- One of the words means the file, or there are no words.
-abbrev pub IsMeant : List (Bor (List ℕ)) → SetFile → Type 0
-IsMeant words file = (length words ≡ 0) ⊎ Any (λ w. Means w.now file) words
-
 -- The file belongs to the set that was named, if one was, and one of the words means the file, if
 -- there are any words.
 pub record Chosen (choice : FileChoice) (file : SetFile) : Type 0 where
   pub set : IsOfSet choice.set_id file
-  pub meant : IsMeant choice.words.now file
+  pub meant : (length choice.words.now ≡ 0) ⊎ Any (λ w. Means w.now file) choice.words.now

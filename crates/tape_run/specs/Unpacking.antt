@@ -124,15 +124,11 @@ fit b = if is_kept b && not (b == 37) then b ∷ [] else escape b
 abbrev pub fit_last : ℕ → List ℕ
 fit_last b = if (b == 32) || (b == 46) then escape b else fit b
 
--- the first bytes of a file identifier, or one space if there are none
-abbrev pub fit_first : ℕ → List ℕ → List ℕ
-fit_first n bytes =
+-- a file identifier without trailing spaces, or one space if it has no other characters
+abbrev pub fit_text : List ℕ → List ℕ
+fit_text bytes = let n = trimmed_len bytes in
     if n == 0 then fit_last 32
     else flat_map fit (take (n - 1) bytes) ++ fit_last (get_or bytes (n - 1) 32)
-
--- a file identifier without trailing spaces
-abbrev pub fit_text : List ℕ → List ℕ
-fit_text bytes = fit_first (trimmed_len bytes) bytes
 
 -- the name under which a file is unpacked
 abbrev pub file_name : List ℕ → ℕ → List ℕ → List ℕ

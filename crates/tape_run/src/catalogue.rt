@@ -13,7 +13,7 @@ use crate::sections::{Sections, close, take};
 use std::alloc::Global;
 use std::io::Read;
 use std::marker::Model;
-use tape_image::{Ending, ImageReader};
+use tape_image::{Ending, ImageBuffer, ImageReader};
 
 /// The file sections found on reels, in the order in which they were found first.
 ///
@@ -62,10 +62,7 @@ impl Catalogue {
         ensures err { OnErr result (AddsInPart (R.remaining reader.old) self.old self.new) }
         ensures fault { IsOkUnless result faults.OutOfMemory }
     {
-        let mut image = match ImageReader::new(self.alloc, reader) {
-            Ok(image) => image,
-            Err(_) => return Err(RunFault::OutOfMemory),
-        };
+        let mut image = ImageReader::over(ImageBuffer::new(self.alloc)?, reader);
         let added = add_items(&mut self.sections, &mut image);
         // The caller gets back the rest of the reader.
         image.into_device();

@@ -1,23 +1,20 @@
 //! `check`: which file sections are on any images, which of them are complete, and which are
 //! missing.
 
-ghost use Rattle.std.specs.Prelude.{◌≡◌, [], map, option_map, IfOk, IfErr, OnOk, OnErr};
+ghost use Rattle.std.specs.Prelude.{◌≡◌, IfOk, IfErr, OnOk, OnErr};
 ghost use Rattle.std.specs.{List.flat_map, Io.KnownBytes.Appends};
-ghost use Rattle.tape_run.specs.Checked.{AddsImage, TellsImages};
-ghost use Rattle.tape_run.specs.Lacks.{line_of, set_lacks, found_all};
-ghost use Rattle.tape_run.specs.CheckLine.{section_line, lack_line};
-ghost use Rattle.tape_run.specs.Checked.{last_line, summary, Reports, ReportsInPart, IsCheckFault};
+ghost use Rattle.tape_run.specs.{Lacks.set_lacks, Lacks.found_all, CheckLine.lack_line};
+ghost use Rattle.tape_run.specs.Checked.{summary, Reports, ReportsInPart, IsCheckFault};
 ghost use Rattle.tape_image.specs.Written.{AppendsFront};
 
 use crate::catalogue::Catalogue;
 use crate::check_line::{ImageRow, state_text};
 use crate::extract::images::ImageSource;
-use crate::fault::{EngineFault, NO_MEMORY, WriteFailed};
+use crate::fault::{EngineFault, WriteFailed};
 use crate::report::{Sets, found_all, next_lack, sets_of};
-use crate::section::ImageLine;
 use crate::sections::Sections;
 use crate::text::{Identifier, flush, pass_line, write_line, write_text};
-use std::alloc::{AllocError, Global};
+use std::alloc::Global;
 use std::io::{Read, Write};
 
 /// Reports the file sections on the images: a line for each image, a line for each section in the
@@ -46,51 +43,16 @@ pub fn check_to<R: Read + Drop, L: ImageSource<R>, P: Write>(
     ensures fault { IfErr result IsCheckFault }
 {
     let mut catalogue = Catalogue::new(alloc);
-    check_images(&mut catalogue, images, report)?;
-    summarize(alloc, &catalogue.sections, report)
-}
-
-/// Opens the images in their order, adds the sections on each, and writes and flushes its line.
-fn check_images<R: Read + Drop, L: ImageSource<R>, P: Write>(
-    catalogue: &mut Catalogue,
-    images: &mut L,
-    report: &mut P,
-) -> Result<(), EngineFault>
-    requires { catalogue.old ≡ [] }
-    ensures ok { OnOk result (TellsImages L.size L.gives R.remaining images.old images.new
-        catalogue.new (P.contents report.old) (P.contents report.new)) }
-    ensures front { OnErr result (ReportsInPart L.size L.gives R.remaining images.old images.new
-        (P.contents report.old) (P.contents report.new)) }
-    ensures fault { IfErr result IsCheckFault }
-{
     for number in 0..images.count() {
-        let Ok(image) = images.mount(number) else {
-            return Err(NO_MEMORY);
-        };
-        let Ok(met) = read_image(catalogue, image) else {
-            return Err(NO_MEMORY);
+        let image = images.mount(number)?;
+        let met = match image {
+            Some(mut device) => Some(catalogue.add(&mut device)?),
+            None => None,
         };
         let number = number + 1;
         pass_line(report, &ImageRow { number, met })?;
     }
-    Ok(())
-}
-
-/// Adds the sections on an image, if it was opened.
-fn read_image<R: Read + Drop>(
-    catalogue: &mut Catalogue,
-    image: Option<R>,
-) -> Result<Option<ImageLine>, AllocError>
-    ensures { IfOk result (λ met.
-        AddsImage (option_map R.remaining image) met catalogue.old catalogue.new) }
-{
-    let Some(mut device) = image else {
-        return Ok(None);
-    };
-    match catalogue.add(&mut device) {
-        Ok(met) => Ok(Some(met)),
-        Err(_) => Err(AllocError),
-    }
+    summarize(alloc, &catalogue.sections, report)
 }
 
 /// Writes the part of the report that follows the lines of the images, and returns whether all
@@ -107,27 +69,8 @@ fn summarize<P: Write>(
         (summary sections.now.entries)) }
     ensures fault { IfErr result IsCheckFault }
 {
-    let Ok(sets) = sets_of(alloc, sections) else {
-        return Err(NO_MEMORY);
-    };
-    write_sections(report, sections)?;
-    write_lacks(report, sections, &sets)?;
-    let found = found_all(sections, &sets);
-    pass_on(report, last_line(found))?;
-    Ok(found)
-}
-
-/// Writes a line for each section.
-fn write_sections<P: Write>(report: &mut P, sections: &Sections) -> Result<(), WriteFailed>
-    ensures ok { OnOk result (Appends (P.contents report.old) (P.contents report.new)
-        (flat_map section_line (map line_of sections.now.entries))) }
-    ensures front { OnErr result (AppendsFront (P.contents report.old) (P.contents report.new)
-        (flat_map section_line (map line_of sections.now.entries))) }
-{
-    for place in 0..sections.len() {
-        let Some((key, entry)) = sections.get_index(place) else {
-            unreachable!()
-        };
+    let sets = sets_of(alloc, sections)?;
+    for (key, entry) in sections {
         let (set_id, volume) = (Identifier(&key.set_id), Identifier(&entry.volume));
         let (file, sect, blocks) = (key.file, key.sect, entry.blocks);
         let state = state_text(entry.state);
@@ -135,7 +78,11 @@ fn write_sections<P: Write>(report: &mut P, sections: &Sections) -> Result<(), W
         let line = format_args!("SECTION {name} {volume} {blocks} {state}\n");
         write_line(report, &line)?;
     }
-    Ok(())
+    write_lacks(report, sections, &sets)?;
+    let found = found_all(sections, &sets);
+    let last: &[u8] = if found { b"ALL SECTIONS FOUND\n" } else { b"" };
+    pass_on(report, last)?;
+    Ok(found)
 }
 
 /// Writes a line for each missing section.
@@ -169,11 +116,4 @@ pub(crate) fn pass_on<P: Write>(report: &mut P, text: &[u8]) -> Result<(), Write
 {
     write_text(report, text)?;
     flush(report)
-}
-
-/// Returns the last line, which is printed if all was found.
-fn last_line(found: bool) -> &'static [u8]
-    ensures { result.now ≡ last_line found }
-{
-    if found { b"ALL SECTIONS FOUND\n" } else { b"" }
 }

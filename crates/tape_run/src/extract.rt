@@ -25,7 +25,7 @@ use crate::session::Session;
 use crate::text::{flush, write_text};
 pub use again::extract_in_passes;
 use front::{write_front, write_rest};
-use images::read_images;
+use images::read_round;
 pub use line::{ReelLine, ReportLine, last_line};
 pub use located::{Mounted, extract_located};
 pub use now::{Place, extract_streaming};
@@ -83,7 +83,8 @@ pub fn extract_to<S: PartWalk, R: Read + Drop, L: ImageSource<R>, W: Write, P: W
     ensures calm { OnOk result (IsCalm S.PartSink session.old session.new) }
 {
     let back = has_note(session);
-    read_images(session, images, back, false, report)?;
+    let count = images.count();
+    read_round(session, images, count, 0, back, false, report)?;
     end_file(session, form, out, report)
 }
 

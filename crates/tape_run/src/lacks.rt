@@ -3,12 +3,9 @@
 ghost use Rattle.std.specs.Prelude.{◌≡◌, ◌+◌, ◌≤◌};
 ghost use Rattle.tape_run.specs.Lacks.{entry_at, good_end, first_lack, lack_of};
 
-use crate::section::SectionKey;
+use crate::section::{LAST_SECTION, SectionKey};
 use crate::sections::Sections;
 use tape_label::Field;
-
-/// The greatest number of a section.
-const MOST: u16 = 9_999;
 
 /// Returns whether the good section with this key ends its file, or `None` if there is no good copy
 /// of it.
@@ -47,5 +44,5 @@ fn first_lack(sections: &Sections, set_id: Field<6>, file: u16, from: u16, most:
 pub(crate) fn lack_of(sections: &Sections, set_id: Field<6>, file: u16) -> Option<u16>
     ensures { result ≡ lack_of sections.now.entries set_id file }
 {
-    first_lack(sections, set_id, file, 1, MOST)
+    first_lack(sections, set_id, file, 1, LAST_SECTION)
 }

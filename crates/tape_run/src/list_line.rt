@@ -5,9 +5,8 @@ ghost use Rattle.arrayvec.specs.ArrayVec.{array_vec_len};
 ghost use Rattle.tape_image.specs.{Reader.tape_item, Tape.IsTapeItem};
 ghost use Rattle.tape_label.specs.{Digits.digits, Head1.HeadFits, Head2.Head2Fits, Labels.IsLabel};
 ghost use Rattle.tape_label.specs.Kinds.{identifier};
-ghost use Rattle.tape_blocks.specs.Packing.{longest_block};
 ghost use Rattle.tape_run.specs.ListLine.{item_number, head_text, head2_text, label_text};
-ghost use Rattle.tape_run.specs.ListLine.{block_text, item_text, line_of};
+ghost use Rattle.tape_run.specs.ListLine.{item_text, line_of};
 
 use crate::text::{put, put_identifier};
 use arrayvec::ArrayVec;
@@ -47,7 +46,7 @@ fn put_item_number(line: &mut Line, number: u64)
     }
 }
 
-/// Appends the text about an item.
+/// Appends the text about an item: a block as the label that it reads as, otherwise by its length.
 fn put_item(line: &mut Line, item: Item<'_>)
     requires room { array_vec_len line.old ≤ 11 }
     requires fits { IsTapeItem (tape_item item) }
@@ -55,25 +54,15 @@ fn put_item(line: &mut Line, item: Item<'_>)
     ensures len { array_vec_len line.new ≤ 63 }
 {
     match item {
-        Item::Block(bytes) => put_block(line, bytes),
+        Item::Block(bytes) => match tape_label::read_label(bytes) {
+            Ok(label) => put_label(line, &label),
+            Err(_) => {
+                put(line, b"BLOCK ");
+                put_number::<5>(line, bytes.len() as u64);
+            }
+        },
         Item::Bad => put(line, b"BAD"),
         Item::Mark => put(line, b"MARK"),
-    }
-}
-
-/// Appends a block, as the label that it reads as, otherwise by its length.
-fn put_block(line: &mut Line, bytes: &[u8])
-    requires room { array_vec_len line.old ≤ 11 }
-    requires fits { length bytes.now ≤ longest_block }
-    ensures items { line.new.items ≡ line.old.items ++ block_text bytes.now }
-    ensures len { array_vec_len line.new ≤ 63 }
-{
-    match tape_label::read_label(bytes) {
-        Ok(label) => put_label(line, &label),
-        Err(_) => {
-            put(line, b"BLOCK ");
-            put_number::<5>(line, bytes.len() as u64);
-        }
     }
 }
 

@@ -2,7 +2,7 @@
 
 ghost use Rattle.std.specs.Prelude.{◌≡◌, ◌<◌, ◌≤◌, ◌+◌, ◌==◌, IfOk, IfErr, None};
 ghost use Rattle.tape_image.specs.Writer.{writing};
-ghost use Rattle.tape_run.specs.MergeSteps.{AskedAll, one_if};
+ghost use Rattle.tape_run.specs.MergeSteps.{AskedAll, HaveTaken, one_if};
 ghost use Rattle.tape_run.specs.MergeCalls.{Merges, FitsFault, firsts_in, miscounted_of};
 ghost use Rattle.tape_run.specs.declared.merge.MergeFault.TheVariants as faults;
 
@@ -146,8 +146,8 @@ pub fn merge_items<R: Read, W: Write + Drop, G: Write>(
     log: &mut G,
 ) -> Result<Merged, MergeFault>
     requires writing { out.old.standing ≡ writing }
-    ensures ok { IfOk result (λ merged. Merges readings.old readings.new merged
-        out.old out.new (G.contents log.old) (G.contents log.new)) }
+    ensures ok { IfOk result (λ merged. Merges (HaveTaken readings.old readings.new)
+        readings.new merged out.old out.new (G.contents log.old) (G.contents log.new)) }
     ensures fault { IfErr result (FitsFault readings.old readings.new out.old out.new) }
 {
     let mut merged = Merged {

@@ -1,15 +1,15 @@
 //! Reads a reel into a sink, and returns the outcome.
 
 ghost use Rattle.std.specs.Prelude.{◌≡◌, ℕ, ◌+◌, ◌++◌, ◌<◌, ◌≤◌, List, Some, None, OnOk, OnErr};
-ghost use Rattle.std.specs.Prelude.{IfOk, IfErr, IfSome, length, drop, Bool};
+ghost use Rattle.std.specs.Prelude.{IfOk, IfErr, IfSome, length, drop};
 ghost use Rattle.tape_image.specs.Reader.{going, seen, IfKnown};
-ghost use Rattle.tape_blocks.specs.{Block.Portion, Block.Holds, Spans.InOrder};
+ghost use Rattle.tape_blocks.specs.{Block.Portion, Block.Holds};
 ghost use Rattle.tape_blocks.specs.Packing.{longest_block};
 ghost use Rattle.tape_set.specs.{Lawful.FileForm, Position.part_of};
 ghost use Rattle.tape_core.specs.{Follows.IsAwaited, Place.rest_of, Place.place_of, Arrive.arrival};
 ghost use Rattle.tape_core.specs.{Table.saved, Table.after_block, Weight.IsFront};
 ghost use Rattle.tape_run.specs.{Crash.BringsNoMore, Given.is_device, Steps.IsRefused};
-ghost use Rattle.tape_run.specs.Puts.{refused_point, PutUpTo, PutsFew};
+ghost use Rattle.tape_run.specs.Puts.{refused_point, PutUpTo};
 ghost use Rattle.tape_run.specs.Reels.{ReadsReel, ReadsToBlock, StopsAt};
 ghost use Rattle.tape_run.specs.Taking.{ReadsImage, CutsTable, came_of, fault_of};
 
@@ -55,64 +55,6 @@ impl ReelAnswer {
     }
 }
 
-/// A part of a block that a sink refused.
-#[derive(Clone, Copy)]
-pub struct Refused {
-    /// The reason why the part was refused.
-    pub cause: SinkFault,
-    /// The part's number in its block, counted from 0.
-    pub part: u32,
-    /// Whether a record is unfinished after the parts before it.
-    pub begun: bool,
-}
-
-/// Puts the parts of a checked block from part `first` on. `begun` says whether a record is
-/// unfinished before it.
-#[inline(always)]
-pub fn put_parts<S: PartSink>(
-    sink: &mut S,
-    shape: &Shape,
-    block: &[u8],
-    first: u32,
-    begun: bool,
-) -> Result<(), Refused>
-    requires short { length block.now ≤ longest_block }
-    requires checked { (begun : Bool) × (end : Bool) × (parts : List Portion)
-        × Holds shape.now.format shape.now.rec_len shape.now.offset block.now parts
-        × InOrder begun parts end }
-    ensures ok { OnOk result ((held parts : List Portion)
-        → Holds shape.now.format shape.now.rec_len shape.now.offset block.now parts
-        → S.holds sink.old held → S.holds sink.new (held ++ drop first parts)) }
-    ensures err { IfErr result (λ refused. (held parts : List Portion)
-        → Holds shape.now.format shape.now.rec_len shape.now.offset block.now parts
-        → S.holds sink.old held → PutsFew (S.holds sink.new) held parts first begun refused) }
-    ensures within { IfErr result (λ refused. (first ≤ refused.part)
-        × (refused.part ≤ longest_block)) }
-    ensures cause { IfErr result (λ refused. IsRefused S.refusals S.refuses_change sink.old
-        refused.cause sink.new) }
-    ensures calm { OnOk result (S.refusals sink.new ≡ S.refusals sink.old) }
-    ensures crash { BringsNoMore S.PartSink sink.old sink.new }
-{
-    let mut going = begun;
-    let mut seen = 0u32;
-    for part in Parts::new(shape, block) {
-        if first <= seen {
-            match sink.put(part) {
-                Ok(()) => going = part.span.leaves(),
-                Err(cause) => {
-                    return Err(Refused {
-                        cause,
-                        part: seen,
-                        begun: going,
-                    });
-                }
-            }
-        }
-        seen += 1;
-    }
-    Ok(())
-}
-
 /// A core, and the sink of what it delivers.
 #[derive(Drop)]
 pub struct ReelReader<S> {
@@ -121,7 +63,6 @@ pub struct ReelReader<S> {
 }
 
 /// Returns the event for the result of an image's reader, and the image's fault, if any.
-#[inline(always)]
 fn event_of<'a>(told: Result<Option<Item<'a>>, ImageFault>) -> (Event<'a>, Option<ImageFault>)
     ensures comes { arrival result.0 ≡ came_of (seen told.entry) }
     ensures fault { result.1 ≡ fault_of (seen told.entry) }
@@ -135,27 +76,27 @@ fn event_of<'a>(told: Result<Option<Item<'a>>, ImageFault>) -> (Event<'a>, Optio
     }
 }
 
-/// Moves a core to the refused part of the expected block.
+/// Moves a core to part `part` of the expected block, which was refused. `begun` says whether a
+/// record is unfinished before it.
 #[cold]
 #[inline(never)]
-fn go_back(core: &mut ReaderCore, awaited: Awaited, refused: &Refused)
-    requires awaited { (bytes : List ℕ) × IsAwaited core.old bytes awaited }
-    requires from { part_of core.old.position ≤ refused.now.part }
-    requires few { refused.now.part ≤ longest_block }
+fn go_back(core: &mut ReaderCore, awaited: &Awaited, part: u32, begun: bool)
+    requires awaited { (bytes : List ℕ) × IsAwaited core.old bytes awaited.now }
+    requires from { part_of core.old.position ≤ part }
+    requires few { part ≤ longest_block }
     ensures back { core.new ≡ place_of (refused_point (saved core.old 0)
-        (saved (after_block core.old awaited.end) 0) refused.now.part refused.now.begun) }
+        (saved (after_block core.old awaited.now.end) 0) part begun) }
     ensures set_id { core.new.set_id ≡ core.old.set_id }
     ensures file { core.new.file ≡ core.old.file }
 {
     let before = core.save(0);
-    if refused.part == awaited.part {
+    if part == awaited.part {
         *core = ReaderCore::at(&before);
         return;
     }
     core.deliver(awaited.end);
     let after = core.save(0);
-    let position = before.position();
-    *core = ReaderCore::at(&after.inside_block(position, refused.part, refused.begun, 0));
+    *core = ReaderCore::at(&after.inside_block(before.position(), part, begun, 0));
 }
 
 impl<S: PartSink> ReelReader<S> {
@@ -186,17 +127,23 @@ impl<S: PartSink> ReelReader<S> {
         ensures calm { OnOk result (S.refusals self.new.sink ≡ S.refusals self.old.sink) }
         ensures crash { BringsNoMore S.PartSink self.old.sink self.new.sink }
     {
-        let (first, begun) = (awaited.part, awaited.begun);
-        match put_parts(&mut self.sink, &awaited.shape, content, first, begun) {
-            Ok(()) => {
-                self.core.deliver(awaited.end);
-                Ok(())
+        let first = awaited.part;
+        let mut begun = awaited.begun;
+        let mut seen = 0u32;
+        for part in Parts::new(&awaited.shape, content) {
+            if first <= seen {
+                match self.sink.put(part) {
+                    Ok(()) => begun = part.span.leaves(),
+                    Err(cause) => {
+                        go_back(&mut self.core, awaited, seen, begun);
+                        return Err(cause);
+                    }
+                }
             }
-            Err(refused) => {
-                go_back(&mut self.core, *awaited, &refused);
-                Err(refused.cause)
-            }
+            seen += 1;
         }
+        self.core.deliver(awaited.end);
+        Ok(())
     }
 
     /// Processes the items of an unread image, up to a final answer, the end of the medium or a
@@ -232,14 +179,15 @@ impl<S: PartSink> ReelReader<S> {
     {
         let mut blocks = 0u32;
         'items: loop {
-            let (event, fault) = event_of(image.next());
-            if let Event::Block(block) = event {
+            let told = image.next();
+            if let Ok(Some(Item::Block(block))) = told {
                 if let Some(awaited) = self.core.awaited(block) {
                     self.put_block(&awaited, block)?;
                     blocks += 1;
                     continue 'items;
                 }
             }
+            let (event, fault) = event_of(told);
             match self.core.step(event) {
                 Answer::Passed => continue 'items,
                 answer => return Ok(ReelAnswer::new(answer, fault, blocks)),

@@ -1,9 +1,8 @@
 //! The sections of a catalogue, and the missing ones.
 
-ghost use Rattle.std.specs.Prelude.{◌≡◌, ◌<◌, ◌+◌, [], length, map, take, IfOk, OnOk};
-ghost use Rattle.std.specs.{Map.lookup, Result.IsOkUnless, Str.bytes_eq};
-ghost use Rattle.tape_run.specs.Lacks.{line_of, greatest, with_file, sets_from, set_lacks, lacks};
-ghost use Rattle.tape_run.specs.{Lacks.found_all, NextLack.IsNext};
+ghost use Rattle.std.specs.{Prelude.◌≡◌, Prelude.[], Prelude.map, Prelude.IfOk, Result.IsOkUnless};
+ghost use Rattle.tape_run.specs.Lacks.{line_of, sets_from, set_lacks, lacks, found_all};
+ghost use Rattle.tape_run.specs.NextLack.{IsNext};
 ghost use Rattle.tape_run.specs.declared.fault.RunFault.TheVariants as faults;
 
 use crate::catalogue::Catalogue;
@@ -43,78 +42,18 @@ pub(crate) fn line_of(key: &SectionKey, entry: &Entry) -> SectionLine
     }
 }
 
-/// Appends the line about the section at index `place`.
-fn add_line(
-    lines: &mut Vec<SectionLine>,
-    sections: &Sections,
-    place: usize,
-) -> Result<(), AllocError>
-    requires { place < length sections.now.entries }
-    ensures { OnOk result (lines.old.items ≡ map line_of (take place sections.now.entries)
-        → lines.new.items ≡ map line_of (take (place + 1) sections.now.entries)) }
-{
-    let Some((key, entry)) = sections.get_index(place) else {
-        unreachable!()
-    };
-    match lines.push(line_of(key, entry)) {
-        Ok(()) => Ok(()),
-        Err(_) => Err(AllocError),
-    }
-}
-
-/// Returns a line for each section.
-fn lines_of(alloc: Global, sections: &Sections) -> Result<Vec<SectionLine>, AllocError>
-    ensures { IfOk result (λ lines. lines.items ≡ map line_of sections.now.entries) }
-{
-    let mut lines = Vec::new(alloc);
-    for place in 0..sections.len() {
-        add_line(&mut lines, sections, place)?;
-    }
-    Ok(lines)
-}
-
-/// Returns the greatest number of a file of a set, after one more file was found.
-fn greatest_of(sets: &Sets, set_id: &Field<6>, file: u16) -> u16
-    ensures { result ≡ greatest (lookup (bytes_eq set_id.now) sets.now.entries) file }
-{
-    match sets.get(set_id) {
-        Some(known) => (*known).max(file),
-        None => file,
-    }
-}
-
-/// Records that a file of a set was found.
-fn note_file(sets: &mut Sets, set_id: Field<6>, file: u16) -> Result<(), AllocError>
-    ensures { OnOk result (sets.new.entries ≡ with_file sets.old.entries set_id file) }
-{
-    let greatest = greatest_of(sets, &set_id, file);
-    match sets.insert(set_id, greatest) {
-        Ok(_) => Ok(()),
-        Err(_) => Err(AllocError),
-    }
-}
-
-/// Adds the file of the section at index `place`, after the files of the sections before it.
-fn note_place(sets: &mut Sets, sections: &Sections, place: usize) -> Result<(), AllocError>
-    requires { place < length sections.now.entries }
-    ensures { OnOk result (sets.old.entries ≡ sets_from [] (take place sections.now.entries)
-        → sets.new.entries ≡ sets_from [] (take (place + 1) sections.now.entries)) }
-{
-    let Some((key, _)) = sections.get_index(place) else {
-        unreachable!()
-    };
-    note_file(sets, key.set_id, key.file)?;
-    Ok(())
-}
-
 /// Returns the sets in the order in which they were found first, each with the greatest number of a
 /// file.
 pub(crate) fn sets_of(alloc: Global, sections: &Sections) -> Result<Sets, AllocError>
     ensures { IfOk result (λ sets. sets.entries ≡ sets_from [] sections.now.entries) }
 {
     let mut sets = Sets::new(alloc);
-    for place in 0..sections.len() {
-        note_place(&mut sets, sections, place)?;
+    for (key, _) in sections {
+        let greatest = match sets.get(&key.set_id) {
+            Some(known) => (*known).max(key.file),
+            None => key.file,
+        };
+        sets.insert(key.set_id, greatest)?;
     }
     Ok(sets)
 }
@@ -166,26 +105,9 @@ fn lacks_of(alloc: Global, sections: &Sections, sets: &Sets) -> Result<Vec<Lack>
     'search: while let Some((set, lack)) = next_lack(sections, sets, place, file) {
         place = set;
         file = lack.file;
-        match lacks.push(lack) {
-            Ok(()) => {}
-            Err(_) => return Err(AllocError),
-        }
+        lacks.push(lack)?;
     }
     Ok(lacks)
-}
-
-/// Returns the report on the given sections.
-pub(crate) fn report_of(alloc: Global, sections: &Sections) -> Result<Report, AllocError>
-    ensures lines { IfOk result (λ report. report.lines ≡ map line_of sections.now.entries) }
-    ensures lacks { IfOk result (λ report. report.lacks ≡ lacks sections.now.entries) }
-{
-    let lines = lines_of(alloc, sections)?;
-    let sets = sets_of(alloc, sections)?;
-    let lacks = lacks_of(alloc, sections, &sets)?;
-    Ok(Report {
-        lines: Sequence::of_vec(lines),
-        lacks: Sequence::of_vec(lacks),
-    })
 }
 
 /// Returns the sections of a catalogue, and the first missing section of each incomplete file.
@@ -198,8 +120,15 @@ pub fn check_set(alloc: Global, catalogue: &Catalogue) -> Result<Report, RunFaul
     ensures lacks { IfOk result (λ report. report.lacks ≡ lacks catalogue.now) }
     ensures err { IsOkUnless result faults.OutOfMemory }
 {
-    match report_of(alloc, &catalogue.sections) {
-        Ok(report) => Ok(report),
-        Err(_) => Err(RunFault::OutOfMemory),
+    let sections = &catalogue.sections;
+    let mut lines = Vec::new(alloc);
+    for (key, entry) in sections {
+        lines.push(line_of(key, entry))?;
     }
+    let sets = sets_of(alloc, sections)?;
+    let lacks = lacks_of(alloc, sections, &sets)?;
+    Ok(Report {
+        lines: Sequence::of_vec(lines),
+        lacks: Sequence::of_vec(lacks),
+    })
 }

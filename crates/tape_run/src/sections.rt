@@ -4,7 +4,7 @@ ghost use Rattle.std.specs.{Result.IsOkUnless, Map.lookup};
 ghost use Rattle.std.specs.Prelude.{◌≡◌, ◌≢◌, ◌<◌, None, OnOk, OnErr, IfOk, IsOk};
 ghost use Rattle.tape_run.specs.declared.fault.RunFault.TheVariants as faults;
 ghost use Rattle.indexmap.specs.IndexMap.{spare};
-ghost use Rattle.tape_run.specs.Noted.{same_key, is_good, better, kept, noted, noted_all};
+ghost use Rattle.tape_run.specs.Noted.{same_key, is_good, kept, noted, noted_all};
 ghost use Rattle.tape_run.specs.Passing.{in_list, under_way, blocks_of, step};
 ghost use Rattle.tape_image.specs.Reader.{tape_item};
 ghost use Rattle.tape_set.specs.Lawful.{most_blocks};
@@ -28,23 +28,14 @@ impl SectionState {
     }
 }
 
-/// Returns the better of two entries for a section that is found again.
-fn better(old: Entry, new: Entry) -> Entry
-    ensures { result ≡ better old new }
-{
-    if new.state.is_good() && !old.state.is_good() {
-        return new;
-    }
-    old
-}
-
-/// Returns the entry to keep for a section that is found, given the sections so far.
+/// Returns the entry to keep for a section that is found, given the sections so far: the first one,
+/// unless a complete copy replaces one that is not.
 fn kept_of(sections: &Sections, key: &SectionKey, entry: Entry) -> Entry
     ensures { result ≡ kept (lookup (same_key key.now) sections.now.entries) entry }
 {
     match sections.get(key) {
-        Some(old) => better(*old, entry),
-        None => entry,
+        Some(old) if old.state.is_good() || !entry.state.is_good() => *old,
+        _ => entry,
     }
 }
 
@@ -56,10 +47,8 @@ fn note(sections: &mut Sections, key: SectionKey, entry: Entry) -> Result<(), Ru
     ensures room { 0 < spare sections.old → IsOk result }
 {
     let kept = kept_of(sections, &key, entry);
-    match sections.insert(key, kept) {
-        Ok(_) => Ok(()),
-        Err(_) => Err(RunFault::OutOfMemory),
-    }
+    sections.insert(key, kept)?;
+    Ok(())
 }
 
 /// Allocates room for a section once the mark after its headers was found, so that it can be added
@@ -72,10 +61,8 @@ fn make_room(sections: &mut Sections, phase: &Phase) -> Result<(), RunFault>
     if phase.under_way().is_none() {
         return Ok(());
     }
-    match sections.reserve(1) {
-        Ok(()) => Ok(()),
-        Err(_) => Err(RunFault::OutOfMemory),
-    }
+    sections.reserve(1)?;
+    Ok(())
 }
 
 /// Adds the section that was completed, if any.

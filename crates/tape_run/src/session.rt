@@ -156,8 +156,8 @@ impl<S: PartSink> Session<S> {
         // no byte after what ended the reading was read.
         ensures answer { IfOk result (λ answer. IfKnown (R.remaining device.old)
             (R.remaining device.new)
-            (λ bytes left. Reads self.old.core.position self.old.core bytes left answer
-            self.new.core)) }
+            (λ bytes left. Reads self.old.core.position self.old.core (mount_of self.old.core)
+            bytes left answer self.new.core)) }
         // Whatever was read, the answer is Complete exactly if nothing is missing any more.
         ensures complete { IfOk result (λ answer. answer.answer ≡ Answer.Complete
             → self.new.core.position ≡ Position.Finished) }

@@ -27,7 +27,7 @@ mod volumes;
 
 use crate::check::pass_on;
 use crate::extract::images::ImageSource;
-use crate::fault::{EngineFault, NO_MEMORY};
+use crate::fault::EngineFault;
 use compared::add_copies;
 use copies::{Held, disputed_on};
 use line::{image_line, state_at};
@@ -80,12 +80,8 @@ pub fn survey_to<R: Read + Drop, L: ImageSource<R>, P: Write>(
     ensures fault { IfErr result IsCheckFault }
 {
     let mut findings = Findings::new(alloc);
-    let Ok(sights) = read_images(&mut findings, images, names.len()) else {
-        return Err(NO_MEMORY);
-    };
-    let Ok((text, all)) = survey_text(&findings, sights.as_slice(), names, wording) else {
-        return Err(NO_MEMORY);
-    };
+    let sights = read_images(&mut findings, images, names.len())?;
+    let (text, all) = survey_text(&findings, sights.as_slice(), names, wording)?;
     pass_on(report, text.as_slice())?;
     Ok(all)
 }

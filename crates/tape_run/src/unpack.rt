@@ -6,16 +6,16 @@ pub mod name;
 mod order;
 pub mod tally;
 
-ghost use Rattle.std.specs.Prelude.{◌≡◌, ◌<◌, ◌+◌, ◌++◌, length, take, IfOk, OnOk};
+ghost use Rattle.std.specs.{Prelude.◌≡◌, Prelude.◌++◌, Prelude.IfOk, Prelude.OnOk};
 ghost use Rattle.std.specs.Result.{IsOkUnless};
-ghost use Rattle.tape_run.specs.Unpacking.{file_at, files_from, set_files, files_of};
+ghost use Rattle.tape_run.specs.Unpacking.{file_at, files_from, files_of};
 ghost use Rattle.tape_run.specs.Unpacking.{is_read, is_passed, set_of, volume_of, FilesOn};
 ghost use Rattle.tape_run.specs.declared.fault.RunFault.TheVariants as faults;
 
 use crate::extract::images::ImageSource;
 use crate::fault::RunFault;
 use crate::lacks::lack_of;
-use crate::report::{Sets, sets_of};
+use crate::report::sets_of;
 use crate::survey::files::FileKey;
 use crate::survey::glance::First;
 use crate::survey::locations::Locations;
@@ -75,15 +75,13 @@ pub fn find_files<R: Read + Drop, L: ImageSource<R>>(
     let count = images.count();
     let sights = read_images(&mut findings, images, count)?;
     let whole = findings.whole;
-    match files_of(alloc, &findings) {
-        Ok(files) => Ok(FoundFiles {
-            files: Sequence::of_vec(files),
-            images: Sequence::of_vec(sights),
-            whole,
-            locations: findings.locations,
-        }),
-        Err(_) => Err(RunFault::OutOfMemory),
-    }
+    let files = files_of(alloc, &findings)?;
+    Ok(FoundFiles {
+        files: Sequence::of_vec(files),
+        images: Sequence::of_vec(sights),
+        whole,
+        locations: findings.locations,
+    })
 }
 
 /// Returns whether an image was read completely: it was opened, and is a volume from its label to
@@ -149,17 +147,14 @@ fn add_file(
     let Some(note) = findings.files.get(&key) else {
         return Ok(());
     };
-    let added = files.push(SetFile {
+    files.push(SetFile {
         set_id,
         file,
         file_id: note.head.file_id,
         differs: note.differs || findings.copies.dispute(&key).is_some(),
         lacks: lack_of(&findings.sections, set_id, file),
-    });
-    match added {
-        Ok(()) => Ok(()),
-        Err(_) => Err(AllocError),
-    }
+    })?;
+    Ok(())
 }
 
 /// Adds the files of a set, up to the greatest number of one.
@@ -178,45 +173,14 @@ fn add_files(
     Ok(())
 }
 
-/// Adds the files of the set at index `place` to those of the sets before it.
-fn add_place(
-    files: &mut Vec<SetFile>,
-    findings: &Findings,
-    sets: &Sets,
-    place: usize,
-) -> Result<(), AllocError>
-    requires { place < length sets.now.entries }
-    ensures { OnOk result (
-        files.old.items ≡ set_files findings.now (take place sets.now.entries)
-        → files.new.items ≡ set_files findings.now (take (place + 1) sets.now.entries)) }
-{
-    let Some((set_id, greatest)) = sets.get_index(place) else {
-        unreachable!()
-    };
-    add_files(files, findings, *set_id, *greatest)?;
-    Ok(())
-}
-
-/// Returns the files of the given sets.
-fn files_of_sets(
-    alloc: Global,
-    findings: &Findings,
-    sets: &Sets,
-) -> Result<Vec<SetFile>, AllocError>
-    ensures { IfOk result (λ files. files.items ≡ set_files findings.now sets.now.entries) }
-{
-    let mut files = Vec::new(alloc);
-    for place in 0..sets.len() {
-        add_place(&mut files, findings, sets, place)?;
-    }
-    Ok(files)
-}
-
 /// Returns the files of all sets that were found.
 fn files_of(alloc: Global, findings: &Findings) -> Result<Vec<SetFile>, AllocError>
     ensures { IfOk result (λ files. files.items ≡ files_of findings.now) }
 {
     let sets = sets_of(alloc, &findings.sections)?;
-    let files = files_of_sets(alloc, findings, &sets)?;
+    let mut files = Vec::new(alloc);
+    for (set_id, greatest) in &sets {
+        add_files(&mut files, findings, *set_id, *greatest)?;
+    }
     Ok(files)
 }

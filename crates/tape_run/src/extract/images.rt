@@ -56,31 +56,9 @@ impl<R: Read> ImageSource<R> for Vec<Option<R>> {
     }
 }
 
-/// Opens the images in order until the file is complete. `back` says whether the session rolls back
-/// after a suspect reel, `spares` whether it skips a checkpoint whose position the last one already
-/// has.
-pub fn read_images<S: PartSink, R: Read + Drop, L: ImageSource<R>, P: Write>(
-    session: &mut Session<S>,
-    images: &mut L,
-    back: bool,
-    spares: bool,
-    report: &mut P,
-) -> Result<(), EngineFault>
-    ensures ok { OnOk result (TakesAll S.PartSink (L.size images.old) 0 L.gives R.remaining back
-        spares session.old session.new images.old images.new
-        (P.contents report.old) (P.contents report.new)) }
-    ensures err { IfErr result (StopsReading S.PartSink (L.size images.old) 0 L.gives R.remaining
-        back spares session.old session.new images.old images.new
-        (P.contents report.old) (P.contents report.new)) }
-    ensures cause { IfErr result (λ fault.
-        ReadingFails S.PartSink back fault session.old session.new) }
-    ensures calm { OnOk result (IsCalm S.PartSink session.old session.new) }
-{
-    let count = images.count();
-    read_round(session, images, count, 0, back, spares, report)
-}
-
-/// Opens `count` images in order until the file is complete. `lines` lines precede theirs.
+/// Opens `count` images in order until the file is complete. `lines` lines precede theirs. `back`
+/// says whether the session rolls back after a suspect reel, `spares` whether it skips a checkpoint
+/// whose position the last one already has.
 pub fn read_round<S: PartSink, R: Read + Drop, L: ImageSource<R>, P: Write>(
     session: &mut Session<S>,
     images: &mut L,

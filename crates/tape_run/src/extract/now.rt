@@ -7,7 +7,7 @@ ghost use Rattle.tape_run.specs.{Causes.ReadingFails, Causes.EndingFails, OutSin
 ghost use Rattle.tape_run.specs.ExtractingNow.{ExtractsNow, StopsNow};
 
 use crate::extract::end_report;
-use crate::extract::images::{ImageSource, read_images};
+use crate::extract::images::{ImageSource, read_round};
 use crate::extract::out_sink::OutSink;
 use crate::fault::{EngineFault, WriteFailed};
 use crate::session::Session;
@@ -69,7 +69,8 @@ pub fn extract_streaming<W: Write + Drop, R: Read + Drop, L: ImageSource<R>, O: 
         × EndingFails session.new.sink.begun session.new.sink.form form fault)) }
 {
     // What was written remains: this session does not roll back.
-    read_images(session, images, false, false, report)?;
+    let count = images.count();
+    read_round(session, images, count, 0, false, false, report)?;
     if let Some(want) = session.want() {
         end_report(report, Some(want), 0)?;
         return Ok(Some(want));

@@ -3,7 +3,7 @@
 ghost use Rattle.std.specs.Prelude.{◌≡◌, ◌<◌, ◌↔◌, Some, None, is_some, IfOk, IfErr, OnOk, IsTrue};
 ghost use Rattle.std.specs.Prelude.{IfSome};
 ghost use Rattle.tape_image.specs.Reader.{tape_item};
-ghost use Rattle.tape_run.specs.MergeSteps.{agrees, Takes, is_less, is_bad_one};
+ghost use Rattle.tape_run.specs.MergeSteps.{agrees, Takes, is_bad_one};
 ghost use Rattle.tape_run.specs.{MergeCalls.Puts, MergeCalls.RefusesCandidate, MergeLog.kind_at};
 ghost use Rattle.tape_run.specs.Passing.{blocks_of, step};
 ghost use Rattle.tape_set.specs.Lawful.{most_blocks};
@@ -70,13 +70,6 @@ impl Candidate {
         ensures { self.new ≡ None }
     {
         self.kind = Kind::Nothing;
-    }
-
-    /// Returns whether any item would be at least as good: there is no item yet, or a bad one.
-    fn is_less(&self) -> bool
-        ensures { result ≡ is_less self.now }
-    {
-        matches!(self.kind, Kind::Nothing | Kind::Bad)
     }
 
     /// Returns whether there is an item.
@@ -160,7 +153,8 @@ impl Candidate {
         if !self.agrees(item) {
             return Ok(false);
         }
-        if self.is_less() {
+        // Any item is better than none, and a readable one better than a bad one.
+        if matches!(self.kind, Kind::Nothing | Kind::Bad) {
             self.set(item)?;
         }
         Ok(true)

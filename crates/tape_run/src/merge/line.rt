@@ -2,8 +2,8 @@
 
 ghost use Rattle.std.specs.Prelude.{◌≡◌, ◌<◌, map, IfOk, Some, string_bytes};
 ghost use Rattle.tape_image.specs.Reader.{ending_of};
-ghost use Rattle.tape_run.specs.MergeLines.{with_name, reading_line, stop_of, merged_end};
-ghost use Rattle.tape_run.specs.MergeLines.{miscounted_text, has_line, kind_text, kind_of, name_at};
+ghost use Rattle.tape_run.specs.MergeLines.{with_name, line_about, stop_of, merged_end};
+ghost use Rattle.tape_run.specs.MergeLines.{miscounted_text, kind_text, kind_of, name_at};
 
 use super::reading::{Reading, Verdict};
 use crate::catalogue::stop_at;
@@ -86,25 +86,33 @@ fn with_name(alloc: Global, text: String, name: &str) -> Result<Vec<u8>, AllocEr
     Ok(line)
 }
 
-/// Returns the line about the reading with this number, counted from 0: its items, how many of them
-/// are bad, and how it stopped.
-pub(crate) fn reading_line<R: Read>(
+/// Returns a line about the reading with this number, counted from 0: its items, how many of them
+/// are bad, and how it stopped. If `differ` is true, the line is about the last item that the
+/// reading was asked for, with a letter for each of the items that differ; it is empty if the
+/// reading has no item there.
+pub(crate) fn line_about<R: Read>(
     alloc: Global,
     names: &[&str],
+    differ: bool,
     number: usize,
     reading: &Reading<'_, R>,
 ) -> Result<Vec<u8>, AllocError>
     requires { number < 18446744073709551615 }
-    ensures { IfOk result (λ line.
-        line.items ≡ reading_line (map (λ n. n.now) names.now) number reading.now) }
+    ensures { IfOk result (λ line. line.items
+        ≡ line_about differ (map (λ n. n.now) names.now) number reading.now) }
 {
-    let name = name_at(names, number);
     let (image, items, bad) = (number + 1, reading.items, reading.bad);
-    let text = match stop_of(reading) {
-        Some(stop) => format!(in alloc; "IMAGE {image} {items} {bad} {stop}")?,
-        None => format!(in alloc; "IMAGE {image} {items} {bad} -")?,
+    let (kind, from) = (kind_of(reading.length), reading.from);
+    let text = match (differ, reading.verdict, stop_of(reading)) {
+        (false, _, Some(stop)) => format!(in alloc; "IMAGE {image} {items} {bad} {stop}")?,
+        (false, _, None) => format!(in alloc; "IMAGE {image} {items} {bad} -")?,
+        (true, Verdict::First, _) => format!(in alloc; "HAS {image} A {kind} {from}")?,
+        (true, Verdict::Second, _) => format!(in alloc; "HAS {image} B {kind} {from}")?,
+        (true, Verdict::Third, _) => format!(in alloc; "HAS {image} C {kind} {from}")?,
+        (true, Verdict::Bad, _) => format!(in alloc; "HAS {image} - BAD {from}")?,
+        (true, Verdict::Ended | Verdict::Failed(_), _) => return Ok(Vec::new(alloc)),
     };
-    with_name(alloc, text, name)
+    with_name(alloc, text, name_at(names, number))
 }
 
 /// Returns how a reading stopped, if it has.
@@ -116,31 +124,6 @@ fn stop_of<R: Read>(reading: &Reading<'_, R>) -> Option<ImageStop>
         (None, Verdict::Failed(fault)) => Some(ImageStop::Fault(fault)),
         (None, _) => None,
     }
-}
-
-/// Returns the line about the last item that the reading with this number, counted from 0, was
-/// asked for, with a letter for each of the items that differ; nothing if the reading has no item
-/// there.
-pub(crate) fn has_line<R: Read>(
-    alloc: Global,
-    names: &[&str],
-    number: usize,
-    reading: &Reading<'_, R>,
-) -> Result<Vec<u8>, AllocError>
-    requires { number < 18446744073709551615 }
-    ensures { IfOk result (λ line.
-        line.items ≡ has_line (map (λ n. n.now) names.now) number reading.now) }
-{
-    let name = name_at(names, number);
-    let (image, kind, from) = (number + 1, kind_of(reading.length), reading.from);
-    let text = match reading.verdict {
-        Verdict::First => format!(in alloc; "HAS {image} A {kind} {from}")?,
-        Verdict::Second => format!(in alloc; "HAS {image} B {kind} {from}")?,
-        Verdict::Third => format!(in alloc; "HAS {image} C {kind} {from}")?,
-        Verdict::Bad => format!(in alloc; "HAS {image} - BAD {from}")?,
-        Verdict::Ended | Verdict::Failed(_) => return Ok(Vec::new(alloc)),
-    };
-    with_name(alloc, text, name)
 }
 
 /// Returns an item that could be read, given its length: no block is empty.

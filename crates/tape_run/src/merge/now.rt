@@ -7,14 +7,14 @@ ghost use Rattle.tape_image.specs.declared.item.ImageWriteFault.TheVariants.{Too
 ghost use Rattle.tape_image.specs.{Begins.image_limit, Written.AppendsFront};
 ghost use Rattle.tape_run.specs.MergeNow.{MountsAll, IsMissing, Misses, IfMounted, LeavesPlace};
 ghost use Rattle.tape_run.specs.MergeNow.{ReportsNoImage, ReportsImage, HoldsMerged, ComesTo};
-ghost use Rattle.tape_run.specs.MergeLines.{lines_from, reading_line, has_line};
+ghost use Rattle.tape_run.specs.MergeLines.{lines_from, line_about};
 ghost use Rattle.tape_run.specs.{MergeCalls.IfImages, declared.merge.now.MergeEnd.MergeEnd};
 ghost use Rattle.tape_run.specs.MergeNow.{IsTooLong, EndsAs, FitsEnd, end_bytes};
 ghost use Rattle.tape_run.specs.declared.merge.line.MergedEnd.TheVariants.{Marked};
 ghost use Rattle.tape_run.specs.declared.merge.now.MergeEnd.TheVariants.{Differs};
 ghost use Rattle.tape_run.specs.declared.merge.now.MergeStop.TheVariants as stops;
 
-use super::line::{MergedEnd, Miscounted, has_line, reading_line};
+use super::line::{MergedEnd, Miscounted, line_about};
 use super::log::log_head;
 use super::open::{merge_to, open_all};
 use super::reading::Reading;
@@ -199,7 +199,7 @@ fn merge_readings<R: Read, W: Write + Drop, O: Place<W>, G: Write, P: Write>(
     match merge_to(alloc, readings, &mut image, log) {
         Ok(merged) => {
             let end = end_of(readings, merged.items);
-            report_readings(alloc, readings, names, report)?;
+            report_readings(alloc, readings, names, false, report)?;
             let written = end_image(image, end)?;
             let Ok(()) = flush(log) else {
                 return Err(MergeStop::LogFailed);
@@ -212,9 +212,9 @@ fn merge_readings<R: Read, W: Write + Drop, O: Place<W>, G: Write, P: Write>(
             Ok(whole_or_partial(&merged, end))
         }
         Err(MergeFault::Differ(item)) => {
-            report_readings(alloc, readings, names, report)?;
+            report_readings(alloc, readings, names, false, report)?;
             pass_line(report, &format_args!("DIFFER {item}\n"))?;
-            report_items(alloc, readings, names, report)?;
+            report_readings(alloc, readings, names, true, report)?;
             Ok(MergeEnd::Differs)
         }
         Err(MergeFault::OutOfMemory) => Err(MergeStop::OutOfMemory),
@@ -279,41 +279,23 @@ fn end_of<R: Read>(readings: &[Reading<'_, R>], items: u64) -> MergedEnd
     end
 }
 
-/// Writes the line of each reading to the report.
+/// Writes a line about each reading to the report or, if `differ` is true, about its item at the
+/// difference, if it has one there.
 fn report_readings<R: Read, P: Write>(
     alloc: Global,
     readings: &[Reading<'_, R>],
     names: &[&str],
+    differ: bool,
     report: &mut P,
 ) -> Result<(), MergeStop>
     ensures ok { OnOk result (Appends (P.contents report.old) (P.contents report.new)
-        (lines_from (reading_line (map (λ n. n.now) names.now)) 0 readings.now)) }
+        (lines_from (line_about differ (map (λ n. n.now) names.now)) 0 readings.now)) }
     ensures front { OnErr result (AppendsFront (P.contents report.old) (P.contents report.new)
-        (lines_from (reading_line (map (λ n. n.now) names.now)) 0 readings.now)) }
+        (lines_from (line_about differ (map (λ n. n.now) names.now)) 0 readings.now)) }
     ensures err { IfErr result (Misses (λ _. ⊥) (λ _. ⊥)) }
 {
     for number in 0..readings.len() {
-        let line = reading_line(alloc, names, number, &readings[number])?;
-        pass_on(report, line.as_slice())?;
-    }
-    Ok(())
-}
-
-/// Reports the item of each reading at the difference, unless the reading has none there.
-fn report_items<R: Read, P: Write>(
-    alloc: Global,
-    readings: &[Reading<'_, R>],
-    names: &[&str],
-    report: &mut P,
-) -> Result<(), MergeStop>
-    ensures ok { OnOk result (Appends (P.contents report.old) (P.contents report.new)
-        (lines_from (has_line (map (λ n. n.now) names.now)) 0 readings.now)) }
-    ensures front { OnErr result (AppendsFront (P.contents report.old) (P.contents report.new)
-        (lines_from (has_line (map (λ n. n.now) names.now)) 0 readings.now)) }
-    ensures err { IfErr result (Misses (λ _. ⊥) (λ _. ⊥)) }
-{
-    for number in 0..readings.len() {
-        let line = has_line(alloc, names, number, &readings[number])?;
+        let line = line_about(alloc, names, differ, number, &readings[number])?;
         pass_on(report, line.as_slice())?;
     }
     Ok(())

@@ -2,8 +2,8 @@
 
 ghost use Rattle.std.specs.Prelude.{◌≡◌, ◌≢◌, IfOk, IfErr, OnOk, map, length};
 ghost use Rattle.tape_image.specs.Writer.{writing};
-ghost use Rattle.tape_run.specs.MergeCalls.{AreAtFront, IfImages};
-ghost use Rattle.tape_run.specs.MergedImages.{MergesImages, FaultsImages};
+ghost use Rattle.tape_run.specs.MergeCalls.{AreAtFront, IfImages, Merges};
+ghost use Rattle.tape_run.specs.MergedImages.{TakeImages, FaultsImages};
 
 use super::candidate::Candidate;
 use super::reading::Reading;
@@ -51,7 +51,7 @@ pub fn merge_to<R: Read, W: Write + Drop, G: Write>(
 ) -> Result<Merged, MergeFault>
     requires { out.old.standing ≡ writing }
     ensures ok { IfOk result (λ merged. IfImages readings.old (λ images.
-        MergesImages images readings.new merged out.old out.new
+        Merges (TakeImages images readings.new) readings.new merged out.old out.new
         (G.contents log.old) (G.contents log.new))) }
     ensures fault { IfErr result (λ fault. IfImages readings.old (λ images.
         FaultsImages images readings.new out.old out.new fault)) }

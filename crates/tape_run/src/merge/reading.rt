@@ -2,8 +2,8 @@
 
 ghost use Rattle.std.specs.Prelude.{◌≡◌, IfOk, OnOk};
 ghost use Rattle.tape_image.specs.Reader.{tape_item};
-ghost use Rattle.tape_run.specs.MergeSteps.{Compares, block_length, is_stop, bad_count, Answered};
-ghost use Rattle.tape_run.specs.{MergeSteps.Asked, MergeCalls.has_first};
+ghost use Rattle.tape_run.specs.MergeSteps.{Compares, Asked};
+ghost use Rattle.tape_run.specs.MergeCalls.{has_first};
 
 use super::candidate::Candidate;
 use std::alloc::AllocError;
@@ -44,23 +44,6 @@ pub struct Reading<'r, R: Read> {
 }
 
 impl Verdict {
-    /// Returns whether the reading stopped: there is no item.
-    fn is_stop(&self) -> bool
-        ensures { result ≡ is_stop self.now }
-    {
-        matches!(self, Verdict::Ended | Verdict::Failed(_))
-    }
-
-    /// Returns how many bad items it counts: 1 or 0.
-    fn bad_items(&self) -> u64
-        ensures { result ≡ bad_count self.now }
-    {
-        match self {
-            Verdict::Bad => 1,
-            _ => 0,
-        }
-    }
-
     /// Returns 1 if the reading has the first item, and 0 otherwise.
     pub(crate) fn witnesses(&self) -> u64
         ensures { result ≡ has_first self.now }
@@ -110,33 +93,6 @@ fn take_item(
     Ok(Verdict::Third)
 }
 
-/// Returns the number of bytes of a block, or 0 for any other item.
-fn length_of(item: Item<'_>) -> u64
-    ensures { result ≡ block_length (tape_item item.entry) }
-{
-    match item {
-        Item::Block(bytes) => bytes.len() as u64,
-        Item::Bad | Item::Mark => 0,
-    }
-}
-
-/// Reads the next item of an image, and compares it. Returns its length too.
-fn ask_image<R: Read>(
-    image: &mut ImageReader<'_, R>,
-    best: &mut Candidate,
-    other: &mut Candidate,
-) -> Result<(Verdict, u64), AllocError>
-    ensures same_device { image.new.device ≡ image.old.device }
-    ensures answered { IfOk result (λ answer. Answered image.old image.new answer.0 answer.1
-        best.old best.new other.old other.new) }
-{
-    match image.next() {
-        Ok(Some(item)) => Ok((take_item(item, best, other)?, length_of(item))),
-        Ok(None) => Ok((Verdict::Ended, 0)),
-        Err(fault) => Ok((Verdict::Failed(fault), 0)),
-    }
-}
-
 /// Reads the next item of a reading, compares it, and counts it.
 pub(crate) fn ask<R: Read>(
     reading: &mut Reading<'_, R>,
@@ -148,14 +104,26 @@ pub(crate) fn ask<R: Read>(
         other.old other.new) }
 {
     let from = reading.image.place();
-    let (verdict, length) = ask_image(&mut reading.image, best, other)?;
-    reading.verdict = verdict;
-    if verdict.is_stop() {
-        return Ok(());
-    }
-    reading.bad = reading.bad.saturating_add(verdict.bad_items());
+    let item = match reading.image.next() {
+        Ok(Some(item)) => item,
+        Ok(None) => {
+            reading.verdict = Verdict::Ended;
+            return Ok(());
+        }
+        Err(fault) => {
+            reading.verdict = Verdict::Failed(fault);
+            return Ok(());
+        }
+    };
+    let (length, bad) = match item {
+        Item::Block(bytes) => (bytes.len() as u64, 0),
+        Item::Mark => (0, 0),
+        Item::Bad => (0, 1),
+    };
+    reading.verdict = take_item(item, best, other)?;
+    reading.items = reading.items.saturating_add(1);
+    reading.bad = reading.bad.saturating_add(bad);
     reading.from = from;
     reading.length = length;
-    reading.items = reading.items.saturating_add(1);
     Ok(())
 }

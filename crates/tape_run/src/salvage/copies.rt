@@ -3,7 +3,7 @@
 ghost use Rattle.std.specs.Prelude.{◌≡◌, ◌++◌, ◌∷◌, max, min, [], List, OnOk, IfErr, None, Some};
 ghost use Rattle.tape_image.specs.Reader.{going};
 ghost use Rattle.tape_run.specs.SalvageCopies.{FindsCopies, believed, of_file, is_of, wrong_count};
-ghost use Rattle.tape_run.specs.SalvageChoice.{IsBest, IsChoice, firsts, is_considered};
+ghost use Rattle.tape_run.specs.SalvageChoice.{IsBest, firsts};
 ghost use Rattle.tape_run.specs.{Checked.IsCheckFault, SalvageWalk.in_list};
 ghost use Rattle.tape_run.specs.SalvageCopies.{rank, start_of, skip_of, is_complete};
 ghost use Rattle.tape_run.specs.SalvageChoice.{last_section, form_of_file};
@@ -164,13 +164,6 @@ fn copies_in_items<R: Read>(
     }
 }
 
-/// Returns whether the section belongs to file `file` of the set.
-fn is_of(set_id: &Field<6>, file: u16, section: &OpenSection, closed: &Option<Closing>) -> bool
-    ensures { result ≡ is_of set_id.now file (section.now, closed.now) }
-{
-    section.key.set_id.bytes() == set_id.bytes() && section.key.file == file
-}
-
 /// Returns how many items of an image precede the section's data, if its HDR1 was not read; `read`
 /// items were read before the one that ended it.
 fn skip_of(read: u64, section: &OpenSection) -> Option<u64>
@@ -202,7 +195,7 @@ fn add_copy(
     let Some((section, closed)) = found else {
         return Ok(());
     };
-    if !is_of(set_id, file, &section, &closed) {
+    if section.key.set_id.bytes() != set_id.bytes() || section.key.file != file {
         return Ok(());
     }
     let copy = SectionCopy {
@@ -223,62 +216,11 @@ pub fn last_section(copies: &[SectionCopy]) -> u16
 {
     let mut last = 0u16;
     for copy in copies {
-        last = greater(last, copy.section.key.sect);
+        if last < copy.section.key.sect {
+            last = copy.section.key.sect;
+        }
     }
     last
-}
-
-/// Returns the greater of two numbers.
-fn greater(a: u16, b: u16) -> u16
-    ensures { result ≡ max a b }
-{
-    if a < b { b } else { a }
-}
-
-/// The best copy of a section so far, and the image of the last copy that was considered.
-#[derive(Clone, Copy)]
-struct Choice {
-    best: Option<SectionCopy>,
-    last: Option<usize>,
-}
-
-impl Choice {
-    /// Returns whether `copy` is a copy of section `sect`, and the first one on its image.
-    fn is_considered(&self, sect: u16, copy: &SectionCopy) -> bool
-        ensures { result ≡ is_considered sect self.now.last copy.now }
-    {
-        if copy.section.key.sect != sect {
-            return false;
-        }
-        match self.last {
-            Some(last) => last != copy.image,
-            None => true,
-        }
-    }
-
-    /// Chooses `copy` if it is better than the best copy so far.
-    fn better(self, copy: &SectionCopy) -> Choice
-        ensures best { (cs : List SectionCopy) → IsBest cs self.best
-            → IsBest (cs ++ copy.now ∷ []) result.best }
-        ensures last { result.last ≡ Some copy.now.image }
-    {
-        let best = better_of(&self.best, copy);
-        Choice {
-            best: Some(best),
-            last: Some(copy.image),
-        }
-    }
-
-    /// Considers `copy`, if it is a copy of section `sect` and the first one on its image.
-    fn with(self, sect: u16, copy: &SectionCopy) -> Choice
-        ensures { (cs : List SectionCopy) → IsChoice sect cs self.best self.last
-            → IsChoice sect (cs ++ copy.now ∷ []) result.best result.last }
-    {
-        if self.is_considered(sect, copy) {
-            return self.better(copy);
-        }
-        self
-    }
 }
 
 /// Returns the copy with the greater rank, or `best` if both have the same rank.
@@ -302,14 +244,15 @@ fn better_of(best: &Option<SectionCopy>, copy: &SectionCopy) -> SectionCopy
 pub fn best_copy(copies: &[SectionCopy], sect: u16) -> Option<SectionCopy>
     ensures { IsBest (firsts sect None copies.now) result }
 {
-    let mut choice = Choice {
-        best: None,
-        last: None,
-    };
+    let mut best = None;
+    let mut last = None;
     for copy in copies {
-        choice = choice.with(sect, copy);
+        if copy.section.key.sect == sect && last != Some(copy.image) {
+            best = Some(better_of(&best, copy));
+            last = Some(copy.image);
+        }
     }
-    choice.best
+    best
 }
 
 /// Returns the form of the file's blocks that the first label with a form records.

@@ -117,61 +117,6 @@ impl<W: Write> Recovery<W> {
         Ok(())
     }
 
-    /// Reports the missing blocks at the end of a section that did not close.
-    fn end_open<P: Write>(&mut self, copy: &SectionCopy, report: &mut P) -> Result<(), WriteFailed>
-        ensures ok { OnOk result (Recovers W.contents self.old self.new (P.contents report.old)
-            (P.contents report.new) (ended copy.now None) (ended_text copy.now None)) }
-        ensures front { OnErr result (ReportsFront W.contents self.old (P.contents report.old)
-            (P.contents report.new) (ended_text copy.now None)) }
-    {
-        let sect = copy.section.key.sect;
-        let first = copy.believed();
-        self.miss_rest(sect, first, report)?;
-        write_unsure(report, sect, first, copy.section.blocks)?;
-        Ok(())
-    }
-
-    /// Leaves out a record that is unfinished at the end of the file, and reports it.
-    fn end_record<P: Write>(
-        &mut self,
-        eof: bool,
-        sect: u16,
-        number: u32,
-        report: &mut P,
-    ) -> Result<(), WriteFailed>
-        ensures ok { OnOk result (Recovers W.contents self.old self.new (P.contents report.old)
-            (P.contents report.new) (with_end eof)
-            (λ g. torn_text (eof && g.piece.begun) sect number g.piece.records)) }
-        ensures front { OnErr result (ReportsFront W.contents self.old (P.contents report.old)
-            (P.contents report.new)
-            (λ g. torn_text (eof && g.piece.begun) sect number g.piece.records)) }
-    {
-        if eof && self.mender.is_begun() {
-            return self.tear(sect, number, report);
-        }
-        Ok(())
-    }
-
-    /// Reports what is wrong at the end of a section that closed.
-    fn end_closed<P: Write>(
-        &mut self,
-        copy: &SectionCopy,
-        closed: Closing,
-        report: &mut P,
-    ) -> Result<(), WriteFailed>
-        ensures ok { OnOk result (Recovers W.contents self.old self.new (P.contents report.old)
-            (P.contents report.new) (ended copy.now (Some closed))
-            (ended_text copy.now (Some closed))) }
-        ensures front { OnErr result (ReportsFront W.contents self.old (P.contents report.old)
-            (P.contents report.new) (ended_text copy.now (Some closed))) }
-    {
-        let sect = copy.section.key.sect;
-        let blocks = copy.section.blocks;
-        self.take_count(sect, copy.wrong_count(), blocks, report)?;
-        self.end_record(closed.eof, sect, blocks, report)?;
-        Ok(())
-    }
-
     /// Reports what is missing after the blocks of a section, of which `read` were read again.
     fn end_blocks<P: Write>(
         &mut self,
@@ -184,12 +129,24 @@ impl<W: Write> Recovery<W> {
         ensures front { OnErr result (ReportsFront W.contents self.old (P.contents report.old)
             (P.contents report.new) (end_text read copy.now)) }
     {
-        if read < copy.believed() {
-            return self.miss_rest(copy.section.key.sect, read, report);
+        let (sect, blocks) = (copy.section.key.sect, copy.section.blocks);
+        let believed = copy.believed();
+        if read < believed {
+            return self.miss_rest(sect, read, report);
         }
         match copy.closed {
-            None => self.end_open(copy, report),
-            Some(closed) => self.end_closed(copy, closed, report),
+            None => {
+                self.miss_rest(sect, believed, report)?;
+                write_unsure(report, sect, believed, blocks)
+            }
+            Some(closed) => {
+                self.take_count(sect, copy.wrong_count(), blocks, report)?;
+                // A record that is unfinished at the end of the file is left out.
+                if closed.eof && self.mender.is_begun() {
+                    return self.tear(sect, blocks, report);
+                }
+                Ok(())
+            }
         }
     }
 

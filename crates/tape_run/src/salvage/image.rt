@@ -14,23 +14,13 @@ use std::io::{Read, Write};
 use tape_core::Known;
 use tape_image::{ImageReader, Item};
 
-/// Returns whether the data of section `key` are being read.
-fn is_in(key: &SectionKey, expected: &Expected) -> bool
-    ensures { result ≡ is_in key.now expected.now }
-{
-    match expected {
-        Expected::Data(section) => same_section(&section.key, key),
-        _ => false,
-    }
-}
-
 /// Returns the number of data items read of section `key`, if the image ends here.
 fn read_in(key: &SectionKey, expected: &Expected) -> u32
     ensures { result ≡ read_in key.now expected.now }
 {
     match expected {
         Expected::Data(section) | Expected::Trailer(section) => {
-            if same_section(&section.key, key) {
+            if section.key == *key {
                 section.blocks
             } else {
                 0
@@ -40,20 +30,13 @@ fn read_in(key: &SectionKey, expected: &Expected) -> u32
     }
 }
 
-/// Returns whether both keys identify the same section.
-fn same_section(a: &SectionKey, b: &SectionKey) -> bool
-    ensures { result ≡ same_key a.now b.now }
-{
-    a.set_id.bytes() == b.set_id.bytes() && a.file == b.file && a.sect == b.sect
-}
-
 /// Returns the number of the next item among the data items of section `key`, if it is one of the
 /// first `most`.
 fn number_in(key: &SectionKey, most: u32, expected: &Expected) -> Option<u32>
     ensures { result ≡ number_in key.now most expected.now }
 {
     match expected {
-        Expected::Data(section) if same_section(&section.key, key) && section.blocks < most => {
+        Expected::Data(section) if section.key == *key && section.blocks < most => {
             Some(section.blocks)
         }
         _ => None,
@@ -109,8 +92,8 @@ pub fn recover_section<R: Read, W: Write, P: Write>(
 fn is_end(key: &SectionKey, expected: &Expected, item: Item<'_>) -> bool
     ensures { result ≡ (is_mark (tape_item item.entry) && is_in key.now expected.now) }
 {
-    match item {
-        Item::Mark => is_in(key, expected),
-        Item::Block(_) | Item::Bad => false,
+    match (item, expected) {
+        (Item::Mark, Expected::Data(section)) => section.key == *key,
+        _ => false,
     }
 }

@@ -134,31 +134,13 @@ impl<W: Write> Mender<W> {
             × (fault ≡ found_fault form.now p block.now)) }
         ensures fault { IfErr result IsCheckFault }
     {
-        match form {
-            Some(form) => self.take_records(form, block),
-            None => {
-                self.put(Part {
-                    span: Span::Whole,
-                    bytes: block,
-                })?;
-                Ok(None)
-            }
-        }
-    }
-
-    /// Processes the records of the next block.
-    fn take_records(
-        &mut self,
-        form: &Known,
-        block: &[u8],
-    ) -> Result<Option<BlockFault>, EngineFault>
-        requires short { length block.now ≤ longest_block }
-        ensures ok { IfOk result (λ fault. (start : Start) (p : Piece)
-            → HasPiece W.contents start self.old p
-            → HasPiece W.contents start self.new (mended (Some form.now) p block.now)
-            × (fault ≡ found_fault (Some form.now) p block.now)) }
-        ensures fault { IfErr result IsCheckFault }
-    {
+        let Some(form) = form else {
+            self.put(Part {
+                span: Span::Whole,
+                bytes: block,
+            })?;
+            return Ok(None);
+        };
         let shape = shape_of(form);
         let begun = if self.torn {
             goes_on_at(form.format, form.offset, block)

@@ -185,17 +185,6 @@ fn second_by(section: OpenSection, kind: Option<Kind>, read: Result<Head2, Label
     }
 }
 
-/// Returns what is expected after a block, other than the section's trailer label, in place of that
-/// label.
-fn unclosed_by(
-    section: OpenSection,
-    read: Result<Head1, LabelFault>,
-) -> (Expected, Option<FoundSection>)
-    ensures { result ≡ Walk.unclosed_by section read }
-{
-    (begun_by(read, Expected::Outside(0)), Some((section, None)))
-}
-
 /// Returns what is expected after a block in place of a section's trailer label.
 fn closed_by(
     section: OpenSection,
@@ -212,7 +201,7 @@ fn closed_by(
             };
             (Expected::Trailers(section, closed), None)
         }
-        _ => unclosed_by(section, head),
+        _ => (begun_by(head, Expected::Outside(0)), Some((section, None))),
     }
 }
 

@@ -3,8 +3,9 @@
 ghost use Rattle.std.specs.Prelude.{◌≡◌, IfOk, IfErr, IfSome};
 ghost use Rattle.tape_image.specs.Reader.{IfKnown};
 ghost use Rattle.tape_core.specs.{Behind.behind_of, Weight.IsFront};
-ghost use Rattle.tape_run.specs.{Crash.BringsNoMore, Given.is_device, Given.counted, Reels.Leaves};
-ghost use Rattle.tape_run.specs.GoesBehind.{ReeledBehind, ReadsBehind, ReelFailsBehind};
+ghost use Rattle.tape_run.specs.{Crash.BringsNoMore, Given.is_device, Given.counted};
+ghost use Rattle.tape_run.specs.Reels.{Leaves, Reads};
+ghost use Rattle.tape_run.specs.GoesBehind.{ReeledBehind, ReelFailsBehind};
 ghost use Rattle.tape_run.specs.{Seen.IsKept, Seen.IfSeen, Seen.IsSeen, Steps.Refuses};
 
 use super::{Session, counted};
@@ -46,8 +47,8 @@ impl<S: PartSink> Session<S> {
             (R.remaining device.old) (R.remaining device.new) self.new.core) }
         ensures answer { IfOk result (λ answer. IfKnown (R.remaining device.old)
             (R.remaining device.new)
-            (λ bytes left. ReadsBehind self.old.core.position self.old.core bytes left answer
-            self.new.core)) }
+            (λ bytes left. Reads self.old.core.position self.old.core (behind_of self.old.core)
+            bytes left answer self.new.core)) }
         ensures complete { IfOk result (λ answer. answer.answer ≡ Answer.Complete
             → self.new.core.position ≡ Position.Finished) }
         ensures finished { IfOk result (λ answer.

@@ -1,8 +1,7 @@
 //! The report of a survey on sections with more than one complete copy.
 ghost use Rattle.std.specs.Prelude.{◌≡◌, ◌++◌, map, OnOk};
 ghost use Rattle.tape_run.specs.SurveyCompared.{name_at, conflict_text, verdict_text, copy_line};
-ghost use Rattle.tape_run.specs.SurveyCompared.{other_cells, copy_row, is_alone, copy_text};
-ghost use Rattle.tape_run.specs.SurveyCompared.{copies_text};
+ghost use Rattle.tape_run.specs.SurveyCompared.{copy_row, copy_text, copies_text};
 
 use super::Wording;
 use super::copies::{CopyNote, CopyNotes};
@@ -74,21 +73,7 @@ fn add_line(
     add_verdict(texts, names, note)
 }
 
-/// Appends the name of the image whose copy differs, if any, and the result.
-fn add_other(row: &mut Vec<u8>, names: &[&str], other: Option<usize>) -> Result<(), AllocError>
-    ensures { OnOk result (row.new.items
-        ≡ row.old.items ++ other_cells (map (λ n. n.now) names.now) other) }
-{
-    match other {
-        Some(other) => {
-            add_name(row, names, other)?;
-            row.extend_from_slice(b"\tCONFLICT\n")
-        }
-        None => row.extend_from_slice(b"\tAGREE\n"),
-    }
-}
-
-/// Appends the row for a section.
+/// Appends the row for a section, with the name of the image whose copy differs, if any.
 fn add_row(
     texts: &mut Vec<u8>,
     names: &[&str],
@@ -101,19 +86,15 @@ fn add_row(
     let alloc = *texts.allocator();
     let (set_id, file, sect) = (Trimmed(&key.set_id), key.file, key.sect);
     let copies = note.copies;
-    let rest = format!(in alloc; "{sect}\t{copies}\t")?;
-    let front = format!(in alloc; "COPIES\t{set_id}\t{file}\t{rest}")?;
+    let front = format!(in alloc; "COPIES\t{set_id}\t{file}\t{sect}\t{copies}\t")?;
     texts.extend_from_slice(front.as_bytes())?;
     add_name(texts, names, note.image)?;
+    let Some(other) = note.other else {
+        return texts.extend_from_slice(b"\t\tAGREE\n");
+    };
     texts.push(b'\t')?;
-    add_other(texts, names, note.other)
-}
-
-/// Returns whether a section has only one complete copy.
-fn is_alone(note: &CopyNote) -> bool
-    ensures { result ≡ is_alone note.now }
-{
-    note.copies == 1 && note.other.is_none()
+    add_name(texts, names, other)?;
+    texts.extend_from_slice(b"\tCONFLICT\n")
 }
 
 /// Appends the text for a section, unless it has only one complete copy.
@@ -127,7 +108,7 @@ fn add_text(
     ensures { OnOk result (texts.new.items ≡ texts.old.items
         ++ copy_text wording (map (λ n. n.now) names.now) (key.now, note.now)) }
 {
-    if is_alone(note) {
+    if note.copies == 1 && note.other.is_none() {
         return Ok(());
     }
     match wording {

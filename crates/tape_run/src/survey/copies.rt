@@ -1,12 +1,10 @@
 //! The complete copies of sections, compared by their data blocks.
 ghost use Rattle.std.specs.{Result.IsOkUnless, Prelude.◌≡◌, Prelude.OnOk, Prelude.IfOk};
-ghost use Rattle.tape_run.specs.SurveyCopies.{no_copies, copy_note, noted_at, with_good, with_told};
-ghost use Rattle.tape_run.specs.SurveyCopies.{dispute_at, is_agreed, differs, disputed};
-ghost use Rattle.tape_run.specs.SurveyCopies.{disputed_on};
+ghost use Rattle.tape_run.specs.SurveyCopies.{no_copies, copy_note, noted_at, with_told};
+ghost use Rattle.tape_run.specs.SurveyCopies.{dispute_at, differs, disputed, disputed_on};
 ghost use Rattle.tape_run.specs.declared.fault.RunFault.TheVariants as faults;
 
 use super::files::FileKey;
-use super::glance::or_else;
 use crate::fault::RunFault;
 use crate::met::Told;
 use crate::section::SectionKey;
@@ -89,24 +87,8 @@ impl Copies {
         if !entry.state.is_good() {
             return Ok(());
         }
-        match self.note_good(image, key, entry.blocks, digest) {
-            Ok(()) => Ok(()),
-            Err(_) => Err(RunFault::OutOfMemory),
-        }
-    }
-
-    /// Adds a complete copy, and its file if it differs from other copies of its section.
-    fn note_good(
-        &mut self,
-        image: usize,
-        key: SectionKey,
-        blocks: u32,
-        digest: u64,
-    ) -> Result<(), AllocError>
-        ensures { OnOk result (self.new ≡ with_good self.old image key blocks digest) }
-    {
         self.held.push((image, key))?;
-        let note = self.note_of(image, &key, blocks, digest);
+        let note = self.note_of(image, &key, entry.blocks, digest);
         self.notes.insert(key, note)?;
         if note.other.is_some() {
             let file = FileKey {
@@ -128,7 +110,7 @@ impl Copies {
                 ..*note
             },
             Some(note) => CopyNote {
-                other: or_else(note.other, Some(image)),
+                other: note.other.or(Some(image)),
                 ..*note
             },
             None => CopyNote {
@@ -146,13 +128,6 @@ impl Copies {
         ensures { result ≡ dispute_at self.now key.now }
     {
         self.conflicts.get(key).copied()
-    }
-
-    /// Returns whether no file is in conflict.
-    pub(crate) fn is_agreed(&self) -> bool
-        ensures { result ≡ is_agreed self.now.conflicts }
-    {
-        self.conflicts.is_empty()
     }
 
     /// Returns whether complete copies of a section differ.

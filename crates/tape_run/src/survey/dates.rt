@@ -1,7 +1,6 @@
 //! The dates of labels.
-ghost use Rattle.std.specs.Prelude.{◌≡◌, ◌≤◌, IfSome, Some};
-ghost use Rattle.tape_run.specs.Dates.{century, is_leap, february, in_months, in_year, in_century};
-ghost use Rattle.tape_run.specs.Dates.{date_of, day_text, two_digits};
+ghost use Rattle.std.specs.Prelude.{◌≡◌, Some};
+ghost use Rattle.tape_run.specs.Dates.{in_months, in_year, date_of, day_text, two_digits};
 
 use std::fmt;
 use tape_label::{Field, digits_value};
@@ -12,32 +11,6 @@ pub(crate) struct Date {
     year: u16,
     month: u16,
     day: u16,
-}
-
-/// Returns the first year of the century that a character of a label represents.
-fn century(byte: u8) -> Option<u16>
-    ensures value { result ≡ century byte }
-    ensures small { IfSome result (λ year. year ≤ 2000) }
-{
-    match byte {
-        b' ' => Some(1900),
-        b'0' => Some(2000),
-        _ => None,
-    }
-}
-
-/// Returns whether a year has 366 days.
-fn is_leap(year: u16) -> bool
-    ensures { result ≡ is_leap year }
-{
-    year % 4 == 0 && (year % 100 != 0 || year % 400 == 0)
-}
-
-/// Returns how many days February has.
-fn february(year: u16) -> u16
-    ensures { result ≡ february year }
-{
-    if is_leap(year) { 29 } else { 28 }
 }
 
 /// Returns the date of day number `day` of the last months of a year, which have the given numbers
@@ -64,33 +37,26 @@ fn in_year(year: u16, day: u16) -> Option<Date>
     if day == 0 {
         return None;
     }
-    let lengths = [31, february(year), 31, 30, 31, 30, 31, 31, 30, 31, 30, 31];
+    let leap = year % 4 == 0 && (year % 100 != 0 || year % 400 == 0);
+    let february = if leap { 29 } else { 28 };
+    let lengths = [31, february, 31, 30, 31, 30, 31, 31, 30, 31, 30, 31];
     in_months(&lengths, year, day)
-}
-
-/// Returns the date whose five digits are the year in its century and the day of the year.
-fn in_century(first: Option<u16>, digits: u64) -> Option<Date>
-    requires few { digits ≤ 99999 }
-    requires small { IfSome first (λ year. year ≤ 2000) }
-    ensures { result ≡ in_century first digits }
-{
-    match first {
-        Some(first) => in_year(first + (digits / 1000) as u16, (digits % 1000) as u16),
-        None => None,
-    }
 }
 
 /// Returns the date in the six characters of a label, if they are a date.
 pub(crate) fn date_of(field: &Field<6>) -> Option<Date>
     ensures { result ≡ date_of field.now }
 {
-    match field.bytes() {
-        [] => None,
-        [first, rest @ ..] => match digits_value(rest) {
-            Some(digits) => in_century(century(*first), digits),
-            None => None,
-        },
-    }
+    let [century, rest @ ..] = field.bytes() else {
+        return None;
+    };
+    let digits = digits_value(rest)?;
+    let first = match *century {
+        b' ' => 1900,
+        b'0' => 2000,
+        _ => return None,
+    };
+    in_year(first + (digits / 1000) as u16, (digits % 1000) as u16)
 }
 
 impl fmt::Display for Date {

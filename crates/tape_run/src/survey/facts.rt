@@ -2,8 +2,8 @@
 ghost use Rattle.std.specs.Prelude.{◌≡◌, IfOk, string_bytes};
 ghost use Rattle.tape_run.specs.SurveyLine.{first_text, system_text, files_text, bad_text};
 ghost use Rattle.tape_run.specs.SurveyLine.{late_text, unread_text, wanted_text, course_text};
-ghost use Rattle.tape_run.specs.SurveyLine.{course_shown, guess_text, fault_text, stop_text};
-ghost use Rattle.tape_run.specs.SurveyLine.{glance_text, is_told, left_text, seen_text};
+ghost use Rattle.tape_run.specs.SurveyLine.{course_shown, left_text, is_told, guess_text};
+ghost use Rattle.tape_run.specs.SurveyLine.{fault_text, stop_text, glance_text, seen_text};
 ghost use Rattle.tape_run.specs.SurveyTally.{is_no_image};
 
 use super::course::{ExpectedItem, LabelOrder};

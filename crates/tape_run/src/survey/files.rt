@@ -5,7 +5,6 @@ ghost use Rattle.tape_run.specs.SurveyFiles.{with_form, any_differs};
 ghost use Rattle.tape_image.specs.Reader.{tape_item};
 ghost use Rattle.tape_run.specs.declared.fault.RunFault.TheVariants as faults;
 
-use super::glance::or_else;
 use crate::fault::RunFault;
 use crate::passing::Phase;
 use indexmap::IndexMap;
@@ -73,10 +72,8 @@ pub(crate) fn note_met(files: &mut Files, head: Option<Head1>) -> Result<(), Run
         file: head.sequence,
     };
     let note = note_of(files, &key, head);
-    match files.insert(key, note) {
-        Ok(_) => Ok(()),
-        Err(_) => Err(RunFault::OutOfMemory),
-    }
+    files.insert(key, note)?;
+    Ok(())
 }
 
 /// Returns the second header label that an item is, if it is supported and expected, and its file.
@@ -107,13 +104,11 @@ pub(crate) fn note_form(files: &mut Files, found: Option<(FileKey, Head2)>) -> R
         return Ok(());
     };
     let note = FileNote {
-        form: or_else(note.form, Some(form)),
+        form: note.form.or(Some(form)),
         ..note
     };
-    match files.insert(key, note) {
-        Ok(_) => Ok(()),
-        Err(_) => Err(RunFault::OutOfMemory),
-    }
+    files.insert(key, note)?;
+    Ok(())
 }
 
 /// Returns whether labels of different files were found under the number of any file.

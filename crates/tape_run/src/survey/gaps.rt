@@ -1,14 +1,13 @@
 //! File numbers that were not found, between those that were.
-ghost use Rattle.std.specs.Prelude.{◌≡◌, ◌≤◌, ◌<◌, ◌-◌, ◌++◌, IfOk, string_bytes};
-ghost use Rattle.arrayvec.specs.ArrayVec.{array_vec_len};
+ghost use Rattle.std.specs.Prelude.{◌≡◌, ◌≤◌, ◌<◌, ◌-◌, IfOk, Some, string_bytes};
 ghost use Rattle.tape_run.specs.SurveyGaps.{is_found, gap_first, numbers_text, plural, gap_text};
-ghost use Rattle.tape_run.specs.SurveyGaps.{numbers_line};
 
 use super::Wording;
 use super::files::FileKey;
 use super::view::Findings;
-use crate::text::{Text, Trimmed, put, put_decimal, put_identifier};
+use crate::text::Trimmed;
 use std::alloc::{AllocError, Global};
+use std::fmt::{self, Display};
 use tape_label::Field;
 
 /// Returns whether a header label of file `file` of the set was found.
@@ -34,45 +33,20 @@ pub(crate) fn gap_first(findings: &Findings, set_id: Field<6>, file: u16) -> u16
     first
 }
 
-/// Appends the file numbers `first` to `file - 1`.
-fn put_numbers(text: &mut Text, first: u16, file: u16)
-    requires some { first < file }
-    requires room { array_vec_len text.old ≤ 100 }
-    ensures items { text.new.items ≡ text.old.items ++ numbers_text first file }
-    ensures len { array_vec_len text.new ≤ 200 }
-{
-    put_decimal(text, u64::from(first));
-    let last = file - 1;
-    if first < last {
-        put(text, b"-");
-        put_decimal(text, u64::from(last));
-    }
-}
+/// The numbers from the first one up to, but not including, the second one.
+#[derive(Clone, Copy)]
+pub(crate) struct Numbers(pub(crate) u16, pub(crate) u16);
 
-/// Returns the line of `unpack` for the file numbers `first` to `file - 1`, for which no label was
-/// found.
-pub fn numbers_line(set_id: &Field<6>, first: u16, file: u16) -> Text
-    requires { first < file }
-    ensures { result.items ≡ numbers_line set_id.now first file }
-{
-    let mut text = Text::new();
-    put(&mut text, b"FILE ");
-    put_identifier(&mut text, set_id);
-    put(&mut text, b" ");
-    put_numbers(&mut text, first, file);
-    put(&mut text, b" NOT FOUND\n");
-    text
-}
+impl Display for Numbers {
+    ghost output = { λ numbers. Some (numbers_text numbers.0 numbers.1) };
 
-/// Returns the numbers `first` to `next - 1`.
-pub(crate) fn numbers_text(alloc: Global, first: u16, next: u16) -> Result<String, AllocError>
-    ensures { IfOk result (λ text. string_bytes text ≡ numbers_text first next) }
-{
-    let last = next.saturating_sub(1);
-    if first < last {
-        format!(in alloc; "{first}-{last}")
-    } else {
-        format!(in alloc; "{first}")
+    fn fmt<W: fmt::Write>(&self, f: &mut fmt::Formatter<W>) -> fmt::Result {
+        let (first, last) = (self.0, self.1.saturating_sub(1));
+        if first < last {
+            write!(f, "{first}-{last}")
+        } else {
+            write!(f, "{first}")
+        }
     }
 }
 
@@ -101,8 +75,7 @@ pub(crate) fn gap_text(
     if first >= file {
         return Ok(String::new(alloc));
     }
-    let numbers = numbers_text(alloc, first, file)?;
-    let (set_id, plural) = (Trimmed(set_id), plural(first, file));
+    let (numbers, plural, set_id) = (Numbers(first, file), plural(first, file), Trimmed(set_id));
     match wording {
         Wording::Words => format!(in alloc; "  file{plural} {numbers}: not found\n"),
         Wording::Rows => {

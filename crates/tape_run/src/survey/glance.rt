@@ -2,8 +2,8 @@
 ghost use Rattle.std.specs.Result.{IsOkUnless};
 ghost use Rattle.std.specs.Prelude.{◌≡◌, ◌<◌, ◌≤◌, ◌++◌, OnOk};
 ghost use Rattle.tape_image.specs.{Reader.tape_item, Begins.image_limit};
-ghost use Rattle.tape_run.specs.SurveyGlance.{blank_glance, is_ebcdic, first_of, is_vol1, head_in};
-ghost use Rattle.tape_run.specs.SurveyGlance.{unread_in, one_if, or_else, damages_in, look_to};
+ghost use Rattle.tape_run.specs.SurveyGlance.{blank_glance, first_of, is_vol1, head_in};
+ghost use Rattle.tape_run.specs.SurveyGlance.{unread_in, one_if, damages_in, look_to};
 ghost use Rattle.tape_run.specs.Passing.{in_list};
 ghost use Rattle.tape_run.specs.declared.fault.RunFault.TheVariants as faults;
 
@@ -70,22 +70,18 @@ pub(crate) fn blank_glance() -> ImageSummary
     }
 }
 
-/// Returns whether a block is a volume label in EBCDIC, by its length and its first four bytes.
+/// Classifies an image by its first item, `item`. A volume label in EBCDIC is recognized by its
+/// length and its first four bytes.
 #[tactic(auto, unfolding(crate::specs::SurveyGlance::is_ebcdic))]
-fn is_ebcdic(block: &[u8]) -> bool
-    ensures { result ≡ is_ebcdic block.now }
-{
-    block.len() == 80 && &block[..4] == b"\xE5\xD6\xD3\xF1".as_slice()
-}
-
-/// Classifies an image by its first item, `item`.
 fn first_of(item: Item<'_>) -> First
     ensures { result ≡ first_of (tape_item item.entry) }
 {
     match item {
         Item::Block(bytes) => match read_vol1(bytes) {
             Ok(label) => First::Volume(label),
-            Err(_) if is_ebcdic(bytes) => First::Ebcdic,
+            Err(_) if bytes.len() == 80 && &bytes[..4] == b"\xE5\xD6\xD3\xF1".as_slice() => {
+                First::Ebcdic
+            }
             Err(_) => First::Block(bytes.len() as u64),
         },
         Item::Bad => First::Bad,
@@ -137,16 +133,6 @@ pub(crate) fn one_if(so: bool) -> u32
     if so { 1 } else { 0 }
 }
 
-/// Returns the first of two values that exists.
-pub(crate) fn or_else<T: Copy>(first: Option<T>, second: Option<T>) -> Option<T>
-    ensures { result ≡ or_else first second }
-{
-    match first {
-        Some(value) => Some(value),
-        None => second,
-    }
-}
-
 /// Adds the line of the section that was found, if any, if it is damaged.
 pub(crate) fn note_damage(
     damaged: &mut Vec<SectionLine>,
@@ -162,10 +148,8 @@ pub(crate) fn note_damage(
     if entry.state.is_good() {
         return Ok(());
     }
-    match damaged.push(line_of(key, entry)) {
-        Ok(()) => Ok(()),
-        Err(_) => Err(RunFault::OutOfMemory),
-    }
+    damaged.push(line_of(key, entry))?;
+    Ok(())
 }
 
 /// Returns the summary after one more item, with the phases before and after it.
@@ -190,7 +174,7 @@ pub(crate) fn look(
         glance.first
     };
     let late = if number != 1 && is_vol1(item) {
-        or_else(glance.late, Some(number))
+        glance.late.or(Some(number))
     } else {
         glance.late
     };
@@ -198,10 +182,10 @@ pub(crate) fn look(
         items: number,
         first,
         late,
-        head: or_else(glance.head, head),
+        head: glance.head.or(head),
         files: glance.files + one_if(head.is_some()),
         bad: glance.bad + one_if(matches!(item, Item::Bad)),
-        unread: or_else(glance.unread, unread_in(phase, item)),
+        unread: glance.unread.or(unread_in(phase, item)),
         course: course_with(glance.course, number, *phase, item, *next),
     }
 }

@@ -1,6 +1,6 @@
 //! The line of an image in a survey.
 ghost use Rattle.std.specs.Prelude.{◌≡◌, IfOk, string_bytes};
-ghost use Rattle.tape_run.specs.SurveyTally.{volume_state, empty_state, state_by, state_of};
+ghost use Rattle.tape_run.specs.SurveyTally.{volume_state, state_by, state_of};
 ghost use Rattle.tape_run.specs.SurveyTally.{state_at};
 ghost use Rattle.tape_run.specs.SurveyLine.{state_word, sight_text, image_line};
 
@@ -50,23 +50,16 @@ fn volume_state(sight: &ImageSurvey) -> ImageState
     }
 }
 
-/// Returns the state of an image without items.
-fn empty_state(stop: &ImageStop) -> ImageState
-    ensures { result ≡ empty_state stop.now }
-{
-    match stop {
-        ImageStop::Fault(fault) if is_no_image(fault) => ImageState::NotTape,
-        ImageStop::Fault(_) => ImageState::Damaged,
-        ImageStop::Marked | ImageStop::Physical => ImageState::Empty,
-    }
-}
-
 /// Returns the state of an image, considered alone.
 fn state_by(sight: &ImageSurvey) -> ImageState
     ensures { result ≡ state_by sight.now.glance.first sight.now }
 {
     match sight.glance.first {
-        First::Nothing => empty_state(&sight.stop),
+        First::Nothing => match &sight.stop {
+            ImageStop::Fault(fault) if is_no_image(fault) => ImageState::NotTape,
+            ImageStop::Fault(_) => ImageState::Damaged,
+            ImageStop::Marked | ImageStop::Physical => ImageState::Empty,
+        },
         First::Volume(_) => volume_state(sight),
         First::Bad => ImageState::Damaged,
         First::Ebcdic | First::Block(_) | First::Mark => ImageState::Unsupported,

@@ -37,8 +37,6 @@ pub(crate) fn note_location(
     if good_end(sections, &key).is_some() {
         return Ok(());
     }
-    match locations.insert(key, image) {
-        Ok(_) => Ok(()),
-        Err(_) => Err(RunFault::OutOfMemory),
-    }
+    locations.insert(key, image)?;
+    Ok(())
 }

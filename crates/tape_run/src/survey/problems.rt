@@ -6,16 +6,13 @@ ghost use Rattle.tape_run.specs.{Lacks.entry_at, Lacks.key_at};
 
 use super::Wording;
 use super::damages::damage_text;
-use super::gaps::{numbers_text, plural};
+use super::gaps::{Numbers, plural};
 use crate::check_line::state_text;
-use crate::section::{Entry, SectionKey, SectionState};
+use crate::section::{Entry, LAST_SECTION, SectionKey, SectionState};
 use crate::sections::Sections;
 use crate::text::Trimmed;
 use std::alloc::{AllocError, Global};
 use tape_label::Field;
-
-/// The greatest number of a section.
-const MOST: u16 = 9_999;
 
 /// Returns the text for a section that was found, if it is damaged.
 fn found_line(
@@ -52,8 +49,7 @@ fn missing_line(
 ) -> Result<String, AllocError>
     ensures { IfOk result (λ line. string_bytes line ≡ missing_line wording first next before) }
 {
-    let numbers = numbers_text(alloc, first, next)?;
-    let plural = plural(first, next);
+    let (numbers, plural) = (Numbers(first, next), plural(first, next));
     match (wording, before) {
         (Wording::Rows, _) => format!(in alloc; "{numbers}:MISSING;"),
         (Wording::Words, Some(entry)) => {
@@ -171,5 +167,5 @@ pub(crate) fn add_problems(
     ensures { OnOk result (texts.new.items
         ≡ texts.old.items ++ problem_lines wording sections.now.entries set_id file) }
 {
-    add_sections(texts, wording, sections, set_id, file, MOST)
+    add_sections(texts, wording, sections, set_id, file, LAST_SECTION)
 }

@@ -1,9 +1,8 @@
 //! The rows of a survey, for scripts, with tab-separated columns.
 ghost use Rattle.std.specs.Prelude.{◌≡◌, ◌||◌, IfOk, option_map, string_bytes};
-ghost use Rattle.tape_run.specs.SurveyRows.{whole_cell, volume_cell, owner_cell, head_cells};
-ghost use Rattle.tape_run.specs.SurveyRows.{sight_cells, words_cell, section_row, known_cells};
-ghost use Rattle.tape_run.specs.SurveyRows.{standing_cells, found_cells, file_cells, form_cells};
-ghost use Rattle.tape_run.specs.SurveyRows.{eof_cell, conflict_cell, file_text, image_row};
+ghost use Rattle.tape_run.specs.SurveyRows.{whole_cell, head_cells, sight_cells, section_row};
+ghost use Rattle.tape_run.specs.SurveyRows.{known_cells, standing_cells, file_cells, form_cells};
+ghost use Rattle.tape_run.specs.SurveyRows.{image_row, conflict_cell, found_cells, file_text};
 ghost use Rattle.tape_run.specs.SurveyLine.{trimmed_text};
 
 use super::dates::date_of;
@@ -31,39 +30,37 @@ pub(crate) fn image_row(
 {
     let mut row = Vec::from_slice(alloc, b"IMAGE\t")?;
     row.extend_from_slice(name_text(alloc, name)?.as_slice())?;
-    row.push(b'\t')?;
-    let cells = sight_cells(alloc, sight, dispute.is_some())?;
-    row.extend_from_slice(cells.as_slice())?;
-    let words = words_cell(alloc, sight, dispute)?;
-    row.extend_from_slice(words.as_bytes())?;
+    let cells = sight_cells(alloc, sight, dispute)?;
+    row.extend_from_slice(cells.as_bytes())?;
     Ok(row)
 }
 
-/// Returns the description of an image, or the text that it was not opened, except the words at the
-/// end of its row.
+/// Returns the columns after the name of an image: its description, at last in words, or the text
+/// that it was not opened.
 fn sight_cells(
     alloc: Global,
     sight: &Option<ImageSurvey>,
-    disputed: bool,
-) -> Result<Vec<u8>, AllocError>
-    ensures { IfOk result (λ cells. cells.items ≡ sight_cells sight.now disputed) }
+    dispute: Option<SectionKey>,
+) -> Result<String, AllocError>
+    ensures { IfOk result (λ cells. string_bytes cells ≡ sight_cells sight.now dispute) }
 {
     let Some(sight) = sight else {
-        return Vec::from_slice(alloc, b"NOT OPENED\t\t\t\t\t\t\t\t");
+        return format!(in alloc; "\tNOT OPENED\t\t\t\t\t\t\t\t\tnot opened\n");
     };
-    let glance = &sight.glance;
-    let whole = whole_cell(disputed, sight.is_sound());
-    let volume = volume_cell(alloc, &glance.first)?;
+    let (glance, stop) = (&sight.glance, sight.stop);
+    let whole = whole_cell(dispute.is_some(), sight.is_sound());
+    let (volume, owner) = match &glance.first {
+        First::Volume(label) => (
+            trimmed(alloc, &label.volume)?,
+            trimmed(alloc, &label.owner)?,
+        ),
+        _ => (String::new(alloc), String::new(alloc)),
+    };
     let head = head_cells(alloc, &glance.head)?;
     let (items, files, bad) = (glance.items, glance.files, glance.bad);
-    let counts = format!(in alloc; "{items}\t{files}\t{bad}")?;
-    let rest = format!(in alloc; "{head}\t{counts}\t")?;
-    let mut cells = format!(in alloc; "{whole}\t{volume}\t{rest}")?.into_bytes();
-    let stop = sight.stop;
-    cells.extend_from_slice(format!(in alloc; "{stop}")?.as_bytes())?;
-    cells.push(b'\t')?;
-    cells.extend_from_slice(owner_cell(alloc, &glance.first)?.as_bytes())?;
-    Ok(cells)
+    let seen = seen_text(alloc, "; ", sight, dispute)?;
+    let front = format!(in alloc; "\t{whole}\t{volume}\t{head}\t{items}\t{files}\t{bad}")?;
+    format!(in alloc; "{front}\t{stop}\t{owner}\t{seen}\n")
 }
 
 /// Returns the state of an image: whether it has a copy that differs from another, or else was read
@@ -80,30 +77,6 @@ fn whole_cell(disputed: bool, sound: bool) -> &'static str
     }
 }
 
-/// Returns the volume, if the first item is a volume label.
-fn volume_cell(alloc: Global, first: &First) -> Result<String, AllocError>
-    ensures { IfOk result (λ cell. string_bytes cell ≡ volume_cell first.now) }
-{
-    match first {
-        First::Volume(label) => trimmed(alloc, &label.volume),
-        First::Nothing | First::Ebcdic | First::Block(_) | First::Bad | First::Mark => {
-            Ok(String::new(alloc))
-        }
-    }
-}
-
-/// Returns the owner, if the first item is a volume label.
-fn owner_cell(alloc: Global, first: &First) -> Result<String, AllocError>
-    ensures { IfOk result (λ cell. string_bytes cell ≡ owner_cell first.now) }
-{
-    match first {
-        First::Volume(label) => trimmed(alloc, &label.owner),
-        First::Nothing | First::Ebcdic | First::Block(_) | First::Bad | First::Mark => {
-            Ok(String::new(alloc))
-        }
-    }
-}
-
 /// Returns the field without trailing spaces.
 fn trimmed<const N: usize>(alloc: Global, field: &Field<N>) -> Result<String, AllocError>
     ensures { IfOk result (λ text. string_bytes text ≡ trimmed_text field.now) }
@@ -117,29 +90,10 @@ fn head_cells(alloc: Global, head: &Option<Head1>) -> Result<String, AllocError>
 {
     match head {
         Some(head) => {
-            let set_id = trimmed(alloc, &head.set_id)?;
-            let system = trimmed(alloc, &head.implementation)?;
+            let (set_id, system) = (Trimmed(&head.set_id), Trimmed(&head.implementation));
             format!(in alloc; "{set_id}\t{system}")
         }
         None => format!(in alloc; "\t"),
-    }
-}
-
-/// Returns the end of the row of an image: its description in words, or the text that it was not
-/// opened.
-fn words_cell(
-    alloc: Global,
-    sight: &Option<ImageSurvey>,
-    dispute: Option<SectionKey>,
-) -> Result<String, AllocError>
-    ensures { IfOk result (λ cell. string_bytes cell ≡ words_cell sight.now dispute) }
-{
-    match sight {
-        Some(sight) => {
-            let seen = seen_text(alloc, "; ", sight, dispute)?;
-            format!(in alloc; "\t{seen}\n")
-        }
-        None => format!(in alloc; "\tnot opened\n"),
     }
 }
 
@@ -151,20 +105,15 @@ pub(crate) fn section_row(
 ) -> Result<String, AllocError>
     ensures { IfOk result (λ row. string_bytes row ≡ section_row (key.now, entry.now)) }
 {
-    let (file, sect, blocks) = (key.file, key.sect, entry.blocks);
-    let state = state_text(entry.state);
-    let eof = eof_cell(entry.eof);
-    let rest = format!(in alloc; "{state}\t{eof}\n")?;
-    let rest = format!(in alloc; "{}\t{blocks}\t{rest}", Trimmed(&entry.volume))?;
-    let key = format!(in alloc; "{}\t{file}\t{sect}", Trimmed(&key.set_id))?;
-    format!(in alloc; "SECTION\t{key}\t{rest}")
-}
-
-/// Returns whether its trailer label ends the file.
-fn eof_cell(eof: bool) -> &'static str
-    ensures { result.now ≡ eof_cell eof }
-{
-    if eof { "EOF" } else { "" }
+    let (set_id, file, sect) = (Trimmed(&key.set_id), key.file, key.sect);
+    let (volume, blocks, state) = (
+        Trimmed(&entry.volume),
+        entry.blocks,
+        state_text(entry.state),
+    );
+    let eof = if entry.eof { "EOF" } else { "" };
+    let key = format!(in alloc; "SECTION\t{set_id}\t{file}\t{sect}")?;
+    format!(in alloc; "{key}\t{volume}\t{blocks}\t{state}\t{eof}\n")
 }
 
 /// Returns the columns of a file, up to the last one.

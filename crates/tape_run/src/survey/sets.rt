@@ -226,5 +226,5 @@ pub(crate) fn is_all(findings: &Findings) -> Result<bool, AllocError>
     let found = found_all(&findings.sections, &sets);
     let good = all_good(&findings.sections);
     let one_file = !any_differs(&findings.files);
-    Ok(findings.whole && found && good && one_file && findings.copies.is_agreed())
+    Ok(findings.whole && found && good && one_file && findings.copies.conflicts.is_empty())
 }

@@ -41,13 +41,11 @@ pub(crate) fn add_strays(
     ensures { OnOk result (texts.new.items
         ≡ texts.old.items ++ strays_text wording sections.now.entries) }
 {
-    match wording {
-        Wording::Rows => Ok(()),
-        Wording::Words => {
-            for (key, entry) in sections {
-                add_stray(texts, sections, key, entry)?;
-            }
-            Ok(())
-        }
+    let Wording::Words = wording else {
+        return Ok(());
+    };
+    for (key, entry) in sections {
+        add_stray(texts, sections, key, entry)?;
     }
+    Ok(())
 }

@@ -64,15 +64,13 @@ fn add_front(
     ensures { OnOk result (texts.new.items
         ≡ texts.old.items ++ set_front wording findings.now (set_id, greatest)) }
 {
-    match wording {
-        Wording::Words => {
-            let complete = sure_files(findings, set_id, greatest);
-            let line = set_line(findings.alloc, &set_id, complete, greatest)?;
-            texts.extend_from_slice(line.as_bytes())?;
-            add_volumes(texts, findings, set_id, greatest)
-        }
-        Wording::Rows => Ok(()),
-    }
+    let Wording::Words = wording else {
+        return Ok(());
+    };
+    let complete = sure_files(findings, set_id, greatest);
+    let line = set_line(findings.alloc, &set_id, complete, greatest)?;
+    texts.extend_from_slice(line.as_bytes())?;
+    add_volumes(texts, findings, set_id, greatest)
 }
 
 /// Appends the text for a set and its files.
@@ -117,15 +115,13 @@ pub(crate) fn add_sections(
     ensures { OnOk result (texts.new.items
         ≡ texts.old.items ++ sections_text wording sections.now.entries) }
 {
-    match wording {
-        Wording::Words => Ok(()),
-        Wording::Rows => {
-            let alloc = *texts.allocator();
-            for (key, entry) in sections {
-                let row = section_row(alloc, key, entry)?;
-                texts.extend_from_slice(row.as_bytes())?;
-            }
-            Ok(())
-        }
+    let Wording::Rows = wording else {
+        return Ok(());
+    };
+    let alloc = *texts.allocator();
+    for (key, entry) in sections {
+        let row = section_row(alloc, key, entry)?;
+        texts.extend_from_slice(row.as_bytes())?;
     }
+    Ok(())
 }

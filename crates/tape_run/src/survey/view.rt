@@ -21,7 +21,7 @@ use crate::sections::{Sections, close, take};
 use std::alloc::Global;
 use std::io::Read;
 use std::marker::Model;
-use tape_image::ImageReader;
+use tape_image::{ImageBuffer, ImageReader};
 use tape_set::Sequence;
 
 /// The survey of an image: the summary of its items, how they end, and its damaged sections.
@@ -132,26 +132,7 @@ impl Findings {
             self.images = self.images.saturating_add(1);
             return Ok(None);
         };
-        let sight = self.read_items(&mut reader)?;
-        let whole = sight.is_whole();
-        self.whole = self.whole && whole;
-        self.images = self.images.saturating_add(1);
-        Ok(Some(sight))
-    }
-
-    /// Does the same for an image that was opened. The reader keeps the bytes that were not read.
-    fn read_items<R: Read>(&mut self, reader: &mut R) -> Result<ImageSurvey, RunFault>
-        ensures fault { IsOkUnless result faults.OutOfMemory }
-        ensures ok { IfOk result (λ sight. ViewsItems (R.remaining reader.old)
-            (R.remaining reader.new) self.old.images self.old.sections self.old.files
-            self.old.locations self.old.copies sight self.new.sections self.new.files
-            self.new.locations self.new.copies) }
-        ensures same { OnOk result (self.new.whole ≡ self.old.whole) }
-        ensures count { OnOk result (self.new.images ≡ self.old.images) }
-    {
-        let Ok(mut image) = ImageReader::new(self.alloc, reader) else {
-            return Err(RunFault::OutOfMemory);
-        };
+        let mut image = ImageReader::over(ImageBuffer::new(self.alloc)?, &mut reader);
         let viewed = view_items(
             self.alloc,
             &mut self.sections,
@@ -161,9 +142,13 @@ impl Findings {
             self.images,
             &mut image,
         );
-        // The caller gets back the rest of the reader.
+        // The contract names the rest of the reader.
         image.into_device();
-        viewed
+        let sight = viewed?;
+        let whole = sight.is_whole();
+        self.whole = self.whole && whole;
+        self.images = self.images.saturating_add(1);
+        Ok(Some(sight))
     }
 }
 
@@ -181,13 +166,9 @@ pub(crate) fn read_images<R: Read + Drop, L: ImageSource<R>>(
 {
     let mut sights = Vec::new(findings.alloc);
     for number in 0..count {
-        let Ok(image) = images.mount(number) else {
-            return Err(RunFault::OutOfMemory);
-        };
+        let image = images.mount(number)?;
         let sight = findings.read(image)?;
-        let Ok(()) = sights.push(sight) else {
-            return Err(RunFault::OutOfMemory);
-        };
+        sights.push(sight)?;
     }
     Ok(sights)
 }

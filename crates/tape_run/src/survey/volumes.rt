@@ -10,14 +10,11 @@ ghost use Rattle.tape_run.specs.SurveyChain.{column_after, volumes_line, volumes
 use super::gaps::is_found;
 use super::problems::ends;
 use super::view::Findings;
-use crate::section::SectionKey;
+use crate::section::{LAST_SECTION, SectionKey};
 use crate::sections::Sections;
 use crate::text::Trimmed;
 use std::alloc::{AllocError, Global};
 use tape_label::Field;
-
-/// The greatest number of a section.
-const MOST: u16 = 9_999;
 
 /// The column at which a line begins.
 const INDENT: usize = 11;
@@ -110,7 +107,7 @@ fn add_found(
     ensures { OnOk result (chain.new.items
         ≡ chain.old.items ++ found_chain sections.now.entries set_id file) }
 {
-    add_sections(chain, sections, set_id, file, MOST)
+    add_sections(chain, sections, set_id, file, LAST_SECTION)
 }
 
 /// Appends the volumes of file `file`, or `None` if no label of it was found.
@@ -238,14 +235,14 @@ fn add_text(
         ++ (comma_text column (item_text item.now) ++ item_text item.now)) }
 {
     let text = item_text(alloc, item)?;
-    if text.len() < WIDTH.saturating_sub(column) {
-        texts.extend_from_slice(b", ")?;
-        texts.extend_from_slice(text.as_bytes())?;
-        return Ok(column + 2 + text.len());
-    }
-    texts.extend_from_slice(b",\n           ")?;
+    let (comma, start) = if text.len() < WIDTH.saturating_sub(column) {
+        (", ", column + 2)
+    } else {
+        (",\n           ", INDENT)
+    };
+    texts.extend_from_slice(comma.as_bytes())?;
     texts.extend_from_slice(text.as_bytes())?;
-    Ok(INDENT + text.len())
+    Ok(start + text.len())
 }
 
 /// Appends the line of the volumes of a set whose greatest file number is `greatest`, if there are

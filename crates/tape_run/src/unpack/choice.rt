@@ -1,6 +1,6 @@
 //! The found files that are to be unpacked.
 ghost use Rattle.std.specs.Prelude.{◌≡◌, ◌≢◌, ◌↔◌, ◌∷◌, ℕ, List, IsTrue, IfSome, IfNone};
-ghost use Rattle.tape_run.specs.UnpackChoice.{Fits, Means, IsOfSet, IsMeant, Chosen};
+ghost use Rattle.tape_run.specs.UnpackChoice.{Fits, Means, IsOfSet, Chosen};
 
 use super::SetFile;
 use crate::text::{put_decimal, put_trimmed};
@@ -23,18 +23,9 @@ impl FileChoice<'_> {
     pub fn chooses(&self, file: &SetFile) -> bool
         ensures { IsTrue result ↔ Chosen self.now file.now }
     {
-        is_of_set(self.set_id, file) && is_meant(self.words, file)
+        is_of_set(self.set_id, file)
+            && (self.words.is_empty() || self.words.iter().any(|word| means(word, file)))
     }
-}
-
-/// Returns whether one of the words means this file, or the list is empty.
-fn is_meant(words: &[&str], file: &SetFile) -> bool
-    ensures { IsTrue result ↔ IsMeant words.now file.now }
-{
-    if words.is_empty() {
-        return true;
-    }
-    words.iter().any(|word| means(word, file))
 }
 
 /// Returns whether a file belongs to this set, if a set is named.

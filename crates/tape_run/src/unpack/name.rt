@@ -1,7 +1,7 @@
 //! The names under which files are unpacked.
 ghost use Rattle.std.specs.Prelude.{◌≡◌, ◌≤◌, ◌<◌, ◌+◌, ◌*◌, ◌++◌};
 ghost use Rattle.arrayvec.specs.ArrayVec.{array_vec_len};
-ghost use Rattle.tape_run.specs.Unpacking.{is_plain, is_kept, escape, escaped, escaped_all};
+ghost use Rattle.tape_run.specs.Unpacking.{is_kept, escape, escaped};
 ghost use Rattle.tape_run.specs.Unpacking.{fit, fit_last, fit_text, file_name};
 
 use crate::quoting::hex;
@@ -22,19 +22,14 @@ pub fn file_name(set_id: &Field<6>, file: u16, file_id: &Field<17>) -> Text
     ensures { result.items ≡ file_name set_id.now file file_id.now }
 {
     let mut text = Text::new();
-    put_escaped(&mut text, set_id);
+    for byte in set_id.bytes() {
+        put_byte(&mut text, *byte);
+    }
     put(&mut text, b".");
     put_decimal(&mut text, u64::from(file));
     put(&mut text, b".");
     put_file_id(&mut text, file_id);
     text
-}
-
-/// Returns whether the byte is a digit or a capital letter.
-fn is_plain(byte: u8) -> bool
-    ensures { result ≡ is_plain byte }
-{
-    (b'0'..=b'9').contains(&byte) || (b'A'..=b'Z').contains(&byte)
 }
 
 /// Returns whether the byte is a printable character that every file system accepts in names.
@@ -64,23 +59,12 @@ fn put_byte(text: &mut Text, byte: u8)
     ensures items { text.new.items ≡ text.old.items ++ escaped byte }
     ensures len { array_vec_len text.new ≤ array_vec_len text.old + 3 }
 {
-    if is_plain(byte) {
+    if (b'0'..=b'9').contains(&byte) || (b'A'..=b'Z').contains(&byte) {
         text.push(byte);
     } else if byte == b' ' {
         text.push(b'_');
     } else {
         put_escape(text, byte);
-    }
-}
-
-/// A set identifier.
-fn put_escaped(text: &mut Text, set_id: &Field<6>)
-    requires { array_vec_len text.old ≤ 50 }
-    ensures items { text.new.items ≡ text.old.items ++ escaped_all set_id.now }
-    ensures len { array_vec_len text.new ≤ array_vec_len text.old + 18 }
-{
-    for byte in set_id.bytes() {
-        put_byte(text, *byte);
     }
 }
 

@@ -5,15 +5,12 @@ ghost use Rattle.tape_run.specs.ReadingOrder.{is_in, with_image, followed_by, se
 ghost use Rattle.tape_run.specs.ReadingOrder.{is_of_set, images_of, reading_order};
 ghost use Rattle.tape_run.specs.Unpacking.{set_of};
 
-use crate::section::SectionKey;
+use crate::section::{LAST_SECTION, SectionKey};
 use crate::survey::locations::Locations;
 use crate::survey::view::ImageSurvey;
 use crate::unpack::{FoundFiles, set_of};
 use std::alloc::{AllocError, Global};
 use tape_label::Field;
-
-/// The greatest number of a section.
-const LAST_SECTION: u16 = 9_999;
 
 /// Numbers of images, each at most once.
 #[derive(Drop)]

@@ -8,9 +8,9 @@ ghost use Rattle.tape_run.specs.UnpackTally.{nothing_counted, counted, total_lin
 
 use super::SetFile;
 use super::line::{UnpackOutcome, file_line};
-use crate::fault::{EngineFault, NO_MEMORY};
-use crate::survey::gaps::numbers_line;
-use crate::text::{Text, put, put_decimal, write_text};
+use crate::fault::EngineFault;
+use crate::survey::gaps::Numbers;
+use crate::text::{Identifier, Text, put, put_decimal, write_line, write_text};
 use std::alloc::Global;
 use std::io::Write;
 use tape_label::Field;
@@ -87,9 +87,7 @@ pub fn report_file<P: Write>(
     ensures uncounted { OnErr result (tally.new ≡ tally.old) }
     ensures fault { IfErr result IsCheckFault }
 {
-    let Ok(line) = file_line(alloc, file, outcome, details, path) else {
-        return Err(NO_MEMORY);
-    };
+    let line = file_line(alloc, file, outcome, details, path)?;
     write_text(report, line.as_slice())?;
     tally.count(outcome, 1);
     Ok(())
@@ -118,7 +116,8 @@ pub fn report_numbers<P: Write>(
     ensures uncounted { OnErr result (tally.new ≡ tally.old) }
     ensures fault { IfErr result (λ fault. fault ≡ EngineFault.WriteFailed) }
 {
-    write_text(report, &numbers_line(set_id, first, file))?;
+    let (set_id, numbers) = (Identifier(set_id), Numbers(first, file));
+    write_line(report, &format_args!("FILE {set_id} {numbers} NOT FOUND\n"))?;
     tally.count(UnpackOutcome::NotFound, u64::from(file - first));
     Ok(())
 }

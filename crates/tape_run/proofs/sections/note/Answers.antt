@@ -4,7 +4,7 @@ use Rattle.tape_run.specs.{Noted.same_key, declared.section.Entry.Entry}
 use Rattle.tape_run.proofs.Inserting.{inserted}
 use Rattle.tape_run.proofs.sections.note.Goals as goal
 
-pub returns-in-Ok-clause-ok : goal.returns-in-Ok-clause-ok
-returns-in-Ok-clause-ok c = c.in-Ok.ensures.entries
+pub returns-clause-ok : goal.returns-clause-ok
+returns-clause-ok c = c.in_ok-insert.ensures.entries
     ∙ ap (λ (e : Entry). insert_entry same_key c.args.sections.now.entries c.args.key e)
     c.kept_of-kept.ensures ∙ inserted c.args.sections.now.entries c.args.key c.args.entry

@@ -11,23 +11,23 @@ use Rattle.tape_run.proofs.survey.survey_to.Goals as goal
 pub returns-clause-ok : goal.returns-clause-ok
 returns-clause-ok g c =
     let names = map (λ x. x.now) c.args.names.now in
-    let sights = c.in-Ok.sights.items in
+    let sights = c.in_ok-sights.sights.items in
     let found = c.read_images.new.findings in
-    let viewed = c.in-Ok.ensures.viewed in
+    let viewed = c.in_ok-sights.ensures.viewed in
     let old = g.P.Write.contents c.args.report.now in
     let new = g.P.Write.contents c.pass_on.new.report in
-    let text = c.as_slice-2.ensures.value ∙ c.in-Ok-survey_text.ensures.text in
+    let text = c.as_slice-2.ensures.value ∙ c.in_ok-text.ensures.text in
     record {
       sights = sights;
       found = found;
-      each = c.in-Ok.ensures.each ∙ sym (length-map c.args.names.now (λ x. x.now));
+      each = c.in_ok-sights.ensures.each ∙ sym (length-map c.args.names.now (λ x. x.now));
       viewed = viewed;
       wrote = subst (λ l. Appends old new (survey_text c.args.wording names l found))
           c.as_slice.ensures.value (subst (Appends old new) text c.in_ok-pass_on.ensures.ok);
-      is_so = c.in-Ok-survey_text.ensures.all;
+      is_so = c.in_ok-text.ensures.all;
       sound = λ e. all_is_sound g.L.ImageSource.gives g.R.Read.remaining c.args.images.now
           c.read_images.new.images sights found viewed
-          (sym c.in-Ok-survey_text.ensures.all ∙ e);
+          (sym c.in_ok-text.ensures.all ∙ e);
       conflicts = conflicts_are_real g.L.ImageSource.gives g.R.Read.remaining c.args.images.now
           c.read_images.new.images sights found viewed;
       disputes = disputes_are_told g.L.ImageSource.gives g.R.Read.remaining c.args.images.now
@@ -40,12 +40,12 @@ returns-in_err-pass_on-clause-front g c =
     let found = c.read_images.new.findings in
     let old = g.P.Write.contents c.args.report.now in
     let new = g.P.Write.contents c.pass_on.new.report in
-    let text = c.as_slice-2.ensures.value ∙ c.in-Ok-survey_text.ensures.text in
+    let text = c.as_slice-2.ensures.value ∙ c.in_ok-text.ensures.text in
     on_err _ _ (inr (record {
-      sights = c.in-Ok.sights.items;
+      sights = c.in_ok-sights.sights.items;
       found = found;
-      each = c.in-Ok.ensures.each ∙ sym (length-map c.args.names.now (λ x. x.now));
-      viewed = c.in-Ok.ensures.viewed;
+      each = c.in_ok-sights.ensures.each ∙ sym (length-map c.args.names.now (λ x. x.now));
+      viewed = c.in_ok-sights.ensures.viewed;
       wrote = subst (λ l. AppendsFront old new (survey_text c.args.wording names l found))
           c.as_slice.ensures.value (subst (AppendsFront old new) text c.in_err-pass_on.ensures.err);
     }))

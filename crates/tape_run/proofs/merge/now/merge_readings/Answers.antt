@@ -107,22 +107,22 @@ returns-in_err-pass_line-in-Err-Differ-clause-left g c =
     c.in-Err-Differ.ensures.still_all _ _ _
     c.in_ok-report_readings-in-Err-Differ.ensures.ok wrote)
 
-pub returns-in_err-report_items-in-Err-Differ-clause-left :
-    goal.returns-in_err-report_items-in-Err-Differ-clause-left
-returns-in_err-report_items-in-Err-Differ-clause-left g c =
+pub returns-in_err-report_readings-in-Err-Differ-2-clause-left :
+    goal.returns-in_err-report_readings-in-Err-Differ-2-clause-left
+returns-in_err-report_readings-in-Err-Differ-2-clause-left g c =
     let names = map (λ n. n.now) c.args.names.now in
     let old = g.P.Write.contents c.args.report.now in
     let first = g.P.Write.contents c.report_readings-in-Err-Differ.new.report in
     let second = g.P.Write.contents c.pass_line-in-Err-Differ.new.writer in
     let wrote : Appends first second (differ_line c.in-Err-Differ.item) = search rules in
-    err_stays c.from_residual-in_err-report_items-in-Err-Differ.result g.O.Place.stands _ _ _
+    err_stays c.from_residual-in_err-report_readings-in-Err-Differ-2.result g.O.Place.stands _ _ _
     (says_items c.args.readings.now c.merge_to.new.readings _ _ c.in-Err-Differ.item
     c.in-Err-Differ.field-0 _ _ c.in-Err-Differ.ensures.fault c.in-Err-Differ.field-0-is
     c.in-Err-Differ.ensures.still_all old second
     _
     (Appends-trans old first second (lines_from (reading_line names) 0 c.merge_to.new.readings)
     (differ_line c.in-Err-Differ.item) c.in_ok-report_readings-in-Err-Differ.ensures.ok wrote)
-    c.in_err-report_items-in-Err-Differ.ensures.front)
+    c.in_err-report_readings-in-Err-Differ-2.ensures.front)
 
 pub returns-in_err-pass_line-in-Ok-merge_to-clause-left :
     goal.returns-in_err-pass_line-in-Ok-merge_to-clause-left

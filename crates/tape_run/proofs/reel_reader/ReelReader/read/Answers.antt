@@ -1,25 +1,31 @@
 use Rattle.std.proofs.Common.{◌≡◌, ◌≢◌, ◌++◌, [], ◌∷◌, ℕ, List, Option, Some, None, take, drop, ◌∙◌}
-use Rattle.std.proofs.Common.{sym, ap, subst, refl, inl, inr, arith, IfNone}
+use Rattle.std.proofs.Common.{sym, ap, subst, refl, inl, inr, arith, IfNone, rules}
 use Rattle.tape_image.specs.Tape.{TapeItem, block}
 use Rattle.tape_image.proofs.{Callers.from_going, Steps.least_four, Pieces.on_err}
 use Rattle.tape_set.specs.Position.{part_of}
 use Rattle.tape_core.specs.declared.event.Answer.TheVariants.{Passed, Deliver, SectionDone}
-use Rattle.tape_core.specs.{declared.event.Answer.Answer, declared.event.Event.Event, State.State}
+use Rattle.tape_core.specs.{declared.event.Answer.Answer, State.State}
 use Rattle.tape_core.specs.declared.event.Answer.TheVariants.{Complete, Useless}
 use Rattle.tape_core.specs.{declared.event.Awaited.Awaited, Arrive.arrival, Follows.IsFinal}
-use Rattle.tape_core.specs.declared.event.Event.TheVariants.{Block, Bad, Mark, ReelEnd}
 use Rattle.tape_core.specs.Table.{Outcome, after_block, saved, step_of}
 use Rattle.tape_core.proofs.Crashes.{only_same}
-use Rattle.tape_run.specs.Reels.{IsDelivery, StopsAt, delivered_by}
-use Rattle.tape_run.proofs.Reels.{item_came, item_given, block_given, none_read, read_on}
-use Rattle.tape_run.proofs.reel_reader.ReelReader.read.Goals.{in-Block+in_default-awaited}
+use Rattle.std.proofs.Common.{Result, Ok, Err}
+use Rattle.tape_image.specs.Reader.{seen}
+use Rattle.tape_image.specs.declared.item.{Item.Item, ImageFault.ImageFault}
+use Rattle.tape_image.specs.declared.item.Item.TheVariants as items
+use Rattle.tape_run.specs.Taking.{came_of}
+use Rattle.tape_run.specs.Reels.{StopsAt, delivered_by}
+use Rattle.tape_run.proofs.Reels.{IsDelivery, item_came, item_given, block_given, none_read}
+use Rattle.tape_run.proofs.Reels.{read_on}
 use Rattle.tape_run.proofs.ByTable.{puts_delivered, puts_none, puts_front}
 use Rattle.tape_run.proofs.{Completes.Tells, Completes.step_tells, Causes.refused_then}
 use Rattle.tape_run.proofs.{Growing.grows_then, Growing.adds_on, Ended.told_err}
 use Rattle.tape_run.proofs.Notes.{front_more, front_self, front_trans}
 use Rattle.tape_run.proofs.Images.{IsTaken, none_taken, taken_on, reads_image, refuses_image}
 use Rattle.tape_run.proofs.{Reels.reads_reel, Reels.reads_to_block, Places.checked_parts}
-use Rattle.tape_run.proofs.reel_reader.ReelReader.read.Goals.{in_default}
+use Rattle.tape_run.proofs.reel_reader.ReelReader.read.Goals.{in-Ok-Some-Block+in_default-awaited}
+use Rattle.tape_run.proofs.reel_reader.ReelReader.read.Goals.{in-Ok+in-Some+in-Bad-1, in-Err-1}
+use Rattle.tape_run.proofs.reel_reader.ReelReader.read.Goals.{in-Ok+in-None-1}
 use Rattle.tape_run.proofs.reel_reader.ReelReader.read.Goals as goal
 
 -- an answer ends the reading if it is neither of the two after which the reading continues
@@ -31,12 +37,14 @@ ends Complete p d = tt
 ends (Useless why) p d = tt
 
 -- only a block is delivered
-no_block : (event : Event) (bytes : List ℕ) → ((b : _) → event ≡ Block b → ⊥)
-    → arrival event ≡ Some (block bytes) → ⊥
-no_block (Block b) bytes n e = n b refl
-no_block Bad bytes n e = cc
-no_block Mark bytes n e = cc
-no_block ReelEnd bytes n e = cc
+not_block : (told : Result (Option Item) ImageFault) (bytes : List ℕ)
+    → ((b : _) → told ≡ Ok (Some (items.Block b)) → ⊥)
+    → came_of (seen told) ≡ Some (block bytes) → ⊥
+not_block (Ok (Some (items.Block b))) bytes n e = n b refl
+not_block (Ok (Some items.Bad)) bytes n e = cc
+not_block (Ok (Some items.Mark)) bytes n e = cc
+not_block (Ok None) bytes n e = cc
+not_block (Err fault) bytes n e = cc
 
 unawaited : (found : Option Awaited) (X : Type 0) → ((a : Awaited) → found ≡ Some a → ⊥)
     → IfNone found X → X
@@ -71,12 +79,12 @@ items-preserved g c =
     ap (λ (a : Answer). delivered_by (a ∷ [])) passes in
     let (item, is) = item_came _ _ _ _ step.left (inl passes) in
     let gives = item_given _ _ _ item (sym c.event_of-fault.ensures.comes ∙ is)
-    (from_going _ _ _ c.next.follows.holds-at-none inv.on) in
+    (from_going _ _ _ c.next-told.follows.holds-at-none inv.on) in
     record {
       on = gives.goes_on;
       limit = gives.within;
       few = omega (arith, gives.extent, inv.few, least_four item);
-      same_device = c.next.follows.holds-at-none.same_device ∙ inv.same_device;
+      same_device = c.next-told.follows.holds-at-none.same_device ∙ inv.same_device;
       file = step.file ∙ inv.file;
       set_id = step.set_id ∙ inv.set_id;
       calm = inv.calm;
@@ -99,19 +107,19 @@ pub returns-in_err-put_block-clause-taken : goal.returns-in_err-put_block-clause
 returns-in_err-put_block-clause-taken g c =
     let core = c.items.self.core in
     let awaited = c.in-Some.ensures.some in
-    let is : arrival c.event_of-fault.result.0 ≡ Some (block c.in-Block.block.now) =
-    ap arrival c.in-Block.is in
+    let told = c.next-told.result in
+    let is : came_of (seen told) ≡ Some (block c.in-Ok-Some-Block.block.now) = search rules in
     let step = sym awaited.step ∙ ap (step_of core) (sym is) in
-    let delivery : IsDelivery core (arrival c.event_of-fault.result.0) c.put_block.new.self.core = (
-      c.in-Block.block.now,
+    let delivery : IsDelivery core (came_of (seen told)) c.put_block.new.self.core = (
+      c.in-Ok-Some-Block.block.now,
       is,
       sym (ap (λ (z : Outcome). z.0) step),
       subst (λ (z : Outcome). StopsAt (saved core 0) (saved z.1 0) c.put_block.new.self.core) step
           c.in_err-put_block.ensures.stops,
     ) in
-    let (content, came, gives, delivers, stops) = block_given _ _ _ _ _ _
-    c.event_of-fault.ensures.comes delivery (from_going _ _ _
-    c.next.follows.holds-at-none c.items.invariant.on) in
+    let (content, came, gives, delivers, stops) = block_given _ _ _ _ _ _ refl delivery (from_going
+    _ _ _
+    c.next-told.follows.holds-at-none c.items.invariant.on) in
     on_err _ _ (reads_to_block _ _ _ _ _ c.items.invariant.answers gives delivers stops)
 
 pub returns-in_err-put_block-clause-err : goal.returns-in_err-put_block-clause-err
@@ -119,12 +127,12 @@ returns-in_err-put_block-clause-err g c = on_err c.from_residual.result _ (λ he
     let core = c.items.self.core in
     let awaited = c.in-Some.ensures.some in
     let mid = after_block core c.in-Some.awaited.end in
-    let bytes = c.in-Block.block.now in
+    let bytes = c.in-Ok-Some-Block.block.now in
     let step : (Deliver, mid) ≡ step_of core (Some (block bytes)) = sym awaited.step in
     let checked = awaited.checked in
-    let gives = item_given _ _ _ (block bytes)
-    (sym c.event_of-fault.ensures.comes ∙ ap arrival c.in-Block.is)
-    (from_going _ _ _ c.next.follows.holds-at-none c.items.invariant.on) in
+    let is : came_of (seen c.next-told.result) ≡ Some (block bytes) = search rules in
+    let gives = item_given _ _ _ (block bytes) is
+    (from_going _ _ _ c.next-told.follows.holds-at-none c.items.invariant.on) in
     let holds = checked_parts core mid bytes checked in
     let (now, has, front, known) = c.items.invariant.so_far held was in
     let up = c.in_err-put_block.ensures.err now checked.parts checked.form checked.is_known holds
@@ -148,20 +156,20 @@ items-preserved-in-Some g c =
     let awaited = c.in-Some.ensures.some in
     let mid = after_block core c.in-Some.awaited.end in
     let put = c.in_ok-put_block.ensures in
-    let came = arrival c.event_of-fault.result.0 in
-    let bytes = c.in-Block.block.now in
-    let is : came ≡ Some (block bytes) = ap arrival c.in-Block.is in
+    let came = came_of (seen c.next-told.result) in
+    let bytes = c.in-Ok-Some-Block.block.now in
+    let is : came ≡ Some (block bytes) = search rules in
     let step : (Deliver, mid) ≡ step_of core came =
     sym awaited.step ∙ ap (step_of core) (sym is) in
-    let gives = item_given _ _ _ (block bytes) (sym c.event_of-fault.ensures.comes ∙ is)
-    (from_going _ _ _ c.next.follows.holds-at-none inv.on) in
+    let gives = item_given _ _ _ (block bytes) is
+    (from_going _ _ _ c.next-told.follows.holds-at-none inv.on) in
     let table : (Deliver, c.put_block.new.self.core) ≡ step_of core came =
     ap (λ (z : State). (Deliver, z)) put.moved ∙ step in
     record {
       on = gives.goes_on;
       limit = gives.within;
       few = omega (arith, gives.extent, inv.few, least_four (block bytes));
-      same_device = c.next.follows.holds-at-none.same_device ∙ inv.same_device;
+      same_device = c.next-told.follows.holds-at-none.same_device ∙ inv.same_device;
       file = c.put_block.ensures.file ∙ inv.file;
       set_id = c.put_block.ensures.set_id ∙ inv.set_id;
       calm = put.calm ∙ inv.calm;
@@ -193,22 +201,28 @@ returns-in_default-step g c =
     let mid = c.step.new.self in
     let step = c.step.ensures in
     let came = arrival c.event_of-fault.result.0 in
-    let other : c.step.result ≢ Deliver = elim c.match-event.branch [
-      | in-Block+in_default-awaited w ↦ λ e. unawaited _ _ w.in_default-awaited.not-Some
+    let comes = c.event_of-fault.ensures.comes in
+    let other : c.step.result ≢ Deliver = elim c.match-told.branch [
+      | in-Ok-Some-Block+in_default-awaited w ↦ λ e.
+          let told : came_of (seen c.next-told.result) ≡ Some (block w.in-Ok-Some-Block.block.now)
+          = search rules in
+          unawaited _ _ w.in_default-awaited.not-Some
           w.awaited.ensures.none (ap (λ (z : Option TapeItem). (step_of core z).0)
-          (sym (ap arrival w.in-Block.is)) ∙ (sym (ap (λ (z : Outcome). z.0) step.table) ∙ e))
-      | in_default w ↦ λ e. no_block _ _ w.in_default.not-Block (step.checked e).came
+          (sym (comes ∙ told)) ∙ (sym (ap (λ (z : Outcome). z.0) step.table) ∙ e))
+      | in-Ok+in-Some+in-Bad-1 w ↦ λ e. not_block _ _ (search rules) (sym comes
+          ∙ (step.checked e).came)
+      | in-Ok+in-None-1 w ↦ λ e. not_block _ _ (search rules) (sym comes ∙ (step.checked e).came)
+      | in-Err-1 w ↦ λ e. not_block _ _ (search rules) (sym comes ∙ (step.checked e).came)
     ] in
     let final = ends c.step.result c.in_default-step.not-Passed other in
-    let met = from_going _ _ _ c.next.follows.holds-at-none inv.on in
-    let comes = c.event_of-fault.ensures.comes in
+    let met = from_going _ _ _ c.next-told.follows.holds-at-none inv.on in
     let fault = c.new.ensures.fault ∙ c.event_of-fault.ensures.fault in
     let answer : c.new.result.answer ≡ c.step.result = c.new.ensures.answer in
     record {
-      same_device = c.next.follows.holds-at-none.same_device ∙ inv.same_device;
+      same_device = c.next-told.follows.holds-at-none.same_device ∙ inv.same_device;
       file = step.file ∙ inv.file;
       set_id = step.set_id ∙ inv.set_id;
-      answer = reads_reel _ _ _ _ _ c.next.follows.lender-at-none _ inv.answers met
+      answer = reads_reel _ _ _ _ _ c.next-told.follows.lender-at-none _ inv.answers met
           (step.table ∙ ap (step_of core) comes) final answer fault c.new.ensures.blocks;
       complete = λ e. step.complete (sym answer ∙ e);
       finished = λ e. answer ∙ (subst Tells (sym step.table)
@@ -223,7 +237,7 @@ returns-in_default-step g c =
           left = step.left;
           puts = puts_none core mid c.step.result came held step.table other;
         },
-      )) (λ held now then known t. reads_image _ held _ _ c.next.follows.lender-at-none _ known
+      )) (λ held now then known t. reads_image _ held _ _ c.next-told.follows.lender-at-none _ known
           met (subst (λ z. IsTaken z c.step.result core mid now then) comes t)
           final fault);
       err = tt;

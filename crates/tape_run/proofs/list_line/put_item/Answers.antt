@@ -1,16 +1,16 @@
 use Rattle.std.proofs.Common.{◌≡◌, ◌++◌, length, codes, Result, Err, sym, ap, ◌∙◌, append_assoc}
 use Rattle.tape_label.specs.{Digits.digits, Labels.label_at}
 use Rattle.tape_label.specs.declared.label.{LabelFault.LabelFault, Label.Label}
-use Rattle.tape_run.specs.ListLine.{text_or, label_text, plain_text}
-use Rattle.tape_run.proofs.list_line.put_block.Goals as goal
+use Rattle.tape_run.specs.ListLine.{block_text}
+use Rattle.tape_run.proofs.list_line.put_item.Goals as goal
 
 pub returns-in-Err-clause-items : goal.returns-in-Err-clause-items
 returns-in-Err-clause-items c =
     let line = c.args.line.now.items in
-    let size = digits 5 (length c.args.bytes.now) in
-    let none : label_at c.args.bytes.now ≡ Err c.in-Err.field-0 =
+    let bytes = c.in-Block.bytes.now in
+    let size = digits 5 (length bytes) in
+    let none : label_at bytes ≡ Err c.in-Err.field-0 =
     sym c.read_label.ensures.exact ∙ c.in-Err.is in
-    c.put_number.ensures.items ∙ ap (λ l. l ++ size) c.put.ensures.items
+    rw c.in-Block.is (c.put_number.ensures.items ∙ ap (λ l. l ++ size) c.put.ensures.items
     ∙ append_assoc line (codes "BLOCK ") size
-    ∙ ap (λ (r : Result Label LabelFault). line ++ text_or r label_text
-    (plain_text c.args.bytes.now)) (sym none)
+    ∙ ap (λ (r : Result Label LabelFault). line ++ block_text r (length bytes)) (sym none))

@@ -1,5 +1,5 @@
 use Rattle.tape_run.proofs.Reporting.{ReadSoFar}
-use Rattle.tape_run.proofs.check.check_images.Given as goal
+use Rattle.tape_run.proofs.check.check_to.Given as goal
 
 abbrev pub invariant-loop-number : goal.invariant-loop-number
 invariant-loop-number g l = ReadSoFar g.L.ImageSource.gives g.R.Read.remaining l.fn.images l.images
