@@ -83,14 +83,15 @@ cases_of_staging disk = record {
   other_set = λ o.
       absurd (let e : 88 ≡ 65 = ap (λ l. get_or l 0 0) o.0 in omega (arith, e));
   other_file = λ o. absurd (let e : 4 ≡ 3 = o.1 in omega (arith, e));
-  stands = λ point parts session s. (s.resumed.place, s.resumed.notes);
-  holds = λ point parts session s. s.holds.framed;
-  survives = λ point parts session bytes s left.
-      let x = s.survives bytes left in (x.1, x.2, (bytes, left, (x.0, x.3)));
-  only = λ point back parts there session s. s.only back there;
-  survived = λ point parts session bytes s left.
-      let x = s.survived bytes (inl left) in (x.1, x.2, (bytes, inl left, (x.0, x.3)));
-  since = λ point back parts there session s. s.since back there;
+  stands = λ point parts session s. (
+    s.resumed.place,
+    s.resumed.notes,
+    s.holds.framed,
+    λ bytes left. let x = s.survives bytes left in (x.1, x.2, (bytes, left, (x.0, x.3))),
+    s.only,
+    λ bytes left. let x = s.survived bytes (inl left) in (x.1, x.2, (bytes, inl left, (x.0, x.3))),
+    s.since,
+  );
   goes_on = λ set_id read file session g. (g.staged, g.of_file.0, g.of_file.1, g.stands);
   unmade = λ set_id file. (
     unmade_nil set_id file,
@@ -100,16 +101,16 @@ cases_of_staging disk = record {
   );
   unmade_size = λ set_id file u. omega (arith, u.few);
   made = λ set_id read file g point broken parts remains u. u.none g point broken parts remains;
-  none_staged = λ set_id read file. (λ says. says.0 tt, λ says. says.0 tt);
-  fault_said = λ set_id read file place. (λ says. says.1, λ says. says.1);
+  fault_said = λ set_id read file place. (
+    λ says. (says.0 tt, says.1),
+    λ says. (says.0 tt, says.1),
+  );
   of_another = λ set_id read file n point parts says staged set is.
       let same = staged_once read n says.0 point says.1 parts says.2 staged says.3 in
       says.4 (subst (IsOfFile set_id file) same.1 (set, is));
   none_of_another = λ set_id read file none says. none says.0 says.1 says.2 says.3;
   of_another_set = λ set_id read file n point parts staged other.
-      (n, point, parts, staged, λ own. other own.0);
-  of_another_file = λ set_id read file n point parts staged other.
-      (n, point, parts, staged, λ own. other own.1);
+      (n, point, parts, staged, λ own. ⊎_elim (λ set. set own.0) (λ number. number own.1) other);
   unopened = (tt, tt, tt);
   opened = (λ h. h, λ h. h);
   none_told = (λ h. h, λ h. h);

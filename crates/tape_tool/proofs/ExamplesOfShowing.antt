@@ -81,14 +81,16 @@ cases_of_showing = record {
   breaks = refl;
   ends = λ want place fault. (refl, refl, refl, refl);
   shown = λ read damaged form out written said says ending s.
-      (s.remains, s.whole, s.ends, s.gives.wrote, s.gives.told);
-  counted = λ read damaged out written said says ending s. (s.gives.wrote, s.gives.told);
-  stopped = stopped;
-  good = λ read damaged form out written said says g point parts cause staged none h.
-      (none_told read damaged form out written said says cause none h).0 g point parts staged;
+      (s.remains, s.whole, s.ends, s.wrote, s.told);
+  counted = λ read damaged out written said says ending s. (s.wrote, s.told);
+  stopped = λ read damaged form out written said says. (
+    stopped read damaged form out written said says,
+    fails_before read damaged form out written said says,
+    stops_by read damaged form out written said says,
+    λ g point parts cause staged none h.
+        (none_told read damaged form out written said says cause none h).0 g point parts staged,
+  );
   remaining = λ read form out written said says g point broken parts cause remains none h.
       let told = none_told read true form out written said says cause none h in
       remaining read g point broken parts cause remains none (told.1, told.2);
-  fails_before = fails_before;
-  stops_by = stops_by;
 }

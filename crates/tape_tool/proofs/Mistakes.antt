@@ -5,6 +5,7 @@ use Rattle.std.proofs.Common.{subst, arith, ⊎_elim, ◌≤◌, Some, Ok, Err}
 use Rattle.std.proofs.Math.Nat.{min-eq_left}
 use Rattle.tape_set.specs.declared.position.Want.{Want}
 use Rattle.tape_stage.specs.Staged.{Staged}
+use Rattle.tape_stage.proofs.Remaining.{none_staged}
 use Rattle.tape_tool.specs.declared.program.End.TheVariants as ends
 use Rattle.tape_tool.specs.declared.stage.show.StageEnding.TheVariants as endings
 use Rattle.tape_tool.specs.{Ends.exit_status, Staging.IsOfFile, Staging.IsUnmade}
@@ -65,11 +66,12 @@ letter_emptied D L g d κs a s l honest letter =
 stage_of_another_file_emptied : (D : _) (L : _) (g : _) (d : _) (e : _) (κs : _) (a : _)
     (refused : _) (s : _) (generation : _) (point : _) (parts : _)
     → open_session.Learnt-named D L g d e κs a (Err refused) s → g.is_honest a.1.0
-    → (g.length_of a.1.0 ≡ 0 → ⊥) → Staged (g.seen a.1.0) generation point parts
+    → Staged (g.seen a.1.0) generation point parts
     → 256 + point.staged ≤ length (g.seen a.1.0) → g.seen refused.disk ≡ [] → ⊥
-stage_of_another_file_emptied D L g d e κs a refused s generation point parts l honest some staged
+stage_of_another_file_emptied D L g d e κs a refused s generation point parts l honest staged
     long none =
-    let k = (l.refused honest some).kept generation point parts staged in
+    let k = (l.refused honest (λ made. none_staged (g.seen a.1.0) made.none generation point parts
+    staged)).kept generation point parts staged in
     let m : 256 + point.staged ≤ length (g.seen refused.disk)
     = subst (λ v. v ≤ length (g.seen refused.disk)) (min-eq_left long) k.no_shorter in
     absurd (let n : length (g.seen refused.disk) ≡ 0 = ap length none in omega (arith, m))

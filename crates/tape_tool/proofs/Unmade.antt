@@ -9,6 +9,8 @@ use Rattle.tape_stage.specs.Staged.{new_slots}
 use Rattle.tape_stage.specs.declared.{disk.Disk.Ghosts, stage.StageFault.TheVariants.Device}
 use Rattle.tape_stage.proofs.{Bodies.length-body, Finds.none_remains, Refusals.untouched_then}
 use Rattle.tape_stage.proofs.{Passing.follow, Passing.weaken, Tears.closed_none}
+use Rattle.tape_stage.proofs.Passing.{reads_then, stands}
+use Rattle.tape_stage.specs.Disk.{IsLater, NoMore, SameFact}
 use Rattle.tape_stage.proofs.Openings.{look_keeps, look_passes, look_untouched}
 use Rattle.tape_tool.specs.Staging.{IsUnmade, RefusesSession, Says, first_point}
 use Rattle.tape_tool.specs.declared.staging.StagingFault.{StagingFault}
@@ -61,6 +63,20 @@ pub whole_read : (n : ℕ) (front now old : List ℕ) → front ≡ slice_range 
     → length old ≤ n → front ≡ old
 whole_read n front now old is same le =
     is ∙ take_all (0 + n - 0) now (omega (arith, le, ap length same)) ∙ same
+
+-- the length was asked for, and then the disk was only read
+pub asked_then : {D : Type 0} (disk : Ghosts D) (a b c : D)
+    → (disk.is_honest a → disk.seen b ≡ disk.seen a) → disk.length_of b ≡ disk.length_of a
+    → (disk.is_honest a → NoMore (disk.may_leave a) (disk.may_leave b))
+    → (disk.is_honest a → IsLater disk.moment disk.left_since disk.may_leave a b)
+    → SameFact (disk.is_honest a) (disk.is_honest b) → OnlyReads disk b c → OnlyReads disk a c
+asked_then disk a b c same long crash time honest second =
+    reads_then disk a b c honest.onward (record {
+      same = same;
+      same_length = long;
+      any_moment = λ h. stands disk a b _ (time h) (crash h);
+      back = honest.back;
+    }) second
 
 -- a disk that is not one, and was only read
 module _ {D : Type 0} (disk : Ghosts D) (a b : D) (reads : OnlyReads disk a b)

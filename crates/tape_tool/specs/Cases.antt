@@ -1,7 +1,7 @@
 -- Examples for the definitions of ends, faults, lines, names and sessions over stages, which show
 -- that none of them is too weak or too strict. They are the contract of the call `laws::cases`.
-use Rattle.std.specs.Prelude.{◌≡◌, ℕ, Bool, true, false, List, [], ◌∷◌, map, replicate, codes}
-use Rattle.std.specs.Prelude.{Option, Some, None, Ok, Err}
+use Rattle.std.specs.Prelude.{◌≡◌, ◌⊎◌, ℕ, Bool, true, false, List, [], ◌∷◌, map, replicate}
+use Rattle.std.specs.Prelude.{codes, Option, Some, None, Ok, Err}
 use Rattle.std.specs.{Borrow.Bor, List.join_with_byte}
 use Rattle.clap.specs.declared.error.kind.ErrorKind.TheVariants as kinds
 use Rattle.std.specs.declared.io.ErrorKind.TheVariants as io_kinds
@@ -161,30 +161,21 @@ pub record CasesOfStaging {D : Type 0} (disk : Ghosts D) : Type 0 where
   pub stands : (point : Point) (parts : List Portion) (session : SessionState (Stage D disk))
       → StandsAt point parts session
       → (rest_of session.core ≡ place_of point) × (session.notes ≡ [])
-  -- its stage contains exactly these parts,
-  pub holds : (point : Point) (parts : List Portion) (session : SessionState (Stage D disk))
-      → StandsAt point parts session
-      → Holding session.sink.weight parts (disk.seen session.sink.disk)
-  -- whatever a crash leaves of the stage now represents a checkpoint,
-  pub survives : (point : Point) (parts : List Portion) (session : SessionState (Stage D disk))
-      (bytes : List ℕ) → StandsAt point parts session → disk.may_leave session.sink.disk bytes
-      → (back : Point) × (there : List Portion) × Returns session.sink back there
-  -- and that is always this checkpoint with these parts
-  pub only : (point back : Point) (parts there : List Portion)
-      (session : SessionState (Stage D disk))
-      → StandsAt point parts session → Returns session.sink back there
-      → (back ≡ point) × (there ≡ parts)
-  -- the same for every state that a crash leaves from this moment on
-  pub survived : (point : Point) (parts : List Portion) (session : SessionState (Stage D disk))
-      (bytes : List ℕ) → StandsAt point parts session
-      → disk.left_since session.sink.disk (disk.moment session.sink.disk) bytes
+      -- its stage contains exactly these parts,
+      × Holding session.sink.weight parts (disk.seen session.sink.disk)
+      -- whatever a crash leaves of the stage now represents a checkpoint,
+      × ((bytes : List ℕ) → disk.may_leave session.sink.disk bytes
+      → (back : Point) × (there : List Portion) × Returns session.sink back there)
+      -- and that is always this checkpoint with these parts
+      × ((back : Point) (there : List Portion) → Returns session.sink back there
+      → (back ≡ point) × (there ≡ parts))
+      -- the same for every state that a crash leaves from this moment on
+      × ((bytes : List ℕ) → disk.left_since session.sink.disk (disk.moment session.sink.disk) bytes
       → (back : Point) × (there : List Portion)
-      × Returned session.sink (disk.moment session.sink.disk) back there
-  pub since : (point back : Point) (parts there : List Portion)
-      (session : SessionState (Stage D disk))
-      → StandsAt point parts session
+      × Returned session.sink (disk.moment session.sink.disk) back there)
+      × ((back : Point) (there : List Portion)
       → Returned session.sink (disk.moment session.sink.disk) back there
-      → (back ≡ point) × (there ≡ parts)
+      → (back ≡ point) × (there ≡ parts))
   -- a session that continues is at the checkpoint that the bytes represent, and this belongs to its
   -- file
   pub goes_on : (set_id read : List ℕ) (file : ℕ) (session : SessionState (Stage D disk))
@@ -198,14 +189,12 @@ pub record CasesOfStaging {D : Type 0} (disk : Ghosts D) : Type 0 where
   pub unmade_size : (set_id : List ℕ) (file : ℕ) → IsUnmade set_id file (replicate 257 0) → ⊥
   pub made : (set_id read : List ℕ) (file g : ℕ) (point : Point) (broken : Option ℕ)
       (parts : List Portion) → Remains read g point broken parts → IsUnmade set_id file read → ⊥
-  -- bytes that are not a stage contain no staged data
-  pub none_staged : (set_id read : List ℕ) (file : ℕ)
-      → (Says set_id file read (staging.Stage stages.NoPoint) → HoldsNone read)
-      × (Says set_id file read (staging.Stage (stages.BadFrame 300)) → HoldsNone read)
-  -- if no slot is valid, nothing remains; and the reported bad frame is one
+  -- bytes that are not a stage contain no staged data; if no slot is valid, nothing remains; and
+  -- the reported bad frame is one
   pub fault_said : (set_id read : List ℕ) (file place : ℕ)
-      → (Says set_id file read (staging.Stage stages.NoPoint) → RemainsNone read)
-      × (Says set_id file read (staging.Stage (stages.BadFrame place)) → IsBadPlace read place)
+      → (Says set_id file read (staging.Stage stages.NoPoint) → HoldsNone read × RemainsNone read)
+      × (Says set_id file read (staging.Stage (stages.BadFrame place))
+      → HoldsNone read × IsBadPlace read place)
   -- a stage of another file does not represent a checkpoint of this one
   pub of_another : (set_id read : List ℕ) (file n : ℕ) (point : Point) (parts : List Portion)
       → Says set_id file read staging.OtherFile → Staged read n point parts
@@ -216,10 +205,7 @@ pub record CasesOfStaging {D : Type 0} (disk : Ghosts D) : Type 0 where
       → Says set_id file read staging.OtherFile → ⊥
   -- stages of other sets and of other files belong to another file
   pub of_another_set : (set_id read : List ℕ) (file n : ℕ) (point : Point) (parts : List Portion)
-      → Staged read n point parts → (point.set_id ≡ set_id → ⊥)
-      → Says set_id file read staging.OtherFile
-  pub of_another_file : (set_id read : List ℕ) (file n : ℕ) (point : Point) (parts : List Portion)
-      → Staged read n point parts → (point.file ≡ file → ⊥)
+      → Staged read n point parts → (point.set_id ≡ set_id → ⊥) ⊎ (point.file ≡ file → ⊥)
       → Says set_id file read staging.OtherFile
   -- bytes that are not a stage, or a disk for which there was no memory, were not opened
   pub unopened : IsUnopened (staging.Stage stages.NoPoint)

@@ -95,26 +95,21 @@ pub record CasesOfShowing : Type 0 where
       × Appends said says (told_with s.point ending (length (join s.parts).records))
   -- after a fault none of these records was written, or a prefix
   pub stopped : (read : List ℕ) (damaged : Bool) (form : Option Form)
-      (out written said says : Option (List ℕ)) (fault : ToolFault)
-      → StopSays read damaged form out written said says fault
-  -- an intact stage is never reported as not being one
-  pub good : (read : List ℕ) (damaged : Bool) (form : Option Form)
-      (out written said says : Option (List ℕ)) (g : ℕ) (point : Point) (parts : List Portion)
-      (cause : StageFault) → Staged read g point parts → SaysNone cause
-      → StopsShowing read damaged form out written said says (Stage cause) → ⊥
+      (out written said says : Option (List ℕ))
+      → ((fault : ToolFault) → StopSays read damaged form out written said says fault)
+      -- the device fails only before anything is printed, and before anything is written if no
+      -- records are
+      × (StopsShowing read damaged form out written said says (Stage Device)
+      → Keeps said says × (form ≡ None → Keeps out written))
+      -- which faults stop it
+      × StoppedOnlyBy (StopsShowing read damaged form out written said says)
+      (Keeps out written × Keeps said says)
+      -- an intact stage is never reported as not being one
+      × ((g : ℕ) (point : Point) (parts : List Portion) (cause : StageFault)
+      → Staged read g point parts → SaysNone cause
+      → StopsShowing read damaged form out written said says (Stage cause) → ⊥)
   -- with `damaged`, nor is a stage of which something remains, and BadFrame is never reported
   pub remaining : (read : List ℕ) (form : Option Form) (out written said says : Option (List ℕ))
       (g : ℕ) (point : Point) (broken : Option ℕ) (parts : List Portion) (cause : StageFault)
       → Remains read g point broken parts → SaysNone cause
       → StopsShowing read true form out written said says (Stage cause) → ⊥
-  -- the device fails only before anything is printed, and before anything is written if no records
-  -- are
-  pub fails_before : (read : List ℕ) (damaged : Bool) (form : Option Form)
-      (out written said says : Option (List ℕ))
-      → StopsShowing read damaged form out written said says (Stage Device)
-      → Keeps said says × (form ≡ None → Keeps out written)
-  -- which faults stop it
-  pub stops_by : (read : List ℕ) (damaged : Bool) (form : Option Form)
-      (out written said says : Option (List ℕ))
-      → StoppedOnlyBy (StopsShowing read damaged form out written said says)
-      (Keeps out written × Keeps said says)

@@ -1,6 +1,6 @@
 -- The line that reports a fault.
 use Rattle.std.specs.Prelude.{ℕ, List, ◌++◌, codes, decimal}
-use Rattle.tape_image.specs.{declared.item.ImageFault.ImageFault, Fault.number_of}
+use Rattle.tape_image.specs.{Fault.number_of}
 use Rattle.tape_label.specs.Faults.{number}
 use Rattle.tape_run.specs.Fault as run_faults
 use Rattle.tape_stage.specs.Faults as stage_faults
@@ -13,17 +13,10 @@ use Rattle.tape_tool.specs.Fault.{file_number, write_number}
 abbrev pub numbered : List ℕ → ℕ → List ℕ
 numbered kind n = kind ++ codes " fault " ++ decimal n
 
--- the offset of a byte
-abbrev pub place_text : ℕ → List ℕ
-place_text place = codes " at " ++ decimal place
-
--- the fault of an image, with its offset
-abbrev pub image_text : ImageFault → List ℕ
-image_text fault = numbered (codes "image") (number_of fault.cause) ++ place_text fault.place
-
--- what ended the program
+-- what ended the program; in an image, with its offset
 abbrev pub fault_text : ToolFault → List ℕ
-fault_text (Image fault) = image_text fault
+fault_text (Image fault) = numbered (codes "image") (number_of fault.cause) ++ codes " at "
+    ++ decimal fault.place
 fault_text (Label fault) = numbered (codes "label") (number fault)
 fault_text (Write fault) = numbered (codes "write") (write_number fault)
 fault_text (File fault) = numbered (codes "file") (file_number fault)

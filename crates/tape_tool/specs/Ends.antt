@@ -69,7 +69,5 @@ IsWrongWords end = (end ≡ WrongWords) ⊎ (end ≡ Faulted no_memory)
 
 -- how a command ends that is not started, for this reason
 abbrev pub IsRefusalEnd : Refusal → End → Type 0
-IsRefusalEnd (unfits.Words _) end = IsWrongWords end
-IsRefusalEnd (unfits.Value _ _) end = IsWrongWords end
-IsRefusalEnd (unfits.NoText _ _) end = IsWrongWords end
 IsRefusalEnd (unfits.Faulted fault) end = end ≡ Faulted fault
+IsRefusalEnd _ end = IsWrongWords end

@@ -16,25 +16,18 @@ use Rattle.tape_tool.specs.declared.fault.ToolFault.TheVariants.{File, Stage}
 use Rattle.tape_tool.specs.declared.stage.show.StageEnding.{StageEnding}
 use Rattle.tape_tool.specs.declared.stage.show.StageEnding.TheVariants.{Whole, Broken}
 
--- the file of a checkpoint, and how many complete records are staged before it
-abbrev pub stage_line : Point → ℕ → List ℕ
-stage_line point records =
-    codes "STAGE " ++ identifier_text point.set_id ++ codes " " ++ decimal point.file ++ codes " "
-    ++ decimal records ++ codes "\n"
-
--- where the frames of a stage are damaged
-abbrev pub break_line : ℕ → List ℕ
-break_line place = codes "TRUNCATED AT " ++ decimal place ++ codes "\n"
-
 -- the line after the parts: the last line that `extract` would print, or where the frames are
 -- damaged
 abbrev pub ending_line : StageEnding → ℕ → List ℕ
 ending_line (Whole want) records = last_line want records
-ending_line (Broken place) records = break_line place
+ending_line (Broken place) records = codes "TRUNCATED AT " ++ decimal place ++ codes "\n"
 
--- both lines
+-- both lines: the file of a checkpoint, and how many complete records are staged before it; then
+-- the end
 abbrev pub told_with : Point → StageEnding → ℕ → List ℕ
-told_with point ending records = stage_line point records ++ ending_line ending records
+told_with point ending records =
+    codes "STAGE " ++ identifier_text point.set_id ++ codes " " ++ decimal point.file ++ codes " "
+    ++ decimal records ++ codes "\n" ++ ending_line ending records
 
 -- the end of a stage: the part missing at this checkpoint, if all frames are intact
 abbrev pub ending_of : Point → Option ℕ → StageEnding
@@ -45,12 +38,6 @@ ending_of point (Some place) = Broken place
 abbrev pub output_in : Option Form → List Portion → List ℕ
 output_in None parts = []
 output_in (Some form) parts = output_of form parts
-
--- The complete records that the parts join to were written, and both lines.
-pub record Gives (point : Point) (ending : StageEnding) (form : Option Form)
-    (out written said says : Option (List ℕ)) (parts : List Portion) : Type 0 where
-  pub wrote : Appends out written (output_in form parts)
-  pub told : Appends said says (told_with point ending (length (join parts).records))
 
 -- The faults while the records are written: a failed write, or the stage's device, since the parts
 -- are read again.
@@ -81,7 +68,8 @@ pub record Shows (read : List ℕ) (damaged : Bool) (form : Option Form)
   pub remains : Remains read generation point broken parts
   pub whole : damaged ≡ false → (broken ≡ None) × Staged read generation point parts
   pub ends : ending ≡ ending_of point broken
-  pub gives : Gives point ending form out written said says parts
+  pub wrote : Appends out written (output_in form parts)
+  pub told : Appends said says (told_with point ending (length (join parts).records))
 
 -- A fault ended the run. Either no stage was opened and nothing was written; NoPoint is reported
 -- only if no slot is valid, BadFrame with the offset of the bad frame, never with `damaged`, and

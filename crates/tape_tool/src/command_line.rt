@@ -61,7 +61,18 @@ pub fn call_of<'a>(alloc: Global, words: &'a [String]) -> Result<Call<'a>, Error
     let matches = match command(alloc)?.try_get_matches_from(words) {
         Ok(matches) => matches,
         Err(error) if error.kind() == ErrorKind::OutOfMemory => return Err(error),
-        Err(_) => return Err(refused_as_shown(alloc, words)?),
+        Err(_) => {
+            // The message contains the arguments as they are printed. The parser refuses these for
+            // the same reason, since none of its names has a character that is printed differently.
+            let mut shown = Vec::new(alloc);
+            for word in words {
+                shown.push(format!(in alloc; "{}", Shown(word.as_str()))?)?;
+            }
+            return match command(alloc)?.try_get_matches_from(shown.as_slice()) {
+                Ok(_) => Err(command(alloc)?.error(ErrorKind::ValueValidation, help::REFUSED)?),
+                Err(error) => Err(error),
+            };
+        }
     };
     // The parser guarantees that the arguments name one of the commands.
     let Some((name, words)) = matches.subcommand() else {
@@ -81,20 +92,6 @@ pub fn call_of<'a>(alloc: Global, words: &'a [String]) -> Result<Call<'a>, Error
             };
             Err(error_in(alloc, name, value, refusal))
         }
-    }
-}
-
-/// Returns the reason why the arguments `words` are refused, in a text that contains them as they
-/// are printed. The parser refuses the printed arguments for the same reason, since none of its
-/// names has a character that is printed differently.
-fn refused_as_shown(alloc: Global, words: &[String]) -> Result<Error, AllocError> {
-    let mut shown = Vec::new(alloc);
-    for word in words {
-        shown.push(format!(in alloc; "{}", Shown(word.as_str()))?)?;
-    }
-    match command(alloc)?.try_get_matches_from(shown.as_slice()) {
-        Ok(_) => command(alloc)?.error(ErrorKind::ValueValidation, help::REFUSED),
-        Err(error) => Ok(error),
     }
 }
 

@@ -68,7 +68,11 @@ pub fn names_of<'t, 'a: 't, R: Host>(
 /// Returns the text of a list.
 fn read_list<R: Host>(rt: &R, list: List<'_>) -> Result<String, Refusal> {
     let mut bytes = Vec::new(rt.alloc());
-    match InputBytes::open(rt, list.file)?.read_to_end(&mut bytes) {
+    let read = match InputBytes::open(rt, list.file)? {
+        InputBytes::Named(mut file) => file.read_to_end(&mut bytes),
+        InputBytes::Input(mut reader) => reader.read_to_end(&mut bytes),
+    };
+    match read {
         Ok(_) => {}
         Err(error) if error.kind() == ErrorKind::OutOfMemory => {
             return Err(Refusal::from(AllocError));
@@ -166,15 +170,6 @@ impl<R: Host> InputBytes<R> {
     }
 }
 
-impl<R: Host> Read for InputBytes<R> {
-    fn read(&mut self, buf: &mut [u8]) -> io::Result<usize> {
-        match self {
-            InputBytes::Named(file) => file.read(buf),
-            InputBytes::Input(reader) => reader.read(buf),
-        }
-    }
-}
-
 /// The bytes of an image. As they are read, the screen shows how many that were.
 #[derive(Drop)]
 pub struct Watched<R: Progress> {
@@ -190,7 +185,10 @@ pub struct Watched<R: Progress> {
 
 impl<R: Progress> Read for Watched<R> {
     fn read(&mut self, buf: &mut [u8]) -> io::Result<usize> {
-        let read = self.inner.read(buf);
+        let read = match &mut self.inner {
+            InputBytes::Named(file) => file.read(buf),
+            InputBytes::Input(reader) => reader.read(buf),
+        };
         if let Ok(bytes) = &read {
             self.bytes = self.bytes.saturating_add(*bytes as u64);
             self.rt.show(self.image, self.count, self.bytes);

@@ -2,10 +2,9 @@
 //! and a command line with an argument that is not text.
 use crate::fault::{FileFault, OUT_OF_MEMORY, ToolFault};
 use crate::screen::Host;
-use std::env::{Env, FillError};
+use std::fmt;
 use std::fs::File;
 use std::os::fd::AsRawFd;
-use std::{fmt, str};
 
 /// The number of standard error, the last standard stream.
 const LAST: i32 = 2;
@@ -41,8 +40,8 @@ pub fn keep_numbers<R: Host>(rt: &R) -> Result<Vec<File>, ToolFault> {
 /// The line for an argument that is not UTF-8: its number, from 1, and its bytes.
 #[derive(Clone, Copy, Drop)]
 pub struct OddWord<'a> {
-    number: usize,
-    bytes: &'a [u8],
+    pub number: usize,
+    pub bytes: &'a [u8],
 }
 
 impl fmt::Display for OddWord<'_> {
@@ -57,22 +56,4 @@ impl fmt::Display for OddWord<'_> {
         }
         f.write_str("\n")
     }
-}
-
-/// Finds the first argument that is not UTF-8. Returns `None` if it is longer than the buffer.
-pub fn odd_word<'a, R: Env>(env: &R, room: &'a mut [u8; 4096]) -> Option<OddWord<'a>> {
-    for number in 1..usize::MAX {
-        match env.arg(number, room) {
-            Ok(len) if str::from_utf8(&room[..len]).is_ok() => {}
-            Ok(len) => {
-                return Some(OddWord {
-                    number,
-                    bytes: &room[..len],
-                });
-            }
-            Err(FillError::NotPresent) => return None,
-            Err(_) => {}
-        }
-    }
-    None
 }

@@ -12,7 +12,7 @@ use crate::extract::extract;
 use crate::fault::{FaultLine, FileFault, OUT_OF_MEMORY, ToolFault};
 use crate::help;
 use crate::init::init;
-use crate::launch::{keep_numbers, odd_word};
+use crate::launch::{OddWord, keep_numbers};
 use crate::list::list;
 use crate::merge::{compare, merge};
 use crate::refusal::Refusal;
@@ -24,6 +24,7 @@ use crate::unpack::unpack;
 use crate::write::run::write;
 use clap::error::ErrorKind;
 use std::cell::Cell;
+use std::env::{Env, FillError};
 use std::{env, io};
 use tape_run::EngineFault;
 use tape_set::Want;
@@ -167,11 +168,22 @@ fn words_of<R: Progress>(rt: &R) -> Result<Vec<String>, End>
         },
         Err(error) => {
             let end = no_words_end(error.kind());
-            if end == End::WrongWords {
-                let _ = rt.eprint(help::NO_TEXT);
-                let mut room = [0; 4096];
-                if let Some(word) = odd_word(rt.host(), &mut room) {
-                    let _ = rt.eprint(word);
+            if end != End::WrongWords {
+                return Err(end);
+            }
+            let _ = rt.eprint(help::NO_TEXT);
+            // The first argument that is not UTF-8 is printed, unless it is longer than the buffer.
+            let mut room = [0; 4096];
+            for number in 1..usize::MAX {
+                match rt.host().arg(number, &mut room) {
+                    Ok(len) if str::from_utf8(&room[..len]).is_ok() => {}
+                    Ok(len) => {
+                        let bytes = &room[..len];
+                        let _ = rt.eprint(OddWord { number, bytes });
+                        break;
+                    }
+                    Err(FillError::NotPresent) => break,
+                    Err(_) => {}
                 }
             }
             Err(end)

@@ -85,12 +85,6 @@ impl FileId {
     pub fn is_same(&self, other: &FileId) -> bool {
         self.device == other.device && self.number == other.number
     }
-
-    /// Returns whether the file contains nothing that could be lost: it is empty, or not a regular
-    /// file.
-    pub fn is_empty(&self) -> bool {
-        self.length == 0
-    }
 }
 
 /// The way in which a new file takes a name.

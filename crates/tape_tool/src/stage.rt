@@ -8,16 +8,16 @@ use crate::fault::ToolFault;
 use crate::help;
 use crate::program::{End, stage_end};
 use crate::refusal::{Refusal, open};
-use crate::screen::{Host, Progress};
+use crate::screen::Progress;
 use crate::staging::locked_stage;
 use crate::words::{FORM, at_most_one, form_of, text_of};
 use clap::ArgMatches;
 use show::show_stage;
-use std::fs::{File, Metadata, OpenFile};
+use std::fs::{Metadata, OpenFile};
 use std::io;
 use std::io::{Error, ErrorKind, Read, Seek, SeekFrom, Write};
 use tape_blocks::Form;
-use tape_stage::{BufferedFile, buffered_file};
+use tape_stage::buffered_file;
 
 /// The request to `stage`: the stage to show, and the output for its records.
 #[derive(Clone, Copy)]
@@ -67,8 +67,11 @@ pub fn stage<'a, R: Progress>(
         way = Some(way_to_out(rt.host(), out, Some(order.stage), None, &[])?);
     }
     *site = FaultSite::Stage(order.stage);
-    let disk = disk_of(rt.host(), order.stage)?;
     let (alloc, report) = (rt.alloc(), &mut io::writer(rt));
+    let file = open(rt.host(), order.stage)?;
+    // No other run may write to it. On a file system without locks, other runs are not excluded.
+    locked_stage(file.try_lock_shared())?;
+    let disk = buffered_file(alloc, ReadOnly { file }).map_err(|fault| ToolFault::Stage(fault))?;
     let end = match (order.out, way) {
         (Some(out), Some(way)) => {
             *site = FaultSite::Out(out);
@@ -86,14 +89,6 @@ pub fn stage<'a, R: Progress>(
         *site = FaultSite::Stage(order.stage);
     }
     Ok(end)
-}
-
-/// Opens the file of the stage at `path` for reading only, unless another run is writing to it. On
-/// a file system without locks, other runs are not excluded.
-fn disk_of<R: Host>(rt: &R, path: &str) -> Result<BufferedFile<ReadOnly<File>>, ToolFault> {
-    let file = open(rt, path)?;
-    locked_stage(file.try_lock_shared())?;
-    buffered_file(rt.alloc(), ReadOnly { file }).map_err(|fault| ToolFault::Stage(fault))
 }
 
 /// A file that is never changed: writing and truncating fail. Syncing does nothing and reports

@@ -33,8 +33,9 @@ pub enum StagingFault {
 }
 
 /// Opens a session for file `file` of set `set_id` over the stage on `disk`. It continues at the
-/// stage's checkpoint, with the parts before it. If the disk is empty, creates a stage, with which
-/// the session begins at the file's start.
+/// stage's checkpoint, with the parts before it. If the disk is empty, or has only the beginning of
+/// a new stage of this file, for example because the disk was full, creates a stage, with which the
+/// session begins at the file's start.
 ///
 /// # Errors
 ///
@@ -48,43 +49,64 @@ pub fn open_session<D: Disk + Drop>(
 ) -> Result<Session<Stage<D>>, Refused<D, StagingFault>>
     // If the disk has a stage, the session's position and parts are those of the checkpoint that
     // was read.
-    ensures goes_on { D.is_honest disk → (D.length_of disk ≡ 0 → ⊥)
+    ensures goes_on { D.is_honest disk → (IsUnmade set_id file (D.seen disk) → ⊥)
         → IfOk result (GoesOn set_id file (D.seen disk)) }
-    // If the disk is empty, the session begins at the file's start, without parts.
-    ensures begins { D.is_honest disk → D.length_of disk ≡ 0
+    // If a stage is created, the session begins at the file's start, without parts.
+    ensures begins { D.is_honest disk → IsUnmade set_id file (D.seen disk)
         → IfOk result (StandsAt (first_point set_id file) []) }
     ensures start { D.length_of disk ≡ 0
         → IfOk result (λ session. IsStart set_id file (seen as_sink session [])) }
     // On any disk, the session is one of this file.
     ensures file { IfOk result (λ session.
         (session.core.set_id ≡ set_id) × (session.core.file ≡ file)) }
-    // A crash at any moment of the call leaves a disk that is not empty with contents that were
+    // No other disk is emptied. A crash at any moment of the call leaves contents that were
     // possible before, or that represent the same.
-    ensures any_moment { D.is_honest disk → (D.length_of disk ≡ 0 → ⊥)
+    ensures any_moment { D.is_honest disk → (IsUnmade set_id file (D.seen disk) → ⊥)
         → IfOk result (λ session. OpensOver D.Disk disk session.sink.disk) }
-    // What a fault says about the bytes of a disk that is not empty is true, and what is staged is
-    // unchanged.
-    ensures refused { D.is_honest disk → (D.length_of disk ≡ 0 → ⊥) → IfErr result
+    // What a fault says about the bytes of such a disk is true, and what is staged is unchanged.
+    ensures refused { D.is_honest disk → (IsUnmade set_id file (D.seen disk) → ⊥) → IfErr result
         (λ refused. RefusesSession set_id file D.Disk disk refused.fault refused.disk) }
-    // Even a dishonest disk keeps its length if no stage was opened and the disk did not fail.
-    ensures same_length { IfErr result (λ refused.
+    // Even a dishonest disk that is longer than such a beginning keeps its length if no stage was
+    // opened and the disk did not fail.
+    ensures same_length { 256 < D.length_of disk → IfErr result (λ refused.
         IsUnopened refused.fault → D.length_of refused.disk ≡ D.length_of disk) }
-    // An empty disk is never reported as one without a stage, since a stage is created. At most its
-    // slots were written.
+    // A disk that is empty, or has such a beginning, is never reported as one without a stage,
+    // since a stage is created. At most its slots were written.
     ensures empty { D.length_of disk ≡ 0 → IfErr result (λ refused.
+        RefusesBeginning file (D.faults disk) refused.fault (D.faults refused.disk)
+        × (D.length_of refused.disk ≤ 256)) }
+    ensures begins_not { D.is_honest disk → IsFileNumber file → IsUnmade set_id file (D.seen disk)
+        → IfErr result (λ refused.
         RefusesBeginning file (D.faults disk) refused.fault (D.faults refused.disk)
         × (D.length_of refused.disk ≤ 256)) }
     ensures cause { IfErr result (λ refused.
         FailsBy (D.faults disk) refused.fault (D.faults refused.disk)) }
 {
     let mut disk = disk;
+    let fault = StagingFault::Stage(StageFault::Device);
     match disk.len() {
         Ok(0) => begin(alloc, disk, set_id, file),
-        Ok(_) => resume(alloc, disk, set_id, file),
-        Err(_) => Err(Refused {
-            disk,
-            fault: StagingFault::Stage(StageFault::Device),
-        }),
+        Ok(_) => match is_unmade(&mut disk, set_id, file) {
+            Ok(true) => match disk.cut(0) {
+                Ok(()) => begin(alloc, disk, set_id, file),
+                Err(_) => Err(Refused { disk, fault }),
+            },
+            Ok(false) => match Stage::open_disk(alloc, disk) {
+                Ok((stage, point)) if same_file(&point, set_id, file) => {
+                    Ok(Session::resume(alloc, &point, stage))
+                }
+                Ok((stage, _)) => Err(Refused {
+                    disk: stage.into_disk(),
+                    fault: StagingFault::OtherFile,
+                }),
+                Err(refused) => Err(Refused {
+                    disk: refused.disk,
+                    fault: StagingFault::Stage(refused.fault),
+                }),
+            },
+            Err(_) => Err(Refused { disk, fault }),
+        },
+        Err(_) => Err(Refused { disk, fault }),
     }
 }
 
@@ -122,91 +144,6 @@ fn begin<D: Disk + Drop>(
         Err(refused) => Err(Refused {
             disk: refused.disk,
             fault: StagingFault::Stage(refused.fault),
-        }),
-    }
-}
-
-/// Returns a session at the checkpoint of the stage on `disk`.
-fn resume<D: Disk>(
-    alloc: Global,
-    disk: D,
-    set_id: Field<6>,
-    file: u16,
-) -> Result<Session<Stage<D>>, Refused<D, StagingFault>>
-    ensures goes_on { D.is_honest disk → IfOk result (GoesOn set_id file (D.seen disk)) }
-    ensures file { IfOk result (λ session.
-        (session.core.set_id ≡ set_id) × (session.core.file ≡ file)) }
-    ensures any_moment { D.is_honest disk
-        → IfOk result (λ session. OpensOver D.Disk disk session.sink.disk) }
-    ensures refused { D.is_honest disk → IfErr result
-        (λ refused. RefusesSession set_id file D.Disk disk refused.fault refused.disk) }
-    ensures same_length { IfErr result (λ refused.
-        IsUnopened refused.fault → D.length_of refused.disk ≡ D.length_of disk) }
-    ensures cause { IfErr result (λ refused.
-        FailsBy (D.faults disk) refused.fault (D.faults refused.disk)) }
-{
-    match Stage::open_disk(alloc, disk) {
-        Ok((stage, point)) => {
-            if same_file(&point, set_id, file) {
-                return Ok(Session::resume(alloc, &point, stage));
-            }
-            Err(Refused {
-                disk: stage.into_disk(),
-                fault: StagingFault::OtherFile,
-            })
-        }
-        Err(refused) => Err(Refused {
-            disk: refused.disk,
-            fault: StagingFault::Stage(refused.fault),
-        }),
-    }
-}
-
-/// Opens a session as `open_session` does. If the disk has only the beginning of a new stage of
-/// this file, for example because the disk was full, the stage is created anew.
-fn open_or_make<D: Disk + Drop>(
-    alloc: Global,
-    disk: D,
-    set_id: Field<6>,
-    file: u16,
-) -> Result<Session<Stage<D>>, Refused<D, StagingFault>>
-    ensures file { IfOk result (λ session.
-        (session.core.set_id ≡ set_id) × (session.core.file ≡ file)) }
-    ensures begins { D.is_honest disk → IsUnmade set_id file (D.seen disk)
-        → IfOk result (StandsAt (first_point set_id file) []) }
-    // Such a disk is refused only as an empty one.
-    ensures begins_not { D.is_honest disk → IsFileNumber file → IsUnmade set_id file (D.seen disk)
-        → IfErr result (λ refused.
-        RefusesBeginning file (D.faults disk) refused.fault (D.faults refused.disk)
-        × (D.length_of refused.disk ≤ 256)) }
-    // No other disk is emptied. At any moment of the call, a stage is opened or unchanged, and
-    // anything else on the disk is unchanged.
-    ensures goes_on { D.is_honest disk → (IsUnmade set_id file (D.seen disk) → ⊥)
-        → IfOk result (GoesOn set_id file (D.seen disk)) }
-    ensures any_moment { D.is_honest disk → (IsUnmade set_id file (D.seen disk) → ⊥)
-        → IfOk result (λ session. OpensOver D.Disk disk session.sink.disk) }
-    ensures refused { D.is_honest disk → (IsUnmade set_id file (D.seen disk) → ⊥) → IfErr result
-        (λ refused. RefusesSession set_id file D.Disk disk refused.fault refused.disk) }
-    // Even a dishonest disk that is longer than such a beginning keeps its length if no stage was
-    // opened and the disk did not fail.
-    ensures same_length { 256 < D.length_of disk → IfErr result (λ refused.
-        IsUnopened refused.fault → D.length_of refused.disk ≡ D.length_of disk) }
-    ensures cause { IfErr result (λ refused.
-        FailsBy (D.faults disk) refused.fault (D.faults refused.disk)) }
-{
-    let mut disk = disk;
-    let Ok(unmade) = is_unmade(&mut disk, set_id, file) else {
-        let fault = StagingFault::Stage(StageFault::Device);
-        return Err(Refused { disk, fault });
-    };
-    if !unmade {
-        return open_session(alloc, disk, set_id, file);
-    }
-    match disk.cut(0) {
-        Ok(()) => begin(alloc, disk, set_id, file),
-        Err(_) => Err(Refused {
-            disk,
-            fault: StagingFault::Stage(StageFault::Device),
         }),
     }
 }
@@ -295,7 +232,7 @@ pub fn session_in<R: Host>(
     if sync_folder_of(rt, path).is_err() {
         return Err(ToolFault::Stage(StageFault::Device));
     }
-    match open_or_make(rt.alloc(), disk, set_id, file) {
+    match open_session(rt.alloc(), disk, set_id, file) {
         Ok(mut session) => {
             // Takes the checkpoint to which the session returns after a reel with a wrong count.
             session.note()?;

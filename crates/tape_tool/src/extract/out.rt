@@ -5,11 +5,10 @@ use crate::help;
 use crate::images::List;
 use crate::refusal::{FileId, Refusal, open, same_file};
 use crate::screen::Host;
-use std::alloc::{AllocError, Global};
+use std::alloc::AllocError;
 use std::fs;
 use std::fs::Metadata;
-use std::io::Read;
-use tape_image::{Ending, ImageCause, ImageFault, ImageReader, fill};
+use tape_image::{Ending, ImageCause, ImageReader, fill};
 use tape_writer::system::{folder_of, found, name_in_folder};
 
 /// The first bytes of files that might be tapes although they are not images, each with its offset.
@@ -132,7 +131,13 @@ fn may_keep_a_tape<R: Host>(rt: &R, path: &str) -> Result<bool, Refusal> {
     if is_named || begins_as_kept {
         return Ok(true);
     }
-    match begins_as_image(rt.alloc(), &mut open(rt, path)?) {
+    // An image begins with a complete item, or with an end-of-medium marker.
+    let begins = ImageReader::new(rt.alloc(), &mut open(rt, path)?).and_then(|image| {
+        let mut image = image;
+        let has_item = image.next()?.is_some();
+        Ok(has_item || image.ending() == Some(Ending::Marked))
+    });
+    match begins {
         Ok(begins) => Ok(begins),
         Err(fault) => match fault.cause {
             ImageCause::Device => Err(Refusal::from(FileFault::ReadFailed)),
@@ -140,12 +145,4 @@ fn may_keep_a_tape<R: Host>(rt: &R, path: &str) -> Result<bool, Refusal> {
             _ => Ok(false),
         },
     }
-}
-
-/// Returns whether the first item of the image on `device`, or its end-of-medium marker, is
-/// complete.
-fn begins_as_image<R: Read>(alloc: Global, device: &mut R) -> Result<bool, ImageFault> {
-    let mut image = ImageReader::new(alloc, device)?;
-    let has_item = image.next()?.is_some();
-    Ok(has_item || image.ending() == Some(Ending::Marked))
 }

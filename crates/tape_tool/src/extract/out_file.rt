@@ -104,10 +104,10 @@ impl<R: Progress> OutFile<'_, R> {
         let opened = options.open(self.rt.host(), self.path);
         let file = opened.map_err(|_| FileFault::NotOpened)?;
         let there = file.metadata().map_err(|_| FileFault::NotOpened)?;
-        let id = FileId::of(&there);
         let is_meant = match self.before {
-            Some(before) => before.is_same(&id),
-            None => id.is_empty(),
+            Some(before) => before.is_same(&FileId::of(&there)),
+            // Nothing can be lost if the file is empty, or not a regular one.
+            None => !there.is_file() || there.len() == 0,
         };
         if !is_meant {
             return Err(FileFault::Exists);

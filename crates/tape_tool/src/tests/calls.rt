@@ -8,6 +8,7 @@
 //! - `N: LINE` runs the program with the arguments LINE, and checks that it ends with status N, or
 //!   with the fault N, as the line about the fault names it. `N: LINE | LINE ..` does so for each
 //!   LINE. `N$ LINE` checks all output and errors, too, and `$ LINE` the same for status 0.
+//!   ` => TEXT` at the end of any of these means the same as the next line `~ TEXT`.
 //! - The next lines are further results: `> TEXT` a line of output, or `> ..` any output,
 //!   `| TEXT` a text in the output, `! TEXT` a line of errors after that about the fault, or
 //!   `~ TEXT` a text in the errors, which are then not compared, and `? FILE ..` the files that
@@ -71,7 +72,8 @@ impl<'a> Run<'a> {
             _ if wanted.len() > 1 => return Ok(None),
             status => status,
         };
-        Ok(Some(Run {
+        let (lines, part) = lines.split_once(" => ").unwrap_or((lines, ""));
+        let mut run = Run {
             lines,
             odd: Odd::Nothing,
             status,
@@ -81,7 +83,11 @@ impl<'a> Run<'a> {
             opened: None,
             is_out_compared: whole.is_some(),
             is_told_compared: whole.is_some() || is_fault,
-        }))
+        };
+        if !part.is_empty() {
+            run.expect("~", part)?;
+        }
+        Ok(Some(run))
     }
 
     /// Adds the expected result in a line of the script. Returns false if the line is another step.

@@ -17,45 +17,31 @@ const SITES: &str = "
     put told.stage no stage
     folder told
     put told/ABC001.1.PAYROLL.stage no stage
-    1: list --explain told_cut.tap
-    ~   Image: told_cut.tap
+    1: list --explain told_cut.tap =>   Image: told_cut.tap
     ~   The image ends in the middle of a block: it was cut off.
-    1: list told.gz --explain
-    ~   This does not look like a .tap image.
-    1$ --explain list lost.tap
-    ~   Image: lost.tap: No such file or directory
+    1: list told.gz --explain =>   This does not look like a .tap image.
+    1$ --explain list lost.tap =>   Image: lost.tap: No such file or directory
     ~   The image could not be opened.
-    1$ list a\u{9b} --explain
-    ~   Image: a\\u009B: No such
-    1$ list told --explain
-    ~   Image: told: Is a directory
+    1$ list a\u{9b} --explain =>   Image: a\\u009B: No such
+    1$ list told --explain =>   Image: told: Is a directory
     ~   This is a directory, not an image.
     1$ list told.tap --explain
     * full
     ~   Output: standard output
     ~   Output failed: the disk is full,
-    1$ init . TLD 1 --explain
-    ~   Image: ./TLD001.tap
+    1$ init . TLD 1 --explain =>   Image: ./TLD001.tap
     ~   The image already exists; it was not changed.
-    1$ write . TLD 100000 A=told.tap Ab=told.tap --explain
-    ~   Input: Ab=told.tap
-    1$ write none TLD 100000 A=told.stage --explain
-    ~   DIR: none
+    1$ write . TLD 100000 A=told.tap Ab=told.tap --explain =>   Input: Ab=told.tap
+    1$ write none TLD 100000 A=told.stage --explain =>   DIR: none
     ~   An image or an input could not be opened or created.
-    1$ extract ABC001 1 told.tap lost.tap --explain
-    ~   OUT: told.tap
+    1$ extract ABC001 1 told.tap lost.tap --explain =>   OUT: told.tap
     ~   OUT already exists and might be a tape image,
-    1$ check told.tap --files-from lost.names --explain
-    ~   List: lost.names
-    1$ extract ABC001 1 told.txt --files-from . --explain
-    ~   List: .
-    1$ extract ABC001 1 told.txt told.tap --stage told.stage --explain
-    ~   Stage: told.stage
+    1$ check told.tap --files-from lost.names --explain =>   List: lost.names
+    1$ extract ABC001 1 told.txt --files-from . --explain =>   List: .
+    1$ extract ABC001 1 told.txt told.tap --stage told.stage --explain =>   Stage: told.stage
     ~   This is not a stage, and it was not changed.
-    1: extract ABC001 1 lost/told.txt told.tap --explain
-    ~   OUT: lost/told.txt
-    1$ unpack lost told.tap --explain
-    ~   DIR: lost
+    1: extract ABC001 1 lost/told.txt told.tap --explain =>   OUT: lost/told.txt
+    1$ unpack lost told.tap --explain =>   DIR: lost
     1: unpack told told_bad.tap --explain
     ~   Stage: the path reported as FAILED, with .stage after it
     ~   This is not a stage, and it was not changed.

@@ -9,17 +9,14 @@ use tape_stage::{MemoryDisk, StageFault};
 const SHOWN: &str = "
     damaged shown.tap 3
     3: extract ABC001 1 shown.txt shown.tap --stage shown.stage
-    3$ stage shown.stage shown_first.txt
+    # For an intact stage, the lines are the same with and without `--damaged`.
+    3$ stage shown.stage shown_first.txt | stage shown.stage --damaged
     > STAGE ABC001 1 15
     > AWAITS 1 1 3
     length shown_first.txt 1215
     at shown_first.txt 1134 0015 \\20
     3: stage shown.stage shown_raw.txt --form raw
     length shown_raw.txt 1200
-    # For an intact stage, the lines are the same with and without the option.
-    3$ stage shown.stage --damaged
-    > STAGE ABC001 1 15
-    > AWAITS 1 1 3
     # The stage is unchanged, and a file that might be a tape is never overwritten.
     length shown.stage 1531
     2: stage shown.stage shown.stage | stage shown.stage one.txt two.txt | stage shown.stage -
@@ -37,14 +34,11 @@ const SHOWN: &str = "
     length torn.txt 0
     damaged torn.tap 9
     0: extract ABC001 1 torn.all torn.tap --stage torn.stage
-    $ stage torn.stage torn.txt
+    $ stage torn.stage torn.txt | stage torn.stage whole.txt --damaged
     > STAGE ABC001 1 25
     > COMPLETE 25
     length torn.txt 2025
-    $ stage torn.stage torn.txt --damaged
-    > STAGE ABC001 1 25
-    > COMPLETE 25
-    length torn.txt 2025
+    length whole.txt 2025
     cut torn.stage 2380
     stage fault 2: stage torn.stage
     3$ stage torn.stage torn.txt --damaged

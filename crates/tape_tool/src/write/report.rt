@@ -1,7 +1,7 @@
 //! The report of `write`.
 ghost use Rattle.std.specs.{Prelude.◌≡◌, Prelude.OnOk, Prelude.OnErr, Io.KnownBytes.Appends};
 ghost use Rattle.tape_image.specs.Written.{AppendsFront};
-ghost use Rattle.tape_tool.specs.Report.{volume_line, files_line, report};
+ghost use Rattle.tape_tool.specs.Report.{report};
 
 use arrayvec::ArrayVec;
 use std::io::Write;
@@ -24,33 +24,19 @@ pub fn say<W: Write>(writer: &mut W, files: u64, ended: &[Ended]) -> Result<(), 
         (AppendsFront (W.contents writer.old) (W.contents writer.new) (report files ended.now)) }
 {
     for volume in ended {
-        write_text(writer, &volume_line(volume))?;
+        let mut line = Line::new();
+        put(&mut line, b"VOLUME ");
+        put(&mut line, volume.volume.bytes());
+        put(&mut line, b" ");
+        put_decimal(&mut line, volume.size);
+        put(&mut line, b"\n");
+        write_text(writer, &line)?;
     }
-    write_text(writer, &files_line(files, ended.len() as u64))
-}
-
-/// Returns the line about a volume.
-fn volume_line(ended: &Ended) -> Line
-    ensures { result.items ≡ volume_line ended.now }
-{
-    let mut line = Line::new();
-    put(&mut line, b"VOLUME ");
-    put(&mut line, ended.volume.bytes());
-    put(&mut line, b" ");
-    put_decimal(&mut line, ended.size);
-    put(&mut line, b"\n");
-    line
-}
-
-/// Returns the last line.
-fn files_line(files: u64, volumes: u64) -> Line
-    ensures { result.items ≡ files_line files volumes }
-{
-    let mut line = Line::new();
-    put(&mut line, b"FILES ");
-    put_decimal(&mut line, files);
-    put(&mut line, b" VOLUMES ");
-    put_decimal(&mut line, volumes);
-    put(&mut line, b"\n");
-    line
+    let mut last = Line::new();
+    put(&mut last, b"FILES ");
+    put_decimal(&mut last, files);
+    put(&mut last, b" VOLUMES ");
+    put_decimal(&mut last, ended.len() as u64);
+    put(&mut last, b"\n");
+    write_text(writer, &last)
 }

@@ -80,13 +80,11 @@ returns-in-Ok-write_text-clause-ok g c honest =
       remains = found.2;
       whole = λ no. (ends.1 no, whole_staged _ found.0 _ _ found.1 (ends.1 no) found.2);
       ends = ends.0;
-      gives = record {
-        wrote = c.in_default.ensures.ok found.1 found.3 found.4;
-        told = subst (Appends (g.P.Write.contents c.args.report.now)
-            (g.P.Write.contents c.write_text.new.writer)) (c.deref.ensures.0 ∙ c.lines_of.ensures
-            ∙ ap (told_with opened.point c.in-Ok-ending_at.ending) found.4)
-            c.in-Ok-write_text.ensures.ok;
-      };
+      wrote = c.in_default.ensures.ok found.1 found.3 found.4;
+      told = subst (Appends (g.P.Write.contents c.args.report.now)
+          (g.P.Write.contents c.write_text.new.writer)) (c.deref.ensures.0 ∙ c.lines_of.ensures
+          ∙ ap (told_with opened.point c.in-Ok-ending_at.ending) found.4)
+          c.in-Ok-write_text.ensures.ok;
     }
 
 -- ---- the disk is only read, and failed if Device is returned
