@@ -4,7 +4,9 @@ ghost use Rattle.std.specs.Prelude.{◌≡◌};
 ghost use Rattle.tape_run.specs.Fault.{number_of};
 ghost use Rattle.tape_run.specs.declared.fault.EngineFault.TheVariants as engine;
 ghost use Rattle.tape_run.specs.declared.fault.ListFault.TheVariants as list;
+ghost use Rattle.tape_run.specs.declared.fault.RunFault.TheVariants as run;
 
+use std::alloc::{AllocError, AllocFailed};
 use tape_core::SinkFault;
 use tape_image::ImageFault;
 use thiserror::Error;
@@ -117,5 +119,29 @@ impl From<WriteFailed> for ListFault {
 
     fn from(_fault: WriteFailed) -> ListFault {
         ListFault::WriteFailed
+    }
+}
+
+impl From<AllocError> for RunFault {
+    ghost from_gives = { λ _ e. e ≡ run.OutOfMemory };
+
+    fn from(_error: AllocError) -> RunFault {
+        RunFault::OutOfMemory
+    }
+}
+
+impl<T: Drop> From<AllocFailed<T>> for RunFault {
+    ghost from_gives = { λ _ e. e ≡ run.OutOfMemory };
+
+    fn from(_failed: AllocFailed<T>) -> RunFault {
+        RunFault::OutOfMemory
+    }
+}
+
+impl From<AllocError> for EngineFault {
+    ghost from_gives = { λ _ e. e ≡ engine.Run run.OutOfMemory };
+
+    fn from(_error: AllocError) -> EngineFault {
+        NO_MEMORY
     }
 }

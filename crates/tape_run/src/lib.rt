@@ -13,7 +13,6 @@ mod lacks;
 pub mod laws;
 mod list;
 mod list_line;
-mod memory;
 mod merge;
 pub mod merge_laws;
 mod met;

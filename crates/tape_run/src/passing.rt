@@ -63,12 +63,10 @@ pub(crate) fn step(phase: Phase, item: Item<'_>) -> (Phase, Option<Told>)
                 Ok(label) => (Phase::Labels(label.volume), None),
                 Err(_) => (Phase::Over, None),
             },
-            Phase::Labels(volume) => {
-                if is_volume_label(bytes) {
-                    return (Phase::Labels(volume), None);
-                }
-                (header_phase(volume, bytes), None)
-            }
+            Phase::Labels(volume) => match is_volume_label(bytes) {
+                true => (Phase::Labels(volume), None),
+                false => (header_phase(volume, bytes), None),
+            },
             Phase::Next(volume) => (header_phase(volume, bytes), None),
             Phase::Second(met) => match kind(bytes) {
                 Some(Kind::Hdr2) => (Phase::Headers(met), None),
