@@ -40,6 +40,8 @@ cases_of_crashes = record {
   allowed_of_nothing = λ d c none step. none;
   held_over = refl;
   held_behind = refl;
+  to_be_written = refl;
+  on_the_disk = refl;
   held_lost = (
     1 ∷ [],
     refl,

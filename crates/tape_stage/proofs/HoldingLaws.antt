@@ -1,13 +1,15 @@
 -- The effect of buffered bytes on the results of reads, and on the contents that a crash may leave.
 use Rattle.std.proofs.Common.{◌≡◌, inl, inr, ⊎_elim, ℕ, ◌+◌, ◌-◌, ◌≤◌, ◌<◌, List, [], ◌++◌, length}
 use Rattle.std.proofs.Common.{take, drop, sym, ap, ◌∙◌, subst, arith, length-append, length-drop}
-use Rattle.std.proofs.lemmas.List.{length-take-le, take_at, drop_at, take-append-drop}
-use Rattle.std.proofs.{Common.append_assoc, lemmas.List.drop-drop}
+use Rattle.std.proofs.Common.{Bool, true, false, refl, append_assoc}
+use Rattle.std.specs.List.{slice_range}
+use Rattle.std.proofs.lemmas.List.{length-take-le, take_at, drop_at, take-append-drop, drop-drop}
+use Rattle.std.proofs.{lemmas.List.take-append-le, lemmas.List.Folds.drop_split}
 use Rattle.std.proofs.{lemmas.Bool.cases_lt, Math.ListN.drop_of_length-le, Math.Seq.take-add}
 use Rattle.tape_stage.specs.Calls.{over}
 use Rattle.tape_stage.specs.Disk.{Torn, Elapses, NoMore, Holds, Allows, Follows}
-use Rattle.tape_stage.specs.Holding.{with_held, LeftTorn, LeftSince, torn_same}
-use Rattle.tape_stage.proofs.Torn.{alike_less, later_rest}
+use Rattle.tape_stage.specs.Holding.{with_held, unwritten, LeftTorn, LeftSince, torn_same}
+use Rattle.tape_stage.proofs.Torn.{alike_less, alike_piece, later_rest}
 
 -- nothing is torn
 pub torn_none : (p : ℕ) (d c : List ℕ) → Torn p 0 d c → c ≡ d
@@ -48,22 +50,36 @@ held_elapses m0 m1 past0 past1 leaves0 leaves1 s0 s1 b0 b1 time held = record {
   keeps = λ t c le was. ⊎_elim (λ before. inl (time.keeps t c le before)) (held t c le) was;
 }
 
+-- a disk is read twice
+pub reads_elapse : {m0 m1 m2 : ℕ} {past0 past1 past2 : ℕ → List ℕ → Type 0}
+    {leaves0 leaves1 leaves2 : List ℕ → Type 0} → Elapses m0 m1 past0 past1 leaves1
+    → Elapses m1 m2 past1 past2 leaves2 → NoMore leaves0 leaves1
+    → ((t : ℕ) (c : List ℕ) → t ≤ m0 → leaves0 c → past0 t c) → Elapses m0 m2 past0 past2 leaves2
+reads_elapse first second more counts = record {
+  later = omega (arith, first.later, second.later);
+  nothing_else = λ t c le was. ⊎_elim
+      (λ mid. ⊎_elim (λ old. inl old) (λ now. inl (counts t c le (more c now)))
+      (first.nothing_else t c le mid))
+      (λ now. inr now) (second.nothing_else t c (omega (arith, le, first.later)) was);
+  keeps = λ t c le was. second.keeps t c (omega (arith, le, first.later)) (first.keeps t c le was);
+}
+
 -- the buffer is written, and then a call is made on the disk
-pub then_elapses : (m0 m1 m2 : ℕ) (past0 past1 past2 : ℕ → List ℕ → Type 0)
-    (leaves0 leaves1 leaves2 : List ℕ → Type 0) (s0 s1 : ℕ) (b0 b1 : List ℕ)
-    → b1 ≡ [] → NoMore (LeftTorn leaves0 s0 b0) (LeftTorn leaves1 s1 b1)
-    → ((t : ℕ) (c : List ℕ) → t ≤ m1 → leaves1 c → past1 t c) → Elapses m0 m1
-    (LeftSince past0 leaves0 s0 b0) (LeftSince past1 leaves1 s1 b1) (LeftTorn leaves1 s1 b1)
-    → Elapses m1 m2 past1 past2 leaves2 → Elapses m0 m2 (LeftSince past0 leaves0 s0 b0)
-    (LeftSince past2 leaves2 s1 b1) (LeftTorn leaves2 s1 b1)
-then_elapses m0 m1 m2 past0 past1 past2 leaves0 leaves1 leaves2 s0 s1 b0 b1 none crash counts first
-    second = record {
+pub then_elapses : {m0 m1 m2 : ℕ} {past0 past1 past2 : ℕ → List ℕ → Type 0}
+    {leaves0 leaves1 leaves2 : List ℕ → Type 0} {s0 s1 s2 : ℕ} {b1 : List ℕ} (b0 b2 : List ℕ)
+    → Elapses m0 m1 (LeftSince past0 leaves0 s0 b0) (LeftSince past1 leaves1 s1 b1)
+    (LeftTorn leaves1 s1 b1) → Elapses m1 m2 past1 past2 leaves2 → b1 ≡ []
+    → NoMore (LeftTorn leaves0 s0 b0) (LeftTorn leaves1 s1 b1)
+    → ((t : ℕ) (c : List ℕ) → t ≤ m1 → leaves1 c → past1 t c) → Elapses m0 m2 (LeftSince past0 leaves0 s0 b0)
+    (LeftSince past2 leaves2 s2 b2) (LeftTorn leaves2 s2 b2)
+then_elapses {leaves1 = leaves1} {leaves2 = leaves2} {s1 = s1} {s2 = s2} b0 b2 first second none crash
+    counts = record {
       later = omega (arith, first.later, second.later);
       nothing_else = λ t c le was. ⊎_elim
           (λ there. ⊎_elim
           (λ before. ⊎_elim (λ old. inl old) (λ mid. inl (inr (crash c mid)))
           (first.nothing_else t c le (inl before)))
-          (λ now. inr (none_left leaves2 s1 b1 c now))
+          (λ now. inr (none_left leaves2 s2 b2 c now))
           (second.nothing_else t c (omega (arith, le, first.later)) there))
           (λ now. inr now) was;
       keeps = λ t c le was. ⊎_elim
@@ -79,6 +95,12 @@ module _ (old mid new : List ℕ → Type 0) (s : ℕ) (b : List ℕ) where
       → NoMore (LeftTorn new s b) old
   then_stays none stays more c left = none_left new s b c
       (more c (left_none mid s _ c none (stays c left)))
+
+  pub then_follows : (step : List ℕ → List ℕ → Type 0) → b ≡ [] → NoMore old (LeftTorn mid s b)
+      → Follows step mid new → Follows step old (LeftTorn new s b)
+  then_follows step none crash follows c left =
+      let (d, was, stepped) = follows c (left_none new s _ c none left) in
+      (d, crash d (none_left mid s b d was), stepped)
 
   pub then_allows : (step : List ℕ → List ℕ → Type 0) → b ≡ [] → NoMore (LeftTorn mid s b) old
       → Allows step mid new → Allows step old (LeftTorn new s b)
@@ -203,7 +225,39 @@ torn_both p n d e c first second = record {
   no_longer = omega (arith, first.no_longer, second.no_longer);
 }
 
--- ---- bytes that were read ahead
+-- ---- bytes that the disk has
+
+pub all_written : (on_disk : Bool) (bytes : List ℕ) → on_disk ≡ true → unwritten on_disk bytes ≡ []
+all_written true bytes on = refl
+all_written false bytes on = absurd (cc on)
+
+pub none_written : (on_disk : Bool) (bytes : List ℕ) → on_disk ≡ false
+    → unwritten on_disk bytes ≡ bytes
+none_written true bytes on = absurd (cc on)
+none_written false bytes on = refl
+
+-- writing bytes over themselves changes nothing
+pub held_same : (p : ℕ) (bytes xs : List ℕ) → bytes ≡ slice_range xs p (p + length bytes)
+    → with_held p bytes xs ≡ xs
+held_same p bytes xs same = append_assoc (take p xs) bytes (drop (p + length bytes) xs)
+    ∙ ap (λ (l : List ℕ). take p xs ++ l)
+    (ap (λ (b : List ℕ). b ++ drop (p + length bytes) xs) same
+    ∙ sym (drop_split xs p (p + length bytes) (omega arith))) ∙ take-append-drop p xs
+
+-- a slice of the buffered bytes is a slice of the bytes that reads return
+pub held_piece : (p at n place : ℕ) (bytes old : List ℕ) → place ≡ p + at → p ≤ length old
+    → at + n ≤ length bytes
+    → take n (drop at bytes) ≡ slice_range (with_held p bytes old) place (place + n)
+held_piece p at n place bytes old there le few =
+    let all : List ℕ = take p old ++ bytes in
+    let long : length all ≡ p + length bytes =
+    omega (arith, length-append (take p old) bytes, length-take-le p old le) in
+    ap (take n) (ap (drop at) (sym (drop_at (take p old) bytes p (length-take-le p old le)))
+    ∙ drop-drop at p all ∙ ap (λ k. drop k all) (sym there))
+    ∙ sym (alike_piece (p + length bytes) place n all (with_held p bytes old)
+    (omega (arith, there, few)) (take-append-le (p + length bytes) all
+    (drop (p + length bytes) old) (omega (arith, long))))
+    ∙ ap (λ k. take k (drop place (with_held p bytes old))) (omega arith)
 
 -- two consecutive slices are a slice of both lengths
 pub slices_join : (xs front rest : List ℕ) (place n m size : ℕ) → n + m ≡ size

@@ -28,7 +28,7 @@ use Rattle.tape_stage.specs.{Body.body_text, Body.point_text, Reads.StageGave, R
 use Rattle.tape_stage.specs.{Calls.IsImage, Calls.WasImage, Calls.worst_by, OnlyReading.OnlyReads}
 use Rattle.tape_stage.specs.Faults.{SaysNone, IsNotDevice, OnBadFrame}
 use Rattle.tape_stage.specs.{Found.IsBadPlace, Parts.AheadIn, Parts.IsFrameAt, Parts.NoFrameAt}
-use Rattle.tape_stage.specs.Holding.{with_held, LeftTorn, LeftSince}
+use Rattle.tape_stage.specs.Holding.{with_held, unwritten, LeftTorn, LeftSince}
 use Rattle.tape_stage.specs.Disk as disk
 
 -- the possible results of a crash after a write and after a cut
@@ -69,6 +69,8 @@ pub record CasesOfCrashes : Type 0 where
   -- buffered bytes are read at their offset, even past the end,
   pub held_over : with_held 1 (8 ∷ 9 ∷ []) (1 ∷ 2 ∷ 3 ∷ 4 ∷ []) ≡ 1 ∷ 8 ∷ 9 ∷ 4 ∷ []
   pub held_behind : with_held 2 (7 ∷ []) (1 ∷ 2 ∷ []) ≡ 1 ∷ 2 ∷ 7 ∷ []
+  pub to_be_written : unwritten false (7 ∷ []) ≡ 7 ∷ []
+  pub on_the_disk : unwritten true (7 ∷ []) ≡ []
   -- a crash may leave none of them, or other bytes instead, but changes no byte before them,
   pub held_lost : LeftTorn (λ c. c ≡ 1 ∷ []) 1 (7 ∷ []) (1 ∷ [])
   pub held_torn : LeftTorn (λ c. c ≡ 1 ∷ []) 1 (7 ∷ []) (1 ∷ 255 ∷ [])

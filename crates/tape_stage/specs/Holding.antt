@@ -1,12 +1,17 @@
--- Bytes that are buffered before they are written to a disk.
-use Rattle.std.proofs.Common.{◌≡◌, ◌⊎◌, ℕ, ◌+◌, ◌≤◌, List, ◌++◌, length, take, drop, max}
-use Rattle.std.proofs.Common.{refl, arith, length-append, length-drop}
+-- Bytes of a disk that are buffered.
+use Rattle.std.proofs.Common.{◌≡◌, ◌⊎◌, ℕ, ◌+◌, ◌≤◌, Bool, true, false, List, [], ◌++◌, length, take}
+use Rattle.std.proofs.Common.{drop, max, refl, sym, subst, arith, length-append, length-drop}
 use Rattle.std.proofs.lemmas.List.{length-take-le}
 use Rattle.tape_stage.specs.{Disk.Torn, Calls.over}
 
 -- the bytes that a read returns: those of the disk, with the buffered bytes written over them
 abbrev pub with_held : ℕ → List ℕ → List ℕ → List ℕ
 with_held start bytes old = take start old ++ bytes ++ drop (start + length bytes) old
+
+-- the buffered bytes that are to be written: all, or none if the disk has them
+abbrev pub unwritten : Bool → List ℕ → List ℕ
+unwritten true bytes = []
+unwritten false bytes = bytes
 
 -- the contents that a crash may leave, with the buffered bytes torn in
 abbrev pub LeftTorn : (List ℕ → Type 0) → ℕ → List ℕ → List ℕ → Type 0
@@ -36,6 +41,10 @@ held_long start bytes old long same le = omega (
   length-take-le start old (omega (arith, same, le)),
 )
 
-pub held_over : (start : ℕ) (bytes old : List ℕ) (long : ℕ) → long ≡ length old → start ≤ long
-    → Torn start (length bytes) old (with_held start bytes old)
-held_over start bytes old long same le = over start bytes old (omega (arith, same, le))
+pub held_over : (on_disk : Bool) (start : ℕ) (bytes old : List ℕ) (long : ℕ) → long ≡ length old
+    → start ≤ long → (on_disk ≡ true → with_held start bytes old ≡ old)
+    → Torn start (length (unwritten on_disk bytes)) old (with_held start bytes old)
+held_over true start bytes old long same le right =
+    subst (Torn start 0 old) (sym (right refl)) (torn_same start 0 old)
+held_over false start bytes old long same le right =
+    over start bytes old (omega (arith, same, le))

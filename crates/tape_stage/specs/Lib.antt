@@ -18,7 +18,7 @@ pub mod Reads
 -- stages that are only read, and the remains of damaged stages:
 pub mod OnlyReading
 pub mod Salvaged
--- write buffers:
+-- buffered bytes:
 pub mod Holding
 -- laws about these definitions, which are proved:
 pub mod Laws

@@ -1,10 +1,9 @@
 //! Disks, which store a stage's bytes.
 
+pub mod buffered;
 pub mod content;
 pub mod file;
 pub mod memory;
-pub mod read_ahead;
-pub mod write_behind;
 
 ghost use Rattle.std.specs.Prelude.{◌≡◌, ◌+◌, ◌≤◌, ℕ, List, length, take, max, slice_range, IfOk};
 ghost use Rattle.std.specs.Prelude.{OnOk, OnErr, IsOk, Option, None};
@@ -16,6 +15,16 @@ ghost use Rattle.tape_stage.specs.Disk.{IsLater, SameFact, CountsDown};
 #[derive(Clone, Copy, Debug, PartialEq, Eq)]
 pub enum DiskFault {
     Device,
+}
+
+/// Counts a failed call.
+pub(crate) fn fail(failed: &mut u64) -> DiskFault
+    ensures counted { Rose failed.old failed.new }
+    ensures once { failed.new ≤ failed.old + 1 }
+    ensures small { failed.new ≤ 18446744073709551615 }
+{
+    *failed = failed.saturating_add(1);
+    DiskFault::Device
 }
 
 pub trait Disk {

@@ -7,10 +7,9 @@ pub mod laws;
 mod point;
 mod stage;
 
+pub use disk::buffered::Buffered;
 pub use disk::file::{BufferedFile, FileDisk, buffered_file};
 pub use disk::memory::MemoryDisk;
-pub use disk::read_ahead::ReadAhead;
-pub use disk::write_behind::WriteBehind;
 pub use disk::{Disk, DiskFault};
 pub use point::text::PointFault;
 pub use point::{read_point, write_point};

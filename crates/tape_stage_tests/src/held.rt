@@ -1,4 +1,4 @@
-//! Tests of buffered disks over files: write buffers and read-ahead.
+//! Tests of buffered disks over files.
 
 use crate::fixtures::{cut, gives, read, write};
 use std::alloc::{AllocError, Global};
@@ -6,9 +6,7 @@ use std::fs::{File, Metadata, OpenFile, OpenOptions};
 use std::io::{ErrorKind, Read, Seek, SeekFrom, Write};
 use std::test::*;
 use std::{fs, io};
-use tape_stage::{
-    BufferedFile, Disk, DiskFault, FileDisk, MemoryDisk, ReadAhead, WriteBehind, buffered_file,
-};
+use tape_stage::{Buffered, BufferedFile, Disk, DiskFault, FileDisk, MemoryDisk, buffered_file};
 
 /// The maximum number of bytes that a `Counting` returns or accepts in one call.
 const AT_ONCE: usize = 5_000;
@@ -112,21 +110,20 @@ fn disk_counting(alloc: Global, size: usize, failing: u32) -> Option<BufferedFil
 
 /// Returns the file underneath a buffered disk.
 fn file_of(disk: BufferedFile<Counting>) -> Counting {
-    disk.into_disk().into_disk().into_file()
+    disk.into_disk().into_file()
 }
 
 /// The size of a small buffer, which is less than some calls move.
 const SMALL: usize = 1_000;
 
-/// Returns a disk over a new file at `path`, with small buffers.
+/// Returns a disk over a new file at `path`, with a small buffer.
 fn made_in(rt: &HostRuntime, path: &str) -> Option<BufferedFile<File>> {
     let _ = fs::remove_file(rt, path);
     let mut options = OpenOptions::new();
     options.read(true).write(true).create(true);
-    let behind = Vec::with_capacity(rt.alloc(), SMALL).ok()?;
-    let ahead = vec![in rt.alloc(); 0u8; SMALL].ok()?;
+    let room = Vec::with_capacity(rt.alloc(), SMALL).ok()?;
     let disk = FileDisk::new(options.open(rt, path).ok()?).ok()?;
-    Some(ReadAhead::over(WriteBehind::over(disk, behind), ahead))
+    Some(Buffered::over(disk, room))
 }
 
 /// Returns record number `number`: 85 bytes, each of which is the last byte of the number.
@@ -229,7 +226,7 @@ fn behind_a_failed_sync_nothing_is_kept(rt: HostRuntime) -> Result<(), Fail> {
 
 /// Returns whether truncating the disk, which was empty, makes it drop the bytes read ahead.
 fn forgets<D: Disk>(disk: &mut D) -> bool {
-    let ahead = write(disk, 0, b"abcdef") && gives(disk, 0, b"ab");
+    let ahead = write(disk, 0, b"abcdef") && disk.sync().is_ok() && gives(disk, 0, b"ab");
     ahead && cut(disk, 3) && write(disk, 3, b"XYZ") && gives(disk, 0, b"abcXYZ")
 }
 

@@ -4,11 +4,10 @@ ghost use Rattle.std.specs.Prelude.{◌≡◌, ◌+◌, [], false, length, max, 
 ghost use Rattle.std.specs.Prelude.{OnErr, OnOk, ◌⊎◌, IfErr};
 ghost use Rattle.tape_core.specs.Weight.{Rose};
 
-use crate::disk::read_ahead::ReadAhead;
-use crate::disk::write_behind::WriteBehind;
-use crate::disk::{Disk, DiskFault};
+use crate::disk::buffered::Buffered;
+use crate::disk::{Disk, DiskFault, fail};
 use crate::stage::StageFault;
-use std::alloc::{AllocError, Global};
+use std::alloc::Global;
 use std::fs::OpenFile;
 use std::io::{Read, Seek, SeekFrom, Write};
 
@@ -62,16 +61,6 @@ impl<F> FileDisk<F> {
     {
         self.file
     }
-
-    /// Counts a failed call.
-    fn fail(&mut self) -> DiskFault
-        ensures same_length { self.new.len ≡ self.old.len }
-        ensures counted { Rose self.old.failed self.new.failed }
-        ensures lost { self.new.lost ≡ self.old.lost }
-    {
-        self.failed = self.failed.saturating_add(1);
-        DiskFault::Device
-    }
 }
 
 impl<F: Read + Write + Seek + OpenFile> Disk for FileDisk<F> {
@@ -112,17 +101,17 @@ impl<F: Read + Write + Seek + OpenFile> Disk for FileDisk<F> {
         ensures lost { self.new.lost ≡ self.old.lost }
     {
         if self.lost {
-            return Err(self.fail());
+            return Err(fail(&mut self.failed));
         }
         if self.file.seek(SeekFrom::Start(place)).is_err() {
-            return Err(self.fail());
+            return Err(fail(&mut self.failed));
         }
         let mut at = 0;
         'reads: while at < buf.len() {
             match self.file.read(&mut buf[at..]) {
-                Ok(0) => return Err(self.fail()),
+                Ok(0) => return Err(fail(&mut self.failed)),
                 Ok(n) => at += n,
-                Err(_) => return Err(self.fail()),
+                Err(_) => return Err(fail(&mut self.failed)),
             }
         }
         Ok(())
@@ -138,20 +127,20 @@ impl<F: Read + Write + Seek + OpenFile> Disk for FileDisk<F> {
         ensures lost { self.new.lost ≡ self.old.lost }
     {
         if self.lost {
-            return Err(self.fail());
+            return Err(fail(&mut self.failed));
         }
         let Some(end) = place.checked_add(bytes.len() as u64) else {
-            return Err(self.fail());
+            return Err(fail(&mut self.failed));
         };
         if self.file.seek(SeekFrom::Start(place)).is_err() {
-            return Err(self.fail());
+            return Err(fail(&mut self.failed));
         }
         let mut rest = bytes;
         'writes: while !rest.is_empty() {
             match self.file.write(rest) {
-                Ok(0) => return Err(self.fail()),
+                Ok(0) => return Err(fail(&mut self.failed)),
                 Ok(n) => rest = &rest[n..],
-                Err(_) => return Err(self.fail()),
+                Err(_) => return Err(fail(&mut self.failed)),
             }
         }
         self.len = self.len.max(end);
@@ -167,14 +156,14 @@ impl<F: Read + Write + Seek + OpenFile> Disk for FileDisk<F> {
         ensures lost { self.new.lost ≡ self.old.lost }
     {
         if self.lost {
-            return Err(self.fail());
+            return Err(fail(&mut self.failed));
         }
         match self.file.set_len(len) {
             Ok(()) => {
                 self.len = len;
                 Ok(())
             }
-            Err(_) => Err(self.fail()),
+            Err(_) => Err(fail(&mut self.failed)),
         }
     }
 
@@ -188,30 +177,30 @@ impl<F: Read + Write + Seek + OpenFile> Disk for FileDisk<F> {
         ensures kept { OnOk result (self.new.lost ≡ false) }
     {
         if self.lost {
-            return Err(self.fail());
+            return Err(fail(&mut self.failed));
         }
         match self.file.sync_all() {
             Ok(()) => Ok(()),
             Err(_) => {
                 self.lost = true;
-                Err(self.fail())
+                Err(fail(&mut self.failed))
             }
         }
     }
 }
 
-/// The size of the write buffer and of the read-ahead buffer, in bytes.
+/// The size of the buffer, in bytes.
 const ROOM: usize = 32_768;
 
-/// A file used as a disk, with 32,768 bytes of write buffer and 32,768 bytes of read-ahead.
-pub type BufferedFile<F> = ReadAhead<WriteBehind<FileDisk<F>>>;
+/// A file used as a disk, with a buffer of 32,768 bytes.
+pub type BufferedFile<F> = Buffered<FileDisk<F>>;
 
 /// Creates a buffered disk from the whole of `file`, which must be open for reading and writing.
 /// Nothing else may change its length.
 ///
 /// # Errors
 ///
-/// Returns `OutOfMemory` if there is no memory for the buffers (the file was not used), and
+/// Returns `OutOfMemory` if there is no memory for the buffer (the file was not used), and
 /// `Device` if the file's length is not available. The file is dropped.
 pub fn buffered_file<F: Read + Write + Seek + OpenFile + Drop>(
     alloc: Global,
@@ -220,20 +209,13 @@ pub fn buffered_file<F: Read + Write + Seek + OpenFile + Drop>(
     ensures fault { IfErr result
         (λ fault. (fault ≡ StageFault.OutOfMemory) ⊎ (fault ≡ StageFault.Device)) }
     ensures long { IfSome (F.stream_position file) (λ _. IfSome (F.stream_bytes file)
-        (λ bytes. IfOk result (λ held. held.disk.disk.len ≡ length bytes))) }
-    ensures alive { IfOk result (λ held. held.disk.disk.lost ≡ false) }
-    // Nothing is buffered or was read ahead, and no failure was counted.
-    ensures held { IfOk result (λ held. (held.disk.bytes.items ≡ []) × (held.held ≡ 0)) }
-    ensures calm { IfOk result (λ held. (held.failed ≡ 0) × (held.disk.disk.failed ≡ 0)) }
+        (λ bytes. IfOk result (λ held. held.disk.len ≡ length bytes))) }
+    ensures alive { IfOk result (λ held. held.disk.lost ≡ false) }
+    // Nothing is buffered, and no failure was counted.
+    ensures held { IfOk result (λ held. held.bytes.items ≡ []) }
+    ensures calm { IfOk result (λ held. (held.failed ≡ 0) × (held.disk.failed ≡ 0)) }
 {
-    let behind = Vec::with_capacity(alloc, ROOM)?;
-    let ahead = read_room(alloc)?;
+    let room = Vec::with_capacity(alloc, ROOM)?;
     let disk = FileDisk::new(file)?;
-    Ok(ReadAhead::over(WriteBehind::over(disk, behind), ahead))
-}
-
-/// Allocates the read-ahead buffer.
-// No contract describes the contents: that many bytes would make proofs slow.
-fn read_room(alloc: Global) -> Result<Vec<u8>, AllocError> {
-    vec![in alloc; 0u8; ROOM]
+    Ok(Buffered::over(disk, room))
 }

@@ -5,7 +5,7 @@ ghost use Rattle.tape_stage.specs.Calls.{counts, only, seen_image};
 ghost use Rattle.tape_stage.specs.Disk.{Only, CountsDown};
 
 use crate::disk::content::Content;
-use crate::disk::{Disk, DiskFault};
+use crate::disk::{Disk, DiskFault, fail};
 use std::alloc::Global;
 
 #[derive(Drop)]
@@ -101,20 +101,10 @@ impl MemoryDisk {
             return Ok(());
         };
         if left == 0 {
-            return Err(self.fail());
+            return Err(fail(&mut self.failed));
         }
         self.left = Some(left - 1);
         Ok(())
-    }
-
-    /// Counts a failure.
-    fn fail(&mut self) -> DiskFault
-        ensures content { self.new.content ≡ self.old.content }
-        ensures left { self.new.left ≡ self.old.left }
-        ensures counted { Rose self.old.failed self.new.failed }
-    {
-        self.failed = self.failed.saturating_add(1);
-        DiskFault::Device
     }
 }
 
@@ -152,7 +142,7 @@ impl Disk for MemoryDisk {
         self.count()?;
         match self.content.look() {
             Ok(()) => Ok(self.content.bytes.len() as u64),
-            Err(_) => Err(self.fail()),
+            Err(_) => Err(fail(&mut self.failed)),
         }
     }
 
@@ -164,7 +154,7 @@ impl Disk for MemoryDisk {
                 buf.copy_from_slice(&self.content.bytes[start..start + buf.len()]);
                 Ok(())
             }
-            Err(_) => Err(self.fail()),
+            Err(_) => Err(fail(&mut self.failed)),
         }
     }
 
@@ -172,7 +162,7 @@ impl Disk for MemoryDisk {
         self.count()?;
         match self.content.write(place as usize, bytes) {
             Ok(()) => Ok(()),
-            Err(_) => Err(self.fail()),
+            Err(_) => Err(fail(&mut self.failed)),
         }
     }
 
@@ -180,7 +170,7 @@ impl Disk for MemoryDisk {
         self.count()?;
         match self.content.cut(len as usize) {
             Ok(()) => Ok(()),
-            Err(_) => Err(self.fail()),
+            Err(_) => Err(fail(&mut self.failed)),
         }
     }
 
@@ -188,7 +178,7 @@ impl Disk for MemoryDisk {
         self.count()?;
         match self.content.sync() {
             Ok(()) => Ok(()),
-            Err(_) => Err(self.fail()),
+            Err(_) => Err(fail(&mut self.failed)),
         }
     }
 }
