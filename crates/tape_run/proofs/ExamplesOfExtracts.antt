@@ -1,8 +1,9 @@
 -- The test cases for recovered files.
 use Rattle.std.proofs.Common.{◌≡◌, ◌⊎◌, inl, inr, ℕ, [], Some, None, refl, sym, ap, subst, ◌∙◌}
-use Rattle.std.proofs.Common.{length, arith, Option, map}
+use Rattle.std.proofs.Common.{length, arith, Option, map, List, ◌∷◌}
 use Rattle.tape_run.specs.CasesOfExtracts.{CasesOfOutputs, Listed, as_sink, Known, Readers}
-use Rattle.tape_run.specs.Reeling.{goes_back, IsKeptFor, answer_of}
+use Rattle.tape_run.specs.Reeling.{goes_back, IsKeptFor, answer_of, Turn, AreTurns, AreFirstTurns}
+use Rattle.tape_run.specs.{Reeling.Took, Rounds.Round, Rounds.AreRounds}
 use Rattle.tape_run.specs.{Seen.Seen, Seen.seen, ReelLine.reel_lines, RecordText.output_of}
 use Rattle.tape_run.specs.Extracting.{IsWritten, TellsEnd}
 use Rattle.tape_run.specs.CasesOfExtracts.{ExtractsListed, StopsListed, StopsListedNow}
@@ -19,18 +20,34 @@ none_kept session none =
     subst (λ n. IsKeptFor (goes_back n) (seen as_sink session session.sink))
     (sym none) tt
 
+-- one pass begins with all images
+one_pass : (shelf between left : Readers) (rounds : List Round) (turns : List Turn) → rounds ≡ []
+    → AreRounds Took (λ r. r) shelf rounds between → AreTurns Took (λ r. r) between 0 turns left
+    → AreTurns Took (λ r. r) shelf 0 turns left
+one_pass shelf between left [] turns none same are =
+    subst (λ s. AreTurns Took (λ r. r) s 0 turns left) same are
+one_pass shelf between left (r ∷ rounds) turns none rest are = absurd (cc none)
+
+one_stopped : (shelf between left : Readers) (rounds : List Round) (turns : List Turn)
+    (image : Option Known) → rounds ≡ [] → AreRounds Took (λ r. r) shelf rounds between
+    → AreFirstTurns Took (λ r. r) between turns image left
+    → AreFirstTurns Took (λ r. r) shelf turns image left
+one_stopped shelf between left [] turns image none same are =
+    subst (λ s. AreFirstTurns Took (λ r. r) s turns image left) same are
+one_stopped shelf between left (r ∷ rounds) turns image none rest are = absurd (cc none)
+
 left_there : (session behind : Listed) (shelf left : Readers) (form : Form)
     (out now said says : Known) (want : Option Want) → session.notes ≡ []
     → ExtractsListed session behind shelf left form out now said says want
     → (want ≡ want_at behind.core.file behind.core.position)
-    × ((records : ℕ) × IsWritten want records form out now behind.sink)
+    × ((records : ℕ) × IsWritten form out now want records behind.sink)
 left_there session behind shelf left form out now said says want none e =
-    let (ends, (parts, holds, is, keeps)) =
+    let (ends, goes, (parts, holds, is, keeps)) =
     e.ends session.sink refl (none_kept session none) in (
       ends.wanted ∙ ap (λ (z : Seen). want_at z.place.file z.place.position) is,
       (
         e.records,
-        subst (IsWritten want e.records form out now)
+        subst (IsWritten form out now want e.records)
             (ap (λ (z : Seen). z.parts) is ∙ sym holds) ends.is_written,
       ),
     )
@@ -63,8 +80,11 @@ last_line_of : (session behind : Listed) (shelf left : Readers) (form : Form)
     × ((now ≡ out) ⊎ (p.place.position ≡ Finished))
 last_line_of session behind shelf left form out now said says none s =
     let (last, seen, follows, stood, tells, wrote) =
-    s.follows session.sink refl (none_kept session none) in
-    (seen, tells, elim wrote [ inl same ↦ inl same.0 | inr more ↦ inr more.0 ])
+    s.follows session.sink refl (none_kept session none) in (
+      seen,
+      rw (s.once refl) at tells,
+      elim wrote [ inl same ↦ inl same.0 | inr more ↦ inr more.0 ],
+    )
 
 last_line_of_now : (session : Listed) (shelf left : Readers) (form : Form)
     (out now said says : Known) (s : StopsListedNow session shelf left form out now said says)
@@ -72,8 +92,11 @@ last_line_of_now : (session : Listed) (shelf left : Readers) (form : Form)
     (reel_lines 1 (map answer_of s.turns))) s.want s.records p
     × ((now ≡ out) ⊎ (p.place.position ≡ Finished))
 last_line_of_now session shelf left form out now said says s =
-    let (last, seen, follows, stood, tells, wrote) = s.follows session.sink refl in
-    (seen, tells, elim wrote [ inl same ↦ inl same.0 | inr more ↦ inr more.0 ])
+    let (last, seen, follows, stood, tells, wrote) = s.follows session.sink refl tt in (
+      seen,
+      rw (s.once refl) at tells,
+      elim wrote [ inl same ↦ inl same.0 | inr more ↦ inr more.0 ],
+    )
 
 complete_is_named : (session : Listed) (shelf left : Readers) (form : Form)
     (out now said says : Known) (s : StopsListedNow session shelf left form out now said says)
@@ -81,10 +104,10 @@ complete_is_named : (session : Listed) (shelf left : Readers) (form : Form)
     (reel_lines 1 (map answer_of s.turns)) → ⊥)
     → (p : Seen) × (now ≡ Some (output_of form p.parts))
 complete_is_named session shelf left form out now said says s none more =
-    let (last, seen, follows, stood, tells, wrote) = s.follows session.sink refl in elim wrote [
-      | inl (same, inl less) ↦ absurd (more less)
+    let (last, seen, follows, stood, tells, wrote) = s.follows session.sink refl tt in elim wrote [
+      | inl (same, inl less) ↦ absurd (more (rw (s.once refl) at less))
       | inl (same, inr some) ↦ absurd (some none)
-      | inr (done, inl (same, less)) ↦ absurd (more less)
+      | inr (done, inl (same, less)) ↦ absurd (more (rw (s.once refl) at less))
       | inr (done, inr put) ↦ (seen, put tt)
     ]
 
@@ -93,7 +116,7 @@ output_stopped_now : (session : Listed) (shelf left : Readers) (form : Form)
     → StopsListedNow session shelf left form out now said says → (now ≡ out)
     ⊎ ((s : Seen) × (s.place.position ≡ Finished) × (now ≡ Some (output_of form s.parts)))
 output_stopped_now session shelf left form out now said says s =
-    let (last, seen, follows, stood, tells, wrote) = s.follows session.sink refl in elim wrote [
+    let (last, seen, follows, stood, tells, wrote) = s.follows session.sink refl tt in elim wrote [
       | inl same ↦ inl same.0
       | inr more ↦ elim more.1 [
         | inl same ↦ inl same.0
@@ -118,17 +141,21 @@ cases_of_outputs = record {
       (e.wanted, e.are_steps, e.follows, e.is_written);
   left_there = left_there;
   left_unread = λ session behind shelf left form out now said says want e. (e.most, e.all);
-  lines = λ session behind shelf left form out now said says want e. (e.lines, e.are_turns);
+  lines = λ session behind shelf left form out now said says want e.
+      (rw (e.once refl) at e.lines, one_pass _ _ _ _ _ (e.once refl) e.are_rounds e.are_turns);
   left_unread_now = λ session shelf left form stands said says want e. (e.most, e.all);
-  lines_now = λ session shelf left form stands said says want e. (e.lines, e.are_turns);
+  lines_now = λ session shelf left form stands said says want e.
+      (rw (e.once refl) at e.lines, one_pass _ _ _ _ _ (e.once refl) e.are_rounds e.are_turns);
   ends_as_told = λ session shelf left form stands said says want e.
-      let (ends, stood) = e.ends session.sink refl in ends;
-  only_turns_told = λ session behind shelf left form out now said says s. s.lines;
-  only_turns_told_now = λ session shelf left form out now said says s. s.lines;
+      let (ends, goes, stood) = e.ends session.sink refl tt in rw (e.once refl) at ends;
+  only_turns_told = λ session behind shelf left form out now said says s. rw (s.once refl) at s.lines;
+  only_turns_told_now = λ session shelf left form out now said says s. rw (s.once refl) at s.lines;
   stopped_there = λ s behind now fault stopped.
       stopped.1 (λ lost. let e = lost.0 in absurd (cc e)) ∙ stopped.2.parts;
-  stopped_turns = λ session behind shelf left form out now said says s. (s.most, s.are_turns);
-  stopped_turns_now = λ session shelf left form out now said says s. (s.most, s.are_turns);
+  stopped_turns = λ session behind shelf left form out now said says s.
+      (s.most, one_stopped _ _ _ _ _ _ (s.once refl) s.are_rounds s.are_turns);
+  stopped_turns_now = λ session shelf left form out now said says s.
+      (s.most, one_stopped _ _ _ _ _ _ (s.once refl) s.are_rounds s.are_turns);
   taken = λ form out weight records begun parts t. (t.weighs, t.counted);
   taken_text = λ form out weight records begun parts t. (t.begins, t.text);
   text = λ known is. cc is;

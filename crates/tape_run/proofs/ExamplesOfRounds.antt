@@ -22,7 +22,7 @@ each_from_the_first a b s t p q left (mid, first, (z, second, same)) =
     (mid, first, subst (λ l. AreTurns Took (λ r. r) mid 0 (t ∷ []) l) (sym same) second)
 
 goes_two_rounds : (back : Bool) (core last : State) (old new : Seen) (r : Round) (turns : List Turn)
-    → GoesRound back core old (r ∷ []) turns last new
+    → GoesRound back true core old (r ∷ []) turns last new
     → (mid : Seen) × Follows back true core old r.turns r.behind mid
     × Follows back true r.behind mid turns last new
 goes_two_rounds back core last old new r turns (mid, (z, first, same), one) =
@@ -49,9 +49,9 @@ cases_of_rounds = record {
   complete_is_written = λ session behind shelf left form out now said says s kept none more.
       let (last, is, follows, stood, tells, wrote) = s.follows session.sink refl kept in
       elim wrote [
-        | inl (same, inl less) ↦ absurd (more less)
+        | inl (same, inl less) ↦ absurd (more (rw (s.once refl) at less))
         | inl (same, inr some) ↦ absurd (some none)
-        | inr (done, inl (part, less)) ↦ absurd (more less)
+        | inr (done, inl (part, less)) ↦ absurd (more (rw (s.once refl) at less))
         | inr (done, inr all) ↦ (is, all)
       ];
   again_ends = λ session behind shelf left form out now said says want e kept.
@@ -62,7 +62,8 @@ cases_of_rounds = record {
       );
   again = λ session behind shelf left form out now said says want e.
       (e.lines, e.are_rounds, e.are_turns, e.brought);
-  again_left = λ session behind shelf left form out now said says want e. (e.most, e.all, e.enough);
+  again_left = λ session behind shelf left form out now said says want e.
+      (e.most, e.all, e.enough refl);
   again_stopped = λ session behind shelf left form out now said says s.
       (s.most, s.are_rounds, s.are_turns, s.brought, s.lines);
   again_output = λ session behind shelf left form out now said says s kept.

@@ -1,102 +1,133 @@
 -- The result if all images were read, or if a fault ended the run.
-use Rattle.std.proofs.Common.{◌≡◌, ◌⊎◌, Bool, ℕ, ◌<◌, ◌≤◌, List, [], Option, append-nil, None, refl}
-use Rattle.std.proofs.Common.{sym, ap, subst, ◌∙◌, inl, inr, false}
+use Rattle.std.proofs.Common.{◌≡◌, ◌⊎◌, Bool, ℕ, ◌<◌, ◌≤◌, List, [], ◌++◌, Option, append-nil, None}
+use Rattle.std.proofs.Common.{length, refl, sym, ap, subst, ◌∙◌, inl, inr, true}
 use Rattle.std.proofs.{KnownBytes.Appends-trans, Math.Nat.eq-or-lt_of_le}
 use Rattle.std.specs.Io.KnownBytes.{Appends}
-use Rattle.tape_blocks.specs.{Block.Portion, declared.parts.Form.Form}
+use Rattle.tape_blocks.specs.Block.{Portion}
 use Rattle.tape_set.specs.{declared.position.Position.Position, declared.position.Want.Want}
 use Rattle.tape_set.specs.declared.position.Position.TheVariants.{Awaits, Finished}
 use Rattle.tape_set.specs.Position.{want_at}
 use Rattle.tape_core.specs.{declared.sink.PartSink.Ghosts, State.State}
 use Rattle.tape_run.specs.{Crash.IsWalked, Seen.Seen, Seen.seen, SessionState.SessionState}
-use Rattle.tape_run.specs.{ReelLine.last_line, Stopping.StopsReading}
-use Rattle.tape_run.specs.Reeling.{Turn, TakesAll, Follows, goes_back, Mounting}
+use Rattle.tape_run.specs.Rounds.{Round, turns_of, core_behind, wanted, IsEnough, FollowsRounds}
+use Rattle.tape_run.specs.Rounds.{TakesRounds, StopsInRound}
+use Rattle.tape_run.specs.{ReelLine.last_line, Reeling.Turn, Reeling.Follows, Reeling.Mounting}
 use Rattle.tape_run.specs.declared.fault.EngineFault.{EngineFault}
-use Rattle.tape_run.specs.Extracting.{Ends, Extracts, Stops, EndsFile, StopsAtEnd, TellsEnd, Leaves}
-use Rattle.tape_run.specs.Extracting.{IsWritten}
+use Rattle.tape_run.specs.Extracting.{Extracts, Stops, EndsFile, StopsAtEnd, TellsEnd, Leaves}
 use Rattle.tape_image.specs.Written.{AppendsFront}
 use Rattle.tape_image.proofs.Pieces.{front_more, front_behind}
-use Rattle.tape_run.proofs.{Lasting.stood_walked, Left.left_walked, StoppedThere.stopped_walked}
-use Rattle.tape_run.proofs.TurnSteps.{are_steps}
+use Rattle.tape_run.proofs.{Lasting.last_then, Lasting.stood_walked, Left.left_walked}
+use Rattle.tape_run.proofs.{Left.left_behind, StoppedThere.stopped_walked, TurnSteps.are_steps}
+use Rattle.tape_run.proofs.{Turns.follows_then, Rounds.all_turns}
+use Rattle.tape_run.proofs.Rounds.{lines_of_all, front_of_all}
 
--- A session that ended its file is where its images lead.
-abbrev pub ended : {S : Type 0} (spares : Bool) (g : Ghosts S) (mid : SessionState S) (core : State)
-    (old : Seen) (turns : List Turn) (form : Form) (out written said says : Option (List ℕ))
-    (want : Option Want) (now : List Portion)
-    (e : EndsFile g mid form out written said says want)
-    → g.holds mid.sink now
-    → Follows (goes_back old.notes) spares core old turns mid.core (seen g mid now)
-    → Ends (goes_back old.notes) spares core old turns want
-    (IsWritten want e.records form out written)
-ended spares g mid core old turns form out written said says want now e has f =
-    record {
-      last = mid.core;
-      now = seen g mid now;
-      follows = f;
-      are_steps = are_steps (goes_back old.notes) spares core old turns mid.core (seen g mid now)
-          f;
-      wanted = e.wanted;
-      is_written = e.is_written now has;
-    }
+-- complete passes and the turns of a last one, as one sequence of turns
+in_a_row : (back spares : Bool) (core : State) (old : Seen) (rounds : List Round) (mid : Seen)
+    (turns : List Turn) (last : State) (new : Seen) → FollowsRounds back spares core old rounds mid
+    → Follows back spares (core_behind core rounds) mid turns last new
+    → Follows back spares core old (turns_of rounds ++ turns) last new
+in_a_row back spares core old rounds mid turns last new f g =
+    follows_then back spares core old (turns_of rounds) (core_behind core rounds) mid turns last new
+    (all_turns back spares core old rounds mid f) g
 
-pub extracted : {S L R : Type 0} (gs : Ghosts S)
-    (size : L → ℕ) (gives : Mounting L R) (remaining : R → Option (List ℕ))
-    (old mid new : SessionState S)
-    (shelf left : L) (form : Form)
-    (out written said between says : Option (List ℕ)) (want : Option Want)
-    (back : Bool) → back ≡ goes_back old.notes
-    → TakesAll gs (size shelf) 0 gives remaining back false old mid shelf
-    left said between
-    → EndsFile gs mid form out written between says want
+pub extracted : {S L R : Type 0} (gs : Ghosts S) (size : L → ℕ) (gives : Mounting L R)
+    (remaining : R → Option (List ℕ)) (old mid new : SessionState S) (shelf left : L)
+    (output : Option Want → ℕ → List Portion → Type 0) (said between says : Option (List ℕ))
+    (want : Option Want) (goes back again : Bool) → goes ≡ back
+    → TakesRounds gs (size shelf) gives remaining goes again old mid shelf left said between
+    → EndsFile gs mid output between says want
     → IsWalked gs mid new → gs.refusals new.sink ≡ gs.refusals mid.sink
-    → Extracts gs size gives remaining old new shelf left form out
-    written said says want
-extracted {S} {L} {R} gs size gives remaining old mid new shelf
-    left form out written said between says want back same took e walked calm =
-    let t = subst (λ b. TakesAll gs (size shelf) 0 gives remaining b false
-    old mid shelf left said between) same took in
+    → Extracts gs size gives remaining back again old new shelf left output said says want
+extracted {S} {L} {R} gs size gives remaining old mid new shelf left output said between says want
+    goes back again same took e walked calm =
+    let t = subst (λ b. TakesRounds gs (size shelf) gives remaining b again old mid shelf left said
+    between) same took in
     record {
-      turns = t.turns;
-      are_turns = t.are_turns;
-      most = t.most;
-      all = λ less. e.wanted ∙ ap (want_at mid.core.file) (t.all less);
+      rounds = t.rounds;
+      between = t.between;
+      are_rounds = t.gone.are_rounds;
+      brought = t.gone.brought;
+      once = t.gone.once;
+      turns = t.last.turns;
+      are_turns = t.last.are_turns;
+      most = t.last.most;
+      all = λ less. e.wanted ∙ ap (want_at mid.core.file) (t.last.all less);
+      enough = λ more. subst (IsEnough (size shelf) (length (turns_of t.rounds))
+          (wanted (core_behind old.core t.rounds))) (sym e.wanted)
+          (subst (λ c. IsEnough (size shelf) (length (turns_of t.rounds)) (wanted c)
+          (wanted mid.core)) t.gone.at (t.enough more));
       records = e.records;
-      lines = Appends-trans said between says _ _ t.lines e.line;
+      lines = Appends-trans said between says _ _
+          (lines_of_all said t.told between (turns_of t.rounds) t.last.turns t.gone.lines
+          t.last.lines) e.line;
       ends = λ held was kept.
-          let (now, has, (still, f, last)) = t.follows held was kept in (
-            ended false gs mid old.core (seen gs old held) t.turns form out
-                written between says want now e has f,
-            stood_walked gs old mid new held now has last walked calm,
+          let (before, has, (still, f, first)) = t.gone.follows held was kept in
+          let (now, has_now, (then, one, last)) = t.last.follows before has still in
+          let start = seen gs old held in
+          let g = subst (λ c. Follows back again c (seen gs t.mid before) t.last.turns mid.core
+          (seen gs mid now)) t.gone.at one in
+          let all = in_a_row back again old.core start t.rounds (seen gs t.mid before) t.last.turns
+          mid.core (seen gs mid now) f g in (
+            record {
+              last = mid.core;
+              now = seen gs mid now;
+              follows = all;
+              are_steps = are_steps back again old.core start (turns_of t.rounds ++ t.last.turns)
+                  mid.core (seen gs mid now) all;
+              wanted = e.wanted;
+              is_written = e.is_written now has_now;
+            },
+            (seen gs t.mid before, f, g),
+            stood_walked gs old mid new held now has_now
+                (last_then gs old t.mid mid held before now first last) walked calm,
           );
     }
 
-pub stops_reading : {S L R W : Type 0} (gs : Ghosts S) (size : L → ℕ)
-    (gives : Mounting L R) (remaining : R → Option (List ℕ))
-    (old new : SessionState S) (shelf left : L) (form : Form) (contents : W → Option (List ℕ))
-    (out : W) (said says : Option (List ℕ)) (back : Bool) (fault : EngineFault)
-    → back ≡ goes_back old.notes
-    → StopsReading gs (size shelf) 0 gives remaining back false old new shelf
-    left said says fault
-    → Stops gs size gives remaining old new shelf left form contents
-    out out said says fault
-stops_reading {S} {L} {R} {W} gs size gives remaining old new shelf
-    left form contents out said says back fault same stopped =
-    let s = subst (λ b. StopsReading gs (size shelf) 0 gives remaining
-    b false old new shelf left said says fault) same stopped in
+pub stops_reading : {S L R : Type 0} (gs : Ghosts S) (size : L → ℕ) (gives : Mounting L R)
+    (remaining : R → Option (List ℕ)) (old new : SessionState S) (shelf left : L)
+    (leaves : Type 0 → Option Want → Seen → Type 0) (said says : Option (List ℕ))
+    (goes back again : Bool) (fault : EngineFault) → goes ≡ back
+    → StopsInRound gs (size shelf) gives remaining goes again old new shelf left said says fault
+    → ((less : Type 0) (now : Seen) → less → leaves less None now)
+    → Stops gs size gives remaining back again old new shelf left leaves said says fault
+stops_reading {S} {L} {R} gs size gives remaining old new shelf left leaves said says goes back
+    again fault same stopped untouched =
+    let s = subst (λ b. StopsInRound gs (size shelf) gives remaining b again old new shelf left said
+    says fault) same stopped in
+    let lines = front_of_all said s.told says (turns_of s.rounds) s.last.turns s.gone.lines
+    s.last.lines in
     record {
-      turns = s.turns;
-      image = s.image;
-      are_turns = s.are_turns;
-      most = s.most;
-      no_more = s.no_more;
+      rounds = s.rounds;
+      between = s.between;
+      are_rounds = s.gone.are_rounds;
+      brought = s.gone.brought;
+      once = s.gone.once;
+      turns = s.last.turns;
+      image = s.last.image;
+      are_turns = s.last.are_turns;
+      most = s.last.most;
+      no_more = s.last.no_more;
       want = None;
-      all = inl s.lines;
+      ended = inl lines;
       records = 0;
-      lines = front_more said says _ (last_line None 0) s.lines;
-      told = s.told;
+      lines = front_more said says _ (last_line None 0) lines;
+      told = λ other. lines_of_all said s.told says (turns_of s.rounds) s.last.turns s.gone.lines
+          (s.last.told other);
       follows = λ held was kept.
-          let (core, now, f, leaves, stopped) = s.follows held was kept in
-          (core, now, f, (leaves, stopped), inl s.lines, inl (refl, inl s.lines));
+          let (mid, has, (still, f, before)) = s.gone.follows held was kept in
+          let (core, now, one, stood, stopped) = s.last.follows mid has still in (
+            core,
+            now,
+            (
+              seen gs s.mid mid,
+              f,
+              subst (λ c. Follows back again c (seen gs s.mid mid) s.last.turns core now) s.gone.at
+                  one,
+            ),
+            (left_behind gs _ old s.mid new held mid now before stood, stopped),
+            inl lines,
+            untouched _ now lines,
+          );
     }
 
 -- after the lines of all images, nothing of the last line
@@ -126,14 +157,22 @@ all_read size read file p want most ended is = elim (eq-or-lt_of_le most) [
   | inr less ↦ inr (is ∙ ap (want_at file) (ended less))
 ]
 
-pub all_then : (said between says : Option (List ℕ)) (lines : List ℕ) (size read file : ℕ)
-    (p : Position) (want : Option Want) → Appends said between lines → read ≤ size
-    → (read < size → p ≡ Finished) → AppendsFront between says [] ⊎ (want ≡ want_at file p)
-    → AppendsFront said says lines ⊎ ((read ≡ size) ⊎ (want ≡ None))
-all_then said between says lines size read file p want before most ended (inl none) =
-    inl (less_then said between says lines before none)
-all_then said between says lines size read file p want before most ended (inr is) =
-    inr (all_read size read file p want most ended is)
+-- all images of the last pass precede the last line, and no other pass follows
+round_then : (again : Bool) (said between says : Option (List ℕ)) (lines : List ℕ)
+    (size read before : ℕ) (first : Option Want) (core : State) (want : Option Want)
+    → Appends said between lines → read ≤ size → (read < size → core.position ≡ Finished)
+    → (again ≡ true → IsEnough size before first (wanted core))
+    → AppendsFront between says [] ⊎ (want ≡ wanted core) → AppendsFront said says lines
+    ⊎ (((read ≡ size) ⊎ (want ≡ None)) × (again ≡ true → IsEnough size before first want))
+round_then again said between says lines size read before first core want told most all enough
+    (inl none) =
+    inl (less_then said between says lines told none)
+round_then again said between says lines size read before first core want told most all enough
+    (inr is) =
+    inr (
+      all_read size read core.file core.position want most all is,
+      λ more. subst (IsEnough size before first) (sym is) (enough more),
+    )
 
 -- after the lines of all images, nothing more
 pub told_then : (said between says : Option (List ℕ)) (lines : List ℕ) → Appends said between lines
@@ -150,47 +189,60 @@ tells_then said between says lines want records now before (inl none) =
     inl (less_then said between says lines before none)
 tells_then said between says lines want records now before (inr tells) = inr tells
 
-pub stops_at_end : {S L R W : Type 0} (gs : Ghosts S)
-    (size : L → ℕ) (gives : Mounting L R) (remaining : R → Option (List ℕ))
-    (old mid new : SessionState S)
-    (shelf left : L) (form : Form)
-    (contents : W → Option (List ℕ)) (out written : W) (said between says : Option (List ℕ))
-    (back : Bool) (fault : EngineFault) → back ≡ goes_back old.notes
-    → TakesAll gs (size shelf) 0 gives remaining back false old mid shelf
-    left said between
-    → IsWalked gs mid new
-    → StopsAtEnd gs mid form contents out written between says fault
-    → Stops gs size gives remaining old new shelf left form contents
-    out written said says fault
-stops_at_end {S} {L} {R} {W} gs size gives remaining old mid new
-    shelf left form contents out written said between says back fault same took walked e =
-    let t = subst (λ b. TakesAll gs (size shelf) 0 gives remaining b false
-    old mid shelf left said between) same took in
+pub stops_at_end : {S L R : Type 0} (gs : Ghosts S) (size : L → ℕ) (gives : Mounting L R)
+    (remaining : R → Option (List ℕ)) (old mid new : SessionState S) (shelf left : L)
+    (leaves : Type 0 → Option Want → Seen → Type 0) (said between says : Option (List ℕ))
+    (goes back again : Bool) (fault : EngineFault) → goes ≡ back
+    → TakesRounds gs (size shelf) gives remaining goes again old mid shelf left said between
+    → IsWalked gs mid new → StopsAtEnd gs mid leaves between says fault
+    → ((less more : Type 0) (want : Option Want) (now : Seen) → (less → more)
+    → leaves less want now → leaves more want now)
+    → Stops gs size gives remaining back again old new shelf left leaves said says fault
+stops_at_end {S} {L} {R} gs size gives remaining old mid new shelf left leaves said between says
+    goes back again fault same took walked e wider =
+    let t = subst (λ b. TakesRounds gs (size shelf) gives remaining b again old mid shelf left said
+    between) same took in
+    let lines = lines_of_all said t.told between (turns_of t.rounds) t.last.turns t.gone.lines
+    t.last.lines in
     record {
-      turns = t.turns;
+      rounds = t.rounds;
+      between = t.between;
+      are_rounds = t.gone.are_rounds;
+      brought = t.gone.brought;
+      once = t.gone.once;
+      turns = t.last.turns;
       image = None;
-      are_turns = (left, t.are_turns, inl (refl, refl));
-      most = t.most;
+      are_turns = (left, t.last.are_turns, inl (refl, refl));
+      most = t.last.most;
       no_more = λ none. refl;
       want = e.want;
-      all = all_then said between says _ (size shelf) _ mid.core.file _ e.want t.lines t.most t.all
-          e.wants;
+      ended = round_then again said between says _ (size shelf) _ (length (turns_of t.rounds))
+          (wanted (core_behind old.core t.rounds)) mid.core e.want lines t.last.most t.last.all
+          (λ more. subst (λ c. IsEnough (size shelf) (length (turns_of t.rounds)) (wanted c)
+          (wanted mid.core)) t.gone.at (t.enough more)) e.wants;
       records = e.records;
-      lines = front_behind said between says _ (last_line e.want e.records) t.lines e.line;
-      told = λ other. told_then said between says _ t.lines (e.told other);
+      lines = front_behind said between says _ (last_line e.want e.records) lines e.line;
+      told = λ other. told_then said between says _ lines (e.told other);
       follows = λ held was kept.
-          let (now, has, (still, f, last)) = t.follows held was kept in (
+          let (before, has, (still, f, first)) = t.gone.follows held was kept in
+          let (now, has_now, (then, one, last)) = t.last.follows before has still in (
             mid.core,
             seen gs mid now,
-            f,
             (
-              left_walked gs back _ old mid new held now last walked has,
-              stopped_walked gs remaining (goes_back old.notes) mid new now fault has walked,
+              seen gs t.mid before,
+              f,
+              subst (λ c. Follows back again c (seen gs t.mid before) t.last.turns mid.core
+                  (seen gs mid now)) t.gone.at one,
             ),
-            tells_then said between says _ e.want e.records (seen gs mid now) t.lines
-                (e.tells now has),
-            leaves_more _ _ e.want _ _ _ _ (less_then said between says _ t.lines)
-                (e.is_written now has),
+            (
+              left_walked gs back _ old mid new held now
+                  (last_then gs old t.mid mid held before now first last) walked has_now,
+              stopped_walked gs remaining back mid new now fault has_now walked,
+            ),
+            tells_then said between says _ e.want e.records (seen gs mid now) lines
+                (e.tells now has_now),
+            wider _ _ e.want (seen gs mid now) (less_then said between says _ lines)
+                (e.is_written now has_now),
           );
     }
 

@@ -85,9 +85,7 @@ mod Settled
 mod TurnSteps
 mod Rounds
 mod Extracted
-mod Again
 mod OutSinks
-mod Now
 mod OneEntry
 mod SalvagePieces
 mod SalvagedSoFar

@@ -1,6 +1,6 @@
 -- Wrong answers to a fault of a sink or a writer that the contracts exclude.
 use Rattle.std.proofs.Common.{◌≡◌, ◌≢◌, ◌<◌, true, false, List, [], inl, inr, refl, sym, ◌∙◌}
-use Rattle.std.specs.Prelude.{Err, None, Ok, is_some, map}
+use Rattle.std.specs.Prelude.{Err, None, Ok, is_some, map, ◌++◌}
 use Rattle.std.specs.Io.KnownBytes.{Appends}
 use Rattle.tape_blocks.specs.Block.{Portion}
 use Rattle.tape_core.specs.declared.sink.SinkFault.TheVariants as sink
@@ -8,6 +8,7 @@ use Rattle.tape_set.specs.declared.position.Position.TheVariants.{Finished}
 use Rattle.tape_run.specs.declared.fault.EngineFault.TheVariants.{Run, WriteFailed}
 use Rattle.tape_run.specs.{declared.fault.RunFault.TheVariants.Sink, ReelLine.reel_lines}
 use Rattle.tape_run.specs.{OutSinks.HasTaken, OutSinks.TellsAlways, Reeling.answer_of}
+use Rattle.tape_run.specs.Rounds.{turns_of}
 use Rattle.tape_core.specs.declared.sink.SinkFault.{SinkFault}
 use Rattle.tape_image.specs.Written.{AppendsFront}
 use Rattle.tape_run.proofs.Causes.{not_rose}
@@ -135,7 +136,7 @@ unsaved_reel_is_reported : (W : _) (R : _) (L : _) (O : _) (P : _) (LW : _) (LR 
     → (l : streaming.Learnt-named W R L O P LW LR LL LO LP w f h e m n o k p q i j κs a
     (Err (Run fault)) s)
     → (Appends (p.contents a.1.1.1.1.0.now) (p.contents s.1.1.1.1.0.now)
-    (reel_lines 1 (map answer_of l.err.turns)) → ⊥) → ⊥
+    (reel_lines 1 (map answer_of (turns_of l.err.rounds ++ l.err.turns))) → ⊥) → ⊥
 unsaved_reel_is_reported W R L O P LW LR LL LO LP w f h e m n o k p q i j κs a fault s l more =
     more (l.err.told (λ same. cc same))
 
@@ -148,11 +149,11 @@ complete_reported_before_the_name : (W : _) (R : _) (L : _) (O : _) (P : _) (LW 
     → HasTaken w.contents a.0.now.sink.form a.0.now.sink.out a.0.now.sink.weight
     a.0.now.sink.records a.0.now.sink.begun held → TellsAlways w.contents
     → l.err.want ≡ None → (AppendsFront (p.contents a.1.1.1.1.0.now) (p.contents s.1.1.1.1.0.now)
-    (reel_lines 1 (map answer_of l.err.turns)) → ⊥)
+    (reel_lines 1 (map answer_of (turns_of l.err.rounds ++ l.err.turns))) → ⊥)
     → o.stands s.1.1.1.0.now ≡ None → ⊥
 complete_reported_before_the_name W R L O P LW LR LL LO LP w f h e m n o k p q i j κs a fault s held
     l was tells none more unnamed =
-    let (last, now, follows, stopped, ends, leaves) = l.err.follows held was in elim leaves [
+    let (last, now, follows, stopped, ends, leaves) = l.err.follows held was tt in elim leaves [
       | inl (same, inl less) ↦ more less
       | inl (same, inr some) ↦ some none
       | inr (done, inl (same, less)) ↦ more less

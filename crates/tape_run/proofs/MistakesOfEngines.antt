@@ -4,12 +4,11 @@ use Rattle.std.proofs.Common.{◌∙◌, true, false, inl, inr, arith, codes, Bo
 use Rattle.std.proofs.Common.{Ok, option_map, ◌<◌, if◌then◌else◌}
 use Rattle.std.proofs.lemmas.Bool.{lt-ltb}
 use Rattle.std.specs.Fmt.{digits}
-use Rattle.tape_blocks.specs.declared.parts.Form.{Form}
 use Rattle.tape_core.specs.declared.sink.PartSink.{Ghosts}
 use Rattle.tape_image.specs.Written.{AppendsFront}
 use Rattle.tape_set.specs.declared.position.Want.{Want}
 use Rattle.tape_run.specs.{declared.fault.EngineFault.EngineFault, Extracting.Stops, Passing.Told}
-use Rattle.tape_run.specs.{ExtractingNow.StopsNow, ExtractingAgain.StopsAgain, ReelLine.reel_lines}
+use Rattle.tape_run.specs.{ReelLine.reel_lines, Seen.Seen}
 use Rattle.tape_run.specs.Reeling.{answer_of, Mounting, AreMounted}
 use Rattle.tape_run.specs.{SessionState.SessionState, declared.section.ImageLine.ImageLine}
 use Rattle.tape_run.specs.Rounds.{turns_of, core_behind, wanted}
@@ -32,54 +31,37 @@ partial_output_written : (S : _) (R : _) (L : _) (W : _) (P : _) (LS : _) (LR : 
 partial_output_written S R L W P LS LR LL LW LP g d g' d' h e m n w f p i j κs a want s l other =
     other (l.untouched (λ n. absurd (cc)))
 
--- images are left unread before the last line only if it says that the file is complete
-unread : (less : Type 0) (read size : ℕ) (want : Option Want)
-    → less ⊎ ((read ≡ size) ⊎ (want ≡ None)) → (less → ⊥) → want ≢ None → read < size → ⊥
-unread less read size want (inl few) more some fewer = more few
-unread less read size want (inr (inl all)) more some fewer = absurd (omega (arith, all, fewer))
-unread less read size want (inr (inr none)) more some fewer = some none
-
 -- awaits_before_the_images: an image was not read, but the last line names a missing part
-awaits_before_the_images : {S L R W : Type 0} (g : Ghosts S) (size : L → ℕ) (gives : Mounting L R)
-    (remaining : R → Option (List ℕ)) (old new : SessionState S) (shelf left : L) (form : Form)
-    (contents : W → Option (List ℕ)) (out written : W) (said says : Option (List ℕ))
-    (fault : EngineFault) (s : Stops g size gives remaining old new shelf left form contents out
-    written said says fault) → (AppendsFront said says (reel_lines 1 (map answer_of s.turns)) → ⊥)
+awaits_before_the_images : {S L R : Type 0} (g : Ghosts S) (size : L → ℕ) (gives : Mounting L R)
+    (remaining : R → Option (List ℕ)) (back again : Bool) (old new : SessionState S)
+    (shelf left : L) (leaves : Type 0 → Option Want → Seen → Type 0) (said says : Option (List ℕ))
+    (fault : EngineFault)
+    (s : Stops g size gives remaining back again old new shelf left leaves said says fault)
+    → (AppendsFront said says (reel_lines 1 (map answer_of (turns_of s.rounds ++ s.turns))) → ⊥)
     → s.want ≢ None → length s.turns < size shelf → ⊥
-awaits_before_the_images g size gives remaining old new shelf left form contents out written said
-    says fault s more some fewer = unread _ _ _ _ s.all more some fewer
-
--- the same while the records are written, and in several passes
-awaits_before_the_images_now : {S L R O : Type 0} (g : Ghosts S) (size : L → ℕ)
-    (gives : Mounting L R) (remaining : R → Option (List ℕ)) (old new : SessionState S)
-    (shelf left : L) (form : Form) (tells : Type 0) (stands : O → Option (List ℕ)) (out put : O)
-    (said says : Option (List ℕ)) (fault : EngineFault) (s : StopsNow g size gives remaining old new
-    shelf left form tells stands out put said says fault)
-    → (AppendsFront said says (reel_lines 1 (map answer_of s.turns)) → ⊥)
-    → s.want ≢ None → length s.turns < size shelf → ⊥
-awaits_before_the_images_now g size gives remaining old new shelf left form tells stands out put
-    said says fault s more some fewer = unread _ _ _ _ s.all more some fewer
+awaits_before_the_images g size gives remaining back again old new shelf left leaves said says fault
+    s more some fewer = elim s.ended [
+      | inl few ↦ more few
+      | inr (inl all, enough) ↦ absurd (omega (arith, all, fewer))
+      | inr (inr none, enough) ↦ some none
+    ]
 
 -- awaits_before_another_pass: less is missing than before the pass, and the last line names it
-awaits_before_another_pass : {S L R W : Type 0} (g : Ghosts S) (size : L → ℕ) (gives : Mounting L R)
-    (remaining : R → Option (List ℕ)) (old new : SessionState S) (shelf left : L) (form : Form)
-    (contents : W → Option (List ℕ)) (out written : W) (said says : Option (List ℕ))
-    (fault : EngineFault) (s : StopsAgain g size gives remaining old new shelf left form contents
-    out written said says fault)
+awaits_before_another_pass : {S L R : Type 0} (g : Ghosts S) (size : L → ℕ) (gives : Mounting L R)
+    (remaining : R → Option (List ℕ)) (back : Bool) (old new : SessionState S) (shelf left : L)
+    (leaves : Type 0 → Option Want → Seen → Type 0) (said says : Option (List ℕ))
+    (fault : EngineFault)
+    (s : Stops g size gives remaining back true old new shelf left leaves said says fault)
     → (AppendsFront said says (reel_lines 1 (map answer_of (turns_of s.rounds ++ s.turns))) → ⊥)
-    → s.want ≢ None
-    → (length s.turns < size shelf) ⊎ ((s.want ≢ wanted (core_behind old.core s.rounds))
-    × (length (turns_of s.rounds) + size shelf + size shelf < 18446744073709551616)) → ⊥
-awaits_before_another_pass g size gives remaining old new shelf left form contents out written said
-    says fault s more some other = elim s.ended [
+    → s.want ≢ None → s.want ≢ wanted (core_behind old.core s.rounds)
+    → length (turns_of s.rounds) + size shelf + size shelf < 18446744073709551616 → ⊥
+awaits_before_another_pass g size gives remaining back old new shelf left leaves said says fault s
+    more some less numbers = elim s.ended [
       | inl few ↦ more few
-      | inr (all, enough) ↦ elim other [
-        | inl fewer ↦ unread _ _ _ _ (inr all) more some fewer
-        | inr (less, numbers) ↦ elim enough [
-          | inl none ↦ some none
-          | inr (inl same) ↦ less same
-          | inr (inr above) ↦ absurd (omega (arith, numbers, above))
-        ]
+      | inr (all, enough) ↦ elim (enough refl) [
+        | inl none ↦ some none
+        | inr (inl same) ↦ less same
+        | inr (inr above) ↦ absurd (omega (arith, numbers, above))
       ]
     ]
 

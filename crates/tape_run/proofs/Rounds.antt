@@ -47,25 +47,25 @@ brought_push size core [] r brought whole some other = (whole, some, other, tt)
 brought_push size core (q ∷ rounds) r (a, b, c, brought) whole some other =
     (a, b, c, brought_push size q.behind rounds r brought whole some other)
 
-follows_push : (back : Bool) (core : State) (old : Seen) (rounds : List Round) (mid : Seen)
-    (r : Round) (new : Seen) → FollowsRounds back core old rounds mid
-    → Follows back true (core_behind core rounds) mid r.turns r.behind new
-    → FollowsRounds back core old (rounds ++ r ∷ []) new
-follows_push back core old [] mid r new same f =
-    (new, subst (λ z. Follows back true core z r.turns r.behind new) same f, refl)
-follows_push back core old (q ∷ rounds) mid r new (z, first, rest) f =
-    (z, first, follows_push back q.behind z rounds mid r new rest f)
+follows_push : (back spares : Bool) (core : State) (old : Seen) (rounds : List Round) (mid : Seen)
+    (r : Round) (new : Seen) → FollowsRounds back spares core old rounds mid
+    → Follows back spares (core_behind core rounds) mid r.turns r.behind new
+    → FollowsRounds back spares core old (rounds ++ r ∷ []) new
+follows_push back spares core old [] mid r new same f =
+    (new, subst (λ z. Follows back spares core z r.turns r.behind new) same f, refl)
+follows_push back spares core old (q ∷ rounds) mid r new (z, first, rest) f =
+    (z, first, follows_push back spares q.behind z rounds mid r new rest f)
 
 -- ---- over all rounds
 
 -- Passes are turns, one after another.
-pub all_turns : (back : Bool) (core : State) (old : Seen) (rounds : List Round) (mid : Seen)
-    → FollowsRounds back core old rounds mid
-    → Follows back true core old (turns_of rounds) (core_behind core rounds) mid
-all_turns back core old [] mid same = (refl, same)
-all_turns back core old (r ∷ rounds) mid (z, first, rest) =
-    follows_then back true core old r.turns r.behind z (turns_of rounds)
-    (core_behind r.behind rounds) mid first (all_turns back r.behind z rounds mid rest)
+pub all_turns : (back spares : Bool) (core : State) (old : Seen) (rounds : List Round) (mid : Seen)
+    → FollowsRounds back spares core old rounds mid
+    → Follows back spares core old (turns_of rounds) (core_behind core rounds) mid
+all_turns back spares core old [] mid same = (refl, same)
+all_turns back spares core old (r ∷ rounds) mid (z, first, rest) =
+    follows_then back spares core old r.turns r.behind z (turns_of rounds)
+    (core_behind r.behind rounds) mid first (all_turns back spares r.behind z rounds mid rest)
 
 -- the lines of passes, followed by these
 lines_then : (turns others : List Turn) → reel_lines 1 (map answer_of (turns ++ others))
@@ -102,41 +102,33 @@ whole_round turns size core most all some = elim (cases_lt (length turns) size) 
 ]
 
 -- nothing has come yet
-pub none_gone : {S L R : Type 0} (gs : Ghosts S)
-    (size : ℕ) (gives : Mounting L R) (remaining : R → Option (List ℕ)) (back : Bool)
-    (old : SessionState S) (shelf : L) (said : Option (List ℕ))
-    → HasGone gs size gives remaining back old old shelf shelf said
-    said []
-none_gone {S} {L} {R} gs size gives remaining back old shelf said =
+pub none_gone : {S L R : Type 0} (gs : Ghosts S) (size : ℕ) (gives : Mounting L R)
+    (remaining : R → Option (List ℕ)) (back again : Bool) (old : SessionState S) (shelf : L)
+    (said : Option (List ℕ))
+    → HasGone gs size gives remaining back again old old shelf shelf said said []
+none_gone {S} {L} {R} gs size gives remaining back again old shelf said =
     record {
+      once = λ none. refl;
       are_rounds = refl;
       brought = tt;
       at = refl;
       lines = Appends-nil said;
-      follows = λ held was kept. (
-        held,
-        was,
-        (kept, refl, last_same gs old held),
-      );
+      follows = λ held was kept. (held, was, (kept, refl, last_same gs old held));
     }
 
 -- one more pass was made, and something is still missing
 pub gone_on : {S L R : Type 0} (gs : Ghosts S)
-    (size before : ℕ) (gives : Mounting L R) (remaining : R → Option (List ℕ)) (back : Bool)
+    (size before : ℕ) (gives : Mounting L R) (remaining : R → Option (List ℕ)) (back again : Bool)
     (old mid new : SessionState S) (shelf between left : L) (said told says : Option (List ℕ))
-    (rounds : List Round)
-    → HasGone gs size gives remaining back old mid shelf between said
-    told rounds
+    (rounds : List Round) → again ≡ true
+    → HasGone gs size gives remaining back again old mid shelf between said told rounds
     → before ≡ length (turns_of rounds)
-    → TakesAll gs size before gives remaining back true mid new between left
-    told says
+    → TakesAll gs size before gives remaining back again mid new between left told says
     → wanted new.core ≢ None → wanted new.core ≢ wanted mid.core
     → (more : List Round) × (before + size ≡ length (turns_of more))
-    × HasGone gs size gives remaining back old new shelf left said says
-    more
-gone_on {S} {L} {R} gs size before gives remaining back old mid new
-    shelf between left said told
-    says rounds h count took some other =
+    × HasGone gs size gives remaining back again old new shelf left said says more
+gone_on {S} {L} {R} gs size before gives remaining back again old mid new shelf between left said
+    told says rounds more h count took some other =
     let t = rw count at took in
     let whole = whole_round t.turns size new.core t.most t.all some in
     let r : Round = record { turns = t.turns; behind = new.core } in (
@@ -149,6 +141,7 @@ gone_on {S} {L} {R} gs size before gives remaining back old mid new
         ap length (turns_push rounds r),
       ),
       record {
+        once = λ none. absurd (let e = sym more ∙ none in cc e);
         are_rounds = rounds_push gives remaining shelf rounds between r left h.are_rounds
             t.are_turns;
         brought = brought_push size old.core rounds r h.brought whole some
@@ -164,10 +157,9 @@ gone_on {S} {L} {R} gs size before gives remaining back old mid new
               has_now,
               (
                 then,
-                follows_push back old.core (seen gs old held) rounds
-                    (seen gs mid between) r (seen gs new now) f
-                    (subst (λ c. Follows back true c (seen gs mid between) t.turns new.core
-                    (seen gs new now)) h.at one),
+                follows_push back again old.core (seen gs old held) rounds (seen gs mid between) r
+                    (seen gs new now) f (subst (λ c. Follows back again c (seen gs mid between)
+                    t.turns new.core (seen gs new now)) h.at one),
                 last_then gs old mid new held between now before last,
               ),
             );
@@ -176,21 +168,17 @@ gone_on {S} {L} {R} gs size before gives remaining back old mid new
 
 -- one more pass was made, and it was the last
 pub takes_rounds : {S L R : Type 0} (gs : Ghosts S)
-    (size count before : ℕ) (gives : Mounting L R) (remaining : R → Option (List ℕ)) (back : Bool)
-    (old mid new : SessionState S) (shelf between left : L) (said told says : Option (List ℕ))
+    (size count before : ℕ) (gives : Mounting L R) (remaining : R → Option (List ℕ))
+    (back again : Bool) (old mid new : SessionState S) (shelf between left : L)
+    (said told says : Option (List ℕ))
     (rounds : List Round) → count ≡ size → before ≡ length (turns_of rounds)
-    → HasGone gs count gives remaining back old mid shelf between said
-    told rounds
-    → TakesAll gs count before gives remaining back true mid new between
-    left told says
-    → IsEnough count before (wanted mid.core) (wanted new.core)
-    → TakesRounds gs size gives remaining back old new shelf left said
-    says
-takes_rounds {S} {L} {R} gs size count before gives remaining back
-    old mid new shelf between left
-    said told says rounds all lines h took enough =
-    subst (λ n. TakesRounds gs n gives remaining back old new shelf
-    left said says) all
+    → HasGone gs count gives remaining back again old mid shelf between said told rounds
+    → TakesAll gs count before gives remaining back again mid new between left told says
+    → (again ≡ true → IsEnough count before (wanted mid.core) (wanted new.core))
+    → TakesRounds gs size gives remaining back again old new shelf left said says
+takes_rounds {S} {L} {R} gs size count before gives remaining back again old mid new shelf between
+    left said told says rounds all lines h took enough =
+    subst (λ n. TakesRounds gs n gives remaining back again old new shelf left said says) all
     (record {
       rounds = rounds;
       mid = mid;
@@ -203,20 +191,16 @@ takes_rounds {S} {L} {R} gs size count before gives remaining back
 
 -- a fault ended one more pass
 pub stops_round : {S L R : Type 0} (gs : Ghosts S)
-    (size count before : ℕ) (gives : Mounting L R) (remaining : R → Option (List ℕ)) (back : Bool)
-    (old mid new : SessionState S) (shelf between left : L) (said told says : Option (List ℕ))
+    (size count before : ℕ) (gives : Mounting L R) (remaining : R → Option (List ℕ))
+    (back again : Bool) (old mid new : SessionState S) (shelf between left : L)
+    (said told says : Option (List ℕ))
     (rounds : List Round) (fault : EngineFault) → count ≡ size → before ≡ length (turns_of rounds)
-    → HasGone gs count gives remaining back old mid shelf between said
-    told rounds
-    → StopsReading gs count before gives remaining back true mid new
-    between left told says fault
-    → StopsInRound gs size gives remaining back old new shelf left said
-    says fault
-stops_round {S} {L} {R} gs size count before gives remaining back
-    old mid new shelf between left said
-    told says rounds fault all lines h stopped =
-    subst (λ n. StopsInRound gs n gives remaining back old new shelf
-    left said says fault) all
+    → HasGone gs count gives remaining back again old mid shelf between said told rounds
+    → StopsReading gs count before gives remaining back again mid new between left told says fault
+    → StopsInRound gs size gives remaining back again old new shelf left said says fault
+stops_round {S} {L} {R} gs size count before gives remaining back again old mid new shelf between
+    left said told says rounds fault all lines h stopped =
+    subst (λ n. StopsInRound gs n gives remaining back again old new shelf left said says fault) all
     (record {
       rounds = rounds;
       mid = mid;

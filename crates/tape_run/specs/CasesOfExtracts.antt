@@ -27,8 +27,8 @@ use Rattle.tape_run.specs.{Headline.HasRun, RecordText.output_of, Seen.Seen, See
 use Rattle.tape_run.specs.{ReelLine.reel_lines, ReelLine.last_line, SessionState.SessionState}
 use Rattle.tape_run.specs.{Steps.Saved, Steps.Unmoved, Steps.WentBack, OutSinks.with_end}
 use Rattle.tape_run.specs.Stopping.{IsStopped, NotNoted, StopsAt}
-use Rattle.tape_run.specs.Extracting.{IsWritten, Ends, Extracts, Stops, TellsEnd}
-use Rattle.tape_run.specs.ExtractingNow.{IsPut, ExtractsNow, StopsNow}
+use Rattle.tape_run.specs.Extracting.{IsWritten, IsPut, Ends, Extracts, Stops, TellsEnd}
+use Rattle.tape_run.specs.Extracting.{LeavesOutput, LeavesName}
 use Rattle.tape_run.specs.Reeling.{AreTold, AreSteps}
 use Rattle.tape_run.specs.declared.script.Step.TheVariants.{Reel, Save, Restart}
 
@@ -150,50 +150,51 @@ Readers = List (Option Known)
 abbrev pub ExtractsListed : Listed → Listed → Readers → Readers → Form → Known → Known → Known
     → Known → Option Want → Type 0
 ExtractsListed session behind shelf left form out written said says want =
-    Extracts as_sink length Took (λ r. r) session behind shelf left form out written said says want
+    Extracts as_sink length Took (λ r. r) (goes_back session.notes) false session behind shelf left
+    (IsWritten form out written) said says want
 
 abbrev pub StopsListed : Listed → Listed → Readers → Readers → Form → Known → Known → Known → Known
     → Type 0
 StopsListed session behind shelf left form out written said says =
-    Stops as_sink length Took (λ r. r) session behind shelf left form (λ w. w) out written said says
-    WriteFailed
+    Stops as_sink length Took (λ r. r) (goes_back session.notes) false session behind shelf left
+    (LeavesOutput form (λ w. w) out written) said says WriteFailed
 
 abbrev pub ExtractsListedNow : Listed → Readers → Readers → Form → Known → Known → Known
     → Option Want → Type 0
 ExtractsListedNow session shelf left form stands said says want =
-    ExtractsNow as_sink length Took (λ r. r) session session shelf left form ⊤ stands said says want
+    Extracts as_sink length Took (λ r. r) false false session session shelf left
+    (IsPut form ⊤ stands) said says want
 
 abbrev pub StopsListedNow : Listed → Readers → Readers → Form → Known → Known → Known → Known
     → Type 0
 StopsListedNow session shelf left form out put said says =
-    StopsNow as_sink length Took (λ r. r) session session shelf left form ⊤ (λ o. o) out put said
-    says
-    WriteFailed
+    Stops as_sink length Took (λ r. r) false false session session shelf left
+    (LeavesName form ⊤ (λ o. o) out put) said says WriteFailed
 
 -- of what was written
 pub record CasesOfOutputs : Type 0 where
   -- if nothing is missing the records were written, and counted
   pub written : (records : ℕ) (form : Form) (out now : Known) (parts : List Portion)
-      → IsWritten None records form out now parts
+      → IsWritten form out now None records parts
       → (records ≡ length (join parts).records) × Appends out now (output_of form parts)
   pub put : (records : ℕ) (form : Form) (stands : Known) (parts : List Portion)
-      → IsPut None ⊤ records form stands parts
+      → IsPut form ⊤ stands None records parts
       → (records ≡ length (join parts).records) × (stands ≡ Some (output_of form parts))
   -- the missing part is the one that the session needs at the position where its images led it
   pub ends : (spares : Bool) (first : State) (old : Seen) (turns : List Turn) (want : Option Want)
       (records : ℕ) (form : Form) (out now : Known)
       (e : Ends (goes_back old.notes) spares first old turns want
-      (IsWritten want records form out now))
+      (IsWritten form out now want records))
       → (want ≡ want_at e.now.place.file e.now.place.position)
       × AreSteps (goes_back old.notes) turns old e.now
       × Follows (goes_back old.notes) spares first old turns e.last e.now
-      × IsWritten want records form out now e.now.parts
+      × IsWritten form out now want records e.now.parts
   pub ends_now : (first : State) (old : Seen) (turns : List Turn) (want : Option Want)
       (records : ℕ) (form : Form) (stands : Known)
-      (e : Ends false false first old turns want (IsPut want ⊤ records form stands))
+      (e : Ends false false first old turns want (IsPut form ⊤ stands want records))
       → (want ≡ want_at e.now.place.file e.now.place.position) × AreSteps false turns old e.now
       × Follows false false first old turns e.last e.now
-      × IsPut want ⊤ records form stands e.now.parts
+      × IsPut form ⊤ stands want records e.now.parts
   -- images are left unread only if nothing is missing, and each that was read has a line
   pub left_unread : (session behind : Listed) (shelf left : Readers) (form : Form)
       (out now said says : Known) (want : Option Want)
@@ -209,7 +210,7 @@ pub record CasesOfOutputs : Type 0 where
       (out now said says : Known) (want : Option Want) → session.notes ≡ []
       → ExtractsListed session behind shelf left form out now said says want
       → (want ≡ want_at behind.core.file behind.core.position)
-      × ((records : ℕ) × IsWritten want records form out now behind.sink)
+      × ((records : ℕ) × IsWritten form out now want records behind.sink)
   pub left_unread_now : (session : Listed) (shelf left : Readers) (form : Form)
       (stands said says : Known) (want : Option Want)
       (e : ExtractsListedNow session shelf left form stands said says want)
@@ -223,7 +224,7 @@ pub record CasesOfOutputs : Type 0 where
       (stands said says : Known) (want : Option Want)
       (e : ExtractsListedNow session shelf left form stands said says want)
       → Ends false false session.core (seen as_sink session session.sink) e.turns want
-      (IsPut want ⊤ e.records form stands)
+      (IsPut form ⊤ stands want e.records)
   -- at a fault only the images that were read and saved are reported
   pub only_turns_told : (session behind : Listed) (shelf left : Readers) (form : Form)
       (out now said says : Known)

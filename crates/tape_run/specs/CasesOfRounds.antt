@@ -8,8 +8,8 @@ use Rattle.tape_core.specs.State.{State}
 use Rattle.tape_run.specs.Reeling.{Turn, answer_of, AreTurns, AreFirstTurns, Follows, Took}
 use Rattle.tape_run.specs.Rounds.{Round, turns_of, core_behind, wanted, AreRounds, MadeProgress}
 use Rattle.tape_run.specs.CasesOfExtracts.{Listed, as_sink, Known, Readers, StopsListed}
-use Rattle.tape_run.specs.Extracting.{Ends, EndsFile, StopsAtEnd, IsWritten, TellsEnd}
-use Rattle.tape_run.specs.ExtractingAgain.{ExtractsAgain, StopsAgain}
+use Rattle.tape_run.specs.Extracting.{Ends, EndsFile, StopsAtEnd, IsWritten, TellsEnd, Extracts}
+use Rattle.tape_run.specs.Extracting.{Stops, LeavesOutput}
 use Rattle.tape_run.specs.{RecordText.output_of, ReelLine.reel_lines, ReelLine.last_line}
 use Rattle.tape_run.specs.{Reeling.IsKeptFor, Reeling.goes_back, Seen.Seen, Seen.seen}
 use Rattle.tape_run.specs.Rounds.{IsEnough, FollowsRounds, GoesRound}
@@ -20,14 +20,14 @@ use Rattle.tape_image.specs.Written.{AppendsFront}
 abbrev pub AgainListed : Listed → Listed → Readers → Readers → Form → Known → Known → Known → Known
     → Option Want → Type 0
 AgainListed session behind shelf left form out written said says want =
-    ExtractsAgain as_sink length Took (λ r. r) session behind shelf left form out written said says
-    want
+    Extracts as_sink length Took (λ r. r) (goes_back session.notes) true session behind shelf left
+    (IsWritten form out written) said says want
 
 abbrev pub StopsAgainListed : Listed → Listed → Readers → Readers → Form → Known → Known → Known
     → Known → Type 0
 StopsAgainListed session behind shelf left form out written said says =
-    StopsAgain as_sink length Took (λ r. r) session behind shelf left form (λ w. w) out written said
-    says WriteFailed
+    Stops as_sink length Took (λ r. r) (goes_back session.notes) true session behind shelf left
+    (LeavesOutput form (λ w. w) out written) said says WriteFailed
 
 -- of passes
 pub record CasesOfRounds : Type 0 where
@@ -62,18 +62,19 @@ pub record CasesOfRounds : Type 0 where
   pub complete_is_enough : (before : Option Want) → IsEnough 3 6 before None
   pub nothing_new_is_enough : (want : Option Want) → IsEnough 3 6 want want
   pub goes_two_rounds : (back : Bool) (core last : State) (old new : Seen) (r : Round)
-      (turns : List Turn) → GoesRound back core old (r ∷ []) turns last new
+      (turns : List Turn) → GoesRound back true core old (r ∷ []) turns last new
       → (mid : Seen) × Follows back true core old r.turns r.behind mid
       × Follows back true r.behind mid turns last new
   pub follows_none : (back : Bool) (core : State) (old new : Seen)
-      → FollowsRounds back core old [] new → new ≡ old
+      → FollowsRounds back true core old [] new → new ≡ old
   -- the last line and the written records are those of the session
   pub file_ended : (session : Listed) (form : Form) (out now said says : Known)
-      (want : Option Want) (e : EndsFile as_sink session form out now said says want)
+      (want : Option Want) (e : EndsFile as_sink session (IsWritten form out now) said says want)
       → (want ≡ wanted session.core) × Appends said says (last_line want e.records)
-      × IsWritten want e.records form out now session.sink
+      × IsWritten form out now want e.records session.sink
   pub file_stopped : (session : Listed) (form : Form) (out now said says : Known)
-      (s : StopsAtEnd as_sink session form (λ w. w) out now said says WriteFailed)
+      (s : StopsAtEnd as_sink session (LeavesOutput form (λ w. w) out now) said says
+      WriteFailed)
       → AppendsFront said says (last_line s.want s.records)
       × TellsEnd (AppendsFront said says []) s.want s.records (seen as_sink session session.sink)
       × (((now ≡ out) × (AppendsFront said says [] ⊎ (s.want ≢ None)))
@@ -109,8 +110,8 @@ pub record CasesOfRounds : Type 0 where
       → IsKeptFor (goes_back session.notes)
       (seen as_sink session session.sink)
       → (x : Ends (goes_back session.notes) true session.core (seen as_sink session session.sink)
-      (turns_of e.rounds ++ e.turns) want (IsWritten want e.records form out now))
-      × GoesRound (goes_back session.notes) session.core
+      (turns_of e.rounds ++ e.turns) want (IsWritten form out now want e.records))
+      × GoesRound (goes_back session.notes) true session.core
       (seen as_sink session session.sink) e.rounds e.turns x.last x.now
       × (x.now ≡ seen as_sink behind behind.sink)
   pub again_stopped : (session behind : Listed) (shelf left : Readers) (form : Form)
@@ -130,7 +131,7 @@ pub record CasesOfRounds : Type 0 where
       (s : StopsAgainListed session behind shelf left form out now said says)
       → IsKeptFor (goes_back session.notes)
       (seen as_sink session session.sink)
-      → (last : State) × (x : Seen) × GoesRound (goes_back session.notes) session.core
+      → (last : State) × (x : Seen) × GoesRound (goes_back session.notes) true session.core
       (seen as_sink session session.sink) s.rounds s.turns last x
       × TellsEnd (AppendsFront said says (reel_lines 1
       (map answer_of (turns_of s.rounds ++ s.turns)))) s.want s.records x

@@ -11,7 +11,7 @@ use Rattle.tape_core.specs.{Known.is_finished, Place.IsPlaced, State.State, Tabl
 use Rattle.tape_core.specs.{declared.event.Phase.TheVariants.Broken, declared.sink.PartSink.Ghosts}
 use Rattle.tape_run.specs.{ByTable.IsLed, Given.IsGiven, Lacks.key_at}
 use Rattle.tape_run.specs.{Crash.IsWalked, GoesBehind.PassedOver, Noted.same_key, Reeling.Mounting}
-use Rattle.tape_run.specs.{ExtractingNow.IsPut, Mount.MountEvent, Mount.IsMount, Mount.after_mount}
+use Rattle.tape_run.specs.{Extracting.IsPut, Mount.MountEvent, Mount.IsMount, Mount.after_mount}
 use Rattle.tape_run.specs.{Lead.Lead, Lead.over_reel, declared.extract.located.Mounted.Mounted}
 use Rattle.tape_run.specs.{Seen.Seen, Seen.IfSeen, Seen.IsSeen, SurveyLocations.Located}
 use Rattle.tape_run.specs.{SessionState.SessionState, declared.survey.files.FileKey.FileKey}
@@ -199,4 +199,4 @@ pub record ExtractsLocated {S L R : Type 0} (g : Ghosts S) (gives : Mounting L R
       opened whole after
   pub same : IsWalked g last new
   pub complete : (n : ℕ) → records ≡ Some n → (parts : List Portion) → g.holds last.sink parts
-      → IsPut None tells n form stands parts
+      → IsPut form tells stands None n parts

@@ -86,11 +86,9 @@ pub mod OutSinks
 pub mod Causes
 pub mod Reeling
 pub mod Stopping
-pub mod Extracting
 pub mod Rounds
-pub mod ExtractingAgain
+pub mod Extracting
 pub mod ExtractingLocated
-pub mod ExtractingNow
 pub mod ExtractExamples
 -- Readings of one tape, merged: the definitions to trust, in reading order.
 pub mod Merging

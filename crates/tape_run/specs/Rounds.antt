@@ -1,6 +1,7 @@
 -- The work of `extract` on images, in several passes.
 use Rattle.std.specs.Prelude.{◌≡◌, ◌≢◌, ◌⊎◌, ℕ, ◌+◌, ◌<◌, List, [], ◌∷◌, ◌++◌, length, map, Option}
-use Rattle.std.specs.{Prelude.None, Prelude.⊤, Prelude.Bool, Prelude.true, Io.KnownBytes.Appends}
+use Rattle.std.specs.Prelude.{None, ⊤, Bool, true, false}
+use Rattle.std.specs.Io.KnownBytes.{Appends}
 use Rattle.tape_set.specs.{declared.position.Want.Want, Position.want_at}
 use Rattle.tape_core.specs.{State.State, declared.sink.PartSink.Ghosts}
 use Rattle.tape_run.specs.{ReelLine.reel_lines, Stopping.StopsReading, Seen.Seen}
@@ -48,51 +49,54 @@ IsEnough size lines before want = (want ≡ None) ⊎ ((want ≡ before)
 
 -- The passes, one after another, took a session from one state to another, each to its recorded
 -- state.
-abbrev pub FollowsRounds : Bool → State → Seen → List Round → Seen → Type 0
-FollowsRounds back core old [] new = new ≡ old
-FollowsRounds back core old (r ∷ rounds) new = (mid : Seen)
-    × Follows back true core old r.turns r.behind mid × FollowsRounds back r.behind mid rounds new
+abbrev pub FollowsRounds : Bool → Bool → State → Seen → List Round → Seen → Type 0
+FollowsRounds back spares core old [] new = new ≡ old
+FollowsRounds back spares core old (r ∷ rounds) new = (mid : Seen)
+    × Follows back spares core old r.turns r.behind mid
+    × FollowsRounds back spares r.behind mid rounds new
 
 -- Passes, and a last one with these turns, took a session from one state to another.
-abbrev pub GoesRound : Bool → State → Seen → List Round → List Turn → State → Seen → Type 0
-GoesRound back core old rounds turns last new = (mid : Seen)
-    × FollowsRounds back core old rounds mid
-    × Follows back true (core_behind core rounds) mid turns last new
+abbrev pub GoesRound : Bool → Bool → State → Seen → List Round → List Turn → State → Seen → Type 0
+GoesRound back spares core old rounds turns last new = (mid : Seen)
+    × FollowsRounds back spares core old rounds mid
+    × Follows back spares (core_behind core rounds) mid turns last new
 
 -- ---- calls
 
--- Complete passes were made, each recovered something, and a line was reported for each image of
--- each pass.
+-- Complete passes were made, none unless the images are read `again`; each recovered something, and
+-- a line was reported for each image of each pass.
 pub record HasGone {S L R : Type 0} (g : Ghosts S) (size : ℕ) (gives : Mounting L R)
-    (remaining : R → Option (List ℕ)) (back : Bool) (old new : SessionState S) (shelf left : L)
-    (said says : Option (List ℕ)) (rounds : List Round) : Type 0 where
+    (remaining : R → Option (List ℕ)) (back again : Bool) (old new : SessionState S)
+    (shelf left : L) (said says : Option (List ℕ)) (rounds : List Round) : Type 0 where
+  pub once : again ≡ false → rounds ≡ []
   pub are_rounds : AreRounds gives remaining shelf rounds left
   pub brought : MadeProgress size old.core rounds
   pub at : new.core ≡ core_behind old.core rounds
   pub lines : Appends said says (reel_lines 1 (map answer_of (turns_of rounds)))
-  pub follows : Carries g back old new (λ was is. FollowsRounds back old.core was rounds is)
+  pub follows : Carries g back old new (λ was is. FollowsRounds back again old.core was rounds is)
 
 -- Passes were made until there was a last one.
 pub record TakesRounds {S L R : Type 0} (g : Ghosts S) (size : ℕ) (gives : Mounting L R)
-    (remaining : R → Option (List ℕ)) (back : Bool) (old new : SessionState S) (shelf left : L)
-    (said says : Option (List ℕ)) : Type 0 where
+    (remaining : R → Option (List ℕ)) (back again : Bool) (old new : SessionState S)
+    (shelf left : L) (said says : Option (List ℕ)) : Type 0 where
   pub rounds : List Round
   pub mid : SessionState S
   pub between : L
   pub told : Option (List ℕ)
-  pub gone : HasGone g size gives remaining back old mid shelf between said told rounds
-  pub last : TakesAll g size (length (turns_of rounds)) gives remaining back true mid new
+  pub gone : HasGone g size gives remaining back again old mid shelf between said told rounds
+  pub last : TakesAll g size (length (turns_of rounds)) gives remaining back again mid new
       between left told says
-  pub enough : IsEnough size (length (turns_of rounds)) (wanted mid.core) (wanted new.core)
+  pub enough : again ≡ true
+      → IsEnough size (length (turns_of rounds)) (wanted mid.core) (wanted new.core)
 
 -- Passes were made, and a fault ended the next one.
 pub record StopsInRound {S L R : Type 0} (g : Ghosts S) (size : ℕ) (gives : Mounting L R)
-    (remaining : R → Option (List ℕ)) (back : Bool) (old new : SessionState S) (shelf left : L)
-    (said says : Option (List ℕ)) (fault : EngineFault) : Type 0 where
+    (remaining : R → Option (List ℕ)) (back again : Bool) (old new : SessionState S)
+    (shelf left : L) (said says : Option (List ℕ)) (fault : EngineFault) : Type 0 where
   pub rounds : List Round
   pub mid : SessionState S
   pub between : L
   pub told : Option (List ℕ)
-  pub gone : HasGone g size gives remaining back old mid shelf between said told rounds
-  pub last : StopsReading g size (length (turns_of rounds)) gives remaining back true mid new
+  pub gone : HasGone g size gives remaining back again old mid shelf between said told rounds
+  pub last : StopsReading g size (length (turns_of rounds)) gives remaining back again mid new
       between left told says fault

@@ -1,7 +1,6 @@
 //! The work of `extract`, over any images, sink and writers; and the records of a sink, counted and
 //! written.
 
-mod again;
 mod front;
 pub mod images;
 pub mod line;
@@ -9,12 +8,13 @@ mod located;
 mod now;
 mod out_sink;
 
-ghost use Rattle.std.specs.Prelude.{◌≡◌, ◌≢◌, None, List, OnOk, IfOk, OnErr, IfErr};
+ghost use Rattle.std.specs.Prelude.{◌≡◌, ◌≢◌, None, List, OnOk, IfOk, OnErr, IfErr, true, false};
 ghost use Rattle.std.specs.Io.KnownBytes.{Appends};
 ghost use Rattle.tape_blocks.specs.{Block.Portion, Parts.view};
 ghost use Rattle.tape_run.specs.Causes.{WritingFails, ExtractFails, RefusesAny, IsCalm};
 ghost use Rattle.tape_run.specs.{Crash.IsWalked, Crash.BringsNoMore, Reeling.goes_back};
 ghost use Rattle.tape_run.specs.Extracting.{Extracts, Stops, EndsFile, StopsAtEnd, IsWritten};
+ghost use Rattle.tape_run.specs.Extracting.{LeavesOutput};
 ghost use Rattle.tape_run.specs.RecordText.{output_of, record_end, part_text};
 ghost use Rattle.tape_run.specs.ReelLine.{last_line};
 ghost use Rattle.tape_image.specs.Written.{AppendsFront};
@@ -23,9 +23,8 @@ use crate::extract::images::ImageSource;
 use crate::fault::{EngineFault, RunFault, WriteFailed};
 use crate::session::Session;
 use crate::text::{flush, write_text};
-pub use again::extract_in_passes;
 use front::{write_front, write_rest};
-use images::read_round;
+use images::read_rounds;
 pub use line::{ReelLine, ReportLine, last_line};
 pub use located::{Mounted, extract_located};
 pub use now::{Place, extract_streaming};
@@ -66,13 +65,15 @@ pub fn extract_to<S: PartWalk, R: Read + Drop, L: ImageSource<R>, W: Write, P: W
     out: &mut W,
     report: &mut P,
 ) -> Result<Option<Want>, EngineFault>
-    ensures ok { IfOk result (Extracts S.PartSink L.size L.gives R.remaining session.old session.new
-        images.old images.new form (W.contents out.old) (W.contents out.new)
+    ensures ok { IfOk result (Extracts S.PartSink L.size L.gives R.remaining
+        (goes_back session.old.notes) false session.old session.new images.old images.new
+        (IsWritten form (W.contents out.old) (W.contents out.new))
         (P.contents report.old) (P.contents report.new)) }
     // While something of the file is missing, `out` is not touched at all.
     ensures untouched { IfOk result (λ want. want ≢ None → out.new ≡ out.old) }
-    ensures err { IfErr result (Stops S.PartSink L.size L.gives R.remaining session.old session.new
-        images.old images.new form W.contents out.old out.new
+    ensures err { IfErr result (Stops S.PartSink L.size L.gives R.remaining
+        (goes_back session.old.notes) false session.old session.new images.old images.new
+        (LeavesOutput form W.contents out.old out.new)
         (P.contents report.old) (P.contents report.new)) }
     // The sink refused a call, or memory ran out, or a write failed; a session without a checkpoint
     // is not rolled back.
@@ -83,8 +84,48 @@ pub fn extract_to<S: PartWalk, R: Read + Drop, L: ImageSource<R>, W: Write, P: W
     ensures calm { OnOk result (IsCalm S.PartSink session.old session.new) }
 {
     let back = has_note(session);
-    let count = images.count();
-    read_round(session, images, count, 0, back, false, report)?;
+    read_rounds(session, images, back, false, report)?;
+    end_file(session, form, out, report)
+}
+
+/// Does the same as `extract_to`, but reads the images again, from the first one, after each pass
+/// that recovered something but not the whole file. So the order of the images does not matter, and
+/// damaged copies complete each other. The lines are numbered continuously over all passes.
+///
+/// After a reel the session is saved only if its position differs from that of its last checkpoint.
+///
+/// Each image is opened again in each pass. A source that yields an image only once yields none
+/// then, and it is reported as not opened.
+///
+/// # Errors
+///
+/// The errors of `extract_to`.
+pub fn extract_in_passes<S: PartWalk, R: Read + Drop, L: ImageSource<R>, W: Write, P: Write>(
+    session: &mut Session<S>,
+    images: &mut L,
+    form: Form,
+    out: &mut W,
+    report: &mut P,
+) -> Result<Option<Want>, EngineFault>
+    ensures ok { IfOk result (Extracts S.PartSink L.size L.gives R.remaining
+        (goes_back session.old.notes) true session.old session.new images.old images.new
+        (IsWritten form (W.contents out.old) (W.contents out.new))
+        (P.contents report.old) (P.contents report.new)) }
+    // While something of the file is missing, `out` is not touched at all.
+    ensures untouched { IfOk result (λ want. want ≢ None → out.new ≡ out.old) }
+    ensures err { IfErr result (Stops S.PartSink L.size L.gives R.remaining
+        (goes_back session.old.notes) true session.old session.new images.old images.new
+        (LeavesOutput form W.contents out.old out.new)
+        (P.contents report.old) (P.contents report.new)) }
+    // The sink refused a call, or memory ran out, or a write failed; a session without a checkpoint
+    // is not rolled back.
+    ensures cause { IfErr result (λ fault. ExtractFails S.PartSink
+        (RefusesAny S.PartSink S.refuses) (goes_back session.old.notes) fault
+        session.old session.new) }
+    ensures calm { OnOk result (IsCalm S.PartSink session.old session.new) }
+{
+    let back = has_note(session);
+    read_rounds(session, images, back, true, report)?;
     end_file(session, form, out, report)
 }
 
@@ -95,10 +136,12 @@ fn end_file<S: PartWalk, W: Write, P: Write>(
     out: &mut W,
     report: &mut P,
 ) -> Result<Option<Want>, EngineFault>
-    ensures ok { IfOk result (EndsFile S.PartSink session.old form (W.contents out.old)
-        (W.contents out.new) (P.contents report.old) (P.contents report.new)) }
+    ensures ok { IfOk result (EndsFile S.PartSink session.old
+        (IsWritten form (W.contents out.old) (W.contents out.new))
+        (P.contents report.old) (P.contents report.new)) }
     ensures untouched { IfOk result (λ want. want ≢ None → out.new ≡ out.old) }
-    ensures err { IfErr result (StopsAtEnd S.PartSink session.old form W.contents out.old out.new
+    ensures err { IfErr result (StopsAtEnd S.PartSink session.old
+        (LeavesOutput form W.contents out.old out.new)
         (P.contents report.old) (P.contents report.new)) }
     ensures same { IsWalked S.PartSink session.old session.new }
     ensures cause { IfErr result
@@ -148,7 +191,7 @@ pub fn write_file<S: PartWalk, W: Write>(
     out: &mut W,
 ) -> Result<u64, EngineFault>
     ensures ok { IfOk result (λ records. (parts : List Portion) → S.holds sink.old parts
-        → IsWritten None records form (W.contents out.old) (W.contents out.new) parts) }
+        → IsWritten form (W.contents out.old) (W.contents out.new) None records parts) }
     ensures err { OnErr result ((parts : List Portion) → S.holds sink.old parts
         → AppendsFront (W.contents out.old) (W.contents out.new) (output_of form parts)) }
     ensures kept { (parts : List Portion) → S.holds sink.old parts → S.holds sink.new parts }

@@ -1,11 +1,13 @@
 //! A source of images, opened one after another.
 
-ghost use Rattle.std.specs.Prelude.{◌≡◌, ◌≢◌, ◌≤◌, ◌+◌, ℕ, length, OnOk, OnErr, IfOk, IfErr};
+ghost use Rattle.std.specs.Prelude.{◌≡◌, ◌≢◌, ◌≤◌, ◌+◌, ◌⊎◌, ℕ, None, length, true, OnOk, OnErr};
+ghost use Rattle.std.specs.{Prelude.IfOk, Prelude.IfErr, Bool.OnTrue, Bool.OnFalse};
 ghost use Rattle.tape_set.specs.declared.position.Position.TheVariants.{Finished};
 ghost use Rattle.tape_core.specs.Place.{rest_of};
 ghost use Rattle.tape_run.specs.{Causes.ReadingFails, Causes.IsCalm, Crash.LeavesStep, Seen.IfSeen};
 ghost use Rattle.tape_run.specs.Reeling.{Takes, TakesAll, counts_differ, IsKeptFor, Mounting, Took};
 ghost use Rattle.tape_run.specs.Stopping.{IsStopped, RefusesSave, StopsReading};
+ghost use Rattle.tape_run.specs.Rounds.{TakesRounds, StopsInRound};
 
 use crate::extract::line::ReelLine;
 use crate::fault::{EngineFault, NO_MEMORY, RunFault};
@@ -15,6 +17,7 @@ use crate::text::write_line;
 use std::alloc::AllocError;
 use std::io::{Read, Write};
 use tape_core::{Answer, PartSink, Reason};
+use tape_set::Want;
 
 /// A source of images, each of which is opened by its number.
 pub trait ImageSource<R: Read> {
@@ -56,10 +59,54 @@ impl<R: Read> ImageSource<R> for Vec<Option<R>> {
     }
 }
 
+/// Opens the images in their order, once or, if they are read `again`, pass by pass until a pass was
+/// the last. `back` says whether the session rolls back after a suspect reel.
+pub fn read_rounds<S: PartSink, R: Read + Drop, L: ImageSource<R>, P: Write>(
+    session: &mut Session<S>,
+    images: &mut L,
+    back: bool,
+    again: bool,
+    report: &mut P,
+) -> Result<(), EngineFault>
+    ensures ok { OnOk result (TakesRounds S.PartSink (L.size images.old) L.gives R.remaining back
+        again session.old session.new images.old images.new
+        (P.contents report.old) (P.contents report.new)) }
+    ensures err { IfErr result (StopsInRound S.PartSink (L.size images.old) L.gives R.remaining back
+        again session.old session.new images.old images.new
+        (P.contents report.old) (P.contents report.new)) }
+    ensures cause { IfErr result (λ fault.
+        ReadingFails S.PartSink back fault session.old session.new) }
+    ensures calm { OnOk result (IsCalm S.PartSink session.old session.new) }
+{
+    let count = images.count();
+    let mut lines = 0u64;
+    'rounds: loop {
+        let before = session.want();
+        read_round(session, images, count, lines, back, again, report)?;
+        if is_enough(again, before, session.want()) {
+            return Ok(());
+        }
+        lines += count as u64;
+        // Another pass would need line numbers above the greatest one.
+        if u64::MAX - lines < count as u64 {
+            return Ok(());
+        }
+    }
+}
+
+/// Returns whether a pass was the last: the images are not read again, or afterwards nothing is
+/// missing, or as much as before it.
+fn is_enough(again: bool, before: Option<Want>, want: Option<Want>) -> bool
+    ensures yes { OnTrue result (again ≡ true → (want ≡ None) ⊎ (want ≡ before)) }
+    ensures no { OnFalse result ((again ≡ true) × (want ≢ None) × (want ≢ before)) }
+{
+    !again || want.is_none() || want == before
+}
+
 /// Opens `count` images in order until the file is complete. `lines` lines precede theirs. `back`
 /// says whether the session rolls back after a suspect reel, `spares` whether it skips a checkpoint
 /// whose position the last one already has.
-pub fn read_round<S: PartSink, R: Read + Drop, L: ImageSource<R>, P: Write>(
+fn read_round<S: PartSink, R: Read + Drop, L: ImageSource<R>, P: Write>(
     session: &mut Session<S>,
     images: &mut L,
     count: usize,

@@ -4,10 +4,10 @@ ghost use Rattle.std.specs.Prelude.{◌≡◌, ◌≢◌, ◌⊎◌, ℕ, List, 
 ghost use Rattle.std.specs.Prelude.{false};
 ghost use Rattle.tape_set.specs.declared.position.Position.TheVariants.{Finished};
 ghost use Rattle.tape_run.specs.{Causes.ReadingFails, Causes.EndingFails, OutSinks.TellsAlways};
-ghost use Rattle.tape_run.specs.ExtractingNow.{ExtractsNow, StopsNow};
+ghost use Rattle.tape_run.specs.Extracting.{Extracts, Stops, IsPut, LeavesName};
 
 use crate::extract::end_report;
-use crate::extract::images::{ImageSource, read_round};
+use crate::extract::images::{ImageSource, read_rounds};
 use crate::extract::out_sink::OutSink;
 use crate::fault::{EngineFault, WriteFailed};
 use crate::session::Session;
@@ -53,14 +53,17 @@ pub fn extract_streaming<W: Write + Drop, R: Read + Drop, L: ImageSource<R>, O: 
     out: &mut O,
     report: &mut P,
 ) -> Result<Option<Want>, EngineFault>
-    ensures ok { IfOk result (ExtractsNow ⟦<OutSink<W> as PartSink>⟧ L.size L.gives R.remaining
-        session.old session.new images.old images.new form (TellsAlways W.contents)
-        (O.stands out.new) (P.contents report.old) (P.contents report.new)) }
+    // The session never rolls back, because written records cannot be dropped.
+    ensures ok { IfOk result (Extracts ⟦<OutSink<W> as PartSink>⟧ L.size L.gives R.remaining
+        false false session.old session.new images.old images.new
+        (IsPut form (TellsAlways W.contents) (O.stands out.new))
+        (P.contents report.old) (P.contents report.new)) }
     // While something of the file is missing, the output's name is not touched at all.
     ensures untouched { IfOk result (λ want. want ≢ None → out.new ≡ out.old) }
-    ensures err { IfErr result (StopsNow ⟦<OutSink<W> as PartSink>⟧ L.size L.gives R.remaining
-        session.old session.new images.old images.new form (TellsAlways W.contents) O.stands
-        out.old out.new (P.contents report.old) (P.contents report.new)) }
+    ensures err { IfErr result (Stops ⟦<OutSink<W> as PartSink>⟧ L.size L.gives R.remaining
+        false false session.old session.new images.old images.new
+        (LeavesName form (TellsAlways W.contents) O.stands out.old out.new)
+        (P.contents report.old) (P.contents report.new)) }
     // While the images were read the sink refused a call, or memory ran out; or the file is
     // complete, and its output could not be ended; or a write failed.
     ensures cause { IfErr result (λ fault.
@@ -69,8 +72,7 @@ pub fn extract_streaming<W: Write + Drop, R: Read + Drop, L: ImageSource<R>, O: 
         × EndingFails session.new.sink.begun session.new.sink.form form fault)) }
 {
     // What was written remains: this session does not roll back.
-    let count = images.count();
-    read_round(session, images, count, 0, false, false, report)?;
+    read_rounds(session, images, false, false, report)?;
     if let Some(want) = session.want() {
         end_report(report, Some(want), 0)?;
         return Ok(Some(want));

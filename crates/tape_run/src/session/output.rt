@@ -2,7 +2,7 @@
 ghost use Rattle.std.specs.Prelude.{◌≡◌, ◌≢◌, List, None, OnOk, OnErr, IfOk, IfErr};
 ghost use Rattle.tape_run.specs.{OutSinks.TellsAlways, OutSinks.HasTaken, Crash.IsWalked};
 ghost use Rattle.tape_run.specs.{Causes.WritingFails, Causes.EndingFails, Extracting.IsWritten};
-ghost use Rattle.tape_run.specs.{ExtractingNow.IsPut, RecordText.output_of};
+ghost use Rattle.tape_run.specs.{Extracting.IsPut, RecordText.output_of};
 ghost use Rattle.tape_blocks.specs.Block.{Portion};
 ghost use Rattle.tape_image.specs.Written.{AppendsFront};
 
@@ -22,7 +22,7 @@ impl<S: PartWalk> Session<S> {
     /// The errors are those of `write_file`.
     pub fn write_file<W: Write>(&mut self, form: Form, out: &mut W) -> Result<u64, EngineFault>
         ensures ok { IfOk result (λ records. (parts : List Portion) → S.holds self.old.sink parts
-            → IsWritten None records form (W.contents out.old) (W.contents out.new) parts) }
+            → IsWritten form (W.contents out.old) (W.contents out.new) None records parts) }
         ensures err { OnErr result ((parts : List Portion) → S.holds self.old.sink parts
             → AppendsFront (W.contents out.old) (W.contents out.new) (output_of form parts)) }
         // In any case: the session's position is unchanged, and a crash afterwards leaves nothing
@@ -52,7 +52,7 @@ impl<W: Write + Drop> Session<OutSink<W>> {
         ensures ok { IfOk result (λ records. (parts : List Portion) → HasTaken W.contents
             self.old.sink.form self.old.sink.out self.old.sink.weight self.old.sink.records
             self.old.sink.begun parts
-            → IsPut None (TellsAlways W.contents) records form (O.stands out.new) parts) }
+            → IsPut form (TellsAlways W.contents) (O.stands out.new) None records parts) }
         ensures err { OnErr result (O.stands out.new ≡ O.stands out.old) }
         ensures cause { IfErr result (λ fault. fault ≢ EngineFault.WriteFailed
             → (self.new ≡ self.old)
