@@ -9,7 +9,7 @@ use Rattle.tape_core.specs.{declared.event.Answer.TheVariants.Passed, declared.e
 use Rattle.tape_core.specs.{declared.event.Phase.TheVariants.Broken, Known.is_finished, State.State}
 use Rattle.tape_core.specs.Table.{Outcome, passed, step_of, mount_of, unless_complete, at_reel_end}
 use Rattle.tape_run.specs.Reels.{behind_items, answers_to, GoesOn, ReadsReel}
-use Rattle.tape_run.specs.GoesBehind.{EndsSection, LeavesBehind, LeavesBehindAgain}
+use Rattle.tape_run.specs.GoesBehind.{EndsSection, LeavesBehind}
 use Rattle.tape_run.specs.declared.reel_reader.ReelAnswer.{ReelAnswer}
 use Rattle.tape_run.proofs.{ByTable.behind_app, GoesBehind.still_waits}
 
@@ -60,11 +60,6 @@ ended_well core new bytes left answer waits r ends = elim r.ended [
       (subst EndsSection (ap (λ (z : Outcome). z.0) e.last) ends))
 ]
 
-pub leaves_behind : LeavesBehind
-leaves_behind core new bytes left answer waits sound r ends =
-    let e = ended_well (mount_of core) new bytes left answer waits r ends in
-    (e.items, e.item, e.at, record { sound = sound; on = e.on; ended = e.ended }, e.taken)
-
 passed_goes_on : (core : State) (xs ys : List TapeItem)
     → AllByRecursion (λ a. a ≡ Passed) (answers_to core xs)
     → AllByRecursion GoesOn (answers_to (behind_items core xs) ys)
@@ -73,19 +68,24 @@ passed_goes_on core [] ys passed on = on
 passed_goes_on core (x ∷ xs) ys (one, rest) on =
     (inl one, passed_goes_on (step_of core (Some x)).1 xs ys rest on)
 
-pub leaves_behind_again : LeavesBehindAgain
-leaves_behind_again core new front bytes left answer waits sound over r ends =
-    let e = ended_well _ _ _ _ _ waits r ends in (
+waits_over : (core : State) (xs : List TapeItem) → is_finished core.position ≡ false
+    → AllByRecursion (λ a. a ≡ Passed) (answers_to core xs)
+    → is_finished (behind_items core xs).position ≡ false
+waits_over core [] waits over = waits
+waits_over core (x ∷ xs) waits (one, rest) = waits_over (step_of core (Some x)).1 xs
+    (still_waits core x (step_of core (Some x)).1.position refl (inl one)) rest
+
+pub leaves_behind : LeavesBehind
+leaves_behind core new front bytes left answer waits sound over r ends =
+    let e = ended_well _ _ _ _ _ (waits_over (mount_of core) front waits over) r ends in (
       e.items,
       e.item,
       e.at,
       record {
         sound = sound;
-        on = passed_goes_on _ _ e.items over.answers (subst
-            (λ (z : State). AllByRecursion GoesOn (answers_to z e.items)) (sym over.behind) e.on);
-        ended = subst (λ (z : State). EndsSection (step_of z (Some e.item)).0) (sym (behind_app
-            (mount_of core) front e.items ∙ ap (λ (z : State). behind_items z e.items) over.behind))
-            e.ended;
+        on = passed_goes_on _ _ e.items over e.on;
+        ended = subst (λ (z : State). EndsSection (step_of z (Some e.item)).0)
+            (sym (behind_app (mount_of core) front e.items)) e.ended;
       },
       e.taken,
     )

@@ -19,7 +19,7 @@ use Rattle.tape_run.specs.ExtractingLocated.{PassesTo}
 use Rattle.tape_run.specs.GoesBehind.{EndsSection, PassedOver}
 use Rattle.tape_run.specs.Reels.{behind_items, Reads, ReadsReel}
 use Rattle.tape_run.specs.declared.{reel_reader.ReelAnswer.ReelAnswer, survey.files.FileKey.FileKey}
-use Rattle.tape_run.proofs.GoesBehindReels.{ended_well, leaves_behind, leaves_behind_again}
+use Rattle.tape_run.proofs.GoesBehindReels.{ended_well, leaves_behind}
 use Rattle.tape_run.proofs.GoesBehind.{leads_over_all, passes_files}
 
 -- ---- a reader that is broken
@@ -109,8 +109,8 @@ passes_front core new bytes left answer key waits set file ends r = elim (broken
       let e = ended_well _ _ _ _ _ waits r ends in
       absurd (never_ends _ e.items e.item waits (mounted_broken _ core.position broken).0 e.ended)
   | inr sound ↦
-      let (items, item, at, s, walks) = leaves_behind core new bytes left answer waits sound r ends
-      in
+      let (items, item, at, s, walks) = leaves_behind core new [] bytes left answer waits sound tt
+      r ends in
       record {
         front = items ++ item ∷ [];
         at = at;
@@ -132,8 +132,9 @@ passes_on core new front place whole bytes left answer key waits set file ends o
           absurd (never_ends _ e.items e.item waits (mounted_broken _ core.position broken).1
           e.ended)
       | inr sound ↦
-          let (items, item, at, s, walks) = leaves_behind_again core new front bytes left answer
-          waits sound (over sound) r ends in
+          let (items, item, at, s, walks) = leaves_behind core new front bytes left answer waits
+          sound (over sound).answers (subst (λ (z : State). ReadsReel z bytes left answer new)
+          (sym (over sound).behind) r) ends in
           let moved : Walks place bytes (items ++ item ∷ []) (place + at) left =
           record { leads = walks.leads; moves = omega (arith, walks.moves) } in
           record {

@@ -97,20 +97,12 @@ ReadsByHistory = (set : FileSet) (h : MountEvent) (old new : Seen) (core : State
     → Begins 0 r.given more end stop
     → ReadBy set old.place.file old.place.position h new.place new.parts
 
--- After a reel that completed a section, the items that follow that section are left.
+-- After a reel that completed a section, whether it was read from its start or continued after
+-- skipped items, the items that follow that section are left.
 abbrev pub LeavesBehind : Type 0
-LeavesBehind = (core new : State) (bytes left : List ℕ) (answer : ReelAnswer)
-    → is_finished core.position ≡ false → core.phase ≢ Broken
-    → ReadsReel (mount_of core) bytes left answer new → EndsSection answer.answer
-    → (items : List TapeItem) × (item : TapeItem) × (at : ℕ) × ReadsSection core items item
-    × Walks 0 bytes (items ++ item ∷ []) at left
-
--- After a reel that was continued after skipped items and completed a section, the items that
--- follow that section are left.
-abbrev pub LeavesBehindAgain : Type 0
-LeavesBehindAgain = (core new : State) (front : List TapeItem) (bytes left : List ℕ)
+LeavesBehind = (core new : State) (front : List TapeItem) (bytes left : List ℕ)
     (answer : ReelAnswer) → is_finished core.position ≡ false → core.phase ≢ Broken
-    → PassedOver core front
-    → ReadsReel (behind_of core) bytes left answer new → EndsSection answer.answer
-    → (items : List TapeItem) × (item : TapeItem) × (at : ℕ)
+    → AllByRecursion (λ a. a ≡ Passed) (answers_to (mount_of core) front)
+    → ReadsReel (behind_items (mount_of core) front) bytes left answer new
+    → EndsSection answer.answer → (items : List TapeItem) × (item : TapeItem) × (at : ℕ)
     × ReadsSection core (front ++ items) item × Walks 0 bytes (items ++ item ∷ []) at left

@@ -1,7 +1,7 @@
 //! Laws of runs, listings, catalogues, reports and printed names, as contracts of calls that do
 //! nothing.
 
-ghost use Rattle.tape_run.specs.GoesBehind.{LeavesBehind, LeavesBehindAgain, PassesFiles};
+ghost use Rattle.tape_run.specs.GoesBehind.{LeavesBehind, PassesFiles};
 ghost use Rattle.tape_run.specs.Cases.{CasesOfMounts, CasesOfHistories, CasesOfGiven};
 ghost use Rattle.tape_run.specs.Cases.{CasesOfVolumes, CasesOfSessions, CasesOfMade};
 ghost use Rattle.tape_run.specs.CasesOfCatalogues.{CasesOfCatalogues, CasesOfImages, CasesOfCopies};
@@ -115,7 +115,6 @@ pub fn passes_files()
     ensures leads { LeadsOverAll }
     ensures by_history { ReadsByHistory }
     ensures leaves { LeavesBehind }
-    ensures leaves_again { LeavesBehindAgain }
 {}
 
 /// Any bytes of an image have exactly one listing.

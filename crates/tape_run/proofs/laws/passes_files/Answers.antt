@@ -1,5 +1,5 @@
 use Rattle.tape_run.proofs.GoesBehind.{passes_files, leads_over_all}
-use Rattle.tape_run.proofs.GoesBehindReels.{leaves_behind, leaves_behind_again}
+use Rattle.tape_run.proofs.GoesBehindReels.{leaves_behind}
 use Rattle.tape_run.proofs.BehindReads.{reads_by_history}
 use Rattle.tape_run.proofs.laws.passes_files.Goals as goal
 
@@ -14,6 +14,3 @@ returns-clause-by_history c = reads_by_history
 
 pub returns-clause-leaves : goal.returns-clause-leaves
 returns-clause-leaves c = leaves_behind
-
-pub returns-clause-leaves_again : goal.returns-clause-leaves_again
-returns-clause-leaves_again c = leaves_behind_again
