@@ -5,13 +5,12 @@ use Rattle.std.proofs.{Common.IsErrAnd, lemmas.List.drop-map, lemmas.List.length
 use Rattle.tape_image.specs.{Tape.TapeItem, Begins.Stop, Begins.Begins}
 use Rattle.tape_set.specs.{Layout.FileSet, Lawful.IsLawful, declared.position.Position.Position}
 use Rattle.tape_core.specs.{Point.Point, State.State, Table.mount_of}
-use Rattle.tape_run.specs.declared.fault.RunFault.TheVariants.{Sink, NoSuchPoint, TooFewReels}
+use Rattle.tape_run.specs.declared.fault.RunFault.TheVariants.{Sink, NoSuchPoint, OutOfMemory}
 use Rattle.tape_run.specs.{Mount.MountEvent, Mount.IsMount, Seen.Seen, Seen.AreNotes}
 use Rattle.tape_run.specs.{History.Course, History.course, History.course_of, ByTable.IsCutAt}
 use Rattle.tape_run.specs.{Runs.RunsUpTo, Runs.Fails, declared.script.Step.Step}
 use Rattle.tape_run.specs.declared.fault.RunFault.{RunFault}
 use Rattle.tape_run.specs.declared.script.Step.TheVariants.{Reel, Save, Restart}
-use Rattle.tape_run.specs.declared.fault.RunFault.TheVariants.{OutOfMemory, OtherFile}
 use Rattle.tape_run.specs.Headline.{Ran, HasStopped, StopsStep, PutRefused, reels_in}
 use Rattle.tape_run.specs.Steps.{StoppedBy, CutShort, Unmoved, ReelFails, SaveFails, RestartFails}
 use Rattle.tape_run.specs.Lead.{Lead, AreNoted, StandsThere, StopsBy}
@@ -67,19 +66,15 @@ reel_stops : (set : FileSet) (old mid new : Seen) (hs : List MountEvent) (b : Li
     → ReelFails b fault mid new → IsLawful set → Ran set old hs mid
     → StopsStep set old hs Reel (b ∷ bs) fault new
 reel_stops set old mid new hs b bs (Sink cause) h l r = put_refused set old mid new hs b h l r
-reel_stops set old mid new hs b bs NoSuchPoint h l r = absurd h
-reel_stops set old mid new hs b bs TooFewReels h l r = absurd h
 reel_stops set old mid new hs b bs OutOfMemory h l r = same_there set old mid new hs h r
-reel_stops set old mid new hs b bs OtherFile h l r = absurd h
+reel_stops set old mid new hs b bs _ h l r = absurd h
 
 save_stops : (set : FileSet) (old mid new : Seen) (hs : List MountEvent) (bs : List (List ℕ))
     (fault : RunFault)
     → SaveFails fault mid new → Ran set old hs mid → StopsStep set old hs Save bs fault new
 save_stops set old mid new hs bs (Sink cause) h r = stayed set old mid new hs h r
-save_stops set old mid new hs bs NoSuchPoint h r = absurd h
-save_stops set old mid new hs bs TooFewReels h r = absurd h
 save_stops set old mid new hs bs OutOfMemory h r = same_there set old mid new hs h r
-save_stops set old mid new hs bs OtherFile h r = absurd h
+save_stops set old mid new hs bs _ h r = absurd h
 
 noted_positions : (set : FileSet) (old mid : Seen) (hs : List MountEvent) (n : ℕ)
     → length mid.notes ≤ n → Ran set old hs mid
@@ -96,9 +91,7 @@ restart_stops : (set : FileSet) (old mid new : Seen) (hs : List MountEvent)
 restart_stops set old mid new hs n bs (Sink cause) h r = stayed set old mid new hs h r
 restart_stops set old mid new hs n bs NoSuchPoint (le, e) r =
     (noted_positions set old mid hs n le r, same_there set old mid new hs e r)
-restart_stops set old mid new hs n bs TooFewReels h r = absurd h
-restart_stops set old mid new hs n bs OutOfMemory h r = absurd h
-restart_stops set old mid new hs n bs OtherFile h r = absurd h
+restart_stops set old mid new hs n bs _ h r = absurd h
 
 -- ---- by the table
 
@@ -128,52 +121,40 @@ cut_there t old new bytes c s = (
 reel_led : (t : Lead) (old new : Seen) (b : List ℕ) (bs : List (List ℕ)) (fault : RunFault)
     → ReelFails b fault old new → StandsThere t old → StopsBy t Reel (b ∷ bs) fault new
 reel_led t old new b bs (Sink cause) h s = cut_there t old new b h s
-reel_led t old new b bs NoSuchPoint h s = absurd h
-reel_led t old new b bs TooFewReels h s = absurd h
 reel_led t old new b bs OutOfMemory h s = still_there t old new h s
-reel_led t old new b bs OtherFile h s = absurd h
+reel_led t old new b bs _ h s = absurd h
 
 save_led : (t : Lead) (old new : Seen) (bs : List (List ℕ)) (fault : RunFault)
     → SaveFails fault old new → StandsThere t old → StopsBy t Save bs fault new
 save_led t old new bs (Sink cause) h s = unmoved_there t old new h s
-save_led t old new bs NoSuchPoint h s = absurd h
-save_led t old new bs TooFewReels h s = absurd h
 save_led t old new bs OutOfMemory h s = still_there t old new h s
-save_led t old new bs OtherFile h s = absurd h
+save_led t old new bs _ h s = absurd h
 
 restart_led : (t : Lead) (old new : Seen) (n : ℕ) (bs : List (List ℕ)) (fault : RunFault)
     → RestartFails n fault old new → StandsThere t old → StopsBy t (Restart n) bs fault new
 restart_led t old new n bs (Sink cause) h s = unmoved_there t old new h s
 restart_led t old new n bs NoSuchPoint (le, e) s = still_there t old new e s
-restart_led t old new n bs TooFewReels h s = absurd h
-restart_led t old new n bs OutOfMemory h s = absurd h
-restart_led t old new n bs OtherFile h s = absurd h
+restart_led t old new n bs _ h s = absurd h
 
 -- ---- the count of readers that failed
 
 reel_count : (b : List ℕ) (fault : RunFault) (old new : Seen) → ReelFails b fault old new
     → new.failures ≡ old.failures
 reel_count b (Sink cause) old new h = h.count
-reel_count b NoSuchPoint old new h = absurd h
-reel_count b TooFewReels old new h = absurd h
 reel_count b OutOfMemory old new h = ap (λ (s : Seen). s.failures) h
-reel_count b OtherFile old new h = absurd h
+reel_count b _ old new h = absurd h
 
 save_count : (fault : RunFault) (old new : Seen) → SaveFails fault old new
     → new.failures ≡ old.failures
 save_count (Sink cause) old new h = h.count
-save_count NoSuchPoint old new h = absurd h
-save_count TooFewReels old new h = absurd h
 save_count OutOfMemory old new h = ap (λ (s : Seen). s.failures) h
-save_count OtherFile old new h = absurd h
+save_count _ old new h = absurd h
 
 restart_count : (n : ℕ) (fault : RunFault) (old new : Seen) → RestartFails n fault old new
     → new.failures ≡ old.failures
 restart_count n (Sink cause) old new h = h.count
 restart_count n NoSuchPoint old new h = ap (λ (s : Seen). s.failures) h.1
-restart_count n TooFewReels old new h = absurd h
-restart_count n OutOfMemory old new h = absurd h
-restart_count n OtherFile old new h = absurd h
+restart_count n _ old new h = absurd h
 
 -- ---- for a step of any kind
 

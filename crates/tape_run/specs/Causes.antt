@@ -3,10 +3,9 @@ use Rattle.std.specs.Prelude.{◌≡◌, ◌≢◌, ◌⊎◌, ℕ, Bool, true, 
 use Rattle.tape_blocks.specs.{Block.Portion, declared.parts.Form.Form}
 use Rattle.tape_core.specs.{declared.sink.PartSink.Ghosts, declared.sink.SinkFault.SinkFault}
 use Rattle.tape_core.specs.declared.sink.SinkFault.TheVariants.{Failed}
-use Rattle.tape_run.specs.declared.fault.RunFault.TheVariants.{Sink, NoSuchPoint, TooFewReels}
+use Rattle.tape_run.specs.declared.fault.RunFault.TheVariants.{Sink, NoSuchPoint, OutOfMemory}
 use Rattle.tape_run.specs.{declared.fault.EngineFault.EngineFault, SessionState.SessionState}
 use Rattle.tape_run.specs.declared.fault.EngineFault.TheVariants.{Run, WriteFailed}
-use Rattle.tape_run.specs.declared.fault.RunFault.TheVariants.{OutOfMemory, OtherFile}
 use Rattle.tape_run.specs.{Seen.IsKept, Seen.IfSeen, Seen.IsSeen, Steps.IsRefused}
 
 -- why the records of a sink were not written: it refused a call with this fault; or it returned
@@ -17,11 +16,8 @@ abbrev pub WritingFails : {S : Type 0} → (S → List Portion → Type 0) → (
 WritingFails holds refusals refuses old new (Run (Sink cause)) =
     IsRefused refusals refuses old cause new
     ⊎ ((cause ≡ Failed) × ((parts : List Portion) → holds old parts → ⊥))
-WritingFails holds refusals refuses old new (Run NoSuchPoint) = ⊥
-WritingFails holds refusals refuses old new (Run TooFewReels) = ⊥
-WritingFails holds refusals refuses old new (Run OutOfMemory) = ⊥
-WritingFails holds refusals refuses old new (Run OtherFile) = ⊥
 WritingFails holds refusals refuses old new WriteFailed = refusals new ≡ refusals old
+WritingFails holds refusals refuses old new fault = ⊥
 
 -- why images were not read, or the records of a session's sink not written, by one that rolls back
 -- or not: the sink refused a call with this fault; or it has failed, which is only possible if its
@@ -33,10 +29,9 @@ ExtractFails g refuses back (Run (Sink cause)) old new =
     IsRefused g.refusals refuses old.sink cause new.sink
     ⊎ ((cause ≡ Failed) × IfSeen g old (λ was. IsKept was → ⊥))
 ExtractFails g refuses back (Run NoSuchPoint) old new = (back ≡ true) × (old.notes ≡ [])
-ExtractFails g refuses back (Run TooFewReels) old new = ⊥
 ExtractFails g refuses back (Run OutOfMemory) old new = g.refusals new.sink ≡ g.refusals old.sink
-ExtractFails g refuses back (Run OtherFile) old new = ⊥
 ExtractFails g refuses back WriteFailed old new = g.refusals new.sink ≡ g.refusals old.sink
+ExtractFails g refuses back fault old new = ⊥
 
 -- why images were not read: the sink refused a change
 abbrev pub ReadingFails : {S : Type 0} → Ghosts S → Bool → EngineFault → SessionState S

@@ -2,18 +2,12 @@
 use Rattle.std.specs.Prelude.{◌≡◌, ℕ, zero, suc, ◌+◌, Bool, true, false, List, [], ◌∷◌, ◌++◌, map}
 use Rattle.std.specs.Prelude.{min, Option, Some, None}
 use Rattle.tape_image.specs.declared.item.{ImageFault.ImageFault, ImageCause.ImageCause}
-use Rattle.tape_image.specs.declared.item.ImageCause.TheVariants.{Truncated, LengthsDiffer}
-use Rattle.tape_image.specs.declared.item.ImageCause.TheVariants.{Reserved, TooLong, Device}
-use Rattle.tape_image.specs.declared.item.ImageCause.TheVariants.{OutOfMemory}
+use Rattle.tape_image.specs.declared.item.ImageCause.TheVariants.{Device}
 
 -- whether the reader failed
 abbrev pub is_device_cause : ImageCause → Bool
 is_device_cause Device = true
-is_device_cause Truncated = false
-is_device_cause LengthsDiffer = false
-is_device_cause (Reserved _) = false
-is_device_cause TooLong = false
-is_device_cause OutOfMemory = false
+is_device_cause cause = false
 
 -- whether the fault, if any, is that of a reader that failed
 abbrev pub is_device : Option ImageFault → Bool

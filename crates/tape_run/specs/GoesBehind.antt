@@ -9,13 +9,12 @@ use Rattle.tape_core.specs.declared.event.Answer.TheVariants.{Passed, SectionDon
 use Rattle.tape_core.specs.{Behind.AreInOrder, Behind.behind_of, State.State, Known.is_finished}
 use Rattle.tape_core.specs.{Table.step_of, Table.mount_of, Place.IsPlaced, Place.rest_of}
 use Rattle.tape_core.specs.Weight.{IsFront}
-use Rattle.tape_run.specs.declared.fault.RunFault.TheVariants.{Sink, NoSuchPoint, TooFewReels}
+use Rattle.tape_run.specs.declared.fault.RunFault.TheVariants.{Sink, OutOfMemory}
 use Rattle.tape_run.specs.{Mount.MountEvent, Mount.IsMount, Steps.ReadBy, Seen.Seen}
 use Rattle.tape_run.specs.ByTable.{delivered_parts, IsLed, IsCutAt}
 use Rattle.tape_run.specs.{Given.IsGiven, Given.counted, declared.reel_reader.ReelAnswer.ReelAnswer}
 use Rattle.tape_run.specs.declared.fault.RunFault.{RunFault}
 use Rattle.tape_run.specs.Reels.{behind_items, answers_to, GoesOn, ReadsReel}
-use Rattle.tape_run.specs.declared.fault.RunFault.TheVariants.{OutOfMemory, OtherFile}
 
 -- the answer completes a section
 abbrev pub EndsSection : Answer → Type 0
@@ -80,10 +79,8 @@ pub record CutBehind (bytes : List ℕ) (old new : Seen) : Type 0 where
 -- refused a part
 abbrev pub ReelFailsBehind : List ℕ → RunFault → Seen → Seen → Type 0
 ReelFailsBehind bytes (Sink cause) old new = CutBehind bytes old new
-ReelFailsBehind bytes NoSuchPoint old new = ⊥
-ReelFailsBehind bytes TooFewReels old new = ⊥
 ReelFailsBehind bytes OutOfMemory old new = new ≡ old
-ReelFailsBehind bytes OtherFile old new = ⊥
+ReelFailsBehind bytes fault old new = ⊥
 
 -- So the headline is true of it: for every valid set and each history that the reel is, if it
 -- begins with these items, which were skipped, the session is where that history leads, with the

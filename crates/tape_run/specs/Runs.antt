@@ -2,10 +2,9 @@
 use Rattle.std.specs.Prelude.{◌≡◌, ℕ, Bool, List, [], ◌∷◌, length, map, take, drop, Option, Some}
 use Rattle.std.specs.Prelude.{None, slice_get, ⊤, ◌⊎◌}
 use Rattle.tape_set.specs.Layout.{FileSet}
-use Rattle.tape_run.specs.declared.fault.RunFault.TheVariants.{Sink, NoSuchPoint, TooFewReels}
+use Rattle.tape_run.specs.declared.fault.RunFault.TheVariants.{Sink, TooFewReels, OutOfMemory}
 use Rattle.tape_run.specs.Steps.{Reeled, Saved, WentBack, ReelFails, SaveFails, RestartFails}
 use Rattle.tape_run.specs.{declared.fault.RunFault.RunFault, declared.script.Step.Step, Seen.Seen}
-use Rattle.tape_run.specs.declared.fault.RunFault.TheVariants.{OutOfMemory, OtherFile}
 use Rattle.tape_run.specs.declared.script.Step.TheVariants.{Reel, Save, Restart}
 use Rattle.tape_run.specs.{Headline.reels_in, Mount.MountEvent, History.IsHistory, Causes.IsCalm}
 use Rattle.tape_run.specs.{SessionState.SessionState, Steps.Refuses, Steps.RefusesRestart}
@@ -64,10 +63,8 @@ pub record StopsFor {S : Type 0} (g : Ghosts S) (steps : List Step) (n : ℕ) (f
 -- the sink refused a call, or memory ran out
 abbrev pub IsRefusal : RunFault → Type 0
 IsRefusal (Sink cause) = ⊤
-IsRefusal NoSuchPoint = ⊥
-IsRefusal TooFewReels = ⊥
 IsRefusal OutOfMemory = ⊤
-IsRefusal OtherFile = ⊥
+IsRefusal fault = ⊥
 
 -- Only a refusal can stop a run over a script with existing checkpoints and enough readers.
 abbrev pub OnlyRefusalsStop : Type 0

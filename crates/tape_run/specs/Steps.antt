@@ -10,8 +10,7 @@ use Rattle.tape_core.specs.{Table.saved, Table.mount_of, declared.sink.SinkFault
 use Rattle.tape_core.specs.{Stands.weight_of, Place.IsPlaced, Place.place_of, Place.rest_of}
 use Rattle.tape_core.specs.{declared.sink.PartSink.Ghosts, declared.sink.SinkFault.SinkFault}
 use Rattle.tape_run.specs.declared.fault.RunFault.{RunFault}
-use Rattle.tape_run.specs.declared.fault.RunFault.TheVariants.{Sink, NoSuchPoint, TooFewReels}
-use Rattle.tape_run.specs.declared.fault.RunFault.TheVariants.{OutOfMemory, OtherFile}
+use Rattle.tape_run.specs.declared.fault.RunFault.TheVariants.{Sink, NoSuchPoint, OutOfMemory}
 use Rattle.tape_run.specs.Mount.{MountEvent, IsMount, IsMountOf, cut, after_mount}
 use Rattle.tape_run.specs.{Given.IsGiven, Given.counted, ByTable.IsLed, ByTable.IsCutAt, Seen.Seen}
 use Rattle.tape_run.specs.{Seen.IsKept, Seen.IfSeen, SessionState.SessionState}
@@ -108,10 +107,8 @@ pub record Unmoved (old new : Seen) : Type 0 where
 -- because the sink refused a part. Whether the sink did refuse a call is in `Refuses`.
 abbrev pub ReelFails : List ℕ → RunFault → Seen → Seen → Type 0
 ReelFails bytes (Sink cause) old new = CutShort bytes old new
-ReelFails bytes NoSuchPoint old new = ⊥
-ReelFails bytes TooFewReels old new = ⊥
 ReelFails bytes OutOfMemory old new = new ≡ old
-ReelFails bytes OtherFile old new = ⊥
+ReelFails bytes fault old new = ⊥
 
 -- The sink refused a call with this fault, for a reason of its own, and no call before it.
 pub record IsRefused {S : Type 0} (refusals : S → ℕ) (refuses : S → SinkFault → S → Type 0)
@@ -127,15 +124,12 @@ pub record IsRefused {S : Type 0} (refusals : S → ℕ) (refuses : S → SinkFa
 abbrev pub Refuses : {S : Type 0} → Ghosts S → RunFault → SessionState S → SessionState S → Type 0
 Refuses g (Sink cause) old new = (new.failures ≡ old.failures)
     × IsRefused g.refusals g.refuses_change old.sink cause new.sink
-Refuses g NoSuchPoint old new = ⊥
-Refuses g TooFewReels old new = ⊥
 Refuses g OutOfMemory old new = new ≡ old
-Refuses g OtherFile old new = ⊥
+Refuses g fault old new = ⊥
 
--- Why a session did not roll back, for any sink: the sink refused a call with this fault, or
--- weighs less than the
--- checkpoint says, which is only possible if its contents are unknown; or there is no such
--- checkpoint.
+-- Why a session did not roll back, for any sink: the sink refused a call with this fault, or weighs
+-- less than the checkpoint says, which is only possible if its contents are unknown; or there is no
+-- such checkpoint.
 abbrev pub RefusesRestart : {S : Type 0} → Ghosts S → ℕ → RunFault → SessionState S
     → SessionState S → Type 0
 RefusesRestart g n (Sink cause) old new = (new.failures ≡ old.failures)
@@ -143,23 +137,17 @@ RefusesRestart g n (Sink cause) old new = (new.failures ≡ old.failures)
     ⊎ ((cause ≡ Failed) × (g.refusals new.sink ≡ g.refusals old.sink)
     × IfSeen g old (λ was. IsKept was → ⊥)))
 RefusesRestart g n NoSuchPoint old new = (length old.notes ≤ n) × (new ≡ old)
-RefusesRestart g n TooFewReels old new = ⊥
-RefusesRestart g n OutOfMemory old new = ⊥
-RefusesRestart g n OtherFile old new = ⊥
+RefusesRestart g n fault old new = ⊥
 
 -- the state if no checkpoint was made; whether the sink did refuse a call is in `Refuses`
 abbrev pub SaveFails : RunFault → Seen → Seen → Type 0
 SaveFails (Sink cause) old new = Unmoved old new
-SaveFails NoSuchPoint old new = ⊥
-SaveFails TooFewReels old new = ⊥
 SaveFails OutOfMemory old new = new ≡ old
-SaveFails OtherFile old new = ⊥
+SaveFails fault old new = ⊥
 
 -- the state if the session did not roll back; whether the sink did refuse a call is in
 -- `RefusesRestart`
 abbrev pub RestartFails : ℕ → RunFault → Seen → Seen → Type 0
 RestartFails n (Sink cause) old new = Unmoved old new
 RestartFails n NoSuchPoint old new = (length old.notes ≤ n) × (new ≡ old)
-RestartFails n TooFewReels old new = ⊥
-RestartFails n OutOfMemory old new = ⊥
-RestartFails n OtherFile old new = ⊥
+RestartFails n fault old new = ⊥
