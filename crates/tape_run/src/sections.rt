@@ -4,7 +4,7 @@ ghost use Rattle.std.specs.{Result.IsOkUnless, Map.lookup};
 ghost use Rattle.std.specs.Prelude.{◌≡◌, ◌≢◌, ◌<◌, None, OnOk, OnErr, IfOk, IsOk};
 ghost use Rattle.tape_run.specs.declared.fault.RunFault.TheVariants as faults;
 ghost use Rattle.indexmap.specs.IndexMap.{spare};
-ghost use Rattle.tape_run.specs.Noted.{same_key, is_good, kept, noted, noted_all};
+ghost use Rattle.tape_run.specs.Noted.{same_key, is_good, kept, noted_all};
 ghost use Rattle.tape_run.specs.Passing.{in_list, under_way, blocks_of, step};
 ghost use Rattle.tape_image.specs.Reader.{tape_item};
 ghost use Rattle.tape_set.specs.Lawful.{most_blocks};
@@ -39,18 +39,6 @@ fn kept_of(sections: &Sections, key: &SectionKey, entry: Entry) -> Entry
     }
 }
 
-/// Adds a section. A known section keeps its place, with the better of the two states.
-fn note(sections: &mut Sections, key: SectionKey, entry: Entry) -> Result<(), RunFault>
-    ensures fault { IsOkUnless result faults.OutOfMemory }
-    ensures ok { OnOk result (sections.new.entries ≡ noted sections.old.entries (key, entry)) }
-    ensures err { OnErr result (sections.new.entries ≡ sections.old.entries) }
-    ensures room { 0 < spare sections.old → IsOk result }
-{
-    let kept = kept_of(sections, &key, entry);
-    sections.insert(key, kept)?;
-    Ok(())
-}
-
 /// Allocates room for a section once the mark after its headers was found, so that it can be added
 /// later.
 fn make_room(sections: &mut Sections, phase: &Phase) -> Result<(), RunFault>
@@ -65,7 +53,8 @@ fn make_room(sections: &mut Sections, phase: &Phase) -> Result<(), RunFault>
     Ok(())
 }
 
-/// Adds the section that was completed, if any.
+/// Adds the section that was completed, if any. A known section keeps its place, with the better of
+/// the two states.
 fn note_told(sections: &mut Sections, told: Option<Told>) -> Result<(), RunFault>
     ensures fault { IsOkUnless result faults.OutOfMemory }
     ensures ok { OnOk result (sections.new.entries
@@ -74,10 +63,12 @@ fn note_told(sections: &mut Sections, told: Option<Told>) -> Result<(), RunFault
     ensures none { told ≡ None → sections.new ≡ sections.old }
     ensures room { (told ≢ None → 0 < spare sections.old) → IsOk result }
 {
-    match told {
-        Some((key, entry)) => note(sections, key, entry),
-        None => Ok(()),
-    }
+    let Some((key, entry)) = told else {
+        return Ok(());
+    };
+    let kept = kept_of(sections, &key, entry);
+    sections.insert(key, kept)?;
+    Ok(())
 }
 
 /// Adds the section that an item completes, and returns what is expected next. Memory for the entry
