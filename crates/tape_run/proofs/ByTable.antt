@@ -14,12 +14,17 @@ use Rattle.tape_core.specs.declared.event.Answer.TheVariants.{Passed, Deliver}
 use Rattle.tape_core.specs.{Follows.IsFinal, Place.rest_of, Place.place_of, Place.resting}
 use Rattle.tape_core.specs.Table.{step_of, saved, mount_of, mounted}
 use Rattle.tape_core.proofs.BlockLaws.{parts_in_it}
-use Rattle.tape_run.specs.ByTable.{parts_by, parts_at, parts_of_arrival, delivered_parts, IsLed}
+use Rattle.tape_run.specs.ByTable.{parts_by, parts_at, delivered_parts, IsLed}
 use Rattle.tape_run.specs.{Reels.behind_items, Puts.refused_point, ByTable.StopsInside}
 use Rattle.tape_run.proofs.Places.{refused_position}
 use Rattle.tape_run.proofs.Finals.{IsIdle, behind_final, idle_items}
 
 -- ---- one item
+
+-- the parts that an event delivers to a core: an item or the end of the reel
+abbrev pub parts_of_arrival : State → Option TapeItem → List Portion
+parts_of_arrival core None = []
+parts_of_arrival core (Some item) = parts_at core item
 
 by_delivery : (a : Answer) (k : Option FileForm) (p : Position) (bytes : List ℕ) (form : FileForm)
     → a ≡ Deliver → k ≡ Some form

@@ -17,8 +17,9 @@ use Rattle.tape_core.specs.{declared.event.Answer.Answer, State.State, Follows.I
 use Rattle.tape_core.specs.{Table.step_of, Place.rest_of}
 use Rattle.tape_run.specs.{Reels.behind_items, Given.is_device_cause, Given.is_device}
 use Rattle.tape_run.specs.Taking.{ReadsImage, CutsTable, came_of, fault_of}
-use Rattle.tape_run.specs.ByTable.{parts_of_arrival, delivered_parts, StopsInside}
+use Rattle.tape_run.specs.ByTable.{delivered_parts, StopsInside}
 use Rattle.tape_run.proofs.ByTable.{core_more, parts_more, led_by_final, led_to_end}
+use Rattle.tape_run.proofs.ByTable.{parts_of_arrival}
 use Rattle.tape_run.proofs.Reels.{walks_on}
 
 -- So far these items were processed, up to an offset of all the bytes that the reader has.

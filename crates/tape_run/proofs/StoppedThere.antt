@@ -9,10 +9,11 @@ use Rattle.tape_core.specs.{Place.rest_of, declared.sink.PartSink.Ghosts, Table.
 use Rattle.tape_run.specs.{Crash.IsWalked, Given.is_device, Reels.Reads, Seen.Seen, Seen.seen}
 use Rattle.tape_run.specs.Reeling.{Opened, Follows, IsNoted, counts_differ}
 use Rattle.tape_run.specs.{SessionState.SessionState, Steps.Reeled}
-use Rattle.tape_run.specs.Stopping.{IsStopped, NotNoted, ReadsOnly, StopsInReel}
+use Rattle.tape_run.specs.Stopping.{IsStopped, NotNoted, ReadsOnly, StopsAt}
 use Rattle.tape_run.specs.{declared.fault.EngineFault.EngineFault, declared.fault.RunFault.RunFault}
 use Rattle.tape_run.specs.declared.reel_reader.ReelAnswer.{ReelAnswer}
-use Rattle.tape_run.proofs.{Notes.front_self, Notes.front_trans, Turns.noted}
+use Rattle.tape_run.specs.declared.fault.EngineFault.TheVariants.{Run}
+use Rattle.tape_run.proofs.{Notes.front_self, Notes.front_trans, Shown.some_map, Turns.noted}
 
 -- a walk over its sink leaves a session unmoved
 pub stopped_walked : {S R : Type 0} (g : Ghosts S) (remaining : R → Option (List ℕ))
@@ -48,13 +49,13 @@ stopped_there g remaining back a held fault has =
     (held, (λ live. has), record { place = refl; parts = refl; notes = refl; count = refl })
 
 -- a reel was read, and the step after it failed
-pub step_stops : (back : Bool) (had left : Option (List ℕ)) (answer : ReelAnswer)
-    (fault : RunFault) (old mid new : Seen)
-    → IfSome had (λ bytes. Reeled bytes left (is_device answer.fault) old mid)
+pub step_stops : {R : Type 0} (remaining : R → Option (List ℕ)) (back : Bool) (image : R)
+    (left : Option (List ℕ)) (answer : ReelAnswer) (fault : RunFault) (old mid new : Seen)
+    → IfSome (remaining image) (λ bytes. Reeled bytes left (is_device answer.fault) old mid)
     → NotNoted back (counts_differ answer.answer) fault mid new
-    → StopsInReel back had fault old new
-step_stops back None left answer fault old mid new r n = tt
-step_stops back (Some bytes) left answer fault old mid new r n = inr (left, answer, mid, r, n)
+    → StopsAt remaining back old (Some image) (Run fault) new
+step_stops remaining back image left answer fault old mid new r n =
+    some_map (remaining image) _ _ (λ bytes s. inr (left, answer, mid, s, n)) r
 
 -- the turn of an image that was opened
 pub one_turn : {S : Type 0} (g : Ghosts S) (back spares : Bool) (a b c : SessionState S)

@@ -25,11 +25,6 @@ abbrev pub parts_at : State → TapeItem → List Portion
 parts_at core item =
     parts_by (step_of core (Some item)).0 item core.position (step_of core (Some item)).1.known
 
--- the same for an event, an item or the end of the reel
-abbrev pub parts_of_arrival : State → Option TapeItem → List Portion
-parts_of_arrival core None = []
-parts_of_arrival core (Some item) = parts_at core item
-
 -- the parts that these items deliver, one after another
 abbrev pub delivered_parts : State → List TapeItem → List Portion
 delivered_parts core [] = []

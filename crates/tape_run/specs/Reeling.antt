@@ -76,10 +76,6 @@ counts_differ (Useless (BlockCount label seen)) = true
 counts_differ (Useless Broken) = true
 counts_differ answer = false
 
--- The session rolled back to its last checkpoint.
-abbrev pub WentToLast : Seen → Seen → Type 0
-WentToLast old new = (n : ℕ) × (length old.notes ≡ n + 1) × WentBack n old new
-
 -- The last checkpoint has the session's position and parts.
 abbrev pub HasNotedHere : Seen → Type 0
 HasNotedHere s = IsLast s (saved s.place (weight_of s.parts)) s.parts
@@ -92,7 +88,8 @@ abbrev pub IsNoted : Bool → Bool → Bool → Bool → Seen → Seen → Type 
 IsNoted back spares false true old new = (spares ≡ true → HasNotedHere old → ⊥) × Saved old new
 IsNoted back spares false false old new = (spares ≡ true) × HasNotedHere old × (new ≡ old)
 IsNoted false spares true noted old new = new ≡ old
-IsNoted true spares true noted old new = WentToLast old new
+IsNoted true spares true noted old new =
+    (n : ℕ) × (length old.notes ≡ n + 1) × WentBack n old new
 
 -- a session rolls back after a suspect reel if it has a checkpoint
 abbrev pub goes_back : List Point → Bool

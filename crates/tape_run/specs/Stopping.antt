@@ -21,14 +21,6 @@ NotNoted back false fault old new = SaveFails fault old new
 NotNoted false true fault old new = ⊥
 NotNoted true true fault old new = RestartFails (length old.notes - 1) fault old new
 
--- A reader with these bytes, if they are known, was not read to its end; or it was, and then no
--- checkpoint was made, or the session did not roll back.
-abbrev pub StopsInReel : Bool → Option (List ℕ) → RunFault → Seen → Seen → Type 0
-StopsInReel back had fault old new = IfSome had (λ bytes. ReelFails bytes fault old new
-    ⊎ ((left : Option (List ℕ)) × (answer : ReelAnswer) × (mid : Seen)
-    × Reeled bytes left (is_device answer.fault) old mid
-    × NotNoted back (counts_differ answer.answer) fault mid new))
-
 -- After a reel that was read to its end and is not suspect, the sink refused to save this position.
 abbrev pub RefusesSave : {R : Type 0} → (R → Option (List ℕ)) → Seen → Option R → EngineFault
     → State → Type 0
@@ -39,11 +31,16 @@ RefusesSave remaining old (Some image) (Run (Sink cause)) place = IfSome (remain
 RefusesSave remaining old image fault place = ⊥
 
 -- Where a session is after a fault. If no image was open, as after a failed write, it is unmoved.
+-- Otherwise the image, if its bytes are known, was not read to its end; or it was, and then no
+-- checkpoint was made, or the session did not roll back.
 abbrev pub StopsAt : {R : Type 0} → (R → Option (List ℕ)) → Bool → Seen → Option R → EngineFault
     → Seen → Type 0
 StopsAt remaining back old None fault new = Unmoved old new
-StopsAt remaining back old (Some image) (Run fault) new =
-    StopsInReel back (remaining image) fault old new
+StopsAt remaining back old (Some image) (Run fault) new = IfSome (remaining image)
+    (λ bytes. ReelFails bytes fault old new
+    ⊎ ((left : Option (List ℕ)) × (answer : ReelAnswer) × (mid : Seen)
+    × Reeled bytes left (is_device answer.fault) old mid
+    × NotNoted back (counts_differ answer.answer) fault mid new))
 StopsAt remaining back old (Some image) WriteFailed new = ⊥
 
 -- The session is there, with exactly the parts of its sink. Only a rollback in which the sink's

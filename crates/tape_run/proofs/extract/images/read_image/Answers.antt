@@ -159,7 +159,7 @@ returns-in_err-save-clause-stops g c =
     rw c.in-Some.is (
       end,
       (λ live. has_end),
-      step_stops c.args.back (g.R.Read.remaining c.in-Some.device)
+      step_stops g.R.Read.remaining c.args.back c.in-Some.device
           (g.R.Read.remaining c.reel.new.device) c.in_ok-answer.answer fault old mid new reeled
           (subst (λ b. NotNoted c.args.back b fault mid new)
           (sym (sym c.counts_differ.ensures ∙ c.if-counts_differ.false)) fails),
