@@ -3,15 +3,14 @@ use Rattle.std.proofs.Common.{◌≡◌, ◌≢◌, ◌⊎◌, inl, inr, ℕ, Bo
 use Rattle.std.proofs.Common.{Some, None, refl, sym, ap, subst, ◌∙◌, true, length, arith}
 use Rattle.std.proofs.Common.{length-append}
 use Rattle.tape_set.specs.declared.position.{Position.TheVariants.Finished, Want.Want}
-use Rattle.tape_core.specs.{Table.in_phase, Table.mounted, declared.sink.PartSink.Ghosts}
+use Rattle.tape_core.specs.declared.sink.PartSink.{Ghosts}
 use Rattle.tape_run.specs.ExtractingLocated.{IsHeld, Stretch, IsPartOf, AreFrom, held_behind}
 use Rattle.tape_run.specs.ExtractingLocated.{ReadsPart, ReadsLocated, ReadsSections, EndsReading}
-use Rattle.tape_run.specs.ExtractingLocated.{BeginsOn, NextBeginsOn}
+use Rattle.tape_run.specs.ExtractingLocated.{BeginsOn, NextBeginsOn, FollowsOn}
 use Rattle.tape_run.specs.{Reeling.Mounting, SessionState.SessionState, SurveyLocations.Located}
 use Rattle.tape_run.specs.Seen.{seen, IfSeen, IsSeen}
 use Rattle.tape_run.specs.declared.extract.located.Mounted.{Mounted}
-use Rattle.tape_run.proofs.ByTable.{resting_twice}
-use Rattle.tape_run.proofs.LocatedParts.{FollowsOn, follows_more, gathers_of}
+use Rattle.tape_run.proofs.LocatedParts.{follows_more}
 
 -- ---- which images
 
@@ -195,13 +194,7 @@ sections_read {S} {L} {R} g gives remaining locations complete session now shelf
       mid = left;
       are_from = s.are_read;
       held = mounted;
-      gathers = λ parts was.
-          let (is, has, f) = s.follows parts was in (
-            is,
-            has,
-            gathers_of (seen g session parts) s.stretches (seen g now is)
-                (ap (λ p. in_phase session.core p) (sym (resting_twice session.core.phase))) f,
-          );
+      follows = s.follows;
       ends = ends;
     }
 

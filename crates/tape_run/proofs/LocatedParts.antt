@@ -2,17 +2,15 @@
 use Rattle.std.proofs.Common.{◌≡◌, ℕ, ◌<◌, Bool, false, List, [], ◌∷◌, ◌++◌, Option, Some, None}
 use Rattle.std.proofs.Common.{IfSome, refl, sym, ap, subst, ◌∙◌}
 use Rattle.tape_blocks.specs.Block.{Portion}
-use Rattle.tape_image.specs.{Begins.Walks, Reader.IfKnown, Tape.TapeItem}
+use Rattle.tape_image.specs.{Begins.Walks, Begins.Begins, Begins.Stop, Reader.IfKnown}
+use Rattle.tape_image.specs.Tape.{TapeItem}
 use Rattle.tape_image.proofs.Walks.{Walks-nil}
-use Rattle.tape_set.specs.{Layout.FileSet, Lawful.IsLawful}
-use Rattle.tape_core.specs.{Known.is_finished, State.State, declared.sink.PartSink.Ghosts}
-use Rattle.tape_core.specs.{Place.IsPlaced, Place.rest_of, Table.in_phase, Table.mount_of}
-use Rattle.tape_run.specs.{ByTable.delivered_parts, ByTable.IsLed, GoesBehind.ReeledBehind}
-use Rattle.tape_run.specs.{Lead.Lead, Lead.over_reel, Mount.MountEvent, Mount.IsMount}
-use Rattle.tape_run.specs.{Reels.behind_items, Steps.Reeled, SessionState.SessionState}
-use Rattle.tape_run.specs.ExtractingLocated.{PassesTo, IsHeld, Stretch, ReadsOn, AreGivenOf}
-use Rattle.tape_run.specs.ExtractingLocated.{AreTapesOf, AreMountsOf, GathersOf, ReadsPart, reached}
-use Rattle.tape_run.specs.ExtractingLocated.{Arrives, over_tapes, IsThere}
+use Rattle.tape_core.specs.{Known.is_finished, declared.sink.PartSink.Ghosts}
+use Rattle.tape_core.specs.{Place.rest_of, Table.in_phase, Table.mount_of}
+use Rattle.tape_run.specs.{ByTable.IsLed, GoesBehind.ReeledBehind, SessionState.SessionState}
+use Rattle.tape_run.specs.{Steps.Reeled}
+use Rattle.tape_run.specs.ExtractingLocated.{PassesTo, IsHeld, Stretch, ReadsOn, FollowsOn}
+use Rattle.tape_run.specs.ExtractingLocated.{ReadsPart}
 use Rattle.tape_run.specs.Seen.{Seen, seen, IfSeen, IsSeen}
 use Rattle.tape_run.specs.declared.{extract.located.Mounted.Mounted, survey.files.FileKey.FileKey}
 use Rattle.tape_run.proofs.{BehindReads.led_reads, ByTable.resting_twice}
@@ -44,12 +42,15 @@ part_front {S} {R} g remaining had left failed old new after reads held = record
       given = [];
       is_given = tt;
       same_file = λ some. absurd (cc);
+      reads = λ some. absurd (cc);
       table = λ some. absurd (cc);
     }
     on_front (Some b) r = record {
       given = r.given;
       is_given = r.is_given;
       same_file = λ some. r.same_file;
+      reads = λ some set h xs end stop lawful begins mount placed. r.reads set h lawful
+          (xs, end, stop, begins, mount) placed;
       table = λ some xs end stop begins. r.table xs end stop begins;
     }
 
@@ -97,103 +98,31 @@ part_on {S} {R} g remaining whole had left failed before old new after waits sam
       given = [];
       is_given = tt;
       same_file = λ some. absurd (cc);
+      reads = λ some. absurd (cc);
       table = λ some. absurd (cc);
     }
     on_behind (Some bytes) None q r = absurd q
-    on_behind {parts} {now} (Some bytes) (Some rest) q r = record {
-      given = r.given;
-      is_given = r.is_given;
-      same_file = λ some. r.same_file;
-      table = λ some xs end stop begins.
-          leads_on (rest_of old.core) (rest_of new.core) q.front xs parts now waits
-          (λ sound. q.passed (rest_of old.core) (sym same) less waits sound)
-          (r.table xs end stop begins);
-    }
+    on_behind {parts} {now} (Some bytes) (Some rest) q r =
+        let table : (xs : List TapeItem) (end : ℕ) (stop : Stop) → Begins 0 r.given xs end stop
+            → IsLed (q.front ++ xs) (mount_of (rest_of old.core)) (rest_of new.core) parts now =
+        λ xs end stop begins. leads_on (rest_of old.core) (rest_of new.core) q.front xs parts now
+        waits (λ sound. q.passed (rest_of old.core) (sym same) less waits sound)
+        (r.table xs end stop begins) in
+        record {
+          given = r.given;
+          is_given = r.is_given;
+          same_file = λ some. r.same_file;
+          reads = λ some set h xs end stop lawful begins mount placed. led_reads set h
+              (q.front ++ xs) (rest_of old.core) (rest_of new.core) parts now lawful mount
+              (ap (λ p. in_phase old.core p) (sym (resting_twice old.core.phase))) placed
+              (table xs end stop begins);
+          table = λ some. table;
+        }
 
 -- ---- stretch after stretch
-
--- each stretch took the session from one state to another
-abbrev pub FollowsOn : Seen → List Stretch → Seen → Type 0
-FollowsOn old [] new = new ≡ old
-FollowsOn old (s ∷ ss) new = (mid : Seen) × ReadsOn s old mid × FollowsOn mid ss new
 
 pub follows_more : (old : Seen) (ss : List Stretch) (mid new : Seen) (s : Stretch)
     → FollowsOn old ss mid → ReadsOn s mid new → FollowsOn old (ss ++ s ∷ []) new
 follows_more old [] mid new s same r = (new, subst (λ z. ReadsOn s z new) same r, refl)
 follows_more old (t ∷ ss) mid new s (next, first, f) r =
     (next, first, follows_more next ss mid new s f r)
-
-abbrev given_of : (old : Seen) (ss : List Stretch) (new : Seen) → FollowsOn old ss new
-    → List (List ℕ)
-given_of old [] new f = []
-given_of old (s ∷ ss) new (mid, r, f) = r.given ∷ given_of mid ss new f
-
-are_given : (old : Seen) (ss : List Stretch) (new : Seen) (f : FollowsOn old ss new)
-    → AreGivenOf ss (given_of old ss new f)
-are_given old [] new f = tt
-are_given old (s ∷ ss) new (mid, r, f) = (r.is_given, are_given mid ss new f)
-
-there_more : (t : Lead) (old new : Seen) (xs : List TapeItem)
-    → IsLed xs (mount_of old.place) new.place old.parts new.parts → IsThere t old
-    → IsThere (over_reel t xs) new
-there_more t old new xs led s = record {
-  place = led.place ∙ ap (λ (z : State). rest_of (behind_items (mount_of z) xs)) s.place;
-  parts = led.parts
-      ∙ (ap (λ (l : List Portion). l ++ delivered_parts (mount_of old.place) xs) s.parts
-      ∙ ap (λ (z : State). t.parts ++ delivered_parts (mount_of z) xs) s.place);
-}
-
-arrives_more : (set : FileSet) (old mid new : Seen) (h : MountEvent) (hs : List MountEvent)
-    → Arrives set old (h ∷ []) mid → Arrives set mid hs new → Arrives set old (h ∷ hs) new
-arrives_more set old mid new h hs a b = record {
-  at = b.at;
-  same_file = b.same_file ∙ a.same_file;
-  position = b.position ∙ ap (λ f. reached set f mid.place.position hs) a.same_file
-      ∙ ap (λ p. reached set old.place.file p hs) a.position;
-}
-
-arrives_of : (set : FileSet) (old : Seen) (ss : List Stretch) (new : Seen)
-    (f : FollowsOn old ss new) (tapes : List (List TapeItem)) (hs : List MountEvent)
-    → IsLawful set → old.place ≡ rest_of old.place → AreTapesOf ss (given_of old ss new f) tapes
-    → AreMountsOf set tapes hs → IsPlaced set old.place old.parts → Arrives set old hs new
-arrives_of set old [] new f [] [] lawful rest are mounts placed =
-    subst (λ s. Arrives set old [] s) (sym f)
-    (record { at = placed; same_file = refl; position = refl })
-arrives_of set old [] new f [] (h ∷ hs) lawful rest are mounts placed = absurd mounts
-arrives_of set old [] new f (xs ∷ tapes) hs lawful rest are mounts placed = absurd are
-arrives_of set old (s ∷ ss) new f [] hs lawful rest are mounts placed = absurd are
-arrives_of set old (s ∷ ss) new f (xs ∷ tapes) [] lawful rest are mounts placed = absurd mounts
-arrives_of set old (s ∷ ss) new (mid, r, f) (xs ∷ tapes) (h ∷ hs) lawful rest
-    (some, (more, end, stop, begins, whole), are) (mount, mounts) placed =
-    let led = r.table some more end stop begins in
-    let by = led_reads set h (s.front ++ more) old.place mid.place old.parts mid.parts lawful
-    (subst (λ l. IsMount set l h) whole mount) rest placed led in
-    let again : mid.place ≡ rest_of mid.place =
-    led.place ∙ (ap (λ p. in_phase (behind_items (mount_of old.place) (s.front ++ more)) p)
-    (sym (resting_twice (behind_items (mount_of old.place) (s.front ++ more)).phase))
-    ∙ ap rest_of (sym led.place)) in
-    arrives_more set old mid new h hs
-    (record { at = by.at; same_file = r.same_file some; position = by.position })
-    (arrives_of set mid ss new f tapes hs lawful again are mounts by.at)
-
-led_of : (old : Seen) (ss : List Stretch) (new : Seen) (f : FollowsOn old ss new) (t : Lead)
-    (tapes : List (List TapeItem)) → AreTapesOf ss (given_of old ss new f) tapes → IsThere t old
-    → IsThere (over_tapes t tapes) new
-led_of old [] new f t [] are there = subst (λ s. IsThere t s) (sym f) there
-led_of old [] new f t (xs ∷ tapes) are there = absurd are
-led_of old (s ∷ ss) new f t [] are there = absurd are
-led_of old (s ∷ ss) new (mid, r, f) t (xs ∷ tapes)
-    (some, (more, end, stop, begins, whole), are) there =
-    led_of mid ss new f (over_reel t xs) tapes are
-    (subst (λ l. IsThere (over_reel t l) mid) (sym whole)
-    (there_more t old mid (s.front ++ more) (r.table some more end stop begins) there))
-
-pub gathers_of : (old : Seen) (ss : List Stretch) (new : Seen) → old.place ≡ rest_of old.place
-    → FollowsOn old ss new → GathersOf ss old new
-gathers_of old ss new rest f = record {
-  given = given_of old ss new f;
-  are_given = are_given old ss new f;
-  arrives = λ set tapes hs lawful are mounts placed.
-      arrives_of set old ss new f tapes hs lawful rest are mounts placed;
-  led = λ t tapes are there. led_of old ss new f t tapes are there;
-}

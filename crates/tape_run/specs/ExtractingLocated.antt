@@ -5,14 +5,14 @@ use Rattle.std.specs.Map.{lookup}
 use Rattle.tape_blocks.specs.{Block.Portion, declared.parts.Form.Form}
 use Rattle.tape_image.specs.{Begins.Stop, Begins.Begins, Begins.Walks, Reader.IfKnown}
 use Rattle.tape_image.specs.Tape.{TapeItem}
-use Rattle.tape_set.specs.{Layout.FileSet, Lawful.IsLawful, declared.position.Position.Position}
+use Rattle.tape_set.specs.{Layout.FileSet, Lawful.IsLawful}
 use Rattle.tape_set.specs.declared.position.Position.TheVariants.{Awaits, Finished}
 use Rattle.tape_core.specs.{Known.is_finished, Place.IsPlaced, State.State, Table.mount_of}
 use Rattle.tape_core.specs.{declared.event.Phase.TheVariants.Broken, declared.sink.PartSink.Ghosts}
 use Rattle.tape_run.specs.{ByTable.IsLed, Given.IsGiven, Lacks.key_at}
 use Rattle.tape_run.specs.{Crash.IsWalked, GoesBehind.PassedOver, Noted.same_key, Reeling.Mounting}
-use Rattle.tape_run.specs.{Extracting.IsPut, Mount.MountEvent, Mount.IsMount, Mount.after_mount}
-use Rattle.tape_run.specs.{Lead.Lead, Lead.over_reel, declared.extract.located.Mounted.Mounted}
+use Rattle.tape_run.specs.{Extracting.IsPut, Mount.MountEvent, Mount.IsMount, Steps.ReadBy}
+use Rattle.tape_run.specs.declared.extract.located.Mounted.{Mounted}
 use Rattle.tape_run.specs.{Seen.Seen, Seen.IfSeen, Seen.IsSeen, SurveyLocations.Located}
 use Rattle.tape_run.specs.{SessionState.SessionState, declared.survey.files.FileKey.FileKey}
 
@@ -54,68 +54,24 @@ IsPartOf s = IfKnown s.whole s.had (λ bytes rest. (at : ℕ) × Walks 0 bytes s
 
 -- The session went where the table leads over the whole image: over the items before the reading,
 -- and those of the bytes that the reader returned (all the bytes that it had or, if it failed,
--- those that it no longer has).
+-- those that it no longer has). For every valid set, if these items are a mount, it is where that
+-- mount leads, with exactly the parts before that position.
 pub record ReadsOn (s : Stretch) (old new : Seen) : Type 0 where
   pub given : List ℕ
   pub is_given : IfKnown s.whole s.had (λ bytes had. IsGiven s.failed had s.left given)
   pub same_file : IsSome s.whole → new.place.file ≡ old.place.file
+  pub reads : IsSome s.whole → (set : FileSet) (h : MountEvent) (xs : List TapeItem) (end : ℕ)
+      (stop : Stop) → IsLawful set → Begins 0 given xs end stop → IsMount set (s.front ++ xs) h
+      → IsPlaced set old.place old.parts
+      → ReadBy set old.place.file old.place.position h new.place new.parts
   pub table : IsSome s.whole → (xs : List TapeItem) (end : ℕ) (stop : Stop)
       → Begins 0 given xs end stop
       → IsLed (s.front ++ xs) (mount_of old.place) new.place old.parts new.parts
 
--- The bytes returned are those that the reader of each stretch returned.
-abbrev pub AreGivenOf : List Stretch → List (List ℕ) → Type 0
-AreGivenOf [] [] = ⊤
-AreGivenOf (s ∷ ss) (g ∷ given) =
-    IfKnown s.whole s.had (λ bytes had. IsGiven s.failed had s.left g) × AreGivenOf ss given
-AreGivenOf ss given = ⊥
-
--- The items of each image: those before, and those that the returned bytes begin with. Each reader
--- knew its bytes.
-abbrev pub AreTapesOf : List Stretch → List (List ℕ) → List (List TapeItem) → Type 0
-AreTapesOf [] [] [] = ⊤
-AreTapesOf (s ∷ ss) (g ∷ given) (xs ∷ tapes) = IsSome s.whole
-    × ((more : List TapeItem) × (end : ℕ) × (stop : Stop) × Begins 0 g more end stop
-    × (xs ≡ s.front ++ more)) × AreTapesOf ss given tapes
-AreTapesOf ss given tapes = ⊥
-
--- The tapes are these mounts: copies of the set's volumes, or reels of other sets.
-abbrev pub AreMountsOf : FileSet → List (List TapeItem) → List MountEvent → Type 0
-AreMountsOf set [] [] = ⊤
-AreMountsOf set (xs ∷ tapes) (h ∷ hs) = IsMount set xs h × AreMountsOf set tapes hs
-AreMountsOf set tapes hs = ⊥
-
--- the position after these mounts, one after another, from p
-abbrev pub reached : FileSet → ℕ → Position → List MountEvent → Position
-reached set file p [] = p
-reached set file p (h ∷ hs) = reached set file (after_mount set file p h) hs
-
--- The session is at the position that the mounts lead to, with exactly the parts before it.
-pub record Arrives (set : FileSet) (old : Seen) (hs : List MountEvent) (new : Seen) : Type 0 where
-  pub at : IsPlaced set new.place new.parts
-  pub same_file : new.place.file ≡ old.place.file
-  pub position : new.place.position ≡ reached set old.place.file old.place.position hs
-
--- where the reader's table leads over tapes, one after another
-abbrev pub over_tapes : Lead → List (List TapeItem) → Lead
-over_tapes t [] = t
-over_tapes t (xs ∷ tapes) = over_tapes (over_reel t xs) tapes
-
--- The session is at that place, and its sink contains the parts that were delivered until then.
-pub record IsThere (t : Lead) (s : Seen) : Type 0 where
-  pub place : s.place ≡ t.place
-  pub parts : s.parts ≡ t.parts
-
--- For every valid set and all mounts that the images represent, the session is where these lead;
--- and for any images, it is where the table leads.
-pub record GathersOf (stretches : List Stretch) (old new : Seen) : Type 0 where
-  pub given : List (List ℕ)
-  pub are_given : AreGivenOf stretches given
-  pub arrives : (set : FileSet) (tapes : List (List TapeItem)) (hs : List MountEvent)
-      → IsLawful set → AreTapesOf stretches given tapes → AreMountsOf set tapes hs
-      → IsPlaced set old.place old.parts → Arrives set old hs new
-  pub led : (t : Lead) (tapes : List (List TapeItem)) → AreTapesOf stretches given tapes
-      → IsThere t old → IsThere (over_tapes t tapes) new
+-- The stretches, one after another, took the session from one state to another.
+abbrev pub FollowsOn : Seen → List Stretch → Seen → Type 0
+FollowsOn old [] new = new ≡ old
+FollowsOn old (s ∷ ss) new = (mid : Seen) × ReadsOn s old mid × FollowsOn mid ss new
 
 -- ---- which images
 
@@ -185,7 +141,7 @@ pub record ReadsSections {S L R : Type 0} (g : Ghosts S) (gives : Mounting L R)
   pub are_from : AreFrom (BeginsOn locations old.core) gives remaining opened whole shelf stretches
       mid
   pub held : IsHeld remaining after (held_behind whole stretches)
-  pub gathers : IfSeen g old (λ was. IsSeen g new (λ is. GathersOf stretches was is))
+  pub follows : IfSeen g old (λ was. IsSeen g new (λ is. FollowsOn was stretches is))
   pub ends : EndsReading gives locations stretches new.core mid left complete
 
 -- A file was read in this way, and the session is where that led. If the file is complete, exactly
