@@ -12,11 +12,10 @@ use Rattle.tape_core.specs.Place.{IsPlaced, rest_of, place_of}
 use Rattle.tape_core.specs.Table.{step_of, mount_of, saved}
 use Rattle.tape_core.proofs.OneFile.{step_file}
 use Rattle.tape_run.specs.Mount.{MountEvent, IsMount, cut, after_mount}
-use Rattle.tape_run.specs.{Reels.behind_items, GoesBehind.ReadsByHistory, Puts.refused_point}
+use Rattle.tape_run.specs.{Reels.behind_items, Puts.refused_point}
 use Rattle.tape_run.specs.ByTable.{parts_at, delivered_parts, IsLed, IsCutAt}
 use Rattle.tape_run.specs.Steps.{ReadBy, StoppedBy}
 use Rattle.tape_run.proofs.ByTable.{puts_delivered, puts_none, drop_take, resting_mounted}
-use Rattle.tape_run.proofs.{ByTable.resting_twice, GoesBehind.leads_over_all}
 use Rattle.tape_run.proofs.Places.{gives_block, gives_none, refused_place}
 use Rattle.tape_run.proofs.Mounts.{Both, both, reached, cut_whole, begins, is_under}
 
@@ -183,10 +182,3 @@ cut_reads set h xs place new held now l m resting at c =
       part = n;
       position = s.position ∙ ap (at_part n) upto;
     }
-
-pub reads_by_history : ReadsByHistory
-reads_by_history set h old new core bytes left failed front more end stop l rest m at over r b =
-    led_reads _ _ _ _ _ _ _ l m (rest ∙ (ap (λ f. record core { phase = f })
-    (sym (resting_twice core.phase)) ∙ ap rest_of (sym rest))) at
-    (leads_over_all old.place new.place front more old.parts new.parts over
-    (r.table more end stop b))

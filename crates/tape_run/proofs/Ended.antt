@@ -15,7 +15,8 @@ use Rattle.tape_run.specs.Headline.{Ran, HasStopped, StopsStep, PutRefused, reel
 use Rattle.tape_run.specs.Steps.{StoppedBy, CutShort, Unmoved, ReelFails, SaveFails, RestartFails}
 use Rattle.tape_run.specs.Lead.{Lead, AreNoted, StandsThere, StopsBy}
 use Rattle.tape_blocks.specs.Block.{Portion}
-use Rattle.tape_run.proofs.{Notes.notes_grow, Headline.headline, Lead.noted_grow}
+use Rattle.tape_run.proofs.{Notes.notes_grow, Headline.headline, Headline.none_over}
+use Rattle.tape_run.proofs.Lead.{noted_grow}
 
 -- ---- results
 
@@ -43,11 +44,11 @@ same_there : (set : FileSet) (old mid new : Seen) (hs : List MountEvent) → new
 same_there set old mid new hs e r = rw e r
 
 put_refused : (set : FileSet) (old mid new : Seen) (hs : List MountEvent) (bytes : List ℕ)
-    → CutShort bytes mid new → IsLawful set → Ran set old hs mid
+    → CutShort (mount_of mid.place) bytes mid new → IsLawful set → Ran set old hs mid
     → (xs : List TapeItem) (end : ℕ) (stop : Stop) (h : MountEvent) → Begins 0 bytes xs end stop
     → IsMount set xs h → PutRefused set old hs xs h new
 put_refused set old mid new hs bytes c l r xs end stop h b m =
-    let there = c.stops set xs end stop h l b m r.session.at in
+    let there = c.stops set [] xs end stop h l none_over b m r.session.at in
     let notes : AreNotes set mid.place.file [] mid.notes new.parts =
     notes_grow set mid.place.file [] mid.notes mid.parts new.parts c.grows r.session.notes in
     let start : mid.place.position ≡ (course set old.place.file (course_of old) hs).at =
@@ -106,7 +107,8 @@ unmoved_there t old new u s = record {
   notes = rw (u.notes, u.parts) s.notes;
 }
 
-cut_there : (t : Lead) (old new : Seen) (bytes : List ℕ) → CutShort bytes old new
+cut_there : (t : Lead) (old new : Seen) (bytes : List ℕ)
+    → CutShort (mount_of old.place) bytes old new
     → StandsThere t old → AreNoted [] t.notes new.notes new.parts × ((xs : List TapeItem) (end : ℕ)
     (stop : Stop) → Begins 0 bytes xs end stop
     → IsCutAt xs (mount_of t.place) new.place t.parts new.parts)

@@ -22,6 +22,7 @@ use Rattle.tape_run.specs.Mount.{MountEvent, foreign_reel, reads, IsMount}
 use Rattle.tape_run.specs.Steps.{Reeled, ReelFails, Saved, WentBack}
 use Rattle.tape_run.specs.Cases.{CasesOfMounts, CasesOfMade, CasesOfCrashes, came_by}
 use Rattle.tape_run.proofs.ExamplesOfSaves.{one_note, of_one_note}
+use Rattle.tape_run.proofs.Headline.{none_over}
 
 -- ---- what may be mounted
 
@@ -99,8 +100,8 @@ pub cases_of_made : CasesOfMade
 cases_of_made = record {
   was_reeled = λ bytes left failed old new r. (r.is_given, r.count, r.notes, r.calm, r.grows);
   same_reader = λ bytes left failed old new r. (r.same_set, r.same_file);
-  mount_was_read = λ bytes left failed old new set h r lawful mount placed.
-      let by = r.reads set h lawful mount placed in (by.at, by.position);
+  mount_was_read = λ bytes left failed old new set h r lawful (xs, end, stop, b, mount) placed.
+      let by = r.reads set [] xs end stop h lawful none_over b mount placed in (by.at, by.position);
   nothing_was_made = λ which old new r. r;
   no_reel_was_there = λ failed other old new bytes l r. r.2;
   none_is_told = λ old new bytes l r. r;

@@ -1,6 +1,6 @@
 -- A reading of a later file continues after that of an earlier one.
 use Rattle.std.proofs.Common.{◌≡◌, ◌≢◌, ℕ, ◌<◌, inl, inr, List, [], ◌∷◌, ◌++◌, Bool, false, Option}
-use Rattle.std.proofs.Common.{Some, refl, sym, ap, subst, ◌∙◌}
+use Rattle.std.proofs.Common.{Some, refl, sym, ap, subst, ◌∙◌, append_assoc}
 use Rattle.std.specs.List.{AllByRecursion}
 use Rattle.tape_blocks.specs.Block.{Portion}
 use Rattle.tape_image.specs.Tape.{TapeItem}
@@ -11,16 +11,16 @@ use Rattle.tape_core.specs.Behind.{passed_over, expected_over, PassesTo, AreInOr
 use Rattle.tape_core.specs.{declared.event.Answer.Answer, declared.event.Phase.Phase, State.State}
 use Rattle.tape_core.specs.declared.event.Answer.TheVariants.{Complete, Useless}
 use Rattle.tape_core.specs.declared.event.Phase.TheVariants.{Over, Broken, Volume, Trailers}
-use Rattle.tape_core.specs.{Behind.mounted_behind, Known.is_finished, Point.Point, Weight.IsFront}
+use Rattle.tape_core.specs.{Behind.mounted_behind, Known.is_finished}
 use Rattle.tape_core.specs.Table.{Outcome, in_phase, passed, step_of, mount_of, mounted}
 use Rattle.tape_core.specs.Place.{rest_of, resting}
 use Rattle.tape_core.proofs.{OneFile.step_set_id, OneFile.step_file, Behind.step_law}
-use Rattle.tape_run.specs.{Reels.behind_items, Reels.answers_to, Reels.GoesOn, Seen.Seen}
-use Rattle.tape_run.specs.ByTable.{delivered_parts, parts_by, parts_at, IsLed}
-use Rattle.tape_run.specs.GoesBehind.{EndsSection, PassesFiles, LeadsOverAll, ReeledBehind}
-use Rattle.tape_run.specs.{Given.counted, Given.IsGiven, Taking.ReadsImage}
+use Rattle.tape_run.specs.Reels.{behind_items, answers_to, GoesOn}
+use Rattle.tape_run.specs.ByTable.{delivered_parts, parts_by, parts_at, IsLed, IsCutAt, StopsInside}
+use Rattle.tape_run.specs.ByTable.{PassedOver}
+use Rattle.tape_run.specs.GoesBehind.{EndsSection, PassesFiles, LeadsOverAll}
 use Rattle.tape_run.proofs.ByTable.{behind_app, delivered_app, led_nowhere}
-use Rattle.tape_run.proofs.{Notes.front_self, Completes.step_tells}
+use Rattle.tape_run.proofs.Completes.{step_tells}
 
 -- an item after which the other reader continues: its effect on a reader of a later file
 pub record PassedOne (first later : State) (x : TapeItem) : Type 0 where
@@ -159,15 +159,41 @@ passes_files first later items item o sound r =
       nothing = all.nothing;
     }
 
-pub leads_over_all : LeadsOverAll
-leads_over_all core new front more held now over led = record {
-  place = led.place ∙ ap rest_of (sym (behind_app (mount_of core) front more
-      ∙ ap (λ (z : State). behind_items z more) over.behind));
-  parts = led.parts ∙ ap (λ (l : List Portion). held ++ l)
-      (sym (delivered_app (mount_of core) front more
+-- where the table leads over all items, from where it leads over those that were not skipped
+over_all : (core start : State) (front more : List TapeItem) → PassedOver core front start
+    → (behind_items (mount_of core) (front ++ more) ≡ behind_items start more)
+    × (delivered_parts (mount_of core) (front ++ more) ≡ delivered_parts start more)
+over_all core start front more over = (
+  behind_app (mount_of core) front more ∙ ap (λ (z : State). behind_items z more) over.behind,
+  delivered_app (mount_of core) front more
       ∙ (ap (λ (l : List Portion). l ++ delivered_parts (behind_items (mount_of core) front) more)
-      over.nothing ∙ ap (λ (z : State). delivered_parts z more) over.behind)));
-}
+      over.nothing ∙ ap (λ (z : State). delivered_parts z more) over.behind),
+)
+
+pub leads_over_all : LeadsOverAll
+leads_over_all core start new front more held now over led =
+    let (place, parts) = over_all core start front more over in
+    record {
+      place = led.place ∙ ap rest_of (sym place);
+      parts = led.parts ∙ ap (λ (l : List Portion). held ++ l) (sym parts);
+    }
+
+pub cuts_over_all : (core start new : State) (front more : List TapeItem)
+    (held now : List Portion) → PassedOver core front start → IsCutAt more start new held now
+    → IsCutAt (front ++ more) (mount_of core) new held now
+cuts_over_all core start new front more held now over c =
+    let (place, parts) = over_all core start front c.before over in
+    record {
+      before = front ++ c.before;
+      item = c.item;
+      behind = c.behind;
+      all = ap (λ (l : List TapeItem). front ++ l) c.all
+          ∙ sym (append_assoc front c.before (c.item ∷ c.behind));
+      stops = subst (λ (z : State). StopsInside z new c.item
+          (held ++ delivered_parts (mount_of core) (front ++ c.before)) now) (sym place)
+          (subst (λ (l : List Portion). StopsInside (behind_items start c.before) new c.item
+          (held ++ l) now) (sym parts) c.stops);
+    }
 
 resting_behind : (p : Phase) (q : Position) → mounted_behind (resting p) q ≡ mounted_behind p q
 resting_behind Broken q = refl
@@ -192,48 +218,3 @@ led_nowhere_behind core held xs e =
     at_end p (Awaits sect b part) e = absurd (cc)
     at_end Broken Finished e = refl
     at_end _ Finished e = refl
-
-pub not_read_behind : (bytes : List ℕ) (left : Option (List ℕ)) (s : Seen) (core : State)
-    (failed : Bool)
-    → failed ≡ false → s.place ≡ rest_of core → s.place.position ≡ Finished
-    → ReeledBehind bytes left failed s s
-not_read_behind bytes left s core failed calm place done = record {
-  given = bytes;
-  is_given = subst (λ b. IsGiven b bytes left bytes) (sym calm) refl;
-  count = subst (λ b. s.failures ≡ counted b s.failures) (sym calm) refl;
-  notes = refl;
-  same_set = refl;
-  same_file = refl;
-  calm = refl;
-  grows = front_self s.parts;
-  table = λ xs end stop b. subst (λ (z : State). IsLed xs (behind_of z) z s.parts s.parts)
-      (sym place) (led_nowhere_behind core s.parts xs (ap (λ (z : State). z.position) (sym place)
-      ∙ done));
-}
-
-pub reeled_behind : (failed : Bool) (mounted new : State) (held now : List Portion)
-    (bytes : List ℕ) (unread left : Option (List ℕ)) (p : State) (notes : List Point)
-    (f1 f2 r1 r2 : ℕ) → left ≡ unread
-    → (rest_of new).set_id ≡ p.set_id → (rest_of new).file ≡ p.file → r2 ≡ r1
-    → IsFront held now → f2 ≡ counted failed f1 → mounted ≡ behind_of p
-    → ReadsImage failed mounted new held now unread bytes → ReeledBehind bytes left failed (record {
-      place = p;
-      parts = held;
-      notes = notes;
-      failures = f1;
-      refusals = r1;
-    })
-    (record { place = rest_of new; parts = now; notes = notes; failures = f2; refusals = r2 })
-reeled_behind failed mounted new held now bytes unread left p notes f1 f2 r1 r2 same_left set_id
-    file calm grows count mount r = record {
-      given = r.given;
-      is_given = subst (λ l. IsGiven failed bytes l r.given) (sym same_left) r.is_given;
-      count = count;
-      notes = refl;
-      same_set = set_id;
-      same_file = file;
-      calm = calm;
-      grows = grows;
-      table = λ xs end stop b. subst (λ (z : State). IsLed xs z (rest_of new) held now) mount
-          (r.table xs end stop b);
-    }

@@ -76,16 +76,19 @@ waits_over core (x ∷ xs) waits (one, rest) = waits_over (step_of core (Some x)
     (still_waits core x (step_of core (Some x)).1.position refl (inl one)) rest
 
 pub leaves_behind : LeavesBehind
-leaves_behind core new front bytes left answer waits sound over r ends =
-    let e = ended_well _ _ _ _ _ (waits_over (mount_of core) front waits over) r ends in (
+leaves_behind core start new front bytes left answer waits sound over r ends =
+    let e = ended_well _ _ _ _ _ (subst (λ (z : State). is_finished z.position ≡ false) over.behind
+    (waits_over (mount_of core) front waits over.answers)) r ends in (
       e.items,
       e.item,
       e.at,
       record {
         sound = sound;
-        on = passed_goes_on _ _ e.items over e.on;
-        ended = subst (λ (z : State). EndsSection (step_of z (Some e.item)).0)
-            (sym (behind_app (mount_of core) front e.items)) e.ended;
+        on = passed_goes_on _ _ e.items over.answers (subst
+            (λ (z : State). AllByRecursion GoesOn (answers_to z e.items)) (sym over.behind) e.on);
+        ended = subst (λ (z : State). EndsSection (step_of z (Some e.item)).0) (sym (behind_app
+            (mount_of core) front e.items ∙ ap (λ (z : State). behind_items z e.items) over.behind))
+            e.ended;
       },
       e.taken,
     )

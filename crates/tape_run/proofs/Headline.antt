@@ -5,6 +5,8 @@ use Rattle.std.proofs.{Common.slice_get, lemmas.Option.slice_get-map}
 use Rattle.std.proofs.lemmas.List.{map-append, take-map, length-take-le}
 use Rattle.tape_set.specs.{Layout.FileSet, Lawful.IsLawful, declared.position.Position.Position}
 use Rattle.tape_core.specs.{Point.Point, State.State, Stands.Stands, Stands.weight_of, Table.saved}
+use Rattle.tape_core.specs.Table.{mount_of}
+use Rattle.tape_run.specs.ByTable.{PassedOver}
 use Rattle.tape_run.specs.Mount.{MountEvent, reads, foreign_reel, saves, restarts, IsMountOf}
 use Rattle.tape_run.specs.{Mount.after_mount, History.after, History.course_of, History.IsHistory}
 use Rattle.tape_run.specs.{declared.script.Step.Step, Seen.Seen, Seen.AreNotes, Seen.IsSession}
@@ -36,11 +38,16 @@ after_reel set old new given foreign_reel m e f = course_same old new _ (sym e) 
 after_reel set old new given saves (xs, end, stop, b, m) e f = absurd m
 after_reel set old new given (restarts n) (xs, end, stop, b, m) e f = absurd m
 
+-- a reel is read from its first item
+pub none_over : {core : State} → PassedOver core [] (mount_of core)
+none_over {core} = record { answers = tt; behind = refl; nothing = refl }
+
 pub reel_steps : (set : FileSet) (old new : Seen) (bytes : List ℕ) (failed : Bool) (h : MountEvent)
     {left : Option (List ℕ)} → (r : Reeled bytes left failed old new) → IsLawful set
     → IsMountOf set r.given h → IsSession set old → Stepped set old h new
 reel_steps set old new bytes failed h r l m s =
-    let read = r.reads set h l m s.at in
+    let (xs, end, stop, b, mount) = m in
+    let read = r.reads set [] xs end stop h l none_over b mount s.at in
     let notes : AreNotes set old.place.file [] old.notes new.parts =
     notes_grow set old.place.file [] old.notes old.parts new.parts r.grows s.notes in
     record {

@@ -6,14 +6,14 @@ use Rattle.tape_image.specs.{Begins.Walks, Begins.Begins, Begins.Stop, Reader.If
 use Rattle.tape_image.specs.Tape.{TapeItem}
 use Rattle.tape_image.proofs.Walks.{Walks-nil}
 use Rattle.tape_core.specs.{Known.is_finished, declared.sink.PartSink.Ghosts}
-use Rattle.tape_core.specs.{Place.rest_of, Table.in_phase, Table.mount_of}
-use Rattle.tape_run.specs.{ByTable.IsLed, GoesBehind.ReeledBehind, SessionState.SessionState}
-use Rattle.tape_run.specs.{Steps.Reeled}
+use Rattle.tape_core.specs.{Behind.behind_of, Place.rest_of, Table.in_phase, Table.mount_of}
+use Rattle.tape_run.specs.{ByTable.IsLed, SessionState.SessionState}
+use Rattle.tape_run.specs.Steps.{Reeled, ReeledFrom}
 use Rattle.tape_run.specs.ExtractingLocated.{PassesTo, IsHeld, Stretch, ReadsOn, FollowsOn}
 use Rattle.tape_run.specs.ExtractingLocated.{ReadsPart}
 use Rattle.tape_run.specs.Seen.{Seen, seen, IfSeen, IsSeen}
 use Rattle.tape_run.specs.declared.{extract.located.Mounted.Mounted, survey.files.FileKey.FileKey}
-use Rattle.tape_run.proofs.{BehindReads.led_reads, ByTable.resting_twice}
+use Rattle.tape_run.proofs.{BehindReads.led_reads, ByTable.resting_twice, Headline.none_over}
 use Rattle.tape_run.proofs.LocatedReaders.{leads_on, front_of}
 
 -- ---- what was read
@@ -49,8 +49,8 @@ part_front {S} {R} g remaining had left failed old new after reads held = record
       given = r.given;
       is_given = r.is_given;
       same_file = λ some. r.same_file;
-      reads = λ some set h xs end stop lawful begins mount placed. r.reads set h lawful
-          (xs, end, stop, begins, mount) placed;
+      reads = λ some set h xs end stop lawful begins mount placed.
+          r.reads set [] xs end stop h lawful none_over begins mount placed;
       table = λ some xs end stop begins. r.table xs end stop begins;
     }
 
@@ -59,7 +59,7 @@ pub part_on : {S R : Type 0} (g : Ghosts S) (remaining : R → Option (List ℕ)
     (after : Option (Mounted R)) → is_finished old.core.position ≡ false
     → before.set_id ≡ old.core.set_id → before.file < old.core.file
     → (p : IfKnown whole had (PassesTo before)) → IfSeen g old (λ was. IsSeen g new (λ is.
-    IfSome had (λ b. ReeledBehind b left failed was is)))
+    IfSome had (λ b. ReeledFrom (behind_of was.place) b left failed was is)))
     → IsHeld remaining after whole → ReadsPart g remaining whole old new after
 part_on {S} {R} g remaining whole had left failed before old new after waits same less p reads held
     = record {
@@ -86,7 +86,8 @@ part_on {S} {R} g remaining whole had left failed before old new after waits sam
 
     on_behind : {parts now : List Portion} (w h : Option (List ℕ))
         (q : IfKnown w h (PassesTo before))
-        → IfSome h (λ b. ReeledBehind b left failed (seen g old parts) (seen g new now))
+        → IfSome h (λ b. ReeledFrom (behind_of (rest_of old.core)) b left failed
+        (seen g old parts) (seen g new now))
         → ReadsOn (record {
           whole = w;
           front = front_of w h before q;

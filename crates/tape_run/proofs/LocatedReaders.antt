@@ -14,9 +14,9 @@ use Rattle.tape_core.specs.{declared.event.Answer.Answer, declared.event.Answer.
 use Rattle.tape_core.specs.{declared.event.Phase.Phase, declared.event.Phase.TheVariants.Broken}
 use Rattle.tape_core.specs.declared.event.Phase.TheVariants as phases
 use Rattle.tape_core.specs.declared.event.Reason.TheVariants as reasons
-use Rattle.tape_run.specs.ByTable.{parts_by, delivered_parts, IsLed}
+use Rattle.tape_run.specs.ByTable.{parts_by, delivered_parts, IsLed, PassedOver}
 use Rattle.tape_run.specs.ExtractingLocated.{PassesTo}
-use Rattle.tape_run.specs.GoesBehind.{EndsSection, PassedOver}
+use Rattle.tape_run.specs.GoesBehind.{EndsSection}
 use Rattle.tape_run.specs.Reels.{behind_items, Reads, ReadsReel}
 use Rattle.tape_run.specs.declared.{reel_reader.ReelAnswer.ReelAnswer, survey.files.FileKey.FileKey}
 use Rattle.tape_run.proofs.GoesBehindReels.{ended_well, leaves_behind}
@@ -77,7 +77,7 @@ mounted_broken p q e = (ap (λ r. mounted r q) e ∙ refl, ap (λ r. mounted_beh
 -- The whole image leads where the continued reading leads: its first items are skipped, or the
 -- reader is broken.
 pub leads_on : (core new : State) (front more : List TapeItem) (held now : List Portion)
-    → is_finished core.position ≡ false → (core.phase ≢ Broken → PassedOver core front)
+    → is_finished core.position ≡ false → (core.phase ≢ Broken → PassedOver core front (behind_of core))
     → IsLed more (behind_of core) new held now → IsLed (front ++ more) (mount_of core) new held now
 leads_on core new front more held now waits over led = elim (broken_or core.phase) [
   | inl broken ↦
@@ -90,7 +90,8 @@ leads_on core new front more held now waits over led = elim (broken_or core.phas
         place = led.place ∙ ap rest_of (rest.0 ∙ same ∙ sym all.0);
         parts = led.parts ∙ ap (λ (l : List Portion). held ++ l) (rest.1 ∙ sym all.1);
       }
-  | inr sound ↦ leads_over_all core new front more held now (over sound) led
+  | inr sound ↦ leads_over_all core (behind_of core) new front more held now
+      (over sound) led
 ]
 
 -- ---- what stays mounted
@@ -109,8 +110,8 @@ passes_front core new bytes left answer key waits set file ends r = elim (broken
       let e = ended_well _ _ _ _ _ waits r ends in
       absurd (never_ends _ e.items e.item waits (mounted_broken _ core.position broken).0 e.ended)
   | inr sound ↦
-      let (items, item, at, s, walks) = leaves_behind core new [] bytes left answer waits sound tt
-      r ends in
+      let (items, item, at, s, walks) = leaves_behind core (mount_of core) new [] bytes left answer
+      waits sound (record { answers = tt; behind = refl; nothing = refl }) r ends in
       record {
         front = items ++ item ∷ [];
         at = at;
@@ -123,7 +124,7 @@ passes_front core new bytes left answer key waits set file ends r = elim (broken
 pub passes_on : (core new : State) (front : List TapeItem) (place : ℕ) (whole bytes left : List ℕ)
     (answer : ReelAnswer) (key : FileKey) → is_finished core.position ≡ false
     → key.set_id ≡ core.set_id → key.file ≡ core.file → EndsSection answer.answer
-    → (core.phase ≢ Broken → PassedOver core front) → Walks 0 whole front place bytes
+    → (core.phase ≢ Broken → PassedOver core front (behind_of core)) → Walks 0 whole front place bytes
     → ReadsReel (behind_of core) bytes left answer new → PassesTo key whole left
 passes_on core new front place whole bytes left answer key waits set file ends over before r =
     elim (broken_or core.phase) [
@@ -132,9 +133,8 @@ passes_on core new front place whole bytes left answer key waits set file ends o
           absurd (never_ends _ e.items e.item waits (mounted_broken _ core.position broken).1
           e.ended)
       | inr sound ↦
-          let (items, item, at, s, walks) = leaves_behind core new front bytes left answer waits
-          sound (over sound).answers (subst (λ (z : State). ReadsReel z bytes left answer new)
-          (sym (over sound).behind) r) ends in
+          let (items, item, at, s, walks) = leaves_behind core (behind_of core) new front bytes
+          left answer waits sound (over sound) r ends in
           let moved : Walks place bytes (items ++ item ∷ []) (place + at) left =
           record { leads = walks.leads; moves = omega (arith, walks.moves) } in
           record {

@@ -7,13 +7,14 @@ use Rattle.tape_set.specs.{Position.want_at, declared.position.Position.Position
 use Rattle.tape_set.specs.declared.position.Position.TheVariants.{Awaits, Finished}
 use Rattle.tape_image.specs.Tape.{TapeItem}
 use Rattle.tape_core.specs.{Point.Point, State.State, Place.place_of, Place.rest_of, Weight.IsFront}
-use Rattle.tape_core.specs.{Table.saved, Table.mount_of, Stands.weight_of}
+use Rattle.tape_core.specs.{Table.saved, Stands.weight_of}
 use Rattle.tape_core.specs.declared.sink.PartSink.{Ghosts}
-use Rattle.tape_run.specs.{ByTable.IsLed, ByTable.IsCutAt, Taking.ReadsImage, Taking.CutsTable}
+use Rattle.tape_run.specs.{ByTable.IsLed, Taking.ReadsImage, Taking.CutsTable}
 use Rattle.tape_run.specs.{Given.counted, Given.IsGiven, SessionState.SessionState}
 use Rattle.tape_run.specs.Seen.{Seen, IsNote, KeepsNotes, IsKept, IfSeen, IsSeen, seen}
-use Rattle.tape_run.specs.Steps.{Reeled, CutShort, Saved, WentBack}
-use Rattle.tape_run.proofs.ByTable.{led_nowhere, mount_rest, resting_twice}
+use Rattle.tape_run.specs.Steps.{ReeledFrom, CutShort, Saved, WentBack}
+use Rattle.tape_run.proofs.ByTable.{resting_twice}
+use Rattle.tape_run.proofs.GoesBehind.{leads_over_all, cuts_over_all}
 use Rattle.tape_run.proofs.{BehindReads.led_reads, BehindReads.cut_reads, Shown.some_map}
 use Rattle.tape_run.proofs.Notes.{front_self, front_trans, same_front}
 
@@ -96,16 +97,16 @@ rest_again : (core : State) → rest_of core ≡ rest_of (rest_of core)
 rest_again core = ap (λ f. record core { phase = f }) (sym (resting_twice core.phase))
 
 -- the bytes of a reel whose parts were put as the table says
-pub reeled : (failed : Bool) (core mounted new : State) (held now : List Portion) (bytes : List ℕ)
+pub reeled : (failed : Bool) (core mounted start new : State) (held now : List Portion) (bytes : List ℕ)
     (unread left : Option (List ℕ)) (notes : List Point) (f1 f2 r1 r2 : ℕ) → left ≡ unread
     → new.set_id ≡ core.set_id → new.file ≡ core.file → r2 ≡ r1 → IsFront held now
-    → f2 ≡ counted failed f1 → mounted ≡ mount_of core
+    → f2 ≡ counted failed f1 → mounted ≡ start
     → ReadsImage failed mounted new held now unread bytes
-    → Reeled bytes left failed (session_of (rest_of core) held notes f1 r1)
+    → ReeledFrom start bytes left failed (session_of (rest_of core) held notes f1 r1)
     (session_of (rest_of new) now notes f2 r2)
-reeled failed core mounted new held now bytes unread left notes f1 f2 r1 r2 same_left set_id file
-    calm grows count mount r =
-    let there : mounted ≡ mount_of (rest_of core) = mount ∙ mount_rest core in
+reeled failed core mounted start new held now bytes unread left notes f1 f2 r1 r2 same_left set_id
+    file calm grows count mount reads =
+    let r = subst (λ (z : State). ReadsImage failed z new held now unread bytes) mount reads in
     record {
       given = r.given;
       is_given = subst (λ l. IsGiven failed bytes l r.given) (sym same_left) r.is_given;
@@ -115,44 +116,40 @@ reeled failed core mounted new held now bytes unread left notes f1 f2 r1 r2 same
       same_file = file;
       calm = calm;
       grows = grows;
-      reads = λ set h l (xs, end, stop, b, m) at. led_reads set h xs (rest_of core) (rest_of new)
-          held now l m (rest_again core) at (subst (λ (z : State). IsLed xs z (rest_of new) held
-          now) there (r.table xs end stop b));
-      table = λ xs end stop b. subst (λ (z : State). IsLed xs z (rest_of new) held now) there
-          (r.table xs end stop b);
+      reads = λ set front xs end stop h l over b m at. led_reads set h (front ++ xs) (rest_of core)
+          (rest_of new) held now l m (rest_again core) at (leads_over_all (rest_of core) start
+          (rest_of new) front xs held now over (r.table xs end stop b));
+      table = r.table;
     }
 
-pub cut_short : (core mounted new : State) (held now : List Portion) (bytes : List ℕ)
+pub cut_short : (core mounted start new : State) (held now : List Portion) (bytes : List ℕ)
     (notes : List Point) (f r1 r2 : ℕ) → new.set_id ≡ core.set_id → new.file ≡ core.file
-    → IsFront held now → mounted ≡ mount_of core → CutsTable mounted (rest_of new) held now bytes
-    → CutShort bytes (session_of (rest_of core) held notes f r1)
+    → IsFront held now → mounted ≡ start → CutsTable mounted (rest_of new) held now bytes
+    → CutShort start bytes (session_of (rest_of core) held notes f r1)
     (session_of (rest_of new) now notes f r2)
-cut_short core mounted new held now bytes notes f r1 r2 set_id file grows mount cuts =
-    let there : mounted ≡ mount_of (rest_of core) = mount ∙ mount_rest core in
+cut_short core mounted start new held now bytes notes f r1 r2 set_id file grows mount cut =
+    let cuts = subst (λ (z : State). CutsTable z (rest_of new) held now bytes) mount cut in
     record {
       count = refl;
       notes = refl;
       same_set = set_id;
       same_file = file;
       grows = grows;
-      stops = λ set xs end stop h l b m at. cut_reads set h xs (rest_of core) (rest_of new) held now
-          l m (rest_again core) at (subst (λ (z : State). IsCutAt xs z (rest_of new) held now) there
-          (cuts xs end stop b));
-      table = λ xs end stop b. subst (λ (z : State). IsCutAt xs z (rest_of new) held now) there
-          (cuts xs end stop b);
+      stops = λ set front xs end stop h l over b m at. cut_reads set h (front ++ xs) (rest_of core)
+          (rest_of new) held now l m (rest_again core) at (cuts_over_all (rest_of core) start
+          (rest_of new) front xs held now over (cuts xs end stop b));
+      table = cuts;
     }
 
 -- nothing is read of a file that is complete
-pub not_read : (bytes : List ℕ) (left : Option (List ℕ)) (s : Seen) (core : State)
-    (failed : Bool) → failed ≡ false
-    → s.place ≡ rest_of core → s.place.position ≡ Finished → Reeled bytes left failed s s
-not_read bytes left s core failed f place e =
+pub not_read : (start core : State) (bytes : List ℕ) (left : Option (List ℕ)) (s : Seen)
+    (failed : Bool) → failed ≡ false → s.place ≡ rest_of core
+    → ((xs : List TapeItem) → IsLed xs start s.place s.parts s.parts)
+    → ReeledFrom start bytes left failed s s
+not_read start core bytes left s failed f place table =
     let resting : s.place ≡ rest_of s.place =
     place ∙ (rest_again core ∙ ap rest_of (sym place)) in
-    let table : (xs : List TapeItem) → IsLed xs (mount_of s.place) s.place s.parts s.parts =
-    λ xs. subst (λ (z : State). IsLed xs (mount_of z) z s.parts s.parts) (sym place)
-    (led_nowhere core s.parts xs (sym (ap (λ (z : State). z.position) place) ∙ e)) in
-    subst (λ (b : Bool). Reeled bytes left b s s) (sym f) (record {
+    subst (λ (b : Bool). ReeledFrom start bytes left b s s) (sym f) (record {
       given = bytes;
       is_given = refl;
       count = refl;
@@ -161,8 +158,9 @@ not_read bytes left s core failed f place e =
       same_file = refl;
       calm = refl;
       grows = front_self s.parts;
-      reads = λ set h l (xs, end, stop, b, m) at. led_reads set h xs s.place s.place s.parts s.parts
-          l m resting at (table xs);
+      reads = λ set front xs end stop h l over b m at. led_reads set h (front ++ xs) s.place s.place
+          s.parts s.parts l m resting at (leads_over_all s.place start s.place front xs s.parts
+          s.parts over (table xs));
       table = λ xs end stop b. table xs;
     })
 

@@ -1,14 +1,15 @@
 -- Where the reader's table leads for any items, whether or not they are those of a valid set.
 use Rattle.std.specs.Prelude.{◌≡◌, ℕ, ◌<◌, ◌+◌, List, [], ◌∷◌, ◌++◌, length, take, drop, Option}
-use Rattle.std.specs.Prelude.{Some, None}
+use Rattle.std.specs.{Prelude.Some, Prelude.None, List.AllByRecursion}
 use Rattle.tape_blocks.specs.{Block.Portion, Judged.begun_behind}
 use Rattle.tape_image.specs.Tape.{TapeItem, block}
 use Rattle.tape_set.specs.{Lawful.FileForm, Position.part_of, Position.at_part}
 use Rattle.tape_set.specs.declared.position.Position.{Position}
 use Rattle.tape_core.specs.declared.event.{Answer.Answer, Answer.TheVariants.Deliver}
+use Rattle.tape_core.specs.declared.event.Answer.TheVariants.{Passed}
 use Rattle.tape_core.specs.{State.State, Parts.parts_in, Place.rest_of, Place.place_of}
-use Rattle.tape_core.specs.Table.{step_of, saved}
-use Rattle.tape_run.specs.{Puts.refused_point, Reels.behind_items}
+use Rattle.tape_core.specs.Table.{step_of, saved, mount_of}
+use Rattle.tape_run.specs.{Puts.refused_point, Reels.behind_items, Reels.answers_to}
 
 -- the parts of a block from the expected one on, in the form known of its file
 abbrev pub parts_from : Position → Option FileForm → List ℕ → List Portion
@@ -35,6 +36,13 @@ delivered_parts core (x ∷ xs) = parts_at core x ++ delivered_parts (step_of co
 pub record IsLed (xs : List TapeItem) (core new : State) (held now : List Portion) : Type 0 where
   pub place : new ≡ rest_of (behind_items core xs)
   pub parts : now ≡ held ++ delivered_parts core xs
+
+-- The reader of a mounted reel skipped all these items, with nothing delivered, and continues from
+-- this state.
+pub record PassedOver (core : State) (items : List TapeItem) (start : State) : Type 0 where
+  pub answers : AllByRecursion (λ a. a ≡ Passed) (answers_to (mount_of core) items)
+  pub behind : behind_items (mount_of core) items ≡ start
+  pub nothing : delivered_parts (mount_of core) items ≡ []
 
 -- A part of the block was refused: the parts before it, if any, were delivered, and the core's
 -- position is the refused part; if this is the expected part, the core is unchanged.

@@ -180,5 +180,5 @@ pub record CasesOfLeads : Type 0 where
       (end : ℕ) (stop : Stop) (r : Reeled bytes left false old new) → Begins 0 r.given xs end stop
       → IsLed xs (mount_of old.place) new.place old.parts new.parts
   pub cut_led : (bytes : List ℕ) (old new : Seen) (xs : List TapeItem) (end : ℕ) (stop : Stop)
-      → CutShort bytes old new → Begins 0 bytes xs end stop
+      → CutShort (mount_of old.place) bytes old new → Begins 0 bytes xs end stop
       → IsCutAt xs (mount_of old.place) new.place old.parts new.parts

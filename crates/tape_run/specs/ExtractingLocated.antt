@@ -7,10 +7,11 @@ use Rattle.tape_image.specs.{Begins.Stop, Begins.Begins, Begins.Walks, Reader.If
 use Rattle.tape_image.specs.Tape.{TapeItem}
 use Rattle.tape_set.specs.{Layout.FileSet, Lawful.IsLawful}
 use Rattle.tape_set.specs.declared.position.Position.TheVariants.{Awaits, Finished}
-use Rattle.tape_core.specs.{Known.is_finished, Place.IsPlaced, State.State, Table.mount_of}
+use Rattle.tape_core.specs.{Behind.behind_of, Known.is_finished, Place.IsPlaced, State.State}
+use Rattle.tape_core.specs.Table.{mount_of}
 use Rattle.tape_core.specs.{declared.event.Phase.TheVariants.Broken, declared.sink.PartSink.Ghosts}
 use Rattle.tape_run.specs.{ByTable.IsLed, Given.IsGiven, Lacks.key_at}
-use Rattle.tape_run.specs.{Crash.IsWalked, GoesBehind.PassedOver, Noted.same_key, Reeling.Mounting}
+use Rattle.tape_run.specs.{Crash.IsWalked, ByTable.PassedOver, Noted.same_key, Reeling.Mounting}
 use Rattle.tape_run.specs.{Extracting.IsPut, Mount.MountEvent, Mount.IsMount, Steps.ReadBy}
 use Rattle.tape_run.specs.declared.extract.located.Mounted.{Mounted}
 use Rattle.tape_run.specs.{Seen.Seen, Seen.IfSeen, Seen.IsSeen, SurveyLocations.Located}
@@ -21,7 +22,8 @@ use Rattle.tape_run.specs.{SessionState.SessionState, declared.survey.files.File
 -- The session of every later file of the set skips these items.
 abbrev pub ArePassed : FileKey → List TapeItem → Type 0
 ArePassed key front = (core : State) → core.set_id ≡ key.set_id → key.file < core.file
-    → is_finished core.position ≡ false → core.phase ≢ Broken → PassedOver core front
+    → is_finished core.position ≡ false → core.phase ≢ Broken
+    → PassedOver core front (behind_of core)
 
 -- The bytes of an image begin with items that the session of every later file skips, and these
 -- bytes are left.

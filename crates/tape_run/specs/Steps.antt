@@ -11,8 +11,9 @@ use Rattle.tape_core.specs.{Stands.weight_of, Place.IsPlaced, Place.place_of, Pl
 use Rattle.tape_core.specs.{declared.sink.PartSink.Ghosts, declared.sink.SinkFault.SinkFault}
 use Rattle.tape_run.specs.declared.fault.RunFault.{RunFault}
 use Rattle.tape_run.specs.declared.fault.RunFault.TheVariants.{Sink, NoSuchPoint, OutOfMemory}
-use Rattle.tape_run.specs.Mount.{MountEvent, IsMount, IsMountOf, cut, after_mount}
-use Rattle.tape_run.specs.{Given.IsGiven, Given.counted, ByTable.IsLed, ByTable.IsCutAt, Seen.Seen}
+use Rattle.tape_run.specs.Mount.{MountEvent, IsMount, cut, after_mount}
+use Rattle.tape_run.specs.ByTable.{PassedOver, IsLed, IsCutAt}
+use Rattle.tape_run.specs.{Given.IsGiven, Given.counted, Seen.Seen}
 use Rattle.tape_run.specs.{Seen.IsKept, Seen.IfSeen, SessionState.SessionState}
 
 -- ---- steps that succeeded
@@ -24,9 +25,10 @@ pub record ReadBy (set : FileSet) (file : ℕ) (p : Position) (h : MountEvent) (
   pub at : IsPlaced set place parts
   pub position : place.position ≡ after_mount set file p h
 
--- A reel was read: its reader returned all its bytes or, if it failed, those that it no longer has.
-pub record Reeled (bytes : List ℕ) (left : Option (List ℕ)) (failed : Bool) (old new : Seen)
-    : Type 0 where
+-- A reel was read from this state of the core on, after items that it skipped, if any: its reader
+-- returned all its bytes or, if it failed, those that it no longer has.
+pub record ReeledFrom (start : State) (bytes : List ℕ) (left : Option (List ℕ)) (failed : Bool)
+    (old new : Seen) : Type 0 where
   pub given : List ℕ
   pub is_given : IsGiven failed bytes left given
   pub count : new.failures ≡ counted failed old.failures
@@ -35,11 +37,16 @@ pub record Reeled (bytes : List ℕ) (left : Option (List ℕ)) (failed : Bool) 
   pub same_file : new.place.file ≡ old.place.file
   pub calm : new.refusals ≡ old.refusals
   pub grows : IsFront old.parts new.parts
-  pub reads : (set : FileSet) (h : MountEvent) → IsLawful set → IsMountOf set given h
-      → IsPlaced set old.place old.parts
+  pub reads : (set : FileSet) (front xs : List TapeItem) (end : ℕ) (stop : Stop) (h : MountEvent)
+      → IsLawful set → PassedOver old.place front start → Begins 0 given xs end stop
+      → IsMount set (front ++ xs) h → IsPlaced set old.place old.parts
       → ReadBy set old.place.file old.place.position h new.place new.parts
   pub table : (xs : List TapeItem) (end : ℕ) (stop : Stop) → Begins 0 given xs end stop
-      → IsLed xs (mount_of old.place) new.place old.parts new.parts
+      → IsLed xs start new.place old.parts new.parts
+
+-- A reel was mounted and read.
+abbrev pub Reeled : List ℕ → Option (List ℕ) → Bool → Seen → Seen → Type 0
+Reeled bytes left failed old new = ReeledFrom (mount_of old.place) bytes left failed old new
 
 -- The checkpoint was made.
 pub record Saved (old new : Seen) : Type 0 where
@@ -82,19 +89,20 @@ pub record StoppedBy (set : FileSet) (file : ℕ) (p : Position) (xs : List Tape
   pub part : ℕ
   pub position : place.position ≡ at_part part (after_mount set file p (cut n h))
 
--- A reel was read up to a part that the sink refused: the session's position is this part.
-pub record CutShort (bytes : List ℕ) (old new : Seen) : Type 0 where
+-- A reel was read from this state of the core on, after items that it skipped, if any, up to a part
+-- that the sink refused: the session's position is this part.
+pub record CutShort (start : State) (bytes : List ℕ) (old new : Seen) : Type 0 where
   pub count : new.failures ≡ old.failures
   pub notes : new.notes ≡ old.notes
   pub same_set : new.place.set_id ≡ old.place.set_id
   pub same_file : new.place.file ≡ old.place.file
   pub grows : IsFront old.parts new.parts
-  pub stops : (set : FileSet) (xs : List TapeItem) (end : ℕ) (stop : Stop) (h : MountEvent)
-      → IsLawful set
-      → Begins 0 bytes xs end stop → IsMount set xs h → IsPlaced set old.place old.parts
-      → StoppedBy set old.place.file old.place.position xs h new.place new.parts
+  pub stops : (set : FileSet) (front xs : List TapeItem) (end : ℕ) (stop : Stop) (h : MountEvent)
+      → IsLawful set → PassedOver old.place front start → Begins 0 bytes xs end stop
+      → IsMount set (front ++ xs) h → IsPlaced set old.place old.parts
+      → StoppedBy set old.place.file old.place.position (front ++ xs) h new.place new.parts
   pub table : (xs : List TapeItem) (end : ℕ) (stop : Stop) → Begins 0 bytes xs end stop
-      → IsCutAt xs (mount_of old.place) new.place old.parts new.parts
+      → IsCutAt xs start new.place old.parts new.parts
 
 -- the session as before, except for the count of refused calls
 pub record Unmoved (old new : Seen) : Type 0 where
@@ -105,10 +113,14 @@ pub record Unmoved (old new : Seen) : Type 0 where
 
 -- The state after a reel that was not read to its end, because memory was refused before, or
 -- because the sink refused a part. Whether the sink did refuse a call is in `Refuses`.
+abbrev pub ReelFailsFrom : State → List ℕ → RunFault → Seen → Seen → Type 0
+ReelFailsFrom start bytes (Sink cause) old new = CutShort start bytes old new
+ReelFailsFrom start bytes OutOfMemory old new = new ≡ old
+ReelFailsFrom start bytes fault old new = ⊥
+
+-- the same for a reel that was mounted
 abbrev pub ReelFails : List ℕ → RunFault → Seen → Seen → Type 0
-ReelFails bytes (Sink cause) old new = CutShort bytes old new
-ReelFails bytes OutOfMemory old new = new ≡ old
-ReelFails bytes fault old new = ⊥
+ReelFails bytes fault old new = ReelFailsFrom (mount_of old.place) bytes fault old new
 
 -- The sink refused a call with this fault, for a reason of its own, and no call before it.
 pub record IsRefused {S : Type 0} (refusals : S → ℕ) (refuses : S → SinkFault → S → Type 0)

@@ -1,12 +1,11 @@
 //! Laws of runs, listings, catalogues, reports and printed names, as contracts of calls that do
 //! nothing.
 
-ghost use Rattle.tape_run.specs.GoesBehind.{LeavesBehind, PassesFiles};
+ghost use Rattle.tape_run.specs.GoesBehind.{LeavesBehind, LeadsOverAll, PassesFiles};
 ghost use Rattle.tape_run.specs.Cases.{CasesOfMounts, CasesOfHistories, CasesOfGiven};
 ghost use Rattle.tape_run.specs.Cases.{CasesOfVolumes, CasesOfSessions, CasesOfMade};
 ghost use Rattle.tape_run.specs.CasesOfCatalogues.{CasesOfCatalogues, CasesOfImages, CasesOfCopies};
 ghost use Rattle.tape_run.specs.WholeSet.{WholeVolumeIsGood, WholeSetIsGood, WholeCopiesAreAdded};
-ghost use Rattle.tape_run.specs.GoesBehind.{LeadsOverAll, ReadsByHistory};
 ghost use Rattle.tape_run.specs.{Cases.CasesOfCrashes, Listing.OneListing, Shown.GoodAreShown};
 ghost use Rattle.tape_run.specs.{CasesOfCatalogues.CasesOfReports, CasesOfSections.CasesOfSections};
 ghost use Rattle.tape_run.specs.WholeSet.{WholeSetLacksNothing, WholeSetIsFound};
@@ -113,7 +112,6 @@ pub fn cases()
 pub fn passes_files()
     ensures passes { PassesFiles }
     ensures leads { LeadsOverAll }
-    ensures by_history { ReadsByHistory }
     ensures leaves { LeavesBehind }
 {}
 

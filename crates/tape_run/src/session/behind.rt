@@ -5,7 +5,7 @@ ghost use Rattle.tape_image.specs.Reader.{IfKnown};
 ghost use Rattle.tape_core.specs.{Behind.behind_of, Weight.IsFront};
 ghost use Rattle.tape_run.specs.{Crash.BringsNoMore, Given.is_device, Given.counted};
 ghost use Rattle.tape_run.specs.Reels.{Leaves, Reads};
-ghost use Rattle.tape_run.specs.GoesBehind.{ReeledBehind, ReelFailsBehind};
+ghost use Rattle.tape_run.specs.Steps.{ReeledFrom, ReelFailsFrom};
 ghost use Rattle.tape_run.specs.{Seen.IsKept, Seen.IfSeen, Seen.IsSeen, Steps.Refuses};
 
 use super::{Session, counted};
@@ -29,12 +29,12 @@ impl<S: PartSink> Session<S> {
         ensures ok { IfOk result (λ answer. IfSeen S.PartSink self.old (λ old.
             IsSeen S.PartSink self.new (λ new. IsFront old.parts new.parts
             × (IsKept old → IsKept new) × IfSome (R.remaining device.old)
-            (λ bytes. ReeledBehind bytes (R.remaining device.new) (is_device answer.fault)
-            old new)))) }
+            (λ bytes. ReeledFrom (behind_of old.place) bytes (R.remaining device.new)
+            (is_device answer.fault) old new)))) }
         ensures err { IfErr result (λ fault. IfSeen S.PartSink self.old (λ old.
             IsSeen S.PartSink self.new (λ new. IsFront old.parts new.parts
             × (IsKept old → IsKept new) × IfSome (R.remaining device.old)
-            (λ bytes. ReelFailsBehind bytes fault old new)))) }
+            (λ bytes. ReelFailsFrom (behind_of old.place) bytes fault old new)))) }
         ensures notes { self.new.notes ≡ self.old.notes }
         ensures file { (self.new.core.set_id ≡ self.old.core.set_id)
             × (self.new.core.file ≡ self.old.core.file) }

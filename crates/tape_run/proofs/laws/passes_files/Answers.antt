@@ -1,6 +1,5 @@
 use Rattle.tape_run.proofs.GoesBehind.{passes_files, leads_over_all}
 use Rattle.tape_run.proofs.GoesBehindReels.{leaves_behind}
-use Rattle.tape_run.proofs.BehindReads.{reads_by_history}
 use Rattle.tape_run.proofs.laws.passes_files.Goals as goal
 
 pub returns-clause-passes : goal.returns-clause-passes
@@ -8,9 +7,6 @@ returns-clause-passes c = passes_files
 
 pub returns-clause-leads : goal.returns-clause-leads
 returns-clause-leads c = leads_over_all
-
-pub returns-clause-by_history : goal.returns-clause-by_history
-returns-clause-by_history c = reads_by_history
 
 pub returns-clause-leaves : goal.returns-clause-leaves
 returns-clause-leaves c = leaves_behind

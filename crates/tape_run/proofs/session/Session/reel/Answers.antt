@@ -4,7 +4,7 @@ use Rattle.tape_core.specs.{State.State, Place.rest_of}
 use Rattle.tape_run.specs.{Given.is_device, Given.counted, SessionState.SessionState}
 use Rattle.tape_run.specs.{Steps.Reeled, Steps.ReelFails, declared.fault.RunFault.TheVariants.Sink}
 use Rattle.tape_run.proofs.Sessions.{some_at, want_none, reel_seen, still_seen, not_read, reeled}
-use Rattle.tape_run.proofs.Sessions.{cut_short}
+use Rattle.tape_run.proofs.{Sessions.cut_short, ByTable.led_nowhere, ByTable.mount_rest}
 use Rattle.tape_run.proofs.session.Session.reel.Goals as goal
 
 pub returns-then-is_none-clause-ok : goal.returns-then-is_none-clause-ok
@@ -12,8 +12,9 @@ returns-then-is_none-clause-ok g c =
     let finished = want_none _ (rest_of c.self.inside.reel_reader.core).position c.is_none.result
     (ap is_some (sym c.want.ensures.value) ∙ c.is_none.ensures) c.if-is_none.true in
     still_seen g.S.PartSink _ _ _ (λ bytes. Reeled bytes (g.R.Read.remaining c.args.device.now)
-    (is_device c.new.result.fault)) c.self.view_is (λ held bytes. not_read bytes _ _
-    c.self.inside.reel_reader.core _ (ap is_device c.new.ensures.fault) refl finished)
+    (is_device c.new.result.fault)) c.self.view_is (λ held bytes. not_read _
+    c.self.inside.reel_reader.core bytes _ _ _ (ap is_device c.new.ensures.fault) refl
+    (λ xs. led_nowhere c.self.inside.reel_reader.core held xs finished))
 
 pub returns-in-Ok-read-clause-ok : goal.returns-in-Ok-read-clause-ok
 returns-in-Ok-read-clause-ok g c =
@@ -34,12 +35,12 @@ returns-in-Ok-read-clause-ok g c =
       has,
       front,
       some_at _ c.over-image.result.left _ _ c.over-image.ensures.unread
-          (λ bytes r. reeled (is_device c.in-Ok-read.answer.fault) core c.mount.new.self
+          (λ bytes r. reeled (is_device c.in-Ok-read.answer.fault) core c.mount.new.self _
           c.read-read.new.self.core held now bytes _ _ c.self.inside.notes.items
           c.self.inside.failures c.counted-self-inside.result _ _ (search rules) set_id file
           end.calm front (c.counted-self-inside.ensures
           ∙ ap (λ b. counted b c.self.inside.failures) c.is_device.ensures)
-          c.mount.ensures.table r) reads,
+          (c.mount.ensures.table ∙ mount_rest core) r) reads,
     ))
 
 pub returns-in-Err-clause-err : goal.returns-in-Err-clause-err
@@ -61,7 +62,7 @@ returns-in-Err-clause-err g c =
       has,
       front,
       some_at _ c.over-image.result.left _ _ c.over-image.ensures.unread
-          (λ bytes t. cut_short core c.mount.new.self c.read-read.new.self.core held now bytes
+          (λ bytes t. cut_short core c.mount.new.self _ c.read-read.new.self.core held now bytes
           c.self.inside.notes.items c.self.inside.failures _ _ set_id file front
-          c.mount.ensures.table t) cuts,
+          (c.mount.ensures.table ∙ mount_rest core) t) cuts,
     ))

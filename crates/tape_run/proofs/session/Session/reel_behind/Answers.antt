@@ -1,21 +1,26 @@
-use Rattle.std.proofs.Common.{sym, ap, ◌∙◌, refl, rules, subst}
+use Rattle.std.proofs.Common.{sym, ap, ◌∙◌, refl, rules, Bool, List, Option, ℕ}
 use Rattle.std.specs.Prelude.{is_some}
-use Rattle.tape_core.specs.{State.State, Place.rest_of}
-use Rattle.tape_run.specs.{Given.is_device, Given.counted, SessionState.SessionState}
-use Rattle.tape_run.specs.{ByTable.IsCutAt, GoesBehind.ReeledBehind, GoesBehind.ReelFailsBehind}
+use Rattle.tape_core.specs.{Behind.behind_of, State.State, Place.rest_of}
+use Rattle.tape_run.specs.{Given.is_device, Given.counted, SessionState.SessionState, Seen.Seen}
+use Rattle.tape_run.specs.Steps.{ReeledFrom, ReelFailsFrom}
 use Rattle.tape_run.specs.declared.fault.RunFault.TheVariants.{Sink}
-use Rattle.tape_run.proofs.Sessions.{some_at, want_none, reel_seen, still_seen}
-use Rattle.tape_run.proofs.GoesBehind.{not_read_behind, reeled_behind, behind_rest}
+use Rattle.tape_run.proofs.Sessions.{some_at, want_none, reel_seen, still_seen, not_read, reeled}
+use Rattle.tape_run.proofs.{Sessions.cut_short, GoesBehind.led_nowhere_behind}
+use Rattle.tape_run.proofs.GoesBehind.{behind_rest}
 use Rattle.tape_run.proofs.session.Session.reel_behind.Goals as goal
+
+abbrev Continued : List ℕ → Option (List ℕ) → Bool → Seen → Seen → Type 0
+Continued bytes left failed old new =
+    ReeledFrom (behind_of old.place) bytes left failed old new
 
 pub returns-then-is_none-clause-ok : goal.returns-then-is_none-clause-ok
 returns-then-is_none-clause-ok g c =
     let finished = want_none _ (rest_of c.self.inside.reel_reader.core).position c.is_none.result
     (ap is_some (sym c.want.ensures.value) ∙ c.is_none.ensures) c.if-is_none.true in
-    still_seen g.S.PartSink _ _ _ (λ bytes. ReeledBehind bytes
-    (g.R.Read.remaining c.args.device.now) (is_device c.new.result.fault)) c.self.view_is
-    (λ held bytes. not_read_behind bytes _ _ c.self.inside.reel_reader.core _
-    (ap is_device c.new.ensures.fault) refl finished)
+    still_seen g.S.PartSink _ _ _ (λ bytes. Continued bytes
+    (g.R.Read.remaining c.args.device.now) (is_device c.new.result.fault)) c.self.view_is (λ held bytes. not_read _
+    c.self.inside.reel_reader.core bytes _ _ _ (ap is_device c.new.ensures.fault) refl
+    (λ xs. led_nowhere_behind c.self.inside.reel_reader.core held xs finished))
 
 pub returns-in-Ok-read-clause-ok : goal.returns-in-Ok-read-clause-ok
 returns-in-Ok-read-clause-ok g c =
@@ -30,15 +35,15 @@ returns-in-Ok-read-clause-ok g c =
       notes = c.self.inside.notes.items;
       failures = c.counted-self-inside.result;
     } in
-    reel_seen g.S.PartSink _ _ new _ (λ bytes. ReeledBehind bytes _
-    (is_device c.in-Ok-read.answer.fault)) c.self.view_is refl set_id file (λ held was.
-    let (now, has, front, reads) = end.ok held was in (
+    reel_seen g.S.PartSink _ _ new _ (λ bytes. Continued bytes _
+    (is_device c.in-Ok-read.answer.fault))
+    c.self.view_is refl set_id file (λ held was. let (now, has, front, reads) = end.ok held was in (
       now,
       has,
       front,
       some_at _ c.over-image.result.left _ _ c.over-image.ensures.unread
-          (λ bytes r. reeled_behind (is_device c.in-Ok-read.answer.fault) c.mount_behind.new.self
-          c.read-read.new.self.core held now bytes _ _ (rest_of core) c.self.inside.notes.items
+          (λ bytes r. reeled (is_device c.in-Ok-read.answer.fault) core c.mount_behind.new.self _
+          c.read-read.new.self.core held now bytes _ _ c.self.inside.notes.items
           c.self.inside.failures c.counted-self-inside.result _ _ (search rules) set_id file
           end.calm front (c.counted-self-inside.ensures
           ∙ ap (λ b. counted b c.self.inside.failures) c.is_device.ensures)
@@ -58,20 +63,14 @@ returns-in-Err-clause-err g c =
       notes = c.self.inside.notes.items;
       failures = c.self.inside.failures;
     } in
-    reel_seen g.S.PartSink _ _ new _ (λ bytes. ReelFailsBehind bytes (Sink c.in-Err.cause))
+    reel_seen g.S.PartSink _ _ new _ (λ bytes was is. ReelFailsFrom (behind_of was.place) bytes
+    (Sink c.in-Err.cause) was is)
     c.self.view_is refl set_id file (λ held was. let (now, has, front, cuts) = end.err held was in (
       now,
       has,
       front,
       some_at _ c.over-image.result.left _ _ c.over-image.ensures.unread
-          (λ bytes t. record {
-            count = refl;
-            notes = refl;
-            same_set = set_id;
-            same_file = file;
-            grows = front;
-            table = λ xs end stop b. subst (λ (z : State). IsCutAt xs z
-                (rest_of c.read-read.new.self.core) held now)
-                (c.mount_behind.ensures.table ∙ behind_rest core) (t xs end stop b);
-          }) cuts,
+          (λ bytes t. cut_short core c.mount_behind.new.self _ c.read-read.new.self.core held now bytes
+          c.self.inside.notes.items c.self.inside.failures _ _ set_id file front
+          (c.mount_behind.ensures.table ∙ behind_rest core) t) cuts,
     ))
