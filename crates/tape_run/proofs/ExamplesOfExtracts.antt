@@ -148,7 +148,8 @@ cases_of_outputs = record {
       (rw (e.once refl) at e.lines, one_pass _ _ _ _ _ (e.once refl) e.are_rounds e.are_turns);
   ends_as_told = λ session shelf left form stands said says want e.
       let (ends, goes, stood) = e.ends session.sink refl tt in rw (e.once refl) at ends;
-  only_turns_told = λ session behind shelf left form out now said says s. rw (s.once refl) at s.lines;
+  only_turns_told = λ session behind shelf left form out now said says s.
+      rw (s.once refl) at s.lines;
   only_turns_told_now = λ session shelf left form out now said says s. rw (s.once refl) at s.lines;
   stopped_there = λ s behind now fault stopped.
       stopped.1 (λ lost. let e = lost.0 in absurd (cc e)) ∙ stopped.2.parts;

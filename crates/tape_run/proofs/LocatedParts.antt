@@ -1,6 +1,6 @@
 -- The parts of images that were read, stretch after stretch.
 use Rattle.std.proofs.Common.{◌≡◌, ℕ, ◌<◌, Bool, false, List, [], ◌∷◌, ◌++◌, Option, Some, None}
-use Rattle.std.proofs.Common.{IfSome, refl, sym, ap, subst, ◌∙◌}
+use Rattle.std.proofs.Common.{IfSome, refl, sym, ap, subst}
 use Rattle.tape_blocks.specs.Block.{Portion}
 use Rattle.tape_image.specs.{Begins.Walks, Begins.Begins, Begins.Stop, Reader.IfKnown}
 use Rattle.tape_image.specs.Tape.{TapeItem}
@@ -105,7 +105,7 @@ part_on {S} {R} g remaining whole had left failed before old new after waits sam
     on_behind (Some bytes) None q r = absurd q
     on_behind {parts} {now} (Some bytes) (Some rest) q r =
         let table : (xs : List TapeItem) (end : ℕ) (stop : Stop) → Begins 0 r.given xs end stop
-            → IsLed (q.front ++ xs) (mount_of (rest_of old.core)) (rest_of new.core) parts now =
+        → IsLed (q.front ++ xs) (mount_of (rest_of old.core)) (rest_of new.core) parts now =
         λ xs end stop begins. leads_on (rest_of old.core) (rest_of new.core) q.front xs parts now
         waits (λ sound. q.passed (rest_of old.core) (sym same) less waits sound)
         (r.table xs end stop begins) in

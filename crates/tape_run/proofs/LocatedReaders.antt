@@ -77,7 +77,8 @@ mounted_broken p q e = (ap (λ r. mounted r q) e ∙ refl, ap (λ r. mounted_beh
 -- The whole image leads where the continued reading leads: its first items are skipped, or the
 -- reader is broken.
 pub leads_on : (core new : State) (front more : List TapeItem) (held now : List Portion)
-    → is_finished core.position ≡ false → (core.phase ≢ Broken → PassedOver core front (behind_of core))
+    → is_finished core.position ≡ false
+    → (core.phase ≢ Broken → PassedOver core front (behind_of core))
     → IsLed more (behind_of core) new held now → IsLed (front ++ more) (mount_of core) new held now
 leads_on core new front more held now waits over led = elim (broken_or core.phase) [
   | inl broken ↦
@@ -124,7 +125,8 @@ passes_front core new bytes left answer key waits set file ends r = elim (broken
 pub passes_on : (core new : State) (front : List TapeItem) (place : ℕ) (whole bytes left : List ℕ)
     (answer : ReelAnswer) (key : FileKey) → is_finished core.position ≡ false
     → key.set_id ≡ core.set_id → key.file ≡ core.file → EndsSection answer.answer
-    → (core.phase ≢ Broken → PassedOver core front (behind_of core)) → Walks 0 whole front place bytes
+    → (core.phase ≢ Broken → PassedOver core front (behind_of core))
+    → Walks 0 whole front place bytes
     → ReadsReel (behind_of core) bytes left answer new → PassesTo key whole left
 passes_on core new front place whole bytes left answer key waits set file ends over before r =
     elim (broken_or core.phase) [

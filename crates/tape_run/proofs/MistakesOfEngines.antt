@@ -1,5 +1,5 @@
 -- Wrong answers that the contracts of the engines exclude.
-use Rattle.std.proofs.Common.{◌≡◌, ◌≢◌, ◌⊎◌, ℕ, ◌+◌, List, [], ◌∷◌, ◌++◌, length, map, refl, ap}
+use Rattle.std.proofs.Common.{◌≡◌, ◌≢◌, ℕ, ◌+◌, List, [], ◌∷◌, ◌++◌, length, map, refl, ap}
 use Rattle.std.proofs.Common.{◌∙◌, true, false, inl, inr, arith, codes, Bool, Option, Some, None}
 use Rattle.std.proofs.Common.{Ok, option_map, ◌<◌, if◌then◌else◌}
 use Rattle.std.proofs.lemmas.Bool.{lt-ltb}

@@ -16,9 +16,9 @@ use Rattle.tape_core.specs.declared.sink.SinkFault.TheVariants.{Device, Failed}
 use Rattle.tape_core.specs.declared.sink.SinkFault.TheVariants as sink
 use Rattle.tape_run.specs.declared.fault.RunFault.TheVariants.{Sink, NoSuchPoint, TooFewReels}
 use Rattle.tape_run.specs.OutSinks.{HasTaken, IsText, RefusesText, TellsAlways, text_so_far}
-use Rattle.tape_run.specs.Reeling.{Opened, Turn, answer_of, AreTurns, IsTurn, Follows}
+use Rattle.tape_run.specs.Reeling.{Opened, Turn, answer_of, AreTurns, IsTurn, Follows, AreSteps}
 use Rattle.tape_run.specs.Reeling.{counts_differ, IsNoted, ReadsAndNotes, goes_back, IsKeptFor}
-use Rattle.tape_run.specs.Reeling.{AreFirstTurns, Took, step_behind, notes_behind, steps_of}
+use Rattle.tape_run.specs.Reeling.{AreFirstTurns, AreTold, Took, step_behind, notes_behind, steps_of}
 use Rattle.tape_run.specs.{declared.fault.EngineFault.EngineFault, declared.fault.RunFault.RunFault}
 use Rattle.tape_run.specs.declared.fault.EngineFault.TheVariants.{Run, WriteFailed}
 use Rattle.tape_run.specs.declared.fault.RunFault.TheVariants.{OutOfMemory, OtherFile}
@@ -29,7 +29,6 @@ use Rattle.tape_run.specs.{Steps.Saved, Steps.Unmoved, Steps.WentBack, OutSinks.
 use Rattle.tape_run.specs.Stopping.{IsStopped, NotNoted, StopsAt}
 use Rattle.tape_run.specs.Extracting.{IsWritten, IsPut, Ends, Extracts, Stops, TellsEnd}
 use Rattle.tape_run.specs.Extracting.{LeavesOutput, LeavesName}
-use Rattle.tape_run.specs.Reeling.{AreTold, AreSteps}
 use Rattle.tape_run.specs.declared.script.Step.TheVariants.{Reel, Save, Restart}
 
 -- ---- images one after another
@@ -153,8 +152,8 @@ ExtractsListed session behind shelf left form out written said says want =
     Extracts as_sink length Took (λ r. r) (goes_back session.notes) false session behind shelf left
     (IsWritten form out written) said says want
 
-abbrev pub StopsListed : Listed → Listed → Readers → Readers → Form → Known → Known → Known → Known
-    → Type 0
+abbrev pub StopsListed : Listed → Listed → Readers → Readers → Form → Known → Known → Known
+    → Known → Type 0
 StopsListed session behind shelf left form out written said says =
     Stops as_sink length Took (λ r. r) (goes_back session.notes) false session behind shelf left
     (LeavesOutput form (λ w. w) out written) said says WriteFailed
@@ -280,8 +279,7 @@ pub record CasesOfOutputs : Type 0 where
   -- records
   pub complete_is_named : (session : Listed) (shelf left : Readers) (form : Form)
       (out now said says : Known) (s : StopsListedNow session shelf left form out now said says)
-      → s.want ≡ None → (AppendsFront said says
-      (reel_lines 1 (map answer_of s.turns)) → ⊥)
+      → s.want ≡ None → (AppendsFront said says (reel_lines 1 (map answer_of s.turns)) → ⊥)
       → (p : Seen) × (now ≡ Some (output_of form p.parts))
   -- the parts that a sink that writes them has received
   pub taken : (form : Form) (out : Option Known) (weight records : ℕ) (begun : Bool)

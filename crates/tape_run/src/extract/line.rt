@@ -2,8 +2,7 @@
 
 ghost use Rattle.std.specs.Prelude.{◌≡◌, ◌≤◌, ◌++◌, Some};
 ghost use Rattle.arrayvec.specs.ArrayString.{array_string_len};
-ghost use Rattle.tape_run.specs.ReelLine.{answer_text, end_text, reason_text, reel_line};
-ghost use Rattle.tape_run.specs.ReelLine.{part_text, last_line};
+ghost use Rattle.tape_run.specs.ReelLine.{answer_text, end_text, reel_line, part_text, last_line};
 
 use crate::reel_reader::ReelAnswer;
 use crate::text::push_decimal;
@@ -49,40 +48,25 @@ impl fmt::Display for AnswerText {
             Answer::Deliver => write!(f, "DELIVER"),
             Answer::SectionDone => write!(f, "SECTION DONE"),
             Answer::Complete => write!(f, "COMPLETE"),
-            Answer::Useless(reason) => {
-                let reason = ReasonText(reason);
-                write!(f, "{reason}")
-            }
-        }
-    }
-}
-
-/// The text of the reason why a reading yielded nothing more.
-#[derive(Clone, Copy)]
-struct ReasonText(Reason);
-
-impl fmt::Display for ReasonText {
-    ghost output = { λ text. Some (reason_text text.0) };
-
-    fn fmt<W: fmt::Write>(&self, f: &mut fmt::Formatter<W>) -> fmt::Result {
-        match self.0 {
-            Reason::NotLabelled => write!(f, "NOT LABELLED"),
-            Reason::OtherSet => write!(f, "OTHER SET"),
-            Reason::NotOnReel => write!(f, "NOT ON REEL"),
-            Reason::LaterSection => write!(f, "LATER SECTION"),
-            Reason::EarlierSection => write!(f, "EARLIER SECTION"),
-            Reason::BadItem => write!(f, "BAD ITEM"),
-            Reason::ReelEnded => write!(f, "REEL ENDED"),
-            Reason::BadBlock(fault) => {
-                let number = fault.number();
-                let place = fault.place;
-                write!(f, "BAD BLOCK {number} {place}")
-            }
-            Reason::BlockCount { label, seen } => write!(f, "BLOCK COUNT {label} {seen}"),
-            Reason::SpanLeft => write!(f, "SPAN LEFT"),
-            Reason::SectionDiffers => write!(f, "SECTION DIFFERS"),
-            Reason::BadLabel(fault) => write!(f, "BAD LABEL {}", fault.number()),
-            Reason::Broken => write!(f, "BROKEN"),
+            Answer::Useless(reason) => match reason {
+                Reason::NotLabelled => write!(f, "NOT LABELLED"),
+                Reason::OtherSet => write!(f, "OTHER SET"),
+                Reason::NotOnReel => write!(f, "NOT ON REEL"),
+                Reason::LaterSection => write!(f, "LATER SECTION"),
+                Reason::EarlierSection => write!(f, "EARLIER SECTION"),
+                Reason::BadItem => write!(f, "BAD ITEM"),
+                Reason::ReelEnded => write!(f, "REEL ENDED"),
+                Reason::BadBlock(fault) => {
+                    let number = fault.number();
+                    let place = fault.place;
+                    write!(f, "BAD BLOCK {number} {place}")
+                }
+                Reason::BlockCount { label, seen } => write!(f, "BLOCK COUNT {label} {seen}"),
+                Reason::SpanLeft => write!(f, "SPAN LEFT"),
+                Reason::SectionDiffers => write!(f, "SECTION DIFFERS"),
+                Reason::BadLabel(fault) => write!(f, "BAD LABEL {}", fault.number()),
+                Reason::Broken => write!(f, "BROKEN"),
+            },
         }
     }
 }

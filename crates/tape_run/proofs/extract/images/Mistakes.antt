@@ -4,7 +4,8 @@ use Rattle.tape_run.proofs.extract.images.is_enough.Reads as is_enough
 
 -- rounds_end_too_early: less is missing than before the pass, but no other pass follows
 rounds_end_too_early : (κs : _) (before want : _) (s : _)
-    → is_enough.Learnt-named κs (true, (before, (Some want, tt))) true s → (Some want ≡ before → ⊥) → ⊥
+    → is_enough.Learnt-named κs (true, (before, (Some want, tt))) true s
+    → (Some want ≡ before → ⊥) → ⊥
 rounds_end_too_early κs before want s l other = elim (l.yes refl) [
   | inl none ↦ absurd (cc)
   | inr same ↦ other same

@@ -1,7 +1,6 @@
-use Rattle.std.proofs.Common.{rules, ◌≡◌, ◌∙◌, ap, Some, [], ◌∷◌}
+use Rattle.std.proofs.Common.{◌∙◌, ap}
 use Rattle.indexmap.specs.IndexMap.{insert_entry}
-use Rattle.tape_run.specs.{Noted.same_key, declared.section.Entry.Entry, Noted.noted_all}
-use Rattle.tape_run.specs.Passing.{Told, in_list}
+use Rattle.tape_run.specs.{Noted.same_key, declared.section.Entry.Entry}
 use Rattle.tape_run.proofs.Inserting.{inserted}
 use Rattle.tape_run.proofs.sections.note_told.Goals as goal
 

@@ -17,8 +17,8 @@ pub returns-then-is_none-clause-ok : goal.returns-then-is_none-clause-ok
 returns-then-is_none-clause-ok g c =
     let finished = want_none _ (rest_of c.self.inside.reel_reader.core).position c.is_none.result
     (ap is_some (sym c.want.ensures.value) ∙ c.is_none.ensures) c.if-is_none.true in
-    still_seen g.S.PartSink _ _ _ (λ bytes. Continued bytes
-    (g.R.Read.remaining c.args.device.now) (is_device c.new.result.fault)) c.self.view_is (λ held bytes. not_read _
+    still_seen g.S.PartSink _ _ _ (λ bytes. Continued bytes (g.R.Read.remaining
+    c.args.device.now) (is_device c.new.result.fault)) c.self.view_is (λ held bytes. not_read _
     c.self.inside.reel_reader.core bytes _ _ _ (ap is_device c.new.ensures.fault) refl
     (λ xs. led_nowhere_behind c.self.inside.reel_reader.core held xs finished))
 
@@ -70,7 +70,7 @@ returns-in-Err-clause-err g c =
       has,
       front,
       some_at _ c.over-image.result.left _ _ c.over-image.ensures.unread
-          (λ bytes t. cut_short core c.mount_behind.new.self _ c.read-read.new.self.core held now bytes
-          c.self.inside.notes.items c.self.inside.failures _ _ set_id file front
+          (λ bytes t. cut_short core c.mount_behind.new.self _ c.read-read.new.self.core held now
+          bytes c.self.inside.notes.items c.self.inside.failures _ _ set_id file front
           (c.mount_behind.ensures.table ∙ behind_rest core) t) cuts,
     ))
