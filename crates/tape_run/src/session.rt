@@ -67,10 +67,8 @@ impl<S: PartSink + Drop> Session<S> {
         ensures number { IsFileNumber file → IsOk result }
         ensures refused { (IsFileNumber file → ⊥) → result ≡ Err CoreFault.FileNumber }
     {
-        match ReaderCore::new(set_id, file) {
-            Ok(core) => Ok(Session::over(alloc, core, sink)),
-            Err(fault) => Err(fault),
-        }
+        let core = ReaderCore::new(set_id, file)?;
+        Ok(Session::over(alloc, core, sink))
     }
 }
 
