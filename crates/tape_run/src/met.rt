@@ -20,7 +20,7 @@ pub(crate) struct Met {
 pub(crate) type Told = (SectionKey, Entry);
 
 impl Met {
-    ghost use Rattle.tape_run.specs.Passing.{cut, closes, told, state_by, with_block};
+    ghost use Rattle.tape_run.specs.Passing.{cut, closes, told, with_block};
 
     /// Counts one more data block.
     pub(crate) fn with_block(self, bad: bool) -> Met
@@ -54,24 +54,17 @@ impl Met {
         trail.head.sect == self.key.sect && trail.head.sequence == self.key.file
     }
 
-    /// Returns the section's state, if its trailer label counts `count` blocks.
-    fn state_by(&self, count: u32) -> SectionState
-        ensures { result ≡ state_by self.now count }
+    /// Returns the description of the section, completed from its trailer label.
+    pub(crate) fn told(&self, trail: &Trail1) -> Told
+        ensures { result ≡ told self.now trail.now }
     {
-        if count != label_count(self.blocks) {
+        let state = if trail.blocks != label_count(self.blocks) {
             SectionState::Count
         } else if self.bad {
             SectionState::Bad
         } else {
             SectionState::Good
-        }
-    }
-
-    /// Returns the description of the section, completed from its trailer label.
-    pub(crate) fn told(&self, trail: &Trail1) -> Told
-        ensures { result ≡ told self.now trail.now }
-    {
-        let state = self.state_by(trail.blocks);
+        };
         let entry = Entry {
             volume: self.volume,
             blocks: self.blocks,
