@@ -34,7 +34,7 @@ const TAPE: &CommandSpec = &CommandSpec {
 #[derive(Drop)]
 pub struct Call<'a> {
     pub order: Order<'a>,
-    pub name: &'a str,
+    pub spec: &'static CommandSpec,
     /// Whether errors are to be explained.
     pub explained: bool,
 }
@@ -44,15 +44,14 @@ pub struct Call<'a> {
 pub enum Order<'a> {
     List(ListOrder<'a>),
     Init(InitOrder<'a>),
-    Check(Named<'a>),
-    Survey(Named<'a>, Wording),
+    /// `survey` if a wording is requested, and otherwise `check`.
+    Check(Named<'a>, Option<Wording>),
     Write(WriteOrder<'a>),
     Extract(ExtractOrder<'a>),
     Unpack(UnpackOrder<'a>),
     Salvage(SalvageOrder<'a>),
     Stage(StageOrder<'a>),
     Merge(MergeOrder<'a>),
-    Compare(Named<'a>),
 }
 
 /// Returns the request in the arguments `words`, the first of which is the program's name. On
@@ -78,11 +77,12 @@ pub fn call_of<'a>(alloc: Global, words: &'a [String]) -> Result<Call<'a>, Error
     let Some((name, words)) = matches.subcommand() else {
         return Err(mistake(alloc, TAPE, help::NO_COMMAND));
     };
-    check_numbers(alloc, spec_of(name), words)?;
+    let spec = spec_of(name);
+    check_numbers(alloc, spec, words)?;
     match order_of(alloc, name, words) {
         Ok(order) => Ok(Call {
-            name,
             order,
+            spec,
             explained: matches.get_flag("explain"),
         }),
         Err(refusal) => {
@@ -90,7 +90,7 @@ pub fn call_of<'a>(alloc: Global, words: &'a [String]) -> Result<Call<'a>, Error
                 Refusal::Value(word, _) => text_of(words, word),
                 _ => "",
             };
-            Err(error_in(alloc, name, value, refusal))
+            Err(error_in(alloc, spec, value, refusal))
         }
     }
 }
@@ -107,24 +107,24 @@ fn command<'a>(alloc: Global) -> Result<Command<'a>, AllocError> {
     let commands = [
         LIST, CHECK, SURVEY, COMPARE, MERGE, EXTRACT, UNPACK, SALVAGE, STAGE, INIT, WRITE,
     ];
-    for command_spec in &commands {
-        tape = tape.subcommand(command_of(alloc, *command_spec)?)?;
+    for spec in &commands {
+        tape = tape.subcommand(command_of(alloc, *spec)?)?;
     }
     Ok(tape)
 }
 
-/// Returns the usage error of command `name` for the reason `refusal`, which may be that an
-/// argument has the value `value`. If memory ran out, returns the error for that.
-pub fn error_in(alloc: Global, name: &str, value: &str, refusal: Refusal) -> Error
+/// Returns the usage error of a command for the reason `refusal`, which may be that an argument has
+/// the value `value`. If memory ran out, returns the error for that.
+pub fn error_in(alloc: Global, spec: &CommandSpec, value: &str, refusal: Refusal) -> Error
     ensures { IsMistake result }
 {
     match refusal {
-        Refusal::Words(text) => mistake(alloc, spec_of(name), text),
-        Refusal::Value(_, text) => wrong_value(alloc, spec_of(name), value, text),
+        Refusal::Words(text) => mistake(alloc, spec, text),
+        Refusal::Value(_, text) => wrong_value(alloc, spec, value, text),
         Refusal::NoText(null, number) => {
             let what = if null { "name" } else { "line" };
             match format!(in alloc; "{what} {number} {}", help::NO_TEXT_IN_LIST) {
-                Ok(text) => mistake(alloc, spec_of(name), text.as_str()),
+                Ok(text) => mistake(alloc, spec, text.as_str()),
                 Err(_) => Error::from(AllocError),
             }
         }
@@ -155,14 +155,14 @@ fn spec_of(name: &str) -> &'static CommandSpec {
 fn order_of<'a>(alloc: Global, name: &str, words: &ArgMatches<'a>) -> Result<Order<'a>, Refusal> {
     Ok(match name {
         "list" => Order::List(list_order(words)?),
-        "check" => Order::Check(named_once(alloc, words, help::TOO_MANY_TO_CHECK)?),
+        "check" => Order::Check(named_once(alloc, words, help::TOO_MANY_TO_CHECK)?, None),
         "survey" => {
-            let wording = if words.get_flag("tsv") {
-                Wording::Rows
-            } else {
-                Wording::Words
-            };
-            Order::Survey(named_once(alloc, words, help::TOO_MANY_TO_SURVEY)?, wording)
+            let rows = words.get_flag("tsv");
+            let wording = if rows { Wording::Rows } else { Wording::Words };
+            Order::Check(
+                named_once(alloc, words, help::TOO_MANY_TO_SURVEY)?,
+                Some(wording),
+            )
         }
         "extract" => Order::Extract(extract_order(alloc, words)?),
         "unpack" => Order::Unpack(unpack_order(alloc, words)?),
@@ -171,7 +171,11 @@ fn order_of<'a>(alloc: Global, name: &str, words: &ArgMatches<'a>) -> Result<Ord
         "init" => Order::Init(init_order(words)?),
         "write" => Order::Write(write_order(alloc, words)?),
         "merge" => Order::Merge(merge_order(alloc, words)?),
-        "compare" => Order::Compare(named(alloc, words, help::TOO_MANY_TO_COMPARE)?),
+        "compare" => {
+            let images = named(alloc, words, help::TOO_MANY_TO_COMPARE)?;
+            let (out, log) = (None, None);
+            Order::Merge(MergeOrder { out, log, images })
+        }
         _ => return Err(Refusal::Words(help::NO_COMMAND)),
     })
 }

@@ -50,22 +50,19 @@ const LIST: &Word = &Word("files-from", Kind::TextOption("LIST"), help::FROM);
 
 const NULL: &Word = &Word("null", Kind::Flag, help::NULL);
 
-/// Returns the parser's command for `command_spec`, with its arguments.
-pub fn command_of<'a>(
-    alloc: Global,
-    command_spec: &CommandSpec,
-) -> Result<Command<'a>, AllocError> {
-    let name = command_spec.name;
+/// Returns the parser's command for `spec`, with its arguments.
+pub fn command_of<'a>(alloc: Global, spec: &CommandSpec) -> Result<Command<'a>, AllocError> {
+    let name = spec.name;
     // The name in the usage line.
     let called = match name {
         "tape" => String::from_str(alloc, name)?,
         _ => format!(in alloc; "tape {name}")?,
     };
     let mut command = Command::new(alloc, name)
-        .about(command_spec.about)
-        .after_long_help(command_spec.after_help)
+        .about(spec.about)
+        .after_long_help(spec.after_help)
         .bin_name(called.as_str())?;
-    for word in command_spec.words {
+    for word in spec.words {
         command = command.arg(argument(alloc, word)?)?;
         match word.1 {
             Kind::AtMostOne(usage) => command = command.override_usage(usage),
@@ -110,10 +107,10 @@ fn argument<'a>(alloc: Global, word: &Word) -> Result<Arg<'a>, AllocError> {
 /// Returns a usage error that names the value and the bounds.
 pub fn check_numbers(
     alloc: Global,
-    command_spec: &CommandSpec,
+    spec: &CommandSpec,
     words: &ArgMatches<'_>,
 ) -> Result<(), Error> {
-    for word in command_spec.words {
+    for word in spec.words {
         let Word(name, kind, _) = word;
         let (dashes, least, most) = match *kind {
             Kind::Number(least, most) => ("", least, most),
@@ -126,7 +123,7 @@ pub fn check_numbers(
                 let bounds = format!(in alloc;
                     "{dashes}{name} must be a number from {least} to {most}"
                 )?;
-                return Err(wrong_value(alloc, command_spec, text, bounds.as_str()));
+                return Err(wrong_value(alloc, spec, text, bounds.as_str()));
             }
         }
     }
@@ -135,10 +132,10 @@ pub fn check_numbers(
 
 /// Returns a usage error of the command, whose usage line follows `text`. If that cannot be
 /// allocated, returns the error for out of memory.
-pub fn mistake(alloc: Global, command_spec: &CommandSpec, text: &str) -> Error
+pub fn mistake(alloc: Global, spec: &CommandSpec, text: &str) -> Error
     ensures { IsMistake result }
 {
-    let mut command = match command_of(alloc, command_spec) {
+    let mut command = match command_of(alloc, spec) {
         Ok(command) => command,
         Err(error) => return Error::from(error),
     };
@@ -150,11 +147,11 @@ pub fn mistake(alloc: Global, command_spec: &CommandSpec, text: &str) -> Error
 
 /// Returns the usage error for `value`, which is not accepted; the message shows `value` before
 /// `text`.
-pub fn wrong_value(alloc: Global, command_spec: &CommandSpec, value: &str, text: &str) -> Error
+pub fn wrong_value(alloc: Global, spec: &CommandSpec, value: &str, text: &str) -> Error
     ensures { IsMistake result }
 {
     match format!(in alloc; "invalid value \"{}\": {text}", Shown(value)) {
-        Ok(text) => mistake(alloc, command_spec, text.as_str()),
+        Ok(text) => mistake(alloc, spec, text.as_str()),
         Err(_) => Error::from(AllocError),
     }
 }

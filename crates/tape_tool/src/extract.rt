@@ -2,7 +2,6 @@
 
 mod draft;
 mod out;
-mod out_file;
 
 use crate::command_spec::{CommandSpec, Kind, Word};
 use crate::explain::FaultSite;
@@ -13,11 +12,10 @@ use crate::program::{End, end_of, extract_end};
 use crate::refusal::Refusal;
 use crate::screen::{Host, Progress};
 use crate::staging::session_in;
-use crate::words::{FORM, form_of, named, number_of, out_of, set_id_of, text_of};
+use crate::words::{FORM, form_of, named, out_of, set_id_of, text_of};
 use clap::ArgMatches;
 pub use draft::Draft;
-pub use out::{Way, way_to_out};
-pub use out_file::Output;
+pub use out::{Output, Way, way_to_out};
 use std::alloc::Global;
 use std::io::Write;
 use std::{fs, io};
@@ -74,7 +72,7 @@ pub fn extract_order<'a>(
     };
     let task = Task {
         set_id,
-        file: number_of(matches, "FILE"),
+        file: matches.get_one::<u16>("FILE").unwrap_or(0),
         out: out_of(matches, help::OUT_IS_DASH)?,
         form: form_of(matches),
         stage: matches.get_str("stage"),
@@ -154,17 +152,15 @@ fn extract_now<R: Progress>(
     }
     let output = Output::new(rt, task.out, way)?;
     match output {
-        Output::New(draft) if !task.again => {
-            let Draft { mut name, out } = draft;
+        Output::New(draft, out) if !task.again => {
+            let mut draft = draft;
             let sink = OutSink::new(out, task.form);
-            let end = match Session::new(rt.alloc(), task.set_id, task.file, sink) {
-                Ok(mut session) => {
-                    let session = &mut session;
-                    end_as_written(extract_streaming(session, images, task.form, &mut name, report))
-                }
-                Err(_) => End::WrongWords,
+            let Ok(mut session) = Session::new(rt.alloc(), task.set_id, task.file, sink) else {
+                return Ok(draft.ended(End::WrongWords));
             };
-            Ok(name.ended(end))
+            let answer = extract_streaming(&mut session, images, task.form, &mut draft, report);
+            drop(session);
+            Ok(draft.ended(end_as_written(answer)))
         }
         output => Ok(gather(task, images, output, report, &mut session)),
     }
@@ -207,21 +203,21 @@ pub fn extract_whole<'a, R: Progress, P: Write>(
     locations: &Locations,
     report: &mut P,
 ) -> Result<End, ToolFault> {
-    let Draft { mut name, out } = Draft::over(rt, task.out, None)?;
+    let (mut draft, out) = Draft::over(rt, task.out, None)?;
     let sink = OutSink::new(out, task.form);
-    let end = match Session::new(rt.alloc(), task.set_id, task.file, sink) {
-        Ok(mut session) => {
-            let session = &mut session;
-            match extract_located(session, images, mounted, locations, task.form, &mut name) {
-                Ok(Some(records)) => {
-                    let told = write_text(report, last_line(None, records).as_bytes());
-                    end_of(told.map_err(|fault| ToolFault::from(fault)))
-                }
-                Ok(None) => End::Incomplete,
-                Err(fault) => end_as_written(Err(fault)),
-            }
-        }
-        Err(_) => End::WrongWords,
+    let Ok(mut session) = Session::new(rt.alloc(), task.set_id, task.file, sink) else {
+        return Ok(draft.ended(End::WrongWords));
     };
-    Ok(name.ended(end))
+    let place = &mut draft;
+    let answer = extract_located(&mut session, images, mounted, locations, task.form, place);
+    drop(session);
+    let end = match answer {
+        Ok(Some(records)) => {
+            let told = write_text(report, last_line(None, records).as_bytes());
+            end_of(told.map_err(|fault| ToolFault::from(fault)))
+        }
+        Ok(None) => End::Incomplete,
+        Err(fault) => end_as_written(Err(fault)),
+    };
+    Ok(draft.ended(end))
 }

@@ -1,20 +1,20 @@
 //! The images that arguments and lists name, opened one at a time.
 
 ghost use Rattle.std.specs.Prelude.{⊤, length, ◌≡◌, ◌++◌, map, filter_map, slice_get, true, IfOk};
+ghost use Rattle.std.specs.Io.Buffered.{reader_remaining};
 ghost use Rattle.tape_run.specs.ReadingOrder.{reading_order};
 ghost use Rattle.tape_tool.specs.Names.{end_byte, names_in};
 
 use crate::explain::FaultSite;
 use crate::fault::FileFault;
 use crate::help;
-use crate::read_ahead::ReadAhead;
 use crate::refusal::{Refusal, open};
 use crate::screen::{Host, Progress};
 use crate::shown::Shown;
 use std::alloc::{AllocError, Global};
 use std::fs::File;
 use std::io;
-use std::io::{ErrorKind, Read};
+use std::io::{BufRead, BufReader, ErrorKind, Read};
 use tape_label::Field;
 use tape_run::{FoundFiles, ImageSource};
 
@@ -68,9 +68,9 @@ pub fn names_of<'t, 'a: 't, R: Host>(
 /// Returns the text of a list.
 fn read_list<R: Host>(rt: &R, list: List<'_>) -> Result<String, Refusal> {
     let mut bytes = Vec::new(rt.alloc());
-    let read = match InputBytes::open(rt, list.file)? {
-        InputBytes::Named(mut file) => file.read_to_end(&mut bytes),
-        InputBytes::Input(mut reader) => reader.read_to_end(&mut bytes),
+    let read = match list.file {
+        Some(path) => open(rt, path)?.read_to_end(&mut bytes),
+        None => rt.reader().read_to_end(&mut bytes),
     };
     match read {
         Ok(_) => {}
@@ -153,21 +153,11 @@ pub fn in_reading_order<'n>(
     Ok(order)
 }
 
-/// The bytes of an image or a list: those of a file, or standard input.
+/// The bytes of an image: those of a file, or standard input.
 #[derive(Drop)]
-pub enum InputBytes<R: Host> {
+enum InputBytes<R: Host> {
     Named(File),
     Input(R::Reader),
-}
-
-impl<R: Host> InputBytes<R> {
-    /// Opens the file at `path`, or standard input if that is `None`.
-    pub fn open(rt: &R, path: Option<&str>) -> Result<InputBytes<R>, FileFault> {
-        Ok(match path {
-            None => InputBytes::Input(rt.reader()),
-            Some(path) => InputBytes::Named(open(rt, path)?),
-        })
-    }
 }
 
 /// The bytes of an image. As they are read, the screen shows how many that were.
@@ -197,29 +187,50 @@ impl<R: Progress> Read for Watched<R> {
     }
 }
 
+/// The size of the read buffer of an image in bytes.
+const SIZE: usize = 32_768;
+
+/// A reader with a buffer. Reads of buffered bytes are inlined in their callers, since each block
+/// of an image takes two of them.
+#[derive(Drop)]
+pub struct ReadAhead<R> {
+    inner: BufReader<R>,
+}
+
+impl<R: Read + Drop> ReadAhead<R> {
+    /// Creates a reader of the bytes of `reader`, with an empty buffer.
+    ///
+    /// # Errors
+    ///
+    /// Returns `AllocError` if there is no memory for the buffer.
+    pub fn new(alloc: Global, reader: R) -> Result<ReadAhead<R>, AllocError>
+        ensures { IfOk result (λ ahead.
+            reader_remaining R.remaining ahead.inner ≡ R.remaining reader) }
+    {
+        match BufReader::with_capacity(alloc, SIZE, reader) {
+            Ok(inner) => Ok(ReadAhead { inner }),
+            Err(_) => Err(AllocError),
+        }
+    }
+}
+
+impl<R: Read> Read for ReadAhead<R> {
+    ghost remaining = { λ ahead. reader_remaining R.remaining ahead.inner };
+
+    #[inline(always)]
+    fn read(&mut self, buf: &mut [u8]) -> io::Result<usize> {
+        let ready = self.inner.buffer();
+        if ready.len() < buf.len() {
+            return self.inner.read(buf);
+        }
+        buf.copy_from_slice(&ready[..buf.len()]);
+        self.inner.consume(buf.len());
+        Ok(buf.len())
+    }
+}
+
 /// An open image, with a read buffer.
 pub type Image<R> = ReadAhead<Watched<R>>;
-
-/// Returns image `number`, counted from 0, of `count` images, with a read buffer.
-///
-/// # Errors
-///
-/// Returns `AllocError` if there is no memory for the buffer.
-pub fn image_of<R: Progress>(
-    rt: &R,
-    number: usize,
-    count: usize,
-    bytes: InputBytes<R::System>,
-) -> Result<Image<R>, AllocError> {
-    let watched = Watched {
-        rt: rt.clone()?,
-        image: number.saturating_add(1),
-        count,
-        bytes: 0,
-        inner: bytes,
-    };
-    ReadAhead::new(rt.alloc(), watched)
-}
 
 /// The images of a run, by their names, of which one may be standard input. Each is opened when it
 /// is mounted.
@@ -259,10 +270,26 @@ impl<'a, R: Progress> ImageSource<Image<R>> for Images<'a, R> {
         let Some(name) = self.names.get(number) else {
             return Ok(None);
         };
-        let path = Some(*name).filter(|_| self.input != Some(number));
-        let image = match InputBytes::open(self.rt.host(), path) {
-            Ok(bytes) => Some(image_of(self.rt, number, self.names.len(), bytes)?),
-            Err(_) => None,
+        let opened = if self.input == Some(number) {
+            Some(InputBytes::Input(self.rt.host().reader()))
+        } else {
+            match open(self.rt.host(), *name) {
+                Ok(file) => Some(InputBytes::Named(file)),
+                Err(_) => None,
+            }
+        };
+        let image = match opened {
+            Some(inner) => {
+                let watched = Watched {
+                    rt: self.rt.clone()?,
+                    image: number.saturating_add(1),
+                    count: self.names.len(),
+                    bytes: 0,
+                    inner,
+                };
+                Some(ReadAhead::new(self.rt.alloc(), watched)?)
+            }
+            None => None,
         };
         if let Some(reel) = &mut self.reels {
             *reel = reel.saturating_add(1);

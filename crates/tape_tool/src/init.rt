@@ -6,7 +6,7 @@ use crate::fault::ToolFault;
 use crate::help;
 use crate::refusal::Refusal;
 use crate::screen::Progress;
-use crate::words::{folder_of, number_of, prefix_of};
+use crate::words::{folder_of, prefix_of};
 use clap::ArgMatches;
 use std::io;
 use tape_run::write_text;
@@ -36,7 +36,7 @@ pub fn init_order<'a>(matches: &ArgMatches<'a>) -> Result<InitOrder<'a>, Refusal
     Ok(InitOrder {
         folder: folder_of(matches)?,
         prefix: prefix_of(matches)?,
-        count: number_of(matches, "COUNT"),
+        count: matches.get_one::<u16>("COUNT").unwrap_or(0),
     })
 }
 

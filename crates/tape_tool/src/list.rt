@@ -2,9 +2,9 @@
 
 use crate::command_spec::{CommandSpec, Kind, Word};
 use crate::explain::FaultSite;
-use crate::fault::ToolFault;
+use crate::fault::{FileFault, ToolFault};
 use crate::help;
-use crate::images::{InputBytes, image_of};
+use crate::images::Images;
 use crate::program::{End, end_of};
 use crate::refusal::Refusal;
 use crate::screen::Progress;
@@ -13,7 +13,7 @@ use clap::ArgMatches;
 use std::io;
 use std::io::BufWriter;
 use tape_image::{ImageCause, ImageFault};
-use tape_run::{ListFault, list_places_to, list_to};
+use tape_run::{ImageSource, ListFault, list_places_to, list_to};
 
 /// The request to `list`: an image at a path, or standard input.
 #[derive(Clone, Copy)]
@@ -60,8 +60,12 @@ pub fn list<'a, R: Progress>(
     *site = order
         .image
         .map_or(FaultSite::Stdin, |path| FaultSite::Image(path));
-    let bytes = InputBytes::open(rt.host(), order.image)?;
-    let mut image = image_of(rt, 0, 1, bytes).map_err(|_| NO_MEMORY)?;
+    let names = [order.image.unwrap_or("-")];
+    let images = &mut Images::new(rt, &names);
+    images.input = order.image.is_none().then_some(0);
+    let Some(mut image) = images.mount(0).map_err(|_| NO_MEMORY)? else {
+        return Err(Refusal::from(FileFault::NotOpened));
+    };
     let mut writer = BufWriter::new(rt.alloc(), io::writer(rt)).map_err(|_| NO_MEMORY)?;
     let listed = if order.offsets {
         list_places_to(rt.alloc(), &mut image, &mut writer)

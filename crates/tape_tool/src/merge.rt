@@ -2,7 +2,7 @@
 
 use crate::command_spec::{CommandSpec, Kind, Word};
 use crate::explain::FaultSite;
-use crate::extract::Draft;
+use crate::extract::{Draft, Output};
 use crate::fault::{FileFault, OUT_OF_MEMORY, ToolFault};
 use crate::help;
 use crate::images::{Images, Named, names_of};
@@ -17,11 +17,11 @@ use std::io::{Sink, Write};
 use tape_image::{ImageCause, ImageFault};
 use tape_run::{MergeEnd, MergeStop, Place, WriteFailed, merge_now};
 
-/// The request to `merge`: the readings to merge, and the files to create.
+/// The request to `merge` or `compare`: the readings, and the files to create.
 #[derive(Drop)]
 pub struct MergeOrder<'a> {
-    /// The image that is created.
-    pub out: &'a str,
+    /// The image that is created, or `None` if the readings are only compared.
+    pub out: Option<&'a str>,
     /// The path of the log to be created.
     pub log: Option<&'a str>,
     pub images: Named<'a>,
@@ -46,7 +46,7 @@ pub const COMPARE: &CommandSpec = &CommandSpec {
 };
 
 pub fn merge_order<'a>(alloc: Global, matches: &ArgMatches<'a>) -> Result<MergeOrder<'a>, Refusal> {
-    let out = out_of(matches, help::MERGED_OUT_IS_DASH)?;
+    let out = Some(out_of(matches, help::MERGED_OUT_IS_DASH)?);
     let log = matches.get_str("log");
     if let Some("-") = log {
         return Err(Refusal::Words(help::LOG_IS_DASH));
@@ -56,53 +56,44 @@ pub fn merge_order<'a>(alloc: Global, matches: &ArgMatches<'a>) -> Result<MergeO
 }
 
 /// Merges the readings named in the arguments into a new image, and creates its log if one is
-/// requested. The log gets its name before the merged image does, and loses it again if the merged
-/// image cannot get its own. On error, `site` says where it occurred.
+/// requested, or only compares them. The log gets its name before the merged image does, and loses
+/// it again if the merged image cannot get its own. On error, `site` says where it occurred.
 pub fn merge<'a, R: Progress>(
     rt: &R,
     order: &MergeOrder<'a>,
     site: &mut FaultSite<'a>,
 ) -> Result<End, Refusal> {
     let mut text = String::new(rt.alloc());
-    let names = readings_of(rt, &order.images, &mut text, site)?;
-    let names = names.as_slice();
-    *site = FaultSite::New(order.out);
-    let Draft { mut name, out } = Draft::new(rt, order.out)?;
+    let names = names_of(rt.host(), &order.images, &mut text, site)?;
+    let (names, no_rows) = (names.as_slice(), &mut io::sink());
+    if names.len() < 2 {
+        return Err(Refusal::Words(help::ONE_READING));
+    }
+    let Some(path) = order.out else {
+        *site = FaultSite::Lines;
+        return Ok(merge_files(rt, order, names, io::sink(), &mut Nowhere, no_rows, site));
+    };
+    *site = FaultSite::New(path);
+    let (mut draft, out) = Draft::new(rt, path)?;
     let end = match order.log {
-        None => {
-            let rows = &mut io::sink();
-            merge_files(rt, &order.images, names, out, &mut name, rows, None, site)
-        }
-        Some(path) => {
-            *site = FaultSite::Log(path);
-            match Draft::new(rt, path) {
-                Ok(mut draft) => {
-                    *site = FaultSite::New(order.out);
-                    let (name, rows, log) = (&mut name, &mut draft, Some(path));
-                    let end = merge_files(rt, &order.images, names, out, name, rows, log, site);
-                    if !name.has_taken() {
-                        draft.name.give_back();
+        None => merge_files(rt, order, names, out, &mut draft, no_rows, site),
+        Some(log) => {
+            *site = FaultSite::Log(log);
+            match Draft::new(rt, log) {
+                Ok((log, rows)) => {
+                    *site = FaultSite::New(path);
+                    let mut log = Output::New(log, rows);
+                    let end = merge_files(rt, order, names, out, &mut draft, &mut log, site);
+                    if !draft.has_taken() {
+                        log.give_back();
                     }
-                    draft.name.ended(end)
+                    log.ended(end)
                 }
                 Err(fault) => End::Faulted(fault),
             }
         }
     };
-    Ok(name.ended(end))
-}
-
-/// Compares the readings named in the arguments. On error, `site` says where it occurred.
-pub fn compare<'a, R: Progress>(
-    rt: &R,
-    named: &Named<'a>,
-    site: &mut FaultSite<'a>,
-) -> Result<End, Refusal> {
-    let mut text = String::new(rt.alloc());
-    let names = readings_of(rt, named, &mut text, site)?;
-    *site = FaultSite::Lines;
-    let (names, rows) = (names.as_slice(), &mut io::sink());
-    Ok(merge_files(rt, named, names, io::sink(), &mut Nowhere, rows, None, site))
+    Ok(draft.ended(end))
 }
 
 /// A destination of the merged image that discards it, for `compare`.
@@ -119,29 +110,15 @@ impl Place<Sink> for Nowhere {
     }
 }
 
-/// Returns the names of the readings, at least two.
-fn readings_of<'t, 'a: 't, R: Progress>(
-    rt: &R,
-    named: &Named<'a>,
-    text: &'t mut String,
-    site: &mut FaultSite<'a>,
-) -> Result<Vec<&'t str>, Refusal> {
-    match names_of(rt.host(), named, text, site) {
-        Ok(names) if names.len() < 2 => Err(Refusal::Words(help::ONE_READING)),
-        answer => answer,
-    }
-}
-
 /// Merges the images named `names`, and writes the rows of the log. If the error is in an image or
 /// the log, `site` says in which.
 fn merge_files<'a, R: Progress, W: Write + Drop, O: Place<W>, G: Write>(
     rt: &R,
-    named: &Named<'a>,
+    order: &MergeOrder<'a>,
     names: &[&str],
     out: W,
     place: &mut O,
     rows: &mut G,
-    log: Option<&'a str>,
     site: &mut FaultSite<'a>,
 ) -> End {
     let (images, report) = (&mut Images::new(rt, names), &mut io::writer(rt));
@@ -152,11 +129,10 @@ fn merge_files<'a, R: Progress, W: Write + Drop, O: Place<W>, G: Write>(
     };
     End::Faulted(match stop {
         MergeStop::NotOpened(number) => {
-            *site = match named.words.get(number) {
+            let words = order.images.words.as_slice();
+            *site = match words.get(number) {
                 Some(name) => FaultSite::Image(*name),
-                None => FaultSite::Listed(
-                    number.saturating_sub(named.words.len()).saturating_add(1),
-                ),
+                None => FaultSite::Listed(number.saturating_sub(words.len()).saturating_add(1)),
             };
             ToolFault::File(FileFault::NotOpened)
         }
@@ -167,7 +143,7 @@ fn merge_files<'a, R: Progress, W: Write + Drop, O: Place<W>, G: Write>(
         MergeStop::OutOfMemory => OUT_OF_MEMORY,
         MergeStop::WriteFailed => ToolFault::File(FileFault::WriteFailed),
         MergeStop::LogFailed => {
-            if let Some(path) = log {
+            if let Some(path) = order.log {
                 *site = FaultSite::Log(path);
             }
             ToolFault::File(FileFault::WriteFailed)

@@ -7,14 +7,14 @@ ghost use Rattle.tape_tool.specs.Ends.{end_of, check_end, extract_end, stage_end
 
 use crate::check::check;
 use crate::command_line::{Order, call_of, error_in};
+use crate::command_spec::CommandSpec;
 use crate::explain::{Explanation, FaultSite, explain_missing, reason_of};
 use crate::extract::extract;
 use crate::fault::{FaultLine, FileFault, OUT_OF_MEMORY, ToolFault};
 use crate::help;
 use crate::init::init;
-use crate::launch::{OddWord, keep_numbers};
 use crate::list::list;
-use crate::merge::{compare, merge};
+use crate::merge::merge;
 use crate::refusal::Refusal;
 use crate::salvage::salvage;
 use crate::screen::{Host, Line, Progress, Screen};
@@ -25,7 +25,9 @@ use crate::write::run::write;
 use clap::error::ErrorKind;
 use std::cell::Cell;
 use std::env::{Env, FillError};
-use std::{env, io};
+use std::fs::File;
+use std::os::fd::AsRawFd;
+use std::{env, fmt, io};
 use tape_run::EngineFault;
 use tape_set::Want;
 
@@ -84,7 +86,7 @@ pub fn extract_end(answer: Result<Option<Want>, EngineFault>) -> End
     match answer {
         Ok(None) => End::Done,
         Ok(Some(_)) => End::Incomplete,
-        Err(fault) => end_of(Err(ToolFault::from(fault))),
+        Err(fault) => End::Faulted(ToolFault::from(fault)),
     }
 }
 
@@ -95,7 +97,7 @@ pub fn stage_end(answer: Result<StageEnding, ToolFault>) -> End
     match answer {
         Ok(StageEnding::Whole(None)) => End::Done,
         Ok(_) => End::Incomplete,
-        Err(fault) => end_of(Err(fault)),
+        Err(fault) => End::Faulted(fault),
     }
 }
 
@@ -156,16 +158,46 @@ pub fn run_on<R: Host>(rt: &R, is_terminal: bool) -> u8 {
     end.status()
 }
 
+/// The number of standard error, the last standard stream.
+const LAST: i32 = 2;
+
+/// The error number of a process that has reached its limit of open files.
+const EMFILE: i32 = 24;
+
+/// Keeps files open under the numbers of closed standard streams. Otherwise the next file to be
+/// opened would get such a number, and would receive the program's output.
+///
+/// Reading from these files and writing to them fail, as on a closed stream.
+///
+/// # Errors
+///
+/// Returns `File` with `NotOpened` if no file can be opened although a number is free, or
+/// `OUT_OF_MEMORY`.
+fn keep_numbers<R: Host>(rt: &R) -> Result<Vec<File>, ToolFault> {
+    let mut kept = Vec::new(rt.alloc());
+    for _ in 0..=LAST {
+        // A directory has no bytes to read. If the root directory may not be read, a device that
+        // accepts no bytes and returns none takes its place.
+        match File::open(rt, "/").or_else(|_| File::open(rt, "/dev/null")) {
+            Ok(file) if file.as_raw_fd() > LAST => break,
+            Ok(file) => kept.push(file).map_err(|_| OUT_OF_MEMORY)?,
+            // No number is free, so no other file can get one of these.
+            Err(error) if error.raw_os_error() == Some(EMFILE) => break,
+            Err(_) => return Err(ToolFault::File(FileFault::NotOpened)),
+        }
+    }
+    Ok(kept)
+}
+
 /// Returns the arguments of the command line, beginning with the program's name. If they cannot be
 /// obtained, returns how the run ends.
 fn words_of<R: Progress>(rt: &R) -> Result<Vec<String>, End>
     ensures { IfErr result (λ end. end ≢ End.Done) }
 {
     match env::args(rt.host()) {
-        Ok(words) => match words.collect(rt.alloc()) {
-            Ok(words) => Ok(words),
-            Err(_) => Err(End::Faulted(OUT_OF_MEMORY)),
-        },
+        Ok(words) => words
+            .collect(rt.alloc())
+            .map_err(|_| End::Faulted(OUT_OF_MEMORY)),
         Err(error) => {
             let end = no_words_end(error.kind());
             if end != End::WrongWords {
@@ -191,6 +223,27 @@ fn words_of<R: Progress>(rt: &R) -> Result<Vec<String>, End>
     }
 }
 
+/// The line for an argument that is not UTF-8: its number, from 1, and its bytes.
+#[derive(Clone, Copy, Drop)]
+struct OddWord<'a> {
+    number: usize,
+    bytes: &'a [u8],
+}
+
+impl fmt::Display for OddWord<'_> {
+    fn fmt<W: fmt::Write>(&self, f: &mut fmt::Formatter<W>) -> fmt::Result {
+        write!(f, "  word {}: ", self.number)?;
+        for byte in self.bytes {
+            match *byte {
+                b'\\' => f.write_str("\\\\")?,
+                b' '..=b'~' => f.write_char(char::from(*byte))?,
+                byte => write!(f, "\\x{byte:02X}")?,
+            }
+        }
+        f.write_str("\n")
+    }
+}
+
 /// Executes a command line, whose first argument is the program's name. Returns how the run ends,
 /// and the site of a fault if it is to be explained.
 fn perform<'a, R: Progress>(rt: &R, words: &'a [String]) -> (End, Option<FaultSite<'a>>) {
@@ -207,19 +260,17 @@ fn perform<'a, R: Progress>(rt: &R, words: &'a [String]) -> (End, Option<FaultSi
     let done = match &call.order {
         Order::List(order) => list(rt, *order, &mut site),
         Order::Init(order) => Ok(end_of(init(rt, order, &mut site))),
-        Order::Check(named) => check(rt, named, None, &mut site),
-        Order::Survey(named, wording) => check(rt, named, Some(*wording), &mut site),
+        Order::Check(named, wording) => check(rt, named, *wording, &mut site),
         Order::Write(order) => write(rt, order, &mut site),
         Order::Extract(order) => extract(rt, order, explained, &mut site),
         Order::Unpack(order) => unpack(rt, order, &mut site),
         Order::Salvage(order) => salvage(rt, order, &mut site),
         Order::Stage(order) => stage(rt, order, &mut site),
         Order::Merge(order) => merge(rt, order, &mut site),
-        Order::Compare(named) => compare(rt, named, &mut site),
     };
     let end = match done {
         Ok(end) => end,
-        Err(refusal) => end_refused(rt, call.name, refusal),
+        Err(refusal) => end_refused(rt, call.spec, refusal),
     };
     if explained && end == End::Incomplete {
         explain_missing(rt, &call.order);
@@ -238,14 +289,14 @@ fn refuse<R: Print + Eprint>(rt: &R, error: &clap::Error) -> End
     words_end(kind, printed)
 }
 
-/// Ends a run whose command `name` is refused for the reason `refusal`.
-fn end_refused<R>(rt: &R, name: &str, refusal: Refusal) -> End
+/// Ends a run whose command is refused for the reason `refusal`.
+fn end_refused<R>(rt: &R, spec: &CommandSpec, refusal: Refusal) -> End
 where
     R: Print + Eprint + AllocGlobal,
     ensures { IsRefusalEnd refusal result }
 {
     match refusal {
         Refusal::Faulted(fault) => End::Faulted(fault),
-        _ => refuse(rt, &error_in(rt.alloc(), name, "", refusal)),
+        _ => refuse(rt, &error_in(rt.alloc(), spec, "", refusal)),
     }
 }

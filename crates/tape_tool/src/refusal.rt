@@ -58,8 +58,8 @@ pub fn same_file(one: &Metadata, other: &Metadata) -> bool {
 /// The identity of a file and, for a regular file, of its contents: their length and time.
 #[derive(Clone, Copy, PartialEq, Eq)]
 pub struct FileId {
-    device: u64,
-    number: u64,
+    pub device: u64,
+    pub number: u64,
     length: u64,
     /// The time when the file was last written, in seconds and nanoseconds.
     written: (i64, i64),
@@ -79,11 +79,6 @@ impl FileId {
             length,
             written,
         }
-    }
-
-    /// Returns whether `other` is the same file, possibly with other contents.
-    pub fn is_same(&self, other: &FileId) -> bool {
-        self.device == other.device && self.number == other.number
     }
 }
 

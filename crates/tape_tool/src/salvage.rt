@@ -8,7 +8,7 @@ use crate::images::{Images, Named, names_of};
 use crate::program::{End, check_end};
 use crate::refusal::Refusal;
 use crate::screen::Progress;
-use crate::words::{form_of, named, number_of, out_of, set_id_of, text_of};
+use crate::words::{form_of, named, out_of, set_id_of, text_of};
 use clap::ArgMatches;
 use std::alloc::Global;
 use std::io;
@@ -57,7 +57,7 @@ pub fn salvage_order<'a>(
     };
     let task = SalvageTask {
         set_id,
-        file: number_of(matches, "FILE"),
+        file: matches.get_one::<u16>("FILE").unwrap_or(0),
         content,
         form,
     };
@@ -76,8 +76,8 @@ pub fn salvage<'a, R: Progress>(
     let mut text = String::new(rt.alloc());
     let names = names_of(rt.host(), &order.images, &mut text, site)?;
     *site = FaultSite::Out(order.out);
-    let Draft { mut name, out } = Draft::new(rt, order.out)?;
+    let (mut draft, out) = Draft::new(rt, order.out)?;
     let (images, report) = (&mut Images::new(rt, names.as_slice()), &mut io::writer(rt));
-    let end = check_end(salvage_to(rt.alloc(), &order.task, images, out, &mut name, report));
-    Ok(name.ended(end))
+    let end = check_end(salvage_to(rt.alloc(), &order.task, images, out, &mut draft, report));
+    Ok(draft.ended(end))
 }

@@ -88,25 +88,19 @@ impl<R: Host> Progress for Screen<'_, R> {
     }
 
     fn show(&self, image: usize, count: usize, bytes: u64) {
-        let Some(since) = self.line.get().since else {
-            return;
-        };
-        let Ok(now) = Instant::now(self.rt) else {
-            return;
-        };
-        if now.duration_since(since) < Duration::from_millis(PAUSE) {
-            return;
+        if let Some(since) = self.line.get().since
+            && let Ok(now) = Instant::now(self.rt)
+            && now.duration_since(since) >= Duration::from_millis(PAUSE)
+        {
+            self.clear();
+            let (rt, read) = (self.rt, bytes / 1_000_000);
+            let printed = rt.eprint(format_args!("image {image} of {count}: {read} MB"));
+            self.line.set(Line {
+                // After an error nothing more is printed.
+                since: if printed.is_ok() { Some(now) } else { None },
+                is_shown: printed.is_ok(),
+            });
         }
-        self.clear();
-        let read = bytes / 1_000_000;
-        let printed = self
-            .rt
-            .eprint(format_args!("image {image} of {count}: {read} MB"));
-        self.line.set(Line {
-            // After an error nothing more is printed.
-            since: if printed.is_ok() { Some(now) } else { None },
-            is_shown: printed.is_ok(),
-        });
     }
 }
 

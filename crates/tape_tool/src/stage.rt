@@ -13,7 +13,7 @@ use crate::staging::locked_stage;
 use crate::words::{FORM, at_most_one, form_of, text_of};
 use clap::ArgMatches;
 use show::show_stage;
-use std::fs::{Metadata, OpenFile};
+use std::fs::{File, Metadata, OpenFile};
 use std::io;
 use std::io::{Error, ErrorKind, Read, Seek, SeekFrom, Write};
 use tape_blocks::Form;
@@ -61,25 +61,28 @@ pub fn stage<'a, R: Progress>(
     order: &StageOrder<'a>,
     site: &mut FaultSite<'a>,
 ) -> Result<End, Refusal> {
-    let mut way = None;
+    let mut target = None;
     if let Some(out) = order.out {
         *site = FaultSite::Out(out);
-        way = Some(way_to_out(rt.host(), out, Some(order.stage), None, &[])?);
+        target = Some((
+            out,
+            way_to_out(rt.host(), out, Some(order.stage), None, &[])?,
+        ));
     }
     *site = FaultSite::Stage(order.stage);
     let (alloc, report) = (rt.alloc(), &mut io::writer(rt));
     let file = open(rt.host(), order.stage)?;
     // No other run may write to it. On a file system without locks, other runs are not excluded.
     locked_stage(file.try_lock_shared())?;
-    let disk = buffered_file(alloc, ReadOnly { file }).map_err(|fault| ToolFault::Stage(fault))?;
-    let end = match (order.out, way) {
-        (Some(out), Some(way)) => {
+    let disk = buffered_file(alloc, ReadOnly(file)).map_err(|fault| ToolFault::Stage(fault))?;
+    let end = match target {
+        Some((out, way)) => {
             *site = FaultSite::Out(out);
             let (form, mut out) = (Some(order.form), Output::new(rt, out, way)?);
             let (shown, _) = show_stage(alloc, disk, order.damaged, form, &mut out, report);
             out.ended(stage_end(shown))
         }
-        _ => {
+        None => {
             *site = FaultSite::Lines;
             let out = &mut io::sink();
             stage_end(show_stage(alloc, disk, order.damaged, None, out, report).0)
@@ -94,17 +97,15 @@ pub fn stage<'a, R: Progress>(
 /// A file that is never changed: writing and truncating fail. Syncing does nothing and reports
 /// success, since a stage is synced when it is opened.
 #[derive(Drop)]
-struct ReadOnly<F> {
-    file: F,
-}
+struct ReadOnly(File);
 
-impl<F: Read> Read for ReadOnly<F> {
+impl Read for ReadOnly {
     fn read(&mut self, buf: &mut [u8]) -> io::Result<usize> {
-        self.file.read(buf)
+        self.0.read(buf)
     }
 }
 
-impl<F> Write for ReadOnly<F> {
+impl Write for ReadOnly {
     fn write(&mut self, _buf: &[u8]) -> io::Result<usize> {
         Err(Error::from(ErrorKind::Unsupported))
     }
@@ -114,15 +115,15 @@ impl<F> Write for ReadOnly<F> {
     }
 }
 
-impl<F: Seek> Seek for ReadOnly<F> {
+impl Seek for ReadOnly {
     fn seek(&mut self, pos: SeekFrom) -> io::Result<u64> {
-        self.file.seek(pos)
+        self.0.seek(pos)
     }
 }
 
-impl<F: OpenFile> OpenFile for ReadOnly<F> {
+impl OpenFile for ReadOnly {
     fn metadata(&self) -> io::Result<Metadata> {
-        self.file.metadata()
+        self.0.metadata()
     }
 
     fn set_len(&self, _size: u64) -> io::Result<()> {

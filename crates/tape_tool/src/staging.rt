@@ -203,9 +203,6 @@ pub fn same_file(point: &Checkpoint, set_id: Field<6>, file: u16) -> bool
     same_field(&point.set_id, &set_id) && point.file == file
 }
 
-/// A session over the stage in a file.
-type FileSession = Session<Stage<BufferedFile<File>>>;
-
 /// Opens a session over the stage in the file at `path`. If the file does not exist or is empty,
 /// creates a stage.
 ///
@@ -220,7 +217,7 @@ pub fn session_in<R: Host>(
     path: &str,
     set_id: Field<6>,
     file: u16,
-) -> Result<FileSession, ToolFault> {
+) -> Result<Session<Stage<BufferedFile<File>>>, ToolFault> {
     let mut options = OpenOptions::new();
     options.read(true).write(true).create(true);
     let Ok(kept) = options.open(rt, path) else {

@@ -30,11 +30,6 @@ pub fn text_of<'a>(matches: &ArgMatches<'a>, name: &str) -> &'a str {
     matches.get_str(name).unwrap_or("")
 }
 
-/// Returns the number in argument `name`, which is present and in its bounds: see `check_numbers`.
-pub fn number_of(matches: &ArgMatches<'_>, name: &str) -> u16 {
-    matches.get_one::<u16>(name).unwrap_or(0)
-}
-
 /// Returns the form that was requested.
 pub fn form_of(matches: &ArgMatches<'_>) -> Form {
     match matches.get_str("form") {

@@ -1,4 +1,3 @@
 //! `write`: writes file sets as images.
-pub mod report;
 pub mod run;
 pub mod words;

@@ -221,11 +221,11 @@ fn shown(alloc: Global, field: &Field<6>) -> Result<String, AllocError> {
 /// The explanation that holds whatever the images contain.
 fn general_text(order: &Order<'_>) -> &'static str {
     match order {
-        Order::Check(_) =>
+        Order::Check(_, None) =>
             "Each line LACKS names a set, a file and its first section that is complete on
   no image: look for another copy of that section. Without such a line, no
   section was found at all. 'tape survey' shows what the images are.",
-        Order::Survey(_, _) =>
+        Order::Check(_, Some(_)) =>
             "A section is missing or damaged, copies differ, or an image was not read to
   its end: the lines of the files and images say which.",
         Order::Extract(_) =>
@@ -241,7 +241,7 @@ fn general_text(order: &Order<'_>) -> &'static str {
         Order::Stage(_) =>
             "The stage has only a part of the file: the last line says which file, section
   and block are expected next. 'tape extract --stage' continues from it.",
-        Order::Merge(_) | Order::Compare(_) =>
+        Order::Merge(_) =>
             "The images differ, or not all of them were read to their end: the lines say
   where. Each line names the images by their numbers.",
         // They do not end so.

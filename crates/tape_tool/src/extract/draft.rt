@@ -8,11 +8,11 @@ use crate::program::End;
 use crate::refusal::{FileId, Taking, remove, way_to_take};
 use crate::screen::{Host, Progress};
 use std::fs::{File, OpenOptions, Permissions};
-use std::io::{BufWriter, Error, ErrorKind, Write};
+use std::io::{BufWriter, Error, ErrorKind};
 use std::os::unix::fs::{MetadataExt, PermissionsExt, fchown};
 use std::{fs, io};
 use tape_run::{Place, WriteFailed};
-use tape_writer::system::{LockFault, found, locked, sync_folder_of};
+use tape_writer::system::{LockFault, found, locked, name_in_folder, sync_folder_of};
 
 /// Returns whether the output may be written in place after creating a draft failed with error
 /// `kind`: either its directory accepts no new files, or the directory does not exist, so that
@@ -27,14 +27,20 @@ pub fn is_written_in_place(kind: ErrorKind, there: bool) -> bool
     }
 }
 
-/// The name of an output and the name of its draft.
+/// The maximum number of output bytes that are buffered.
+pub const HELD: usize = 65_536;
+
+/// The maximum number of draft names that are tried.
+const MOST_DRAFTS: u16 = 9_999;
+
+/// The draft of an output, by its path and by the output's name.
 #[derive(Drop)]
-pub struct OutName<'a, R: Progress> {
+pub struct Draft<'a, R: Progress> {
     rt: &'a R,
-    draft: String,
+    path: String,
     name: &'a str,
     /// The draft, locked while this is open: until it gets the output's name or is removed.
-    lock: File,
+    file: File,
     /// The file found under the output's name, before anything was read.
     before: Option<FileId>,
     /// Whether the draft has a name of its own.
@@ -43,119 +49,8 @@ pub struct OutName<'a, R: Progress> {
     is_taken: bool,
 }
 
-impl<R: Progress> OutName<'_, R> {
-    /// Gives the draft the owner and the permissions of the file that it will replace, as far as
-    /// the user may do that. Set-user-ID and set-group-ID permissions are not copied, since the
-    /// contents are different.
-    fn keep_rights(&self, draft: &File) -> io::Result<()> {
-        let there = fs::metadata(self.rt.host(), self.name)?;
-        let _ = fchown(draft, Some(there.uid()), Some(there.gid()));
-        let _ = draft.set_permissions(Permissions::from_mode(there.mode() & 0o777));
-        Ok(())
-    }
-
-    /// Gives the draft the output's name, and syncs the directory.
-    fn take(&mut self, file: &File) -> io::Result<()> {
-        file.sync_all()?;
-        let now = found(fs::symlink_metadata(self.rt.host(), self.name));
-        let now = now.map(|there| there.map(|there| FileId::of(&there)));
-        match way_to_take(self.before, now) {
-            Ok(Taking::New) => self.take_new()?,
-            Ok(Taking::Over) => {
-                fs::rename(self.rt.host(), self.draft.as_str(), self.name)?;
-                self.is_draft = false;
-            }
-            Err(fault) => {
-                self.is_taken = fault == FileFault::Exists;
-                return Err(Error::from(ErrorKind::Other));
-            }
-        }
-        sync_folder_of(self.rt.host(), self.name)
-    }
-
-    /// Gives the draft the output's name if no file has that name: the draft gets it as a second
-    /// name, and loses its own. On a file system without hard links, an empty file takes the name
-    /// first.
-    fn take_new(&mut self) -> io::Result<()> {
-        match fs::hard_link(self.rt.host(), self.draft.as_str(), self.name) {
-            Ok(()) => {
-                self.clear();
-                return Ok(());
-            }
-            Err(error) if error.kind() == ErrorKind::AlreadyExists => {
-                self.is_taken = true;
-                return Err(error);
-            }
-            Err(_) => {}
-        }
-        if let Err(error) = File::create_new(self.rt.host(), self.name) {
-            self.is_taken = error.kind() == ErrorKind::AlreadyExists;
-            return Err(error);
-        }
-        if let Err(error) = fs::rename(self.rt.host(), self.draft.as_str(), self.name) {
-            remove(self.rt, self.name);
-            return Err(error);
-        }
-        self.is_draft = false;
-        Ok(())
-    }
-
-    /// Removes the draft, unless it got the output's name.
-    fn clear(&mut self) {
-        if self.is_draft {
-            remove(self.rt, self.draft.as_str());
-            self.is_draft = false;
-        }
-    }
-
-    /// Returns whether the draft got the output's name.
-    pub fn has_taken(&self) -> bool {
-        !self.is_draft
-    }
-
-    /// Removes the output if the draft got its name and no other file has the name now.
-    pub fn give_back(&mut self) {
-        if self.has_taken() && has_name(self.rt.host(), &self.lock, self.name) {
-            remove(self.rt, self.name);
-        }
-    }
-
-    /// Ends a run with `end`, or with `Exists` if another file prevented the draft from getting the
-    /// output's name. Removes the draft.
-    pub fn ended(&mut self, end: End) -> End {
-        self.clear();
-        if self.is_taken {
-            return End::Faulted(ToolFault::File(FileFault::Exists));
-        }
-        end
-    }
-}
-
-impl<R: Progress> Place<BufWriter<File>> for OutName<'_, R> {
-    ghost stands = { λ _. None };
-
-    fn place(&mut self, out: BufWriter<File>) -> Result<(), WriteFailed> {
-        // The buffer is written before the file gets its name. If only the directory cannot be
-        // synced, it has the name already.
-        let Ok(draft) = out.into_inner() else {
-            return Err(WriteFailed);
-        };
-        self.take(&draft).map_err(|_| WriteFailed)
-    }
-}
-
-/// The maximum number of output bytes that are buffered.
-pub const HELD: usize = 65_536;
-
-/// A draft that gets the output's name when it is flushed, since everything is written by then.
-#[derive(Drop)]
-pub struct Draft<'a, R: Progress> {
-    pub name: OutName<'a, R>,
-    pub out: BufWriter<File>,
-}
-
-/// The maximum number of draft names that are tried.
-const MOST_DRAFTS: u16 = 9_999;
+/// A draft, and the file that is written.
+pub type Drafted<'a, R> = (Draft<'a, R>, BufWriter<File>);
 
 impl<'a, R: Progress> Draft<'a, R> {
     /// Creates a draft of the file `name`, which must not exist.
@@ -163,7 +58,7 @@ impl<'a, R: Progress> Draft<'a, R> {
     /// # Errors
     ///
     /// Returns `Exists` if it does; the other errors are those of `over`.
-    pub fn new(rt: &'a R, name: &'a str) -> Result<Draft<'a, R>, ToolFault> {
+    pub fn new(rt: &'a R, name: &'a str) -> Result<Drafted<'a, R>, ToolFault> {
         match found(fs::symlink_metadata(rt.host(), name))? {
             Some(_) => Err(ToolFault::File(FileFault::Exists)),
             None => Draft::over(rt, name, None),
@@ -179,7 +74,7 @@ impl<'a, R: Progress> Draft<'a, R> {
         rt: &'a R,
         name: &'a str,
         before: Option<FileId>,
-    ) -> Result<Draft<'a, R>, ToolFault> {
+    ) -> Result<Drafted<'a, R>, ToolFault> {
         Draft::make(rt, name, before)?.ok_or(ToolFault::File(FileFault::NotOpened))
     }
 
@@ -193,40 +88,14 @@ impl<'a, R: Progress> Draft<'a, R> {
         rt: &'a R,
         name: &'a str,
         before: Option<FileId>,
-    ) -> Result<Option<Draft<'a, R>>, ToolFault> {
-        let folder = match name.rfind('/') {
-            Some(end) => &name[..end + 1],
-            None => "",
-        };
+    ) -> Result<Option<Drafted<'a, R>>, ToolFault> {
+        let folder = name.strip_suffix(name_in_folder(name)).unwrap_or("");
         for number in 1..=MOST_DRAFTS {
             // It is short, since the output's name may be as long as the system permits. Only this
             // program uses such names.
-            let draft = format!(in rt.alloc(); "{folder}.tape-{number}.part")?;
-            match make_new(rt, draft.as_str()) {
-                Ok(Some(file)) => {
-                    let Ok(lock) = file.try_clone() else {
-                        remove(rt, draft.as_str());
-                        break;
-                    };
-                    let mut name = OutName {
-                        rt,
-                        draft,
-                        name,
-                        lock,
-                        before,
-                        is_draft: true,
-                        is_taken: false,
-                    };
-                    if before.is_some() && name.keep_rights(&file).is_err() {
-                        name.clear();
-                        break;
-                    }
-                    let Ok(out) = BufWriter::with_capacity(rt.alloc(), HELD, file) else {
-                        name.clear();
-                        return Err(OUT_OF_MEMORY);
-                    };
-                    return Ok(Some(Draft { name, out }));
-                }
+            let path = format!(in rt.alloc(); "{folder}.tape-{number}.part")?;
+            match make_new(rt, path.as_str()) {
+                Ok(Some(out)) => return Ok(Some(Draft::in_file(rt, name, before, path, out)?)),
                 Ok(None) => {}
                 Err(kind) if is_written_in_place(kind, before.is_some()) => return Ok(None),
                 Err(_) => break,
@@ -234,17 +103,125 @@ impl<'a, R: Progress> Draft<'a, R> {
         }
         Err(ToolFault::File(FileFault::NotOpened))
     }
-}
 
-impl<R: Progress> Write for Draft<'_, R> {
-    #[inline(always)]
-    fn write(&mut self, buf: &[u8]) -> io::Result<usize> {
-        self.out.write(buf)
+    /// Returns the draft of the file `name` in the new file `out` at `path`, with the owner and the
+    /// permissions of the file that it will replace, as far as the user may set them. On error,
+    /// removes the new file.
+    fn in_file(
+        rt: &'a R,
+        name: &'a str,
+        before: Option<FileId>,
+        path: String,
+        out: File,
+    ) -> Result<Drafted<'a, R>, ToolFault> {
+        let Ok(file) = out.try_clone() else {
+            remove(rt, path.as_str());
+            return Err(ToolFault::File(FileFault::NotOpened));
+        };
+        let mut draft = Draft {
+            rt,
+            path,
+            name,
+            file,
+            before,
+            is_draft: true,
+            is_taken: false,
+        };
+        if before.is_some() {
+            let Ok(there) = fs::metadata(rt.host(), name) else {
+                draft.clear();
+                return Err(ToolFault::File(FileFault::NotOpened));
+            };
+            // Set-user-ID and set-group-ID are not copied, since the contents are different.
+            let rights = Permissions::from_mode(there.mode() & 0o777);
+            let _ = fchown(&draft.file, Some(there.uid()), Some(there.gid()));
+            let _ = draft.file.set_permissions(rights);
+        }
+        let Ok(out) = BufWriter::with_capacity(rt.alloc(), HELD, out) else {
+            draft.clear();
+            return Err(OUT_OF_MEMORY);
+        };
+        Ok((draft, out))
     }
 
-    fn flush(&mut self) -> io::Result<()> {
-        self.out.flush()?;
-        self.name.take(self.out.get_ref())
+    /// Gives the draft the output's name, and syncs the directory. A name that no file had is never
+    /// taken from a file that appears meanwhile.
+    pub fn take(&mut self) -> io::Result<()> {
+        let (rt, name) = (self.rt, self.name);
+        self.file.sync_all()?;
+        let now = found(fs::symlink_metadata(rt.host(), name));
+        let now = now.map(|there| there.map(|there| FileId::of(&there)));
+        match way_to_take(self.before, now) {
+            Ok(Taking::New) => match fs::hard_link(rt.host(), self.path.as_str(), name) {
+                // The draft got it as a second name, and loses its own.
+                Ok(()) => self.clear(),
+                Err(error) if error.kind() == ErrorKind::AlreadyExists => {
+                    self.is_taken = true;
+                    return Err(error);
+                }
+                // On a file system without hard links, an empty file takes the name first.
+                Err(_) => {
+                    if let Err(error) = File::create_new(rt.host(), name) {
+                        self.is_taken = error.kind() == ErrorKind::AlreadyExists;
+                        return Err(error);
+                    }
+                    if let Err(error) = fs::rename(rt.host(), self.path.as_str(), name) {
+                        remove(rt, name);
+                        return Err(error);
+                    }
+                }
+            },
+            Ok(Taking::Over) => fs::rename(rt.host(), self.path.as_str(), name)?,
+            Err(fault) => {
+                self.is_taken = fault == FileFault::Exists;
+                return Err(Error::from(ErrorKind::Other));
+            }
+        }
+        self.is_draft = false;
+        sync_folder_of(rt.host(), name)
+    }
+
+    /// Removes the draft, unless it got the output's name.
+    fn clear(&mut self) {
+        if self.is_draft {
+            remove(self.rt, self.path.as_str());
+            self.is_draft = false;
+        }
+    }
+
+    /// Returns whether the draft got the output's name.
+    pub fn has_taken(&self) -> bool {
+        !self.is_draft
+    }
+
+    /// Removes the output if the draft got its name and no other file has the name now.
+    pub fn give_back(&mut self) {
+        if self.has_taken() && has_name(self.rt.host(), &self.file, self.name) {
+            remove(self.rt, self.name);
+        }
+    }
+
+    /// Ends a run with `end`, or with `Exists` if another file prevented the draft from getting the
+    /// output's name. Removes the draft.
+    pub fn ended(&mut self, end: End) -> End {
+        self.clear();
+        if self.is_taken {
+            return End::Faulted(ToolFault::File(FileFault::Exists));
+        }
+        end
+    }
+}
+
+impl<R: Progress> Place<BufWriter<File>> for Draft<'_, R> {
+    ghost stands = { λ _. None };
+
+    fn place(&mut self, out: BufWriter<File>) -> Result<(), WriteFailed> {
+        // The buffer is written before the file gets its name. If only the directory cannot be
+        // synced, it has the name already.
+        let Ok(_written) = out.into_inner() else {
+            return Err(WriteFailed);
+        };
+        self.take().map_err(|_| WriteFailed)
     }
 }
 
@@ -255,8 +232,14 @@ fn make_new<R: Progress>(rt: &R, path: &str) -> Result<Option<File>, ErrorKind> 
     match fs::symlink_metadata(host, path) {
         Err(error) if error.kind() == ErrorKind::NotFound => {}
         Err(error) => return Err(error.kind()),
-        Ok(left) if left.is_file() && remove_left(host, path) => {}
-        Ok(_) => return Ok(None),
+        Ok(left) if !left.is_file() => return Ok(None),
+        Ok(_) => match OpenOptions::new().read(true).write(true).open(host, path) {
+            Ok(left)
+                if left.try_lock().is_ok()
+                    && has_name(host, &left, path)
+                    && fs::remove_file(host, path).is_ok() => {}
+            _ => return Ok(None),
+        },
     }
     let file = match File::create_new(host, path) {
         Ok(file) => file,
@@ -274,20 +257,10 @@ fn make_new<R: Progress>(rt: &R, path: &str) -> Result<Option<File>, ErrorKind> 
     }
 }
 
-/// Removes the file at `path` unless a run has locked it. Returns whether the file was removed.
-fn remove_left<R: Host>(host: &R, path: &str) -> bool {
-    let mut options = OpenOptions::new();
-    options.read(true).write(true);
-    let Ok(file) = options.open(host, path) else {
-        return false;
-    };
-    file.try_lock().is_ok() && has_name(host, &file, path) && fs::remove_file(host, path).is_ok()
-}
-
 /// Returns whether `file` is the file at `path`.
 fn has_name<R: Host>(host: &R, file: &File, path: &str) -> bool {
     match (file.metadata(), fs::symlink_metadata(host, path)) {
-        (Ok(open), Ok(named)) => FileId::of(&open).is_same(&FileId::of(&named)),
+        (Ok(open), Ok(named)) => open.dev() == named.dev() && open.ino() == named.ino(),
         _ => false,
     }
 }

@@ -1,15 +1,20 @@
-//! Checks of the output of `extract`: whether it may be written, and how.
+//! The output of `extract`: whether it may be written, and how, and the file that its records are
+//! written to.
 
-use crate::fault::FileFault;
+use super::draft::{Draft, HELD};
+use crate::fault::{FileFault, OUT_OF_MEMORY, ToolFault};
 use crate::help;
 use crate::images::List;
+use crate::program::End;
 use crate::refusal::{FileId, Refusal, open, same_file};
-use crate::screen::Host;
+use crate::screen::{Host, Progress};
 use std::alloc::AllocError;
-use std::fs;
-use std::fs::Metadata;
+use std::fs::{File, Metadata, OpenOptions};
+use std::io::{BufWriter, Error, ErrorKind, Write};
+use std::os::unix::fs::MetadataExt;
+use std::{fs, io};
 use tape_image::{Ending, ImageCause, ImageReader, fill};
-use tape_writer::system::{folder_of, found, name_in_folder};
+use tape_writer::system::{folder_of, found, is_unable, name_in_folder};
 
 /// The first bytes of files that might be tapes although they are not images, each with its offset.
 /// The last two are checkpoints in the slots of a stage.
@@ -102,15 +107,10 @@ fn is_one_name<R: Host>(rt: &R, one: &str, other: &str) -> Result<bool, FileFaul
     }
 }
 
-/// Refuses with the message `text` if `path` leads to the file with metadata `there`.
-fn differs<R: Host>(
-    rt: &R,
-    there: &Metadata,
-    path: &str,
-    text: &'static str,
-) -> Result<(), Refusal> {
+/// Refuses for the reason `why` if `path` leads to the file with metadata `file`.
+fn differs<R: Host>(rt: &R, file: &Metadata, path: &str, why: &'static str) -> Result<(), Refusal> {
     match found(fs::metadata(rt, path))? {
-        Some(other) if same_file(there, &other) => Err(Refusal::Words(text)),
+        Some(other) if same_file(file, &other) => Err(Refusal::Words(why)),
         _ => Ok(()),
     }
 }
@@ -137,12 +137,141 @@ fn may_keep_a_tape<R: Host>(rt: &R, path: &str) -> Result<bool, Refusal> {
         let has_item = image.next()?.is_some();
         Ok(has_item || image.ending() == Some(Ending::Marked))
     });
-    match begins {
+    match begins.map_err(|fault| fault.cause) {
         Ok(begins) => Ok(begins),
-        Err(fault) => match fault.cause {
-            ImageCause::Device => Err(Refusal::from(FileFault::ReadFailed)),
-            ImageCause::OutOfMemory => Err(Refusal::from(AllocError)),
-            _ => Ok(false),
-        },
+        Err(ImageCause::Device) => Err(Refusal::from(FileFault::ReadFailed)),
+        Err(ImageCause::OutOfMemory) => Err(Refusal::from(AllocError)),
+        Err(_) => Ok(false),
+    }
+}
+
+/// The file that the records of an output are written to.
+#[derive(Drop)]
+pub enum Output<'a, R: Progress> {
+    /// A new file, which gets the output's name when it is flushed.
+    New(Draft<'a, R>, BufWriter<File>),
+    /// The output itself, because of its kind, or because its directory accepts no new files.
+    InPlace(BufWriter<OutFile<'a, R>>),
+}
+
+impl<'a, R: Progress> Output<'a, R> {
+    /// Returns the file to write the output at `path` to.
+    pub fn new(rt: &'a R, path: &'a str, way: Way) -> Result<Output<'a, R>, ToolFault> {
+        let before = match way {
+            Way::InPlace(before) => before,
+            Way::Renamed(before) => match Draft::make(rt, path, before)? {
+                Some((draft, out)) => return Ok(Output::New(draft, out)),
+                None => before,
+            },
+        };
+        let file = OutFile {
+            rt,
+            path,
+            before,
+            file: None,
+        };
+        let out = BufWriter::with_capacity(rt.alloc(), HELD, file).map_err(|_| OUT_OF_MEMORY)?;
+        Ok(Output::InPlace(out))
+    }
+
+    /// Ends a run with `end`, or with the reason why the output could not be created. Removes a
+    /// draft that did not get the output's name.
+    pub fn ended(&mut self, end: End) -> End {
+        match self {
+            Output::New(draft, _) => draft.ended(end),
+            Output::InPlace(out) => match &out.get_ref().file {
+                Some(Err(fault)) => End::Faulted(ToolFault::File(*fault)),
+                _ => end,
+            },
+        }
+    }
+
+    /// Removes the output again if it got its name: see `Draft::give_back`.
+    pub fn give_back(&mut self) {
+        if let Output::New(draft, _) = self {
+            draft.give_back();
+        }
+    }
+}
+
+impl<R: Progress> Write for Output<'_, R> {
+    #[inline(always)]
+    fn write(&mut self, buf: &[u8]) -> io::Result<usize> {
+        match self {
+            Output::New(_, out) => out.write(buf),
+            Output::InPlace(out) => out.write(buf),
+        }
+    }
+
+    fn flush(&mut self) -> io::Result<()> {
+        match self {
+            Output::New(_, out) => out.flush()?,
+            Output::InPlace(out) => return out.flush(),
+        }
+        match self {
+            Output::New(draft, _) => draft.take(),
+            Output::InPlace(_) => Ok(()),
+        }
+    }
+}
+
+/// A file that is created, or truncated, when something is first written to it or it is flushed.
+#[derive(Drop)]
+pub struct OutFile<'a, R: Progress> {
+    rt: &'a R,
+    path: &'a str,
+    /// The file found under the output's name, before anything was read.
+    before: Option<FileId>,
+    /// The file, or the reason why it could not be created, once that was attempted.
+    file: Option<Result<File, FileFault>>,
+}
+
+impl<R: Progress> OutFile<'_, R> {
+    /// Returns the file, which is created unless that was attempted before. A failed attempt is not
+    /// repeated: a buffer that is dropped flushes its contents once more.
+    fn made(&mut self) -> io::Result<&mut File> {
+        if self.file.is_none() {
+            self.file = Some(self.open());
+        }
+        match &mut self.file {
+            Some(Ok(file)) => Ok(file),
+            _ => Err(Error::from(ErrorKind::Other)),
+        }
+    }
+
+    /// Opens the file that was found, or creates one, and truncates it. Leaves any other file that
+    /// has appeared since then unchanged.
+    fn open(&self) -> Result<File, FileFault> {
+        let mut options = OpenOptions::new();
+        options.write(true).create(self.before.is_none());
+        let opened = options.open(self.rt.host(), self.path);
+        let file = opened.map_err(|_| FileFault::NotOpened)?;
+        let there = file.metadata().map_err(|_| FileFault::NotOpened)?;
+        let is_meant = match self.before {
+            Some(before) => before.device == there.dev() && before.number == there.ino(),
+            // Nothing can be lost if the file is empty, or not a regular one.
+            None => !there.is_file() || there.len() == 0,
+        };
+        if !is_meant {
+            return Err(FileFault::Exists);
+        }
+        if there.is_file() && file.set_len(0).is_err() {
+            return Err(FileFault::WriteFailed);
+        }
+        Ok(file)
+    }
+}
+
+impl<R: Progress> Write for OutFile<'_, R> {
+    fn write(&mut self, buf: &[u8]) -> io::Result<usize> {
+        self.made()?.write(buf)
+    }
+
+    /// Syncs the written bytes. Files that are not on a disk do not support this call.
+    fn flush(&mut self) -> io::Result<()> {
+        match self.made()?.sync_all() {
+            Err(error) if is_unable(error.kind()) => Ok(()),
+            done => done,
+        }
     }
 }

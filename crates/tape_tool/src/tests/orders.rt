@@ -56,7 +56,7 @@ const REQUESTS: &str = "
     => write dir ABC 3221225472 Spanned 2048 offset=0 full=false Lines record=None A=a
     merge out a.tap b.tap => merge out log=none a.tap b.tap
     merge out --log kept a --files-from l => merge out log=kept a lines of l
-    compare a.tap b.tap => compare a.tap b.tap
+    compare a.tap b.tap => compare log=none a.tap b.tap
 ";
 
 /// Texts, each after the first text.
@@ -101,9 +101,8 @@ fn text_of(alloc: Global, order: &Order<'_>) -> Result<String, AllocError> {
             let image = order.image.unwrap_or("none");
             format!(in alloc; "list offsets={} {image}", order.offsets)
         }
-        Order::Check(images) => format!(in alloc; "check{}", Images(images)),
-        Order::Compare(images) => format!(in alloc; "compare{}", Images(images)),
-        Order::Survey(images, wording) => {
+        Order::Check(images, None) => format!(in alloc; "check{}", Images(images)),
+        Order::Check(images, Some(wording)) => {
             let is_rows = matches!(wording, Wording::Rows);
             let wording = if is_rows { "rows" } else { "words" };
             format!(in alloc; "survey {wording}{}", Images(images))
@@ -123,8 +122,11 @@ fn text_of(alloc: Global, order: &Order<'_>) -> Result<String, AllocError> {
         ),
         Order::Write(order) => write_text(alloc, order),
         Order::Merge(order) => {
-            let log = order.log.unwrap_or("none");
-            format!(in alloc; "merge {} log={log}{}", order.out, Images(&order.images))
+            let (log, images) = (order.log.unwrap_or("none"), Images(&order.images));
+            match order.out {
+                Some(out) => format!(in alloc; "merge {out} log={log}{images}"),
+                None => format!(in alloc; "compare log={log}{images}"),
+            }
         }
         _ => recovery_text(alloc, order),
     }

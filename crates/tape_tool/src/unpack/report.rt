@@ -1,132 +1,82 @@
 //! The report of `unpack`: its lines, and how many files they were about.
 
-use super::UnpackOrder;
+use super::run::Run;
 use crate::fault::{FaultLine, ToolFault};
 use crate::program::End;
+use crate::screen::Progress;
 use arrayvec::ArrayVec;
-use std::alloc::Global;
 use std::io;
 use std::io::Write;
-use tape_label::Field;
 use tape_run::{
-    FileChoice, FoundFiles, Notice, SetFile, Tally, UnpackOutcome, is_of_set, is_read, means,
-    notice_line, report_file, report_numbers, total_line, write_text,
+    Notice, SetFile, UnpackOutcome, is_of_set, is_read, means, notice_line, report_file,
+    total_line, write_text,
 };
-
-/// The lines of the report, and how many files they were about.
-#[derive(Drop)]
-pub struct Lines<P> {
-    pub alloc: Global,
-    pub out: P,
-    pub tally: Tally,
-}
 
 /// How the unpacking of a file ends or, as an error, the fault that ends the run.
 pub type Ended = Result<End, ToolFault>;
 
-/// Reports the numbers between the previous file and this one, for which no label was found, unless
-/// files are chosen by words: their names are unknown. Returns whether there are none.
-pub fn report_gap<P: Write>(
-    choice: &FileChoice<'_>,
-    before: Option<(Field<6>, u16)>,
-    file: &SetFile,
-    lines: &mut Lines<P>,
-) -> Result<bool, ToolFault> {
-    let first = match before {
-        Some((set, number)) if set == file.set_id => number.saturating_add(1),
-        _ => 1,
-    };
-    let is_asked = choice.words.is_empty() && is_of_set(choice.set_id, file);
-    if !is_asked || first >= file.file {
-        return Ok(true);
-    }
-    let Lines { out, tally, .. } = lines;
-    report_numbers(out, tally, &file.set_id, first, file.file)?;
-    Ok(false)
-}
-
-/// Reports what was chosen and not found, the images that were not read completely, and the counts.
-/// Returns whether all that was chosen was found.
-pub fn end_report<P: Write>(
-    order: &UnpackOrder<'_>,
-    choice: &FileChoice<'_>,
-    names: &[&str],
-    met: &FoundFiles,
-    lines: &mut Lines<P>,
-) -> Result<bool, ToolFault> {
-    let found = report_absent(order, choice, met.files.as_slice(), lines)?;
-    for (at, image) in met.images.as_slice().iter().enumerate() {
-        if let (false, Some(name)) = (is_read(image), names.get(at)) {
-            notify(Notice::Unread, *name, lines)?;
-        }
-    }
-    write_text(&mut lines.out, &total_line(&lines.tally))?;
-    Ok(found)
-}
-
-/// Reports the set and the words of the choice for which no file was found, and counts them.
-/// Returns whether there are none.
-fn report_absent<P: Write>(
-    order: &UnpackOrder<'_>,
-    choice: &FileChoice<'_>,
-    files: &[SetFile],
-    lines: &mut Lines<P>,
-) -> Result<bool, ToolFault> {
-    let set_id = choice.set_id;
-    if let Some(set) = order.set
-        && !files.iter().any(|file| is_of_set(set_id, file))
-    {
-        lines.tally.count(UnpackOutcome::NotFound, 1);
-        notify(Notice::NoSet, set, lines)?;
-        return Ok(false);
-    }
-    let mut all = true;
-    for word in choice.words {
-        if !files
-            .iter()
-            .any(|file| is_of_set(set_id, file) && means(*word, file))
+impl<R: Progress, P: Write> Run<'_, R, P> {
+    /// Reports the set and the words of the choice for which no file was found, and counts them.
+    /// Returns whether there are none.
+    pub fn report_absent(&mut self) -> Result<bool, ToolFault> {
+        let (choice, met) = (self.choice, self.met);
+        let files = met.files.as_slice();
+        if let Some(set) = self.order.set
+            && !files.iter().any(|file| is_of_set(choice.set_id, file))
         {
-            lines.tally.count(UnpackOutcome::NotFound, 1);
-            notify(Notice::NoFile, *word, lines)?;
-            all = false;
+            self.tally.count(UnpackOutcome::NotFound, 1);
+            self.notify(Notice::NoSet, set)?;
+            return Ok(false);
         }
+        let mut all = true;
+        for word in choice.words {
+            if !files.iter().any(|file| is_of_set(choice.set_id, file) && means(*word, file)) {
+                self.tally.count(UnpackOutcome::NotFound, 1);
+                self.notify(Notice::NoFile, *word)?;
+                all = false;
+            }
+        }
+        Ok(all)
     }
-    Ok(all)
-}
 
-/// Prints a line about a name.
-fn notify<P: Write>(notice: Notice, name: &str, lines: &mut Lines<P>) -> Result<(), ToolFault> {
-    let line = notice_line(lines.alloc, notice, name)?;
-    Ok(write_text(&mut lines.out, line.as_slice())?)
-}
+    /// Reports the images that were not read completely, and the counts.
+    pub fn report_images(&mut self) -> Result<(), ToolFault> {
+        let (names, met) = (self.names, self.met);
+        for (name, image) in names.iter().zip(met.images.as_slice()) {
+            if !is_read(image) {
+                self.notify(Notice::Unread, *name)?;
+            }
+        }
+        Ok(write_text(&mut self.out, &total_line(&self.tally))?)
+    }
 
-/// Prints the outcome of a file with any details, and ends like this.
-pub fn tell<P: Write>(
-    file: &SetFile,
-    outcome: UnpackOutcome,
-    details: &[u8],
-    path: &str,
-    end: End,
-    lines: &mut Lines<P>,
-) -> Ended {
-    let Lines { alloc, out, tally } = lines;
-    report_file(*alloc, out, tally, file, outcome, details, path)?;
-    Ok(end)
-}
+    /// Prints a line about a name.
+    fn notify(&mut self, notice: Notice, name: &str) -> Result<(), ToolFault> {
+        let line = notice_line(self.rt.alloc(), notice, name)?;
+        Ok(write_text(&mut self.out, line.as_slice())?)
+    }
 
-/// Reports that a file failed, and with which fault.
-pub fn tell_failed<P: Write>(
-    file: &SetFile,
-    path: &str,
-    fault: ToolFault,
-    lines: &mut Lines<P>,
-) -> Ended {
-    let line = format!(in lines.alloc; "{}", FaultLine(fault))?;
-    // The fault's line without the program's name and the line feed.
-    let text = line.as_str();
-    let reason = text.strip_prefix("tape:").unwrap_or(text).trim_end();
-    let (outcome, end) = (UnpackOutcome::Failed, End::Faulted(fault));
-    tell(file, outcome, reason.as_bytes(), path, end, lines)
+    /// Prints the outcome of a file with any details, and counts it.
+    pub fn tell(
+        &mut self,
+        file: &SetFile,
+        outcome: UnpackOutcome,
+        details: &[u8],
+        path: &str,
+    ) -> Result<(), ToolFault> {
+        let (alloc, out, tally) = (self.rt.alloc(), &mut self.out, &mut self.tally);
+        Ok(report_file(alloc, out, tally, file, outcome, details, path)?)
+    }
+
+    /// Reports that a file failed, and with which fault.
+    pub fn tell_failed(&mut self, file: &SetFile, path: &str, fault: ToolFault) -> Ended {
+        let line = format!(in self.rt.alloc(); "{}", FaultLine(fault))?;
+        // The fault's line without the program's name and the line feed.
+        let text = line.as_str();
+        let reason = text.strip_prefix("tape:").unwrap_or(text).trim_end();
+        self.tell(file, UnpackOutcome::Failed, reason.as_bytes(), path)?;
+        Ok(End::Faulted(fault))
+    }
 }
 
 /// Returns what follows the first word of a line.
@@ -135,16 +85,6 @@ pub fn after_word(line: &[u8]) -> &[u8] {
         Some(end) => &line[end..],
         None => b"",
     }
-}
-
-/// Returns how the recovery of a file would end, by its sections alone; the line says which one is
-/// complete on no image.
-pub fn listed(file: &SetFile, last: &mut LastLine) -> End {
-    let Some(sect) = file.lacks else {
-        return End::Done;
-    };
-    let _ = write!(last, "LACKS {sect}\n");
-    End::Incomplete
 }
 
 /// A writer that remembers the last line, as far as its buffer has room.

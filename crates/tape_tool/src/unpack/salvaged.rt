@@ -29,7 +29,7 @@ const PIECE: usize = 4_096;
 /// The paths of the salvaged records and of their report.
 #[derive(Drop)]
 pub struct Salvaged {
-    records: String,
+    pub records: String,
     report: String,
 }
 
@@ -89,11 +89,6 @@ impl Salvaged {
         })
     }
 
-    /// Returns the path of the records.
-    pub fn path(&self) -> &str {
-        self.records.as_str()
-    }
-
     /// Writes the readable records of a file on the images named `names`; `last` remembers the last
     /// line of `salvage`.
     ///
@@ -109,23 +104,19 @@ impl Salvaged {
         last: &mut LastLine,
     ) -> Result<(), ToolFault> {
         let (records, report) = self.earlier(rt.host())?;
-        let Draft { mut name, out } = Draft::over(rt, self.records.as_str(), records)?;
+        let (mut draft, out) = Draft::over(rt, self.records.as_str(), records)?;
         let end = match Draft::over(rt, self.report.as_str(), report) {
-            Ok(draft) => {
-                let Draft {
-                    name: mut of_report,
-                    out: lines,
-                } = draft;
+            Ok((mut of_report, lines)) => {
                 let done = written(rt, task, names, out, lines, last);
                 let placed = done.and_then(|(records, report)| {
                     of_report.place(report)?;
-                    Ok(name.place(records)?)
+                    Ok(draft.place(records)?)
                 });
                 of_report.ended(end_of(placed))
             }
             Err(fault) => End::Faulted(fault),
         };
-        match name.ended(end) {
+        match draft.ended(end) {
             End::Faulted(fault) => Err(fault),
             _ => Ok(()),
         }

@@ -1,10 +1,11 @@
 //! The `write` command: writes the files that the arguments name to volumes in a directory.
 
-ghost use Rattle.std.specs.Prelude.{◌≡◌, ◌==◌, IfOk, IfErr};
-ghost use Rattle.std.specs.List.{before_first, after_first};
+ghost use Rattle.std.specs.Prelude.{◌≡◌, ◌==◌, IfOk, IfErr, OnOk, OnErr};
+ghost use Rattle.std.specs.{List.before_first, List.after_first, Io.KnownBytes.Appends};
+ghost use Rattle.tape_image.specs.Written.{AppendsFront};
+ghost use Rattle.tape_tool.specs.Report.{report};
 ghost use Rattle.tape_tool.specs.Writing.{record_length, IsNoShape, plain_head};
 
-use super::report::say;
 use super::words::WriteOrder;
 use crate::explain::FaultSite;
 use crate::fault::{FileFault, ToolFault};
@@ -12,12 +13,18 @@ use crate::help;
 use crate::program::{End, end_of};
 use crate::refusal::{Refusal, same_file};
 use crate::screen::{Host, Progress};
+use arrayvec::ArrayVec;
 use std::alloc::AllocError;
 use std::fs::Metadata;
+use std::io::Write;
 use std::{fs, io};
 use tape_blocks::Shape;
 use tape_label::{Field, Format, Head1};
-use tape_writer::system::{FolderPlan, InputFile, VOLUMES, found, image_path, write_in_folder};
+use tape_run::text::{put, put_decimal};
+use tape_run::{WriteFailed, write_text};
+use tape_writer::system::{
+    Ended, FolderPlan, InputFile, VOLUMES, found, image_path, write_in_folder,
+};
 use tape_writer::{Input, WriteFault};
 
 /// Writes files to volumes, unless that would destroy a file, and reports the volumes. One input
@@ -189,4 +196,36 @@ fn images_of<R: Host>(rt: &R, order: &WriteOrder<'_>) -> Result<Vec<Metadata>, R
         }
     }
     Ok(images)
+}
+
+/// A buffer for one line. The last line is the longest one.
+type Line = ArrayVec<u8, 64>;
+
+/// Prints a line for each volume, and one with the numbers of files and volumes.
+///
+/// # Errors
+///
+/// Returns `WriteFailed` if a write fails. The text printed so far is then a prefix of the lines.
+pub fn say<W: Write>(writer: &mut W, files: u64, ended: &[Ended]) -> Result<(), WriteFailed>
+    ensures ok { OnOk result
+        (Appends (W.contents writer.old) (W.contents writer.new) (report files ended.now)) }
+    ensures front { OnErr result
+        (AppendsFront (W.contents writer.old) (W.contents writer.new) (report files ended.now)) }
+{
+    for volume in ended {
+        let mut line = Line::new();
+        put(&mut line, b"VOLUME ");
+        put(&mut line, volume.volume.bytes());
+        put(&mut line, b" ");
+        put_decimal(&mut line, volume.size);
+        put(&mut line, b"\n");
+        write_text(writer, &line)?;
+    }
+    let mut last = Line::new();
+    put(&mut last, b"FILES ");
+    put_decimal(&mut last, files);
+    put(&mut last, b" VOLUMES ");
+    put_decimal(&mut last, ended.len() as u64);
+    put(&mut last, b"\n");
+    write_text(writer, &last)
 }

@@ -62,9 +62,8 @@ pub const WRITE: &CommandSpec = &CommandSpec {
 
 pub fn write_order<'a>(alloc: Global, matches: &ArgMatches<'a>) -> Result<WriteOrder<'a>, Refusal> {
     let prefix = prefix_of(matches)?;
-    let Some(capacity) = size_of(text_of(matches, "CAPACITY")) else {
-        return Err(Refusal::Value("CAPACITY", help::WRONG_CAPACITY));
-    };
+    let capacity = size_of(text_of(matches, "CAPACITY"));
+    let capacity = capacity.ok_or(Refusal::Value("CAPACITY", help::WRONG_CAPACITY))?;
     let files = matches.get_strs("ID=PATH").unwrap_or(&[]);
     if !files.iter().all(|file| file.contains('=')) {
         return Err(Refusal::Words("files are given as ID=PATH, for example 'PAYROLL=payroll.txt'"));

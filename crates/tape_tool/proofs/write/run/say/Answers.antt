@@ -5,7 +5,7 @@ use Rattle.tape_image.specs.Written.{AppendsFront}
 use Rattle.tape_image.proofs.Pieces.{last_front, on_err}
 use Rattle.tape_tool.specs.Report.{volume_line, files_line}
 use Rattle.tape_tool.proofs.LinesOfVolumes.{lines_more, front_of_lines}
-use Rattle.tape_tool.proofs.write.report.say.Goals as goal
+use Rattle.tape_tool.proofs.write.run.say.Goals as goal
 
 pub loop-volume-preserved : goal.loop-volume-preserved
 loop-volume-preserved g c =

@@ -3,7 +3,7 @@ use Rattle.std.proofs.Common.{drop, length, sym, ap, ◌∙◌, arith, append_as
 use Rattle.std.proofs.lemmas.List.{take-append-drop}
 use Rattle.std.specs.{Prelude.Option, Prelude.Some, Prelude.None, Io.Buffered.reader_buffer}
 use Rattle.std.specs.Io.KnownBytes.{Consumes, prepend_known}
-use Rattle.tape_tool.proofs.read_ahead.ReadAheadRead.read.Goals as goal
+use Rattle.tape_tool.proofs.images.ReadAheadRead.read.Goals as goal
 
 -- the first n buffered bytes were read
 passed : (empty : Bool) (left : Option (List ℕ)) (bytes : List ℕ) (n : ℕ)
