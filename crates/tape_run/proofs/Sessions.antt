@@ -98,8 +98,8 @@ rest_again core = ap (λ f. record core { phase = f }) (sym (resting_twice core.
 
 -- the bytes of a reel whose parts were put as the table says
 pub reeled : (failed : Bool) (core mounted start new : State) (held now : List Portion)
-    (bytes : List ℕ) (unread left : Option (List ℕ)) (notes : List Point) (f1 f2 r1 r2 : ℕ) → left ≡ unread
-    → new.set_id ≡ core.set_id → new.file ≡ core.file → r2 ≡ r1 → IsFront held now
+    (bytes : List ℕ) (unread left : Option (List ℕ)) (notes : List Point) (f1 f2 r1 r2 : ℕ)
+    → left ≡ unread → new.set_id ≡ core.set_id → new.file ≡ core.file → r2 ≡ r1 → IsFront held now
     → f2 ≡ counted failed f1 → mounted ≡ start
     → ReadsImage failed mounted new held now unread bytes
     → ReeledFrom start bytes left failed (session_of (rest_of core) held notes f1 r1)

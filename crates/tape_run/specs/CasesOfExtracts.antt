@@ -18,7 +18,8 @@ use Rattle.tape_run.specs.declared.fault.RunFault.TheVariants.{Sink, NoSuchPoint
 use Rattle.tape_run.specs.OutSinks.{HasTaken, IsText, RefusesText, TellsAlways, text_so_far}
 use Rattle.tape_run.specs.Reeling.{Opened, Turn, answer_of, AreTurns, IsTurn, Follows, AreSteps}
 use Rattle.tape_run.specs.Reeling.{counts_differ, IsNoted, ReadsAndNotes, goes_back, IsKeptFor}
-use Rattle.tape_run.specs.Reeling.{AreFirstTurns, AreTold, Took, step_behind, notes_behind, steps_of}
+use Rattle.tape_run.specs.Reeling.{AreFirstTurns, AreTold, Took, step_behind, notes_behind}
+use Rattle.tape_run.specs.Reeling.{steps_of}
 use Rattle.tape_run.specs.{declared.fault.EngineFault.EngineFault, declared.fault.RunFault.RunFault}
 use Rattle.tape_run.specs.declared.fault.EngineFault.TheVariants.{Run, WriteFailed}
 use Rattle.tape_run.specs.declared.fault.RunFault.TheVariants.{OutOfMemory, OtherFile}

@@ -70,10 +70,11 @@ pub then_elapses : {m0 m1 m2 : ℕ} {past0 past1 past2 : ℕ → List ℕ → Ty
     → Elapses m0 m1 (LeftSince past0 leaves0 s0 b0) (LeftSince past1 leaves1 s1 b1)
     (LeftTorn leaves1 s1 b1) → Elapses m1 m2 past1 past2 leaves2 → b1 ≡ []
     → NoMore (LeftTorn leaves0 s0 b0) (LeftTorn leaves1 s1 b1)
-    → ((t : ℕ) (c : List ℕ) → t ≤ m1 → leaves1 c → past1 t c) → Elapses m0 m2 (LeftSince past0 leaves0 s0 b0)
-    (LeftSince past2 leaves2 s2 b2) (LeftTorn leaves2 s2 b2)
-then_elapses {leaves1 = leaves1} {leaves2 = leaves2} {s1 = s1} {s2 = s2} b0 b2 first second none crash
-    counts = record {
+    → ((t : ℕ) (c : List ℕ) → t ≤ m1 → leaves1 c → past1 t c)
+    → Elapses m0 m2 (LeftSince past0 leaves0 s0 b0) (LeftSince past2 leaves2 s2 b2)
+    (LeftTorn leaves2 s2 b2)
+then_elapses {leaves1 = leaves1} {leaves2 = leaves2} {s1 = s1} {s2 = s2} b0 b2 first second none
+    crash counts = record {
       later = omega (arith, first.later, second.later);
       nothing_else = λ t c le was. ⊎_elim
           (λ there. ⊎_elim

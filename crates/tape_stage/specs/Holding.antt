@@ -1,6 +1,7 @@
 -- Bytes of a disk that are buffered.
-use Rattle.std.proofs.Common.{◌≡◌, ◌⊎◌, ℕ, ◌+◌, ◌≤◌, Bool, true, false, List, [], ◌++◌, length, take}
-use Rattle.std.proofs.Common.{drop, max, refl, sym, subst, arith, length-append, length-drop}
+use Rattle.std.proofs.Common.{◌≡◌, ◌⊎◌, ℕ, ◌+◌, ◌≤◌, Bool, true, false, List, [], ◌++◌}
+use Rattle.std.proofs.Common.{length, take, drop, max, refl, sym, subst, arith, length-append}
+use Rattle.std.proofs.Common.{length-drop}
 use Rattle.std.proofs.lemmas.List.{length-take-le}
 use Rattle.tape_stage.specs.{Disk.Torn, Calls.over}
 

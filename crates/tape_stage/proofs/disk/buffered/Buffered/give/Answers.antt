@@ -1,5 +1,5 @@
-use Rattle.std.proofs.Common.{◌≡◌, ◌∙◌, ◌+◌, ◌-◌, ◌≤◌, ◌<◌, ◌%◌, ◌^◌, List, ℕ, length, take, drop, min}
-use Rattle.std.proofs.Common.{ap, subst, arith}
+use Rattle.std.proofs.Common.{◌≡◌, ◌∙◌, ◌+◌, ◌-◌, ◌≤◌, ◌<◌, ◌%◌, ◌^◌, List, ℕ, length}
+use Rattle.std.proofs.Common.{take, drop, min, ap, subst, arith}
 use Rattle.std.proofs.lemmas.List.{length-take-le, length-drop, take-take, take_at}
 use Rattle.tape_stage.proofs.HoldingLaws.{held_piece}
 use Rattle.tape_stage.proofs.disk.buffered.Buffered.give.Goals as goal
