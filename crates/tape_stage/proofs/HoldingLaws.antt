@@ -4,6 +4,7 @@ use Rattle.std.proofs.Common.{take, drop, sym, ap, ◌∙◌, subst, arith, leng
 use Rattle.std.proofs.Common.{Bool, true, false, refl, append_assoc}
 use Rattle.std.specs.List.{slice_range}
 use Rattle.std.proofs.lemmas.List.{length-take-le, take_at, drop_at, take-append-drop, drop-drop}
+use Rattle.std.proofs.lemmas.List.{take_all}
 use Rattle.std.proofs.{lemmas.List.take-append-le, lemmas.List.Folds.drop_split}
 use Rattle.std.proofs.{lemmas.Bool.cases_lt, Math.ListN.drop_of_length-le, Math.Seq.take-add}
 use Rattle.tape_stage.specs.Calls.{over}
@@ -91,22 +92,22 @@ then_elapses {leaves1 = leaves1} {leaves2 = leaves2} {s1 = s1} {s2 = s2} b0 b2 f
     }
 
 -- the contents that a crash may leave after the buffer is written and a call is made on the disk
-module _ (old mid new : List ℕ → Type 0) (s : ℕ) (b : List ℕ) where
-  pub then_stays : b ≡ [] → NoMore (LeftTorn mid s b) old → NoMore new mid
-      → NoMore (LeftTorn new s b) old
-  then_stays none stays more c left = none_left new s b c
-      (more c (left_none mid s _ c none (stays c left)))
+module _ (old mid new : List ℕ → Type 0) {s0 s1 : ℕ} (b0 b1 : List ℕ) where
+  pub then_stays : b0 ≡ [] → NoMore (LeftTorn mid s0 b0) old → NoMore new mid
+      → NoMore (LeftTorn new s1 b1) old
+  then_stays none stays more c left = none_left new s1 b1 c
+      (more c (left_none mid s0 _ c none (stays c left)))
 
-  pub then_follows : (step : List ℕ → List ℕ → Type 0) → b ≡ [] → NoMore old (LeftTorn mid s b)
-      → Follows step mid new → Follows step old (LeftTorn new s b)
+  pub then_follows : (step : List ℕ → List ℕ → Type 0) → b1 ≡ [] → NoMore old (LeftTorn mid s0 b0)
+      → Follows step mid new → Follows step old (LeftTorn new s1 b1)
   then_follows step none crash follows c left =
-      let (d, was, stepped) = follows c (left_none new s _ c none left) in
-      (d, crash d (none_left mid s b d was), stepped)
+      let (d, was, stepped) = follows c (left_none new s1 _ c none left) in
+      (d, crash d (none_left mid s0 b0 d was), stepped)
 
-  pub then_allows : (step : List ℕ → List ℕ → Type 0) → b ≡ [] → NoMore (LeftTorn mid s b) old
-      → Allows step mid new → Allows step old (LeftTorn new s b)
-  then_allows step none stays allows d c left torn = none_left new s b c
-      (allows d c (left_none mid s _ d none (stays d left)) torn)
+  pub then_allows : (step : List ℕ → List ℕ → Type 0) → b0 ≡ [] → NoMore (LeftTorn mid s0 b0) old
+      → Allows step mid new → Allows step old (LeftTorn new s1 b1)
+  then_allows step none stays allows d c left torn = none_left new s1 b1 c
+      (allows d c (left_none mid s0 _ d none (stays d left)) torn)
 
 -- two torn writes, one after the other, are one torn write
 pub torn_one : (p m n : ℕ) (d e c : List ℕ) → Torn p m d e → Torn (p + m) n e c → Torn p (m + n) d c
@@ -259,6 +260,13 @@ held_piece p at n place bytes old there le few =
     (omega (arith, there, few)) (take-append-le (p + length bytes) all
     (drop (p + length bytes) old) (omega (arith, long))))
     ∙ ap (λ k. take k (drop place (with_held p bytes old))) (omega arith)
+
+-- bytes written twice are there as if they were written once
+pub held_twice : (p : ℕ) (bytes old : List ℕ) → p ≤ length old
+    → with_held p bytes (with_held p bytes old) ≡ with_held p bytes old
+held_twice p bytes old le = held_same p bytes (with_held p bytes old)
+    (sym (take_all (length bytes) bytes (omega arith))
+    ∙ held_piece p 0 (length bytes) p bytes old (omega arith) le (omega arith))
 
 -- two consecutive slices are a slice of both lengths
 pub slices_join : (xs front rest : List ℕ) (place n m size : ℕ) → n + m ≡ size

@@ -17,8 +17,8 @@ use crate::disk::{Disk, DiskFault, fail};
 /// not change the result of a read, and the next call tries to write them again. Dropping the disk
 /// drops them, since no sync has promised to keep them.
 ///
-/// Consecutive reads of any length read each byte of the disk once. Writing, truncating and syncing
-/// drop the bytes read ahead.
+/// Consecutive reads of any length read each byte of the disk once. The next write or truncation
+/// drops the bytes read ahead.
 ///
 /// A call fails only if the disk fails in it.
 #[derive(Drop)]
@@ -67,12 +67,9 @@ impl<D: Disk> Buffered<D> {
         self.disk
     }
 
-    /// Writes the bytes that are to be written, and empties the buffer. If that fails, they stay
-    /// buffered, and the next call tries again.
+    /// Writes the bytes that are to be written. If that fails, the next call tries again.
     #[inline(never)]
     fn pass_on(&mut self) -> Result<(), DiskFault>
-        ensures empty { OnOk result (self.new.bytes.items ≡ []) }
-        ensures start { OnOk result (self.new.start ≡ 0) }
         ensures clean { OnOk result (self.new.on_disk ≡ true) }
         ensures looks { Looks ⟦<Self as Disk>⟧ self.old self.new }
         ensures stays { D.is_honest self.old.disk → let b = ⟦<Self as Disk>⟧ in
@@ -81,15 +78,11 @@ impl<D: Disk> Buffered<D> {
         ensures calm { OnOk result (self.new.failed ≡ self.old.failed) }
     {
         if self.on_disk {
-            self.bytes.clear();
-            self.start = 0;
             return Ok(());
         }
         let Ok(()) = self.disk.write_at(self.start, self.bytes.as_slice()) else {
             return Err(fail(&mut self.failed));
         };
-        self.bytes.clear();
-        self.start = 0;
         self.on_disk = true;
         Ok(())
     }
@@ -120,7 +113,6 @@ impl<D: Disk> Buffered<D> {
     fn look_ahead(&mut self, place: u64, size: usize)
         requires there { place ≤ D.length_of self.old.disk }
         requires clean { self.old.on_disk ≡ true }
-        requires empty { self.old.bytes.items ≡ [] }
         ensures looks { Looks D.Disk self.old.disk self.new.disk }
         ensures clean { self.new.on_disk ≡ true }
         ensures calm { self.new.failed ≡ self.old.failed }
@@ -147,7 +139,6 @@ impl<D: Disk> Buffered<D> {
     fn look(&mut self, place: u64, buf: &mut [u8]) -> Result<(), DiskFault>
         requires there { place + length buf.old ≤ D.length_of self.old.disk }
         requires clean { self.old.on_disk ≡ true }
-        requires empty { self.old.bytes.items ≡ [] }
         ensures bytes { D.is_honest self.old.disk → OnOk result (buf.new
             ≡ slice_range (D.seen self.old.disk) place (place + length buf.old)) }
         ensures looks { Looks D.Disk self.old.disk self.new.disk }
@@ -231,6 +222,8 @@ impl<D: Disk> Disk for Buffered<D> {
             return Ok(());
         }
         self.pass_on()?;
+        self.bytes.clear();
+        self.start = 0;
         if bytes.len() > self.bytes.capacity() || !is_low {
             return match self.disk.write_at(place, bytes) {
                 Ok(()) => Ok(()),
@@ -245,6 +238,8 @@ impl<D: Disk> Disk for Buffered<D> {
 
     fn cut(&mut self, len: u64) -> Result<(), DiskFault> {
         self.pass_on()?;
+        self.bytes.clear();
+        self.start = 0;
         match self.disk.cut(len) {
             Ok(()) => Ok(()),
             Err(_) => Err(fail(&mut self.failed)),

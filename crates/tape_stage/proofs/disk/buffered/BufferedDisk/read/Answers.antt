@@ -1,4 +1,4 @@
-use Rattle.std.proofs.Common.{◌≡◌, ◌∙◌, ◌-◌, ◌++◌, [], List, ℕ, length, take, drop, ap, arith}
+use Rattle.std.proofs.Common.{◌≡◌, ◌∙◌, ◌-◌, ◌++◌, [], List, ℕ, length, take, drop, ap, sym, arith}
 use Rattle.std.proofs.Common.{append-nil}
 use Rattle.std.proofs.lemmas.List.{length-take-le, length-drop, drop_all}
 use Rattle.tape_stage.specs.Holding.{with_held}
@@ -12,8 +12,9 @@ returns-clause-bytes g c honest =
     let given = c.give-given.ensures in
     let passed = c.in_ok-pass_on.ensures in
     let seen : List ℕ = with_held h.start h.bytes.items (g.D.Disk.seen h.disk) in
+    let onward = passed.looks.honest.onward honest in
     let same : g.D.Disk.seen c.pass_on.new.self.disk ≡ seen =
-    rw (passed.start, passed.empty) at (passed.looks.same honest) in
+    sym (c.pass_on.new.self.right onward passed.clean) ∙ passed.looks.same honest in
     let buf : List ℕ = c.give-given.new.buf in
     let n : ℕ = c.give-given.result in
     let m : ℕ = length (take (length buf - n) (drop n buf)) in
@@ -25,7 +26,7 @@ returns-clause-bytes g c honest =
     ∙ ap (λ l. take n buf ++ l) (append-nil c.look.new.buf)
     ∙ slices_join seen _ _ c.args.place n m _
     (omega (arith, size, c.give-given.auto.buf, given.few)) (given.bytes honest) (rw same at is))
-    (c.look.ensures.bytes (passed.looks.honest.onward honest))
+    (c.look.ensures.bytes onward)
 
 pub returns-clause-crash : goal.returns-clause-crash
 returns-clause-crash g c honest x left =

@@ -48,15 +48,22 @@ returns-in_err-pass_on-clause-crash g c honest x left = (
 pub returns-clause-stays : goal.returns-clause-stays
 returns-clause-stays g c honest x left =
     let passed = c.in_ok-pass_on.ensures in
-    rw (c.extend_from_slice-2.ensures.items, c.unwrap-2.ensures, passed.empty)
+    rw (c.extend_from_slice-2.ensures.items, c.unwrap-2.ensures, c.clear.ensures.items)
     (begun_allows _ _ _ _ _ _ (all_written _ _ passed.clean) (passed.stays honest) x x left
     (torn_same c.args.place (length c.args.bytes.now) x))
 
 pub returns-clause-any : goal.returns-clause-any
 returns-clause-any g c honest =
     let passed = c.in_ok-pass_on.ensures in
-    rw (c.extend_from_slice-2.ensures.items, c.unwrap-2.ensures, passed.empty)
+    rw (c.extend_from_slice-2.ensures.items, c.unwrap-2.ensures, c.clear.ensures.items)
     (begun_allows _ _ _ _ _ _ (all_written _ _ passed.clean) (passed.stays honest))
+
+pub returns-clause-time : goal.returns-clause-time
+returns-clause-time g c honest =
+    let passed = c.in_ok-pass_on.ensures in
+    then_elapses _ _ (passed.looks.time honest) (elapses_self _ _ _)
+    (all_written _ _ passed.clean) (passed.looks.crash honest)
+    (λ t x. g.met.D.Disk.counts_now _ t x (passed.looks.honest.onward honest))
 
 -- ---- the buffer written, and then more bytes than fit in it
 
