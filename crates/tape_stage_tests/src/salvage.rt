@@ -11,11 +11,13 @@ use tape_stage::{MemoryDisk, Stage, StageFault};
 const FOURTEEN_2: &[u8; 80] =
     b"TPCK2ABC00100010001000000000000002R01D0000000PAYROLL          000000000000014   ";
 
-/// Returns whether the walk returns exactly `parts`, each a complete record, and a second walk does
-/// the same.
+/// Returns whether the walk over an opened stage returns exactly `parts`, each a complete record,
+/// and a second walk does the same.
 fn gives_parts(stage: &mut Stage<MemoryDisk>, parts: &[&[u8]]) -> bool {
-    for _ in 0..2 {
-        stage.rewind();
+    for again in [false, true] {
+        if again {
+            stage.rewind();
+        }
         for bytes in parts {
             match stage.next_part() {
                 Ok(Some(part)) => {

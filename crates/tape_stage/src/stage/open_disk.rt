@@ -126,6 +126,8 @@ impl<D: Disk> Stage<D> {
             → (back ≡ opened.1) × (there ≡ parts))) }
         ensures survives { D.is_honest disk → IfOk result (λ opened. Survives opened.0) }
         ensures weight { IfOk result (λ opened. opened.0.weight ≡ opened.1.staged) }
+        // A walk over the parts begins with the first.
+        ensures walk { IfOk result (λ opened. opened.0.walked ≡ 0) }
         ensures calm { IfOk result (λ opened. opened.0.refused ≡ 0) }
         ensures any_moment { D.is_honest disk
             → IfOk result (λ opened. OpensOver D.Disk disk opened.0.disk) }

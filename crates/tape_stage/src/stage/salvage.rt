@@ -41,6 +41,8 @@ impl<D: Disk> Stage<D> {
         ensures sealed { IfOk result (λ opened. (opened.stage.failed ≡ true)
             × (opened.stage.readable ≡ true)) }
         ensures point { IfOk result (λ opened. opened.stage.acknowledged ≡ opened.point) }
+        // A walk over the parts begins with the first.
+        ensures walk { IfOk result (λ opened. opened.stage.walked ≡ 0) }
         ensures calm { IfOk result (λ opened. (opened.stage.refused ≡ 0)
             × (D.faults opened.stage.disk ≡ D.faults disk)) }
         // Nothing is written to the disk, honest or not, and its length does not change.
