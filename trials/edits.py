@@ -66,11 +66,12 @@ class Edit:
 
     def __init__(self, crate, path):
         self.name, self.pairs, self.functions = os.path.basename(path)[:-5], read_edit(path), set()
+        self.errors = []
         texts = {file: text_of(f"{crate}/{file}") for file, _, _ in self.pairs}
         for file, old, new in self.pairs:
             found = texts[file].count(old)
             if found != 1:
-                sys.exit(f"{path}: its text occurs {found} times in {file}, not once")
+                self.errors.append(f"{path}: its text occurs {found} times in {file}, not once")
             line = texts[file][: texts[file].find(old)].count("\n") + 1
             self.functions.add((file, *function_at(texts[file].split("\n"), line)))
             texts[file] = texts[file].replace(old, new)
@@ -152,10 +153,9 @@ def alone(crate, edit):
     return word, why
 
 
-def try_crate(crate):
+def try_crate(crate, edits):
     """Tries all edits of a crate, and prints the result of each."""
-    edits, began, words = edits_of(crate), time.time(), []
-    groups = groups_of(crate, edits)
+    began, words, groups = time.time(), [], groups_of(crate, edits)
     for group in groups:
         said, _ = checked(crate, group)
         for edit in group:
@@ -195,11 +195,14 @@ def copy_tree(to, names):
 
 
 def main(names):
-    all_names = list(crates_below())
+    edits = {it: edits_of(f"{TOP}/crates/{it}") for it in names or crates_below()}
+    errors = [line for of_crate in edits.values() for edit in of_crate for line in edit.errors]
+    if errors:
+        sys.exit("\n".join(errors))
     with tempfile.TemporaryDirectory() as room:
-        copy_tree(f"{room}/copy", names or all_names)
-        crates = [f"{room}/copy/crates/{it}" for it in names or all_names]
-        return 1 if sum(try_crate(it) for it in crates if edits_of(it)) else 0
+        copy_tree(f"{room}/copy", edits)
+        found = [try_crate(f"{room}/copy/crates/{it}", edits[it]) for it in edits if edits[it]]
+    return 1 if sum(found) else 0
 
 
 if __name__ == "__main__":
