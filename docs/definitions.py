@@ -8,7 +8,8 @@ not add much to have their names only. The rest of the page is written by hand a
     docs/definitions.py           writes the list
     docs/definitions.py --check   says if the list is out of date, with status 1
 
-Both also report names of READ, and of the text written by hand, that are not defined (status 1).
+Both also report names of READ, of the text written by hand, and of files in three tables, that do not
+exist (status 1).
 """
 import collections
 import os
@@ -24,6 +25,10 @@ Definition = collections.namedtuple("Definition", "name words comment")
 
 # Definitions of the standard library that the page names.
 OF_STD = {"Appends", "Keeps", "Consumes", "IsAtEnd"}
+
+# Pages with tables of files in specs/, and a text above each table.
+TABLES = [("CONTRACTS.md", "## What else to read"), ("DEFINITIONS.md", "By crate, these files"),
+          ("ARCHITECTURE.md", "## Where to change what")]
 
 # Of a file all definitions count, and these have their comments on the page.
 Main = collections.namedtuple("Main", "names")
@@ -175,11 +180,21 @@ def unknown_words(text):
     return sorted(words - known_names() - OF_STD)
 
 
+def unknown_files(page, above):
+    """Names in the table below a text, outside code, that are not names of files in specs/."""
+    table = read("docs", page).partition(above)[2].partition("--|\n")[2].partition("\n\n")[0]
+    walk = os.walk(os.path.join(TOP, "crates"))
+    files = {it for at, _, names in walk if at.endswith("/specs") for it in names}
+    words = set(re.findall(r"\b[A-Z][a-z]\w*", re.sub(r"`[^`]*`", "", table)))
+    return [f"{page}: no {it}.antt" for it in sorted(words) if f"{it}.antt" not in files]
+
+
 def main():
     old = read("docs", "DEFINITIONS.md")
     text, wrong = the_list()
     new = PLACE.sub(lambda it: it[1] + "\n" + text + it[2], old)
     wrong += [f"DEFINITIONS.md: `{word}` is not defined" for word in unknown_words(old)]
+    wrong += [line for page, above in TABLES for line in unknown_files(page, above)]
     if sys.argv[1:] == ["--check"]:
         wrong += ["DEFINITIONS.md is out of date: run docs/definitions.py"] * (new != old)
     elif new != old:
