@@ -72,8 +72,8 @@ pub enum Reason {
     /// The file's last section ends inside a record.
     SpanLeft,
     /// The section's labels differ from those of earlier sections, or its trailer differs from its
-    /// own header, or the section is too long, or the block differs from the one whose first parts
-    /// were delivered.
+    /// own header, or the section is too long, or it has fewer blocks than were delivered, or the
+    /// block differs from the one whose first parts were delivered.
     SectionDiffers,
     /// A block that should be a label cannot be read as a label. For a tape mark instead of a label
     /// the cause is `Identifier`.

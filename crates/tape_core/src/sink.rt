@@ -22,10 +22,13 @@ pub enum SinkFault {
     /// The device of the sink failed in this call.
     #[error("the sink's device failed")]
     Device,
-    /// The total weight of the parts would exceed 999,999,999,999,999.
+    /// The total weight of the parts would exceed 999,999,999,999,999, or a stage has no generation
+    /// left.
     #[error("the sink is full")]
     Full,
-    /// An earlier call failed, and the contents have been unknown since.
+    /// An earlier call failed, and the contents have been unknown since; or the sink does not allow
+    /// this change, such as a stage opened for reading only or an output that is already written;
+    /// or a part to be returned is missing.
     #[error("the sink failed before")]
     Failed,
 }
@@ -69,8 +72,8 @@ pub trait PartSink {
     ///
     /// # Errors
     ///
-    /// Returns `Full` if the total weight would exceed 999,999,999,999,999, otherwise the error of
-    /// the sink's memory or device. On error the contents are unchanged.
+    /// Returns `Full` if the total weight would exceed 999,999,999,999,999, otherwise `OutOfMemory`,
+    /// `Device` or `Failed` of the sink. On error the contents are unchanged.
     fn put(&mut self, part: Part<'_>) -> Result<(), SinkFault>
         requires { length part.bytes.now ≤ longest_block }
         ensures ok { OnOk result ((parts : List Portion) → holds self.old parts
@@ -93,8 +96,8 @@ pub trait PartSink {
     ///
     /// # Errors
     ///
-    /// Returns the error of the sink's device. On any error except `Device` the contents are
-    /// unchanged.
+    /// Returns `Device`, `Failed` or `Full` of the sink. On any error except `Device` the contents
+    /// are unchanged.
     fn cut_to(&mut self, point: &Checkpoint) -> Result<(), SinkFault>
         requires { point.now.staged ≤ weighs self.old }
         ensures weight { OnOk result (weighs self.new ≤ point.now.staged) }
@@ -114,7 +117,7 @@ pub trait PartSink {
     ///
     /// # Errors
     ///
-    /// Returns the error of the sink's device. The contents are unchanged.
+    /// Returns `Device`, `Failed` or `Full` of the sink. The contents are unchanged.
     fn keep(&mut self, point: &Checkpoint) -> Result<(), SinkFault>
         requires { point.now.staged ≡ weighs self.old }
         ensures same_weight { weighs self.new ≡ weighs self.old }

@@ -27,6 +27,8 @@ pub(crate) fn fail(failed: &mut u64) -> DiskFault
     DiskFault::Device
 }
 
+/// A disk, which stores a stage's bytes: it is read and written at any offset, truncated and
+/// synced.
 pub trait Disk {
     /// Whether the contract of each call holds in full; on other disks only the contracts about
     /// lengths and counts hold. After a failed sync, a disk may no longer be honest.

@@ -63,7 +63,8 @@ pub enum StageFault {
     /// There was no memory for the buffer.
     #[error("out of memory")]
     OutOfMemory,
-    /// The disk failed in an earlier call. The stage must be opened again.
+    /// The disk failed in an earlier call, and the stage must be opened again; or the stage was
+    /// opened for reading only.
     #[error("the stage failed before")]
     Failed,
     /// The weight or the generation would exceed 999,999,999,999,999. Nothing was changed.

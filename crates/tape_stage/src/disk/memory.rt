@@ -8,6 +8,7 @@ use crate::disk::content::Content;
 use crate::disk::{Disk, DiskFault, fail};
 use std::alloc::Global;
 
+/// A `Disk` that keeps its bytes in memory. A crash and a limited number of calls can be simulated.
 #[derive(Drop)]
 pub struct MemoryDisk {
     pub(crate) content: Content,

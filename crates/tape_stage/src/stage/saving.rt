@@ -41,9 +41,9 @@ impl<D: Disk> Stage<D> {
     ///
     /// # Errors
     ///
-    /// Returns `Failed` if the disk failed before, and `Full` if no generation is left; in both
-    /// cases nothing is changed. After `Device` the checkpoint is pending, and the stage must be
-    /// opened again.
+    /// Returns `Failed` if the disk failed before or the stage was opened for reading only, and
+    /// `Full` if no generation is left; in both cases nothing is changed. After `Device` the
+    /// checkpoint is pending, and the stage must be opened again.
     pub fn save(&mut self, point: &Checkpoint) -> Result<(), StageFault>
         requires { point.now.staged ≤ self.old.weight }
         ensures named { OnOk result (HasNamed point.now self.old self.new) }
@@ -110,9 +110,9 @@ impl<D: Disk> Stage<D> {
     ///
     /// # Errors
     ///
-    /// Returns `Failed` if the disk failed before, and `Full` if no generation is left; in both
-    /// cases nothing is changed. After `Device` the checkpoint is pending or already acknowledged,
-    /// and the stage must be opened again.
+    /// Returns `Failed` if the disk failed before or the stage was opened for reading only, and
+    /// `Full` if no generation is left; in both cases nothing is changed. After `Device` the
+    /// checkpoint is pending or already acknowledged, and the stage must be opened again.
     pub fn restart(&mut self, point: &Checkpoint) -> Result<(), StageFault>
         requires { point.now.staged ≤ self.old.weight }
         ensures named { OnOk result (HasNamed point.now self.old self.new) }

@@ -32,6 +32,10 @@ impl Model for Chunk {
 
 impl Chunk {
     /// Creates an empty chunk with room for 8,192 bytes.
+    ///
+    /// # Errors
+    ///
+    /// Returns `AllocError` if the allocation fails.
     pub fn new(alloc: Global) -> Result<Chunk, AllocError>
         ensures { IfOk result (λ c. c ≡ []) }
     {
@@ -67,6 +71,10 @@ impl Chunk {
     }
 
     /// Reads once if no bytes are left.
+    ///
+    /// # Errors
+    ///
+    /// Returns `ReadFailed` if the reader returns an error, such as an interruption.
     pub fn fill<R: Read>(&mut self, reader: &mut R) -> Result<(), InputFault>
         ensures bytes { Keeps (prepend_known self.old (R.remaining reader.old))
             (prepend_known self.new (R.remaining reader.new)) }

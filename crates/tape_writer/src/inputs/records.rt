@@ -37,6 +37,10 @@ pub struct Records<R> {
 impl<R: Read + Drop> Records<R> {
     /// Creates a reader for the records of the input `device`, from its current position, each of
     /// at most `limit` bytes. Reads nothing.
+    ///
+    /// # Errors
+    ///
+    /// Returns `AllocError` if the allocation fails.
     pub fn new(alloc: Global, device: R, cut: Cut, limit: u32) -> Result<Self, AllocError>
         ensures device { IfOk result (λ r. (r.device ≡ device) × (r.ahead ≡ [])
             × (r.content.items ≡ [])) }

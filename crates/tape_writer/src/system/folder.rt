@@ -54,8 +54,12 @@ pub fn is_unable(kind: ErrorKind) -> bool
     matches!(kind, ErrorKind::InvalidInput | ErrorKind::Unsupported)
 }
 
-/// Returns the path of the image of volume `number` in directory `folder`: its identifier followed
-/// by `.tap`.
+/// Returns the path of the image of volume `number`, 1 to 999, in directory `folder`: its
+/// identifier followed by `.tap`.
+///
+/// # Errors
+///
+/// Returns `AllocError` if an allocation fails.
 pub fn image_path(
     alloc: Global,
     folder: &str,

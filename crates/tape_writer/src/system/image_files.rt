@@ -39,6 +39,10 @@ pub struct ImageFiles<'a, R: Host> {
 impl<'a, R: Host> ImageFiles<'a, R> {
     /// Returns the image files of volumes with prefix `prefix` in directory `folder`. Opens
     /// nothing.
+    ///
+    /// # Errors
+    ///
+    /// Returns `AllocError` if the allocation fails.
     pub fn new(rt: &'a R, folder: &'a str, prefix: Prefix) -> Result<ImageFiles<'a, R>, AllocError>
         ensures { IfOk result (λ files. (files.prefix ≡ prefix) × (files.lent ≡ 0)
             × (files.ended.items ≡ [])) }
