@@ -1,5 +1,5 @@
 -- Clauses about the result of a call.
-use Rattle.std.proofs.Common.{ℕ, List, Result, Ok, Err, OnOk, IfErr, IfOk}
+use Rattle.std.proofs.Common.{ℕ, List, Result, Ok, Err, OnOk}
 use Rattle.tape_stage.specs.declared.stage.StageFault.TheVariants.{NoPoint, BadFrame, Device}
 use Rattle.tape_stage.specs.declared.stage.StageFault.TheVariants.{OutOfMemory, Failed, Full}
 use Rattle.tape_stage.specs.{declared.stage.StageFault.StageFault, Faults.SaysNone}
@@ -12,16 +12,6 @@ on_ok (Err e) also p = tt
 pub ok_any : {A B : Type 0} (r : Result A B) {P : Type 0} → P → OnOk r P
 ok_any (Ok x) p = p
 ok_any (Err e) p = tt
-
-pub if_ok : {A B : Type 0} (r : Result A B) {P Q : A → Type 0} → ((x : A) → P x → Q x) → IfOk r P
-    → IfOk r Q
-if_ok (Ok x) also p = also x p
-if_ok (Err e) also p = tt
-
-pub if_err : {A B : Type 0} (r : Result A B) {P Q : B → Type 0} → ((e : B) → P e → Q e) → IfErr r P
-    → IfErr r Q
-if_err (Ok x) also p = tt
-if_err (Err e) also p = also e p
 
 pub no_frame_says : (bytes : List ℕ) (fault : StageFault) → (SaysNone fault → RemainsNone bytes)
     → OnBadFrame fault (λ place. ⊥) → IsFaultOf bytes fault

@@ -19,14 +19,7 @@ closed old new current left items tapes some none more is =
     now ∙ (ap Ended (map-append volume_of old (items ∷ []))
     ∙ ap (λ z. Ended (all_volumes z)) before)
 
--- the element at the end of the first list
-get_behind : {A : Type 0} (xs ys : List A) (n : ℕ) → n ≡ length xs
-    → slice_get (xs ++ ys) n ≡ slice_get ys 0
-get_behind [] ys n e = ap (slice_get ys) e
-get_behind (x ∷ xs) ys zero e = absurd (omega (arith, e))
-get_behind (x ∷ xs) ys (suc n) e = get_behind xs ys n (omega (arith, e))
-
--- any other element, if the second list has at most one
+-- an element other than the first of the second list, which has at most one
 get_other : {A : Type 0} (xs ys : List A) (n : ℕ) → length ys ≤ 1 → n ≢ length xs
     → slice_get (xs ++ ys) n ≡ slice_get xs n
 get_other [] [] n s e = refl
@@ -56,16 +49,6 @@ pub volume_between : {V : Type 0} (f : V → List Kept) (vs : List V)
 volume_between f vs current found n none e =
     found_in f vs found n e
     ∙ sym (ap (λ z. slice_get (all_volumes (tapes_of (map f vs) (option_map f z))) n) none)
-
-pub volume_current : {V : Type 0} (f : V → List Kept) (vs : List V)
-    (v : V) (current : Option V) (n : ℕ)
-    → current ≡ Some v → n ≡ length vs → Some (volume_of (f v))
-    ≡ slice_get (all_volumes (tapes_of (map f vs) (option_map f current))) n
-volume_current f vs v current n some e =
-    let all = map volume_of (map f vs) in
-    let long : length all ≡ length vs = length-map (map f vs) volume_of ∙ length-map vs f in
-    sym (ap (λ z. slice_get (all_volumes (tapes_of (map f vs) (option_map f z))) n) some
-    ∙ get_behind all (volume_of (f v) ∷ []) n (e ∙ sym long))
 
 pub volume_ended : {V : Type 0} (f : V → List Kept) (vs : List V)
     (v : V) (current found : Option V) (n : ℕ)
