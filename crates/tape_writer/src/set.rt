@@ -167,14 +167,4 @@ impl<T: TapeOut + Drop> SetWriter<T> {
         let Tape { out, .. } = tape;
         out
     }
-
-    /// Returns the output and the volumes' labels.
-    pub fn into_parts(self) -> (T, Vec<Vol1>)
-        ensures out { result.0 ≡ self.out }
-        ensures volumes { result.1.items ≡ self.volumes }
-    {
-        let SetWriter { tape, volumes, .. } = self;
-        let Tape { out, .. } = tape;
-        (out, volumes)
-    }
 }

@@ -40,7 +40,6 @@ pub struct SetPlan {
 #[derive(Drop)]
 pub struct WrittenSet<S> {
     pub files: usize,
-    pub volumes: Vec<Vol1>,
     pub images: S,
 }
 
@@ -79,7 +78,6 @@ pub fn write_set<R: Read, S: ImageStore + Drop>(
         IfAllKnown (map (λ f. (f.head, R.remaining f.reader)) files.old) (λ fs.
         IsSetOfImages (S.holds done.images) plan.volumes.items plan.capacity plan.set_id
         (told_files plan.set_id plan.shape cut 1 fs)))) }
-    ensures volumes { IfOk result (λ done. done.volumes.items ≡ plan.volumes.items) }
     ensures files { IfOk result (λ done. done.files ≡ length files.old) }
     // Each fault is returned only for its cause.
     ensures due { IfErr result (λ refused.
@@ -141,11 +139,10 @@ pub fn write_set<R: Read, S: ImageStore + Drop>(
     if let Err(fault) = writer.finish() {
         return Err(left(SetFault::Write(fault), writer.into_out()));
     }
-    let (tapes, volumes) = writer.into_parts();
+    let tapes = writer.into_out();
     let (images, _) = tapes.into_parts();
     Ok(WrittenSet {
         files: files.len(),
-        volumes,
         images,
     })
 }

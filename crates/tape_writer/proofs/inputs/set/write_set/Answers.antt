@@ -26,7 +26,7 @@ returns-clause-written g c fresh =
     let set_id = c.finish.ensures.same.2 ∙ c.write_files.ensures.same.2
     ∙ ap (λ w. w.set_id) made in
     let store = c.into_parts-images.ensures.store
-    ∙ ap (λ t. t.store) c.into_parts-tapes.ensures.out in
+    ∙ ap (λ t. t.store) c.into_out-tapes.ensures in
     rw (sym c.cut_of.ensures ∙ c.in-Some.is) (all_known inputs _ _ told (λ fs w.
     subst (λ s. IsSetOfImages (H images) plan.volumes.items plan.capacity plan.set_id
     (told_files s plan.shape c.in-Some.cut 1 fs)) (ap (λ w. w.set_id) made)
