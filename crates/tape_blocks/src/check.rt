@@ -77,7 +77,7 @@ impl BlockFault {
 }
 
 /// A unit: its span, the length of the head before its content, and its total length.
-#[derive(Clone, Copy, Debug, PartialEq, Eq)]
+#[derive(Clone, Copy)]
 pub(crate) struct Found {
     pub span: Span,
     pub head: usize,
