@@ -11,5 +11,6 @@ mod writer;
 
 pub use block::{ImageBuffer, fill};
 pub use item::{Ending, ImageCause, ImageFault, ImageWriteFault, Item};
+pub use put::write_bytes;
 pub use reader::ImageReader;
 pub use writer::ImageWriter;

@@ -1,7 +1,4 @@
 //! Writes bytes to a writer, however few of them the writer accepts at a time.
-//!
-//! This loop replaces std's `write_all`, which calls an interrupted writer again: here any error is
-//! a failure. A writer that accepts no bytes has failed too, and is not called again.
 
 ghost use Rattle.std.specs.Prelude.{◌≡◌, ◌≤◌, length, take, replicate};
 ghost use Rattle.byteorder.specs.Endian.{little_bytes};
@@ -19,7 +16,15 @@ const SHORT: usize = 119;
 const SPELLED: usize = SHORT + 9;
 
 /// Writes all of `bytes`, or a prefix of them if the writer fails.
-pub(crate) fn put<W: Write>(device: &mut W, bytes: &[u8]) -> Result<(), ImageWriteFault>
+///
+/// Unlike std's `write_all`, does not call an interrupted writer again.
+///
+/// # Errors
+///
+/// Returns `Device` if the writer returns an error, even an interruption, or accepts none of the
+/// remaining bytes.
+#[inline(always)]
+pub fn write_bytes<W: Write>(device: &mut W, bytes: &[u8]) -> Result<(), ImageWriteFault>
     ensures { Writes (W.contents device.old) (W.contents device.new) bytes.now result }
 {
     let mut rest = bytes;
@@ -39,7 +44,7 @@ pub(crate) fn put_word<W: Write>(device: &mut W, word: u32) -> Result<(), ImageW
 {
     let mut bytes = [0u8; 4];
     LittleEndian::write_u32(&mut bytes, word);
-    put(device, &bytes)
+    write_bytes(device, &bytes)
 }
 
 /// Writes the last word, and flushes the writer.
@@ -62,13 +67,13 @@ pub(crate) fn put_block<W: Write>(device: &mut W, content: &[u8]) -> Result<(), 
     if content.len() <= SHORT {
         let mut spelled = [0u8; SPELLED];
         let size = spell(&mut spelled, content);
-        return put(device, &spelled[..size]);
+        return write_bytes(device, &spelled[..size]);
     }
     let word = content.len() as u32;
     let pad = [0u8; 1];
     put_word(device, word)?;
-    put(device, content)?;
-    put(device, &pad[..content.len() % 2])?;
+    write_bytes(device, content)?;
+    write_bytes(device, &pad[..content.len() % 2])?;
     put_word(device, word)
 }
 

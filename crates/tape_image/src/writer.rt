@@ -6,7 +6,7 @@ ghost use Rattle.tape_image.specs.{Tape.bad, Tape.mark, Word.end_word, Written.w
 
 use crate::block::{BAD, END, Found, IMAGE_LIMIT, LONGEST_BLOCK, MARK, WORD};
 use crate::item::ImageWriteFault;
-use crate::put::{put, put_block, put_last, put_word};
+use crate::put::{put_block, put_last, put_word, write_bytes};
 use std::io::Write;
 use std::marker::Model;
 
@@ -122,7 +122,7 @@ impl<W: Write + Drop> ImageWriter<W> {
     {
         self.may_write()?;
         self.has_room(BAD.len() as u64)?;
-        let written = put(&mut self.device, &BAD);
+        let written = write_bytes(&mut self.device, &BAD);
         self.note(written, BAD.len() as u64, Phase::Open)
     }
 

@@ -4,6 +4,7 @@ ghost use Rattle.tape_image.specs.Written.{AppendsFront};
 
 use crate::system::fault::FileFault;
 use std::io::Write;
+use tape_image::write_bytes;
 
 /// Writes all of `bytes`, or a prefix of them if the writer fails.
 ///
@@ -17,13 +18,8 @@ pub fn put_all<W: Write>(writer: &mut W, bytes: &[u8]) -> Result<(), FileFault>
         (AppendsFront (W.contents writer.old) (W.contents writer.new) bytes.now) }
     ensures fault { IsOkUnless result FileFault.WriteFailed }
 {
-    let mut rest = bytes;
-    'writes: while !rest.is_empty() {
-        match writer.write(rest) {
-            Ok(0) => return Err(FileFault::WriteFailed),
-            Ok(n) => rest = &rest[n..],
-            Err(_) => return Err(FileFault::WriteFailed),
-        }
+    match write_bytes(writer, bytes) {
+        Ok(()) => Ok(()),
+        Err(_) => Err(FileFault::WriteFailed),
     }
-    Ok(())
 }

@@ -16,33 +16,33 @@ returns-in_err-put_word g c =
     rw (p.1, p.2)
     (piece_fails _ _ (little_bytes 4 n) (content ++ behind n) _ c.in_err-put_word.ensures)
 
-pub returns-in_err-put : goal.returns-in_err-put
-returns-in_err-put g c =
+pub returns-in_err-write_bytes : goal.returns-in_err-write_bytes
+returns-in_err-write_bytes g c =
     let content = c.args.content.now in
     let n = length content in
-    let p = err_from_is_err_and c.from_residual-in_err-put.result
-    c.from_residual-in_err-put.ensures.1 in
+    let p = err_from_is_err_and c.from_residual-in_err-write_bytes.result
+    c.from_residual-in_err-write_bytes.ensures.1 in
     rw (p.1, p.2) (piece_after _ _ _ (little_bytes 4 n) (content ++ behind n) (Err _)
     c.in_ok-put_word.ensures
-    (piece_fails _ _ content (behind n) _ c.in_err-put.ensures))
+    (piece_fails _ _ content (behind n) _ c.in_err-write_bytes.ensures))
 
-pub returns-in_err-put-2 : goal.returns-in_err-put-2
-returns-in_err-put-2 g c =
+pub returns-in_err-write_bytes-2 : goal.returns-in_err-write_bytes-2
+returns-in_err-write_bytes-2 g c =
     let content = c.args.content.now in
     let n = length content in
-    let p = err_from_is_err_and c.from_residual-in_err-put-2.result
-    c.from_residual-in_err-put-2.ensures.1 in
+    let p = err_from_is_err_and c.from_residual-in_err-write_bytes-2.result
+    c.from_residual-in_err-write_bytes-2.ensures.1 in
     rw (p.1, p.2) (piece_after _ _ _ (little_bytes 4 n) (content ++ behind n) (Err _)
     c.in_ok-put_word.ensures
-    (piece_after _ _ _ content (behind n) (Err _) c.in_ok-put.ensures
+    (piece_after _ _ _ content (behind n) (Err _) c.in_ok-write_bytes.ensures
     (piece_fails _ _ (replicate (n % 2) 0) (little_bytes 4 n) _
-    (rw (take_one (n % 2) (omega arith)) at c.in_err-put-2.ensures))))
+    (rw (take_one (n % 2) (omega arith)) at c.in_err-write_bytes-2.ensures))))
 
 pub returns : goal.returns
 returns g c =
     let content = c.args.content.now in
     let n = length content in
     piece_after _ _ _ (little_bytes 4 n) (content ++ behind n) _ c.in_ok-put_word.ensures
-    (piece_after _ _ _ content (behind n) _ c.in_ok-put.ensures
+    (piece_after _ _ _ content (behind n) _ c.in_ok-write_bytes.ensures
     (piece_after _ _ _ (replicate (n % 2) 0) (little_bytes 4 n) _
-    (rw (take_one (n % 2) (omega arith)) at c.in_ok-put-2.ensures) c.put_word-2.ensures))
+    (rw (take_one (n % 2) (omega arith)) at c.in_ok-write_bytes-2.ensures) c.put_word-2.ensures))

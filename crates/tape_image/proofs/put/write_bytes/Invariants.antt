@@ -1,6 +1,6 @@
 use Rattle.std.proofs.Common.{◌≡◌, ℕ, List, ◌++◌, length}
 use Rattle.std.specs.Io.KnownBytes.{Appends}
-use Rattle.tape_image.proofs.put.put.Given as goal
+use Rattle.tape_image.proofs.put.write_bytes.Given as goal
 
 -- a prefix of the bytes was appended, and the rest is left
 abbrev pub invariant-writes : goal.invariant-writes

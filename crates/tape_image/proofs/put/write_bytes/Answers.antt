@@ -1,6 +1,6 @@
-use Rattle.tape_writer.proofs.Words.{arith, ◌++◌, take, append_assoc}
-use Rattle.std.proofs.{KnownBytes.Appends-trans, lemmas.Grind.common_steps}
-use Rattle.tape_writer.proofs.system.bytes.put_all.Goals as goal
+use Rattle.std.proofs.Common.{arith, ◌++◌, take, append_assoc}
+use Rattle.std.proofs.{lemmas.Grind.common_steps, KnownBytes.Appends-trans}
+use Rattle.tape_image.proofs.put.write_bytes.Goals as goal
 
 pub writes-preserved : goal.writes-preserved
 writes-preserved g c =
