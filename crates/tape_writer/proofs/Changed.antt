@@ -18,8 +18,9 @@ use Rattle.tape_writer.specs.Labels.{volume_label, header_items, trailer_items}
 use Rattle.tape_writer.specs.Told.{labelled, IsWithin}
 use Rattle.tape_writer.specs.Draft.{Draft, placed, body, first_volumes, closing, here}
 use Rattle.tape_writer.specs.Draft.{body_items, open_items, ended_volumes, IsDone, IsGoing, OfLast}
-use Rattle.tape_writer.specs.Draft.{Within, changed_draft, changed_course, ended_draft}
+use Rattle.tape_writer.specs.Draft.{Within, changed_course}
 use Rattle.std.proofs.lemmas.Bool.{eq-eqb}
+use Rattle.tape_writer.proofs.Drafts.{changed_draft, ended_draft}
 
 -- one more section
 pub sects_next : (file : Opened) (course : Course) (d : Draft) (eof : Bool)

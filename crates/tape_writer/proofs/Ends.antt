@@ -12,10 +12,10 @@ use Rattle.tape_blocks.proofs.RunLaws.{run_begins}
 use Rattle.tape_writer.specs.declared.{course.Opened.Opened, course.Course.Course}
 use Rattle.tape_writer.specs.Tapes.{Tapes, Ended, UnderWay, all_volumes}
 use Rattle.tape_writer.specs.Told.{labelled, Told, AreFiled, IsWrittenSet}
-use Rattle.tape_writer.specs.Draft.{Draft, Within, open_blocks, closing, begun_course}
-use Rattle.tape_writer.specs.Draft.{body_items, ended_draft, ended_course}
+use Rattle.tape_writer.specs.Draft.{Draft, Within, open_blocks, closing, body_items}
 use Rattle.tape_writer.specs.Labels.{IsReady, volume_label, header_items, trailer_items}
 use Rattle.tape_writer.specs.Inside.{IsFlat, IsBetween, IsFiling, HasPlace, IsWaiting}
+use Rattle.tape_writer.proofs.Drafts.{begun_course, ended_draft, ended_course}
 
 -- the file ends
 pub file_ended : {H H' K : Tapes → Type 0} {vs : List Vol1} {cap : ℕ} {set_id : List ℕ}

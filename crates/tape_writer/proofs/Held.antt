@@ -9,11 +9,11 @@ use Rattle.tape_writer.proofs.{Changed.open_changed, Steps.added, Steps.goes_on,
 use Rattle.std.proofs.lemmas.Option.{slice_get-map, slice_get_within, slice_get-get_or}
 use Rattle.std.proofs.lemmas.Grind.{flat_map-append}
 use Rattle.tape_set.specs.Tight.{takes_next}
-use Rattle.tape_writer.specs.Draft.{Draft, open_blocks, closing, changed_draft, changed_course}
-use Rattle.tape_writer.specs.Draft.{changed_tapes, added_draft, added_course, IsOpen}
+use Rattle.tape_writer.specs.Draft.{Draft, open_blocks, closing, changed_course, IsOpen}
 use Rattle.tape_writer.specs.{declared.course.Opened.Opened, declared.course.Course.Course}
 use Rattle.tape_writer.specs.{Inside.Flushed, Inside.HasPlace, Told.labelled}
 use Rattle.tape_writer.specs.Tapes.{Tapes, UnderWay}
+use Rattle.tape_writer.proofs.Drafts.{changed_draft, changed_tapes, added_draft, added_course}
 
 pub label_at : (vs : List Vol1) (k : ℕ) (v : Vol1) → slice_get vs k ≡ Some v
     → slice_get (map labelled vs) k ≡ Some (labelled v)

@@ -3,6 +3,7 @@ pub mod Last
 pub mod Fronts
 pub mod Volumes
 pub mod Sections
+pub mod Drafts
 pub mod Changed
 pub mod Steps
 pub mod Held

@@ -11,7 +11,8 @@ use Rattle.tape_blocks.specs.{Block.spellings, Block.head_len, Spans.span_of}
 use Rattle.tape_blocks.specs.Packing.{HasWritableRecords, size_of, padded_len}
 use Rattle.tape_blocks.proofs.PackLaws.{size_push}
 use Rattle.tape_writer.specs.{declared.course.Course.Course}
-use Rattle.tape_writer.specs.{Draft.added_course, Draft.changed_course, Room.room_of}
+use Rattle.tape_writer.specs.{Draft.changed_course, Room.room_of}
+use Rattle.tape_writer.proofs.Drafts.{added_course}
 
 -- a block is at least as long as its parts
 given_size : (p : Packing) (text : List ℕ) → Given p text → size_of p.shape p.parts ≤ length text

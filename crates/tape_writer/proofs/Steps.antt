@@ -8,11 +8,12 @@ use Rattle.tape_writer.proofs.Volumes.{all_push, first_same}
 use Rattle.tape_writer.proofs.{Sections.header_size, Sections.trailer_size, Changed.number_fits}
 use Rattle.tape_writer.specs.Draft.{Draft, placed, body, first_volumes, data_item, closing, here}
 use Rattle.tape_writer.specs.Draft.{body_items, open_items, ended_volumes, OfLast, Between, Within}
-use Rattle.tape_writer.specs.Draft.{Steady, ended_draft, added_draft, added_course, ended_course}
+use Rattle.tape_writer.specs.Draft.{Steady}
 use Rattle.tape_writer.specs.{declared.course.Opened.Opened, declared.course.Course.Course}
 use Rattle.tape_writer.specs.Labels.{IsReady, header_items, trailer_items}
-use Rattle.tape_writer.specs.Draft.{begun_course}
 use Rattle.std.proofs.lemmas.Bool.{le-leb}
+use Rattle.tape_writer.proofs.Drafts.{ended_draft, added_draft, added_course, ended_course}
+use Rattle.tape_writer.proofs.Drafts.{begun_course}
 
 pub open_added :
     (vs : List Volume) (file : Opened) (course : Course) (d : Draft) (b : Filled) (n : ℕ)

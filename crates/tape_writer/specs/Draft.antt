@@ -2,7 +2,7 @@
 use Rattle.std.specs.Prelude.{List, false, length, ◌+◌, Bool, map, ℕ, ◌++◌, ◌≡◌, true, ◌<◌}
 use Rattle.std.specs.Prelude.{slice_get, zero, ◌∷◌, [], suc, ◌≤◌}
 use Rattle.std.specs.List.{AllByRecursion}
-use Rattle.tape_image.specs.{Tape.TapeItem, Tape.block, Tape.mark}
+use Rattle.tape_image.specs.Tape.{TapeItem, block}
 use Rattle.tape_label.specs.declared.values.Vol1.{Vol1}
 use Rattle.tape_blocks.specs.{Tight.Chain, Tight.Filled, Packing.longest_block}
 use Rattle.tape_set.specs.Layout.{Volume, Placed, ends_file, numbered, Entry, a_mark, all_entries}
@@ -12,7 +12,7 @@ use Rattle.tape_set.specs.{Sizes.items_size, Sizes.headers_size, Sizes.volume_en
 use Rattle.tape_set.specs.{Lawful.GoesOn, Lawful.StartsOnFirst, Lawful.IsSection}
 use Rattle.tape_set.specs.{Before.blocks_of_all}
 use Rattle.tape_writer.specs.Labels.{IsReady, first_label, header_items, second_kind, trailer_label}
-use Rattle.tape_writer.specs.Labels.{second_label, trailer_items, volume_label}
+use Rattle.tape_writer.specs.Labels.{second_label}
 use Rattle.tape_writer.specs.{Tapes.Tapes, Tapes.UnderWay, Told.IsOfFile, Told.IsWithin}
 use Rattle.tape_writer.specs.{Told.labelled, declared.course.Course.Course}
 use Rattle.tape_writer.specs.{declared.course.Opened.Opened}
@@ -143,53 +143,11 @@ pub record Steady (volumes : List Volume) (capacity : ℕ) (set_id : List ℕ) (
   pub inside : Within volumes capacity set_id file course d.blocks d
   pub begins : d.blocks ≡ [] → OfLast (placed d) (λ ys x. (x.file ≡ file.head.sequence) → ⊥)
 
--- the draft after a section has ended with EOV1 and EOV2
-abbrev pub changed_draft : Opened → Course → Draft → Draft
-changed_draft file course d = record {
-  files = d.files;
-  sects = d.sects ++ closing file course.volume course.sect d.blocks false ∷ [];
-  blocks = [];
-  past = d.past + 1;
-}
-
--- the position after this change: VOL1 and the headers are written on the next volume
+-- the position after a section has ended with EOV1 and EOV2: VOL1 and the headers are written on the
+-- next volume
 abbrev pub changed_course : Course → Course
 changed_course course =
     record { volume = course.volume + 1; sect = course.sect + 1; count = 0; used = 268 }
-
--- the tapes after it: the section ended with EOV1 and EOV2, and the volume with a second mark, and
--- the next volume begins with the label `v`
-abbrev pub changed_tapes : Opened → Course → Vol1 → List (List TapeItem) → List TapeItem → Tapes
-changed_tapes file course v volumes items = UnderWay
-    (volumes ++ (items ++ trailer_items file course.sect course.count false ++ mark ∷ []) ∷ [])
-    (block (volume_label v) ∷ header_items file (course.sect + 1))
-
--- the draft after the end of a file
-abbrev pub ended_draft : Opened → Course → Draft → Draft
-ended_draft file course d = record {
-  files = d.files
-      ++ (d.sects ++ closing file course.volume course.sect d.blocks true ∷ []) ∷ [];
-  sects = [];
-  blocks = [];
-  past = d.past;
-}
-
--- the draft with one more block
-abbrev pub added_draft : Draft → Filled → Draft
-added_draft d b = record d { blocks = d.blocks ++ b ∷ [] }
-
--- the position after one more block of size `size`
-abbrev pub added_course : Course → ℕ → Course
-added_course course size = record course { count = course.count + 1; used = course.used + size }
-
--- the position after the end of a section
-abbrev pub ended_course : Course → Course
-ended_course course = record course { used = course.used + 184 }
-
--- the position after the headers of a file's first section
-abbrev pub begun_course : Course → Course
-begun_course course =
-    record { volume = course.volume; sect = 1; count = 0; used = course.used + 180 }
 
 -- Inside a file, the tapes contain the items that the draft describes.
 pub record IsOpen (H : Tapes → Type 0) (volumes : List Vol1) (capacity : ℕ) (set_id : List ℕ)

@@ -3,8 +3,9 @@ use Rattle.tape_writer.proofs.Words.{◌+◌, arith, ap, ◌∷◌, [], err_from
 use Rattle.tape_writer.proofs.{Words.lt-leb, Held.fits_next, Held.written, Room.flushed_room}
 use Rattle.tape_writer.proofs.{Fronts.front_here, Fronts.front_items, Fronts.err_any}
 use Rattle.tape_writer.proofs.{Last.lasting_self, Words.Filled}
-use Rattle.tape_writer.specs.Draft.{added_course, changed_course}
+use Rattle.tape_writer.specs.Draft.{changed_course}
 use Rattle.tape_writer.specs.declared.course.Course.{Course}
+use Rattle.tape_writer.proofs.Drafts.{added_course}
 use Rattle.tape_writer.proofs.records.flush.Goals as goal
 
 pub returns-in_default-clause-lasting : goal.returns-in_default-clause-lasting

@@ -1,7 +1,7 @@
 use Rattle.tape_writer.proofs.Words.{◌≡◌, ◌+◌, [], arith, rules, List, inl, inr, refl, ap}
 use Rattle.tape_writer.proofs.set.SetWriter.begin_file.Goals.{After-begin_section, else-self-eq0}
 use Rattle.tape_writer.proofs.set.SetWriter.begin_file.Goals.{then-self-eq0+in_ok-begin_volume}
-use Rattle.tape_writer.specs.{declared.course.Course.Course, Draft.begun_course, Told.Told}
+use Rattle.tape_writer.specs.{declared.course.Course.Course, Told.Told}
 use Rattle.tape_writer.specs.{Inside.IsBetween, Inside.IsWaiting, Tapes.Ended, Tapes.WasAsked}
 use Rattle.tape_writer.specs.{Front.HoldsFront, Labels.header_items}
 use Rattle.tape_writer.specs.Lasting.{Lasts, LastsFirst, TapeLasts}
@@ -9,6 +9,7 @@ use Rattle.tape_writer.proofs.Fronts.{behind_writing, err_any, front_items}
 use Rattle.tape_writer.proofs.Last.{asked_of, lasting_then, lasting_self, first_lasts, lasts_then}
 use Rattle.tape_writer.proofs.{Calls.begin_told, Left.left_begin, Left.is_begun}
 use Rattle.tape_writer.proofs.{Ends.between_first, Ends.filing_begun, Held.got}
+use Rattle.tape_writer.proofs.Drafts.{begun_course}
 use Rattle.tape_writer.proofs.set.SetWriter.begin_file.Goals as goal
 
 pub returns-in_default-clause-lasting : goal.returns-in_default-clause-lasting

@@ -5,8 +5,9 @@ use Rattle.tape_writer.proofs.{Last.asked_of, Last.lasting_self, Stuck.stuck_las
 use Rattle.tape_writer.proofs.{Left.left_end, Left.last_left, Calls.end_told, Calls.stuck_told}
 use Rattle.tape_writer.proofs.Fronts.{err_any, is_out, flat_left, front_here, front_items}
 use Rattle.tape_writer.proofs.Ends.{file_ended}
-use Rattle.tape_writer.specs.{Draft.ended_course, Draft.changed_course}
+use Rattle.tape_writer.specs.{Draft.changed_course}
 use Rattle.tape_writer.specs.{declared.course.Course.Course}
+use Rattle.tape_writer.proofs.Drafts.{ended_course}
 use Rattle.tape_writer.proofs.set.SetWriter.end_file.Goals as goal
 
 pub returns-in-Between-clause-lasting : goal.returns-in-Between-clause-lasting
