@@ -3,7 +3,7 @@
 use Rattle.std.proofs.Common.{◌≡◌, ◌<◌, ℕ, suc, ◌+◌, List, [], ◌∷◌, ◌++◌, take, Bool, refl}
 use Rattle.std.proofs.Common.{sym, inl, inr, subst, ◌∙◌, arith}
 use Rattle.tape_blocks.specs.{Block.Portion}
-use Rattle.tape_core.specs.{Weight.Rose, Weight.IsFront, Crash.lost, Point.Point}
+use Rattle.tape_core.specs.{Weight.Rose, Weight.IsFront, Point.Point}
 use Rattle.tape_core.specs.{declared.sink.PartSink.Ghosts, declared.sink.SinkFault.SinkFault}
 use Rattle.tape_run.specs.declared.fault.RunFault.TheVariants.{Sink, NoSuchPoint, TooFewReels}
 use Rattle.tape_run.specs.declared.fault.RunFault.TheVariants.{OutOfMemory, OtherFile}
@@ -94,17 +94,6 @@ images_fail g walk back goes (Run TooFewReels) old new same h = h
 images_fail g walk back goes (Run OutOfMemory) old new same h = h
 images_fail g walk back goes (Run OtherFile) old new same h = h
 images_fail g walk back goes WriteFailed old new same h = h
-
--- a sink, as far as causes refer to it
-abbrev of_causes : {S : Type 0} → (S → List Portion → Type 0) → (S → ℕ)
-    → (S → SinkFault → S → Type 0) → Ghosts S
-of_causes holds refusals refuses = record {
-  holds = holds;
-  weighs = λ s. 0;
-  refusals = refusals;
-  refuses_change = refuses;
-  crashes = λ s. lost;
-}
 
 -- ---- counts
 

@@ -1,47 +1,15 @@
 -- The lines, sets and missing sections of a catalogue, index by index.
 use Rattle.std.proofs.Common.{◌≡◌, ℕ, zero, suc, ◌+◌, ◌-◌, ◌<◌, ◌≤◌, Bool, true, false, List, []}
-use Rattle.std.proofs.Common.{◌∷◌, ◌++◌, map, take, drop, slice_get, Some, refl, sym, ap, ◌∙◌}
-use Rattle.std.proofs.{Common.arith, Common.append_assoc, Math.Seq.take-suc}
+use Rattle.std.proofs.Common.{◌∷◌, ◌++◌, drop, slice_get, Some, refl, sym, ap, ◌∙◌}
+use Rattle.std.proofs.{Common.arith, Common.append_assoc}
 use Rattle.std.proofs.lemmas.Option.{slice_get_within, get_or_from_slice_get}
-use Rattle.std.proofs.lemmas.List.{map-append, drop_more}
+use Rattle.std.proofs.lemmas.List.{drop_more}
 use Rattle.std.specs.{Map.lookup, Str.bytes_eq}
 use Rattle.indexmap.specs.IndexMap.{insert_entry}
-use Rattle.tape_run.specs.Lacks.{line_of, SetFiles, greatest, with_file, sets_from, lack_of}
-use Rattle.tape_run.specs.{declared.section.SectionLine.SectionLine, Passing.Told}
+use Rattle.tape_run.specs.Lacks.{SetFiles, greatest, with_file, lack_of}
+use Rattle.tape_run.specs.{Passing.Told}
 use Rattle.tape_run.specs.Lacks.{one_lack, file_lacks, set_lacks}
 use Rattle.tape_run.specs.NextLack.{lacks_after, lacks_from}
-
--- one place more
-pub take_get : {A : Type 0} (xs : List A) (i : ℕ) (x : A) → Some x ≡ slice_get xs i
-    → take (i + 1) xs ≡ take i xs ++ x ∷ []
-take_get xs i x at =
-    let more : suc i ≡ i + 1 = omega arith in
-    let here = sym at in
-    ap (λ n. take n xs) (sym more) ∙ take-suc xs i x (slice_get_within xs i x here)
-    ∙ ap (λ y. take i xs ++ y ∷ []) (get_or_from_slice_get xs i x x here)
-
--- the line of the section at an index
-pub line_added : (sections : List Told) (old new : List SectionLine) (i : ℕ) (t : Told)
-    → Some t ≡ slice_get sections i → new ≡ old ++ line_of t ∷ []
-    → old ≡ map line_of (take i sections) → new ≡ map line_of (take (i + 1) sections)
-line_added sections old new i t at put was =
-    put ∙ ap (λ ls. ls ++ line_of t ∷ []) was
-    ∙ sym (map-append line_of (take i sections) (t ∷ []))
-    ∙ ap (map line_of) (sym (take_get sections i t at))
-
-sets_from-append : (sets : List SetFiles) (ts : List Told) (t : Told)
-    → sets_from sets (ts ++ t ∷ []) ≡ with_file (sets_from sets ts) t.0.set_id t.0.file
-sets_from-append sets [] t = refl
-sets_from-append sets (u ∷ us) t = sets_from-append (with_file sets u.0.set_id u.0.file) us t
-
--- the file of the section at an index
-pub file_noted : (sections : List Told) (old new : List SetFiles) (i : ℕ) (t : Told)
-    → Some t ≡ slice_get sections i → new ≡ with_file old t.0.set_id t.0.file
-    → old ≡ sets_from [] (take i sections) → new ≡ sets_from [] (take (i + 1) sections)
-file_noted sections old new i t at put was =
-    put ∙ ap (λ s. with_file s t.0.set_id t.0.file) was
-    ∙ sym (sets_from-append [] (take i sections) t)
-    ∙ ap (sets_from []) (sym (take_get sections i t at))
 
 -- inserting the greater number records the file
 put_here : (x : SetFiles) (xs : List SetFiles) (set_id : List ℕ) (file : ℕ) (b : Bool)

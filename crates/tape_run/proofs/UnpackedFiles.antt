@@ -1,13 +1,12 @@
 -- The files on the images of a source, image by image and file by file.
-use Rattle.std.proofs.Common.{◌≡◌, ℕ, zero, suc, ◌+◌, ◌-◌, ◌<◌, List, [], ◌∷◌, ◌++◌, length, take}
-use Rattle.std.proofs.Common.{slice_get, Option, Some, sym, ap, subst, ◌∙◌, arith}
-use Rattle.std.proofs.Common.{append_assoc, append-nil, length-append, option_map}
-use Rattle.std.proofs.lemmas.Grind.{flat_map-append}
+use Rattle.std.proofs.Common.{◌≡◌, ℕ, zero, suc, ◌+◌, ◌-◌, ◌<◌, List, [], ◌∷◌, ◌++◌, length}
+use Rattle.std.proofs.Common.{Option, sym, ap, subst, ◌∙◌, arith}
+use Rattle.std.proofs.Common.{append_assoc, length-append, option_map}
 use Rattle.tape_run.specs.declared.{survey.view.ImageSurvey.ImageSurvey, unpack.SetFile.SetFile}
-use Rattle.tape_run.specs.{Lacks.SetFiles, Reeling.Mounting}
+use Rattle.tape_run.specs.{Reeling.Mounting}
 use Rattle.tape_run.specs.SurveyRead.{Found, nothing_found, IsViewed, AreViewed}
-use Rattle.tape_run.specs.Unpacking.{file_at, files_from, set_files}
-use Rattle.tape_run.proofs.{Listing.take_get, SurveyRead.viewed_more}
+use Rattle.tape_run.specs.Unpacking.{file_at, files_from}
+use Rattle.tape_run.proofs.{SurveyRead.viewed_more}
 
 -- the first images were read
 pub record ViewedSoFar {L R : Type 0} (gives : Mounting L R) (remaining : R → Option (List ℕ))
@@ -53,13 +52,3 @@ file_added d set_id old new goal before greatest within put was =
     ∙ append_assoc old here (files_from d set_id (before + 1 + 1) (greatest - (before + 1))) ∙ ap
     (λ n. old ++ (here ++ files_from d set_id (before + 1 + 1) n)) fewer ∙ ap (λ ls. old ++ ls)
     (sym (files_behind d set_id (before + 1) _ some)) ∙ was
-
--- the files of the set at an index were added
-pub set_added : (d : Found) (sets : List SetFiles) (old new : List SetFile) (i : ℕ) (x : SetFiles)
-    → Some x ≡ slice_get sets i → new ≡ old ++ files_from d x.0 1 x.1
-    → old ≡ set_files d (take i sets) → new ≡ set_files d (take (i + 1) sets)
-set_added d sets old new i x at put was =
-    let f = λ (y : SetFiles). files_from d y.0 1 y.1 in
-    put ∙ ap (λ ls. ls ++ f x) was
-    ∙ ap (λ ls. set_files d (take i sets) ++ ls) (sym (append-nil (f x)))
-    ∙ sym (flat_map-append f (take i sets) (x ∷ [])) ∙ ap (set_files d) (sym (take_get sets i x at))
