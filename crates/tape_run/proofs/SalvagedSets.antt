@@ -2,7 +2,7 @@
 use Rattle.std.proofs.Common.{◌≡◌, ◌≤◌, ℕ, ◌+◌, ◌&&◌, Bool, true, false, not, List, [], ◌∷◌, ◌++◌}
 use Rattle.std.proofs.Common.{length, Option, Some, None, option_map, refl, sym, ap, subst, ◌∙◌}
 use Rattle.std.proofs.Common.{arith, suc, append_assoc, append-nil}
-use Rattle.std.proofs.{lemmas.Bool.and_parts, lemmas.Option.slice_get_within}
+use Rattle.std.proofs.lemmas.{Bool.and_parts, Bool.not-true, Option.slice_get_within}
 use Rattle.std.specs.{Prelude.slice_get, Prelude.IfSome, List.AllByRecursion, Io.KnownBytes.Appends}
 use Rattle.tape_image.specs.{Tape.TapeItem, Reader.IfKnown}
 use Rattle.tape_image.specs.Begins.{Stop, Begins, Walks, image_limit}
@@ -213,10 +213,6 @@ module _ {L R : Type 0} (set : FileSet) (file : ℕ) (set_id : List ℕ) (same :
 
 -- ---- the call
 
-not_missing : (b : Bool) → not b ≡ true → b ≡ false
-not_missing true e = absurd (cc e)
-not_missing false e = refl
-
 pub recovers_sets : {W L R : Type 0} (contents : W → Option (List ℕ)) (size : L → ℕ)
     (gives : Mounting L R) (remaining : R → Option (List ℕ))
     → RecoversSets contents size gives remaining
@@ -250,7 +246,7 @@ recovers_sets contents size gives remaining task out shelf left stands said says
       λ e.
           let whole = ap (λ (z : Content). not (after_file z copies s.taken none_salvaged).missing
           && not s.conflict) (sym records) ∙ sym s.is_complete ∙ e in
-          let off = not_missing g.missing (and_parts (not g.missing) (not s.conflict) whole).0 in
+          let off = not-true g.missing (and_parts (not g.missing) (not s.conflict) whole).0 in
           let parts = (r.complete off).1 in
           subst (λ (t : List ℕ). Appends (contents out) stands t)
           (ap (parts_text task.form) parts

@@ -3,7 +3,7 @@ use Rattle.std.proofs.Common.{◌≡◌, ◌≢◌, ℕ, ◌+◌, Bool, true, fa
 use Rattle.std.proofs.Common.{Some, None, refl, sym, ap, subst, ◌∙◌, arith, append_assoc}
 use Rattle.std.proofs.Common.{append-nil, map, ◌==◌, ◌&&◌, not, if◌then◌else◌, option_map, cond}
 use Rattle.std.proofs.{Common.is_some, lemmas.Bool.Decides.nat_tests}
-use Rattle.std.proofs.lemmas.Bool.{and_parts, or_parts}
+use Rattle.std.proofs.lemmas.Bool.{and_parts, or_parts, not-true}
 use Rattle.std.specs.{List.AllByRecursion, Map.lookup, Option.option_or}
 use Rattle.indexmap.specs.IndexMap.{insert_entry}
 use Rattle.tape_run.specs.SurveyCopies.{Copy, copies_on, Noted, Disputed, Copied, with_same}
@@ -66,10 +66,6 @@ none_lacks (l ∷ ls) e = absurd (cc e)
 pub none_missing : (ts : List Told) → found_all ts ≡ true → lacks ts ≡ []
 none_missing [] e = absurd (cc e)
 none_missing (t ∷ ts) e = none_lacks (lacks (t ∷ ts)) e
-
-none_differs : (b : Bool) → not b ≡ true → b ≡ false
-none_differs true e = absurd (cc e)
-none_differs false e = refl
 
 one_label : (fs : List Filed) → any_differs fs ≡ false
     → AllByRecursion (λ f. f.1.differs ≡ false) fs
@@ -296,7 +292,7 @@ all_is_sound gives remaining shelf last sights d v e =
       found = some_found d.sections found;
       sections = all_are_good d.sections good;
       missing = none_missing d.sections found;
-      labels = one_label d.files (none_differs (any_differs d.files) labels);
+      labels = one_label d.files (not-true (any_differs d.files) labels);
       copies = λ x y i j same. agree d.copies.notes x y
           (of_all (IsNoted d.copies.notes)
           (all_placed gives remaining shelf 0 sights nothing_found last d v) x all i)
