@@ -34,7 +34,7 @@ impl Met {
         }
     }
 
-    /// No trailer label was read.
+    /// Returns the description of the section as truncated: no trailer label was read.
     pub(crate) fn cut(self) -> Told
         ensures { result ≡ cut self }
     {

@@ -14,7 +14,7 @@ use std::io::Write;
 use std::str;
 use tape_label::Field;
 
-/// Room for the longest text of `survey`, and for each of `unpack`.
+/// Room for a file name, or for the last line, of `unpack`.
 pub type Text = ArrayVec<u8, 1024>;
 
 /// Returns the byte, or a question mark for one outside the printable range.

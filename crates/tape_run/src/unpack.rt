@@ -1,4 +1,4 @@
-//! `unpack`: which files are on the images of a shelf.
+//! `unpack`: which files are on the images.
 
 pub mod choice;
 pub mod line;

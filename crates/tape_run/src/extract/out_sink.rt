@@ -173,8 +173,8 @@ impl<W: Write + Drop> PartSink for OutSink<W> {
         }
     }
 
-    /// Written records cannot be removed: a cut to all parts changes nothing, and any other cut is
-    /// refused.
+    /// Refuses every cut except one to all parts, which changes nothing: written records cannot be
+    /// removed.
     fn cut_to(&mut self, point: &Checkpoint) -> Result<(), SinkFault>
         requires { point.now.staged ≤ self.old.weight }
         ensures ok { OnOk result ((front rest : List Portion)

@@ -86,7 +86,7 @@ impl Candidate {
         matches!(self.kind, Kind::Bad)
     }
 
-    /// The kind of the item, if there is one.
+    /// Returns the kind of the item, if there is one.
     pub(crate) fn kind(&self) -> Option<ItemKind>
         ensures none { self.now ≡ None → result ≡ None }
         ensures some { IfSome self.now (λ x. result ≡ Some (kind_at x)) }

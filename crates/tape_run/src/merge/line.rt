@@ -16,7 +16,7 @@ use std::io::Read;
 /// The end of the merged image.
 #[derive(Clone, Copy, PartialEq, Eq)]
 pub(crate) enum MergedEnd {
-    /// By an end word.
+    /// By an end-of-medium marker.
     Marked,
     /// With the end of its bytes.
     Physical,

@@ -14,7 +14,7 @@ use crate::text::{write_line, write_text};
 use std::alloc::{AllocError, Global};
 use std::io::{Read, Write};
 
-/// The names of the columns: the names of the images come last.
+/// Returns the row of the column names: the names of the images come last.
 pub(crate) fn log_head(alloc: Global, names: &[&str]) -> Result<Vec<u8>, AllocError>
     ensures { IfOk result (λ head. head.items ≡ log_head (map (λ n. n.now) names.now)) }
 {
@@ -75,7 +75,7 @@ fn has_bad<R: Read>(readings: &[Reading<'_, R>]) -> bool
     false
 }
 
-/// The item of a reading there.
+/// Returns the cell for a verdict.
 fn cell(verdict: Verdict) -> &'static [u8]
     ensures { result.now ≡ verdict_cell verdict }
 {

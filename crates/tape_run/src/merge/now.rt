@@ -80,9 +80,9 @@ fn write_stop(fault: ImageWriteFault, size: u64) -> MergeStop
     }
 }
 
-/// Reads the images of a shelf side by side, all of them opened first, and writes to `out` the tape
-/// that they make together, and to `log` a row for each item that fewer than two of them have, or
-/// that is bad in one. Then the log is flushed, `place` puts `out` in its place, and the report
+/// Reads images side by side, all of them opened first, and writes to `out` the tape that they make
+/// together, and to `log` a row for each item that fewer than two of them have, or that is bad in
+/// one. Then the log is flushed, `place` puts `out` in its place, and the report
 /// ends with its line. If the images differ, the log is not flushed, the place is not touched, and
 /// the report says what each image has at that item.
 ///

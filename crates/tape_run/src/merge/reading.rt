@@ -15,13 +15,13 @@ use tape_image::{ImageFault, ImageReader, Item};
 pub enum Verdict {
     /// It is the first item that could be read, or equal to it.
     First,
-    /// It is the first item that differs, or equal to it.
+    /// It is unreadable.
     Bad,
-    /// It is the first one that differs, or equals that.
+    /// It is the first item that differs from the first readable one, or equal to it.
     Second,
     /// It differs from both.
     Third,
-    /// There is none: the reading ended.
+    /// There is no item: the reading ended.
     Ended,
     /// There is no item: the reading stopped at this fault.
     Failed(ImageFault),

@@ -97,7 +97,7 @@ pub enum Notice {
     Unread,
 }
 
-/// The text before the name.
+/// Returns the text before the name.
 fn notice_text(notice: Notice) -> &'static [u8]
     ensures { result.now ≡ notice_text notice }
 {

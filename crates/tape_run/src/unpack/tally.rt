@@ -30,7 +30,7 @@ pub struct Tally {
 }
 
 impl Tally {
-    /// Nothing was reported yet.
+    /// Creates a tally of no files.
     pub fn new() -> Tally
         ensures { result ≡ nothing_counted }
     {
