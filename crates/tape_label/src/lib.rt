@@ -13,4 +13,4 @@ pub use reading::{digits_of, digits_value, read_head1, read_head2, read_trail1, 
 pub use values::{
     Field, Format, Head1, Head2, Kind, Trail1, Vol1, first_other, is_a_character, same_field,
 };
-pub use writing::{write_head1, write_head2, write_trail1, write_vol1};
+pub use writing::{put, write_head1, write_head2, write_trail1, write_vol1};

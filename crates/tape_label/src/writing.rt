@@ -104,13 +104,13 @@ fn head_text(kind: Kind, fields: &Head1, blocks: u32) -> [u8; 80]
 
 const SPACES: [u8; 80] = [b' '; 80];
 
-/// Appends `text`.
-fn put(label: &mut ArrayVec<u8, 80>, text: &[u8])
-    requires { array_vec_len label.old + length text.now ≤ 80 }
-    ensures items { label.new.items ≡ label.old.items ++ text.now }
-    ensures len { array_vec_len label.new ≡ array_vec_len label.old + length text.now }
+/// Appends `more`, which must fit.
+pub fn put<const N: usize>(text: &mut ArrayVec<u8, N>, more: &[u8])
+    requires { array_vec_len text.old + length more.now ≤ N }
+    ensures items { text.new.items ≡ text.old.items ++ more.now }
+    ensures len { array_vec_len text.new ≡ array_vec_len text.old + length more.now }
 {
-    label.try_extend_from_slice(text).unwrap();
+    text.try_extend_from_slice(more).unwrap();
 }
 
 /// Appends `count` spaces.

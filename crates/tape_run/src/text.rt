@@ -13,6 +13,7 @@ use std::fmt::{self, Display, Write as _};
 use std::io::Write;
 use std::str;
 use tape_label::Field;
+pub use tape_label::put;
 
 /// Room for a file name, or for the last line, of `unpack`.
 pub type Text = ArrayVec<u8, 1024>;
@@ -26,15 +27,6 @@ pub(crate) fn printed(byte: u8) -> u8
     } else {
         b'?'
     }
-}
-
-/// Appends bytes that fit.
-pub fn put<const N: usize>(text: &mut ArrayVec<u8, N>, more: &[u8])
-    requires { array_vec_len text.old + length more.now ≤ N }
-    ensures items { text.new.items ≡ text.old.items ++ more.now }
-    ensures len { array_vec_len text.new ≡ array_vec_len text.old + length more.now }
-{
-    text.try_extend_from_slice(more).unwrap();
 }
 
 /// Appends a number in decimals, without leading zeros.

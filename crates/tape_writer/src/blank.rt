@@ -1,10 +1,9 @@
 //! Blank volumes: their labels, made from a prefix and a number, and their images.
-ghost use Rattle.std.specs.Prelude.{◌≡◌, ◌<◌, ◌≤◌, ◌+◌, ◌++◌, ◌↔◌, length, IsSome, IfSome, IsTrue};
-ghost use Rattle.arrayvec.specs.ArrayVec.{array_vec_len};
+ghost use Rattle.std.specs.Prelude.{◌≡◌, ◌<◌, ◌↔◌, IsSome, IfSome, IsTrue};
 ghost use Rattle.tape_writer.specs.Blank.{IsPrefixByte, IsPrefix, blank_volume, blank_image};
 
 use arrayvec::ArrayVec;
-use tape_label::{Field, Vol1, digits_of, write_vol1};
+use tape_label::{Field, Vol1, digits_of, put, write_vol1};
 
 /// The size of the image of a blank volume, in bytes.
 pub const BLANK: usize = 100;
@@ -69,13 +68,4 @@ pub fn blank_image(volume: &Vol1) -> BlankImage
     put(&mut image, &[0; 8]);
     put(&mut image, &[0xFF; 4]);
     image
-}
-
-/// Appends `bytes` to an image.
-fn put(image: &mut BlankImage, bytes: &[u8])
-    requires { array_vec_len image.old + length bytes.now ≤ 100 }
-    ensures items { image.new.items ≡ image.old.items ++ bytes.now }
-    ensures len { array_vec_len image.new ≡ array_vec_len image.old + length bytes.now }
-{
-    image.try_extend_from_slice(bytes).unwrap();
 }

@@ -1,7 +1,6 @@
 //! The text of a checkpoint: its fields, read and written character by character.
 
-ghost use Rattle.std.specs.Prelude.{◌≡◌, ◌≤◌, length, ◌<◌, ◌+◌, ◌-◌, ◌++◌, if◌then◌else◌};
-ghost use Rattle.arrayvec.specs.ArrayVec.{array_vec_len};
+ghost use Rattle.std.specs.Prelude.{◌≡◌, ◌≤◌, length, ◌<◌, ◌+◌, ◌-◌, if◌then◌else◌};
 ghost use Rattle.tape_label.specs.{Positions.positions, Written.text_of, Written.HaveWidths};
 ghost use Rattle.tape_stage.specs.Reading.{version_by, state_position, fields_at, text_at};
 ghost use Rattle.tape_stage.specs.Reading.{place_at, flags_at, form_at, number_at, flag_at};
@@ -11,7 +10,7 @@ ghost use Rattle.tape_stage.specs.{Reading.number, declared.point.Version.TheVar
 
 use crate::point::{Fields, Flags, Form, Place, Version};
 use arrayvec::ArrayVec;
-use tape_label::{Field, Format, digits_of, digits_value};
+use tape_label::{Field, Format, digits_of, digits_value, put};
 use thiserror::Error;
 
 /// The reason why a text is not a checkpoint. Positions in the text are counted from 1.
@@ -233,15 +232,6 @@ pub(crate) fn form_at(text: &[u8], first: u8) -> Result<Form, PointFault>
         offset,
         file_id: field_at(text, first + 8),
     })
-}
-
-/// Appends `piece`, which must fit.
-pub(crate) fn put<const N: usize>(text: &mut ArrayVec<u8, N>, piece: &[u8])
-    requires { array_vec_len text.old + length piece.now ≤ N }
-    ensures items { text.new.items ≡ text.old.items ++ piece.now }
-    ensures len { array_vec_len text.new ≡ array_vec_len text.old + length piece.now }
-{
-    text.try_extend_from_slice(piece).unwrap();
 }
 
 /// Returns `yes` for true, `no` for false.

@@ -12,14 +12,13 @@ ghost use Rattle.tape_stage.specs.Stages.{RefusesCreating, RefusesOpening};
 ghost use Rattle.tape_stage.specs.{Faults.IsNotDevice, Parts.longest_part};
 
 use crate::disk::{Disk, DiskFault};
-use crate::point::text::put;
 use crate::point::write_point;
 use crate::stage::opening::look;
 use crate::stage::{CLOSED, OPEN, Stage, StageFault};
 use arrayvec::ArrayVec;
 use std::alloc::{AllocError, Global};
 use tape_core::Checkpoint;
-use tape_label::digits_of;
+use tape_label::{digits_of, put};
 
 /// Returns the bytes after a gate: the generation, the checkpoint and spaces.
 pub(crate) fn body_bytes(generation: u64, point: Checkpoint) -> [u8; 127]
