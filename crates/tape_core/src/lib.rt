@@ -14,6 +14,6 @@ mod sink;
 pub use checkpoint::{Checkpoint, Known};
 pub use event::{Answer, Awaited, CoreFault, Event, Reason};
 pub use memory::MemorySink;
-pub use reader::ReaderCore;
+pub use reader::{ReaderCore, goes_on_at, shape_of};
 pub use refusing::Refusing;
 pub use sink::{PartSink, PartWalk, SinkFault};

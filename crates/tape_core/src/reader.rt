@@ -17,7 +17,7 @@ ghost use Rattle.tape_core.specs.Table as Table;
 
 use crate::checkpoint::{Checkpoint, Known};
 use crate::event::{Answer, CoreFault, Event, Phase, Reason};
-use crate::reader::judging::shape_of;
+pub use crate::reader::judging::{goes_on_at, shape_of};
 use std::marker::Model;
 use tape_blocks::Shape;
 use tape_label::{Field, same_field};

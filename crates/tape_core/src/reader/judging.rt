@@ -52,7 +52,7 @@ pub(crate) fn judge_awaited(
 }
 
 /// Returns the shape of the file's blocks, as far as readers check it.
-pub(crate) fn shape_of(known: &Known) -> Shape
+pub fn shape_of(known: &Known) -> Shape
     ensures format { result.format ≡ known.now.format }
     ensures rec_len { result.rec_len ≡ known.now.rec_len }
     ensures offset { result.offset ≡ known.now.offset }
@@ -70,7 +70,7 @@ pub(crate) fn shape_of(known: &Known) -> Shape
 
 /// Returns whether the block's first unit continues a record: in format S its indicator is `2` or
 /// `3`.
-fn goes_on_at(format: Format, offset: u8, block: &[u8]) -> bool
+pub fn goes_on_at(format: Format, offset: u8, block: &[u8]) -> bool
     ensures { result ≡ Parts'.goes_on_at format offset block.now }
 {
     match format {

@@ -2,7 +2,7 @@
 
 ghost use Rattle.std.specs.Prelude.{◌≡◌, ◌≤◌, length, IfOk, IfErr, OnOk, Ok, Bool, Some};
 ghost use Rattle.tape_blocks.specs.{Judged.judged, Parts.view, Packing.longest_block};
-ghost use Rattle.tape_core.specs.Parts.{goes_on_at, parts_in};
+ghost use Rattle.tape_core.specs.Parts.{parts_in};
 ghost use Rattle.tape_run.specs.SalvageRecords.{Piece, Start, HasPiece, nothing, with_part};
 ghost use Rattle.tape_run.specs.Checked.{IsCheckFault};
 ghost use Rattle.tape_run.specs.SalvageRecords.{with_parts, torn, mended, found_fault, is_cut};
@@ -12,9 +12,8 @@ use crate::fault::{EngineFault, NO_MEMORY};
 use crate::text::write_text;
 use std::alloc::Global;
 use std::io::Write;
-use tape_blocks::{BlockFault, Form, Part, Parts, Shape, Span, check_block};
-use tape_core::Known;
-use tape_label::Format;
+use tape_blocks::{BlockFault, Form, Part, Parts, Span, check_block};
+use tape_core::{Known, goes_on_at, shape_of};
 
 /// Writes the records of blocks as they come, except records of which a part is missing. Buffers
 /// only an unfinished record.
@@ -32,38 +31,6 @@ pub struct Mender<W> {
     begun: bool,
     /// Whether something is missing, and no record has begun since.
     torn: bool,
-}
-
-/// Returns the shape of a file's blocks, as far as a reader depends on it.
-fn shape_of(form: &Known) -> Shape
-    ensures format { result.format ≡ form.now.format }
-    ensures rec_len { result.rec_len ≡ form.now.rec_len }
-    ensures offset { result.offset ≡ form.now.offset }
-{
-    Shape {
-        format: form.format,
-        block_len: 0,
-        rec_len: form.rec_len,
-        offset: form.offset,
-        pad_full: false,
-    }
-}
-
-/// Returns whether the block begins with a part that continues a record: in format S its indicator
-/// is `2` or `3`.
-fn goes_on_at(format: Format, offset: u8, block: &[u8]) -> bool
-    ensures { result ≡ goes_on_at format offset block.now }
-{
-    match format {
-        Format::Fixed | Format::Counted => false,
-        Format::Spanned => {
-            let offset = usize::from(offset);
-            if offset >= block.len() {
-                return false;
-            }
-            matches!(block[offset], b'2' | b'3')
-        }
-    }
 }
 
 impl<W: Write> Mender<W> {
