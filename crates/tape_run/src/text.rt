@@ -12,6 +12,7 @@ use arrayvec::{ArrayString, ArrayVec};
 use std::fmt::{self, Display, Write as _};
 use std::io::Write;
 use std::str;
+use tape_image::write_bytes;
 use tape_label::Field;
 pub use tape_label::put;
 
@@ -133,16 +134,10 @@ pub fn write_text<W: Write>(writer: &mut W, text: &[u8]) -> Result<(), WriteFail
     ensures err { OnErr result
         (AppendsFront (W.contents writer.old) (W.contents writer.new) text.now) }
 {
-    let mut rest = text;
-    'writes: while !rest.is_empty() {
-        match writer.write(rest) {
-            Ok(0) => return Err(WriteFailed),
-            Ok(n) => rest = &rest[n..],
-            // An interruption is a failure too, although std's own calls would try again.
-            Err(_) => return Err(WriteFailed),
-        }
+    match write_bytes(writer, text) {
+        Ok(()) => Ok(()),
+        Err(_) => Err(WriteFailed),
     }
-    Ok(())
 }
 
 /// Writes a line in a single call.
