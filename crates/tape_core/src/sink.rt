@@ -72,8 +72,8 @@ pub trait PartSink {
     ///
     /// # Errors
     ///
-    /// Returns `Full` if the total weight would exceed 999,999,999,999,999, otherwise `OutOfMemory`,
-    /// `Device` or `Failed` of the sink. On error the contents are unchanged.
+    /// Returns `Full` if the total weight would exceed 999,999,999,999,999; otherwise
+    /// `OutOfMemory`, `Device` or `Failed` of the sink. On error the contents are unchanged.
     fn put(&mut self, part: Part<'_>) -> Result<(), SinkFault>
         requires { length part.bytes.now ≤ longest_block }
         ensures ok { OnOk result ((parts : List Portion) → holds self.old parts

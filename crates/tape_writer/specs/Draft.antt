@@ -143,8 +143,8 @@ pub record Steady (volumes : List Volume) (capacity : ℕ) (set_id : List ℕ) (
   pub inside : Within volumes capacity set_id file course d.blocks d
   pub begins : d.blocks ≡ [] → OfLast (placed d) (λ ys x. (x.file ≡ file.head.sequence) → ⊥)
 
--- the position after a section has ended with EOV1 and EOV2: VOL1 and the headers are written on the
--- next volume
+-- the position after a section has ended with EOV1 and EOV2: VOL1 and the headers are written on
+-- the next volume
 abbrev pub changed_course : Course → Course
 changed_course course =
     record { volume = course.volume + 1; sect = course.sect + 1; count = 0; used = 268 }
