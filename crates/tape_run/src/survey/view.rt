@@ -196,7 +196,7 @@ fn view_items<R: Read>(
     let mut damaged = Vec::new(alloc);
     let mut digest = 0;
     'items: loop {
-        match image.next() {
+        let stop = match image.next() {
             Ok(Some(item)) => {
                 note_met(files, head_in(&phase, item))?;
                 note_form(files, form_in(&phase, item))?;
@@ -208,32 +208,23 @@ fn view_items<R: Read>(
                 digest = digest_in(digest, &phase, item);
                 glance = look(&glance, &phase, item, &behind);
                 phase = behind;
+                continue 'items;
             }
             Ok(None) => {
                 let Some(ending) = image.ending() else {
                     unreachable!()
                 };
-                close(sections, phase)?;
-                note_damage(&mut damaged, &phase.under_way())?;
-                let stop = stop_at(ending);
-                let damaged = Sequence::of_vec(damaged);
-                return Ok(ImageSurvey {
-                    glance,
-                    stop,
-                    damaged,
-                });
+                stop_at(ending)
             }
-            Err(fault) => {
-                close(sections, phase)?;
-                note_damage(&mut damaged, &phase.under_way())?;
-                let stop = ImageStop::Fault(fault);
-                let damaged = Sequence::of_vec(damaged);
-                return Ok(ImageSurvey {
-                    glance,
-                    stop,
-                    damaged,
-                });
-            }
-        }
+            Err(fault) => ImageStop::Fault(fault),
+        };
+        close(sections, phase)?;
+        note_damage(&mut damaged, &phase.under_way())?;
+        let damaged = Sequence::of_vec(damaged);
+        return Ok(ImageSurvey {
+            glance,
+            stop,
+            damaged,
+        });
     }
 }

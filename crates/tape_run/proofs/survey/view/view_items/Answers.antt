@@ -10,6 +10,7 @@ use Rattle.tape_run.specs.SurveyLocations.{with_location}
 use Rattle.tape_run.proofs.SurveyLooks.{looks_start, looks_more, labels_noted, viewed_end}
 use Rattle.tape_run.proofs.{NotedSoFar.one_block, SurveyLooks.viewed_fault}
 use Rattle.tape_run.proofs.survey.view.view_items.Goals as goal
+use Rattle.tape_run.proofs.survey.view.view_items.Goals.{in-Ok-None+in-Some, in-Err}
 
 pub items-init : goal.items-init
 items-init g c =
@@ -63,27 +64,26 @@ items-preserved g c =
           c.digest_in-digest.ensures looks;
     }
 
-pub returns-in-Ok-None-clause-ok : goal.returns-in-Ok-None-clause-ok
-returns-in-Ok-None-clause-ok g c =
+pub returns-in-items-clause-ok : goal.returns-in-items-clause-ok
+returns-in-items-clause-ok g c =
     let next = c.next.follows.lender-at-none in
-    let met = met_end c.items.image _ next c.next.follows.holds-at-none c.items.invariant.on
-    (c.in-Ok-None.is ∙ ap Ok c.in-Ok-None.field-0-is) in
-    let ending = same_some c.in-Some.ending met.ending c.ending.result c.in-Some.is
-    (c.ending.ensures ∙ ap ending_of met.ended) in
-    viewed_end _ c.items.image.left next.left c.items.image.place next.place _ met.ending _ _ _
-    _ c.items.phase _ _ _ _ _ _ _ _ c.items.invariant.looked met.takes
-    c.in_ok-close-in-Ok-None.ensures.ok (c.stop_at-stop.ensures ∙ ap stop_at ending)
-    (c.of_vec-damaged.ensures ∙ c.in_ok-note_damage-in-Ok-None.ensures.ok
-    ∙ ap (λ (o : Option Told). c.items.damaged.items ++ damages_in (in_list o)) c.under_way.ensures)
-
-pub returns-in-Err-clause-ok : goal.returns-in-Err-clause-ok
-returns-in-Err-clause-ok g c =
-    let next = c.next.follows.lender-at-none in
-    let met = met_fault c.items.image _ next c.in-Err.fault c.next.follows.holds-at-none
-    c.items.invariant.on c.in-Err.is in
-    viewed_fault _ c.items.image.left next.left c.items.image.place _ c.in-Err.fault _ _ _
-    _ c.items.phase _ _ _ _ _ _ _ _ c.items.invariant.looked met.takes
-    c.in_ok-close-in-Err.ensures.ok refl
-    (c.of_vec-damaged-in-Err.ensures ∙ c.in_ok-note_damage-in-Err.ensures.ok
-    ∙ ap (λ (o : Option Told). c.items.damaged.items ++ damages_in (in_list o))
-    c.under_way-in-Err.ensures)
+    let lists = c.of_vec-damaged.ensures ∙ c.in_ok-note_damage.ensures.ok
+    ∙ ap (λ (o : Option Told). c.items.damaged.items ++ damages_in (in_list o)) c.under_way.ensures
+    in
+    elim c.match-next.branch [
+      | in-Ok-None+in-Some w ↦
+          let met = met_end c.items.image _ next c.next.follows.holds-at-none c.items.invariant.on
+          (w.in-Ok-None.is ∙ ap Ok w.in-Ok-None.field-0-is) in
+          let ending = same_some w.in-Some.ending met.ending w.ending.result w.in-Some.is
+          (w.ending.ensures ∙ ap ending_of met.ended) in
+          viewed_end _ c.items.image.left c.match-next.image.left c.items.image.place next.place _
+          met.ending _ _ _ _ c.items.phase _ _ _ _ _ _ _ _ c.items.invariant.looked
+          (rw w.image-is met.takes) c.in_ok-close.ensures.ok
+          (w.stop-is ∙ (w.stop_at-stop.ensures ∙ ap stop_at ending)) lists
+      | in-Err w ↦
+          let met = met_fault c.items.image _ next w.in-Err.fault c.next.follows.holds-at-none
+          c.items.invariant.on w.in-Err.is in
+          viewed_fault _ c.items.image.left c.match-next.image.left c.items.image.place _
+          w.in-Err.fault _ _ _ _ c.items.phase _ _ _ _ _ _ _ _ c.items.invariant.looked
+          (rw w.image-is met.takes) c.in_ok-close.ensures.ok w.stop-is lists
+    ]
