@@ -83,11 +83,13 @@ pub fn extract_order<'a>(
 }
 
 /// Recovers the file that the arguments name. If `explained`, names each image on standard error
-/// before it is read. On error, `site` says where it occurred.
+/// before it is read. If something is missing, `awaited` says what is expected next. On error,
+/// `site` says where it occurred.
 pub fn extract<'a, R: Progress>(
     rt: &R,
     order: &ExtractOrder<'a>,
     explained: bool,
+    awaited: &mut Option<Want>,
     site: &mut FaultSite<'a>,
 ) -> Result<End, Refusal> {
     let task = &order.task;
@@ -100,13 +102,14 @@ pub fn extract<'a, R: Progress>(
     let images = &mut Images::new(rt, names.as_slice());
     images.reels = explained.then_some(0);
     let Some(path) = task.stage else {
-        return Ok(extract_now(rt, task, images, way)?);
+        return Ok(extract_now(rt, task, images, way, awaited)?);
     };
     *site = FaultSite::Stage(path);
     let mut session = session_in(rt.host(), path, task.set_id, task.file)?;
     *site = FaultSite::Out(task.out);
     let output = Output::new(rt, task.out, way)?;
     let end = gather(task, images, output, &mut io::writer(rt), &mut session);
+    *awaited = session.want();
     if let End::Faulted(ToolFault::Run(_)) = end {
         *site = FaultSite::Stage(path);
     }
@@ -135,12 +138,13 @@ pub fn are_files<R: Host>(rt: &R, names: &[&str]) -> bool {
 /// Recovers a file without a stage. If the images are read once, writes the records as they are
 /// read, unless the output is written in place; otherwise holds its data in memory. If the images
 /// are read repeatedly, the data of a suspect reel can be dropped again: the session has a
-/// checkpoint at its start.
+/// checkpoint at its start. If something is missing, `awaited` says what is expected next.
 fn extract_now<R: Progress>(
     rt: &R,
     task: &Task<'_>,
     images: &mut Images<'_, R>,
     way: Way,
+    awaited: &mut Option<Want>,
 ) -> Result<End, ToolFault> {
     let report = &mut io::writer(rt);
     let sink = MemorySink::new(rt.alloc());
@@ -159,10 +163,15 @@ fn extract_now<R: Progress>(
                 return Ok(draft.ended(End::WrongWords));
             };
             let answer = extract_streaming(&mut session, images, task.form, &mut draft, report);
+            *awaited = session.want();
             drop(session);
             Ok(draft.ended(end_as_written(answer)))
         }
-        output => Ok(gather(task, images, output, report, &mut session)),
+        output => {
+            let end = gather(task, images, output, report, &mut session);
+            *awaited = session.want();
+            Ok(end)
+        }
     }
 }
 

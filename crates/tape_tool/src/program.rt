@@ -256,13 +256,13 @@ fn perform<'a, R: Progress>(rt: &R, words: &'a [String]) -> (End, Option<FaultSi
         Ok(value) => call.explained || !value.as_str().is_empty(),
         Err(_) => call.explained,
     };
-    let mut site = FaultSite::Unknown;
+    let (mut site, mut awaited) = (FaultSite::Unknown, None);
     let done = match &call.order {
         Order::List(order) => list(rt, *order, &mut site),
         Order::Init(order) => Ok(end_of(init(rt, order, &mut site))),
         Order::Check(named, wording) => check(rt, named, *wording, &mut site),
         Order::Write(order) => write(rt, order, &mut site),
-        Order::Extract(order) => extract(rt, order, explained, &mut site),
+        Order::Extract(order) => extract(rt, order, explained, &mut awaited, &mut site),
         Order::Unpack(order) => unpack(rt, order, &mut site),
         Order::Salvage(order) => salvage(rt, order, &mut site),
         Order::Stage(order) => stage(rt, order, &mut site),
@@ -273,7 +273,7 @@ fn perform<'a, R: Progress>(rt: &R, words: &'a [String]) -> (End, Option<FaultSi
         Err(refusal) => end_refused(rt, call.spec, refusal),
     };
     if explained && end == End::Incomplete {
-        explain_missing(rt, &call.order);
+        explain_missing(rt, &call.order, awaited);
     }
     (end, explained.then_some(site))
 }

@@ -9,22 +9,25 @@ use crate::unpack::UnpackOrder;
 use crate::words::set_id_of;
 use std::alloc::{AllocError, Global};
 use tape_label::Field;
-use tape_run::{FoundFiles, SectionKey, find_files, means, volume_of};
+use tape_run::{FoundFiles, SectionKey, SetFile, find_files, means, volume_of};
+use tape_set::Want;
 
 /// The maximum number of sets, or of files, that an explanation lists.
 const MOST: usize = 8;
 
-/// Explains on standard error what is missing after this command.
-pub fn explain_missing<R: Progress>(rt: &R, order: &Order<'_>) {
-    let _ = match text_by_images(rt, order) {
+/// Explains on standard error what is missing after this command. `awaited` is the part of the file
+/// that `extract` expects next.
+pub fn explain_missing<R: Progress>(rt: &R, order: &Order<'_>, awaited: Option<Want>) {
+    let _ = match text_by_images(rt, order, awaited) {
         Some(text) => rt.eprint(format_args!("  {text}\n")),
         None => rt.eprint(format_args!("  {}\n", general_text(order))),
     };
 }
 
-/// The explanation by what the images of the command contain, which are read again. `None` if a
-/// command has none, or if they cannot be read twice.
-fn text_by_images<R: Progress>(rt: &R, order: &Order<'_>) -> Option<String> {
+/// Returns the explanation by what the images of the command contain, which are read again. Returns
+/// `None` if a command has none, if they cannot be read twice, or if they do not show what is
+/// missing.
+fn text_by_images<R: Progress>(rt: &R, order: &Order<'_>, awaited: Option<Want>) -> Option<String> {
     let named = match order {
         Order::Extract(order) => &order.images,
         Order::Salvage(order) => &order.images,
@@ -42,53 +45,60 @@ fn text_by_images<R: Progress>(rt: &R, order: &Order<'_>) -> Option<String> {
         return None;
     }
     let met = &find_files(rt.alloc(), &mut Images::new(rt, names)).ok()?;
-    let alloc = rt.alloc();
-    let shelf = Shelf { alloc, names, met };
+    let shelf = Shelf {
+        alloc: rt.alloc(),
+        names,
+        met,
+        awaited: awaited.map(|want| want.sect),
+        again: matches!(order, Order::Extract(order) if order.task.again),
+    };
     match order {
-        Order::Extract(order) => shelf.file_text(order.task.set_id, order.task.file).ok(),
-        Order::Salvage(order) => shelf.file_text(order.task.set_id, order.task.file).ok(),
+        Order::Extract(order) => shelf.file_text(order.task.set_id, order.task.file).ok()?,
+        Order::Salvage(order) => shelf.file_text(order.task.set_id, order.task.file).ok()?,
         Order::Unpack(order) => shelf.choice_text(order),
         _ => None,
     }
 }
 
-/// The images of a command, by their names, and what is on them.
+/// The images of a command, by their names, what is on them, and how they were read.
 #[derive(Clone, Copy)]
 struct Shelf<'n> {
     alloc: Global,
     names: &'n [&'n str],
     met: &'n FoundFiles,
+    /// The section that `extract` expects next, or `None` for another command.
+    awaited: Option<u16>,
+    /// Whether `extract` read the images until a pass recovered nothing.
+    again: bool,
 }
 
 impl Shelf<'_> {
-    /// What is missing of a file, by its labels and sections.
-    fn file_text(&self, set_id: Field<6>, file: u16) -> Result<String, AllocError> {
+    /// Returns what is missing of a file, by its labels and sections. Returns `None` if these do
+    /// not show it.
+    fn file_text(&self, set_id: Field<6>, file: u16) -> Result<Option<String>, AllocError> {
         let files = self.met.files.as_slice();
         let found = files
             .iter()
             .find(|found| found.set_id == set_id && found.file == file);
         let text = match found {
             None if !files.iter().any(|found| found.set_id == set_id) => {
-                return self.no_set_text(set_id);
+                self.no_set_text(set_id)?
             }
-            None => return self.no_file_text(set_id),
+            None => self.no_file_text(set_id)?,
             Some(found) if found.differs => {
-                "Labels of different files have this number, or complete copies of a section
+                String::from_str(
+                    self.alloc,
+                    "Labels of different files have this number, or complete copies of a section
   of the file differ: 'tape survey' says which.
-  Keep the images of each set in a directory of its own."
+  Keep the images of each set in a directory of its own.",
+                )?
             }
-            Some(found) => match found.lacks {
-                Some(sect) => return self.section_text(SectionKey { set_id, file, sect }),
-                None => {
-                    "Each section of the file is complete on some image. With --again, tape reads
-  the images until they yield nothing more, and their order does not matter."
-                }
-            },
+            Some(found) => return self.section_text(found),
         };
-        String::from_str(self.alloc, text)
+        Ok(Some(text))
     }
 
-    /// No file of the set was found.
+    /// Returns the text if no file of the set was found.
     fn no_set_text(&self, set_id: Field<6>) -> Result<String, AllocError> {
         let (set, sets) = (shown(self.alloc, &set_id)?, self.list_of(None)?);
         if sets.is_empty() {
@@ -105,7 +115,7 @@ impl Shelf<'_> {
         )
     }
 
-    /// No label of the file was found.
+    /// Returns the text if no label of the file was found.
     fn no_file_text(&self, set_id: Field<6>) -> Result<String, AllocError> {
         let (set, numbers) = (shown(self.alloc, &set_id)?, self.list_of(Some(set_id))?);
         format!(in self.alloc;
@@ -115,17 +125,43 @@ impl Shelf<'_> {
         )
     }
 
-    /// A section of the file is complete on no image.
-    fn section_text(&self, key: SectionKey) -> Result<String, AllocError> {
-        let SectionKey { set_id, file, sect } = key;
-        let before = sect.saturating_sub(1);
-        if let Some(on) = self.image_of(key)? {
-            return format!(in self.alloc;
+    /// Returns the text about the section that `extract` expects next or, for `salvage`, about the
+    /// first one that is complete on no image. Returns `None` if it is unknown whether an image has
+    /// that section completely, or why it was not recovered.
+    fn section_text(&self, found: &SetFile) -> Result<Option<String>, AllocError> {
+        let SetFile { set_id, file, .. } = *found;
+        let Some(sect) = self.awaited.or(found.lacks) else {
+            return Ok(None);
+        };
+        let key = SectionKey { set_id, file, sect };
+        let Some(on) = self.image_of(key)? else {
+            return Ok(Some(self.no_section_text(key)?));
+        };
+        let text = match found.lacks {
+            Some(lacks) if lacks < sect => return Ok(None),
+            Some(lacks) if lacks == sect => format!(in self.alloc;
                 "Section {sect} of file {file} is complete on no image. It begins on
   {on}.
   Look for another copy of that reel, or for another image of it."
-            );
-        }
+            )?,
+            _ if self.again => return Ok(None),
+            Some(_) => format!(in self.alloc;
+                "Section {sect} of file {file} is complete on some image. With --again, tape
+  reads the images until they yield nothing more; their order does not matter."
+            )?,
+            None => String::from_str(
+                self.alloc,
+                "Each section of the file is complete on some image. With --again, tape reads
+  the images until they yield nothing more, and their order does not matter.",
+            )?,
+        };
+        Ok(Some(text))
+    }
+
+    /// Returns the text if a section of the file is on no image.
+    fn no_section_text(&self, key: SectionKey) -> Result<String, AllocError> {
+        let SectionKey { set_id, file, sect } = key;
+        let before = sect.saturating_sub(1);
         let earlier = SectionKey {
             set_id,
             file,
@@ -144,7 +180,7 @@ impl Shelf<'_> {
         }
     }
 
-    /// The volume and the name of the image on which a section begins, if one is known.
+    /// Returns the volume and the name of an image on which a section begins, if there is one.
     fn image_of(&self, key: SectionKey) -> Result<Option<String>, AllocError> {
         let Some(at) = self.met.locations.get(&key) else {
             return Ok(None);
@@ -161,7 +197,8 @@ impl Shelf<'_> {
         Ok(Some(format!(in self.alloc; "volume {volume}, image {name}")?))
     }
 
-    /// What was chosen to be unpacked and not found, or `None` if something else is missing.
+    /// Returns what was chosen to be unpacked and not found. Returns `None` if something else is
+    /// missing.
     fn choice_text(&self, order: &UnpackOrder<'_>) -> Option<String> {
         let set_id = order.set.and_then(set_id_of)?;
         let files_of_set = || self
@@ -181,8 +218,8 @@ impl Shelf<'_> {
         None
     }
 
-    /// The first sets that were found, each once, or the numbers of the first files of set `of`. A
-    /// list with the maximum number of names ends with an ellipsis.
+    /// Returns the first sets that were found, each once, or the numbers of the first files of set
+    /// `of`. A list of more than the maximum number of names ends with an ellipsis.
     fn list_of(&self, of: Option<Field<6>>) -> Result<String, AllocError> {
         let (mut text, mut count) = (String::new(self.alloc), 0);
         let mut before: Option<Field<6>> = None;
@@ -208,7 +245,7 @@ impl Shelf<'_> {
     }
 }
 
-/// An identifier without the spaces at its end.
+/// Returns an identifier without the spaces at its end.
 fn shown(alloc: Global, field: &Field<6>) -> Result<String, AllocError> {
     let mut text = String::new(alloc);
     for byte in field.bytes() {
@@ -218,7 +255,7 @@ fn shown(alloc: Global, field: &Field<6>) -> Result<String, AllocError> {
     text.as_str().trim_end().to_string(alloc)
 }
 
-/// The explanation that holds whatever the images contain.
+/// Returns the explanation that is true whatever the images contain.
 fn general_text(order: &Order<'_>) -> &'static str {
     match order {
         Order::Check(_, None) =>

@@ -20,8 +20,9 @@
 //!   `cut FILE LENGTH` its length.
 //! - `worked FILE ..` creates the example image, `front FILE LENGTH` its first bytes,
 //!   `damaged FILE BLOCK` an image with an unreadable block, `lost FILE` one without its second
-//!   block, `first FILE` and `second FILE` the volumes of the example file on two, `records FILE`
-//!   its records, and `second_file FILE` a volume without the first file of its set.
+//!   block, `first FILE` and `second FILE` the volumes of the example file on two,
+//!   `first_damaged FILE BLOCK` the first one with an unreadable block, `records FILE` its records,
+//!   and `second_file FILE` a volume without the first file of its set.
 //! - `has FILE TEXT`, `at FILE OFFSET TEXT`, `length FILE COUNT`, `is_worked FILE`,
 //!   `missing FILE ..` and `allowed FILE MODE` check the contents of a file, the bytes at an
 //!   offset, the length, that it is the example image or does not exist, and its permissions.
@@ -244,7 +245,7 @@ fn take(rt: &HostRuntime, word: &str, rest: &str) -> Result<bool, Fail> {
             let bytes = example(alloc, word, 0)?;
             put(rt, path, bytes.as_slice().get(..number).unwrap_or(&[]))
         }
-        "damaged" | "lost" | "first" | "second" | "second_file" => {
+        "damaged" | "lost" | "first" | "first_damaged" | "second" | "second_file" => {
             put(rt, path, example(alloc, word, number)?.as_slice())
         }
         "records" => put(rt, path, payroll(alloc)?.as_slice()),

@@ -125,6 +125,60 @@ const MISSING: &str = "
     !   No label of set DEF001 was found on these images.
     !   Sets found: ABC001.
     !   Give one of them as SET, or add the images of set DEF001.
+    # A section that is complete on no image may have been recovered from several. For `extract` the
+    # section that AWAITS names counts.
+    first_damaged missing3.tap 1
+    first_damaged missing4.tap 2
+    3$ extract ABC001 1 missing.txt missing3.tap --explain
+    > REEL 1 BAD ITEM
+    > AWAITS 1 1 1
+    !   REEL 1: missing3.tap
+    !   Section 1 of file 1 is complete on no image. It begins on
+    !   volume ABC001, image missing3.tap.
+    !   Look for another copy of that reel, or for another image of it.
+    3$ extract ABC001 1 missing.txt missing3.tap missing4.tap --again --explain
+    > REEL 1 BAD ITEM
+    > REEL 2 SECTION DONE
+    > REEL 3 EARLIER SECTION
+    > REEL 4 EARLIER SECTION
+    > AWAITS 1 2 0
+    !   REEL 1: missing4.tap
+    !   REEL 2: missing3.tap
+    !   REEL 3: missing4.tap
+    !   REEL 4: missing3.tap
+    !   Section 2 of file 1 is on no image. It follows section 1 on
+    !   volume ABC001, image missing4.tap.
+    !   Look for the reel that comes after that one.
+    3: salvage ABC001 1 missing_one.txt missing4.tap missing3.tap --explain
+    !   Section 1 of file 1 is complete on no image. It begins on
+    !   volume ABC001, image missing3.tap.
+    !   Look for another copy of that reel, or for another image of it.
+    # Sections that were recovered earlier are in the stage, and on none of these images.
+    fill missing.bin 600 9
+    0: write . MIS 1042 MANY=missing.bin --format S --block 18 --form raw
+    3: extract MIS001 1 missing.txt MIS001.tap --stage missing.stage
+    3$ extract MIS001 1 missing.txt MIS003.tap --stage missing.stage --explain
+    > REEL 1 LATER SECTION
+    > AWAITS 1 2 0
+    !   REEL 1: MIS003.tap
+    !   Section 2 of file 1 is on no image: look for the reel with its
+    !   beginning. 'tape survey' shows which volumes were found.
+    # Sections were named in the wrong order, and the file has a third one.
+    3$ extract MIS001 1 missing.txt MIS002.tap MIS001.tap --explain
+    > REEL 1 LATER SECTION
+    > REEL 2 SECTION DONE
+    > AWAITS 1 2 0
+    !   REEL 1: MIS002.tap
+    !   REEL 2: MIS001.tap
+    !   Section 2 of file 1 is complete on some image. With --again, tape
+    !   reads the images until they yield nothing more; their order does not matter.
+    # Whether section 2 is complete was not determined, because section 1 is on no image.
+    cut MIS002.tap 700
+    3: extract MIS001 1 missing.txt MIS002.tap --stage missing.stage --explain
+    !   REEL 1: MIS002.tap
+    !   The last line says which file, section and block are expected next (AWAITS).
+    !   Look for the reel with that section, or for another copy of it.
+    !   'tape survey' shows which sections the images contain.
     3: check missing1.tap --explain
     !   Each line LACKS names a set, a file and its first section that is complete on
     !   no image: look for another copy of that section. Without such a line, no

@@ -32,14 +32,19 @@ fn push_label(image: &mut Vec<u8>, text: &str) -> Result<(), AllocError> {
 /// - `damaged` has the records in blocks of 400, of which block `bad` is unreadable;
 /// - `first` has no room for the end-of-file labels, and `second` is the volume after it, with an
 ///   empty section;
+/// - `first_damaged` is `first` with the blocks of `damaged`;
 /// - `second_file` has only the second file of its set, without records.
 pub fn example(alloc: Global, name: &str, bad: usize) -> Result<Vec<u8>, AllocError> {
-    let is_damaged = name == "damaged";
+    let is_damaged = name.ends_with("damaged");
     let section = if name == "second" { 2 } else { 1 };
     let file = if name == "second_file" { 2 } else { 1 };
     let is_empty = name == "second" || name == "second_file";
     let id = if file == 2 { "LEDGER " } else { "PAYROLL" };
-    let end = if name == "first" { "EOV" } else { "EOF" };
+    let end = if name.starts_with("first") {
+        "EOV"
+    } else {
+        "EOF"
+    };
     let size = if is_damaged { 400 } else { 800 };
     let most = if is_damaged { 5 } else { 3 };
     let count = if is_empty { 0 } else { most };
