@@ -365,10 +365,11 @@ def lines_one_by_one(t):
 
 
 def full_output(t):
-    calls = (["check", "one.tap"], ["survey", "one.tap"], ["list", "one.tap"], ["init", "d", "ABC", "1"], ["compare", "one.tap", "one.tap"])
+    calls = (["check", "one.tap"], ["survey", "one.tap"], ["list", "one.tap"], ["init", "d", "ABC", "1"], ["compare", "one.tap", "one.tap"],
+        ["write", "d", "ABC", "200000", "A=lines"])
     for words in calls:
         with open("/dev/full", "wb") as full:
-            run = t([*words, "--explain"], REELS, out=full)
+            run = t([*words, "--explain"], REELS | {"lines": LINES}, out=full)
         yield run.status == 1 and run.err.startswith("tape: file fault 4\n  Output: standard output\n"), f"{words}: {run.err!r}"
     for words, files, reels in (([*EXTRACT[:3], "/dev/full", "one.tap", "two.tap"], REELS, "  REEL 1: one.tap\n  REEL 2: two.tap\n"),
             (["stage", "s", "/dev/full"], {"s": t.stage}, "")):

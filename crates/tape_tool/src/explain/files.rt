@@ -15,9 +15,8 @@ pub const FILE_OF_IMAGES: &str = "
 #3  An input or an existing image could not be read: is it a directory, or is the
   disk failing? Images that were started, if any, are no longer blank: remove
   them before you try again.
-#4  Writing failed: the disk is full, or standard output was closed.
-  Images that were started, if any, are no longer blank: remove them before you
-  try again.";
+#4  An image could not be written completely: is the disk full? Images that were
+  started are no longer blank: remove them before you try again.";
 
 pub const FILE_OF_LINES: &str = "
 #4  Output failed: the disk is full, or the pipe was closed (by 'head', say).

@@ -34,6 +34,14 @@ const SITES: &str = "
     1$ write . TLD 100000 A=told.tap Ab=told.tap --explain =>   Input: Ab=told.tap
     1$ write none TLD 100000 A=told.stage --explain =>   DIR: none
     ~   An image or an input could not be opened or created.
+    # The set is complete if only standard output fails, and its images remain.
+    1$ write . TLS 100000 A=told.stage --explain
+    * full
+    ~   Output: standard output
+    ~   Output failed: the disk is full,
+    0: check TLS001.tap
+    1$ write . FUL 100000 A=told.stage --explain =>   DIR: .
+    ~   An image could not be written completely: is the disk full?
     1$ extract ABC001 1 told.tap lost.tap --explain =>   OUT: told.tap
     ~   OUT already exists and might be a tape image,
     1$ check told.tap --files-from lost.names --explain =>   List: lost.names

@@ -55,6 +55,7 @@ pub fn write<'a, R: Progress>(
     *site = FaultSite::Images(order.folder);
     let ended = write_in_folder(rt.host(), &plan, files.as_mut_slice());
     let ended = ended.map_err(|fault| ToolFault::from(fault))?;
+    *site = FaultSite::Lines;
     let said = say(&mut io::writer(rt), files.len() as u64, ended.as_slice());
     Ok(end_of(said.map_err(|fault| ToolFault::from(fault))))
 }
