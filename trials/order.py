@@ -269,6 +269,9 @@ def log_of_a_merge(t):
         yield run.status == 1 and run.files[path] == b"mine\n" and not set(due) - {path} & set(run.files), f"{path} exists: {run.status} {list(run.files)}"
         run = t(words, REELS, before=lambda root: (root / path).symlink_to("lost"))
         yield run.status == 1 and run.links == [path] and "lost" not in run.files, f"{path} is a link: {run.status}"
+    for log, out in (("x", "x"), ("d/../x", "x")):
+        run = t(["merge", "--log", log, out, "one.tap", "one.tap"], REELS)
+        yield run.status == 2 and run.out == "" and "x" not in run.files, f"LOG {log}, OUT {out}: {run.status} {run.out!r}"
     for what, run in refused(t, words, REELS, ("fsync", "EIO"), ("write", "ENOSPC"), ("link,linkat,rename", "EIO")):
         there = {path: run.files[path] for path in due if path in run.files}
         yield run.drafts() == [] and (there == due or run.status == 1 and not there), f"{what}: {run.status} {list(there)}"

@@ -15,7 +15,7 @@ use crate::staging::session_in;
 use crate::words::{FORM, form_of, named, out_of, set_id_of, text_of};
 use clap::ArgMatches;
 pub use draft::Draft;
-pub use out::{Output, Way, way_to_out};
+pub use out::{Output, Way, is_one_name, way_to_out};
 use std::alloc::Global;
 use std::io::Write;
 use std::{fs, io};

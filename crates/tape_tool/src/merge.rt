@@ -2,7 +2,7 @@
 
 use crate::command_spec::{CommandSpec, Kind, Word};
 use crate::explain::FaultSite;
-use crate::extract::{Draft, Output};
+use crate::extract::{Draft, Output, is_one_name};
 use crate::fault::{FileFault, OUT_OF_MEMORY, ToolFault};
 use crate::help;
 use crate::images::{Images, Named, names_of};
@@ -74,6 +74,11 @@ pub fn merge<'a, R: Progress>(
         return Ok(merge_files(rt, order, names, io::sink(), &mut Nowhere, no_rows, site));
     };
     *site = FaultSite::New(path);
+    if let Some(log) = order.log
+        && is_one_name(rt.host(), log, path)?
+    {
+        return Err(Refusal::Words(help::LOG_IS_OUT));
+    }
     let (mut draft, out) = Draft::new(rt, path)?;
     let end = match order.log {
         None => merge_files(rt, order, names, out, &mut draft, no_rows, site),

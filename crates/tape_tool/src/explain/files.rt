@@ -53,8 +53,9 @@ pub const FILE_OF_OUT: &str = "
   Free some space, or choose an OUT on another disk, and try again.";
 
 pub const FILE_OF_NEW: &str = "
-#1  OUT already exists. It was not changed, and nothing was read.
-  With 'merge' OUT comes before the images: OUT IMAGE.. Choose a new name.
+#1  OUT already exists, or another program created it meanwhile. It was not
+  changed, and no image was created. Choose a new name.
+  With 'merge' OUT comes before the images: OUT IMAGE..
 #2  OUT could not be created. Nothing was read.
   Does its directory exist, and may you write there?
 #4  Writing to OUT or standard output failed: the disk is full, or a pipe was

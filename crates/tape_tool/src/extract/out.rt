@@ -92,7 +92,11 @@ pub fn way_to_out<R: Host>(
 }
 
 /// Returns whether the paths `one` and `other` name the same entry of the same directory.
-fn is_one_name<R: Host>(rt: &R, one: &str, other: &str) -> Result<bool, FileFault> {
+///
+/// # Errors
+///
+/// Returns `NotOpened` if looking up a directory failed.
+pub fn is_one_name<R: Host>(rt: &R, one: &str, other: &str) -> Result<bool, FileFault> {
     if one == other {
         return Ok(true);
     }

@@ -112,6 +112,8 @@ write './-' for a file of that name";
 pub const LOG_IS_DASH: &str = "LOG must be a file, because the report goes to standard output: \
 write './-' for a file of that name";
 
+pub const LOG_IS_OUT: &str = "LOG and OUT are the same file: choose another name for one of them";
+
 pub const AFTER_MERGE: &str = "Examples:
   tape compare monday.tap tuesday.tap drive2.tap
   tape merge ../out/reel.tap monday.tap tuesday.tap drive2.tap

@@ -85,7 +85,10 @@ const MERGED: &str = "
     at logged.tap 676 \\90\\01\\00\\00
     file fault 1: merge --log log.tsv log4.tap log1.tap log2.tap
     file fault 1: merge --log log1.tap log4.tap log1.tap log2.tap
-    file fault 1: merge --log log4.tap log4.tap log1.tap log2.tap
+    2: merge --log log4.tap log4.tap log1.tap log2.tap
+    ?
+    2: merge --log log1.tap ./log1.tap log1.tap log2.tap => LOG and OUT are the same file
+    ?
     file fault 2: merge --log missing/log.tsv log4.tap log1.tap log2.tap
     3: merge --log log4.tsv log4.tap log1.tap log3.tap
     2: merge --log - log4.tap log1.tap log2.tap
