@@ -167,7 +167,7 @@ const EMFILE: i32 = 24;
 /// Keeps files open under the numbers of closed standard streams. Otherwise the next file to be
 /// opened would get such a number, and would receive the program's output.
 ///
-/// Reading from these files and writing to them fail, as on a closed stream.
+/// As on a closed stream, nothing is read from these files, and writing to them fails.
 ///
 /// # Errors
 ///
