@@ -270,9 +270,9 @@ const RUN: &str = "
   Give the SET and FILE it belongs to, or name another stage.";
 
 const STAGE: &str = "
-#1  This is not a stage, and it was not changed. Is the name right?
-  A file of at most 256 bytes may come from a first run that was interrupted:
-  it contains no data and can be deleted.
+#1  This is not a stage, and it was not changed. Is the name right? A file of at
+  most 256 bytes may be left from an interrupted first run, without recovered
+  data: look at it before you delete it.
 #2  The stage was damaged by another program; it was not changed.
   Use an older copy or start a new stage. 'tape stage --damaged' recovers the
   records before the damage.

@@ -2,7 +2,8 @@
 
 pub const FILE_OF_INPUT: &str = "
 #2  The input could not be opened. Nothing was written.
-  Check its name and your permissions.";
+  Check its name and your permissions.
+#3  The input is a directory. Nothing was written. Name a file.";
 
 /// Faults of the images of `write`, and of its inputs once they are read.
 pub const FILE_OF_IMAGES: &str = "
@@ -76,6 +77,8 @@ pub const FILE_OF_STAGE: &str = "
 pub const FILE_OF_FOLDER: &str = "
 #2  DIR, or a file in it, could not be opened or created. Files reported earlier
   are kept. Does DIR exist, and may you read and write there?
+#3  A .salvaged or .gaps file in DIR could not be read: is the disk failing? It
+  was not changed. Files reported earlier are kept.
 #4  Writing to DIR or standard output failed: the disk is full, or a pipe was
   closed. Files reported earlier, and the stages, are kept. Free some space and
   try again.";

@@ -265,22 +265,27 @@ fn general_text(order: &Order<'_>) -> &'static str {
         Order::Check(_, Some(_)) =>
             "A section is missing or damaged, copies differ, or an image was not read to
   its end: the lines of the files and images say which.",
+        Order::Extract(order) if order.task.again =>
+            "Look for another copy of the section in the last line (AWAITS). If 'survey'
+  says that it is complete, its labels or records could not be used: see the
+  answers above. 'tape salvage' (--form blocks) recovers what can be read.",
         Order::Extract(_) =>
             "The last line says which file, section and block are expected next (AWAITS).
   Look for the reel with that section, or for another copy of it.
   'tape survey' shows which sections the images contain.",
         Order::Unpack(_) =>
-            "AWAITS says which file, section and block of the file are expected next. Run
-  it again with other images: the stage keeps what was recovered.
-  'tape survey' shows all files, and which sections are missing or damaged.",
-        Order::Salvage(_) => "Not every block of the file was found: the lines say what is missing.
-  Another copy of these reels may have it.",
+            "The lines of files and images say what is missing. After AWAITS, run it again
+  with all images, old and new: the stage keeps what was recovered.
+  For CONFLICT and INCOMPLETE IMAGE see 'tape survey'.",
+        Order::Salvage(_) =>
+            "The lines say what is missing, could not be read, or differs. Another copy of
+  these reels may have it. After NO FORM or REFUSED use --form blocks.",
         Order::Stage(_) =>
-            "The stage has only a part of the file: the last line says which file, section
-  and block are expected next. 'tape extract --stage' continues from it.",
+            "The stage has only a part of the file, or is damaged. After AWAITS, 'tape
+  extract --stage' continues from it; after TRUNCATED AT, start a new stage.",
         Order::Merge(_) =>
-            "The images differ, or not all of them were read to their end: the lines say
-  where. Each line names the images by their numbers.",
+            "The images differ (DIFFER), or the image that they form has unreadable items,
+  wrong block counts (COUNT) or no end (CUT): the lines say which.",
         // They do not end so.
         Order::List(_) | Order::Init(_) | Order::Write(_) => NEVER,
     }

@@ -31,6 +31,8 @@ const SITES: &str = "
     ~   Output failed: the disk is full,
     1$ init . TLD 1 --explain =>   Image: ./TLD001.tap
     ~   The image already exists; it was not changed.
+    1$ write . TLD 100000 A=told --explain =>   Input: A=told: Is a directory
+    ~   The input is a directory. Nothing was written.
     1$ write . TLD 100000 A=told.tap Ab=told.tap --explain =>   Input: Ab=told.tap
     1$ write none TLD 100000 A=told.stage --explain =>   DIR: none
     ~   An image or an input could not be opened or created.
@@ -73,6 +75,11 @@ const TOLD: &[(ToolFault, FaultSite<'_>, &str)] = &[
     ),
     (NO_MEMORY, FaultSite::Image("a.tap"), "  Out of memory."),
     (OUT_OF_MEMORY, FaultSite::Out("o"), "  Out of memory."),
+    (
+        ToolFault::File(FileFault::ReadFailed),
+        FaultSite::Folder("d"),
+        "  DIR: d\n  A .salvaged or .gaps file",
+    ),
     (ToolFault::StageInUse, FaultSite::Folder("d"), OF_FAILED),
     (
         ToolFault::Run(RunFault::OtherFile),
@@ -191,6 +198,16 @@ const MISSING: &str = "
     !   Each line LACKS names a set, a file and its first section that is complete on
     !   no image: look for another copy of that section. Without such a line, no
     !   section was found at all. 'tape survey' shows what the images are.
+    3: unpack . missing1.tap --explain
+    !   The lines of files and images say what is missing. After AWAITS, run it again
+    !   with all images, old and new: the stage keeps what was recovered.
+    !   For CONFLICT and INCOMPLETE IMAGE see 'tape survey'.
+    3: stage ABC001.1.PAYROLL.stage --explain
+    !   The stage has only a part of the file, or is damaged. After AWAITS, 'tape
+    !   extract --stage' continues from it; after TRUNCATED AT, start a new stage.
+    3: compare missing1.tap missing2.tap --explain
+    !   The images differ (DIFFER), or the image that they form has unreadable items,
+    !   wrong block counts (COUNT) or no end (CUT): the lines say which.
 ";
 
 #[test]
