@@ -49,7 +49,7 @@ pub fn salvage_order<'a>(
     let Some(set_id) = set_id_of(text_of(matches, "SET")) else {
         return Err(Refusal::Value("SET", help::WRONG_SET));
     };
-    let out = out_of(matches, help::OUT_IS_DASH)?;
+    let out = out_of(matches, help::MERGED_OUT_IS_DASH)?;
     // Blocks are written without terminators.
     let (content, form) = match matches.get_str("form") {
         Some("blocks") => (Content::Blocks, Form::Raw),

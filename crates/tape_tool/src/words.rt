@@ -12,6 +12,7 @@ use std::alloc::Global;
 use tape_blocks::Form;
 use tape_label::Field;
 use tape_writer::Prefix;
+use tape_writer::system::name_in_folder;
 
 /// The maximum number of images in the arguments of a run.
 const MOST_IMAGES: usize = 256;
@@ -51,10 +52,12 @@ pub fn prefix_of<'a>(matches: &ArgMatches<'a>) -> Result<Prefix, Refusal> {
     Prefix::new(text_of(matches, "PRE")).ok_or(Refusal::Value("PRE", help::WRONG_PREFIX))
 }
 
-/// Returns the file OUT. It cannot be standard output, which is refused with the message `dash`.
+/// Returns the file OUT. It cannot be standard output, which is refused with the message `dash`. A
+/// path that does not end with a file name is refused, too.
 pub fn out_of<'a>(matches: &ArgMatches<'a>, dash: &'static str) -> Result<&'a str, Refusal> {
     match text_of(matches, "OUT") {
         "-" => Err(Refusal::Words(dash)),
+        out if name_in_folder(out).is_empty() => Err(Refusal::Words(help::OUT_IS_FOLDER)),
         out => Ok(out),
     }
 }

@@ -50,11 +50,11 @@ const STANDARD_INPUT: &str = "/dev/stdin";
 ///
 /// # Errors
 ///
-/// Returns `Words` if the output is the stage (even one that does not exist yet), the list (even if
-/// it is standard input) or one of the images: the same file, whatever name or link leads to it.
-/// Returns `Faulted` with `Exists` if it
-/// might be a tape: it is not empty, and is named `.tap`, begins like an image, or is compressed,
-/// an archive or a stage; with `NotOpened` or `ReadFailed` if that cannot be determined.
+/// Returns `Words` if the output has no name or is a directory, or if it is the stage (even one
+/// that does not exist yet), the list (even if it is standard input) or one of the images: the same
+/// file, whatever name or link leads to it. Returns `Faulted` with `Exists` if it might be a tape:
+/// it is not empty, and is named `.tap`, begins like an image, or is compressed, an archive or a
+/// stage; with `NotOpened` or `ReadFailed` if that cannot be determined.
 pub fn way_to_out<R: Host>(
     rt: &R,
     out: &str,
@@ -63,7 +63,11 @@ pub fn way_to_out<R: Host>(
     images: &[&str],
 ) -> Result<Way, Refusal> {
     let mut before = None;
-    if let Some(there) = found(fs::metadata(rt, out))? {
+    let there = found(fs::metadata(rt, out))?;
+    if there.as_ref().is_some_and(|there| there.is_dir()) || name_in_folder(out).is_empty() {
+        return Err(Refusal::Words(help::OUT_IS_FOLDER));
+    }
+    if let Some(there) = there {
         if let Some(list) = list {
             let path = list.file.unwrap_or(STANDARD_INPUT);
             differs(rt, &there, path, help::OUT_IS_LIST)?;

@@ -103,8 +103,10 @@ pub const TOO_MANY_TO_COMPARE: &str =
     "compare takes up to 256 IMAGEs, and any number of names from a list:
   tape compare --files-from LIST";
 
-pub const ONE_READING: &str = "at least two readings of the tape are needed";
+pub const ONE_READING: &str =
+    "at least two readings of the tape are needed; 'merge' takes OUT before them";
 
+// Also for `salvage`: its OUT is a new file, too.
 pub const MERGED_OUT_IS_DASH: &str =
     "OUT must be a file, because the report goes to standard output: \
 write './-' for a file of that name";

@@ -28,6 +28,9 @@ pub const TOO_MANY_IMAGES: &str =
 pub const OUT_IS_DASH: &str = "OUT must be a file, because the progress lines go to standard output:
 write './-' for a file of that name, or /dev/stdout to have both";
 
+pub const OUT_IS_FOLDER: &str =
+    "OUT is empty or a directory: name a file, such as ../out/payroll.txt";
+
 pub const OUT_IS_STAGE: &str =
     "OUT is the stage itself and would be overwritten: choose another name";
 

@@ -47,6 +47,15 @@ const FILES: &str = "
     put tap \\01
     0: extract ABC001 1 tap only.tap
     length tap 2025
+    # OUT is a directory, or a path without a file name: nothing is read.
+    folder only_folder
+    link only_link only_folder
+    2: extract ABC001 1 only_folder only.tap | stage only.stage . => OUT is empty or a directory
+    ?
+    2: extract ABC001 1 only_link only.tap | extract ABC001 1 '' only.tap | stage only.stage ''
+    ?
+    2: salvage ABC001 1 none/ only.tap | merge '' only.tap other.tap => OUT is empty or a directory
+    ?
     # The draft beside the output takes the output's name or is removed, and no other file is
     # affected.
     worked whole.tap

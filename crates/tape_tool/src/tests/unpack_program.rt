@@ -203,7 +203,8 @@ const SALVAGED: &str = "
     length salvaged.none 0
     3: salvage ABC001 1 salvaged.lost lost.tap
     file fault 2: salvage ABC001 1 missing/salvaged.txt salvage5.tap
-    2: salvage | salvage ABC001 1 salvaged.word | salvage ABC001 1 - x.tap
+    2: salvage | salvage ABC001 1 salvaged.word
+    2: salvage ABC001 1 - x.tap => the report goes to standard output: write './-'
     2: salvage ABC001 1 salvaged.word x.tap --form tap
     missing salvaged.word
 ";
