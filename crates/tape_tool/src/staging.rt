@@ -210,10 +210,11 @@ pub fn same_file(point: &Checkpoint, set_id: Field<6>, file: u16) -> bool
 ///
 /// # Errors
 ///
-/// Returns `StageInUse` if another run uses the stage; `File` with `NotOpened` if the file cannot be
-/// opened, created or locked; `Stage` with `Device` if the directory cannot be synced, otherwise
-/// with the fault of opening or creating the stage; `Run` with `OtherFile` if the staged data belong
-/// to another file or set, or with `OutOfMemory` if the session's checkpoint cannot be stored.
+/// Returns `StageInUse` if another run uses the stage; `File` with `NotOpened` if the file cannot
+/// be opened, created or locked; `Stage` with `Device` if the directory cannot be synced, otherwise
+/// with the fault of opening or creating the stage; `Run` with `OtherFile` if the staged data
+/// belong to another file or set, or with `OutOfMemory` if the session's checkpoint cannot be
+/// stored.
 pub fn session_in<R: Host>(
     rt: &R,
     path: &str,

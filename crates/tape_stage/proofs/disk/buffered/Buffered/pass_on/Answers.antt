@@ -1,4 +1,4 @@
-use Rattle.std.proofs.Common.{◌≡◌, ◌∙◌, [], arith, inr, refl, rules, subst, sym}
+use Rattle.std.proofs.Common.{◌≡◌, ◌∙◌, ℕ, List, [], arith, inr, refl, rules, subst, sym}
 use Rattle.tape_stage.specs.{Disk.NoMore, Holding.unwritten, Holding.with_held, Holding.LeftTorn}
 use Rattle.tape_stage.proofs.HoldingLaws.{elapses_self, held_elapses, held_twice, left_none}
 use Rattle.tape_stage.proofs.HoldingLaws.{none_left, none_written, torn_both}
@@ -33,27 +33,25 @@ returns-in_default-clause-looks g c = record {
   honest = search rules;
 }
 
--- the bytes that reads return are those on the disk now
-
 module _ (g : Over) (c : In-Ok g) where
   unwritten_is : c.as_slice.result.now
       ≡ unwritten c.args.self.now.on_disk c.args.self.now.bytes.items
   unwritten_is = c.as_slice.ensures.value ∙ sym (none_written _ _ c.if-self.false)
 
+  abbrev held : List ℕ → List ℕ
+  held = with_held c.args.self.now.start c.args.self.now.bytes.items
+
   -- the buffered bytes are on the disk now
   written_twice : g.D.Disk.is_honest c.args.self.now.disk
-      → (g.D.Disk.seen c.write_at.new.self
-      ≡ with_held c.args.self.now.start c.args.self.now.bytes.items (g.D.Disk.seen c.args.self.now.disk))
-      × (with_held c.args.self.now.start c.args.self.now.bytes.items (g.D.Disk.seen c.write_at.new.self)
-      ≡ with_held c.args.self.now.start c.args.self.now.bytes.items (g.D.Disk.seen c.args.self.now.disk))
+      → (g.D.Disk.seen c.write_at.new.self ≡ held (g.D.Disk.seen c.args.self.now.disk))
+      × (held (g.D.Disk.seen c.write_at.new.self) ≡ held (g.D.Disk.seen c.args.self.now.disk))
   written_twice honest =
       let h = c.args.self.now in
-      let is : g.D.Disk.seen c.write_at.new.self
-      ≡ with_held h.start h.bytes.items (g.D.Disk.seen h.disk) =
+      let is : g.D.Disk.seen c.write_at.new.self ≡ held (g.D.Disk.seen h.disk) =
       rw c.as_slice.ensures.value at (c.in-Ok.ensures.written honest) in (
         is,
-        subst (λ s. with_held h.start h.bytes.items s ≡ with_held h.start h.bytes.items (g.D.Disk.seen h.disk))
-            (sym is) (held_twice h.start h.bytes.items (g.D.Disk.seen h.disk)
+        subst (λ s. held s ≡ held (g.D.Disk.seen h.disk)) (sym is)
+            (held_twice h.start h.bytes.items (g.D.Disk.seen h.disk)
             (omega (arith, g.met.D.Disk.long_as_seen h.disk honest, h.within))),
       )
 
