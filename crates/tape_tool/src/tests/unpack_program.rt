@@ -75,6 +75,22 @@ const UNPACKED: &str = "
     put gaps/ABC001.1.PAYROLL.gaps mine
     0: unpack gaps gaps2.tap gaps1.tap --salvage
     has gaps/ABC001.1.PAYROLL.gaps mine
+    # A run without --salvage removes them, too, unless they were changed.
+    folder gaps4
+    3: unpack gaps4 gaps1.tap --salvage
+    0: unpack gaps4 gaps2.tap gaps1.tap
+    missing gaps4/ABC001.1.PAYROLL.salvaged gaps4/ABC001.1.PAYROLL.gaps
+    remove gaps4/ABC001.1.PAYROLL
+    3: unpack gaps4 gaps1.tap --salvage
+    put gaps4/ABC001.1.PAYROLL.salvaged changed
+    0: unpack gaps4 gaps2.tap gaps1.tap
+    has gaps4/ABC001.1.PAYROLL.salvaged changed
+    length gaps4/ABC001.1.PAYROLL.gaps 190
+    # They are left if looking them up fails. The file is complete nevertheless.
+    remove gaps4/ABC001.1.PAYROLL
+    0: unpack gaps4 gaps2.tap gaps1.tap
+    * look gaps4/ABC001.1.PAYROLL.salvaged stale
+    has gaps4/ABC001.1.PAYROLL.salvaged changed
     # No salvaged files remain after a complete copy was read.
     folder gaps3
     worked gaps3.tap

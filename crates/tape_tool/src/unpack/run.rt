@@ -175,8 +175,8 @@ impl<R: Progress, P: Write> Run<'_, R, P> {
         Ok(end)
     }
 
-    /// Recovers a file, and removes the stage of a complete one, since the file then contains all
-    /// that the stage had.
+    /// Recovers a file. Removes the stage of a complete one, and the salvaged records, since the
+    /// file then contains all that they had.
     fn unpacked(
         &mut self,
         file: &SetFile,
@@ -196,9 +196,7 @@ impl<R: Progress, P: Write> Run<'_, R, P> {
         }
         if end == End::Done {
             remove(rt, stage);
-            if self.order.salvage {
-                Salvaged::of(rt.alloc(), out)?.remove(rt)?;
-            }
+            Salvaged::of(rt.alloc(), out)?.remove(rt)?;
         }
         Ok(end)
     }

@@ -122,7 +122,8 @@ impl Salvaged {
         }
     }
 
-    /// Removes the files that an earlier run wrote, unless they have changed since then.
+    /// Removes the files that an earlier run wrote, unless they have changed since then, or cannot
+    /// be read.
     pub fn remove<R: Progress>(&self, rt: &R) -> Result<(), ToolFault> {
         match self.earlier(rt.host()) {
             Ok((Some(_), _)) => {
@@ -130,7 +131,7 @@ impl Salvaged {
                 remove(rt, self.records.as_str());
                 Ok(())
             }
-            Ok(_) | Err(ToolFault::File(FileFault::Exists)) => Ok(()),
+            Ok(_) | Err(ToolFault::File(_)) => Ok(()),
             Err(fault) => Err(fault),
         }
     }
