@@ -294,6 +294,8 @@ def may_change_nothing(trial, kind, error, answer):
         return "an image is read again"
     if kind == "t" and path in (trial.result, f"./{trial.result}") and trial.result not in trial.files:
         return "a name that nothing had is taken by a link, which looks for itself"
+    if kind == "t" and trial.words[0] == "unpack" and path.endswith((".salvaged", ".gaps")):
+        return "records salvaged earlier that cannot be found are left"
     if kind == "o" and error == errno.EACCES and path == ".":
         return "a directory that may not be read is not synced"
     return None
