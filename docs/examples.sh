@@ -12,7 +12,7 @@ if [ ! -x "$program" ]; then
     echo "no program at $program" >&2
     exit 2
 fi
-if [ "$program" = "$top/tape" ] && [ ! -x "$top/crates/tape_tool/out/tape_tool" ]; then
+if [ "$program" = "$top/tape" ] && [ ! -x "$top/crates/tape/out/tape" ]; then
     echo "the program is not built: run ./tape --help first" >&2
     exit 2
 fi
@@ -29,7 +29,7 @@ fresh() {
     rm -rf "$folder/run"
     mkdir "$folder/run"
     ln -s "$program" "$folder/run/tape"
-    cp "$top/crates/tape_tool/stdin" "$folder/run/reel.tap"
+    cp "$top/crates/tape/stdin" "$folder/run/reel.tap"
     head -c 2288 "$folder/run/reel.tap" >"$folder/run/cut.tap"
 }
 
@@ -72,7 +72,7 @@ for it in README.md docs/GUIDE.md docs/RECIPES.md; do
 done
 # The page of three images must equal the stored one; bad.tap is that of RECIPES.md.
 fresh
-cp "$top/crates/tape_tool/stdin" "$folder/run/bad.tap"
+cp "$top/crates/tape/stdin" "$folder/run/bad.tap"
 for at in 1079 1883; do
     printf '\200' | dd of="$folder/run/bad.tap" bs=1 seek=$at conv=notrunc status=none
 done

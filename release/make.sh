@@ -6,7 +6,7 @@
 #   tape-volumes_VERSION_amd64.deb      the program as proved and built, for Debian's C library
 #   tape-VERSION-x86_64-linux.tar.gz    the program linked statically, and in relink/ the files
 #                                       that it is linked from
-#   tape_tool.stamp                     the toolchain's checksum of sources, toolchain and program
+#   tape.stamp                          the toolchain's checksum of sources, toolchain and program
 #   PROVED.txt                          commit, toolchain, the last line of each proof, checksums
 #   SHA256SUMS
 # Both packages have man page, completion, pages and a sample image. CI-LOG is the output of 'rt ci'
@@ -46,12 +46,12 @@ mkdir -p "$out"
 # The proofs: each crate's own last line, lowest first.
 verdicts() {
     local crate log=$room/log
-    for crate in $(sed -n 's/^tape_tool: //p' crates.txt) tape_tool; do
+    for crate in $(sed -n 's/^tape_tool: //p' crates.txt) tape_tool tape; do
         [ -d "crates/$crate" ] || continue
         (cd "crates/$crate" && rt check --jobs 1) >"$log" 2>&1 ||
             fail "$crate: $(tail -n 3 "$log")"
         printf '  %-12s %s\n' "$crate" "$(tail -n 1 "$log")"
-        if [ "$crate" != tape_tool ]; then
+        if [ "$crate" != tape ]; then
             (cd "crates/$crate" && rt lib) >"$log" 2>&1 || fail "$crate: $(tail -n 3 "$log")"
         fi
     done
@@ -59,10 +59,10 @@ verdicts() {
 verdicts >"$room/verdicts"
 
 # The program that was proved: built here, or before, where nothing has changed since.
-(cd crates/tape_tool && rt run -- --version) </dev/null >"$room/run" 2>&1 ||
+(cd crates/tape && rt run -- --version) </dev/null >"$room/run" 2>&1 ||
     fail "$(tail "$room/run")"
-built=$PWD/crates/tape_tool/out
-program=$built/tape_tool object=$built/tape_tool.o
+built=$PWD/crates/tape/out
+program=$built/tape object=$built/tape.o
 number=$(env -i "$program" --version | cut -d' ' -f2)
 version=$number+$(git log -1 --format=%cd --date=format:%Y%m%d).$(git rev-parse --short=8 HEAD)
 docs/man.py --program "$program" || fail "the man page differs from the help of the program"
@@ -78,7 +78,7 @@ sh "$relink/relink.sh" "$room/tape"
 # Both do what the stored run wants, and all examples.
 for it in "$program" "$room/tape"; do
     # shellcheck disable=SC2046 # the words of the stored run, one a line
-    (cd crates/tape_tool/data && env -i "$it" $(cat ../args)) | cmp - crates/tape_tool/stdout
+    env -i "$it" $(cat crates/tape/args) <crates/tape/stdin | cmp - crates/tape/stdout
     docs/examples.sh "$it" >"$room/log" || fail "$it: $(cat "$room/log")"
 done
 
@@ -94,19 +94,19 @@ $(cat "$room/verdicts")
 CI         ${gate:-not given}
 examples   $(tail -n 1 "$room/log")
 sums       (SHA-256)
-  $(sum "$object")  tape_tool.o, as the toolchain made it
-  $(sum "$program")  tape_tool, as the toolchain linked it: /usr/bin/tape of the package
+  $(sum "$object")  tape.o, as the toolchain made it
+  $(sum "$program")  tape, as the toolchain linked it: /usr/bin/tape of the package
   $(sum "$room/tape")  tape of the archive, linked by $(cc --version | head -n 1)
-  $(sum "$built/tape_tool.stamp")  tape_tool.stamp
+  $(sum "$built/tape.stamp")  tape.stamp
 T
-cp "$built/tape_tool.stamp" "$out/"
+cp "$built/tape.stamp" "$out/"
 
 # What both packages have: all pages, so that their links lead somewhere, and an image to try.
 papers() {
     mkdir -p "$1/examples"
     git ls-files -z '*.md' docs/page.html ':!.github' | xargs -0 cp --parents -t "$1"
     cp "$out/PROVED.txt" "$1/"
-    cp crates/tape_tool/stdin "$1/examples/reel.tap"
+    cp crates/tape/stdin "$1/examples/reel.tap"
 }
 
 # Every file with the commit's time, readable for all.

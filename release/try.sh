@@ -15,17 +15,17 @@ inside() {
 }
 rm -rf "$root/try"
 trap 'rm -rf "$root/try" "$out.before" "$out.after"' EXIT
-mkdir -p "$root/try/docs" "$root/try/crates/tape_tool"
+mkdir -p "$root/try/docs" "$root/try/crates/tape"
 cp "$out"/*.deb "$root/try/"
 cp "$top/README.md" "$root/try/"
 cp "$top/docs/examples.sh" "$top"/docs/*.md "$root/try/docs/"
-cp -R "$top"/crates/tape_tool/{args,stdin,stdout} "$root/try/crates/tape_tool/"
+cp -R "$top"/crates/tape/{args,stdin,stdout} "$root/try/crates/tape/"
 find "$root/usr" "$root/etc" -xdev | LC_ALL=C sort >"$out.before"
 
 inside sh -c 'dpkg -i /try/*.deb'
 inside dpkg -L tape-volumes | grep -v '\.md$'
 inside tape --version
-inside sh -c 'cd /try/crates/tape_tool && tape $(cat args) <stdin | cmp - stdout'
+inside sh -c 'cd /try/crates/tape && tape $(cat args) <stdin | cmp - stdout'
 inside cat /usr/share/doc/tape-volumes/copyright
 inside bash /try/docs/examples.sh /usr/bin/tape
 (cd "$root/usr/bin" && sha256sum tape) | cut -c1-64 | grep -f - "$out/PROVED.txt"
@@ -37,8 +37,8 @@ diff "$out.before" "$out.after" && echo "nothing is left"
 tar -C "$root/try" -xzf "$out"/*.tar.gz
 archive=$(echo "$root"/try/tape-*/)
 # shellcheck disable=SC2046 # the words of the stored run, one a line
-chroot "$archive" /tape $(cat "$top/crates/tape_tool/args") <"$top/crates/tape_tool/stdin" |
-    cmp - "$top/crates/tape_tool/stdout"
+chroot "$archive" /tape $(cat "$top/crates/tape/args") <"$top/crates/tape/stdin" |
+    cmp - "$top/crates/tape/stdout"
 echo "the archive's program runs alone"
 if inside sh -c 'command -v cc' >/dev/null; then
     inside sh -c 'sh /try/tape-*/relink/relink.sh /try/linked && cmp /try/linked /try/tape-*/tape'

@@ -1,5 +1,5 @@
 #!/usr/bin/env python3
-"""verify.py PROGRAM STAMP: reports whether STAMP, the file tape_tool.stamp of a release, is that of
+"""verify.py PROGRAM STAMP: reports whether STAMP, the file tape.stamp of a release, is that of
 the sources of this clone, of the toolchain on this machine, and of PROGRAM, the package's
 /usr/bin/tape.
 
@@ -36,7 +36,7 @@ def main():
     if len(sys.argv) != 3:
         sys.exit(__doc__.strip())
     program, stamp = sys.argv[1:]
-    crate = toolchain().Crate(os.path.join(TOP, "crates", "tape_tool"), TOP, {})
+    crate = toolchain().Crate(os.path.join(TOP, "crates", "tape"), TOP, {})
     words = read(os.path.join(crate.folder, "args")).decode().splitlines()
     crate.said = {**crate.said, "args": words}
     said = read(stamp).decode()

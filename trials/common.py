@@ -8,19 +8,19 @@ from contextlib import contextmanager
 from pathlib import Path
 
 HERE = Path(__file__).resolve().parent
-CRATE = HERE.parent / "crates" / "tape_tool"
+CRATE = HERE.parent / "crates" / "tape"
 
 
 def arguments(page, *rows):
     """The options in the command line: `--program`, and a row (name, default, help) for each other one."""
     parser = argparse.ArgumentParser(description=page, formatter_class=argparse.RawDescriptionHelpFormatter)
-    parser.add_argument("--program", type=Path, default=CRATE / "out" / "tape_tool", help="the built `tape`")
+    parser.add_argument("--program", type=Path, default=CRATE / "out" / "tape", help="the built `tape`")
     for name, default, text in rows:
         kind = {"action": "store_true"} if default is False else {"nargs": "*"} if default == [] else {"type": type(default)}
         parser.add_argument(name, default=default, help=text, **kind)
     options = parser.parse_args()
     if not options.program.exists():
-        sys.exit(f"{options.program} does not exist: run `rt run -- --help` in crates/tape_tool, or specify another with --program")
+        sys.exit(f"{options.program} does not exist: run `rt run -- --help` in crates/tape, or specify another with --program")
     options.program = str(options.program.resolve())
     return options
 

@@ -33,7 +33,9 @@ const TAPE: &CommandSpec = &CommandSpec {
 /// A parsed command line.
 #[derive(Drop)]
 pub struct Call<'a> {
+    /// The request.
     pub order: Order<'a>,
+    /// The description of its command.
     pub spec: &'static CommandSpec,
     /// Whether errors are to be explained.
     pub explained: bool,
@@ -42,20 +44,32 @@ pub struct Call<'a> {
 /// A command with its arguments.
 #[derive(Drop)]
 pub enum Order<'a> {
+    /// `list`.
     List(ListOrder<'a>),
+    /// `init`.
     Init(InitOrder<'a>),
     /// `survey` if a wording is requested, and otherwise `check`.
     Check(Named<'a>, Option<Wording>),
+    /// `write`.
     Write(WriteOrder<'a>),
+    /// `extract`.
     Extract(ExtractOrder<'a>),
+    /// `unpack`.
     Unpack(UnpackOrder<'a>),
+    /// `salvage`.
     Salvage(SalvageOrder<'a>),
+    /// `stage`.
     Stage(StageOrder<'a>),
+    /// `merge`, or `compare` without an output.
     Merge(MergeOrder<'a>),
 }
 
-/// Returns the request in the arguments `words`, the first of which is the program's name. On
-/// error, returns a usage error or a call for help, with its text, or a refused allocation.
+/// Returns the request in the arguments `words`, the first of which is the program's name.
+///
+/// # Errors
+///
+/// Returns the error of the parser, with its text: a usage error, a request for help or for the
+/// version, or `OutOfMemory`.
 pub fn call_of<'a>(alloc: Global, words: &'a [String]) -> Result<Call<'a>, Error> {
     let matches = match command(alloc)?.try_get_matches_from(words) {
         Ok(matches) => matches,

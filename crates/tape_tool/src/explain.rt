@@ -95,7 +95,9 @@ impl<'a> FaultSite<'a> {
 /// An explanation: a fault, its site and the system's reason, as lines of text.
 #[derive(Clone, Copy)]
 pub struct Explanation<'a> {
+    /// The fault.
     pub fault: ToolFault,
+    /// Where it occurred.
     pub site: FaultSite<'a>,
     /// The system's message about the file, if there is one.
     pub reason: Option<io::Error>,

@@ -31,16 +31,22 @@ use tape_set::Want;
 /// The request to `extract`: a file of a set, to be recovered from images in their order.
 #[derive(Drop)]
 pub struct ExtractOrder<'a> {
+    /// The file to recover.
     pub task: Task<'a>,
+    /// The images, in the order in which they are read.
     pub images: Named<'a>,
 }
 
 /// The file of a set to recover, and how to recover it.
 #[derive(Clone, Copy)]
 pub struct Task<'a> {
+    /// The identifier of its set.
     pub set_id: Field<6>,
+    /// The file's number in its set, 1 to 9,999.
     pub file: u16,
+    /// The path of the output.
     pub out: &'a str,
+    /// The form in which its records are written.
     pub form: Form,
     /// The path of the stage, where recovered data is saved.
     pub stage: Option<&'a str>,

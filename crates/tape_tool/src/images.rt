@@ -23,6 +23,7 @@ use tape_run::{FoundFiles, ImageSource};
 pub struct Named<'a> {
     /// The names in the arguments.
     pub words: Vec<&'a str>,
+    /// The list of further names, if there is one.
     pub list: Option<List<'a>>,
 }
 

@@ -16,8 +16,11 @@ use tape_writer::system::{image_path, make_image};
 /// The request to `init`: the directory, the prefix and the number of volumes to create.
 #[derive(Clone, Copy)]
 pub struct InitOrder<'a> {
+    /// The directory of the images.
     pub folder: &'a str,
+    /// The first three characters of each volume's identifier.
     pub prefix: Prefix,
+    /// The number of volumes, 1 to 999.
     pub count: u16,
 }
 

@@ -18,6 +18,7 @@ use tape_run::{ImageSource, ListFault, list_places_to, list_to};
 /// The request to `list`: an image at a path, or standard input.
 #[derive(Clone, Copy)]
 pub struct ListOrder<'a> {
+    /// The path of the image, or `None` for standard input.
     pub image: Option<&'a str>,
     /// Whether the offset and the size of each item are printed.
     pub offsets: bool,

@@ -24,6 +24,7 @@ pub struct MergeOrder<'a> {
     pub out: Option<&'a str>,
     /// The path of the log to be created.
     pub log: Option<&'a str>,
+    /// The readings, in the order in which they are named.
     pub images: Named<'a>,
 }
 

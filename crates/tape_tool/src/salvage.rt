@@ -18,8 +18,11 @@ use tape_run::{Content, SalvageTask, salvage_to};
 /// The request to `salvage`: the file to recover, the images and the output.
 #[derive(Drop)]
 pub struct SalvageOrder<'a> {
+    /// The file to recover.
     pub task: SalvageTask,
+    /// The path of the output.
     pub out: &'a str,
+    /// The images, in the order in which they are named.
     pub images: Named<'a>,
 }
 

@@ -22,8 +22,11 @@ use tape_stage::buffered_file;
 /// The request to `stage`: the stage to show, and the output for its records.
 #[derive(Clone, Copy)]
 pub struct StageOrder<'a> {
+    /// The path of the stage.
     pub stage: &'a str,
+    /// The path of the output for its records, if they are written.
     pub out: Option<&'a str>,
+    /// The form in which records are written.
     pub form: Form,
     /// Whether a damaged stage is accepted.
     pub damaged: bool,

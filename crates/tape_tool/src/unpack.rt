@@ -16,8 +16,11 @@ use tape_blocks::Form;
 /// The request to `unpack`: the images, and the directory for their files.
 #[derive(Drop)]
 pub struct UnpackOrder<'a> {
+    /// The directory for the files.
     pub folder: &'a str,
+    /// The images, in the order in which they are named.
     pub images: Named<'a>,
+    /// The form in which records are written.
     pub form: Form,
     /// Only files of this set.
     pub set: Option<&'a str>,
@@ -25,6 +28,7 @@ pub struct UnpackOrder<'a> {
     pub files: Vec<&'a str>,
     /// Whether nothing is recovered, and what would be is printed.
     pub list: bool,
+    /// Whether the readable records of incomplete files are written, too.
     pub salvage: bool,
 }
 

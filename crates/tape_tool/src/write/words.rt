@@ -22,15 +22,25 @@ const MOST: u64 = 4_294_967_295;
 /// volumes.
 #[derive(Drop)]
 pub struct WriteOrder<'a> {
+    /// The directory of the images.
     pub folder: &'a str,
+    /// The first three characters of each volume's identifier.
     pub prefix: Prefix,
+    /// The maximum size of an image in bytes.
     pub capacity: u32,
+    /// The arguments `ID=PATH`: the identifier and the input of each file.
     pub files: Vec<&'a str>,
+    /// The record format of all files.
     pub format: Format,
+    /// The maximum length of a block in bytes.
     pub block: u32,
+    /// The record length in bytes, or for format D the maximum length plus 4, if it is given.
     pub record: Option<u32>,
+    /// The buffer offset: the bytes before the records in each block.
     pub offset: u8,
+    /// Whether each block of format D is padded to its maximum length.
     pub pad_full: bool,
+    /// The form of the records in the inputs.
     pub form: Form,
 }
 

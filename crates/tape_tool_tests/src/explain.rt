@@ -1,11 +1,11 @@
 //! Tests of the explanations that `--explain` prints after the line of a fault, and of what is
 //! missing.
-use super::calls::follow_in;
-use crate::explain::{Explanation, FaultSite};
-use crate::fault::{FileFault, OUT_OF_MEMORY, ToolFault};
-use crate::list::NO_MEMORY;
+use crate::calls::follow_in;
 use std::test::Fail;
+use tape_image::{ImageCause, ImageFault};
 use tape_run::RunFault;
+use tape_tool::{Explanation, FaultSite, ToolFault};
+use tape_writer::system::FileFault;
 
 /// Runs that end with a fault: the line about its site, and the beginning of its explanation.
 const SITES: &str = "
@@ -73,8 +73,19 @@ const TOLD: &[(ToolFault, FaultSite<'_>, &str)] = &[
         FaultSite::Stdin,
         "  Image: standard input\n",
     ),
-    (NO_MEMORY, FaultSite::Image("a.tap"), "  Out of memory."),
-    (OUT_OF_MEMORY, FaultSite::Out("o"), "  Out of memory."),
+    (
+        ToolFault::Image(ImageFault {
+            place: 0,
+            cause: ImageCause::OutOfMemory,
+        }),
+        FaultSite::Image("a.tap"),
+        "  Out of memory.",
+    ),
+    (
+        ToolFault::Run(RunFault::OutOfMemory),
+        FaultSite::Out("o"),
+        "  Out of memory.",
+    ),
     (
         ToolFault::File(FileFault::ReadFailed),
         FaultSite::Folder("d"),

@@ -1,7 +1,6 @@
 //! The program in a fake system, which provides its arguments and standard input, an image of one
 //! mark, and records its output and the files that it opens. Files and memory are those of the real
 //! system, except that an image named `FUL001.tap` accepts no bytes.
-use crate::program::run_on;
 use std::alloc::{AllocError, Allocator, Global};
 use std::cell::{Cell, RefCell};
 use std::env::{Env, FillError};
@@ -12,6 +11,7 @@ use std::io::{BufRead, ErrorKind, Input, Lines, Write};
 use std::rt::Runtime;
 use std::test::Fail;
 use std::time::{Clock, Duration};
+use tape_tool::run_on;
 
 /// A peculiarity of the system: what it refuses, or does in addition.
 #[derive(Clone, Copy)]
@@ -260,7 +260,7 @@ impl Runtime for FakeSystem<'_> {}
 /// argument.
 pub fn words_of(alloc: Global, line: &str) -> Result<Vec<String>, AllocError> {
     let mut words = Vec::new(alloc);
-    words.push(String::from_str(alloc, "out/tape_tool")?)?;
+    words.push(String::from_str(alloc, "out/tape")?)?;
     for word in line.split_whitespace() {
         words.push(String::from_str(alloc, if word == "''" { "" } else { word })?)?;
     }

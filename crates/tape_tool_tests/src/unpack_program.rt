@@ -1,8 +1,8 @@
 //! Tests of `unpack` and `salvage`.
-use super::calls::follow_in;
-use crate::unpack::report::LastLine;
+use crate::calls::follow_in;
 use std::io::Write;
 use std::test::Fail;
+use tape_tool::LastLine;
 
 const UNPACKED: &str = "
     # All files are unpacked in one run; a second run leaves them unchanged.

@@ -1,6 +1,6 @@
 //! Tests of the program when the system refuses a call, or files change during a run. No existing
 //! data is lost.
-use super::calls::follow_in;
+use crate::calls::follow_in;
 use std::test::Fail;
 
 /// A file that appears during a run contains `mine`.

@@ -27,8 +27,8 @@
 //!   `missing FILE ..` and `allowed FILE MODE` check the contents of a file, the bytes at an
 //!   offset, the length, that it is the example image or does not exist, and its permissions.
 
-use super::fake_system::{Odd, called};
-use super::image::{example, payroll};
+use crate::fake_system::{Odd, called};
+use crate::image::{example, payroll};
 use std::alloc::{AllocError, Global};
 use std::fs::{OpenOptions, Permissions};
 use std::io::ErrorKind;

@@ -1,7 +1,7 @@
 //! Tests of whole runs as a caller sees them: exit status, both streams, and the files that are
 //! opened.
-use super::calls::follow_in;
-use super::fake_system::{Odd, called};
+use crate::calls::follow_in;
+use crate::fake_system::{Odd, called};
 use std::test::Fail;
 
 const CALLS: &str = "

@@ -1,5 +1,5 @@
 //! Tests of the commands that read images or create them: files, and exit statuses.
-use super::calls::follow_in;
+use crate::calls::follow_in;
 use std::test::Fail;
 
 const READ: &str = "

@@ -1,13 +1,11 @@
 //! Tests of command lines: the request that the program understands, or what it prints.
-use super::calls::follow_in;
-use super::fake_system::words_of;
-use crate::command_line::{Order, call_of};
-use crate::images::Named;
-use crate::write::words::WriteOrder;
+use crate::calls::follow_in;
+use crate::fake_system::words_of;
 use std::alloc::{AllocError, Global};
 use std::fmt;
 use std::test::Fail;
 use tape_run::{Content, Wording};
+use tape_tool::{Named, Order, WriteOrder, call_of};
 
 /// Command lines, each before its request as `text_of` prints it, on the same line or the next.
 const REQUESTS: &str = "

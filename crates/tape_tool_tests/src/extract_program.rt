@@ -1,5 +1,5 @@
 //! Tests of `extract` and `stage`: files, and exit statuses.
-use super::calls::{follow, follow_in, holds, put};
+use crate::calls::{follow, follow_in, holds, put};
 use std::test::Fail;
 
 const FILES: &str = "

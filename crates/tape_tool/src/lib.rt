@@ -1,0 +1,34 @@
+//! The commands of the program `tape`: arguments, files and texts around the other libraries.
+#![tactic(auto)]
+
+mod check;
+mod command_line;
+mod command_spec;
+mod explain;
+mod extract;
+mod fault;
+mod help;
+mod images;
+mod init;
+mod laws;
+mod list;
+mod merge;
+mod program;
+mod refusal;
+mod salvage;
+mod screen;
+mod shown;
+mod stage;
+mod staging;
+mod unpack;
+mod words;
+mod write;
+
+pub use command_line::{Call, Order, call_of};
+pub use explain::{Explanation, FaultSite};
+pub use fault::ToolFault;
+pub use images::Named;
+pub use program::run_on;
+pub use staging::{StagingFault, open_session};
+pub use unpack::report::LastLine;
+pub use write::words::WriteOrder;

@@ -1,0 +1,25 @@
+//! Tests of the commands: command lines, files, and output.
+#![tactic(auto)]
+
+#[cfg(test)]
+mod calls;
+#[cfg(test)]
+mod explain;
+#[cfg(test)]
+mod extract_program;
+#[cfg(test)]
+mod fake_system;
+#[cfg(test)]
+mod guards;
+#[cfg(test)]
+mod image;
+#[cfg(test)]
+mod images;
+#[cfg(test)]
+mod orders;
+#[cfg(test)]
+mod seen;
+#[cfg(test)]
+mod staging;
+#[cfg(test)]
+mod unpack_program;
