@@ -2,8 +2,8 @@
 mod created;
 mod recovered;
 
-pub use created::*;
-pub use recovered::*;
+pub(crate) use created::*;
+pub(crate) use recovered::*;
 
 // The program, `list` and `check`: descriptions of arguments and commands.
 pub const ABOUT: &str = "Read and write ANSI-labelled tape volumes (ECMA-13) as SIMH .tap images";
