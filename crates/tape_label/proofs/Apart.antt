@@ -6,7 +6,8 @@ use Rattle.std.specs.{List.find, Str.bytes_eq}
 use Rattle.tape_label.specs.Kinds.{identifier, HasKind, IsFirstTrailer, IsSecond, kind_named}
 use Rattle.tape_label.specs.{Kinds.kind_at, declared.values.Kind.Kind, Positions.positions}
 use Rattle.tape_label.specs.Reading.{◌>>=◌, eighty, of_kind, begins_as, vol1_fields, vol1_at}
-use Rattle.tape_label.specs.Reading.{head_at, head1_at, trail1_at, end_at, head2_at}
+use Rattle.tape_label.specs.Reading.{head_at, head1_at, trail1_at, end_at, head2_at, second}
+use Rattle.tape_label.specs.Reading.{wide_head2_at}
 use Rattle.tape_label.specs.{declared.label.LabelFault.LabelFault, Labels.no_kind}
 use Rattle.tape_label.specs.declared.label.LabelFault.TheVariants as faults
 use Rattle.tape_label.specs.declared.values.Kind.TheVariants as kinds
@@ -61,6 +62,14 @@ head2_refuses block kinds.Eof2 has other = absurd (other tt)
 head2_refuses block kinds.Eov2 has other = absurd (other tt)
 head2_refuses block _ has other = rw (size_again block has.size, has.named) refl
 
+pub wide_refuses : (block : List ℕ) (kind : Kind) → HasKind block kind → (IsSecond kind → ⊥)
+    → wide_head2_at block ≡ Err faults.Identifier
+unfolding wide_head2_at
+wide_refuses block kinds.Hdr2 has other = absurd (other tt)
+wide_refuses block kinds.Eof2 has other = absurd (other tt)
+wide_refuses block kinds.Eov2 has other = absurd (other tt)
+wide_refuses block _ has other = rw (size_again block has.size, has.named) refl
+
 pub trail1_refuses : (block : List ℕ) (kind : Kind) → HasKind block kind → (IsFirstTrailer kind → ⊥)
     → trail1_at block ≡ Err faults.Identifier
 unfolding trail1_at end_at
@@ -100,18 +109,30 @@ pub head1_none : (label : List ℕ) → (HasKind label kinds.Hdr1 → ⊥)
 unfolding head1_at
 head1_none label none = tests_refuse label kinds.Hdr1 (head_at label) none
 
-pub head2_none : (label : List ℕ) → ((kind : Kind) → IsSecond kind → HasKind label kind → ⊥)
-    → head2_at label ≡ Err (no_kind label)
-unfolding head2_at
-head2_none label none = go (eqb (length label) 80) refl
+-- the first two tests of a block that is not a second label
+second_refuses : {A : Type 0} (label : List ℕ) (next : Result A LabelFault)
+    → ((kind : Kind) → IsSecond kind → HasKind label kind → ⊥)
+    → (eighty label >>= λ _. second label >>= λ _. next) ≡ Err (no_kind label)
+second_refuses label next none = go (eqb (length label) 80) refl
   where
-    go : (b : Bool) → eqb (length label) 80 ≡ b → head2_at label ≡ Err (no_kind label)
+    go : (b : Bool) → eqb (length label) 80 ≡ b
+        → (eighty label >>= λ _. second label >>= λ _. next) ≡ Err (no_kind label)
     go true e =
         let no : (kind : Kind) → IsSecond kind → begins_as label kind ≡ false =
         λ kind is. begins_otherwise label kind (begins_as label kind) refl (none kind is)
         (eqb-true _ _ e) in
         rw (e, no kinds.Hdr2 tt, no kinds.Eof2 tt, no kinds.Eov2 tt) refl
     go false e = rw e refl
+
+pub head2_none : (label : List ℕ) → ((kind : Kind) → IsSecond kind → HasKind label kind → ⊥)
+    → head2_at label ≡ Err (no_kind label)
+unfolding head2_at
+head2_none label none = second_refuses label _ none
+
+pub wide_none : (label : List ℕ) → ((kind : Kind) → IsSecond kind → HasKind label kind → ⊥)
+    → wide_head2_at label ≡ Err (no_kind label)
+unfolding wide_head2_at
+wide_none label none = second_refuses label _ none
 
 pub trail1_none : (label : List ℕ) → ((kind : Kind) → IsFirstTrailer kind → HasKind label kind → ⊥)
     → trail1_at label ≡ Err (no_kind label)

@@ -2,6 +2,7 @@ pub mod DigitLaws
 pub mod Steps
 pub mod First
 pub mod Second
+pub mod Wide
 pub mod Pieces
 pub mod Widths
 pub mod Texts

@@ -7,7 +7,9 @@ use Rattle.std.specs.{Str.bytes_eq, Prelude.codes, Prelude.◌||◌}
 use Rattle.tape_label.specs.Reading.{◌>>=◌, eighty, begins_as, number_at, second, format_at}
 use Rattle.tape_label.specs.{Reading.offset_at, Reading.head2_at, declared.values.Kind.Kind}
 use Rattle.tape_label.specs.declared.values.Format.TheVariants.{Fixed, Counted, Spanned}
-use Rattle.tape_label.specs.{Formats.letter, Formats.least_record, declared.values.Format.Format}
+use Rattle.tape_label.specs.declared.values.Format.TheVariants.{Undefined, Variable}
+use Rattle.tape_label.specs.Formats.{is_standard, letter, least_record}
+use Rattle.tape_label.specs.{declared.values.Format.Format}
 use Rattle.tape_label.specs.{declared.values.Head2.Head2, Kinds.identifier, Kinds.IsSecond}
 use Rattle.tape_label.specs.{Positions.positions, Head2.HasOffset, Head2.IsHead2}
 use Rattle.tape_label.specs.declared.label.LabelFault.TheVariants as faults
@@ -24,7 +26,7 @@ second_cases false true three u e = inr (inl refl)
 second_cases false false true u e = inr (inr refl)
 second_cases false false false u e = absurd cc
 
-second_found : (label : List ℕ) (u : Unit {0}) → second label ≡ Ok u
+pub second_found : (label : List ℕ) (u : Unit {0}) → second label ≡ Ok u
     → (k : Kind) × IsSecond k × (positions label 1 4 ≡ identifier k)
 second_found label u e =
     elim (second_cases (begins_as label kinds.Hdr2) (begins_as label kinds.Eof2)
@@ -36,7 +38,7 @@ second_found label u e =
       ]
     ]
 
-second_again : (label : List ℕ) (k : Kind) → IsSecond k → positions label 1 4 ≡ identifier k
+pub second_again : (label : List ℕ) (k : Kind) → IsSecond k → positions label 1 4 ≡ identifier k
     → second label ≡ Ok tt
 second_again label kinds.Hdr2 is named = rw named refl
 second_again label kinds.Eof2 is named = rw named refl
@@ -52,17 +54,31 @@ format_is c false true three f p q r e = rw (← ok_is Counted f e) (eqb-true _ 
 format_is c false false true f p q r e = rw (← ok_is Spanned f e) (eqb-true _ _ r)
 format_is c false false false f p q r e = absurd cc
 
-format_found : (label : List ℕ) (f : Format) → 4 < length label → format_at label ≡ Ok f
+pub format_found : (label : List ℕ) (f : Format) → 4 < length label → format_at label ≡ Ok f
     → positions label 5 5 ≡ letter f ∷ []
 unfolding format_at
 format_found label f lt e = grind (arith, format_is, eqb, character_found)
 
-format_again : (label : List ℕ) (f : Format) → 4 < length label
+standard_is : (c : ℕ) (one two three : Bool) (f : Format)
+    → cond one (Ok Fixed) (cond two (Ok Counted) (cond three (Ok Spanned) (Err (faults.Format c))))
+    ≡ done f → is_standard f ≡ true
+standard_is c true two three f e = rw (← ok_is Fixed f e) refl
+standard_is c false true three f e = rw (← ok_is Counted f e) refl
+standard_is c false false true f e = rw (← ok_is Spanned f e) refl
+standard_is c false false false f e = absurd cc
+
+format_standard : (label : List ℕ) (f : Format) → format_at label ≡ Ok f → is_standard f ≡ true
+unfolding format_at
+format_standard label f e = standard_is _ _ _ _ f e
+
+pub format_again : (label : List ℕ) (f : Format) → 4 < length label → is_standard f ≡ true
     → positions label 5 5 ≡ letter f ∷ [] → format_at label ≡ Ok f
 unfolding format_at
-format_again label Fixed lt e = rw (character_is label 4 70 lt e) refl
-format_again label Counted lt e = rw (character_is label 4 68 lt e) refl
-format_again label Spanned lt e = rw (character_is label 4 83 lt e) refl
+format_again label Fixed lt s e = rw (character_is label 4 70 lt e) refl
+format_again label Counted lt s e = rw (character_is label 4 68 lt e) refl
+format_again label Spanned lt s e = rw (character_is label 4 83 lt e) refl
+format_again label Undefined lt s e = absurd cc
+format_again label Variable lt s e = absurd cc
 
 offset_is : (label : List ℕ) (n : ℕ) (b : Bool) → length label ≡ 80
     → bytes_eq (positions label 51 52) (codes "  ") ≡ b
@@ -70,7 +86,7 @@ offset_is : (label : List ℕ) (n : ℕ) (b : Bool) → length label ≡ 80
 offset_is label n true size p e = grind (arith, bytes_eq-Decides, ok_is)
 offset_is label n false size p e = inl (number_found label 51 52 0 n (omega arith) e)
 
-offset_found : (label : List ℕ) (n : ℕ) → length label ≡ 80 → offset_at label ≡ Ok n
+pub offset_found : (label : List ℕ) (n : ℕ) → length label ≡ 80 → offset_at label ≡ Ok n
     → HasOffset label n
 unfolding offset_at
 offset_found label n size e = search (arith, tt, offset_is)
@@ -78,7 +94,7 @@ offset_found label n size e = search (arith, tt, offset_is)
 no_space : (n : ℕ) → eqb (48 + n) 32 ≡ false
 no_space n = search rules
 
-offset_again : (label : List ℕ) (n : ℕ) → HasOffset label n → offset_at label ≡ Ok n
+pub offset_again : (label : List ℕ) (n : ℕ) → HasOffset label n → offset_at label ≡ Ok n
 unfolding offset_at
 offset_again label n (inl h) = grind (arith, bytes_eq, no_space, number_again)
 offset_again label n (inr h) = rw (h.0, h.1) refl
@@ -115,6 +131,7 @@ head2_found label h e =
       subst (λ (h : Head2). IsHead2 label which.0 h) {x = made} (ok_is made h o.2) record {
         second = which.1;
         kind = record { size = size; named = which.2 };
+        standard = format_standard label f.0 f.1;
         format = format_found label f.0 (omega arith) f.1;
         block_len = number_found label 6 10 0 l.0 (omega arith) l.1;
         rec_len = number_found label 11 15 (least_record f.0) r.0 (omega arith) r.1;
@@ -129,7 +146,7 @@ head2_again label k h is =
     rw (
       size_again label is.kind.size,
       second_again label k is.second is.kind.named,
-      format_again label h.format (omega (arith, is.kind.size)) is.format,
+      format_again label h.format (omega (arith, is.kind.size)) is.standard is.format,
       number_again label 6 10 0 h.block_len is.block_len,
       number_again label 11 15 (least_record h.format) h.rec_len is.rec_len,
       offset_again label h.offset is.offset,

@@ -7,6 +7,7 @@ pub mod Kinds
 pub mod Vol1
 pub mod Head1
 pub mod Head2
+pub mod WideHead2
 pub mod Trail1
 pub mod Labels
 pub mod VolumeLabels

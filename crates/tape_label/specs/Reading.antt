@@ -6,6 +6,7 @@ use Rattle.std.specs.Str.{bytes_eq, all_ascii_digits}
 use Rattle.tape_label.specs.{declared.label.LabelFault.LabelFault, declared.values.Kind.Kind}
 use Rattle.tape_label.specs.{declared.values.Format.Format, declared.values.Vol1.Vol1}
 use Rattle.tape_label.specs.declared.values.Format.TheVariants.{Fixed, Counted, Spanned}
+use Rattle.tape_label.specs.declared.values.Format.TheVariants.{Undefined, Variable}
 use Rattle.tape_label.specs.{declared.values.Head1.Head1, declared.values.Head2.Head2}
 use Rattle.tape_label.specs.{declared.values.Trail1.Trail1, Digits.number_of, Kinds.identifier}
 use Rattle.tape_label.specs.{Formats.letter, Formats.least_record, Positions.positions}
@@ -137,5 +138,36 @@ head2_at label = do
   format ← format_at label
   block_len ← number_at label 6 10 0
   rec_len ← number_at label 11 15 (least_record format)
+  offset ← offset_at label
+  Ok record { format = format; block_len = block_len; rec_len = rec_len; offset = offset }
+
+-- ---- second labels in the wider reading
+
+-- the record format whose letter is at position 5, which may be `U` or `V`
+unfoldable pub wide_format_at : List ℕ → Result Format LabelFault
+wide_format_at label =
+    let c = character_at label 5
+    in if c == letter Undefined then Ok Undefined
+    else (if c == letter Variable then Ok Variable else format_at label)
+
+-- a length that no block depends on; five spaces are read as 0
+unfoldable pub number_or_spaces : List ℕ → ℕ → ℕ → Result ℕ LabelFault
+number_or_spaces label first last =
+    if bytes_eq (positions label first last) (codes "     ") then Ok 0
+    else number_at label first last 0
+
+-- the record length, which only blocks of format F depend on
+abbrev pub rec_len_at : Format → List ℕ → Result ℕ LabelFault
+rec_len_at Fixed label = number_at label 11 15 1
+rec_len_at _ label = number_or_spaces label 11 15
+
+-- checks: 80 characters, the identifier, and the fields in the order of their positions
+unfoldable pub wide_head2_at : List ℕ → Result Head2 LabelFault
+wide_head2_at label = do
+  _ ← eighty label
+  _ ← second label
+  format ← wide_format_at label
+  block_len ← number_or_spaces label 6 10
+  rec_len ← rec_len_at format label
   offset ← offset_at label
   Ok record { format = format; block_len = block_len; rec_len = rec_len; offset = offset }

@@ -4,7 +4,7 @@ ghost use Rattle.std.specs.Prelude.{◌≡◌, ◌≢◌, IfOk, Ok, Err, length,
 ghost use Rattle.std.specs.Prelude.{IfSome, Some, None, if◌then◌else◌};
 ghost use Rattle.std.specs.Str.{all_ascii_digits};
 ghost use Rattle.tape_label.specs.Reading.{vol1_at, vol1_fields, head_at, head1_at, trail1_at};
-ghost use Rattle.tape_label.specs.Reading.{head2_at, character_at, number_at, format_at};
+ghost use Rattle.tape_label.specs.Reading.{head2_at, character_at, number_at, format_at, offset_at};
 ghost use Rattle.tape_label.specs.{Vol1.IsVol1, Head1.IsHead1, Head2.IsHead2, Trail1.IsTrail1};
 ghost use Rattle.tape_label.specs.Kinds.{HasKind, IsFirstTrailer, IsSecond};
 ghost use Rattle.tape_label.specs.Digits.{digits, number_of};
@@ -79,7 +79,7 @@ pub(crate) fn number_at(label: &[u8], first: u8, last: u8, least: u64) -> Result
 
 /// Reads the record format of a second label.
 #[tactic(auto, unfolding(crate::specs::Reading::format_at))]
-fn format_at(label: &[u8]) -> Result<Format, LabelFault>
+pub(crate) fn format_at(label: &[u8]) -> Result<Format, LabelFault>
     requires { length label.now ≡ 80 }
     ensures { result ≡ format_at label.now }
 {
@@ -89,6 +89,20 @@ fn format_at(label: &[u8]) -> Result<Format, LabelFault>
         b'S' => Ok(Format::Spanned),
         other => Err(LabelFault::Format(other)),
     }
+}
+
+/// Reads the buffer offset of a second label; two spaces are 0.
+#[tactic(auto, unfolding(crate::specs::Reading::offset_at))]
+pub(crate) fn offset_at(label: &[u8]) -> Result<u64, LabelFault>
+    requires { length label.now ≡ 80 }
+    ensures exact { result ≡ offset_at label.now }
+    ensures small { IfOk result (λ n. n < 100) }
+{
+    // Some systems leave the field blank if the offset is 0.
+    if &label[50..52] == b"  ".as_slice() {
+        return Ok(0);
+    }
+    number_at(label, 51, 52, 0)
 }
 
 /// Reads a volume label (ECMA-13, 4th edition, "Volume Header Label"). Accepts any version at
@@ -154,7 +168,7 @@ pub fn read_head1(label: &[u8]) -> Result<Head1, LabelFault>
 /// Returns, in this order: `NotEighty`; `Identifier` if the label begins otherwise; `Format`;
 /// `NotDigits(6)` for the block length; `NotDigits(11)` for the record length, and `FieldRange(11)`
 /// if it is 0 and the format is `Fixed`; `NotDigits(51)` for the buffer offset.
-#[tactic(auto, unfolding(crate::specs::Reading::head2_at, crate::specs::Reading::offset_at))]
+#[tactic(auto, unfolding(crate::specs::Reading::head2_at))]
 pub fn read_head2(label: &[u8]) -> Result<Head2, LabelFault>
     ensures found { IfOk result (λ fields. (which : Kind) × IsHead2 label.now which fields) }
     ensures only { (which : Kind) (fields : Head2) → IsHead2 label.now which fields
@@ -170,15 +184,10 @@ pub fn read_head2(label: &[u8]) -> Result<Head2, LabelFault>
     let block_len = number_at(label, 6, 10, 0)? as u32;
     let least = match format {
         Format::Fixed => 1,
-        Format::Counted | Format::Spanned => 0,
+        _ => 0,
     };
     let rec_len = number_at(label, 11, 15, least)? as u32;
-    // Some systems leave the field blank if the offset is 0.
-    let offset = if &label[50..52] == b"  ".as_slice() {
-        0
-    } else {
-        number_at(label, 51, 52, 0)? as u8
-    };
+    let offset = offset_at(label)? as u8;
     Ok(Head2 {
         format,
         block_len,

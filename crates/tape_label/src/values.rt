@@ -148,8 +148,8 @@ pub struct Head1 {
     pub implementation: Field<13>,
 }
 
-/// The record format: how blocks contain records (ECMA-13, 4th edition, "Second File Header Label",
-/// record format).
+/// The record format: how blocks contain records. `F`, `D` and `S` are the formats of ECMA-13 (4th
+/// edition, "Second File Header Label", record format).
 #[derive(Clone, Copy, Debug, PartialEq, Eq, Hash)]
 pub enum Format {
     /// `F`: each record has the record length.
@@ -158,12 +158,17 @@ pub enum Format {
     Counted,
     /// `S`: records are divided into segments, and may continue in the next block or volume.
     Spanned,
+    /// `U`: each block is one record. Only the wider reading accepts it.
+    Undefined,
+    /// `V`: each block begins with its length, and each record or segment with its own, in binary;
+    /// records may continue in the next block or volume. Only the wider reading accepts it.
+    Variable,
 }
 
 impl Format {
     ghost use Rattle.tape_label.specs.Formats.{letter};
 
-    /// Returns the format's letter in a label: `F`, `D` or `S`.
+    /// Returns the format's letter in a label: `F`, `D`, `S`, `U` or `V`.
     pub fn letter(&self) -> u8
         ensures { result ≡ letter self.now }
     {
@@ -171,6 +176,8 @@ impl Format {
             Format::Fixed => b'F',
             Format::Counted => b'D',
             Format::Spanned => b'S',
+            Format::Undefined => b'U',
+            Format::Variable => b'V',
         }
     }
 }

@@ -14,4 +14,6 @@ mod reading;
 #[cfg(test)]
 mod samples;
 #[cfg(test)]
+mod wide;
+#[cfg(test)]
 mod writing;

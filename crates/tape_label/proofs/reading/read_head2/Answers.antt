@@ -3,7 +3,7 @@ use Rattle.tape_label.specs.declared.label.LabelFault.{LabelFault}
 use Rattle.tape_label.specs.declared.label.LabelFault.TheVariants as faults
 use Rattle.tape_label.specs.declared.values.{Kind.Kind, Head2.Head2}
 use Rattle.tape_label.specs.{Kinds.HasKind, Kinds.IsSecond, Head2.IsHead2}
-use Rattle.tape_label.specs.Reading.{head2_at, offset_at}
+use Rattle.tape_label.specs.Reading.{head2_at}
 use Rattle.tape_label.proofs.{Second.head2_found, Second.head2_again, Steps.is_found}
 use Rattle.tape_label.proofs.Apart.{head2_refuses, head2_none}
 use Rattle.tape_label.proofs.reading.read_head2.Goals as goal
@@ -25,31 +25,22 @@ promised label result exact = record {
 }
 
 pub returns-in_err-format : goal.returns-in_err-format
-unfolding head2_at offset_at
+unfolding head2_at
 returns-in_err-format c = promised c.args.label.now c.from_residual.result (search rules)
 
 pub returns-in_err-rec_len : goal.returns-in_err-rec_len
-unfolding head2_at offset_at
+unfolding head2_at
 returns-in_err-rec_len c =
     promised c.args.label.now c.from_residual-in_err-rec_len.result (search rules)
 
 pub returns-in_err-offset : goal.returns-in_err-offset
-unfolding head2_at offset_at
+unfolding head2_at
 returns-in_err-offset c =
     promised c.args.label.now c.from_residual-in_err-offset.result (search rules)
 
-pub returns-then-eq : goal.returns-then-eq
-unfolding head2_at offset_at
-returns-then-eq c = promised c.args.label.now (Ok record {
-  format = c.in_ok-format.format;
-  block_len = c.in_ok-block_len.field-0;
-  rec_len = c.in_ok-rec_len.field-0;
-  offset = 0;
-}) (search rules)
-
-pub returns-in_ok-offset : goal.returns-in_ok-offset
-unfolding head2_at offset_at
-returns-in_ok-offset c = promised c.args.label.now (Ok record {
+pub returns : goal.returns
+unfolding head2_at
+returns c = promised c.args.label.now (Ok record {
   format = c.in_ok-format.format;
   block_len = c.in_ok-block_len.field-0;
   rec_len = c.in_ok-rec_len.field-0;
