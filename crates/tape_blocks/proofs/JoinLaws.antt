@@ -1,14 +1,13 @@
 -- Laws about joining parts to records, and about the order of their spans.
-use Rattle.std.proofs.Common.{◌≡◌, ◌≢◌, ℕ, drop, subst, Bool, true, false, List, [], ◌∷◌, ◌++◌}
-use Rattle.std.proofs.Common.{Option, Some, None, Ok, refl, sym, ap, ◌∙◌}
+use Rattle.std.proofs.Common.{◌≡◌, ℕ, drop, Bool, true, false, List, [], ◌∷◌, ◌++◌}
+use Rattle.std.proofs.Common.{Option, Some, None, refl, sym, ap, ◌∙◌}
 use Rattle.std.proofs.lemmas.List.{append-nil}
 use Rattle.std.specs.Prelude.{is_some, if◌then◌else◌}
 use Rattle.tape_label.specs.declared.values.Format.{Format}
-use Rattle.tape_label.specs.declared.values.Format.TheVariants.{Fixed, Spanned}
 use Rattle.tape_blocks.specs.Spans.{Joined, InOrder, leaves, continues, span_of, content_after}
 use Rattle.tape_blocks.specs.Spans.{with_record, join_after, join, joined_with}
-use Rattle.tape_blocks.specs.{Block.Portion, Block.Holds, Judged.judged}
-use Rattle.tape_blocks.proofs.{JudgedLaws.judged_found, PartsLaws.parts_are}
+use Rattle.tape_blocks.specs.{Block.Portion, Block.HoldsUnits}
+use Rattle.tape_blocks.proofs.{PartsLaws.parts_are}
 
 by_end : (b : Bool) (content : List ℕ) (ps qs : List Portion) → ((begun : Option (List ℕ))
     → join_after begun (ps ++ qs) ≡ joined_with (join_after begun ps) qs)
@@ -67,26 +66,8 @@ continues_of false false = refl
 -- ---- one block
 
 pub one_list : (format : Format) (rec_len offset : ℕ) (block : List ℕ) (ps qs : List Portion)
-    → Holds format rec_len offset block ps → Holds format rec_len offset block qs → ps ≡ qs
+    → HoldsUnits format rec_len offset block ps → HoldsUnits format rec_len offset block qs
+    → ps ≡ qs
 one_list format rec_len offset block ps qs x y =
     sym (parts_are format rec_len ps (drop offset block) x.0 x.1.units x.2 x.1.body)
     ∙ parts_are format rec_len qs (drop offset block) y.0 y.1.units y.2 y.1.body
-
-same_begun : (ps : List Portion) (b c d e : Bool) → ps ≢ [] → InOrder b ps d
-    → InOrder c ps e → b ≡ c
-same_begun [] b c d e some x y = absurd (some refl)
-same_begun (p ∷ ps) b c d e some x y = sym x.0 ∙ y.0
-
-pub passes_for_one : (rec_len offset : ℕ) (block : List ℕ) (parts : List Portion) (b c d e : Bool)
-    → Holds Spanned rec_len offset block parts → parts ≢ []
-    → judged Spanned rec_len offset b block ≡ Ok d
-    → judged Spanned rec_len offset c block ≡ Ok e → b ≡ c
-passes_for_one rec_len offset block parts b c d e holds some x y =
-    let never : Spanned ≡ Fixed → ⊥ = λ f. cc in
-    let one = judged_found Spanned rec_len offset b d block (λ f. absurd (never f)) x in
-    let two = judged_found Spanned rec_len offset c e block (λ f. absurd (never f)) y in
-    same_begun parts b c d e some
-    (subst (λ (ps : List Portion). InOrder b ps d)
-    (one_list Spanned rec_len offset block one.0 parts one.1 holds) one.2)
-    (subst (λ (ps : List Portion). InOrder c ps e)
-    (one_list Spanned rec_len offset block two.0 parts two.1 holds) two.2)

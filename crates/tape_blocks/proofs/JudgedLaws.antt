@@ -7,10 +7,10 @@ use Rattle.std.specs.Prelude.{if◌then◌else◌, IfOk, IfErr}
 use Rattle.tape_label.specs.declared.values.Format.{Format}
 use Rattle.tape_label.specs.declared.values.Format.TheVariants.{Fixed}
 use Rattle.tape_blocks.specs.declared.check.BlockCause.TheVariants.{SpanBroken}
-use Rattle.tape_blocks.specs.Faults.{bool_eq, FaultStands, HasFault, fault}
+use Rattle.tape_blocks.specs.Faults.{bool_eq, FaultStands, HasUnitFault, fault}
 use Rattle.tape_blocks.specs.{declared.check.BlockFault.BlockFault, declared.check.Found.Found}
-use Rattle.tape_blocks.specs.{Block.Portion, Block.spellings, Block.Holds, Judged.unless_fault}
-use Rattle.tape_blocks.specs.{Judged.judged, Spans.continues, Spans.InOrder, Units.unit_at}
+use Rattle.tape_blocks.specs.{Block.Portion, Block.spellings, Block.HoldsUnits, Judged.unless_fault}
+use Rattle.tape_blocks.specs.{Judged.judged_units, Spans.continues, Spans.InOrder, Units.unit_at}
 use Rattle.tape_blocks.proofs.TestLaws.{stop_by, moved, tests_are}
 use Rattle.tape_blocks.proofs.PaddingLaws.{padding_found, padding_again}
 use Rattle.tape_blocks.proofs.LongestFronts.{Ends, judged_at, judged_by_step, judged_short}
@@ -19,9 +19,9 @@ use Rattle.tape_blocks.proofs.{FrontLaws.NoUnit, FrontLaws.longest, PartsLaws.so
 
 -- ---- a block that passes contains parts in order
 
-abbrev Passes : Format → ℕ → ℕ → Bool → List ℕ → Bool → Type 0
-Passes format rec_len offset begun block end =
-    (parts : List Portion) × Holds format rec_len offset block parts × InOrder begun parts end
+abbrev PassesUnits : Format → ℕ → ℕ → Bool → List ℕ → Bool → Type 0
+PassesUnits format rec_len offset begun block end =
+    (parts : List Portion) × HoldsUnits format rec_len offset block parts × InOrder begun parts end
 
 ok_is : (x y : Bool) → unless_fault x None ≡ Ok y → x ≡ y
 ok_is x y e = cc
@@ -30,8 +30,8 @@ passes_by : (u : Result (Option Found) BlockFault) (format : Format) (rec_len of
     (begun : Bool) (block : List ℕ) (ps : List Portion) (end last : Bool) (rest : List ℕ)
     → (format ≡ Fixed → 1 ≤ rec_len) → Ends format rec_len offset begun block ps end rest
     → unit_at format rec_len rest ≡ u → NoUnit end u
-    → judged format rec_len offset begun block ≡ Ok last
-    → Passes format rec_len offset begun block last
+    → judged_units format rec_len offset begun block ≡ Ok last
+    → PassesUnits format rec_len offset begun block last
 passes_by (Err f) format rec_len offset begun block ps end last rest some ends e none is =
     absurd (let by =
     judged_by_step format rec_len offset begun block ps end rest (Err f) some ends e in cc)
@@ -49,15 +49,15 @@ passes_by (Ok (Some found)) format rec_len offset begun block ps end last rest s
     sym by ∙ is in cc)
 
 reaches_by : (b : Bool) (format : Format) (rec_len offset : ℕ) (begun last : Bool) (block : List ℕ)
-    → ltb (length block) offset ≡ b → judged format rec_len offset begun block ≡ Ok last
+    → ltb (length block) offset ≡ b → judged_units format rec_len offset begun block ≡ Ok last
     → offset ≤ length block
 reaches_by true format rec_len offset begun last block e is = grind (arith, judged_short, ltb-true)
 reaches_by false format rec_len offset begun last block e is = ltb-false _ _ e
 
 -- A block that passes contains parts in span order.
 pub judged_found : (format : Format) (rec_len offset : ℕ) (begun end : Bool) (block : List ℕ)
-    → (format ≡ Fixed → 1 ≤ rec_len) → judged format rec_len offset begun block ≡ Ok end
-    → Passes format rec_len offset begun block end
+    → (format ≡ Fixed → 1 ≤ rec_len) → judged_units format rec_len offset begun block ≡ Ok end
+    → PassesUnits format rec_len offset begun block end
 judged_found format rec_len offset begun end block some is =
     let reaches =
     reaches_by (ltb (length block) offset) format rec_len offset begun end block refl is in
@@ -67,8 +67,9 @@ judged_found format rec_len offset begun end block some is =
 
 -- A block that contains parts in span order passes.
 pub judged_only : (format : Format) (rec_len offset : ℕ) (begun
-    end : Bool) (block : List ℕ) (parts : List Portion) → Holds format rec_len offset block parts
-    → InOrder begun parts end → judged format rec_len offset begun block ≡ Ok end
+    end : Bool) (block : List ℕ) (parts : List Portion)
+    → HoldsUnits format rec_len offset block parts
+    → InOrder begun parts end → judged_units format rec_len offset begun block ≡ Ok end
 judged_only format rec_len offset begun end block parts holds order =
     let some = some_of format rec_len holds.0 holds.2 in
     let none : unit_at format rec_len holds.0 ≡ Ok None =
@@ -90,7 +91,7 @@ fault_is end (Some g) f e = grind arith
 stands_by : (format : Format) (rec_len offset : ℕ) (begun : Bool) (block : List ℕ)
     (ps : List Portion) (end : Bool) (rest : List ℕ) (f : BlockFault)
     → (format ≡ Fixed → 1 ≤ rec_len) → Ends format rec_len offset begun block ps end rest
-    → judged format rec_len offset begun block ≡ Err f
+    → judged_units format rec_len offset begun block ≡ Err f
     → FaultStands format rec_len offset begun block f
 stands_by format rec_len offset begun block ps end rest f some ends is = record {
   parts = ps;
@@ -105,8 +106,8 @@ stands_by format rec_len offset begun block ps end rest f some ends is = record 
 
 fault_by : (b : Bool) (format : Format) (rec_len
     offset : ℕ) (begun : Bool) (block : List ℕ) (f : BlockFault) → ltb (length block) offset ≡ b
-    → (format ≡ Fixed → 1 ≤ rec_len) → judged format rec_len offset begun block ≡ Err f
-    → HasFault format rec_len offset begun block f
+    → (format ≡ Fixed → 1 ≤ rec_len) → judged_units format rec_len offset begun block ≡ Err f
+    → HasUnitFault format rec_len offset begun block f
 fault_by true format rec_len offset begun block f e some is = grind (arith, ltb-true, judged_short)
 fault_by false format rec_len offset begun block f e some is =
     let reaches = ltb-false _ _ e in
@@ -120,8 +121,8 @@ fault_by false format rec_len offset begun block f e some is =
 -- A block that does not pass has the fault returned.
 pub judged_fault : (format : Format) (rec_len
     offset : ℕ) (begun : Bool) (block : List ℕ) (f : BlockFault) → (format ≡ Fixed → 1 ≤ rec_len)
-    → judged format rec_len offset begun block ≡ Err f
-    → HasFault format rec_len offset begun block f
+    → judged_units format rec_len offset begun block ≡ Err f
+    → HasUnitFault format rec_len offset begun block f
 judged_fault format rec_len offset begun block f some is =
     fault_by (ltb (length block) offset) format rec_len offset begun block f refl some is
 
@@ -140,8 +141,9 @@ never_by (Ok None) end at f e = tt
 never_by (Ok (Some found)) end at f e = not_in_order (bool_eq (continues found.span) end) at f e
 
 pub judged_by_fault : (format : Format) (rec_len offset : ℕ) (begun : Bool) (block : List ℕ)
-    (f : BlockFault) → (format ≡ Fixed → 1 ≤ rec_len) → HasFault format rec_len offset begun block f
-    → judged format rec_len offset begun block ≡ Err f
+    (f : BlockFault) → (format ≡ Fixed → 1 ≤ rec_len)
+    → HasUnitFault format rec_len offset begun block f
+    → judged_units format rec_len offset begun block ≡ Err f
 judged_by_fault format rec_len offset begun block f some (inl (short, is)) =
     grind (arith, judged_short)
 judged_by_fault format rec_len offset begun block f some (inr (reaches, s)) =
@@ -157,14 +159,14 @@ judged_by_fault format rec_len offset begun block f some (inr (reaches, s)) =
 
 pub answer_passes : (r : Result Bool BlockFault) (format : Format) (rec_len
     offset : ℕ) (begun : Bool) (block : List ℕ) → (format ≡ Fixed → 1 ≤ rec_len)
-    → r ≡ judged format rec_len offset begun block → IfOk r (λ end. (parts : List Portion)
-    × Holds format rec_len offset block parts × InOrder begun parts end)
+    → r ≡ judged_units format rec_len offset begun block → IfOk r (λ end. (parts : List Portion)
+    × HoldsUnits format rec_len offset block parts × InOrder begun parts end)
 answer_passes (Ok end) format rec_len offset begun block some e = grind (arith, judged_found)
 answer_passes (Err f) format rec_len offset begun block some e = tt
 
 pub answer_faults : (r : Result Bool BlockFault) (format : Format) (rec_len
     offset : ℕ) (begun : Bool) (block : List ℕ) → (format ≡ Fixed → 1 ≤ rec_len)
-    → r ≡ judged format rec_len offset begun block
-    → IfErr r (HasFault format rec_len offset begun block)
+    → r ≡ judged_units format rec_len offset begun block
+    → IfErr r (HasUnitFault format rec_len offset begun block)
 answer_faults (Ok end) format rec_len offset begun block some e = tt
 answer_faults (Err f) format rec_len offset begun block some e = grind (arith, judged_fault)

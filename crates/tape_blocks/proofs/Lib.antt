@@ -13,4 +13,6 @@ pub mod SizeLaws
 pub mod TestLaws
 pub mod TightLaws
 pub mod UnitLaws
+pub mod OwnLaws
+pub mod Wide
 pub mod YieldLaws

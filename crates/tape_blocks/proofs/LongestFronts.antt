@@ -11,7 +11,8 @@ use Rattle.tape_label.specs.declared.values.Format.TheVariants.{Fixed}
 use Rattle.tape_blocks.specs.{declared.check.BlockCause.TheVariants.ShortOffset, Units.unit_at}
 use Rattle.tape_blocks.specs.Block.{Portion, spelling, spellings, IsUnit}
 use Rattle.tape_blocks.specs.Faults.{bool_eq, first_fault, tests, IsFront, fault}
-use Rattle.tape_blocks.specs.Judged.{in_order, begun_behind, unless_fault, judged_behind, judged}
+use Rattle.tape_blocks.specs.Judged.{in_order, begun_behind, unless_fault, judged_behind}
+use Rattle.tape_blocks.specs.Judged.{judged_units}
 use Rattle.tape_blocks.specs.Spans.{continues, leaves, InOrder}
 use Rattle.tape_blocks.specs.{declared.check.BlockFault.BlockFault, declared.check.Found.Found}
 use Rattle.tape_blocks.specs.Parts.{portion, parts_of}
@@ -51,9 +52,9 @@ pub record Ends (format : Format) (rec_len offset : ℕ) (begun : Bool) (block :
 pub judged_at : (format : Format) (rec_len offset : ℕ) (begun : Bool) (block : List ℕ)
     (ps : List Portion) (end : Bool) (rest : List ℕ) → (format ≡ Fixed → 1 ≤ rec_len)
     → Ends format rec_len offset begun block ps end rest
-    → judged format rec_len offset begun block ≡ unless_fault end (first_fault
+    → judged_units format rec_len offset begun block ≡ unless_fault end (first_fault
     (tests format rec_len end (offset + length (spellings format ps)) rest))
-unfolding judged
+unfolding judged_units
 judged_at format rec_len offset begun block ps end rest some ends =
     let front = ends.front in
     let size = length (spellings format ps) in
@@ -77,7 +78,7 @@ judged_at format rec_len offset begun block ps end rest some ends =
 pub judged_by_step : (format : Format) (rec_len offset : ℕ) (begun : Bool) (block : List ℕ)
     (ps : List Portion) (end : Bool) (rest : List ℕ) (u : Result (Option Found) BlockFault)
     → (format ≡ Fixed → 1 ≤ rec_len) → Ends format rec_len offset begun block ps end rest
-    → unit_at format rec_len rest ≡ u → judged format rec_len offset begun block
+    → unit_at format rec_len rest ≡ u → judged_units format rec_len offset begun block
     ≡ unless_fault end (moved (offset + length (spellings format ps)) (stop_by end u))
 judged_by_step format rec_len offset begun block ps end rest u some ends e =
     judged_at format rec_len offset begun block ps end rest some ends
@@ -91,7 +92,8 @@ pub judged_where : (format : Format) (rec_len offset : ℕ) (begun : Bool) (bloc
     → (format ≡ Fixed → 1 ≤ rec_len) → place ≤ length block
     → IsFront format rec_len offset begun block ps going (drop place block)
     → unit_at format rec_len (drop place block) ≡ u → NoUnit going u
-    → judged format rec_len offset begun block ≡ unless_fault going (moved place (stop_by going u))
+    → judged_units format rec_len offset begun block
+    ≡ unless_fault going (moved place (stop_by going u))
 judged_where format rec_len offset begun block ps going place u some inside front e none =
     let rest = drop place block in
     let never = subst (λ (v : Result (Option Found) BlockFault). NoUnit going v) (sym e) none in
@@ -111,8 +113,9 @@ judged_where format rec_len offset begun block ps going place u some inside fron
     ∙ ap (λ (n : ℕ). unless_fault going (moved n (stop_by going u))) at
 
 pub judged_short : (format : Format) (rec_len offset : ℕ) (begun : Bool) (block : List ℕ)
-    → length block < offset → judged format rec_len offset begun block ≡ Err (fault 0 ShortOffset)
-unfolding judged
+    → length block < offset
+    → judged_units format rec_len offset begun block ≡ Err (fault 0 ShortOffset)
+unfolding judged_units
 judged_short format rec_len offset begun block short = rw (lt-ltb _ _ short) refl
 
 -- ---- each block has such a prefix

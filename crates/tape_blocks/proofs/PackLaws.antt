@@ -9,9 +9,13 @@ use Rattle.std.proofs.lemmas.List.Concat.{flat_map-cons}
 use Rattle.std.specs.List.{AllByRecursion, position_or_len}
 use Rattle.tape_label.specs.declared.values.Format.{Format}
 use Rattle.tape_label.specs.declared.values.Format.TheVariants.{Fixed, Counted, Spanned}
+use Rattle.tape_label.specs.declared.values.Format.TheVariants.{Undefined, Variable}
 use Rattle.tape_blocks.specs.Block.{Portion, head_len, spelling, spellings, IsUnit, IsPadding}
 use Rattle.tape_blocks.specs.Packing.{IsWritable, HasWritableRecords, size_of, written, padded_by}
 use Rattle.tape_blocks.specs.{declared.parts.Shape.Shape, Block.first_other, Block.Holds}
+use Rattle.tape_blocks.specs.Block.{HoldsUnits}
+use Rattle.tape_label.specs.Formats.{is_standard}
+use Rattle.tape_blocks.proofs.OwnLaws.{as_standard}
 use Rattle.tape_blocks.specs.{Packed.body_of, Packed.parts_in, Packed.Keeps, Packing.padded_len}
 use Rattle.tape_blocks.proofs.FrontLaws.{all_append, spellings_push}
 use Rattle.tape_blocks.proofs.{PartsLaws.parts_are, PartsLaws.unit_size, UnitLaws.length-spelling}
@@ -63,6 +67,8 @@ no_padding : (format : Format) (rec_len : ℕ) → (format ≡ Fixed → 1 ≤ r
 no_padding Fixed rec_len some = (refl, omega (arith, some refl))
 no_padding Counted rec_len some = refl
 no_padding Spanned rec_len some = refl
+no_padding Undefined rec_len some = refl
+no_padding Variable rec_len some = refl
 
 pub parts_in_is : (shape : Shape) (items : List ℕ) (len : ℕ) (parts : List Portion)
     → Keeps shape items len parts → parts_in shape items len ≡ parts
@@ -104,6 +110,8 @@ writable_offset : (format : Format) (rec_len block_len offset : ℕ) (pad_full :
 writable_offset Fixed rec_len block_len offset pad_full w = omega (arith, w.1)
 writable_offset Counted rec_len block_len offset pad_full w = omega (arith, w.2)
 writable_offset Spanned rec_len block_len offset pad_full w = omega (arith, w.2)
+writable_offset Undefined rec_len block_len offset pad_full w = absurd w
+writable_offset Variable rec_len block_len offset pad_full w = absurd w
 
 pub offset_fits : (shape : Shape) → IsWritable shape → shape.offset ≤ shape.block_len
 offset_fits shape w = grind (arith, writable_offset)
@@ -117,6 +125,8 @@ padded_cases Fixed pad_full block_len n least le = (omega arith, le)
 padded_cases Counted true block_len n least le = (le, omega arith)
 padded_cases Counted false block_len n least le = (omega arith, omega arith)
 padded_cases Spanned pad_full block_len n least le = (omega arith, omega arith)
+padded_cases Undefined pad_full block_len n least le = (omega arith, le)
+padded_cases Variable pad_full block_len n least le = (omega arith, le)
 
 pub padded_fits : (shape : Shape) (n : ℕ) → IsWritable shape → n ≤ shape.block_len
     → (n ≤ padded_len shape n) × (padded_len shape n ≤ shape.block_len)
@@ -135,11 +145,15 @@ is_padding : (format : Format) (pad_full : Bool) (rec_len block_len n : ℕ)
 is_padding Fixed pad_full rec_len block_len n some = grind (arith, circumflexes)
 is_padding Counted pad_full rec_len block_len n some = grind (arith, circumflexes)
 is_padding Spanned pad_full rec_len block_len n some = circumflexes (max n 18 - n)
+is_padding Undefined pad_full rec_len block_len n some =
+    let z : n - n ≡ 0 = omega arith in rw z refl
+is_padding Variable pad_full rec_len block_len n some =
+    let z : n - n ≡ 0 = omega arith in rw z refl
 
-pub written_holds : (shape : Shape) (parts : List Portion)
+written_units : (shape : Shape) (parts : List Portion)
     → AllByRecursion (IsUnit shape.format shape.rec_len) parts
-    → Holds shape.format shape.rec_len shape.offset (written shape parts) parts
-written_holds shape parts all =
+    → HoldsUnits shape.format shape.rec_len shape.offset (written shape parts) parts
+written_units shape parts all =
     let padding = replicate (padded_len shape (size_of shape parts) - size_of shape parts) 94 in
     let spaces = replicate shape.offset 32 in
     let split : written shape parts ≡ spaces ++ (spellings shape.format parts ++ padding) =
@@ -161,6 +175,26 @@ written_holds shape parts all =
       is_padding shape.format shape.pad_full shape.rec_len shape.block_len
           (size_of shape parts) shape.some_record,
     )
+
+pub written_holds : (shape : Shape) (parts : List Portion)
+    → AllByRecursion (IsUnit shape.format shape.rec_len) parts → is_standard shape.format ≡ true
+    → Holds shape.format shape.rec_len shape.offset (written shape parts) parts
+written_holds shape parts all standard =
+    as_standard shape.format shape.rec_len shape.offset (written shape parts) parts standard
+    (written_units shape parts all)
+
+-- shapes that can be written have one of the formats of ECMA-13
+writable_standard : (format : Format) (rec_len block_len offset : ℕ) (pad_full : Bool)
+    → HasWritableRecords format rec_len block_len offset pad_full → is_standard format ≡ true
+writable_standard Fixed rec_len block_len offset pad_full w = refl
+writable_standard Counted rec_len block_len offset pad_full w = refl
+writable_standard Spanned rec_len block_len offset pad_full w = refl
+writable_standard Undefined rec_len block_len offset pad_full w = absurd w
+writable_standard Variable rec_len block_len offset pad_full w = absurd w
+
+pub standard_of : (shape : Shape) → IsWritable shape → is_standard shape.format ≡ true
+standard_of shape w =
+    writable_standard shape.format shape.rec_len shape.block_len shape.offset shape.pad_full w.units
 
 -- the block that is taken
 pub written_is : (shape : Shape) (items text : List ℕ) (len last : ℕ) (parts : List Portion)

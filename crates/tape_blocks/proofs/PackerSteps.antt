@@ -9,7 +9,7 @@ use Rattle.tape_blocks.specs.Packing.{Given, the_packing, IsWritable, size_of, w
 use Rattle.tape_blocks.specs.{declared.parts.Shape.Shape, Packed.parts_in, Packed.Keeps}
 use Rattle.tape_blocks.proofs.PackLaws.{keeps_len, keeps_front, keeps_more, parts_in_is, keeps_none}
 use Rattle.tape_blocks.proofs.PackLaws.{some_size, none_size, offset_fits, padded_fits}
-use Rattle.tape_blocks.proofs.PackLaws.{written_holds, written_is, padded_size}
+use Rattle.tape_blocks.proofs.PackLaws.{written_holds, standard_of, written_is, padded_size}
 
 -- ---- the packer's own steps
 
@@ -75,7 +75,7 @@ given_is shape items text len last parts begun closed w k is e some =
     let held : parts ≢ [] = λ none. some (sized ∙ ap (size_of shape) none ∙ omega arith) in
     record {
       holds = subst (λ (s : List ℕ). Holds shape.format shape.rec_len shape.offset s parts)
-          (sym whole) (written_holds shape parts k.units);
+          (sym whole) (written_holds shape parts k.units (standard_of shape w));
       text_is = whole;
       within = omega (arith, long, fits.1);
       some_bytes = omega (arith, long, fits.0, some_size shape parts k.units held);

@@ -7,6 +7,7 @@ use Rattle.std.proofs.{lemmas.Bool.Decides.nat_tests, lemmas.List.Concat.flat_ma
 use Rattle.std.specs.{Prelude.nat_lt, List.AllByRecursion}
 use Rattle.tape_label.specs.declared.values.Format.{Format}
 use Rattle.tape_label.specs.declared.values.Format.TheVariants.{Fixed, Counted, Spanned}
+use Rattle.tape_label.specs.declared.values.Format.TheVariants.{Undefined, Variable}
 use Rattle.tape_blocks.specs.{declared.check.BlockFault.BlockFault, declared.check.Found.Found}
 use Rattle.tape_blocks.specs.Block.{Portion, head_len, spelling, spellings, IsUnit, IsPadding}
 use Rattle.tape_blocks.specs.Parts.{portion, unit_len, with_unit, parts_by, parts_of}
@@ -25,6 +26,8 @@ pub unit_size : (format : Format) (rec_len : ℕ) (p : Portion) → (format ≡ 
 unit_size Fixed rec_len p some is = omega (arith, is.1, some refl)
 unit_size Counted rec_len p some is = omega arith
 unit_size Spanned rec_len p some is = omega arith
+unit_size Undefined rec_len p some is = omega (arith, is.1)
+unit_size Variable rec_len p some is = omega arith
 
 pub found_size : (format : Format) (rec_len : ℕ) (bytes : List ℕ) (found : Found)
     → (format ≡ Fixed → 1 ≤ rec_len) → unit_at format rec_len bytes ≡ Ok (Some found)
@@ -136,6 +139,8 @@ unfolding unit_at
 unit_none Fixed rec_len some = grind (arith, nat_lt, nat_tests)
 unit_none Counted rec_len some = refl
 unit_none Spanned rec_len some = refl
+unit_none Undefined rec_len some = refl
+unit_none Variable rec_len some = refl
 
 pub parts_none : (format : Format) (rec_len : ℕ) (bytes : List ℕ) → length bytes ≡ 0
     → parts_of format rec_len bytes ≡ []
@@ -179,6 +184,8 @@ pub some_of : (format : Format) (rec_len : ℕ) (padding : List ℕ) → IsPaddi
 some_of Fixed rec_len padding is e = omega (arith, is.1)
 some_of Counted rec_len padding is e = absurd cc
 some_of Spanned rec_len padding is e = absurd cc
+some_of Undefined rec_len padding is e = absurd cc
+some_of Variable rec_len padding is e = absurd cc
 
 -- The parts of bytes that consist of units and padding are those of the units.
 pub parts_are : (format : Format) (rec_len : ℕ) (ps : List Portion) (bytes padding : List ℕ)

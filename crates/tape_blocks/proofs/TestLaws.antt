@@ -6,6 +6,11 @@ use Rattle.std.proofs.lemmas.Bool.{le-leb, lt-leb, ltb-true, ltb-false}
 use Rattle.std.specs.Prelude.{◌||◌, is_none, is_some, if◌then◌else◌}
 use Rattle.std.specs.Str.{all_ascii_digits}
 use Rattle.tape_label.specs.declared.values.Format.TheVariants.{Fixed, Counted, Spanned}
+use Rattle.tape_label.specs.declared.values.Format.TheVariants.{Undefined, Variable}
+use Rattle.std.specs.Prelude.{slice_index, max, ◌&&◌}
+use Rattle.tape_blocks.specs.Faults.{word_of, are_bytes}
+use Rattle.tape_blocks.specs.Block.{span_coded}
+use Rattle.tape_blocks.specs.Units.{described}
 use Rattle.tape_label.specs.{Digits.number_of, declared.values.Format.Format}
 use Rattle.tape_blocks.specs.declared.check.BlockCause.TheVariants.{NotMultiple, BadCount, PastEnd}
 use Rattle.tape_blocks.specs.declared.check.BlockCause.TheVariants.{BadIndicator, SpanBroken}
@@ -98,6 +103,43 @@ moved_if : (b : Bool) (at : ℕ) (begun : Bool) (x y : Result (Option Found) Blo
 moved_if true at begun x y = refl
 moved_if false at begun x y = refl
 
+own_cases : (short begun : Bool) (at n : ℕ)
+    → first_fault (test (not short) at NotMultiple ∷ test (not begun) at SpanBroken ∷ [])
+    ≡ moved at (stop_by begun (cond short (Err (fault 0 NotMultiple))
+    (Ok (Some record { span = Whole; head = 0; len = n }))))
+own_cases true begun at n = let z : at + 0 ≡ at = omega arith in rw z refl
+own_cases false true at n = let z : at + 0 ≡ at = omega arith in rw z refl
+own_cases false false at n = refl
+
+-- the step at a descriptor word, by its tests
+abbrev described_by : Option Span → Bool → Bool → ℕ → Result (Option Found) BlockFault
+described_by None low high len = Err (fault 0 BadIndicator)
+described_by (Some span) low high len =
+    cond low (Err (fault 0 BadCount)) (cond high (Err (fault 0 PastEnd))
+    (Ok (Some record { span = span; head = 4; len = len })))
+
+described_is : (o : Option Span) (len : ℕ) (bytes : List ℕ)
+    → described o len bytes ≡ described_by o (ltb len 4) (ltb (length bytes) len) len
+described_is None len bytes = refl
+described_is (Some s) len bytes = refl
+
+-- the tests of a descriptor word, and the step there
+word_cases : (short bytes low high begun : Bool) (o : Option Span) (at len : ℕ)
+    → first_fault (test (not short && bytes) at BadCount ∷ test (is_some o) at BadIndicator
+    ∷ test (not low) at BadCount ∷ test (not high) at PastEnd
+    ∷ test (may_stand o begun) at SpanBroken ∷ [])
+    ≡ moved at (stop_by begun (cond (short || not bytes) (Err (fault 0 BadCount))
+    (described_by o low high len)))
+word_cases true bytes low high begun o at len = let z : at + 0 ≡ at = omega arith in rw z refl
+word_cases false false low high begun o at len = let z : at + 0 ≡ at = omega arith in rw z refl
+word_cases false true low high begun None at len = let z : at + 0 ≡ at = omega arith in rw z refl
+word_cases false true true high begun (Some s) at len =
+    let z : at + 0 ≡ at = omega arith in rw z refl
+word_cases false true false true begun (Some s) at len =
+    let z : at + 0 ≡ at = omega arith in rw z refl
+word_cases false true false false begun (Some s) at len =
+    last_case (bool_eq (continues s) begun) at
+
 pub tests_are : (format : Format) (rec_len : ℕ) (begun : Bool) (at : ℕ) (rest : List ℕ)
     → first_fault (tests format rec_len begun at rest)
     ≡ moved at (stop_by begun (unit_at format rec_len rest))
@@ -108,6 +150,22 @@ tests_are Counted rec_len begun at (c ∷ cs) =
     first_if (eqb c 94) _ _ _ _ (padding_are (first_other (c ∷ cs)) (c ∷ cs) begun at refl)
     (counted_are Whole 4 at begun (c ∷ cs))
     ∙ moved_if (eqb c 94) at begun (padding_by (first_other (c ∷ cs))) (counted Whole 4 (c ∷ cs))
+tests_are Undefined rec_len begun at [] = refl
+tests_are Undefined rec_len begun at (c ∷ cs) =
+    rw (leb-not (max 1 rec_len) (length (c ∷ cs)))
+    (own_cases (ltb (length (c ∷ cs)) (max 1 rec_len)) begun at (max 1 rec_len))
+tests_are Variable rec_len begun at [] = refl
+tests_are Variable rec_len begun at (c ∷ cs) =
+    let rest = c ∷ cs in
+    let o = span_coded (slice_index rest 2) (slice_index rest 3) in
+    rw (
+      leb-not 4 (length rest),
+      leb-not 4 (word_of rest),
+      leb-not (word_of rest) (length rest),
+      described_is o (word_of rest) rest,
+    )
+    (word_cases (ltb (length rest) 4) (are_bytes rest) (ltb (word_of rest) 4)
+    (ltb (length rest) (word_of rest)) begun o at (word_of rest))
 tests_are Spanned rec_len begun at [] = refl
 tests_are Spanned rec_len begun at (c ∷ cs) =
     grind (arith, first_if, eqb, padding_are, spanned_are, moved_if)

@@ -7,13 +7,19 @@ use Rattle.std.proofs.{Common.rules, Common.length-append, lemmas.List.drop-drop
 use Rattle.std.proofs.lemmas.Bool.{ltb-false, le-ltb, eqb-true}
 use Rattle.std.specs.Str.{all_ascii_digits}
 use Rattle.tape_label.specs.declared.values.Format.TheVariants.{Fixed, Counted, Spanned}
+use Rattle.tape_label.specs.declared.values.Format.TheVariants.{Undefined, Variable}
 use Rattle.tape_label.specs.{Digits.digits, Digits.number_of, declared.values.Format.Format}
 use Rattle.tape_label.proofs.DigitLaws.{digits-number_of, number_of-digits, number_of-lt}
 use Rattle.tape_label.proofs.DigitLaws.{all_ascii_digits-digits}
 use Rattle.tape_blocks.specs.Block.{Portion, indicator, head_len, spelling, IsUnit, first_other}
 use Rattle.tape_blocks.specs.{declared.check.BlockFault.BlockFault, Block.span_by, Parts.portion}
 use Rattle.tape_blocks.specs.declared.parts.Span.TheVariants.{Whole, First, Middle, Last}
+use Rattle.std.specs.Prelude.{max, ◌||◌, ◌&&◌, ◌*◌}
+use Rattle.std.proofs.lemmas.Bool.{lt-ltb, ltb-true}
+use Rattle.tape_blocks.specs.declared.check.BlockCause.TheVariants.{BadCount, PastEnd, NotMultiple}
+use Rattle.tape_blocks.specs.{Block.code, Block.head, Block.span_coded, Faults.fault}
 use Rattle.tape_blocks.specs.Units.{padding_by, short_by, counted, spanned, unit_at}
+use Rattle.tape_blocks.specs.Units.{described}
 use Rattle.tape_blocks.specs.{declared.parts.Span.Span, declared.check.Found.Found}
 
 abbrev pub some : Found → Result (Option Found) BlockFault
@@ -150,6 +156,81 @@ fixed_found : (rec_len : ℕ) (bytes : List ℕ) → rec_len ≤ length bytes
     → UnitStands Fixed rec_len bytes (record { span = Whole; head = 0; len = rec_len })
 fixed_found rec_len bytes le = grind (arith, take-append-drop, length-take)
 
+own_cases : (b : Bool) (f : BlockFault) (x y : Found) → cond b (Err f) (some x) ≡ some y
+    → (b ≡ false) × (x ≡ y)
+own_cases true f x y e = absurd cc
+own_cases false f x y e = (refl, some_is x y e)
+
+own_found : (rec_len : ℕ) (bytes : List ℕ) → max 1 rec_len ≤ length bytes
+    → UnitStands Undefined rec_len bytes (record { span = Whole; head = 0; len = max 1 rec_len })
+own_found rec_len bytes le =
+    let u = fixed_found (max 1 rec_len) bytes le in record { whole = u.whole; unit = u.unit }
+
+span_code : (c l : ℕ) (z one two three four : Bool) (s : Span) → eqb l 0 ≡ z → eqb c 0 ≡ one
+    → eqb c 1 ≡ two → eqb c 2 ≡ three → eqb c 3 ≡ four
+    → cond (not z) None (cond one (Some Whole) (cond two (Some First)
+    (cond three (Some Last) (cond four (Some Middle) None)))) ≡ Some s → (code s ≡ c) × (l ≡ 0)
+span_code c l false one two three four s o p q r t e = absurd cc
+span_code c l true true two three four s o p q r t e = grind (arith, eqb-true)
+span_code c l true false true three four s o p q r t e = grind (arith, eqb-true)
+span_code c l true false false true four s o p q r t e = grind (arith, eqb-true)
+span_code c l true false false false true s o p q r t e = grind (arith, eqb-true)
+span_code c l true false false false false s o p q r t e = absurd cc
+
+described_cases : (o : Option Span) (len : ℕ) (bytes : List ℕ) (found : Found) (a b : Bool)
+    → ltb len 4 ≡ a → ltb (length bytes) len ≡ b → described o len bytes ≡ some found
+    → (s : Span) × (o ≡ Some s) × (4 ≤ len) × (len ≤ length bytes)
+    × (record { span = s; head = 4; len = len } ≡ found)
+described_cases None len bytes found a b p q e = absurd cc
+described_cases (Some s) len bytes found true b p q e =
+    let z : described (Some s) len bytes ≡ Err (fault 0 BadCount) = rw p refl in absurd cc
+described_cases (Some s) len bytes found false true p q e =
+    let z : described (Some s) len bytes ≡ Err (fault 0 PastEnd) = rw (p, q) refl in absurd cc
+described_cases (Some s) len bytes found false false p q e =
+    let z : described (Some s) len bytes ≡ some (record { span = s; head = 4; len = len }) =
+    rw (p, q) refl in (
+      s,
+      refl,
+      ltb-false _ _ p,
+      ltb-false _ _ q,
+      some_is _ found (sym z ∙ e),
+    )
+
+word_pair : (a b : ℕ) → b < 256 → ((a * 256 + b) / 256 ≡ a) × ((a * 256 + b) % 256 ≡ b)
+word_pair a b lt = (omega arith, omega arith)
+
+word_case : (short one two : Bool) (r : Result (Option Found) BlockFault) (f : BlockFault)
+    (y : Found) → cond (short || not (one && two)) (Err f) r ≡ some y
+    → (one ≡ true) × (two ≡ true) × (r ≡ some y)
+word_case true one two r f y e = absurd cc
+word_case false true true r f y e = (refl, refl, e)
+word_case false true false r f y e = absurd cc
+word_case false false two r f y e = absurd cc
+
+word_found : (a b c d : ℕ) (rest : List ℕ) (found : Found) → b < 256 → a < 256
+    → described (span_coded c d) (a * 256 + b) (a ∷ b ∷ c ∷ d ∷ rest) ≡ some found
+    → (rec_len : ℕ) → UnitStands Variable rec_len (a ∷ b ∷ c ∷ d ∷ rest) found
+word_found a b c d rest found lt less e rec_len =
+    let bytes = a ∷ b ∷ c ∷ d ∷ rest in
+    let len = a * 256 + b in
+    let k = described_cases (span_coded c d) len bytes found _ _ refl refl e in
+    let s = k.0 in
+    let is = span_code c d _ _ _ _ _ s refl refl refl refl refl k.1 in
+    let content = take (len - 4) rest in
+    let content_len : 4 + length content ≡ len =
+    omega (arith, length-take (len - 4) rest, k.2, k.3) in
+    let pair = word_pair a b lt in
+    let high : (4 + length content) / 256 ≡ a = ap (λ (n : ℕ). n / 256) content_len ∙ pair.0 in
+    let low : (4 + length content) % 256 ≡ b = ap (λ (n : ℕ). n % 256) content_len ∙ pair.1 in
+    let front : head Variable (record { span = s; bytes = content }) ≡ a ∷ b ∷ c ∷ d ∷ [] =
+    rw (high, low, is.0, is.1) refl in
+    subst (λ (f : Found). UnitStands Variable rec_len bytes f) k.4 record {
+      whole = split_at bytes 4 len k.2
+          ∙ sym (ap (λ (h : List ℕ). (h ++ content) ++ drop len bytes) front
+          ∙ append_assoc (a ∷ b ∷ c ∷ d ∷ []) content (drop len bytes));
+      unit = omega (arith, content_len);
+    }
+
 pub unit_found : (format : Format) (rec_len : ℕ) (bytes : List ℕ) (found : Found)
     → unit_at format rec_len bytes ≡ Ok (Some found) → UnitStands format rec_len bytes found
 unfolding unit_at
@@ -160,6 +241,21 @@ unit_found Fixed rec_len bytes found e =
     (fixed_found rec_len bytes (ltb-false _ _ p.0))
 unit_found Counted rec_len [] found e = absurd cc
 unit_found Counted rec_len (c ∷ cs) found e = search (arith, tt, counted_found, not_padding)
+unit_found Undefined rec_len [] found e = absurd cc
+unit_found Undefined rec_len (c ∷ cs) found e =
+    let p = own_cases (ltb (length (c ∷ cs)) (max 1 rec_len)) (fault 0 NotMultiple)
+    (record { span = Whole; head = 0; len = max 1 rec_len }) found e in
+    subst (λ (f : Found). UnitStands Undefined rec_len (c ∷ cs) f) p.1
+    (own_found rec_len (c ∷ cs) (ltb-false _ _ p.0))
+unit_found Variable rec_len [] found e = absurd cc
+unit_found Variable rec_len (a ∷ []) found e = absurd cc
+unit_found Variable rec_len (a ∷ b ∷ []) found e = absurd cc
+unit_found Variable rec_len (a ∷ b ∷ c ∷ []) found e = absurd cc
+unit_found Variable rec_len (a ∷ b ∷ c ∷ d ∷ rest) found e =
+    let bytes = a ∷ b ∷ c ∷ d ∷ rest in
+    let p = word_case (ltb (length bytes) 4) (ltb a 256) (ltb b 256)
+    (described (span_coded c d) (a * 256 + b) bytes) (fault 0 BadCount) found e in
+    word_found a b c d rest found (ltb-true _ _ p.1) (ltb-true _ _ p.0) p.2 rec_len
 unit_found Spanned rec_len [] found e = absurd cc
 unit_found Spanned rec_len (c ∷ cs) found e = search (arith, spanned_by, span_is, eqb, not_padding)
 
@@ -194,6 +290,28 @@ span_by-indicator First = refl
 span_by-indicator Middle = refl
 span_by-indicator Last = refl
 
+span_coded-code : (s : Span) → span_coded (code s) 0 ≡ Some s
+span_coded-code Whole = refl
+span_coded-code First = refl
+span_coded-code Middle = refl
+span_coded-code Last = refl
+
+own_again : (bytes : List ℕ) (rec_len : ℕ) (p : Portion) (rest : List ℕ)
+    → IsUnit Undefined rec_len p → bytes ≡ p.bytes ++ rest
+    → unit_at Undefined rec_len bytes ≡ Ok (Some (record {
+      span = p.span;
+      head = 0;
+      len = 0 + length p.bytes;
+    }))
+unfolding unit_at
+own_again [] rec_len p rest is e =
+    absurd (omega (arith, is.1, ap length e, length-append p.bytes rest))
+own_again (c ∷ cs) rec_len p rest is e =
+    let le : max 1 rec_len ≤ length (c ∷ cs) =
+    omega (arith, is.1, ap length e, length-append p.bytes rest) in
+    let n : 0 + length p.bytes ≡ max 1 rec_len = omega (arith, is.1) in
+    rw (le-ltb _ _ le, is.0, n) refl
+
 pub unit_again : (format : Format) (rec_len : ℕ) (p : Portion) (rest : List ℕ)
     → IsUnit format rec_len p
     → unit_at format rec_len (spelling format p ++ rest) ≡ Ok (Some (found_of format p))
@@ -210,6 +328,22 @@ unit_again Counted rec_len p rest is =
           (omega arith) (omega (arith, length-append p.bytes rest)),
       is.0,
     ) refl
+unit_again Undefined rec_len p rest is = own_again (p.bytes ++ rest) rec_len p rest is refl
+unit_again Variable rec_len p rest is =
+    let n = 4 + length p.bytes in
+    let bytes : List ℕ = spelling Variable p ++ rest in
+    let low : ltb (n % 256) 256 ≡ true = lt-ltb _ _ (omega arith) in
+    let high : ltb (n / 256) 256 ≡ true = lt-ltb _ _ (omega (arith, is)) in
+    let whole : n / 256 * 256 + n % 256 ≡ n = omega arith in
+    rw (
+      high,
+      low,
+      span_coded-code p.span,
+      whole,
+      le-ltb (length bytes) 4 (omega (arith, length-append p.bytes rest)),
+      le-ltb n 4 (omega arith),
+      le-ltb (length bytes) n (omega (arith, length-append p.bytes rest)),
+    ) refl
 unit_again Spanned rec_len p rest is =
     let k = 5 + length p.bytes in
     let bytes : List ℕ = spelling Spanned p ++ rest in
@@ -225,12 +359,16 @@ pub portion_of : (format : Format) (p : Portion) (rest : List ℕ)
 portion_of Fixed p rest = grind (arith, take_at)
 portion_of Counted p rest = grind (arith, take_at)
 portion_of Spanned p rest = grind (arith, take_at)
+portion_of Undefined p rest = grind (arith, take_at)
+portion_of Variable p rest = grind (arith, take_at)
 
 pub length-spelling : (format : Format) (p : Portion)
     → length (spelling format p) ≡ head_len format + length p.bytes
 length-spelling Fixed p = omega arith
 length-spelling Counted p = omega arith
 length-spelling Spanned p = omega arith
+length-spelling Undefined p = omega arith
+length-spelling Variable p = omega arith
 
 pub rest_of : (format : Format) (p : Portion) (rest : List ℕ)
     → drop (head_len format + length p.bytes) (spelling format p ++ rest) ≡ rest

@@ -4,6 +4,7 @@ use Rattle.std.specs.Prelude.{Result, Ok, Err, if◌then◌else◌}
 use Rattle.tape_label.specs.declared.values.Format.{Format}
 use Rattle.tape_blocks.specs.{declared.check.BlockCause.TheVariants.ShortOffset, Parts.parts_of}
 use Rattle.tape_blocks.specs.{declared.check.BlockFault.BlockFault, Block.Portion, Block.spellings}
+use Rattle.tape_blocks.specs.Block.{own_len, own_offset}
 use Rattle.tape_blocks.specs.Spans.{continues, leaves}
 use Rattle.tape_blocks.specs.Faults.{bool_eq, first_fault, tests, fault}
 
@@ -32,8 +33,14 @@ judged_behind format rec_len offset begun block parts =
 
 -- whether a record is unfinished at the end of the block, or the block's fault: the parts in span
 -- order at its start are skipped, and the bytes after them are tested
-unfoldable pub judged : Format → ℕ → ℕ → Bool → List ℕ → Result Bool BlockFault
-judged format rec_len offset begun block =
+unfoldable pub judged_units : Format → ℕ → ℕ → Bool → List ℕ → Result Bool BlockFault
+judged_units format rec_len offset begun block =
     if nat_lt (length block) offset then Err (fault 0 ShortOffset)
     else judged_behind format rec_len offset begun block
     (in_order begun (parts_of format rec_len (drop offset block)))
+
+-- the same, but in format U with the block's own record length, and in format V with its own offset
+unfoldable pub judged : Format → ℕ → ℕ → Bool → List ℕ → Result Bool BlockFault
+judged format rec_len offset begun block =
+    judged_units format (own_len format rec_len offset block) (own_offset format offset block)
+    begun block

@@ -14,6 +14,8 @@ pub mod Units
 pub mod Parts
 pub mod PartsLeft
 pub mod Judged
+pub mod Content
+pub mod WideLaws
 -- definitions about private code, and about a caller's loop over offers:
 pub mod Packed
 pub mod Run

@@ -4,6 +4,7 @@ use Rattle.std.specs.Prelude.{◌≡◌, ◌≢◌, ℕ, ◌+◌, ◌-◌, ◌<�
 use Rattle.std.specs.Prelude.{if◌then◌else◌, List, [], ◌∷◌, ◌++◌, length, take, replicate, max}
 use Rattle.tape_label.specs.declared.values.Format.{Format}
 use Rattle.tape_label.specs.declared.values.Format.TheVariants.{Fixed, Counted, Spanned}
+use Rattle.tape_label.specs.declared.values.Format.TheVariants.{Undefined, Variable}
 use Rattle.tape_blocks.specs.{declared.parts.Shape.Shape, declared.offer.Offer.Offer, Spans.span_of}
 use Rattle.tape_blocks.specs.declared.offer.Offer.TheVariants.{Taken, BlockReady}
 use Rattle.tape_blocks.specs.Block.{Portion, spellings, Holds}
@@ -14,7 +15,8 @@ use Rattle.tape_blocks.specs.Block.{Portion, spellings, Holds}
 abbrev pub longest_block : ℕ
 longest_block = 99999
 
--- the conditions on record length, block length, offset and full padding in each format
+-- the conditions on record length, block length, offset and full padding in each format; files of
+-- formats U and V are not written
 abbrev pub HasWritableRecords : Format → ℕ → ℕ → ℕ → Bool → Type 0
 HasWritableRecords Fixed rec_len block_len offset pad_full =
     (18 ≤ rec_len) × (offset + rec_len ≤ block_len) × (pad_full ≡ false)
@@ -22,6 +24,8 @@ HasWritableRecords Counted rec_len block_len offset pad_full =
     (4 ≤ rec_len) × (rec_len ≤ 9999) × (offset + rec_len ≤ block_len)
 HasWritableRecords Spanned rec_len block_len offset pad_full =
     (rec_len ≡ 0) × (block_len ≤ 9999) × (offset + 6 ≤ block_len) × (pad_full ≡ false)
+HasWritableRecords Undefined rec_len block_len offset pad_full = ⊥
+HasWritableRecords Variable rec_len block_len offset pad_full = ⊥
 
 -- the shapes that can be written
 pub record IsWritable (shape : Shape) : Type 0 where
@@ -36,6 +40,8 @@ abbrev pub HasRecordLength : Format → ℕ → ℕ → Type 0
 HasRecordLength Fixed rec_len n = n ≡ rec_len
 HasRecordLength Counted rec_len n = n + 4 ≤ rec_len
 HasRecordLength Spanned rec_len n = n ≤ 4294967295
+HasRecordLength Undefined rec_len n = ⊥
+HasRecordLength Variable rec_len n = ⊥
 
 -- ---- the text of a block
 
@@ -48,6 +54,8 @@ abbrev pub padded_by : Format → Bool → ℕ → ℕ → ℕ
 padded_by Fixed pad_full block_len n = n
 padded_by Counted pad_full block_len n = if pad_full then block_len else max n 18
 padded_by Spanned pad_full block_len n = max n 18
+padded_by Undefined pad_full block_len n = n
+padded_by Variable pad_full block_len n = n
 
 -- the length of a block of n bytes after padding
 abbrev pub padded_len : Shape → ℕ → ℕ
@@ -68,6 +76,8 @@ abbrev pub least_room : Format → ℕ → ℕ
 least_room Fixed n = n
 least_room Counted n = 4 + n
 least_room Spanned n = 6
+least_room Undefined n = n
+least_room Variable n = 4 + n
 
 -- After the given parts there is room for the next part, if n bytes of its record are left.
 abbrev pub HasRoom : Shape → List Portion → ℕ → Type 0

@@ -4,6 +4,8 @@ ghost use Rattle.std.specs.Prelude.{◌≡◌, ◌≤◌, ℕ, Bool, List};
 ghost use Rattle.tape_label.specs.declared.values.Format.TheVariants.{Fixed};
 ghost use Rattle.tape_blocks.specs.Laws.{HoldsOneList, PartsFit, PassesForOne, JudgedAsHeld};
 ghost use Rattle.tape_blocks.specs.Laws.{JoinsOn, BegunIsRest, ReadyIsFull, PackedBlocksHold};
+ghost use Rattle.tape_blocks.specs.WideLaws.{UndefinedIsOne, UndefinedIsNone, DescribedHolds};
+ghost use Rattle.tape_blocks.specs.WideLaws.{ContentIsKept};
 ghost use Rattle.tape_blocks.specs.Cases.{CasesOfOffers, CasesOfBlocks, CasesOfLaws};
 
 use tape_label::Format;
@@ -53,6 +55,26 @@ pub fn begun_is_rest()
 #[tactic(auto, using(crate::proofs::RunLaws::ready_full))]
 pub fn ready_is_full()
     ensures { ReadyIsFull }
+{}
+
+/// A block of format U that is longer than its offset contains one record, all its other bytes, and
+/// a block of the offset alone contains none.
+#[tactic(auto, using(crate::proofs::Wide::undefined_one, crate::proofs::Wide::undefined_none))]
+pub fn undefined_is_one()
+    ensures one { UndefinedIsOne }
+    ensures none { UndefinedIsNone }
+{}
+
+/// A block of format V that is encoded from parts contains them.
+#[tactic(auto, using(crate::proofs::Wide::described_holds))]
+pub fn described_holds()
+    ensures { DescribedHolds }
+{}
+
+/// A block that passes the check has no padding of NULs or spaces.
+#[tactic(auto, using(crate::proofs::Wide::content_kept))]
+pub fn content_is_kept()
+    ensures { ContentIsKept }
 {}
 
 /// Test cases for the definitions of packing and for the laws.

@@ -4,12 +4,16 @@
 mod check;
 pub mod laws;
 mod offer;
+mod own;
 mod packer;
+mod padding;
 mod parts;
 mod put;
 mod writing;
 
 pub use check::{BlockCause, BlockFault, check_block};
 pub use offer::{Offer, PackFault};
+pub use own::{after, own_offset};
 pub use packer::Packer;
+pub use padding::content;
 pub use parts::{Form, Part, Parts, Shape, Span};

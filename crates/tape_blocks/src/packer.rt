@@ -67,12 +67,13 @@ impl Packer {
     ///
     /// # Errors
     ///
-    /// Returns `ShapeRange` if blocks of this shape cannot be written: the block length must be 18
-    /// to 99,999 and the offset at most 99. In format F a record has at least 18 bytes and fits in
-    /// a block after the offset; in format D the record length, which includes the four digits, is
-    /// 4 to 9,999 and fits likewise; in format S the record length is 0, a block has at most 9,999
-    /// bytes, and at least 6 of them follow the offset. Only in format D can blocks be padded to
-    /// the full block length. Then returns `OutOfMemory` if an allocation fails.
+    /// Returns `ShapeRange` if blocks of this shape are not written: the format must be F, D or S,
+    /// the block length 18 to 99,999, and the offset at most 99. In format F a record has at least
+    /// 18 bytes and fits in a block after the offset; in format D the record length, which includes
+    /// the four digits, is 4 to 9,999 and fits likewise; in format S the record length is 0, a
+    /// block has at most 9,999 bytes, and at least 6 of them follow the offset. Only in format D
+    /// can blocks be padded to the full block length. Then returns `OutOfMemory` if an allocation
+    /// fails.
     pub fn new(alloc: Global, shape: Shape) -> Result<Packer, PackFault>
         ensures ok { IfOk result (λ p. IsWritable shape
             × (p ≡ record { shape = shape; parts = []; begun = false; closed = false })) }

@@ -5,6 +5,7 @@ ghost use Rattle.tape_label.specs.declared.values.Format.TheVariants.{Fixed};
 ghost use Rattle.tape_blocks.specs.{Block.indicator, Spans.continues, Spans.leaves};
 
 use crate::check::unit_at;
+use crate::own::{after, units_of};
 use tape_label::{Format, Head2};
 
 /// The form of a file's records in the input, when they are written, and in the output, when they
@@ -31,7 +32,7 @@ pub struct Shape {
     /// The maximum length of a block, including its offset.
     pub block_len: u32,
     /// The length of each record in format F; the maximum length, including the count, in format D.
-    /// In format S it must be 0 for writing, and is ignored for reading.
+    /// In format S it must be 0 for writing. In formats S, U and V it is ignored for reading.
     pub rec_len: u32,
     /// The number of characters at the start of each block, before its first record.
     pub offset: u8,
@@ -80,14 +81,15 @@ impl Shape {
             Format::Spanned => {
                 rec_len == 0 && block_len <= 9_999 && offset + 6 <= block_len && !self.pad_full
             }
+            Format::Undefined | Format::Variable => false,
         }
     }
 }
 
 /// The position of a part within its record (ECMA-13, 4th edition: spanned records).
 ///
-/// A record of format F or D is always one part. A record of format S may extend over several
-/// blocks: a first segment, any number of middle segments, and a last segment.
+/// A record of format F, D or U is always one part. A record of format S or V may extend over
+/// several blocks: a first segment, any number of middle segments, and a last segment.
 #[derive(Clone, Copy, Debug, PartialEq, Eq)]
 pub enum Span {
     /// The record begins and ends with this part.
@@ -133,7 +135,7 @@ impl Span {
 pub struct Part<'a> {
     /// The position of this part within its record.
     pub span: Span,
-    /// The content, without the count and the indicator.
+    /// The content, without the count and the indicator, or the record descriptor word.
     pub bytes: &'a [u8],
 }
 
@@ -150,6 +152,8 @@ pub struct Parts<'a> {
 impl<'a> Parts<'a> {
     ghost use Rattle.tape_blocks.specs.{Block.Portion, Block.Holds, PartsLeft.parts_left};
     ghost use Rattle.tape_blocks.specs.Checked.{IsChecked};
+    ghost use Rattle.std.specs.Prelude.{drop};
+    ghost use Rattle.tape_blocks.specs.{Parts.parts_of, Block.own_len, Block.own_offset};
 
     /// Creates an iterator over a block that passes [`check_block`](crate::check_block) for some
     /// `begun`.
@@ -159,10 +163,26 @@ impl<'a> Parts<'a> {
             → Holds shape.now.format shape.now.rec_len shape.now.offset block.now parts
             → parts_left result ≡ parts }
     {
+        let units = units_of(shape, block);
         Parts {
-            format: shape.format,
-            rec_len: shape.rec_len as usize,
-            rest: &block[usize::from(shape.offset)..],
+            format: units.format,
+            rec_len: units.rec_len,
+            rest: &block[units.offset..],
+        }
+    }
+
+    /// Creates an iterator over the parts at the start of any block, up to the first offset at
+    /// which no unit begins. They may be out of order.
+    pub fn at_front(shape: &Shape, block: &'a [u8]) -> Parts<'a>
+        ensures { parts_left result ≡ parts_of shape.now.format
+            (own_len shape.now.format shape.now.rec_len shape.now.offset block.now)
+            (drop (own_offset shape.now.format shape.now.offset block.now) block.now) }
+    {
+        let units = units_of(shape, block);
+        Parts {
+            format: units.format,
+            rec_len: units.rec_len,
+            rest: after(units.offset, block),
         }
     }
 }

@@ -1,7 +1,7 @@
 //! Writes into a block that has room.
 
-ghost use Rattle.std.specs.Prelude.{◌≡◌, ◌≢◌, ◌+◌, ◌<◌, ◌≤◌, ◌++◌, length, take};
-ghost use Rattle.tape_label.specs.Digits.{digits};
+ghost use Rattle.std.specs.Prelude.{◌≡◌, ◌≢◌, ◌+◌, ◌<◌, ◌≤◌, ◌++◌, length, take, true};
+ghost use Rattle.tape_label.specs.{Digits.digits, Formats.is_standard};
 ghost use Rattle.tape_blocks.specs.Block.{spelling, head_len};
 
 use crate::parts::Span;
@@ -30,6 +30,7 @@ fn put_count(block: &mut [u8], place: usize, count: usize)
 /// Writes the unit of a part at offset `place`.
 pub(crate) fn put_unit(block: &mut [u8], place: usize, format: Format, span: Span, bytes: &[u8])
     requires room { place + (head_len format + length bytes.now) ≤ length block.old }
+    requires standard { is_standard format ≡ true }
     requires fits { format ≢ Format.Fixed → head_len format + length bytes.now < 10000 }
     ensures front { take (place + (head_len format + length bytes.now)) block.new
         ≡ take place block.old ++ spelling format (record { span = span; bytes = bytes.now }) }
@@ -42,6 +43,7 @@ pub(crate) fn put_unit(block: &mut [u8], place: usize, format: Format, span: Spa
             put(block, place, &[span.indicator()]);
             put_count(block, place + 1, 5 + bytes.len());
         }
+        Format::Undefined | Format::Variable => unreachable!(),
     }
     put(block, place + head_len(format), bytes);
 }

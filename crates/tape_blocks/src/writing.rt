@@ -15,6 +15,7 @@ pub(crate) fn has_record_length(format: Format, rec_len: u32, len: usize) -> boo
         Format::Fixed => len == rec_len as usize,
         Format::Counted => len <= rec_len as usize && rec_len as usize - len >= 4,
         Format::Spanned => len <= 4_294_967_295,
+        Format::Undefined | Format::Variable => false,
     }
 }
 
@@ -23,8 +24,8 @@ pub(crate) fn head_len(format: Format) -> usize
     ensures { result ≡ head_len format }
 {
     match format {
-        Format::Fixed => 0,
-        Format::Counted => 4,
+        Format::Fixed | Format::Undefined => 0,
+        Format::Counted | Format::Variable => 4,
         Format::Spanned => 5,
     }
 }
@@ -35,8 +36,8 @@ pub(crate) fn has_room(format: Format, free: usize, len: usize) -> bool
     ensures { IsTrue result ↔ (least_room format len ≤ free) }
 {
     match format {
-        Format::Fixed => len <= free,
-        Format::Counted => free >= 4 && len <= free - 4,
+        Format::Fixed | Format::Undefined => len <= free,
+        Format::Counted | Format::Variable => free >= 4 && len <= free - 4,
         Format::Spanned => free >= 6,
     }
 }
@@ -59,7 +60,7 @@ pub(crate) fn padded_len(shape: &Shape, len: usize) -> usize
     ensures { result ≡ padded_len shape.now len }
 {
     match shape.format {
-        Format::Fixed => len,
+        Format::Fixed | Format::Undefined | Format::Variable => len,
         Format::Counted if shape.pad_full => shape.block_len as usize,
         Format::Counted | Format::Spanned => len.max(18),
     }

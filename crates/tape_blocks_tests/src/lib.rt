@@ -1,4 +1,4 @@
-//! Tests of blocks: example blocks of the three formats, read, refused and packed; and plain
+//! Tests of blocks: example blocks of the five formats, read, refused and packed; and plain
 //! programs that pack whole lists of records and read them back.
 #![tactic(auto)]
 
@@ -12,6 +12,8 @@ mod packing;
 #[cfg(test)]
 mod read;
 mod reading;
+#[cfg(test)]
+mod wide;
 #[cfg(test)]
 mod worked;
 

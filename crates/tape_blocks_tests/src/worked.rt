@@ -13,7 +13,7 @@ use tape_label::Format;
 pub fn shape(format: Format, block_len: u32, rec_len: u32, offset: u8) -> Shape {
     let rec_len = match format {
         Format::Fixed => rec_len.max(1),
-        Format::Counted | Format::Spanned => rec_len,
+        _ => rec_len,
     };
     Shape {
         format,

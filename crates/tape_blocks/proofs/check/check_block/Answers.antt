@@ -1,122 +1,33 @@
-use Rattle.std.proofs.Common.{◌≡◌, ◌+◌, false, [], ◌∷◌, ◌++◌, drop, Option, Some, None, Result, Ok}
-use Rattle.std.proofs.Common.{Err, refl, sym, ap, ◌∙◌, arith}
-use Rattle.std.proofs.lemmas.List.{length-drop, take_rest, drop_all}
-use Rattle.tape_blocks.specs.{declared.check.BlockFault.BlockFault, declared.check.Found.Found}
-use Rattle.tape_blocks.specs.{Faults.bool_eq, Parts.portion, Spans.continues, Units.unit_at}
-use Rattle.tape_blocks.proofs.FrontLaws.{begins_more, InOrder-append, bool_eq-true}
-use Rattle.tape_blocks.proofs.PartsLaws.{unit_none}
-use Rattle.tape_blocks.proofs.LongestFronts.{judged_where, judged_short}
-use Rattle.std.proofs.Common.{IfOk, IfErr, Bool, List, ℕ}
-use Rattle.tape_blocks.specs.{declared.parts.Shape.Shape, Checked.Passes, Block.Portion}
-use Rattle.tape_blocks.specs.{Block.Holds, Faults.HasFault, Judged.judged, Spans.InOrder}
-use Rattle.tape_blocks.proofs.JudgedLaws.{answer_passes, answer_faults, judged_only}
-use Rattle.tape_blocks.proofs.JudgedLaws.{judged_by_fault}
+use Rattle.std.proofs.Common.{◌≡◌, ℕ, ap, ◌∙◌}
+use Rattle.tape_label.specs.declared.values.Format.{Format}
+use Rattle.tape_blocks.specs.Block.{own_len}
+use Rattle.tape_blocks.specs.Judged.{judged, judged_units}
+use Rattle.tape_blocks.proofs.OwnLaws.{answer_passes, answer_faults, judged_only, judged_by_fault}
 use Rattle.tape_blocks.proofs.check.check_block.Goals as goal
 
-abbrev ok_of : Option Found → Result (Option Found) BlockFault
-ok_of o = Ok o
-
--- what is promised of the result, if it is the function of lists
-promised : (shape : Shape) (begun : Bool) (block : List ℕ) (result : Result Bool BlockFault)
-    → result ≡ judged shape.format shape.rec_len shape.offset begun block → record {
-      found : IfOk result (Passes shape.format shape.rec_len shape.offset begun block);
-      only : (parts : List Portion) (end : Bool)
-          → Holds shape.format shape.rec_len shape.offset block parts → InOrder begun parts end
-          → result ≡ Ok end;
-      fault : IfErr result (HasFault shape.format shape.rec_len shape.offset begun block);
-      refuses : (fault : BlockFault)
-          → HasFault shape.format shape.rec_len shape.offset begun block fault
-          → result ≡ Err fault;
-      exact : result ≡ judged shape.format shape.rec_len shape.offset begun block;
-    }
-promised shape begun block result is = record {
-  found = answer_passes result shape.format shape.rec_len shape.offset begun block
-      shape.some_record is;
-  only = λ parts end holds order. is ∙ judged_only shape.format shape.rec_len shape.offset begun end
-      block parts holds order;
-  fault = answer_faults result shape.format shape.rec_len shape.offset begun block
-      shape.some_record is;
-  refuses = λ fault has. is ∙ judged_by_fault shape.format shape.rec_len shape.offset begun block
-      fault shape.some_record has;
-  exact = is;
-}
-
-pub returns-then-block-offset : goal.returns-then-block-offset
-returns-then-block-offset c =
-    promised c.args.shape.now c.args.begun c.args.block.now _ (grind (arith, judged_short))
-
-pub returns-then-place-block : goal.returns-then-place-block
-returns-then-place-block c =
+pub returns : goal.returns
+unfolding judged
+returns c =
     let shape = c.args.shape.now in
-    let rest : drop c.units.place c.args.block.now ≡ [] =
-    drop_all c.units.place c.args.block.now (omega (arith, c.if-place-block.true)) in
-    let unit : unit_at shape.format shape.rec_len (drop c.units.place c.args.block.now) ≡ Ok None =
-    ap (unit_at shape.format shape.rec_len) rest
-    ∙ unit_none shape.format shape.rec_len shape.some_record in
-    promised shape c.args.begun c.args.block.now _ (sym (judged_where shape.format shape.rec_len
-    shape.offset c.args.begun c.args.block.now c.units.invariant.front.0 c.units.going c.units.place
-    (Ok None) shape.some_record c.units.invariant.inside c.units.invariant.front.1 unit tt))
-
-pub returns-in-Err : goal.returns-in-Err
-returns-in-Err c =
-    let shape = c.args.shape.now in
-    let unit : unit_at shape.format shape.rec_len (drop c.units.place c.args.block.now)
-    ≡ Err c.in-Err.fault =
-    sym (rw (take_rest c.args.block.now c.units.place) at c.in-Err.ensures.exact) in
-    promised shape c.args.begun c.args.block.now _ (c.refuse-in-Err.ensures ∙ sym (judged_where
-    shape.format shape.rec_len shape.offset c.args.begun c.args.block.now
-    c.units.invariant.front.0 c.units.going c.units.place (Err c.in-Err.fault)
-    shape.some_record c.units.invariant.inside c.units.invariant.front.1 unit tt))
-
-pub returns-in-Ok-None : goal.returns-in-Ok-None
-returns-in-Ok-None c =
-    let shape = c.args.shape.now in
-    let unit : unit_at shape.format shape.rec_len (drop c.units.place c.args.block.now) ≡ Ok None =
-    sym (rw (take_rest c.args.block.now c.units.place) at c.in-Ok-None.ensures.exact)
-    ∙ ap ok_of c.in-Ok-None.field-0-is in
-    promised shape c.args.begun c.args.block.now _ (sym (judged_where shape.format shape.rec_len
-    shape.offset c.args.begun c.args.block.now c.units.invariant.front.0 c.units.going c.units.place
-    (Ok None) shape.some_record c.units.invariant.inside c.units.invariant.front.1 unit tt))
-
-pub returns-then-continues-going : goal.returns-then-continues-going
-returns-then-continues-going c =
-    let shape = c.args.shape.now in
-    let unit : unit_at shape.format shape.rec_len (drop c.units.place c.args.block.now)
-    ≡ Ok (Some c.in-Ok-Some.found) =
-    sym (rw (take_rest c.args.block.now c.units.place) at c.in-Ok-Some.ensures.exact)
-    ∙ ap ok_of c.in-Ok-Some.field-0-is in
-    let breaks : bool_eq (continues c.in-Ok-Some.found.span) c.units.going ≡ false =
-    grind (arith, bool_eq-true, c.continues.ensures, c.if-continues-going.true) in
-    let z : c.units.place + 0 ≡ c.units.place = omega arith in
-    let by = judged_where shape.format shape.rec_len shape.offset c.args.begun c.args.block.now
-    c.units.invariant.front.0 c.units.going c.units.place (Ok (Some c.in-Ok-Some.found))
-    shape.some_record c.units.invariant.inside c.units.invariant.front.1 unit breaks in
-    promised shape c.args.begun c.args.block.now _
-    (c.refuse-then-continues-going.ensures ∙ sym (by ∙ rw (breaks, z) refl))
-
-pub units-preserved : goal.units-preserved
-units-preserved c =
-    let shape = c.args.shape.now in
-    let walk = c.units.invariant.front in
-    let found = c.in-Ok-Some.found in
-    let rest = drop c.units.place c.args.block.now in
-    let unit : unit_at shape.format shape.rec_len rest ≡ Ok (Some found) =
-    sym (rw (take_rest c.args.block.now c.units.place) at c.in-Ok-Some.ensures.exact)
-    ∙ ap ok_of c.in-Ok-Some.field-0-is in
-    let follows : continues found.span ≡ c.units.going =
-    grind (arith, c.continues.ensures, c.if-continues-going.false) in
-    record {
-      inside =
-          let i = rw (take_rest c.args.block.now c.units.place, c.in-Ok-Some.field-0-is) at
-          c.in-Ok-Some.ensures.inside in
-          omega (arith, i.1, length-drop c.units.place c.args.block.now);
-      front = (
-        walk.0 ++ portion found rest ∷ [],
-        record {
-          begins = begins_more shape.format shape.rec_len shape.offset c.args.block.now walk.0
-              c.units.place found walk.1.begins unit;
-          order = InOrder-append c.args.begun c.units.going c.leaves-going.result walk.0
-              (portion found rest ∷ []) walk.1.order (follows, sym c.leaves-going.ensures);
-        },
-      );
+    let block = c.args.block.now in
+    let u = c.units_of.result in
+    let is : c.check_units.result
+    ≡ judged shape.format shape.rec_len shape.offset c.args.begun block =
+    c.check_units.ensures
+    ∙ ap (λ (f : Format). judged_units f u.rec_len u.offset c.args.begun block)
+    c.units_of.ensures.format
+    ∙ ap (λ (n : ℕ). judged_units shape.format n u.offset c.args.begun block)
+    c.units_of.ensures.rec_len
+    ∙ ap (λ (n : ℕ). judged_units shape.format
+    (own_len shape.format shape.rec_len shape.offset block) n c.args.begun block)
+    c.units_of.ensures.offset in record {
+      found = answer_passes c.check_units.result shape.format shape.rec_len shape.offset
+          c.args.begun block shape.some_record is;
+      only = λ parts end holds order. is ∙ judged_only shape.format shape.rec_len shape.offset
+          c.args.begun end block parts holds order;
+      fault = answer_faults c.check_units.result shape.format shape.rec_len shape.offset
+          c.args.begun block shape.some_record is;
+      refuses = λ fault has. is ∙ judged_by_fault shape.format shape.rec_len shape.offset
+          c.args.begun block fault shape.some_record has;
+      exact = is;
     }

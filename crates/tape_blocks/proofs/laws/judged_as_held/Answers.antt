@@ -1,6 +1,6 @@
 use Rattle.std.proofs.Common.{refl}
 use Rattle.tape_blocks.specs.Judged.{judged}
-use Rattle.tape_blocks.proofs.JudgedLaws.{judged_found, judged_only, answer_faults, judged_by_fault}
+use Rattle.tape_blocks.proofs.OwnLaws.{judged_found, judged_only, answer_faults, judged_by_fault}
 use Rattle.tape_blocks.proofs.laws.judged_as_held.Goals as goal
 
 pub returns : goal.returns

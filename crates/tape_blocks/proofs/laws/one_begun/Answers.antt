@@ -1,4 +1,4 @@
-use Rattle.tape_blocks.proofs.JoinLaws.{passes_for_one}
+use Rattle.tape_blocks.proofs.OwnLaws.{passes_for_one}
 use Rattle.tape_blocks.proofs.laws.one_begun.Goals as goal
 
 pub returns : goal.returns

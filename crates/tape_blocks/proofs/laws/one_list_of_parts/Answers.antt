@@ -1,4 +1,4 @@
-use Rattle.tape_blocks.proofs.JoinLaws.{one_list}
+use Rattle.tape_blocks.proofs.OwnLaws.{one_list}
 use Rattle.tape_blocks.proofs.laws.one_list_of_parts.Goals as goal
 
 pub returns : goal.returns

@@ -1,4 +1,4 @@
-use Rattle.tape_blocks.proofs.SizeLaws.{few_parts, short_parts}
+use Rattle.tape_blocks.proofs.OwnLaws.{few_parts, short_parts}
 use Rattle.tape_blocks.proofs.laws.parts_fit.Goals as goal
 
 pub returns : goal.returns
