@@ -6,6 +6,8 @@ use Rattle.std.specs.{Prelude.map, Prelude.slice_get, List.AllByRecursion}
 use Rattle.tape_image.specs.Tape.{IsTapeItem}
 use Rattle.tape_label.specs.declared.values.Format.{Format}
 use Rattle.tape_label.specs.declared.values.Format.TheVariants.{Fixed, Counted, Spanned}
+use Rattle.tape_label.specs.declared.values.Format.TheVariants.{Undefined, Variable}
+use Rattle.tape_blocks.specs.Block.{HoldsUnits, own_len, own_offset}
 use Rattle.tape_blocks.specs.Block.{Portion, IsUnit, IsPadding, Holds, spelling, spellings}
 use Rattle.tape_blocks.specs.Tight.{Filled}
 use Rattle.tape_blocks.proofs.UnitLaws.{length-spelling}
@@ -27,6 +29,8 @@ unit_some : (format : Format) (rec_len : ℕ) (p : Portion) (padding : List ℕ)
 unit_some Fixed rec_len p padding h pad = omega (arith, h.1, pad.1)
 unit_some Counted rec_len p padding h pad = omega (arith, length-spelling Counted p)
 unit_some Spanned rec_len p padding h pad = omega (arith, length-spelling Spanned p)
+unit_some Undefined rec_len p padding h pad = omega (arith, h.1)
+unit_some Variable rec_len p padding h pad = omega (arith, length-spelling Variable p)
 
 units_few : (format : Format) (rec_len : ℕ) (ps : List Portion) (padding : List ℕ)
     → AllByRecursion (IsUnit format rec_len) ps → IsPadding format rec_len padding
@@ -40,14 +44,20 @@ drop_fewer zero xs = omega arith
 drop_fewer (suc n) [] = omega arith
 drop_fewer (suc n) (x ∷ xs) = grind (arith, drop_fewer n xs)
 
-pub parts_few : (format : Format) (rec_len offset : ℕ) (bytes : List ℕ) (ps : List Portion)
-    → Holds format rec_len offset bytes ps → length ps ≤ length bytes
-parts_few format rec_len offset bytes ps (padding, begins, pad) =
+units_fit : (format : Format) (rec_len offset : ℕ) (bytes : List ℕ) (ps : List Portion)
+    → HoldsUnits format rec_len offset bytes ps → length ps ≤ length bytes
+units_fit format rec_len offset bytes ps (padding, begins, pad) =
     let few : length ps ≤ length (spellings format ps) =
     units_few format rec_len ps padding begins.units pad in
     let body : length (drop offset bytes) ≡ length (spellings format ps ++ padding) =
     ap (λ v. length v) begins.body in
     omega (arith, body, length-append (spellings format ps) padding, drop_fewer offset bytes)
+
+pub parts_few : (format : Format) (rec_len offset : ℕ) (bytes : List ℕ) (ps : List Portion)
+    → Holds format rec_len offset bytes ps → length ps ≤ length bytes
+parts_few format rec_len offset bytes ps holds =
+    units_fit format (own_len format rec_len offset bytes) (own_offset format offset bytes) bytes ps
+    holds
 
 -- ---- the blocks of a section are no longer than those of an image
 

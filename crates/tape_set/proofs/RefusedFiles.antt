@@ -1,6 +1,7 @@
 -- For each clause of a valid file, a file that violates only this clause.
 use Rattle.std.specs.{List.AllByRecursion, Prelude.replicate}
-use Rattle.std.proofs.Common.{◌≡◌, [], ◌∷◌, length, true, false, sym, ap, ◌∙◌, subst, arith, lit≤}
+use Rattle.std.proofs.Common.{refl, ◌≡◌, [], ◌∷◌, length, true, false, sym, ap, ◌∙◌, subst, arith}
+use Rattle.std.proofs.Common.{lit≤}
 use Rattle.tape_label.specs.{declared.values.Format.TheVariants.Fixed, Head2.Head2Fits}
 use Rattle.tape_blocks.specs.{declared.parts.Shape.Shape, Block.Holds, Spans.InOrder, Tight.Filled}
 use Rattle.tape_set.specs.Lawful.{IsFile, HasForm, TellsForm, FileForm, Ends}
@@ -26,7 +27,12 @@ abbrev other_shape : Shape
 other_shape = shape_of Fixed 800 80 2 (λ _. lit≤ tt)
 
 other_fits : Head2Fits (second_of other_shape)
-other_fits = record { block_len = lit≤ tt; rec_len = (lit≤ tt, lit≤ tt); offset = lit≤ tt }
+other_fits = record {
+  standard = refl;
+  block_len = lit≤ tt;
+  rec_len = (lit≤ tt, lit≤ tt);
+  offset = lit≤ tt;
+}
 
 abbrev two_forms : FileSet
 two_forms = plain_set 2 ((made shape 1 1 1 false [] ∷ made other_shape 2 1 2 true [] ∷ []) ∷ [])

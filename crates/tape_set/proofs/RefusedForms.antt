@@ -240,7 +240,12 @@ abbrev offset_shape : Shape
 offset_shape = shape_of Fixed 802 80 2 (λ _. lit≤ tt)
 
 offset_fits : Head2Fits (second_of offset_shape)
-offset_fits = record { block_len = lit≤ tt; rec_len = (lit≤ tt, lit≤ tt); offset = lit≤ tt }
+offset_fits = record {
+  standard = refl;
+  block_len = lit≤ tt;
+  rec_len = (lit≤ tt, lit≤ tt);
+  offset = lit≤ tt;
+}
 
 abbrev behind_two : Filled
 behind_two = record { bytes = 33 ∷ 34 ∷ record_of 1; parts = whole (record_of 1) ∷ [] }

@@ -25,7 +25,12 @@ abbrev pub shape : Shape
 shape = shape_of Fixed 800 80 0 (λ _. lit≤ tt)
 
 pub shape_fits : Head2Fits (second_of shape)
-shape_fits = record { block_len = lit≤ tt; rec_len = (lit≤ tt, lit≤ tt); offset = lit≤ tt }
+shape_fits = record {
+  standard = refl;
+  block_len = lit≤ tt;
+  rec_len = (lit≤ tt, lit≤ tt);
+  offset = lit≤ tt;
+}
 
 pub writable : IsWritable shape
 writable =
@@ -66,10 +71,10 @@ blocks = filled shape (wholes 1 10) ∷ filled shape (wholes 11 10) ∷ filled s
 
 pub held : AllByRecursion (λ b. Holds Fixed 80 0 b.bytes b.parts) blocks
 held = (
-  written_holds shape (wholes 1 10) (units 1 10),
+  written_holds shape (wholes 1 10) (units 1 10) refl,
   (
-    written_holds shape (wholes 11 10) (units 11 10),
-    (written_holds shape (wholes 21 5) (units 21 5), tt),
+    written_holds shape (wholes 11 10) (units 11 10) refl,
+    (written_holds shape (wholes 21 5) (units 21 5) refl, tt),
   ),
 )
 

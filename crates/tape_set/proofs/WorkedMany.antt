@@ -26,7 +26,12 @@ abbrev shape : Shape
 shape = shape_of Fixed 1 1 0 (λ _. lit≤ tt)
 
 shape_fits : Head2Fits (second_of shape)
-shape_fits = record { block_len = lit≤ tt; rec_len = (lit≤ tt, lit≤ tt); offset = lit≤ tt }
+shape_fits = record {
+  standard = refl;
+  block_len = lit≤ tt;
+  rec_len = (lit≤ tt, lit≤ tt);
+  offset = lit≤ tt;
+}
 
 -- ---- the blocks
 
@@ -34,7 +39,7 @@ abbrev letter : Filled
 letter = filled shape (whole (65 ∷ []) ∷ [])
 
 letter_holds : Holds Fixed 1 0 letter.bytes letter.parts
-letter_holds = written_holds shape letter.parts ((refl, refl), tt)
+letter_holds = written_holds shape letter.parts ((refl, refl), tt) refl
 
 all_held : (n : ℕ) → AllByRecursion (λ b. Holds Fixed 1 0 b.bytes b.parts) (replicate n letter)
 all_held zero = tt

@@ -26,7 +26,12 @@ abbrev pub shape : Shape
 shape = shape_of Spanned 18 0 0 not_fixed
 
 pub shape_fits : Head2Fits (second_of shape)
-shape_fits = record { block_len = lit≤ tt; rec_len = (lit≤ tt, lit≤ tt); offset = lit≤ tt }
+shape_fits = record {
+  standard = refl;
+  block_len = lit≤ tt;
+  rec_len = (lit≤ tt, lit≤ tt);
+  offset = lit≤ tt;
+}
 
 pub writable : IsWritable shape
 writable = search (lit≤, tt)
