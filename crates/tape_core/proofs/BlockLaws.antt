@@ -5,24 +5,31 @@ use Rattle.std.proofs.Common.{drop, Bool, false, Ok, refl, sym, ap, ◌∙◌, a
 use Rattle.std.proofs.lemmas.Bool.Decides.{nat_tests}
 use Rattle.tape_label.specs.declared.values.Format.{Format}
 use Rattle.tape_label.specs.declared.values.Format.TheVariants.{Fixed, Counted, Spanned}
+use Rattle.tape_label.specs.declared.values.Format.TheVariants.{Undefined, Variable}
 use Rattle.tape_blocks.specs.{declared.parts.Span.Span, declared.parts.Span.TheVariants.Whole}
 use Rattle.tape_blocks.specs.Block.{Portion, Holds, indicator, span_by}
 use Rattle.tape_blocks.specs.{Spans.InOrder, Spans.continues, Judged.judged, Judged.begun_behind}
 use Rattle.tape_blocks.proofs.FrontLaws.{spellings_first, bool_eq-same}
-use Rattle.tape_blocks.proofs.{JudgedLaws.judged_only, PartsLaws.parts_are}
+use Rattle.tape_blocks.proofs.{OwnLaws.judged_only, PartsLaws.parts_are}
 use Rattle.tape_set.specs.Lawful.{FileForm}
 use Rattle.tape_core.specs.Parts.{goes_on_by, first_goes_on, goes_on_at, parts_in, begun_before}
-use Rattle.tape_core.specs.Parts.{other_front}
+use Rattle.tape_core.specs.Parts.{other_front, word_goes_on}
+use Rattle.tape_blocks.specs.Block.{own_len, own_offset, code, span_coded}
 
 -- the block's parts are those of its units
 pub parts_in_it : (form : FileForm) (block : List ℕ) (parts : List Portion)
     → Holds form.format form.rec_len form.offset block parts → parts_in form block ≡ parts
 parts_in_it form block parts h =
-    parts_are form.format form.rec_len parts (drop form.offset block) h.0 h.1.units h.2 h.1.body
+    parts_are form.format (own_len form.format form.rec_len form.offset block) parts
+    (drop (own_offset form.format form.offset block) block) h.0 h.1.units h.2 h.1.body
 
 by_indicator : (span : Span) → goes_on_by (span_by (indicator span)) ≡ continues span
 by_indicator Whole = refl
 by_indicator _ = refl
+
+by_code : (span : Span) → goes_on_by (span_coded (code span) 0) ≡ continues span
+by_code Whole = refl
+by_code _ = refl
 
 -- the first unit continues a record if the first part does
 pub first_part : (format : Format) (rec_len offset : ℕ) (block : List ℕ)
@@ -30,6 +37,9 @@ pub first_part : (format : Format) (rec_len offset : ℕ) (block : List ℕ)
     → Holds format rec_len offset block (p ∷ ps) → goes_on_at format offset block ≡ continues p.span
 first_part Fixed rec_len offset block p ps h = sym (ap continues h.1.units.0.0)
 first_part Counted rec_len offset block p ps h = sym (ap continues h.1.units.0.0)
+first_part Undefined rec_len offset block p ps h = sym (ap continues h.1.units.0.0)
+first_part Variable rec_len offset block p ps h =
+    ap word_goes_on (h.1.body ∙ spellings_first Variable p ps h.0) ∙ by_code p.span
 first_part Spanned rec_len offset block p ps h =
     ap first_goes_on (h.1.body ∙ spellings_first Spanned p ps h.0) ∙ by_indicator p.span
 

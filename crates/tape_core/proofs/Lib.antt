@@ -24,6 +24,8 @@ pub mod OneFile
 pub mod Delivering
 pub mod Standing
 pub mod Weights
+pub mod WideSteps
+pub mod WideLawful
 pub mod Laid
 pub mod Crashes
 mod Cases

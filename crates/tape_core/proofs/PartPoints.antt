@@ -8,6 +8,7 @@ use Rattle.std.proofs.Math.Seq.{take-nil}
 use Rattle.tape_image.specs.Tape.{TapeItem}
 use Rattle.tape_label.specs.declared.values.Format.{Format}
 use Rattle.tape_label.specs.declared.values.Format.TheVariants.{Fixed, Counted, Spanned}
+use Rattle.tape_label.specs.declared.values.Format.TheVariants.{Undefined, Variable}
 use Rattle.tape_blocks.specs.{Block.Portion, Block.IsUnit, Judged.begun_behind}
 use Rattle.tape_blocks.specs.Spans.{InOrder, continues, leaves}
 use Rattle.tape_set.specs.declared.position.{Position.Position, Position.TheVariants.Awaits}
@@ -16,6 +17,7 @@ use Rattle.tape_set.specs.Before.{before, parts_of, IsIn}
 use Rattle.tape_set.proofs.Numbering.{FileOf, section_found}
 use Rattle.tape_set.proofs.FileParts.{before_taken, begun_behind-append}
 use Rattle.tape_core.specs.{Known.is_spanned, Known.may_span, State.State, Point.Point, Table.saved}
+use Rattle.tape_blocks.specs.Block.{own_len}
 use Rattle.tape_core.specs.Follows.{IsAt, FileTells, Delivers}
 use Rattle.tape_core.specs.Stands.{weight_of, Stands, inside_block}
 
@@ -28,12 +30,14 @@ take_split (suc k) (suc n) (x ∷ xs) h =
     let e : suc n - suc k ≡ n - k = omega arith in
     rw e (ap (λ z. x ∷ z) (take_split k n xs (omega arith)))
 
--- only units of format S continue a record
+-- only units of formats S and V continue a record
 goes_on : (format : Format) (rec_len : ℕ) (p : Portion) → IsUnit format rec_len p
     → continues p.span ≡ true → is_spanned format ≡ true
 goes_on Fixed rec_len p u e = absurd (let q = sym (ap continues u.0) ∙ e in cc)
 goes_on Counted rec_len p u e = absurd (let q = sym (ap continues u.0) ∙ e in cc)
 goes_on Spanned rec_len p u e = refl
+goes_on Undefined rec_len p u e = absurd (let q = sym (ap continues u.0) ∙ e in cc)
+goes_on Variable rec_len p u e = refl
 
 inside_spans : (format : Format) (rec_len : ℕ) (begun end : Bool) (ps : List Portion) (j : ℕ)
     → AllByRecursion (IsUnit format rec_len) ps → InOrder begun ps end → j < length ps
@@ -129,7 +133,8 @@ part_stands set old new item staged part begun n at of_set same d lt le is weigh
         ∙ before_taken set old.file d.sect d.section f d.place part d.filled d.its)))
 
     spans : begun ≡ true → may_span new.known ≡ true
-    spans e = ap may_span d.is_known ∙ inside_spans d.form.format d.form.rec_len old.begun new.begun
+    spans e = ap may_span d.is_known ∙ inside_spans d.form.format
+        (own_len d.form.format d.form.rec_len d.form.offset d.filled.bytes) old.begun new.begun
         (drop d.part d.filled.parts) (part - d.part) (every_drop _ d.part d.filled.parts
         d.holds.1.units) d.order (drop_long d.part part d.filled.parts lt le) (sym is ∙ e)
 

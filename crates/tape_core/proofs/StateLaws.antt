@@ -6,6 +6,7 @@ use Rattle.std.proofs.lemmas.Bool.Decides.{nat_tests}
 use Rattle.std.specs.List.{AllByRecursion}
 use Rattle.tape_label.specs.declared.values.Format.{Format}
 use Rattle.tape_label.specs.declared.values.Format.TheVariants.{Fixed, Counted, Spanned}
+use Rattle.tape_label.specs.declared.values.Format.TheVariants.{Undefined, Variable}
 use Rattle.tape_blocks.specs.{declared.parts.Span.TheVariants.Whole, Block.Portion, Block.IsUnit}
 use Rattle.tape_blocks.specs.{Spans.InOrder, Spans.leaves, Faults.bool_eq, Judged.begun_behind}
 use Rattle.tape_set.specs.{declared.position.Position.Position, Lawful.FileForm, Layout.FileSet}
@@ -60,7 +61,7 @@ front_short form (suc part) begun block le some =
     let long : nat_le (length (parts_in form block)) (suc part) ≡ true = grind (arith, nat_tests) in
     rw long refl
 
--- ---- only format S leaves a record unfinished
+-- ---- only formats S and V leave a record unfinished
 
 whole_ends : (begun end : Bool) (p : Portion) (ps : List Portion)
     → AllByRecursion (λ q. q.span ≡ Whole) (p ∷ ps) → InOrder begun (p ∷ ps) end → false ≡ end
@@ -73,6 +74,8 @@ wholes format rec_len [] n h = tt
 wholes Fixed rec_len (p ∷ ps) n h = (h.0.0, wholes Fixed rec_len ps n h.1)
 wholes Counted rec_len (p ∷ ps) n h = (h.0.0, wholes Counted rec_len ps n h.1)
 wholes Spanned rec_len (p ∷ ps) n h = absurd (cc)
+wholes Undefined rec_len (p ∷ ps) n h = (h.0.0, wholes Undefined rec_len ps n h.1)
+wholes Variable rec_len (p ∷ ps) n h = absurd (cc)
 
 pub begun_spans : (format : Format) (rec_len : ℕ) (begun end : Bool) (ps : List Portion)
     → AllByRecursion (IsUnit format rec_len) ps → InOrder begun ps end
@@ -90,6 +93,8 @@ goes_on_spans : (format : Format) (offset : ℕ) (block : List ℕ)
 goes_on_spans Fixed offset block e = absurd (cc)
 goes_on_spans Counted offset block e = absurd (cc)
 goes_on_spans Spanned offset block e = refl
+goes_on_spans Undefined offset block e = absurd (cc)
+goes_on_spans Variable offset block e = refl
 
 pub before_spans : (form : FileForm) (part : ℕ) (begun : Bool) (block : List ℕ)
     → ToldFits begun (Some form) → begun_before form part begun block ≡ true

@@ -157,7 +157,7 @@ mount_reads set k core at = record {
 }
 
 -- the item at an index is that of the entry there
-item_at : (xs : List Entry) (n : ℕ) (item : TapeItem) → slice_get (map item_of xs) n ≡ Some item
+pub item_at : (xs : List Entry) (n : ℕ) (item : TapeItem) → slice_get (map item_of xs) n ≡ Some item
     → (e : Entry) × (slice_get xs n ≡ Some e) × (item_of e ≡ item)
 item_at [] n item h = absurd (cc)
 item_at (x ∷ xs) zero item h = (x, refl, cc)

@@ -3,6 +3,7 @@ use Rattle.std.specs.Prelude.{◌≡◌, ℕ, ◌≤◌, List, Bool, true, false
 use Rattle.std.specs.Prelude.{is_some}
 use Rattle.tape_label.specs.{declared.values.Format.Format, Formats.least_record}
 use Rattle.tape_label.specs.declared.values.Format.TheVariants.{Fixed, Counted, Spanned}
+use Rattle.tape_label.specs.declared.values.Format.TheVariants.{Undefined, Variable}
 use Rattle.tape_blocks.specs.Packing.{longest_block}
 use Rattle.tape_set.specs.{declared.position.Position.Position, Position.is_start}
 use Rattle.tape_set.specs.declared.position.Position.TheVariants.{Awaits, Finished}
@@ -26,6 +27,8 @@ abbrev pub is_spanned : Format → Bool
 is_spanned Fixed = false
 is_spanned Counted = false
 is_spanned Spanned = true
+is_spanned Undefined = false
+is_spanned Variable = true
 
 -- whether records of the file may continue in the next block; false if the form is unknown
 abbrev pub may_span : Option FileForm → Bool

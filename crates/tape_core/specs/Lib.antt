@@ -22,6 +22,7 @@ pub mod Arrive
 pub mod Labels
 pub mod Parts
 pub mod Table
+pub mod Wide
 pub mod Behind
 pub mod Faults
 -- Examples, which ensure that the definitions do not say too little.

@@ -4,7 +4,9 @@ use Rattle.std.specs.Prelude.{ℕ, zero, suc, nat_le, ◌||◌, not, Bool, false
 use Rattle.std.specs.Prelude.{take, drop, Option, Some, None}
 use Rattle.tape_label.specs.declared.values.Format.{Format}
 use Rattle.tape_label.specs.declared.values.Format.TheVariants.{Fixed, Counted, Spanned}
+use Rattle.tape_label.specs.declared.values.Format.TheVariants.{Undefined, Variable}
 use Rattle.tape_blocks.specs.{declared.parts.Span.Span, Block.Portion, Block.span_by}
+use Rattle.tape_blocks.specs.Block.{span_coded, own_len, own_offset}
 use Rattle.tape_blocks.specs.{Spans.continues, Faults.bool_eq, Judged.begun_behind, Parts.parts_of}
 use Rattle.tape_set.specs.Lawful.{FileForm}
 
@@ -17,16 +19,26 @@ abbrev pub first_goes_on : List ℕ → Bool
 first_goes_on [] = false
 first_goes_on (c ∷ cs) = goes_on_by (span_by c)
 
--- whether the first unit after the offset continues a record, according to its indicator, which
--- only format S has
+-- the same, according to the code in its record descriptor word
+abbrev pub word_goes_on : List ℕ → Bool
+word_goes_on (a ∷ b ∷ c ∷ d ∷ bytes) = goes_on_by (span_coded c d)
+word_goes_on _ = false
+
+-- whether the first unit of the block continues a record, according to its indicator or code, which
+-- only formats S and V have
 abbrev pub goes_on_at : Format → ℕ → List ℕ → Bool
 goes_on_at Fixed offset block = false
 goes_on_at Counted offset block = false
 goes_on_at Spanned offset block = first_goes_on (drop offset block)
+goes_on_at Undefined offset block = false
+goes_on_at Variable offset block =
+    word_goes_on (drop (own_offset Variable offset block) block)
 
 -- the parts of the units of a block
 abbrev pub parts_in : FileForm → List ℕ → List Portion
-parts_in form block = parts_of form.format form.rec_len (drop form.offset block)
+parts_in form block =
+    parts_of form.format (own_len form.format form.rec_len form.offset block)
+    (drop (own_offset form.format form.offset block) block)
 
 -- whether a record is unfinished at the start of the block, after the given number of its parts
 -- were delivered; `begun` says whether a record is unfinished before the next part

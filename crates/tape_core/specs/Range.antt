@@ -2,6 +2,7 @@
 use Rattle.std.specs.Prelude.{ℕ, nat_le, ◌==◌, ◌&&◌, ◌||◌, not, Bool, true, Option, Some, None}
 use Rattle.tape_label.specs.declared.values.Format.{Format}
 use Rattle.tape_label.specs.declared.values.Format.TheVariants.{Fixed, Counted, Spanned}
+use Rattle.tape_label.specs.declared.values.Format.TheVariants.{Undefined, Variable}
 use Rattle.tape_blocks.specs.Packing.{longest_block}
 use Rattle.tape_set.specs.declared.position.Position.{Position}
 use Rattle.tape_set.specs.declared.position.Position.TheVariants.{Awaits, Finished}
@@ -13,6 +14,8 @@ abbrev pub length_in_range : Format → ℕ → Bool
 length_in_range Fixed rec_len = nat_le 1 rec_len && nat_le rec_len longest_block
 length_in_range Counted rec_len = rec_len == 0
 length_in_range Spanned rec_len = rec_len == 0
+length_in_range Undefined rec_len = rec_len == 0
+length_in_range Variable rec_len = rec_len == 0
 
 -- the numbers of a form are in range
 abbrev pub form_in_range : FileForm → Bool
@@ -29,7 +32,7 @@ abbrev pub known_where_due : Option FileForm → Position → Bool
 known_where_due None position = is_start position
 known_where_due (Some form) position = not (is_start position)
 
--- a record may be unfinished only in format S, and not at the end of the file
+-- a record may be unfinished only in formats S and V, and not at the end of the file
 abbrev pub may_begin : Option FileForm → Position → Bool
 may_begin known position = may_span known && not (is_finished position)
 

@@ -17,7 +17,7 @@ use tape_set::Position;
 ///
 /// Invariant, which anyone who creates a checkpoint proves: its numbers are in range; the form of
 /// the file is known exactly if the position is not the start of the file; a record is unfinished
-/// only in format S, and never at the end of the file.
+/// only in formats S and V, and never at the end of the file.
 #[derive(Clone, Copy, Debug, PartialEq, Eq)]
 pub struct Checkpoint {
     /// The number of the file in its set, 1 to 9,999.
@@ -207,7 +207,7 @@ impl Known {
     {
         let fits = match format {
             Format::Fixed => 1 <= rec_len && rec_len <= 99_999,
-            Format::Counted | Format::Spanned => rec_len == 0,
+            _ => rec_len == 0,
         };
         if !fits || offset > 99 {
             return None;
@@ -229,7 +229,7 @@ pub(crate) fn may_span(known: &Option<Known>) -> bool
     ensures { result ≡ may_span known.now }
 {
     match known {
-        Some(known) => matches!(known.format, Format::Spanned),
+        Some(known) => matches!(known.format, Format::Spanned | Format::Variable),
         None => false,
     }
 }

@@ -3,6 +3,7 @@
 mod arrivals;
 mod judging;
 mod label_rules;
+mod wide;
 
 ghost use Rattle.std.specs.Prelude.{◌≡◌, ◌≤◌, ◌++◌, ◌∷◌, [], ℕ, List, Bool, Ok, Err, Some, None};
 ghost use Rattle.std.specs.Prelude.{IsSome, IfOk, OnOk, OnErr, length, slice_get, if◌then◌else◌};

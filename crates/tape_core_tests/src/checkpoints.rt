@@ -86,6 +86,10 @@ fn checkpoints_inside_a_file(rt: HostRuntime) {
     is_one(&rt, "part 99,999", 1, at_part(&rt, 99_999, false), 0);
     is_none(&rt, "part 100,000", 1, at_part(&rt, 100_000, false), 0);
     is_none(&rt, "begun in format F", 1, at_part(&rt, 0, true), 0);
+    let undefined = Some(known(&rt, Format::Undefined, 0));
+    is_none(&rt, "begun in format U", 1, (inside(0), true, undefined), 0);
+    let variable = Some(known(&rt, Format::Variable, 0));
+    is_one(&rt, "begun in format V", 1, (inside(0), true, variable), 0);
     is_none(&rt, "too heavy", 1, at_part(&rt, 0, false), MOST + 1);
 }
 
@@ -157,6 +161,10 @@ fn forms_in_range_and_out_of_it(rt: HostRuntime) {
     is_form(&rt, Format::Spanned, 0, 99);
     is_no_form(&rt, Format::Spanned, 1, 0);
     is_no_form(&rt, Format::Spanned, 0, 100);
+    is_form(&rt, Format::Undefined, 0, 99);
+    is_no_form(&rt, Format::Undefined, 1, 0);
+    is_form(&rt, Format::Variable, 0, 99);
+    is_no_form(&rt, Format::Variable, 1, 0);
 }
 
 /// Returns whether a reader of file number `file` can be created, rather than refused.

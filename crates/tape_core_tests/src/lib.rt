@@ -28,3 +28,5 @@ mod sinks;
 mod small_sets;
 #[cfg(test)]
 mod table;
+#[cfg(test)]
+mod wide;

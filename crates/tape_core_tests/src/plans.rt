@@ -35,7 +35,7 @@ impl Style {
         match self.format {
             Format::Fixed => HDR2,
             Format::Counted => HDR2_D,
-            Format::Spanned => HDR2_S,
+            _ => HDR2_S,
         }
     }
 
@@ -61,7 +61,7 @@ impl Style {
         match self.format {
             Format::Fixed => laid(rt, alloc, b"AAAA", &[(Span::Whole, b"AAAA")]),
             Format::Counted => laid(rt, alloc, b"0006AB0004", &[whole, (Span::Whole, b"")]),
-            Format::Spanned => {
+            _ => {
                 let (span, text) = span_at(n, count);
                 laid(rt, alloc, text, &[(span, b"A")])
             }

@@ -9,7 +9,7 @@ ghost use Rattle.tape_core.specs.Parts as Parts';
 
 use crate::checkpoint::Known;
 use crate::event::{Heading, Reason};
-use tape_blocks::{Parts, Shape, check_block};
+use tape_blocks::{Parts, Shape, after, check_block, own_offset};
 use tape_label::Format;
 
 /// Returns whether `block`, as block number `number`, leaves a record unfinished, or the reason why
@@ -69,12 +69,16 @@ pub fn shape_of(known: &Known) -> Shape
 }
 
 /// Returns whether the block's first unit continues a record: in format S its indicator is `2` or
-/// `3`.
+/// `3`, and in format V the code in its record descriptor word is 2 or 3.
 pub fn goes_on_at(format: Format, offset: u8, block: &[u8]) -> bool
     ensures { result ≡ Parts'.goes_on_at format offset block.now }
 {
     match format {
-        Format::Fixed | Format::Counted => false,
+        Format::Fixed | Format::Counted | Format::Undefined => false,
+        Format::Variable => {
+            let units = after(own_offset(format, offset, block), block);
+            matches!(units, [_, _, 2 | 3, 0, ..])
+        }
         Format::Spanned => {
             let offset = usize::from(offset);
             if offset >= block.len() {

@@ -1,14 +1,17 @@
 //! The rules for labels that continue a file.
 
-ghost use Rattle.std.specs.Prelude.{◌≡◌, ◌≢◌, Some};
+ghost use Rattle.std.specs.Prelude.{◌≡◌, ◌≢◌, Some, IfOk};
 ghost use Rattle.tape_label.specs.Kinds.{kind_at};
 ghost use Rattle.tape_core.specs.State.{ToldFits};
 ghost use Rattle.tape_core.specs.Table as Table;
+ghost use Rattle.tape_core.specs.Wide.{IsInRange};
 
 use crate::checkpoint::Known;
 use crate::event::{Answer, Heading, Phase, Reason};
 use crate::reader::ReaderCore;
-use tape_label::{Format, Head1, Kind, LabelFault, Trail1, kind, no_kind, read_head2, same_field};
+use tape_label::{
+    Format, Head1, Head2, Kind, LabelFault, Trail1, kind, no_kind, read_head2, same_field,
+};
 use tape_set::{Position, label_count};
 
 impl ReaderCore {
@@ -55,13 +58,25 @@ impl ReaderCore {
         if !wanted {
             return self.passed(Phase::Headers(heading, None));
         }
-        let head = match read_head2(block) {
+        self.at_head2(heading, read_head2(block))
+    }
+
+    /// Processes the HDR2 of the section needed: compares the form with the one known.
+    pub(crate) fn at_head2(&mut self, heading: Heading, head: Result<Head2, LabelFault>) -> Answer
+        requires { IfOk head IsInRange }
+        ensures table { (result, self.new) ≡ Table.at_head2 self.old heading head }
+        ensures ends_not { result ≢ Answer.Complete }
+        ensures set_id { self.new.set_id ≡ self.old.set_id }
+        ensures file { self.new.file ≡ self.old.file }
+        ensures silent { result ≢ Answer.Deliver }
+    {
+        let head = match head {
             Ok(head) => head,
             Err(fault) => return self.useless(Reason::BadLabel(fault)),
         };
         let rec_len = match head.format {
             Format::Fixed => head.rec_len,
-            Format::Counted | Format::Spanned => 0,
+            _ => 0,
         };
         let form = Known {
             format: head.format,

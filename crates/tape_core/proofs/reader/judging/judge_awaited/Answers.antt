@@ -1,6 +1,6 @@
 use Rattle.std.proofs.Common.{◌≡◌, ◌<◌, ◌≤◌, ◌⊎◌, length, ap, sym, ◌∙◌, subst}
-use Rattle.tape_blocks.specs.Block.{Holds}
-use Rattle.tape_blocks.proofs.SizeLaws.{few_parts}
+use Rattle.tape_blocks.specs.Block.{Holds, own_len}
+use Rattle.tape_blocks.proofs.OwnLaws.{few_parts}
 use Rattle.tape_core.specs.Known.{is_spanned}
 use Rattle.tape_core.proofs.BlockLaws.{parts_in_it}
 use Rattle.tape_core.proofs.StateLaws.{begun_spans, before_spans, front_more}
@@ -19,7 +19,7 @@ some_before : (form : FileForm) (part : ℕ) (begun : Bool) (block : List ℕ) �
 some_before form zero begun block some = absurd (some refl)
 some_before form (suc part) begun block some = refl
 
--- only format S leaves a record unfinished
+-- only formats S and V leave a record unfinished
 pub returns-in-Ok-2-clause-told : goal.returns-in-Ok-2-clause-told
 returns-in-Ok-2-clause-told c = λ e.
     let form = c.args.form.now in
@@ -38,8 +38,8 @@ returns-in-Ok-2-clause-told c = λ e.
     let s = c.shape_of.result in
     let f = c.in-Ok.ensures.found in
     ap is_spanned (sym c.shape_of.ensures.format)
-    ∙ begun_spans s.format s.rec_len c.if-part-eq0.before c.in-Ok.field-0 f.0 f.1.1.units
-    f.2 (λ b. ap is_spanned c.shape_of.ensures.format ∙ before_spans c.args.form.now
+    ∙ begun_spans s.format (own_len s.format s.rec_len s.offset block) c.if-part-eq0.before
+    c.in-Ok.field-0 f.0 f.1.1.units f.2 (λ b. ap is_spanned c.shape_of.ensures.format ∙ before_spans c.args.form.now
     c.args.part c.args.begun c.args.block.now c.requires.told
     (before ∙ b)) e
 

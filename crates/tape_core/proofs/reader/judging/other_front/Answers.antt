@@ -8,7 +8,7 @@ use Rattle.tape_set.specs.Lawful.{FileForm}
 use Rattle.tape_blocks.specs.declared.parts.{Part.Part, Parts.Parts}
 use Rattle.tape_blocks.specs.{Block.Portion, Block.Holds, Judged.judged, Judged.begun_behind}
 use Rattle.tape_blocks.specs.{Parts.view, PartsLeft.parts_left, Faults.bool_eq}
-use Rattle.tape_blocks.proofs.{JudgedLaws.judged_found, YieldLaws.yielded_parts}
+use Rattle.tape_blocks.proofs.{OwnLaws.judged_found, YieldLaws.yielded_parts}
 use Rattle.tape_core.specs.Parts.{parts_in, goes_on_at}
 use Rattle.tape_core.proofs.BlockLaws.{parts_in_it}
 use Rattle.tape_core.proofs.StateLaws.{one_more, front_at, front_short}
