@@ -5,6 +5,7 @@ use Rattle.tape_writer.proofs.Sections.{first_is, second_is, trailer_is, second_
 use Rattle.tape_writer.proofs.Words.{Placed, numbered, blocks_of_all, least_capacity, every}
 use Rattle.tape_writer.proofs.{Sections.trailer_ends, Volumes.all_push, Volumes.numbered-push}
 use Rattle.tape_label.specs.declared.values.Format.TheVariants.{Fixed, Counted, Spanned}
+use Rattle.tape_label.specs.declared.values.Format.TheVariants.{Undefined, Variable}
 use Rattle.tape_blocks.specs.{Block.IsUnit, Block.Holds, Records.AreRecordsOf, Tight.IsWritten}
 use Rattle.tape_set.specs.{Layout.ends_file, Tight.HasPlainLabels, Tight.second_of}
 use Rattle.tape_set.specs.Lawful.{Ends, FileForm, TellsForm, HasForm, binding_len, form_of}
@@ -74,6 +75,16 @@ held_by Spanned rec_len offset bytes parts h = (
   record {
     reaches = h.1.reaches;
     units = every (IsUnit Spanned rec_len) (IsUnit Spanned 0) (λ p u. u) parts h.1.units;
+    body = h.1.body;
+  },
+  h.2,
+)
+held_by Undefined rec_len offset bytes parts h = h
+held_by Variable rec_len offset bytes parts h = (
+  h.0,
+  record {
+    reaches = h.1.reaches;
+    units = every (IsUnit Variable rec_len) (IsUnit Variable 0) (λ p u. u) parts h.1.units;
     body = h.1.body;
   },
   h.2,

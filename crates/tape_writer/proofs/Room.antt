@@ -6,6 +6,7 @@ use Rattle.tape_writer.proofs.Words.{IsJudged, IsWritable, HasRecordLength, Offe
 use Rattle.tape_writer.proofs.Words.{item_size, suc, ◌⊎◌}
 use Rattle.std.proofs.{Common.◌*◌, Common.replicate, lemmas.List.length-replicate, Math.Nat.suc-mul}
 use Rattle.tape_label.specs.declared.values.Format.TheVariants.{Fixed, Counted, Spanned}
+use Rattle.tape_label.specs.declared.values.Format.TheVariants.{Undefined, Variable}
 use Rattle.tape_blocks.specs.declared.offer.Offer.TheVariants.{Taken, BlockReady}
 use Rattle.tape_blocks.specs.{Block.spellings, Block.head_len, Spans.span_of}
 use Rattle.tape_blocks.specs.Packing.{HasWritableRecords, size_of, padded_len}
@@ -86,6 +87,8 @@ unit_some Fixed rec_len block_len offset n pad false w spanned judged =
     omega (arith, w.0, judged refl)
 unit_some Counted rec_len block_len offset n pad begun w spanned judged = omega arith
 unit_some Spanned rec_len block_len offset n pad begun w spanned judged = omega arith
+unit_some Undefined rec_len block_len offset n pad begun w spanned judged = absurd w
+unit_some Variable rec_len block_len offset n pad begun w spanned judged = absurd w
 
 -- an offer that accepts the rest of a record uses up room
 pub taken_room : (vs cap : ℕ) (course : Course) (p q : Packing) (rest : List ℕ)

@@ -9,6 +9,7 @@ use Rattle.tape_writer.proofs.Volumes.{data_items}
 use Rattle.tape_label.specs.{Kinds.identifier, Kinds.trailer, Kinds.IsSecond, Formats.least_record}
 use Rattle.tape_label.specs.{declared.values.Kind.Kind, declared.values.Trail1.Trail1, Vol1.IsVol1}
 use Rattle.tape_label.specs.declared.values.Format.TheVariants.{Fixed, Counted, Spanned}
+use Rattle.tape_label.specs.declared.values.Format.TheVariants.{Undefined, Variable}
 use Rattle.tape_label.specs.{Positions.positions, Head1.IsHead1, Head2.IsHead2, Head2.Head2Fits}
 use Rattle.tape_label.specs.{Trail1.IsTrail1, Reading.begins_as, Widths.IsWide}
 use Rattle.tape_label.proofs.Texts.{vol1_text_is, head1_text_is, head2_text_is, trail1_text_is}
@@ -24,6 +25,7 @@ use Rattle.tape_writer.specs.{Labels.second_kind, Told.IsOfFile}
 use Rattle.tape_writer.specs.Draft.{data_item, closing, here, body}
 use Rattle.tape_image.specs.Tape.{IsTapeItem}
 use Rattle.tape_set.proofs.Everywhere.{every-append}
+use Rattle.tape_blocks.proofs.PackLaws.{standard_of}
 use Rattle.tape_label.specs.declared.values.Kind.TheVariants as kinds
 
 -- ---- labels
@@ -34,9 +36,12 @@ rec_fits : (format : Format) (rec_len block_len offset : ℕ) (pad_full : Bool) 
 rec_fits Fixed rec_len block_len offset pad_full most h = (omega (arith, h.0), omega (arith, h.1))
 rec_fits Counted rec_len block_len offset pad_full most h = (omega (arith), omega (arith, h.1))
 rec_fits Spanned rec_len block_len offset pad_full most h = (omega (arith), omega (arith, h.0))
+rec_fits Undefined rec_len block_len offset pad_full most h = absurd h
+rec_fits Variable rec_len block_len offset pad_full most h = absurd h
 
 pub second_fits : (shape : Shape) → IsWritable shape → Head2Fits (second_of shape)
 second_fits shape w = record {
+  standard = standard_of shape w;
   block_len = w.most;
   rec_len = rec_fits shape.format shape.rec_len shape.block_len shape.offset shape.pad_full
       w.most w.units;

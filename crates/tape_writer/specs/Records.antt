@@ -6,6 +6,7 @@ use Rattle.tape_label.specs.{declared.values.Format.TheVariants.Counted}
 use Rattle.tape_label.specs.{declared.values.Format.TheVariants.Spanned}
 use Rattle.tape_label.specs.{declared.values.Format.TheVariants.Fixed}
 use Rattle.tape_label.specs.{declared.values.Format.Format}
+use Rattle.tape_label.specs.declared.values.Format.TheVariants.{Undefined, Variable}
 use Rattle.tape_blocks.specs.declared.parts.Shape.{Shape}
 use Rattle.tape_writer.specs.{declared.inputs.cut.Cut.TheVariants.Length}
 use Rattle.tape_writer.specs.{declared.inputs.cut.Cut.TheVariants.Lines}
@@ -18,6 +19,8 @@ abbrev pub longest_by : Format → ℕ → ℕ
 longest_by Fixed rec_len = rec_len
 longest_by Counted rec_len = rec_len - 4
 longest_by Spanned rec_len = 4294967295
+longest_by Undefined rec_len = 0
+longest_by Variable rec_len = 0
 
 -- the maximum length of a record of a shape
 abbrev pub longest : Shape → ℕ

@@ -4,6 +4,7 @@ use Rattle.tape_label.specs.{declared.values.Format.TheVariants.Counted}
 use Rattle.tape_label.specs.{declared.values.Format.TheVariants.Fixed}
 use Rattle.tape_label.specs.{declared.values.Format.TheVariants.Spanned}
 use Rattle.tape_label.specs.{declared.values.Format.Format, declared.values.Vol1.Vol1}
+use Rattle.tape_label.specs.declared.values.Format.TheVariants.{Undefined, Variable}
 use Rattle.tape_blocks.specs.{declared.parts.Form.Form, declared.parts.Shape.Shape}
 use Rattle.tape_writer.specs.{declared.inputs.cut.Cut.TheVariants.Length}
 use Rattle.tape_writer.specs.{declared.inputs.cut.Cut.TheVariants.Lines}
@@ -24,6 +25,8 @@ abbrev pub raw_cut : Format → ℕ → Option Cut
 raw_cut Fixed n = Some (Length n)
 raw_cut Counted n = None
 raw_cut Spanned n = Some Whole
+raw_cut Undefined n = None
+raw_cut Variable n = None
 
 -- how inputs of a form are cut into records for files of a shape, if that is possible
 abbrev pub cut_of : Form → Shape → Option Cut

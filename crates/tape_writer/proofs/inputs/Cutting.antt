@@ -14,6 +14,7 @@ use Rattle.tape_writer.specs.RecordLaws.{IsLine, ended_line, LinesAreCut, Pieces
 use Rattle.std.specs.Io.KnownBytes.{Consumes, Keeps}
 use Rattle.tape_image.proofs.Walks.{IfKnown-map}
 use Rattle.tape_label.specs.declared.values.Format.TheVariants.{Fixed, Counted, Spanned}
+use Rattle.tape_label.specs.declared.values.Format.TheVariants.{Undefined, Variable}
 
 -- ---- records in terms of the input: lines, and pieces of one length
 
@@ -235,12 +236,16 @@ within_by : (format : Format) (rec_len n : ℕ) → HasRecordLength format rec_l
 within_by Fixed rec_len n has = omega (arith, has)
 within_by Counted rec_len n has = omega (arith, has)
 within_by Spanned rec_len n has = has
+within_by Undefined rec_len n has = absurd has
+within_by Variable rec_len n has = absurd has
 
 has_by : (format : Format) (rec_len n : ℕ) → HasRecordLength format rec_len n
     → HasRecordLength format rec_len (longest_by format rec_len)
 has_by Fixed rec_len n has = refl
 has_by Counted rec_len n has = omega (arith, has)
 has_by Spanned rec_len n has = omega arith
+has_by Undefined rec_len n has = absurd has
+has_by Variable rec_len n has = absurd has
 
 -- no record of the shape is longer
 pub within_longest : (shape : Shape) (n : ℕ) → HasRecordLength shape.format shape.rec_len n

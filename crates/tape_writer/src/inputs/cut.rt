@@ -88,7 +88,7 @@ impl Cut {
 }
 
 /// Returns how inputs of form `form` are cut for files of shape `shape`, or `None` for raw inputs
-/// in format D, which cannot be cut.
+/// in format D, which cannot be cut, and in formats U and V, which are not written.
 pub fn cut_of(form: Form, shape: &Shape) -> Option<Cut>
     ensures { result ≡ cut_by form shape.now }
 {
@@ -96,13 +96,14 @@ pub fn cut_of(form: Form, shape: &Shape) -> Option<Cut>
         Form::Lines => Some(Cut::Lines),
         Form::Raw => match shape.format {
             Format::Fixed => Some(Cut::Length(shape.rec_len)),
-            Format::Counted => None,
             Format::Spanned => Some(Cut::Whole),
+            Format::Counted | Format::Undefined | Format::Variable => None,
         },
     }
 }
 
-/// Returns the maximum length of a record in a file of shape `shape`.
+/// Returns the maximum length of a record in a file of shape `shape`; in formats U and V, which are
+/// not written, 0.
 pub fn longest(shape: &Shape) -> u32
     ensures { result ≡ longest_of shape.now }
 {
@@ -110,5 +111,6 @@ pub fn longest(shape: &Shape) -> u32
         Format::Fixed => shape.rec_len,
         Format::Counted => shape.rec_len.saturating_sub(4),
         Format::Spanned => u32::MAX,
+        Format::Undefined | Format::Variable => 0,
     }
 }
