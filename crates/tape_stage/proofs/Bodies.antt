@@ -11,7 +11,7 @@ use Rattle.tape_stage.specs.Body.{Slot, point_text, body_text, with_generation, 
 use Rattle.tape_stage.specs.Staged.{gate_at, body_at, Holding, Loses, Ready, blank}
 use Rattle.tape_stage.specs.{declared.point.Version.TheVariants.Two, Text.IsPointText}
 use Rattle.tape_stage.specs.{Reading.point_in, Disk.Holds, Disk.Only}
-use Rattle.tape_stage.proofs.PointLaws.{reads_only, text_size}
+use Rattle.tape_stage.proofs.PointLaws.{wide_only, text_size}
 use Rattle.tape_stage.proofs.Tears.{closed_none, none_loses}
 
 length-point : (point : Point) → IsPointText Two (point_text point) point
@@ -42,7 +42,7 @@ pub body_reads : (g : ℕ) (point : Point) → FitBody g point → body_of (body
 unfolding body_text
 body_reads g point fit = body_is (digits 15 g) (point_text point) (replicate 32 32) _ point
     (length-digits 15 g) (length-point _ fit.text) (all_ascii_digits-digits 15 g)
-    (number_of-digits 15 g fit.generation) (ap result_ok (reads_only _ _ _ fit.text))
+    (number_of-digits 15 g fit.generation) (ap result_ok (wide_only _ _ _ fit.text))
 
 -- ---- a body that was read
 

@@ -1,6 +1,6 @@
 -- The groups of fields, read from a text and written to it.
 use Rattle.std.proofs.Common.{◌≡◌, ℕ, ◌+◌, ◌-◌, ◌≤◌, List, [], ◌∷◌, length, take, drop, replicate}
-use Rattle.std.proofs.Common.{Ok, refl, subst, arith}
+use Rattle.std.proofs.Common.{Ok, refl, subst, arith, Bool, true}
 use Rattle.tape_label.specs.Positions.{positions}
 use Rattle.tape_stage.specs.Text.{state_letter, flag_digit, format_letter}
 use Rattle.tape_stage.specs.Reading.{number_at, flag_at, format_at, tail_at, place_at, flags_at}
@@ -10,7 +10,7 @@ use Rattle.tape_stage.specs.declared.{point.Version.Version, point.Place.Place, 
 use Rattle.tape_stage.specs.declared.{point.Form.Form, point.Fields.Fields}
 use Rattle.tape_stage.proofs.Steps.{bind_ok, ok_is, HasDigits, number_found, number_again}
 use Rattle.tape_stage.proofs.Steps.{flag_found, flag_again, format_found, format_again, tail_found}
-use Rattle.tape_stage.proofs.Steps.{tail_again}
+use Rattle.tape_stage.proofs.Steps.{tail_again, allows, format_allowed}
 
 -- the text contains the block and the part
 abbrev pub HasPlace : Version → List ℕ → Place → Type 0
@@ -86,11 +86,11 @@ flags_again text first flags size low has = rw (
   flag_again text (first + 2) 49 48 flags.known (omega (arith, size)) refl has.known,
 ) refl
 
-form_found : (text : List ℕ) (first : ℕ) (form : Form) → length text ≡ 80 → first ≤ 40
-    → form_at text first ≡ Ok form → HasForm text first form
+form_found : (wide : Bool) (text : List ℕ) (first : ℕ) (form : Form) → length text ≡ 80
+    → first ≤ 40 → form_at wide text first ≡ Ok form → HasForm text first form
 unfolding form_at
-form_found text first form size low e =
-    let f = bind_ok (format_at text first) _ form e in
+form_found wide text first form size low e =
+    let f = bind_ok (format_at wide text first) _ form e in
     let r = bind_ok (number_at text (first + 1) (first + 5)) _ form f.2 in
     let o = bind_ok (number_at text (first + 6) (first + 7)) _ form r.2 in
     let made : Form = record {
@@ -100,17 +100,28 @@ form_found text first form size low e =
       file_id = positions text (first + 8) (first + 24);
     } in
     subst (λ (x : Form). HasForm text first x) {x = made} (ok_is made form o.2) record {
-      format = format_found text first f.0 (omega (arith, size)) f.1;
+      format = format_found wide text first f.0 (omega (arith, size)) f.1;
       rec_len = number_found text (first + 1) (first + 5) r.0 (omega (arith, size)) r.1;
       offset = number_found text (first + 6) (first + 7) o.0 (omega (arith, size)) o.1;
       file_id = refl;
     }
 
-form_again : (text : List ℕ) (first : ℕ) (form : Form) → length text ≡ 80 → first ≤ 40
-    → HasForm text first form → form_at text first ≡ Ok form
+form_allowed : (wide : Bool) (text : List ℕ) (first : ℕ) (form : Form)
+    → form_at wide text first ≡ Ok form → allows wide form.format ≡ true
 unfolding form_at
-form_again text first form size low has = rw (
-  format_again text first form.format (omega (arith, size)) has.format,
+form_allowed wide text first form e =
+    let f = bind_ok (format_at wide text first) _ form e in
+    let r = bind_ok (number_at text (first + 1) (first + 5)) _ form f.2 in
+    let o = bind_ok (number_at text (first + 6) (first + 7)) _ form r.2 in
+    subst (λ (x : Form). allows wide x.format ≡ true) (ok_is _ form o.2)
+    (format_allowed wide text first f.0 f.1)
+
+form_again : (wide : Bool) (text : List ℕ) (first : ℕ) (form : Form) → length text ≡ 80
+    → first ≤ 40 → allows wide form.format ≡ true → HasForm text first form
+    → form_at wide text first ≡ Ok form
+unfolding form_at
+form_again wide text first form size low allowed has = rw (
+  format_again wide text first form.format allowed (omega (arith, size)) has.format,
   number_again _ _ _ _ has.rec_len,
   number_again _ _ _ _ has.offset,
   has.file_id,
@@ -139,17 +150,18 @@ low_state : (version : Version) → state_position version ≤ 35
 low_state One = omega arith
 low_state Two = omega arith
 
-pub fields_found : (version : Version) (text : List ℕ) (f : Fields) → length text ≡ 80
-    → fields_at version text ≡ Ok f → HasFields version text f
+pub fields_found : (wide : Bool) (version : Version) (text : List ℕ) (f : Fields)
+    → length text ≡ 80 → fields_at wide version text ≡ Ok f
+    → HasFields version text f × (allows wide f.form.format ≡ true)
 unfolding fields_at
-fields_found version text f size e =
+fields_found wide version text f size e =
     let at = state_position version in
     let low = low_state version in
     let a = bind_ok (number_at text 12 15) _ f e in
     let b = bind_ok (number_at text 16 19) _ f a.2 in
     let p = bind_ok (place_at version text) _ f b.2 in
     let g = bind_ok (flags_at text at) _ f p.2 in
-    let m = bind_ok (form_at text (at + 3)) _ f g.2 in
+    let m = bind_ok (form_at wide text (at + 3)) _ f g.2 in
     let s = bind_ok (staged_at text (at + 28)) _ f m.2 in
     let made : Fields = record {
       set_id = positions text 6 11;
@@ -160,20 +172,25 @@ fields_found version text f size e =
       form = m.0;
       staged = s.0;
     } in
-    subst (λ (x : Fields). HasFields version text x) {x = made} (ok_is made f s.2) record {
-      set_id = refl;
-      file = number_found text 12 15 a.0 (omega (arith, size)) a.1;
-      sect = number_found text 16 19 b.0 (omega (arith, size)) b.1;
-      place = place_found version text p.0 size p.1;
-      flags = flags_found text at g.0 size (omega (arith, low)) g.1;
-      form = form_found text (at + 3) m.0 size (omega (arith, low)) m.1;
-      staged = staged_found text (at + 28) s.0 size (omega (arith, low)) s.1;
-    }
+    subst (λ (x : Fields). HasFields version text x × (allows wide x.form.format ≡ true))
+    {x = made} (ok_is made f s.2) (
+      record {
+        set_id = refl;
+        file = number_found text 12 15 a.0 (omega (arith, size)) a.1;
+        sect = number_found text 16 19 b.0 (omega (arith, size)) b.1;
+        place = place_found version text p.0 size p.1;
+        flags = flags_found text at g.0 size (omega (arith, low)) g.1;
+        form = form_found wide text (at + 3) m.0 size (omega (arith, low)) m.1;
+        staged = staged_found text (at + 28) s.0 size (omega (arith, low)) s.1;
+      },
+      form_allowed wide text (at + 3) m.0 m.1,
+    )
 
-pub fields_again : (version : Version) (text : List ℕ) (f : Fields) → length text ≡ 80
-    → HasFields version text f → fields_at version text ≡ Ok f
+pub fields_again : (wide : Bool) (version : Version) (text : List ℕ) (f : Fields)
+    → length text ≡ 80 → allows wide f.form.format ≡ true → HasFields version text f
+    → fields_at wide version text ≡ Ok f
 unfolding fields_at
-fields_again version text f size has =
+fields_again wide version text f size allowed has =
     let at = state_position version in
     let low = low_state version in
     rw (
@@ -181,7 +198,7 @@ fields_again version text f size has =
       number_again _ _ _ _ has.sect,
       place_again version text f.place has.place,
       flags_again text at f.flags size (omega (arith, low)) has.flags,
-      form_again _ _ _ size (omega (arith, low)) has.form,
+      form_again wide _ _ _ size (omega (arith, low)) allowed has.form,
       staged_again _ _ _ has.staged,
       has.set_id,
     ) refl

@@ -8,7 +8,7 @@ use Rattle.tape_stage.specs.Staged.{best, gate_at, slot_at, body_at, read_slot, 
 use Rattle.tape_stage.specs.{Staged.Ready, Staged.Staged, Staged.StagedIn, Faults.IsNotDevice}
 use Rattle.tape_stage.specs.declared.stage.StageFault.TheVariants.{NoPoint, OutOfMemory}
 use Rattle.tape_stage.specs.{Stages.Holds, Stages.IsStage, Stages.Survived, Found.IsFaultOf}
-use Rattle.tape_stage.specs.{Salvaged.Remains, Text.IsPointText, Parts.IsFront}
+use Rattle.tape_stage.specs.{Salvaged.Remains, Text.IsPointText, Text.IsStandard, Parts.IsFront}
 use Rattle.tape_stage.specs.declared.point.Version.TheVariants.{One}
 use Rattle.tape_blocks.specs.Block.{Portion}
 use Rattle.tape_stage.proofs.Once.{remains_once}
@@ -26,9 +26,10 @@ use Rattle.tape_stage.proofs.stage.Stage.open_read_only.Reads as open_read_only
 
 -- version_1_refused: a text of version 1 is refused as having an unknown version
 version_1_refused : (κs : _) (a : _) (s : _) (c : Point)
-    → read_point.Learnt-named κs a (Err faults.Version) s → IsPointText One a.0.now c → ⊥
-version_1_refused κs a s c l spelled =
-    let d : Err faults.Version ≡ Ok c = l.only One c spelled in
+    → read_point.Learnt-named κs a (Err faults.Version) s → IsPointText One a.0.now c
+    → IsStandard c.known → ⊥
+version_1_refused κs a s c l spelled standard =
+    let d : Err faults.Version ≡ Ok c = l.only One c spelled standard in
     absurd (cc)
 
 -- ---- disks

@@ -6,6 +6,7 @@ use Rattle.std.proofs.lemmas.Slice.Eq.{bytes_eq-Decides}
 use Rattle.std.specs.Str.{bytes_eq}
 use Rattle.tape_label.specs.declared.values.Format.{Format}
 use Rattle.tape_label.specs.declared.values.Format.TheVariants.{Fixed, Counted, Spanned}
+use Rattle.tape_label.specs.declared.values.Format.TheVariants.{Undefined, Variable}
 use Rattle.tape_set.specs.{declared.position.Position.Position, Lawful.FileForm, Lawful.most_blocks}
 use Rattle.tape_set.specs.declared.position.Position.TheVariants.{Awaits, Finished}
 use Rattle.tape_set.specs.Position.{sect_of, block_of, part_of}
@@ -46,6 +47,10 @@ length_right Fixed rec_len offset fits =
     search rules
 length_right Counted rec_len offset fits = let none : 0 ≡ rec_len = fits.binding in rw (← none) refl
 length_right Spanned rec_len offset fits = let none : 0 ≡ rec_len = fits.binding in rw (← none) refl
+length_right Undefined rec_len offset fits =
+    let none : 0 ≡ rec_len = fits.binding in rw (← none) refl
+length_right Variable rec_len offset fits =
+    let none : 0 ≡ rec_len = fits.binding in rw (← none) refl
 
 offset_right : (offset : ℕ) → offset ≤ 99 → nat_le offset 99 ≡ true
 offset_right offset small = search rules
@@ -162,6 +167,22 @@ form_says Counted rec_len offset e small =
       offset_fits = small;
     }
 form_says Spanned rec_len offset e small =
+    let none : rec_len ≡ 0 = search rules in
+    record {
+      least = omega arith;
+      binding = sym none;
+      len_fits = omega (arith, none);
+      offset_fits = small;
+    }
+form_says Undefined rec_len offset e small =
+    let none : rec_len ≡ 0 = search rules in
+    record {
+      least = omega arith;
+      binding = sym none;
+      len_fits = omega (arith, none);
+      offset_fits = small;
+    }
+form_says Variable rec_len offset e small =
     let none : rec_len ≡ 0 = search rules in
     record {
       least = omega arith;

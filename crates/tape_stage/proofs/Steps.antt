@@ -4,10 +4,12 @@ use Rattle.std.proofs.Common.{◌≡◌, ℕ, ◌-◌, ◌^◌, ◌<◌, ◌≤�
 use Rattle.std.proofs.Common.{◌∷◌, length, get_or, take, drop, replicate, Option, None, Some}
 use Rattle.std.proofs.Common.{Result, Ok, Err, refl, sym, subst, rules}
 use Rattle.std.proofs.{lemmas.Bool.eqb-true, lemmas.Slice.Eq.bytes_eq-Decides}
-use Rattle.std.specs.Str.{bytes_eq, all_ascii_digits}
+use Rattle.std.specs.{Prelude.◌&&◌, Str.bytes_eq, Str.all_ascii_digits}
 use Rattle.tape_label.specs.declared.values.Format.TheVariants.{Fixed, Counted, Spanned}
+use Rattle.tape_label.specs.declared.values.Format.TheVariants.{Undefined, Variable}
 use Rattle.tape_label.specs.Digits.{digits, number_of}
 use Rattle.tape_label.specs.{declared.values.Format.Format, Positions.positions}
+use Rattle.tape_label.specs.Formats.{is_standard}
 use Rattle.tape_label.proofs.DigitLaws.{digits-number_of, number_of-digits, number_of-lt}
 use Rattle.tape_label.proofs.DigitLaws.{all_ascii_digits-digits}
 use Rattle.tape_label.proofs.Steps.{length-positions, character_found, character_is}
@@ -93,29 +95,79 @@ pub flag_again : (text : List ℕ) (position one other : ℕ) (b : Bool) → pos
 flag_again text position one other b lt apart e = rw (character_is text
     (position - 1) (cond b one other) lt e) (flag_once one other (faults.Field position) b apart)
 
-format_cases : (c : ℕ) (p q r s : Bool) (d : PointFault) (f : Option Format)
-    → eqb c 70 ≡ p → eqb c 68 ≡ q → eqb c 83 ≡ r → eqb c 32 ≡ s → cond p (Ok (Some Fixed))
-    (cond q (Ok (Some Counted)) (cond r (Ok (Some Spanned)) (cond s (Ok None) (Err d)))) ≡ done f
-    → c ≡ format_letter f
-format_cases c true q r s d f w x y z e = rw (← ok_is (Some Fixed) f e) (eqb-true _ _ w)
-format_cases c false true r s d f w x y z e = rw (← ok_is (Some Counted) f e) (eqb-true _ _ x)
-format_cases c false false true s d f w x y z e = rw (← ok_is (Some Spanned) f e) (eqb-true _ _ y)
-format_cases c false false false true d f w x y z e = rw (← ok_is None f e) (eqb-true _ _ z)
-format_cases c false false false false d f w x y z e = absurd cc
+-- the formats that a reading accepts
+abbrev pub allows : Bool → Option Format → Bool
+allows true f = true
+allows false None = true
+allows false (Some f) = is_standard f
 
-pub format_found : (text : List ℕ) (position : ℕ) (f : Option Format) → position - 1 < length text
-    → format_at text position ≡ Ok f → take 1 (drop (position - 1) text) ≡ format_letter f ∷ []
-format_found text position f lt e =
+-- the result of the tests of the letter
+abbrev format_by : Bool → Bool → Bool → Bool → Bool → Bool → Bool → PointFault
+    → Result (Option Format) PointFault
+format_by wide p q r u v s d =
+    cond p (Ok (Some Fixed)) (cond q (Ok (Some Counted)) (cond r (Ok (Some Spanned))
+    (cond (wide && u) (Ok (Some Undefined)) (cond (wide && v) (Ok (Some Variable))
+    (cond s (Ok None) (Err d))))))
+
+format_cases : (wide : Bool) (c : ℕ) (p q r u v s : Bool) (d : PointFault) (f : Option Format)
+    → eqb c 70 ≡ p → eqb c 68 ≡ q → eqb c 83 ≡ r → eqb c 85 ≡ u → eqb c 86 ≡ v → eqb c 32 ≡ s
+    → format_by wide p q r u v s d ≡ done f → c ≡ format_letter f
+format_cases wide c true q r u v s d f w x y g h z e =
+    rw (← ok_is (Some Fixed) f e) (eqb-true _ _ w)
+format_cases wide c false true r u v s d f w x y g h z e =
+    rw (← ok_is (Some Counted) f e) (eqb-true _ _ x)
+format_cases wide c false false true u v s d f w x y g h z e =
+    rw (← ok_is (Some Spanned) f e) (eqb-true _ _ y)
+format_cases true c false false false true v s d f w x y g h z e =
+    rw (← ok_is (Some Undefined) f e) (eqb-true _ _ g)
+format_cases true c false false false false true s d f w x y g h z e =
+    rw (← ok_is (Some Variable) f e) (eqb-true _ _ h)
+format_cases true c false false false false false true d f w x y g h z e =
+    rw (← ok_is None f e) (eqb-true _ _ z)
+format_cases true c false false false false false false d f w x y g h z e = absurd cc
+format_cases false c false false false u v true d f w x y g h z e =
+    rw (← ok_is None f e) (eqb-true _ _ z)
+format_cases false c false false false u v false d f w x y g h z e = absurd cc
+
+pub format_found : (wide : Bool) (text : List ℕ) (position : ℕ) (f : Option Format)
+    → position - 1 < length text → format_at wide text position ≡ Ok f
+    → take 1 (drop (position - 1) text) ≡ format_letter f ∷ []
+format_found wide text position f lt e =
     let c = get_or text (position - 1) 0 in
-    rw (← format_cases c _ _ _ _ (faults.Field position) f refl
-    refl refl refl e) (character_found text (position - 1) lt)
+    rw (← format_cases wide c _ _ _ _ _ _ (faults.Field position) f refl
+    refl refl refl refl refl e) (character_found text (position - 1) lt)
 
-pub format_again : (text : List ℕ) (position : ℕ) (f : Option Format) → position - 1 < length text
-    → take 1 (drop (position - 1) text) ≡ format_letter f ∷ [] → format_at text position ≡ Ok f
-format_again text position None lt e = rw (character_is text (position - 1) 32 lt e) refl
-format_again text position (Some Fixed) lt e = rw (character_is text (position - 1) 70 lt e) refl
-format_again text position (Some Counted) lt e = rw (character_is text (position - 1) 68 lt e) refl
-format_again text position (Some Spanned) lt e = rw (character_is text (position - 1) 83 lt e) refl
+allowed_cases : (wide p q r u v s : Bool) (d : PointFault) (f : Option Format)
+    → format_by wide p q r u v s d ≡ done f → allows wide f ≡ true
+allowed_cases true p q r u v s d f e = refl
+allowed_cases false true q r u v s d f e = rw (← ok_is (Some Fixed) f e) refl
+allowed_cases false false true r u v s d f e = rw (← ok_is (Some Counted) f e) refl
+allowed_cases false false false true u v s d f e = rw (← ok_is (Some Spanned) f e) refl
+allowed_cases false false false false u v true d f e = rw (← ok_is None f e) refl
+allowed_cases false false false false u v false d f e = absurd cc
+
+pub format_allowed : (wide : Bool) (text : List ℕ) (position : ℕ) (f : Option Format)
+    → format_at wide text position ≡ Ok f → allows wide f ≡ true
+format_allowed wide text position f e =
+    allowed_cases wide _ _ _ _ _ _ (faults.Field position) f e
+
+pub format_again : (wide : Bool) (text : List ℕ) (position : ℕ) (f : Option Format)
+    → allows wide f ≡ true → position - 1 < length text
+    → take 1 (drop (position - 1) text) ≡ format_letter f ∷ [] → format_at wide text position ≡ Ok f
+format_again true text position None a lt e = rw (character_is text (position - 1) 32 lt e) refl
+format_again false text position None a lt e = rw (character_is text (position - 1) 32 lt e) refl
+format_again wide text position (Some Fixed) a lt e =
+    rw (character_is text (position - 1) 70 lt e) refl
+format_again wide text position (Some Counted) a lt e =
+    rw (character_is text (position - 1) 68 lt e) refl
+format_again wide text position (Some Spanned) a lt e =
+    rw (character_is text (position - 1) 83 lt e) refl
+format_again true text position (Some Undefined) a lt e =
+    rw (character_is text (position - 1) 85 lt e) refl
+format_again true text position (Some Variable) a lt e =
+    rw (character_is text (position - 1) 86 lt e) refl
+format_again false text position (Some Undefined) a lt e = absurd cc
+format_again false text position (Some Variable) a lt e = absurd cc
 
 -- ---- the tail
 

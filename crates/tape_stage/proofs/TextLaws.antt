@@ -11,7 +11,7 @@ use Rattle.tape_stage.specs.Text.{version_digit, place_pieces, rest_pieces, piec
 use Rattle.tape_stage.specs.Reading.{state_position, version_by, fields_at, text_at}
 use Rattle.tape_stage.specs.declared.point.text.PointFault.{PointFault}
 use Rattle.tape_stage.specs.{declared.point.Version.Version, declared.point.Fields.Fields}
-use Rattle.tape_stage.proofs.Steps.{HasDigits, bind_ok, done, ok_is}
+use Rattle.tape_stage.proofs.Steps.{HasDigits, bind_ok, done, ok_is, allows}
 use Rattle.tape_stage.proofs.FieldLaws.{HasFields, fields_found, fields_again}
 use Rattle.tape_label.specs.Written.{Piece, text_of}
 use Rattle.tape_stage.specs.declared.point.text.PointFault.TheVariants as faults
@@ -48,33 +48,39 @@ version_again : (v : Version) → version_by (version_digit v) ≡ Ok v
 version_again One = refl
 version_again Two = refl
 
-pub text_found : (text : List ℕ) (v : Version) (f : Fields) → text_at text ≡ Ok (v, f)
-    → Reads v f text
+pub text_found : (wide : Bool) (text : List ℕ) (v : Version) (f : Fields)
+    → text_at wide text ≡ Ok (v, f) → Reads v f text × (allows wide f.form.format ≡ true)
 unfolding text_at
-text_found text v f e =
+text_found wide text v f e =
     let c = get_or text 4 0 in
     let a = text_cases (eqb (length text) 80) (bytes_eq (take 4 text) (codes "TPCK")) _ (v, f) e in
     let b = bind_ok (version_by c) _ (v, f) a.2 in
-    let d = bind_ok (fields_at b.0 text) _ (v, f) b.2 in
+    let d = bind_ok (fields_at wide b.0 text) _ (v, f) b.2 in
     let size : length text ≡ 80 = eqb-true _ _ a.0 in
     let same : (b.0, d.0) ≡ (v, f) = ok_is (b.0, d.0) (v, f) d.2 in
-    subst (λ (r : Version × Fields). Reads r.0 r.1 text) {x = (b.0, d.0)} same record {
-      size = size;
-      mark = (bytes_eq-Decides (take 4 text) (codes "TPCK")).0 a.1;
-      digit = character_found text 4 (omega (arith, size)) ∙ ap (λ (n : ℕ). n ∷ [])
-          (version_cases c _ _ b.0 refl refl b.1);
-      fields = fields_found b.0 text d.0 size d.1;
-    }
+    let found = fields_found wide b.0 text d.0 size d.1 in
+    subst (λ (r : Version × Fields). Reads r.0 r.1 text × (allows wide r.1.form.format ≡ true))
+    {x = (b.0, d.0)} same (
+      record {
+        size = size;
+        mark = (bytes_eq-Decides (take 4 text) (codes "TPCK")).0 a.1;
+        digit = character_found text 4 (omega (arith, size)) ∙ ap (λ (n : ℕ). n ∷ [])
+            (version_cases c _ _ b.0 refl refl b.1);
+        fields = found.0;
+      },
+      found.1,
+    )
 
-pub text_again : (text : List ℕ) (v : Version) (f : Fields) → Reads v f text
-    → text_at text ≡ Ok (v, f)
+pub text_again : (wide : Bool) (text : List ℕ) (v : Version) (f : Fields)
+    → allows wide f.form.format ≡ true → Reads v f text → text_at wide text ≡ Ok (v, f)
 unfolding text_at
-text_again text v f r =
+text_again wide text v f allowed r =
     let digit : get_or text 4 0 ≡ version_digit v =
     character_is text 4 (version_digit v) (omega (arith, r.size)) r.digit in
     let mark : bytes_eq (take 4 text) (codes "TPCK") ≡ true =
     (bytes_eq-Decides (take 4 text) (codes "TPCK")).1 r.mark in
-    rw (r.size, mark, digit, version_again v, fields_again v text f r.size r.fields) refl
+    rw (r.size, mark, digit, version_again v, fields_again wide v text f r.size allowed r.fields)
+    refl
 
 -- ---- the text as consecutive pieces
 
@@ -209,5 +215,6 @@ fit_two One f fit = record {
 }
 fit_two Two f fit = fit
 
-pub text_fits : (text : List ℕ) (v : Version) (f : Fields) → text_at text ≡ Ok (v, f) → Fit Two f
-text_fits text v f e = fit_two _ _ (reads_fit _ _ _ (text_found text v f e))
+pub text_fits : (wide : Bool) (text : List ℕ) (v : Version) (f : Fields)
+    → text_at wide text ≡ Ok (v, f) → Fit Two f
+text_fits wide text v f e = fit_two _ _ (reads_fit _ _ _ (text_found wide text v f e).0)

@@ -2,9 +2,10 @@
 -- fault of the first test that fails, in the order of the lines.
 use Rattle.std.specs.Prelude.{ℕ, ◌+◌, ◌-◌, ◌==◌, List, length, codes, replicate, drop, slice_range}
 use Rattle.std.specs.Prelude.{slice_index, Bool, true, false, if◌then◌else◌, Option, Some, None}
-use Rattle.std.specs.Prelude.{Result, Ok, Err}
+use Rattle.std.specs.Prelude.{Result, Ok, Err, ◌&&◌}
 use Rattle.std.specs.{Result.result_ok, Str.bytes_eq, Str.all_ascii_digits}
 use Rattle.tape_label.specs.declared.values.Format.TheVariants.{Fixed, Counted, Spanned}
+use Rattle.tape_label.specs.declared.values.Format.TheVariants.{Undefined, Variable}
 use Rattle.tape_label.specs.{declared.values.Format.Format, Digits.number_of, Positions.positions}
 use Rattle.tape_core.specs.Point.{Point}
 use Rattle.tape_stage.specs.declared.point.Version.TheVariants.{One, Two}
@@ -32,12 +33,14 @@ flag_at text position one other =
     let c = slice_index text (position - 1)
     in if c == one then Ok true else (if c == other then Ok false else Err (faults.Field position))
 
--- the record format at the position, or `None` for a space
-abbrev pub format_at : List ℕ → ℕ → Result (Option Format) PointFault
-format_at text position =
+-- the record format at the position, or `None` for a space; `U` and `V` only if `wide` is true
+abbrev pub format_at : Bool → List ℕ → ℕ → Result (Option Format) PointFault
+format_at wide text position =
     let c = slice_index text (position - 1)
     in if c == 70 then Ok (Some Fixed) else (if c == 68 then Ok (Some Counted) else (if c
-    == 83 then Ok (Some Spanned) else (if c == 32 then Ok None else Err (faults.Field position))))
+    == 83 then Ok (Some Spanned) else (if wide && (c == 85) then Ok (Some Undefined)
+    else (if wide && (c == 86) then Ok (Some Variable)
+    else (if c == 32 then Ok None else Err (faults.Field position))))))
 
 -- spaces from the position `first` to the end
 abbrev pub tail_at : List ℕ → ℕ → Result (Unit {0}) PointFault
@@ -63,9 +66,9 @@ flags_at text first = do
   Ok record { done = done; begun = begun; known = known }
 
 -- the fields of the file's form
-unfoldable pub form_at : List ℕ → ℕ → Result Form PointFault
-form_at text first = do
-  format ← format_at text first
+unfoldable pub form_at : Bool → List ℕ → ℕ → Result Form PointFault
+form_at wide text first = do
+  format ← format_at wide text first
   rec_len ← number_at text (first + 1) (first + 5)
   offset ← number_at text (first + 6) (first + 7)
   Ok record {
@@ -88,13 +91,13 @@ state_position One = 26
 state_position Two = 35
 
 -- all fields after the version
-unfoldable pub fields_at : Version → List ℕ → Result Fields PointFault
-fields_at version text = do
+unfoldable pub fields_at : Bool → Version → List ℕ → Result Fields PointFault
+fields_at wide version text = do
   file ← number_at text 12 15
   sect ← number_at text 16 19
   place ← place_at version text
   flags ← flags_at text (state_position version)
-  form ← form_at text (state_position version + 3)
+  form ← form_at wide text (state_position version + 3)
   staged ← staged_at text (state_position version + 28)
   Ok record {
     set_id = positions text 6 11;
@@ -111,12 +114,12 @@ abbrev pub version_by : ℕ → Result Version PointFault
 version_by c = if c == 49 then Ok One else (if c == 50 then Ok Two else Err faults.Version)
 
 -- the version and the fields
-unfoldable pub text_at : List ℕ → Result (Version × Fields) PointFault
-text_at text =
+unfoldable pub text_at : Bool → List ℕ → Result (Version × Fields) PointFault
+text_at wide text =
     if length text == 80
     then (if bytes_eq (slice_range text 0 4) (codes "TPCK")
     then (version_by (slice_index text 4) >>= λ version.
-    fields_at version text >>= λ fields. Ok (version, fields))
+    fields_at wide version text >>= λ fields. Ok (version, fields))
     else Err faults.Mark)
     else Err faults.Length
 
@@ -126,13 +129,22 @@ text_at text =
 abbrev pub right_point : Fields → Result Point PointFault
 right_point f = if is_right f then Ok (point_by f) else Err faults.Range
 
--- the result of reading a text
-unfoldable pub reading : List ℕ → Result Point PointFault
-reading text = text_at text >>= λ read. right_point read.1
+-- the result of reading a text: in the strict reading, or in the wider one, which also accepts the
+-- formats U and V
+unfoldable pub reading_by : Bool → List ℕ → Result Point PointFault
+reading_by wide text = text_at wide text >>= λ read. right_point read.1
+
+-- the result of the strict reading
+abbrev pub reading : List ℕ → Result Point PointFault
+reading text = reading_by false text
+
+-- the result of the wider reading
+abbrev pub wide_reading : List ℕ → Result Point PointFault
+wide_reading text = reading_by true text
 
 -- the checkpoint with the given text, in either version, or `None`
 abbrev pub point_in : List ℕ → Option Point
-point_in text = result_ok (reading text)
+point_in text = result_ok (wide_reading text)
 
 -- the fixed numbers of the faults, in the order of the tests
 abbrev pub number : PointFault → ℕ

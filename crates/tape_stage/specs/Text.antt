@@ -1,8 +1,8 @@
 -- The text of a checkpoint: 80 characters, in one of two versions.
 use Rattle.std.specs.Prelude.{◌≡◌, ℕ, ◌<◌, ◌^◌, List, [], ◌∷◌, ◌++◌, length, codes, Bool}
-use Rattle.std.specs.Prelude.{if◌then◌else◌, Option, Some, None}
+use Rattle.std.specs.Prelude.{if◌then◌else◌, Option, Some, None, true}
 use Rattle.tape_label.specs.Written.{Piece, chars, spaces, number, text_of}
-use Rattle.tape_label.specs.{declared.values.Format.Format, Formats.letter}
+use Rattle.tape_label.specs.{declared.values.Format.Format, Formats.letter, Formats.is_standard}
 use Rattle.tape_set.specs.Lawful.{FileForm}
 use Rattle.tape_core.specs.{Known.IsForm, Point.Point, Point.IsPoint}
 use Rattle.tape_stage.specs.declared.point.Version.TheVariants.{One, Two}
@@ -29,7 +29,7 @@ state_letter done = if done then 68 else 82
 abbrev pub flag_digit : Bool → ℕ
 flag_digit flag = if flag then 49 else 48
 
--- `F`, `D` or `S`, or a space for `None`
+-- the letter of the format, or a space for `None`
 abbrev pub format_letter : Option Format → ℕ
 format_letter None = 32
 format_letter (Some format) = letter format
@@ -73,6 +73,11 @@ pub record Fit (version : Version) (f : Fields) : Type 0 where
 abbrev pub KnownFits : Option FileForm → Type 0
 KnownFits None = Unit {0}
 KnownFits (Some form) = IsForm form.format form.rec_len form.offset
+
+-- The form is unknown, or its format is one of ECMA-13.
+abbrev pub IsStandard : Option FileForm → Type 0
+IsStandard None = Unit {0}
+IsStandard (Some form) = is_standard form.format ≡ true
 
 -- The checkpoint has a text in the given version: it satisfies the invariants of checkpoints and of
 -- forms, and its numbers fit the version.

@@ -10,14 +10,14 @@ ghost use Rattle.tape_stage.specs.Salvaged.{RemainsOnce};
 
 use crate::disk::Disk;
 use crate::point::text::PointFault;
-use crate::point::{read_point, write_point};
+use crate::point::{read_wide_point, write_point};
 use tape_core::Checkpoint;
 
 /// A checkpoint that was written is read back.
 pub fn point_again(point: &Checkpoint) -> Result<Checkpoint, PointFault>
     ensures { result ≡ Ok point.now }
 {
-    read_point(&write_point(point))
+    read_wide_point(&write_point(point))
 }
 
 /// A text belongs to at most one checkpoint, in one version. Each checkpoint has at most one text

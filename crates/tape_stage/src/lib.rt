@@ -12,7 +12,7 @@ pub use disk::file::{BufferedFile, FileDisk, buffered_file};
 pub use disk::memory::MemoryDisk;
 pub use disk::{Disk, DiskFault};
 pub use point::text::PointFault;
-pub use point::{read_point, write_point};
+pub use point::{read_point, read_wide_point, write_point};
 pub use stage::open_disk::{Refused, new_slots};
 pub use stage::part_reader::PartReader;
 pub use stage::salvage::Salvage;

@@ -9,7 +9,8 @@ ghost use Rattle.tape_stage.specs.Fields.{fields_of, form_of, place_of, known_by
 ghost use Rattle.tape_stage.specs.Text.{IsPointText, Fit, IsWritable, KnownFits};
 ghost use Rattle.tape_stage.specs.{Fields.position_by, declared.point.Version.TheVariants.Two};
 ghost use Rattle.tape_stage.specs.Fields.{form_agrees, is_blank, is_right, place_agrees};
-ghost use Rattle.tape_stage.specs.{Reading.reading, declared.point.Version.Version};
+ghost use Rattle.tape_stage.specs.Reading.{reading, wide_reading, reading_by};
+ghost use Rattle.tape_stage.specs.{Text.IsStandard, declared.point.Version.Version};
 
 use crate::point::text::{PointFault, fields_text, text_at};
 use tape_core::{Checkpoint, Known};
@@ -49,7 +50,7 @@ pub struct Flags {
 /// The fields of the file's form.
 #[derive(Clone, Copy)]
 pub struct Form {
-    /// F, D or S, or `None` for a space.
+    /// The record format, or `None` for a space.
     pub format: Option<Format>,
     /// The record length of format F.
     pub rec_len: u64,
@@ -78,7 +79,8 @@ pub struct Fields {
     pub staged: u64,
 }
 
-/// Reads the text of a checkpoint, in version 1 or 2. A text of version 1 has part 0.
+/// Reads the text of a checkpoint, in version 1 or 2, of a file whose form is unknown or whose
+/// format is F, D or S. A text of version 1 has part 0.
 ///
 /// # Errors
 ///
@@ -88,21 +90,39 @@ pub struct Fields {
 pub fn read_point(text: &[u8]) -> Result<Checkpoint, PointFault>
     // A text that is read is the text of the result, in one of the versions,
     ensures found { IfOk result (λ c. (version : Version) × IsPointText version text.now c) }
-    // every text of a checkpoint in one of the versions is read,
-    ensures only { (version : Version) (c : Point) → IsPointText version text.now c → result
-        ≡ Ok c }
+    // and the format of its file is F, D or S, if it is known;
+    ensures standard { IfOk result (λ c. IsStandard c.known) }
+    // every text of such a checkpoint in one of the versions is read,
+    ensures only { (version : Version) (c : Point) → IsPointText version text.now c
+        → IsStandard c.known → result ≡ Ok c }
     // and for any other text the first fault is returned.
     ensures exact { result ≡ reading text.now }
 {
-    point_at(text)
+    point_at(false, text)
+}
+
+/// Reads the text of a checkpoint, in version 1 or 2, of a file of any format. A text that
+/// `read_point` accepts is read as the same checkpoint.
+///
+/// # Errors
+///
+/// The errors are those of `read_point`.
+pub fn read_wide_point(text: &[u8]) -> Result<Checkpoint, PointFault>
+    ensures found { IfOk result (λ c. (version : Version) × IsPointText version text.now c) }
+    ensures only { (version : Version) (c : Point) → IsPointText version text.now c → result
+        ≡ Ok c }
+    ensures agrees { (c : Point) → reading text.now ≡ Ok c → result ≡ Ok c }
+    ensures exact { result ≡ wide_reading text.now }
+{
+    point_at(true, text)
 }
 
 /// Returns the checkpoint of the text, or the fault of the first test that fails.
-#[tactic(auto, unfolding(crate::specs::Reading::reading))]
-fn point_at(text: &[u8]) -> Result<Checkpoint, PointFault>
-    ensures { result ≡ reading text.now }
+#[tactic(auto, unfolding(crate::specs::Reading::reading_by))]
+fn point_at(wide: bool, text: &[u8]) -> Result<Checkpoint, PointFault>
+    ensures { result ≡ reading_by wide text.now }
 {
-    let (_, fields) = text_at(text)?;
+    let (_, fields) = text_at(wide, text)?;
     match checkpoint_of(&fields) {
         Some(point) => Ok(point),
         None => Err(PointFault::Range),

@@ -6,7 +6,7 @@ use std::test::*;
 use tape_core::{Checkpoint, Known};
 use tape_label::{Field, Format};
 use tape_set::Position;
-use tape_stage::{PointFault, read_point, write_point};
+use tape_stage::{PointFault, read_point, read_wide_point, write_point};
 
 /// A text, a position in it (counted from 1), the characters written at that position, and the
 /// fault of the resulting text, unless it is that of a checkpoint.
@@ -242,6 +242,87 @@ const ROWS: &[(&str, &[Row<'_>])] = &[
 fn what_is_read_of_a_text(rt: HostRuntime) {
     for (name, rows) in ROWS {
         answers(&rt, name, rows);
+    }
+}
+
+/// A text, a position in it, the characters written at that position, the format that the wider
+/// reading returns or its fault, and the fault of the strict reading.
+type InBoth<'r> = (
+    &'r [u8; 80],
+    usize,
+    &'r str,
+    Result<Format, PointFault>,
+    PointFault,
+);
+
+const FORMATS: &[InBoth<'_>] = &[
+    (
+        PAYROLL_1,
+        29,
+        "U00000",
+        Ok(Format::Undefined),
+        PointFault::Field(29),
+    ),
+    (
+        PAYROLL_2,
+        38,
+        "U00000",
+        Ok(Format::Undefined),
+        PointFault::Field(38),
+    ),
+    (
+        PAYROLL_2,
+        36,
+        "11V00000",
+        Ok(Format::Variable),
+        PointFault::Field(38),
+    ),
+    (
+        PAYROLL_2,
+        36,
+        "11U00000",
+        Err(PointFault::Range),
+        PointFault::Field(38),
+    ),
+    (
+        PAYROLL_2,
+        38,
+        "V00080",
+        Err(PointFault::Range),
+        PointFault::Field(38),
+    ),
+    (
+        PAYROLL_2,
+        38,
+        "V0000x",
+        Err(PointFault::Field(39)),
+        PointFault::Field(38),
+    ),
+    (
+        PAYROLL_2,
+        38,
+        "X00000",
+        Err(PointFault::Field(38)),
+        PointFault::Field(38),
+    ),
+];
+
+/// Returns whether both readings answer as the row says.
+fn is_format(row: &InBoth<'_>) -> bool {
+    let (text, position, characters, wide, strict) = row;
+    let text = with(text, *position, characters);
+    let same = match (read_wide_point(&text), wide) {
+        (Ok(point), Ok(format)) => matches!(point.known, Some(known) if known.format == *format),
+        (Err(fault), Err(wanted)) => fault == *wanted,
+        _ => false,
+    };
+    same && read_point(&text) == Err(*strict)
+}
+
+#[test]
+fn formats_in_both_readings(rt: HostRuntime) {
+    for row in FORMATS {
+        assert!(rt; is_format(row), "{} at {}", row.2, row.1);
     }
 }
 

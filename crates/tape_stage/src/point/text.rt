@@ -80,16 +80,19 @@ pub(crate) fn flag_at(text: &[u8], position: u8, yes: u8, no: u8) -> Result<bool
     Err(PointFault::Field(position))
 }
 
-/// Returns the record format at `position`, or `None` for a space.
-pub(crate) fn format_at(text: &[u8], position: u8) -> Result<Option<Format>, PointFault>
+/// Returns the record format at `position`, or `None` for a space; `U` and `V` only if `wide` is
+/// true.
+pub(crate) fn format_at(wide: bool, text: &[u8], position: u8) -> Result<Option<Format>, PointFault>
     requires first { 1 ≤ position }
     requires last { position ≤ length text.now }
-    ensures { result ≡ format_at text.now position }
+    ensures { result ≡ format_at wide text.now position }
 {
     match text[position as usize - 1] {
         b'F' => Ok(Some(Format::Fixed)),
         b'D' => Ok(Some(Format::Counted)),
         b'S' => Ok(Some(Format::Spanned)),
+        b'U' if wide => Ok(Some(Format::Undefined)),
+        b'V' if wide => Ok(Some(Format::Variable)),
         b' ' => Ok(None),
         _ => Err(PointFault::Field(position)),
     }
@@ -144,16 +147,16 @@ fn state_position(version: Version) -> u8
 
 /// Reads all fields after the version.
 #[tactic(auto, unfolding(crate::specs::Reading::fields_at, crate::specs::Reading::staged_at))]
-fn fields_at(version: Version, text: &[u8]) -> Result<Fields, PointFault>
+fn fields_at(wide: bool, version: Version, text: &[u8]) -> Result<Fields, PointFault>
     requires { length text.now ≡ 80 }
-    ensures { result ≡ fields_at version text.now }
+    ensures { result ≡ fields_at wide version text.now }
 {
     let file = number_at(text, 12, 15)?;
     let sect = number_at(text, 16, 19)?;
     let place = place_at(version, text)?;
     let state = state_position(version);
     let flags = flags_at(text, state)?;
-    let form = form_at(text, state + 3)?;
+    let form = form_at(wide, text, state + 3)?;
     let weight = state + 28;
     let staged = number_at(text, weight, weight + 14)?;
     tail_at(text, weight + 15)?;
@@ -170,8 +173,8 @@ fn fields_at(version: Version, text: &[u8]) -> Result<Fields, PointFault>
 
 /// Reads the version and the fields.
 #[tactic(auto, unfolding(crate::specs::Reading::text_at))]
-pub(crate) fn text_at(text: &[u8]) -> Result<(Version, Fields), PointFault>
-    ensures { result ≡ text_at text.now }
+pub(crate) fn text_at(wide: bool, text: &[u8]) -> Result<(Version, Fields), PointFault>
+    ensures { result ≡ text_at wide text.now }
 {
     if text.len() != 80 {
         return Err(PointFault::Length);
@@ -180,7 +183,7 @@ pub(crate) fn text_at(text: &[u8]) -> Result<(Version, Fields), PointFault>
         return Err(PointFault::Mark);
     }
     let version = version_by(text[4])?;
-    let fields = fields_at(version, text)?;
+    let fields = fields_at(wide, version, text)?;
     Ok((version, fields))
 }
 
@@ -218,12 +221,12 @@ pub(crate) fn flags_at(text: &[u8], first: u8) -> Result<Flags, PointFault>
 
 /// Reads the fields of the file's form.
 #[tactic(auto, unfolding(crate::specs::Reading::form_at))]
-pub(crate) fn form_at(text: &[u8], first: u8) -> Result<Form, PointFault>
+pub(crate) fn form_at(wide: bool, text: &[u8], first: u8) -> Result<Form, PointFault>
     requires size { length text.now ≡ 80 }
     requires first { (29 ≤ first) × (first ≤ 38) }
-    ensures { result ≡ form_at text.now first }
+    ensures { result ≡ form_at wide text.now first }
 {
-    let format = format_at(text, first)?;
+    let format = format_at(wide, text, first)?;
     let rec_len = number_at(text, first + 1, first + 5)?;
     let offset = number_at(text, first + 6, first + 7)?;
     Ok(Form {
@@ -241,7 +244,7 @@ fn flag_letter(flag: bool, yes: u8, no: u8) -> u8
     if flag { yes } else { no }
 }
 
-/// Returns `F`, `D` or `S`, or a space for `None`.
+/// Returns the letter of the format, or a space for `None`.
 fn format_letter(format: Option<Format>) -> u8
     ensures { result ≡ format_letter format }
 {

@@ -9,7 +9,7 @@ ghost use Rattle.tape_stage.specs.{Faults.SaysNone, Faults.OnBadFrame, Moments.I
 ghost use Rattle.tape_stage.specs.{Stages.EndsFinding, OnlyReading.OnlyReads, Body.most_generation};
 
 use crate::disk::Disk;
-use crate::point::read_point;
+use crate::point::read_wide_point;
 use crate::stage::frames::{Walked, walk};
 use crate::stage::{Found, OPEN, StageFault};
 use tape_core::Checkpoint;
@@ -25,7 +25,7 @@ fn read_slot(gate: u8, body: &[u8]) -> Option<(u64, Checkpoint)>
         return None;
     }
     let generation = digits_value(&body[..15])?;
-    match read_point(&body[15..95]) {
+    match read_wide_point(&body[15..95]) {
         Ok(point) => Some((generation, point)),
         Err(_) => None,
     }
