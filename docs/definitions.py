@@ -47,7 +47,8 @@ READ = [
         "VolumeLabels": ["IsOfVolume"], "Head1": None, "Head2": None,
         "Trail1": Main(["IsTrail1"]), "Reading": ["begins_as"]}),
     ("Which parts a block has, in which order", "tape_blocks", {
-        "Block": Main(["Portion", "head", "IsUnit", "IsPadding", "Holds"]),
+        "Block": Main(["Portion", "head", "IsUnit", "IsPadding", "HoldsUnits", "own_len",
+                       "own_offset", "Holds"]),
         "Spans": Main(["leaves", "InOrder", "join_after", "join"]),
         "Tight": ["Filled", "parts_of_all", "Chain"]}),
     ("What is on a volume, and which sets are valid", "tape_set", {
