@@ -7,6 +7,7 @@ use Rattle.std.specs.{Str.bytes_eq, Option.option_eq}
 use mathlib.Core.Bool.{beq}
 use Rattle.tape_label.specs.declared.values.Format.{Format}
 use Rattle.tape_label.specs.declared.values.Format.TheVariants.{Fixed, Counted, Spanned}
+use Rattle.tape_label.specs.declared.values.Format.TheVariants.{Undefined, Variable}
 use Rattle.tape_label.specs.contracts.values.FormatPartialEq.TheImpl as formats
 use Rattle.tape_set.specs.{Lawful.FileForm, declared.position.Position.Position}
 use Rattle.tape_set.specs.declared.position.Position.TheVariants.{Awaits, Finished}
@@ -24,6 +25,8 @@ same_format : (p q : Format) → formats.ghosts.eq p q ≡ true → p ≡ q
 same_format Fixed Fixed e = refl
 same_format Counted Counted e = refl
 same_format Spanned Spanned e = refl
+same_format Undefined Undefined e = refl
+same_format Variable Variable e = refl
 same_format _ _ e = absurd (cc e)
 
 same_position : (p q : Position) → positions.ghosts.eq p q ≡ true → p ≡ q

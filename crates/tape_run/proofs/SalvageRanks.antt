@@ -5,6 +5,7 @@ use Rattle.std.proofs.Common.{if◌then◌else◌, nat_le, is_none}
 use Rattle.std.proofs.lemmas.Bool.Decides.{nat_tests}
 use Rattle.tape_label.specs.declared.values.Format.{Format}
 use Rattle.tape_label.specs.declared.values.Format.TheVariants.{Fixed, Counted, Spanned}
+use Rattle.tape_label.specs.declared.values.Format.TheVariants.{Undefined, Variable}
 use Rattle.tape_label.specs.{Formats.least_record, Head2.HasOffset, Reading.head2_at}
 use Rattle.tape_label.proofs.Second.{head2_again}
 use Rattle.tape_set.specs.Layout.{Section}
@@ -28,6 +29,10 @@ in_range_by Fixed n m file_id least most fits =
 in_range_by Counted n m file_id least most fits =
     let c : nat_le m 99 ≡ true = grind (arith, nat_tests) in rw c refl
 in_range_by Spanned n m file_id least most fits =
+    let c : nat_le m 99 ≡ true = grind (arith, nat_tests) in rw c refl
+in_range_by Undefined n m file_id least most fits =
+    let c : nat_le m 99 ≡ true = grind (arith, nat_tests) in rw c refl
+in_range_by Variable n m file_id least most fits =
     let c : nat_le m 99 ≡ true = grind (arith, nat_tests) in rw c refl
 
 pub few_digits : (label : List ℕ) (n : ℕ) → HasOffset label n → n ≤ 99

@@ -4,7 +4,7 @@ use Rattle.std.proofs.Common.{subst, ◌∙◌, arith, append-nil, append_assoc,
 use Rattle.std.specs.List.{AllByRecursion}
 use Rattle.tape_blocks.specs.{Block.Portion, Block.Holds, Judged.judged, Tight.Filled}
 use Rattle.tape_blocks.specs.Spans.{continues, leaves, InOrder}
-use Rattle.tape_blocks.proofs.JudgedLaws.{judged_only}
+use Rattle.tape_blocks.proofs.OwnLaws.{judged_only}
 use Rattle.tape_set.specs.Lawful.{FileForm}
 use Rattle.tape_core.specs.Parts.{goes_on_at}
 use Rattle.tape_core.proofs.BlockLaws.{parts_in_it, first_begun}

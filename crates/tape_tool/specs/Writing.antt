@@ -4,6 +4,7 @@ use Rattle.std.specs.Prelude.{◌≡◌, ◌≢◌, ◌⊎◌, ℕ, ◌-◌, min
 use Rattle.std.specs.Prelude.{Option, Some, None}
 use Rattle.tape_label.specs.{declared.values.Format.Format, declared.values.Head1.Head1}
 use Rattle.tape_label.specs.declared.values.Format.TheVariants.{Fixed, Counted, Spanned}
+use Rattle.tape_label.specs.declared.values.Format.TheVariants.{Undefined, Variable}
 
 -- The record length: the number that was specified. Without one it is, with D, the greatest that
 -- fits into a block, at most 9,999, and otherwise 0.
@@ -12,6 +13,8 @@ record_length format (Some length) block offset = length
 record_length Fixed None block offset = 0
 record_length Counted None block offset = min (block - offset) 9999
 record_length Spanned None block offset = 0
+record_length Undefined None block offset = 0
+record_length Variable None block offset = 0
 
 -- There is no such shape: only blocks of D are padded, and a record of format F has at least one
 -- byte.

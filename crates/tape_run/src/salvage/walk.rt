@@ -163,7 +163,7 @@ fn form_by(file_id: Field<17>, read: Result<Head2, LabelFault>) -> Option<Known>
         Ok(head) => {
             let rec_len = match head.format {
                 Format::Fixed => head.rec_len,
-                Format::Counted | Format::Spanned => 0,
+                _ => 0,
             };
             Known::from_parts(head.format, rec_len, head.offset, file_id)
         }

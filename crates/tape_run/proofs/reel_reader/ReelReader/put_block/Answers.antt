@@ -4,7 +4,7 @@ use Rattle.std.proofs.Common.{refl, Some}
 use Rattle.std.proofs.{Common.arith, Common.append-nil, lemmas.List.map-append}
 use Rattle.tape_blocks.specs.{Block.Portion, Block.Holds, Parts.view, PartsLeft.parts_left}
 use Rattle.tape_blocks.specs.Judged.{begun_behind}
-use Rattle.tape_blocks.proofs.SizeLaws.{few_parts, short_part}
+use Rattle.tape_blocks.proofs.OwnLaws.{few_parts, short_part}
 use Rattle.tape_set.specs.{Lawful.FileForm, Position.part_of}
 use Rattle.tape_core.specs.{Follows.IsAwaited, State.State, Table.after_block, Table.saved}
 use Rattle.tape_core.specs.{Place.place_of, Place.rest_of, declared.event.Awaited.Awaited}

@@ -1,7 +1,7 @@
 use Rattle.std.proofs.Common.{◌≡◌, ◌∷◌, [], map, Ok, sym, ap, subst, ◌∙◌, append-nil}
 use Rattle.std.proofs.lemmas.List.{map-append}
 use Rattle.tape_blocks.specs.{Judged.judged, Parts.view}
-use Rattle.tape_blocks.proofs.JudgedLaws.{judged_found}
+use Rattle.tape_blocks.proofs.OwnLaws.{judged_found}
 use Rattle.tape_core.specs.Parts.{parts_in}
 use Rattle.tape_core.proofs.BlockLaws.{parts_in_it}
 use Rattle.tape_run.proofs.{Blocks.stands_here, SalvagePieces.with_one_more}
