@@ -3,7 +3,7 @@ use Rattle.std.proofs.Common.{◌≡◌, [], ◌∷◌, refl, arith}
 use Rattle.tape_image.specs.{declared.item.Ending.TheVariants.Physical, Begins.ends}
 use Rattle.tape_label.specs.{Kinds.kind_at, VolumeLabels.is_volume_label}
 use Rattle.tape_label.specs.Reading.{head_at, head1_at, head2_at, format_at, offset_at}
-use Rattle.tape_blocks.specs.{Units.unit_at, Parts.parts_by, Judged.judged}
+use Rattle.tape_blocks.specs.{Units.unit_at, Parts.parts_by, Judged.judged, Judged.judged_units}
 use Rattle.tape_run.specs.declared.script.Step.TheVariants.{Save, Restart}
 use Rattle.tape_run.specs.Lead.{Lead, lead}
 use Rattle.tape_run.specs.CasesOfReels.{CasesOfTable, CasesOfLeads}
@@ -11,7 +11,7 @@ use Rattle.tape_run.proofs.{Examples.empty_begins, Places.stands_first, Places.s
 
 pub cases_of_table : CasesOfTable
 unfolding kind_at head_at head1_at head2_at format_at offset_at is_volume_label parts_by
-    unit_at judged
+    unit_at judged judged_units
 cases_of_table = grind (arith, stands_first, stands_behind)
 
 parts_back : (t : Lead) → t.notes ≡ [] → (lead t (Save ∷ Restart 0 ∷ []) []).parts ≡ t.parts
