@@ -28,6 +28,7 @@ pub mod WideSteps
 pub mod WideLawful
 pub mod Laid
 pub mod Crashes
+pub mod Overlap
 mod Cases
 mod Examples
 mod Mistakes

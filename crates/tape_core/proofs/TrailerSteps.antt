@@ -45,7 +45,7 @@ module _ (aim : Aim) where
       ∙ sym (i.awaited ∙ ap (λ z. stopped (here aim) sect block (length z.blocks)) at_it.same))))
 
   -- at the end of the section needed, no part of a block is expected
-  end_front : core.position ≡ stopped (here aim) sect block (length w.blocks)
+  pub end_front : core.position ≡ stopped (here aim) sect block (length w.blocks)
       → core.position ≡ awaiting sect (length w.blocks)
   end_front is = go (length w.blocks == block) refl
     where

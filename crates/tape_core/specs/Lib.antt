@@ -24,6 +24,8 @@ pub mod Parts
 pub mod Table
 pub mod Wide
 pub mod Behind
+pub mod Expects
+pub mod Overlap
 pub mod Faults
 -- Examples, which ensure that the definitions do not say too little.
 pub mod Cases

@@ -118,6 +118,24 @@ pub struct Awaited {
     pub end: bool,
 }
 
+/// The item of the section needed that a reader expects next.
+#[derive(Clone, Copy, Debug)]
+pub enum Expected {
+    /// Its HDR2. The item before was its HDR1.
+    Header2,
+    /// A data block, or the mark after the data.
+    Data {
+        /// The number of its blocks already seen.
+        seen: u32,
+        /// The shape of its records, as its labels say.
+        shape: Shape,
+    },
+    /// Its trailer label, or a mark instead of it.
+    Trailer,
+    /// Nothing: no item of the section needed is expected.
+    Other,
+}
+
 /// The fields of an HDR1 that are remembered while its section is read.
 #[derive(Clone, Copy, Debug)]
 pub(crate) struct Heading {

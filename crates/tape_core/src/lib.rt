@@ -12,7 +12,7 @@ mod refusing;
 mod sink;
 
 pub use checkpoint::{Checkpoint, Known};
-pub use event::{Answer, Awaited, CoreFault, Event, Reason};
+pub use event::{Answer, Awaited, CoreFault, Event, Expected, Reason};
 pub use memory::MemorySink;
 pub use reader::{ReaderCore, goes_on_at, shape_of};
 pub use refusing::Refusing;

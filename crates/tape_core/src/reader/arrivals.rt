@@ -6,8 +6,9 @@ ghost use Rattle.tape_set.specs.{Lawful.most_blocks, Position.block_of};
 ghost use Rattle.tape_core.specs.{Arrive.arrival, Follows.Checked, Follows.IsAwaited};
 ghost use Rattle.tape_core.specs.{Known.is_finished, State.ToldFits, State.wants_data, State.told};
 ghost use Rattle.tape_core.specs.Table as Table;
+ghost use Rattle.tape_core.specs.Expects.{Expects};
 
-use crate::event::{Answer, Awaited, Event, Phase, Reason};
+use crate::event::{Answer, Awaited, Event, Expected, Phase, Reason};
 use crate::reader::ReaderCore;
 use crate::reader::judging::{judge_awaited, shape_of};
 use tape_label::{Kind, LabelFault, is_volume_label, kind, read_head1, read_trail1};
@@ -176,6 +177,22 @@ impl ReaderCore {
                 begun: self.begun,
                 end,
             }),
+        }
+    }
+
+    /// Returns the item that is expected next of the section needed.
+    pub fn expected(&self) -> Expected
+        ensures { Expects self.now.phase result }
+    {
+        let phase = self.phase;
+        match phase {
+            Phase::Header2(_, true) => Expected::Header2,
+            Phase::DataWanted(_, form, seen) => Expected::Data {
+                seen,
+                shape: shape_of(&form),
+            },
+            Phase::TrailerWanted(..) => Expected::Trailer,
+            _ => Expected::Other,
         }
     }
 
