@@ -1,6 +1,8 @@
 -- Over copies of a valid set, no item of the data contradicts what was delivered.
-use Rattle.std.proofs.Common.{◌≡◌, ◌<◌, ◌≤◌, ◌⊎◌, ℕ, zero, suc, ◌+◌, ◌-◌, List, [], ◌∷◌, ◌++◌, length}
-use Rattle.std.proofs.Common.{take, drop, Bool, true, false, cond, Option, Some, None, refl, sym, ap}
+use Rattle.std.proofs.Common.{◌≡◌, ◌<◌, ◌≤◌, ◌⊎◌, ℕ, zero, suc, ◌+◌, ◌-◌, List, [], ◌∷◌, ◌++◌}
+use Rattle.std.proofs.Common.{length}
+use Rattle.std.proofs.Common.{take, drop, Bool, true, false, cond, Option, Some, None, refl, sym}
+use Rattle.std.proofs.Common.{ap}
 use Rattle.std.proofs.Common.{◌∙◌, subst, inl, inr, append_assoc, arith, length-append, slice_get}
 use Rattle.std.proofs.Common.{◌==◌, nat_lt, unwrap_or, IsSome, map, ◌≢◌, Ok, eq-eqb, not}
 use Rattle.std.proofs.lemmas.Bool.Decides.{nat_tests}
@@ -86,7 +88,8 @@ last_ones s n part =
 split_parts : (set : FileSet) (file sect n part : ℕ) (w : Section)
     → section_of set file sect ≡ Some w
     → before set file (Awaits sect n part)
-    ≡ section_parts (take (sect - 1) (unwrap_or (file_of set file) [])) ++ delivered_after w 0 n part
+    ≡ section_parts (take (sect - 1) (unwrap_or (file_of set file) []))
+    ++ delivered_after w 0 n part
 split_parts set file sect n part w found = go (file_of set file) refl
   where
     go : (o : Option (List Section)) → file_of set file ≡ o

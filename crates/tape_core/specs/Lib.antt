@@ -27,5 +27,7 @@ pub mod Behind
 pub mod Expects
 pub mod Overlap
 pub mod Faults
+-- Tapes that are not written as the standard would have them.
+pub mod NormalForm
 -- Examples, which ensure that the definitions do not say too little.
 pub mod Cases

@@ -18,11 +18,11 @@ abbrev pub Contains : FileForm → List ℕ → List Portion → Type 0
 Contains form bytes parts = Holds form.format form.rec_len form.offset bytes parts
     × ((end : Bool) × InOrder (goes_on_at form.format form.offset bytes) parts end)
 
--- The next item of a section's data, compared with the parts that were delivered of the data not yet
--- seen. If blocks that were delivered are still to come (`true`), a block contains the next of these
--- parts, and the others are left for the following blocks; after an unreadable block nothing is
--- compared. The next block (`false`) begins with all of them: the first `part` parts of it. The mark
--- after the data leaves none. The table itself refuses a mark that comes too early.
+-- The next item of a section's data, compared with the parts that were delivered of the data not
+-- yet seen. If blocks that were delivered are still to come (`true`), a block contains the next of
+-- these parts, and the others are left for the following blocks; after an unreadable block nothing
+-- is compared. The next block (`false`) begins with all of them: the first `part` parts of it. The
+-- mark after the data leaves none. The table itself refuses a mark that comes too early.
 abbrev pub Fits : FileForm → Bool → ℕ → List Portion → TapeItem → Option (List Portion) → Type 0
 Fits form true part delivered (block bytes) (Some left) =
     (parts : List Portion) × Contains form bytes parts × (delivered ≡ parts ++ left)

@@ -46,7 +46,7 @@ pub fn copies_agree()
 {}
 
 /// In a reading of a copy of a valid set, a readable item after the data of the section needed ends
-/// the section. So a reel that delivered data, and then has no trailer label of that section, or one
+/// the section. So a reel that delivered data, and then has no trailer label of that section or one
 /// with another count, is not a copy.
 pub fn trailers_end()
     ensures { (set : FileSet) (p : Position) (k : ℕ) (good : List Bool) (item : TapeItem)

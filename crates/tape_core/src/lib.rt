@@ -7,6 +7,7 @@ mod checkpoint;
 mod event;
 pub mod laws;
 mod memory;
+pub mod normal;
 mod reader;
 mod refusing;
 mod sink;

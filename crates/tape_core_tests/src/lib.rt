@@ -9,6 +9,8 @@ mod damaged;
 #[cfg(test)]
 mod labels;
 #[cfg(test)]
+mod normal_form;
+#[cfg(test)]
 mod parts;
 #[cfg(test)]
 mod passed_over;

@@ -1,0 +1,8 @@
+-- The normal form of a tape: the machine's table gives it, copies of valid sets keep theirs, and a
+-- reader takes from it all that it takes from the tape.
+pub mod Agree
+pub mod Ahead
+pub mod Data
+pub mod Eighty
+pub mod KindKept
+pub mod Same

@@ -1,0 +1,186 @@
+-- The machine's table gives the normal form.
+use Rattle.std.proofs.Common.{◌≡◌, ℕ, List, [], ◌∷◌, ◌++◌, Bool, true, false, cond}
+use Rattle.std.proofs.Common.{length, ◌==◌, refl, sym, ap, nat_lt, ◌&&◌, not}
+use Rattle.std.proofs.lemmas.Slice.Eq.{bytes_eq-Decides}
+use Rattle.std.specs.Str.{bytes_eq}
+use Rattle.tape_image.specs.Tape.{TapeItem, block, bad, mark}
+use Rattle.tape_label.specs.{Kinds.kind_at, VolumeLabels.is_volume_label}
+use Rattle.tape_core.specs.declared.normal.code.Code.{Code}
+use Rattle.tape_core.specs.declared.normal.code.Code.TheVariants.{Ascii, Ebcdic}
+use Rattle.tape_core.specs.declared.normal.machine.{TapePlace.TapePlace, Missing.Missing}
+use Rattle.tape_core.specs.declared.normal.machine.TapePlace.TheVariants.{Start, Labels, Blank}
+use Rattle.tape_core.specs.declared.normal.machine.TapePlace.TheVariants.{Second}
+use Rattle.tape_core.specs.declared.normal.machine.TapePlace.TheVariants.{Headers, Data, Trailer}
+use Rattle.tape_core.specs.declared.normal.machine.TapePlace.TheVariants.{Trailers}
+use Rattle.tape_core.specs.declared.normal.machine.TapePlace.TheVariants.{Next, Ended, Over}
+use Rattle.tape_core.specs.declared.normal.machine.Replacement.TheVariants as replacements
+use Rattle.tape_core.specs.declared.normal.machine.Missing.TheVariants.{Nothing, VolumeLabel}
+use Rattle.tape_core.specs.declared.normal.machine.Replacement.TheVariants as replacements
+use Rattle.tape_core.specs.declared.normal.machine.Missing.TheVariants.{SecondLabel}
+use Rattle.tape_core.specs.NormalForm.{Codes.in_ascii, Mended.is_vol1, Mended.is_hdr1}
+use Rattle.tape_core.specs.NormalForm.{Mended.is_hdr2}
+use Rattle.tape_core.specs.NormalForm.Mended.{is_first_trailer, is_dummy, is_further, mended}
+use Rattle.tape_core.specs.NormalForm.{is_noise, most_dropped, of_labels, of_second}
+use Rattle.tape_core.specs.NormalForm.{of_trailers, of_headers}
+use Rattle.tape_core.specs.NormalForm.Steps.{Gives, step_of, from, given, instead, instead_in}
+use Rattle.tape_core.specs.NormalForm.Steps.{translated_with, second_instead}
+use Rattle.tape_core.specs.NormalForm.Steps.{inserted, begin_at, ended_at, start_at, labels_at}
+use Rattle.tape_core.specs.NormalForm.Steps.{second_at}
+use Rattle.tape_core.specs.NormalForm.Steps.{any_at, trailer_at, next_at, drop_first}
+
+-- a label in either code becomes its characters in ASCII
+instead_is : (code : Code) (b : List ℕ)
+    → instead (instead_in code (in_ascii code b)) (block b) ≡ block (in_ascii code b) ∷ []
+instead_is Ascii b = refl
+instead_is Ebcdic b = refl
+
+second_is : (code : Code) (b : List ℕ)
+    → instead (second_instead code (in_ascii code b)) (block b)
+    ≡ block (mended (in_ascii code b)) ∷ []
+second_is Ascii b = go (bytes_eq (mended b) b) refl
+  where
+    go : (t : Bool) → bytes_eq (mended b) b ≡ t
+        → instead (cond t replacements.Same (replacements.Label (mended b))) (block b)
+        ≡ block (mended b) ∷ []
+    go true e = ap (λ v. block v ∷ []) (sym ((bytes_eq-Decides (mended b) b).0 e))
+    go false e = refl
+second_is Ebcdic b = refl
+
+-- the rest after a label
+behind : (adds : Missing) (code : Code) (b : List ℕ) (xs : List TapeItem)
+    → given (translated_with adds code (in_ascii code b)) (block b) ++ xs
+    ≡ inserted adds ++ block (in_ascii code b) ∷ xs
+behind Nothing code b xs = ap (λ v. v ++ xs) (instead_is code b)
+behind VolumeLabel code b xs = ap (λ v. (inserted VolumeLabel ++ v) ++ xs) (instead_is code b)
+behind SecondLabel code b xs = ap (λ v. (inserted SecondLabel ++ v) ++ xs) (instead_is code b)
+
+any_behind : (code : Code) (b : List ℕ) (xs : List TapeItem) (t : Bool) → (length b == 80) ≡ t
+    → block (in_ascii code b) ∷ xs ≡ given (any_at code b) (block b) ++ xs
+any_behind code b xs true e = rw (e) (sym (ap (λ v. v ++ xs) (any_own code b e)))
+  where
+    any_own : (code : Code) (b : List ℕ) → (length b == 80) ≡ true
+        → instead (instead_in code (in_ascii code b)) (block b) ≡ block (in_ascii code b) ∷ []
+    any_own code b e = instead_is code b
+any_behind Ascii b xs false e = rw (e) refl
+any_behind Ebcdic b xs false e = rw (e) refl
+
+-- ---- each place
+
+module _ (b : List ℕ) (xs : List TapeItem) where
+  next_gives : (code : Code) (t : Bool) → is_hdr1 (kind_at (in_ascii code b)) ≡ t
+      → from (Next code) (block b ∷ xs)
+      ≡ given (next_at code (in_ascii code b)).1 (block b)
+      ++ from (next_at code (in_ascii code b)).0 xs
+  next_gives code true e = rw (e) (sym (behind Nothing code b (of_second code xs)))
+  next_gives code false e = rw (e) refl
+
+  trailer_gives : (code : Code) (t : Bool) → is_first_trailer (kind_at (in_ascii code b)) ≡ t
+      → from (Trailer code) (block b ∷ xs)
+      ≡ given (trailer_at code (in_ascii code b)).1 (block b)
+      ++ from (trailer_at code (in_ascii code b)).0 xs
+  trailer_gives code true e = rw (e) (sym (behind Nothing code b (of_trailers code xs)))
+  trailer_gives code false e = rw (e) refl
+
+  second_gives : (code : Code) (t u : Bool) → is_hdr2 (kind_at (in_ascii code b)) ≡ t
+      → is_further (in_ascii code b) ≡ u
+      → from (Second code) (block b ∷ xs)
+      ≡ given (second_at code (in_ascii code b)).1 (block b)
+      ++ from (second_at code (in_ascii code b)).0 xs
+  second_gives code true u e f =
+      rw (e) (ap (λ v. v ++ of_headers code xs) (sym (second_is code b)))
+  second_gives code false true e f =
+      rw (e, f) (sym (behind SecondLabel code b (of_headers code xs)))
+  second_gives code false false e f = rw (e, f) refl
+
+  labels_gives : (code : Code) (n : ℕ) (v h t : Bool) → is_volume_label (in_ascii code b) ≡ v
+      → (is_hdr1 (kind_at (in_ascii code b)) && not (is_dummy (in_ascii code b))) ≡ h
+      → nat_lt n most_dropped ≡ t
+      → from (Labels code n) (block b ∷ xs)
+      ≡ given (labels_at code n (in_ascii code b)).1 (block b)
+      ++ from (labels_at code n (in_ascii code b)).0 xs
+  labels_gives code n true h t e f g =
+      rw (e) (sym (behind Nothing code b (of_labels code n xs)))
+  labels_gives code n false true t e f g =
+      rw (e, f) (sym (behind Nothing code b (of_second code xs)))
+  labels_gives code n false false true e f g = rw (e, f, g) refl
+  labels_gives code n false false false e f g = rw (e, f, g) refl
+
+  start_gives : (n : ℕ) (v h w g z t : Bool) → is_vol1 (kind_at b) ≡ v → is_hdr1 (kind_at b) ≡ h
+      → is_vol1 (kind_at (in_ascii Ebcdic b)) ≡ w → is_hdr1 (kind_at (in_ascii Ebcdic b)) ≡ g
+      → is_noise b ≡ z → nat_lt n most_dropped ≡ t
+      → from (Start n) (block b ∷ xs)
+      ≡ given (start_at n b (begin_at b)).1 (block b) ++ from (start_at n b (begin_at b)).0 xs
+  start_gives n true h w g z t a c d e f i = rw (a) refl
+  start_gives n false true w g z t a c d e f i = rw (a, c) refl
+  start_gives n false false true g z t a c d e f i = rw (a, c, d) refl
+  start_gives n false false false true z t a c d e f i = rw (a, c, d, e) refl
+  start_gives n false false false false true true a c d e f i = rw (a, c, d, e, f, i) refl
+  start_gives n false false false false true false a c d e f i = rw (a, c, d, e, f, i) refl
+  start_gives n false false false false false t a c d e f i = rw (a, c, d, e, f) refl
+
+  ended_gives : (v h w g : Bool) → is_vol1 (kind_at b) ≡ v → is_hdr1 (kind_at b) ≡ h
+      → is_vol1 (kind_at (in_ascii Ebcdic b)) ≡ w → is_hdr1 (kind_at (in_ascii Ebcdic b)) ≡ g
+      → from Ended (block b ∷ xs)
+      ≡ given (ended_at (begin_at b)).1 (block b) ++ from (ended_at (begin_at b)).0 xs
+  ended_gives true h w g a c d e = rw (a) refl
+  ended_gives false true w g a c d e = rw (a, c) refl
+  ended_gives false false true g a c d e = rw (a, c, d) refl
+  ended_gives false false false true a c d e = rw (a, c, d, e) refl
+  ended_gives false false false false a c d e = rw (a, c, d, e) refl
+
+-- ---- all of them
+
+pub table_gives : (place : TapePlace) (item : TapeItem)
+    → Gives place item (step_of place item).0 (step_of place item).1
+table_gives (Start n) (block b) xs =
+    start_gives b xs n (is_vol1 (kind_at b)) (is_hdr1 (kind_at b))
+    (is_vol1 (kind_at (in_ascii Ebcdic b))) (is_hdr1 (kind_at (in_ascii Ebcdic b))) (is_noise b)
+    (nat_lt n most_dropped) refl refl refl refl refl refl
+table_gives (Start n) mark xs = go (nat_lt n most_dropped) refl
+  where
+    go : (t : Bool) → nat_lt n most_dropped ≡ t
+        → from (Start n) (mark ∷ xs)
+        ≡ given (drop_first n).1 mark ++ from (drop_first n).0 xs
+    go true e = rw (e) refl
+    go false e = rw (e) refl
+table_gives (Start n) bad xs = refl
+table_gives (Labels code n) (block b) xs =
+    labels_gives b xs code n (is_volume_label (in_ascii code b))
+    (is_hdr1 (kind_at (in_ascii code b)) && not (is_dummy (in_ascii code b)))
+    (nat_lt n most_dropped) refl refl refl
+table_gives (Labels code n) mark xs = refl
+table_gives (Labels code n) bad xs = refl
+table_gives Blank (block b) xs = refl
+table_gives Blank mark xs = refl
+table_gives Blank bad xs = refl
+table_gives (Second code) (block b) xs =
+    second_gives b xs code (is_hdr2 (kind_at (in_ascii code b))) (is_further (in_ascii code b))
+    refl refl
+table_gives (Second code) mark xs = refl
+table_gives (Second code) bad xs = refl
+table_gives (Headers code) (block b) xs =
+    any_behind code b (of_headers code xs) (length b == 80) refl
+table_gives (Headers code) mark xs = refl
+table_gives (Headers code) bad xs = refl
+table_gives (Data code) (block b) xs = refl
+table_gives (Data code) mark xs = refl
+table_gives (Data code) bad xs = refl
+table_gives (Trailer code) (block b) xs =
+    trailer_gives b xs code (is_first_trailer (kind_at (in_ascii code b))) refl
+table_gives (Trailer code) mark xs = refl
+table_gives (Trailer code) bad xs = refl
+table_gives (Trailers code) (block b) xs =
+    any_behind code b (of_trailers code xs) (length b == 80) refl
+table_gives (Trailers code) mark xs = refl
+table_gives (Trailers code) bad xs = refl
+table_gives (Next code) (block b) xs =
+    next_gives b xs code (is_hdr1 (kind_at (in_ascii code b))) refl
+table_gives (Next code) mark xs = refl
+table_gives (Next code) bad xs = refl
+table_gives Ended (block b) xs =
+    ended_gives b xs (is_vol1 (kind_at b)) (is_hdr1 (kind_at b))
+    (is_vol1 (kind_at (in_ascii Ebcdic b))) (is_hdr1 (kind_at (in_ascii Ebcdic b))) refl refl refl
+    refl
+table_gives Ended mark xs = refl
+table_gives Ended bad xs = refl
+table_gives Over item xs = refl

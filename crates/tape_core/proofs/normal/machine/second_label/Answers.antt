@@ -1,0 +1,7 @@
+use Rattle.std.proofs.Common.{refl, sym}
+use Rattle.tape_core.proofs.NormalForm.Eighty.{second_over}
+use Rattle.tape_core.proofs.normal.machine.second_label.Goals as goal
+
+pub returns-in_default : goal.returns-in_default
+returns-in_default c =
+    sym (second_over c.args.code c.args.bytes.now (c.in_default.ensures.none refl))

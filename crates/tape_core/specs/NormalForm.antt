@@ -1,0 +1,132 @@
+-- The normal form of a tape: the tape as the standard would have it. Each part of a tape has its
+-- own function, which takes the items from that part on. From an item that should not be there the
+-- rest of the tape is left as it is.
+pub mod Codes
+pub mod Mended
+pub mod Laws
+pub mod Ahead
+-- A definition about private code, proved to agree with the ones above.
+pub mod Steps
+use Rattle.std.specs.Prelude.{ℕ, ◌+◌, nat_lt, ◌&&◌, ◌||◌, not, Bool, List, [], ◌∷◌, length}
+use Rattle.std.specs.Prelude.{if◌then◌else◌}
+use Rattle.tape_image.specs.Tape.{TapeItem, block, bad, mark}
+use Rattle.tape_label.specs.{Kinds.kind_at, VolumeLabels.is_volume_label}
+use Rattle.tape_core.specs.declared.normal.code.Code.{Code}
+use Rattle.tape_core.specs.declared.normal.code.Code.TheVariants.{Ascii, Ebcdic}
+use Rattle.tape_core.specs.NormalForm.{Codes.in_ascii, Mended.is_vol1, Mended.is_hdr1}
+use Rattle.tape_core.specs.NormalForm.{Mended.is_hdr2}
+use Rattle.tape_core.specs.NormalForm.Mended.{is_first_trailer, is_dummy, is_further, mended}
+use Rattle.tape_core.specs.NormalForm.Mended.{no_volume_label}
+
+-- the greatest number of items that are dropped before VOL1, or between VOL1 and HDR1
+abbrev pub most_dropped : ℕ
+most_dropped = 64
+
+-- a block that is too short to have been written on purpose
+abbrev pub is_noise : List ℕ → Bool
+is_noise bytes = nat_lt (length bytes) 14
+
+-- a label with which a tape begins, in either code
+abbrev pub begins_tape : Code → List ℕ → Bool
+begins_tape code b = is_vol1 (kind_at (in_ascii code b)) || is_hdr1 (kind_at (in_ascii code b))
+
+abbrev mutual
+  -- VOL1, or HDR1 if there is none; marks and noise before it are dropped. If it is in EBCDIC, so
+  -- are all labels of the tape.
+  pub of_start : ℕ → List TapeItem → List TapeItem
+  of_start n [] = []
+  of_start n (block b ∷ xs) =
+      if is_vol1 (kind_at b) then block b ∷ of_labels Ascii 0 xs
+      else if is_hdr1 (kind_at b) then block no_volume_label ∷ block b ∷ of_second Ascii xs
+      else if is_vol1 (kind_at (in_ascii Ebcdic b))
+      then block (in_ascii Ebcdic b) ∷ of_labels Ebcdic 0 xs
+      else if is_hdr1 (kind_at (in_ascii Ebcdic b))
+      then block no_volume_label ∷ block (in_ascii Ebcdic b) ∷ of_second Ebcdic xs
+      else if is_noise b && nat_lt n most_dropped then of_start (n + 1) xs
+      else block b ∷ xs
+  of_start n (mark ∷ xs) = if nat_lt n most_dropped then of_start (n + 1) xs else mark ∷ xs
+  of_start n (bad ∷ xs) = bad ∷ xs
+
+  -- further volume labels, and the HDR1 of the first file; other blocks before it are dropped, and
+  -- so is the dummy HDR1 of a volume without files
+  pub of_labels : Code → ℕ → List TapeItem → List TapeItem
+  of_labels code n [] = []
+  of_labels code n (block b ∷ xs) =
+      if is_volume_label (in_ascii code b) then block (in_ascii code b) ∷ of_labels code n xs
+      else if is_hdr1 (kind_at (in_ascii code b)) && not (is_dummy (in_ascii code b))
+      then block (in_ascii code b) ∷ of_second code xs
+      else if nat_lt n most_dropped then of_labels code (n + 1) xs
+      else block b ∷ xs
+  of_labels code n (mark ∷ xs) = mark ∷ of_blank xs
+  of_labels code n (bad ∷ xs) = bad ∷ xs
+
+  -- the second mark of a volume without files
+  pub of_blank : List TapeItem → List TapeItem
+  of_blank [] = []
+  of_blank (block b ∷ xs) = block b ∷ xs
+  of_blank (mark ∷ xs) = mark ∷ of_ended xs
+  of_blank (bad ∷ xs) = bad ∷ xs
+
+  -- HDR2; if another header label or the mark was read there, the file has none
+  pub of_second : Code → List TapeItem → List TapeItem
+  of_second code [] = []
+  of_second code (block b ∷ xs) =
+      if is_hdr2 (kind_at (in_ascii code b))
+      then block (mended (in_ascii code b)) ∷ of_headers code xs
+      else if is_further (in_ascii code b)
+      then block (in_ascii code b) ∷ of_headers code xs
+      else block b ∷ xs
+  of_second code (mark ∷ xs) = mark ∷ of_data code xs
+  of_second code (bad ∷ xs) = bad ∷ xs
+
+  -- further header labels, up to a mark
+  pub of_headers : Code → List TapeItem → List TapeItem
+  of_headers code [] = []
+  of_headers code (block b ∷ xs) = block (in_ascii code b) ∷ of_headers code xs
+  of_headers code (mark ∷ xs) = mark ∷ of_data code xs
+  of_headers code (bad ∷ xs) = bad ∷ xs
+
+  -- data, up to a mark: never changed
+  pub of_data : Code → List TapeItem → List TapeItem
+  of_data code [] = []
+  of_data code (block b ∷ xs) = block b ∷ of_data code xs
+  of_data code (mark ∷ xs) = mark ∷ of_trailer code xs
+  of_data code (bad ∷ xs) = bad ∷ of_data code xs
+
+  -- EOF1 or EOV1
+  pub of_trailer : Code → List TapeItem → List TapeItem
+  of_trailer code [] = []
+  of_trailer code (block b ∷ xs) =
+      if is_first_trailer (kind_at (in_ascii code b))
+      then block (in_ascii code b) ∷ of_trailers code xs
+      else block b ∷ xs
+  of_trailer code (mark ∷ xs) = mark ∷ xs
+  of_trailer code (bad ∷ xs) = bad ∷ xs
+
+  -- further trailer labels, up to a mark
+  pub of_trailers : Code → List TapeItem → List TapeItem
+  of_trailers code [] = []
+  of_trailers code (block b ∷ xs) = block (in_ascii code b) ∷ of_trailers code xs
+  of_trailers code (mark ∷ xs) = mark ∷ of_next code xs
+  of_trailers code (bad ∷ xs) = bad ∷ xs
+
+  -- the HDR1 of the next file, or the second mark
+  pub of_next : Code → List TapeItem → List TapeItem
+  of_next code [] = []
+  of_next code (block b ∷ xs) =
+      if is_hdr1 (kind_at (in_ascii code b)) then block (in_ascii code b) ∷ of_second code xs
+      else block b ∷ xs
+  of_next code (mark ∷ xs) = mark ∷ of_ended xs
+  of_next code (bad ∷ xs) = bad ∷ xs
+
+  -- what follows the end of the volume is dropped, up to a label with which a tape begins
+  pub of_ended : List TapeItem → List TapeItem
+  of_ended [] = []
+  of_ended (block b ∷ xs) =
+      if begins_tape Ascii b || begins_tape Ebcdic b then block b ∷ xs else of_ended xs
+  of_ended (mark ∷ xs) = of_ended xs
+  of_ended (bad ∷ xs) = of_ended xs
+
+-- the normal form of a tape
+abbrev pub normal : List TapeItem → List TapeItem
+normal items = of_start 0 items

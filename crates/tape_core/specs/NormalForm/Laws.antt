@@ -1,0 +1,28 @@
+-- Laws about the normal form. Each is the contract of a function of the module `laws`.
+use Rattle.std.specs.Prelude.{◌≡◌, ℕ, Bool, List, ◌∷◌, ◌++◌}
+use Rattle.std.specs.List.{AllByRecursion}
+use Rattle.tape_image.specs.Tape.{TapeItem, mark}
+use Rattle.tape_set.specs.Layout.{FileSet, items}
+use Rattle.tape_set.specs.Reading.{as_read}
+use Rattle.tape_core.specs.declared.normal.code.Code.{Code}
+use Rattle.tape_core.specs.NormalForm.{normal, of_data, of_trailer}
+
+-- A copy of a volume of a valid set is its own normal form, however damaged it is, and wherever it
+-- ends.
+abbrev pub NormalKeeps : FileSet → Type 0
+NormalKeeps set = (k : ℕ) (good : List Bool)
+    → normal (as_read (items set k) good) ≡ as_read (items set k) good
+
+-- the item is not a mark
+abbrev pub IsNoMark : TapeItem → Type 0
+IsNoMark mark = ⊥
+IsNoMark item = Unit {0}
+
+-- The data of a file are the same in the normal form, up to the mark after them or to the end of
+-- the tape, whatever they are.
+abbrev pub DataKept : Type 0
+DataKept =
+    (code : Code) (data' : List TapeItem) → AllByRecursion IsNoMark data'
+    → (of_data code data' ≡ data')
+    × ((rest : List TapeItem)
+    → of_data code (data' ++ mark ∷ rest) ≡ data' ++ mark ∷ of_trailer code rest)

@@ -1,0 +1,180 @@
+-- The machine's places as parts of a tape.
+use Rattle.std.specs.Prelude.{◌≡◌, ℕ, ◌+◌, ◌==◌, length, nat_lt, ◌&&◌, not, if◌then◌else◌, List, []}
+use Rattle.std.specs.Prelude.{◌∷◌, ◌++◌}
+use Rattle.std.specs.Prelude.{Option, Some, None}
+use Rattle.std.specs.Str.{bytes_eq}
+use Rattle.tape_image.specs.Tape.{TapeItem, block, bad, mark}
+use Rattle.tape_label.specs.{Kinds.kind_at, VolumeLabels.is_volume_label}
+use Rattle.tape_core.specs.declared.normal.code.Code.{Code}
+use Rattle.tape_core.specs.declared.normal.code.Code.TheVariants.{Ascii, Ebcdic}
+use Rattle.tape_core.specs.NormalForm.{Codes.in_ascii, Mended.is_vol1, Mended.is_hdr1}
+use Rattle.tape_core.specs.NormalForm.{Mended.is_hdr2}
+use Rattle.tape_core.specs.NormalForm.Mended.{is_first_trailer, is_dummy, is_further, mended}
+use Rattle.tape_core.specs.NormalForm.{is_noise, most_dropped}
+use Rattle.tape_core.specs.declared.normal.machine.{TapePlace.TapePlace, Missing.Missing}
+use Rattle.tape_core.specs.declared.normal.machine.{Replacement.Replacement, Change.Change}
+use Rattle.tape_core.specs.declared.normal.machine.TapePlace.TheVariants.{Start, Labels, Blank}
+use Rattle.tape_core.specs.declared.normal.machine.TapePlace.TheVariants.{Second}
+use Rattle.tape_core.specs.declared.normal.machine.TapePlace.TheVariants.{Headers, Data, Trailer}
+use Rattle.tape_core.specs.declared.normal.machine.TapePlace.TheVariants.{Trailers}
+use Rattle.tape_core.specs.declared.normal.machine.TapePlace.TheVariants.{Next, Ended, Over}
+use Rattle.tape_core.specs.declared.normal.machine.Missing.TheVariants.{Nothing, VolumeLabel}
+use Rattle.tape_core.specs.declared.normal.machine.Missing.TheVariants.{SecondLabel}
+use Rattle.tape_core.specs.declared.normal.machine.Replacement.TheVariants.{Same, Dropped, Label}
+use Rattle.tape_core.specs.NormalForm.{of_start, of_labels, of_blank, of_second, of_headers}
+use Rattle.tape_core.specs.NormalForm.{of_data}
+use Rattle.tape_core.specs.NormalForm.{of_trailer, of_trailers, of_next, of_ended}
+use Rattle.tape_core.specs.NormalForm.Mended.{no_volume_label}
+
+-- the normal form of the items from this place on
+abbrev pub from : TapePlace → List TapeItem → List TapeItem
+from (Start n) items = of_start n items
+from (Labels code n) items = of_labels code n items
+from Blank items = of_blank items
+from (Second code) items = of_second code items
+from (Headers code) items = of_headers code items
+from (Data code) items = of_data code items
+from (Trailer code) items = of_trailer code items
+from (Trailers code) items = of_trailers code items
+from (Next code) items = of_next code items
+from Ended items = of_ended items
+from Over items = items
+
+-- the label that is inserted for a missing one
+abbrev pub inserted_label : Missing → Option (List ℕ)
+inserted_label Nothing = None
+inserted_label VolumeLabel = Some no_volume_label
+inserted_label SecondLabel = None
+
+-- the same as an item
+abbrev pub inserted : Missing → List TapeItem
+inserted Nothing = []
+inserted VolumeLabel = block no_volume_label ∷ []
+inserted SecondLabel = []
+
+-- what replaces the item
+abbrev pub instead : Replacement → TapeItem → List TapeItem
+instead Same item = item ∷ []
+instead Dropped item = []
+instead (Label text) item = block text ∷ []
+
+-- the items that a change gives: at most two
+abbrev pub given : Change → TapeItem → List TapeItem
+given change item = inserted change.missing ++ instead change.instead item
+
+-- ---- the table of the machine
+
+-- the item as it is
+abbrev pub same : Change
+same = record { missing = Nothing; instead = Same }
+
+-- nothing instead of the item
+abbrev pub dropped : Change
+dropped = record { missing = Nothing; instead = Dropped }
+
+-- a label in this code
+abbrev pub instead_in : Code → List ℕ → Replacement
+instead_in Ascii text = Same
+instead_in Ebcdic text = Label text
+
+-- the label in ASCII, preceded by one that is missing
+abbrev pub translated_with : Missing → Code → List ℕ → Change
+translated_with adds code text = record { missing = adds; instead = instead_in code text }
+
+-- after a label with which a tape begins
+abbrev pub begin_in : Code → List ℕ → Option (TapePlace × Change)
+begin_in code text =
+    if is_vol1 (kind_at text) then Some (Labels code 0, translated_with Nothing code text)
+    else if is_hdr1 (kind_at text) then Some (Second code, translated_with VolumeLabel code text)
+    else None
+
+-- the first of two that there is
+abbrev pub either : {A : Type 0} → Option A → Option A → Option A
+either (Some x) other = Some x
+either None other = other
+
+abbrev pub begin_at : List ℕ → Option (TapePlace × Change)
+begin_at b = either (begin_in Ascii (in_ascii Ascii b)) (begin_in Ebcdic (in_ascii Ebcdic b))
+
+-- an item before the first label is dropped, unless there were too many
+abbrev pub drop_first : ℕ → TapePlace × Change
+drop_first n = if nat_lt n most_dropped then (Start (n + 1), dropped) else (Over, same)
+
+abbrev pub start_at : ℕ → List ℕ → Option (TapePlace × Change) → TapePlace × Change
+start_at n b (Some begun) = begun
+start_at n b None = if is_noise b then drop_first n else (Over, same)
+
+abbrev pub drop_block : Code → ℕ → TapePlace × Change
+drop_block code n = if nat_lt n most_dropped then (Labels code (n + 1), dropped) else (Over, same)
+
+abbrev pub labels_at : Code → ℕ → List ℕ → TapePlace × Change
+labels_at code n text =
+    if is_volume_label text then (Labels code n, translated_with Nothing code text)
+    else if is_hdr1 (kind_at text) && not (is_dummy text)
+    then (Second code, translated_with Nothing code text)
+    else drop_block code n
+
+-- a second label that is kept as it is, or changed
+abbrev pub second_instead : Code → List ℕ → Replacement
+second_instead Ascii text = if bytes_eq (mended text) text then Same else Label (mended text)
+second_instead Ebcdic text = Label (mended text)
+
+abbrev pub second_at : Code → List ℕ → TapePlace × Change
+second_at code text =
+    if is_hdr2 (kind_at text)
+    then (Headers code, record { missing = Nothing; instead = second_instead code text })
+    else if is_further text then (Headers code, translated_with SecondLabel code text)
+    else (Over, same)
+
+-- any label; a block of another length is not one
+abbrev pub any_at : Code → List ℕ → Change
+any_at code b = if length b == 80 then translated_with Nothing code (in_ascii code b) else same
+
+abbrev pub trailer_at : Code → List ℕ → TapePlace × Change
+trailer_at code text =
+    if is_first_trailer (kind_at text) then (Trailers code, translated_with Nothing code text)
+    else (Over, same)
+
+abbrev pub next_at : Code → List ℕ → TapePlace × Change
+next_at code text =
+    if is_hdr1 (kind_at text) then (Second code, translated_with Nothing code text)
+    else (Over, same)
+
+abbrev pub ended_at : Option (TapePlace × Change) → TapePlace × Change
+ended_at (Some begun) = (Over, same)
+ended_at None = (Ended, dropped)
+
+-- what comes after an item, and what replaces it
+abbrev pub step_of : TapePlace → TapeItem → TapePlace × Change
+step_of (Start n) (block b) = start_at n b (begin_at b)
+step_of (Start n) mark = drop_first n
+step_of (Start n) bad = (Over, same)
+step_of (Labels code n) (block b) = labels_at code n (in_ascii code b)
+step_of (Labels code n) mark = (Blank, same)
+step_of (Labels code n) bad = (Over, same)
+step_of Blank mark = (Ended, same)
+step_of Blank _ = (Over, same)
+step_of (Second code) (block b) = second_at code (in_ascii code b)
+step_of (Second code) mark = (Data code, record { missing = SecondLabel; instead = Same })
+step_of (Second code) bad = (Over, same)
+step_of (Headers code) (block b) = (Headers code, any_at code b)
+step_of (Headers code) mark = (Data code, same)
+step_of (Headers code) bad = (Over, same)
+step_of (Data code) mark = (Trailer code, same)
+step_of (Data code) _ = (Data code, same)
+step_of (Trailer code) (block b) = trailer_at code (in_ascii code b)
+step_of (Trailer code) _ = (Over, same)
+step_of (Trailers code) (block b) = (Trailers code, any_at code b)
+step_of (Trailers code) mark = (Next code, same)
+step_of (Trailers code) bad = (Over, same)
+step_of (Next code) (block b) = next_at code (in_ascii code b)
+step_of (Next code) mark = (Ended, same)
+step_of (Next code) bad = (Over, same)
+step_of Ended (block b) = ended_at (begin_at b)
+step_of Ended _ = (Ended, dropped)
+step_of Over _ = (Over, same)
+
+-- The item gives these items, and the rest of the tape is then that of the next place.
+abbrev pub Gives : TapePlace → TapeItem → TapePlace → Change → Type 0
+Gives place item next change = (rest : List TapeItem)
+    → from place (item ∷ rest) ≡ given change item ++ from next rest

@@ -1,0 +1,30 @@
+//! Laws about the normal form, each the contract of a function that does nothing.
+
+ghost use Rattle.tape_set.specs.{Layout.FileSet, Lawful.IsLawful};
+ghost use Rattle.tape_core.specs.NormalForm.{Ahead.NormalIsAhead, Ahead.BehindIsAhead};
+ghost use Rattle.tape_core.specs.NormalForm.Laws.{NormalKeeps, DataKept};
+
+/// A copy of a volume of a valid set is its own normal form, however damaged it is, and wherever it
+/// ends.
+#[tactic(auto, using(crate::proofs::NormalForm::Same::normal_keeps))]
+pub fn normal_keeps()
+    ensures { (set : FileSet) → IsLawful set → NormalKeeps set }
+{}
+
+/// The data of a file are the same in the normal form, whatever they look like.
+pub fn data_kept()
+    ensures { DataKept }
+{}
+
+/// A reader takes from the normal form of any tape all that it takes from the tape, and comes to
+/// the same end of the section or the file.
+#[tactic(auto, using(crate::proofs::NormalForm::Ahead::normal_is_ahead))]
+pub fn normal_is_ahead()
+    ensures { NormalIsAhead }
+{}
+
+/// The same holds for a reader that begins after a trailer label.
+#[tactic(auto, using(crate::proofs::NormalForm::Ahead::behind_is_ahead))]
+pub fn behind_is_ahead()
+    ensures { BehindIsAhead }
+{}

@@ -1,0 +1,353 @@
+//! The machine that turns a tape into its normal form, one item at a time.
+
+ghost use Rattle.std.specs.Prelude.{◌≡◌, ◌≢◌, ◌||◌, ℕ, IfSome, IfNone, is_some, option_map, length};
+ghost use Rattle.std.specs.Prelude.{true, false};
+ghost use Rattle.tape_image.specs.{Tape.TapeItem, Tape.block, Reader.tape_item};
+ghost use Rattle.tape_core.specs.NormalForm.Codes.{in_ascii as in_ascii'};
+ghost use Rattle.tape_core.specs.NormalForm.Steps.{Gives, inserted_label, step_of, begin_at};
+ghost use Rattle.tape_core.specs.NormalForm.Steps.{begin_in, labels_at};
+ghost use Rattle.tape_core.specs.NormalForm.Steps.{any_at, second_at, next_at, trailer_at};
+ghost use Rattle.tape_core.specs.NormalForm.Steps.{translated_with, instead_in};
+ghost use Rattle.tape_core.specs.NormalForm.Steps.{drop_block, drop_first};
+ghost use Rattle.tape_core.specs.NormalForm.{begins_tape};
+ghost use Rattle.tape_core.specs.NormalForm.Mended.{is_further, is_dummy};
+
+use crate::normal::code::{Code, in_ascii};
+use crate::normal::mend::mended;
+use tape_image::Item;
+use tape_label::{Kind, is_volume_label, kind, read_head1};
+
+/// What is expected next on a tape.
+#[derive(Clone, Copy, Debug, PartialEq, Eq)]
+pub enum TapePlace {
+    /// The volume label, after so many items that are not labels and were dropped.
+    Start(u8),
+    /// A further volume label or the first file, after so many dropped blocks.
+    Labels(Code, u8),
+    /// The second mark of a volume without files.
+    Blank,
+    /// The second label of a file.
+    Second(Code),
+    /// Further labels of a file, up to a mark.
+    Headers(Code),
+    /// The data of a file, up to a mark.
+    Data(Code),
+    /// The first trailer label of a file.
+    Trailer(Code),
+    /// Further trailer labels, up to a mark.
+    Trailers(Code),
+    /// The next file, or the second mark.
+    Next(Code),
+    /// Nothing: the volume has ended.
+    Ended,
+    /// Anything: after an unexpected item the rest of the tape is left unchanged.
+    Over,
+}
+
+/// A label that is missing on a tape.
+#[derive(Clone, Copy, Debug, PartialEq, Eq)]
+pub enum Missing {
+    /// None.
+    Nothing,
+    /// The volume label, which is inserted.
+    VolumeLabel,
+    /// The second header label. None is inserted: it would hide that the form of the records is
+    /// not known.
+    SecondLabel,
+}
+
+/// What replaces an item.
+#[derive(Clone, Copy, Debug, PartialEq, Eq)]
+pub enum Replacement {
+    /// The item itself.
+    Same,
+    /// Nothing.
+    Dropped,
+    /// A label.
+    Label([u8; 80]),
+}
+
+/// What replaces an item, and which label is missing before it.
+#[derive(Clone, Copy, Debug, PartialEq, Eq)]
+pub struct Change {
+    /// The label that is missing before the item.
+    pub missing: Missing,
+    /// What replaces the item.
+    pub instead: Replacement,
+}
+
+/// The greatest number of items that are dropped before the first label, and before the first file.
+const MOST_DROPPED: u8 = 64;
+
+/// The first header label of a volume without files.
+const DUMMY: &[u8; 80] =
+    b"HDR10000000000000000000000000000000000000000000000000000000000000000000000000000";
+
+/// Blocks shorter than this are noise before the first label. The shortest labels have 14 bytes.
+const NOISE: usize = 14;
+
+/// The volume label of a tape that has none.
+const NO_VOLUME_LABEL: &[u8; 80] =
+    b"VOL1                                                                           4";
+
+impl Missing {
+    /// Returns the label that is inserted before the item, if any.
+    pub fn label(&self) -> Option<&'static [u8; 80]>
+        ensures { option_map (λ t. t.now) result ≡ inserted_label self.now }
+    {
+        match self {
+            Missing::Nothing => None,
+            Missing::VolumeLabel => Some(NO_VOLUME_LABEL),
+            Missing::SecondLabel => None,
+        }
+    }
+}
+
+/// The item unchanged, with no label missing.
+const SAME: Change = Change {
+    missing: Missing::Nothing,
+    instead: Replacement::Same,
+};
+
+/// Nothing instead of the item.
+const DROPPED: Change = Change {
+    missing: Missing::Nothing,
+    instead: Replacement::Dropped,
+};
+
+/// Returns a label in ASCII: the item itself if it is in ASCII already.
+fn instead_in(code: Code, label: [u8; 80]) -> Replacement
+    ensures { result ≡ instead_in code label }
+{
+    match code {
+        Code::Ascii => Replacement::Same,
+        Code::Ebcdic => Replacement::Label(label),
+    }
+}
+
+/// Returns the change that translates a label to ASCII.
+fn translated(code: Code, label: [u8; 80]) -> Change
+    ensures { result ≡ translated_with Missing.Nothing code label }
+{
+    Change {
+        missing: Missing::Nothing,
+        instead: instead_in(code, label),
+    }
+}
+
+/// Returns the bytes of a block of 80.
+fn eighty(bytes: &[u8]) -> Option<&[u8; 80]>
+    ensures some { IfSome result (λ label. label.now ≡ bytes.now) }
+    ensures none { result ≡ None → length bytes.now ≢ 80 }
+{
+    bytes.try_into().ok()
+}
+
+/// Returns whether the label is a further label of a file: `HDR3` to `HDR9`, or a label of a user.
+fn is_further(label: &[u8; 80]) -> bool
+    ensures { result ≡ is_further label.now }
+{
+    match &label[..3] {
+        b"HDR" => matches!(label[3], b'3'..=b'9'),
+        b"UHL" => true,
+        _ => false,
+    }
+}
+
+/// Returns whether the label is an `HDR1` of zeros alone, as volumes without files have it.
+fn is_dummy(label: &[u8; 80]) -> bool
+    ensures { result ≡ is_dummy label.now }
+{
+    read_head1(label).is_err() && label.as_slice() == DUMMY.as_slice()
+}
+
+/// Takes a block as the first label, in either code.
+#[tactic(auto, using(crate::proofs::NormalForm::Eighty::no_beginning))]
+fn begin(bytes: &[u8]) -> Option<(TapePlace, Change)>
+    ensures { result ≡ begin_at bytes.now }
+{
+    let label = eighty(bytes)?;
+    begin_in(Code::Ascii, label).or(begin_in(Code::Ebcdic, label))
+}
+
+/// Takes a block as the first label, in the given code.
+fn begin_in(code: Code, label: &[u8; 80]) -> Option<(TapePlace, Change)>
+    ensures { result ≡ begin_in code (in_ascii' code label.now) }
+{
+    let text = in_ascii(code, label);
+    match kind(&text) {
+        Some(Kind::Vol1) => Some((TapePlace::Labels(code, 0), translated(code, text))),
+        Some(Kind::Hdr1) => Some((
+            TapePlace::Second(code),
+            Change {
+                missing: Missing::VolumeLabel,
+                instead: instead_in(code, text),
+            },
+        )),
+        _ => None,
+    }
+}
+
+/// Takes a block after the volume label: a label, or a block to be dropped.
+#[tactic(auto, using(crate::proofs::NormalForm::Eighty::no_kind_of, crate::proofs::NormalForm::Eighty::no_volume_label_of))]
+fn label_of_volume(code: Code, dropped: u8, bytes: &[u8]) -> (TapePlace, Change)
+    ensures { result ≡ labels_at code dropped (in_ascii' code bytes.now) }
+{
+    let Some(label) = eighty(bytes) else {
+        return drop_block(code, dropped);
+    };
+    let text = in_ascii(code, label);
+    if is_volume_label(&text) {
+        return (TapePlace::Labels(code, dropped), translated(code, text));
+    }
+    match kind(&text) {
+        Some(Kind::Hdr1) if !is_dummy(&text) => (TapePlace::Second(code), translated(code, text)),
+        _ => drop_block(code, dropped),
+    }
+}
+
+/// Drops a block between the labels of the volume and the first file, unless there are too many.
+fn drop_block(code: Code, dropped: u8) -> (TapePlace, Change)
+    ensures { result ≡ drop_block code dropped }
+{
+    if dropped < MOST_DROPPED {
+        (TapePlace::Labels(code, dropped + 1), DROPPED)
+    } else {
+        (TapePlace::Over, SAME)
+    }
+}
+
+/// Drops an item before the first label, unless there are too many.
+fn drop_first(dropped: u8) -> (TapePlace, Change)
+    ensures { result ≡ drop_first dropped }
+{
+    if dropped < MOST_DROPPED {
+        (TapePlace::Start(dropped + 1), DROPPED)
+    } else {
+        (TapePlace::Over, SAME)
+    }
+}
+
+/// Takes a block after an `HDR1`.
+#[tactic(auto, using(crate::proofs::NormalForm::Eighty::second_over))]
+fn second_label(code: Code, bytes: &[u8]) -> (TapePlace, Change)
+    ensures { result ≡ second_at code (in_ascii' code bytes.now) }
+{
+    let Some(label) = eighty(bytes) else {
+        return (TapePlace::Over, SAME);
+    };
+    let text = in_ascii(code, label);
+    if let Some(Kind::Hdr2) = kind(&text) {
+        let filled = mended(&text);
+        let instead = match code {
+            Code::Ascii if filled == text => Replacement::Same,
+            _ => Replacement::Label(filled),
+        };
+        let change = Change {
+            missing: Missing::Nothing,
+            instead,
+        };
+        return (TapePlace::Headers(code), change);
+    }
+    if is_further(&text) {
+        let change = Change {
+            missing: Missing::SecondLabel,
+            instead: instead_in(code, text),
+        };
+        return (TapePlace::Headers(code), change);
+    }
+    (TapePlace::Over, SAME)
+}
+
+/// Takes a block where any label may be.
+fn any_label(code: Code, bytes: &[u8]) -> Change
+    ensures { result ≡ any_at code bytes.now }
+{
+    match eighty(bytes) {
+        Some(label) => translated(code, in_ascii(code, label)),
+        None => SAME,
+    }
+}
+
+/// Takes a block where the `HDR1` of the next file may be.
+#[tactic(auto, using(crate::proofs::NormalForm::Eighty::no_kind_of))]
+fn next_header(code: Code, bytes: &[u8]) -> (TapePlace, Change)
+    ensures { result ≡ next_at code (in_ascii' code bytes.now) }
+{
+    let Some(label) = eighty(bytes) else {
+        return (TapePlace::Over, SAME);
+    };
+    let text = in_ascii(code, label);
+    match kind(&text) {
+        Some(Kind::Hdr1) => (TapePlace::Second(code), translated(code, text)),
+        _ => (TapePlace::Over, SAME),
+    }
+}
+
+/// Takes a block where the first trailer label is expected.
+#[tactic(auto, using(crate::proofs::NormalForm::Eighty::no_kind_of))]
+fn first_trailer(code: Code, bytes: &[u8]) -> (TapePlace, Change)
+    ensures { result ≡ trailer_at code (in_ascii' code bytes.now) }
+{
+    let Some(label) = eighty(bytes) else {
+        return (TapePlace::Over, SAME);
+    };
+    let text = in_ascii(code, label);
+    match kind(&text) {
+        Some(Kind::Eof1 | Kind::Eov1) => (TapePlace::Trailers(code), translated(code, text)),
+        _ => (TapePlace::Over, SAME),
+    }
+}
+
+/// Returns what is expected after an item, and what replaces the item. Does not allocate.
+#[tactic(auto, using(crate::proofs::NormalForm::Agree::table_gives))]
+pub fn step(place: TapePlace, item: Item<'_>) -> (TapePlace, Change)
+    // The items that the change yields, followed by the normal form of the rest, are the normal
+    // form of the item and the rest.
+    ensures gives { Gives place (tape_item item.entry) result.0 result.1 }
+    ensures exact { result ≡ step_of place (tape_item item.entry) }
+{
+    match item {
+        Item::Block(bytes) => match place {
+            TapePlace::Start(dropped) => match begin(bytes) {
+                Some(begun) => begun,
+                None if bytes.len() < NOISE => drop_first(dropped),
+                None => (TapePlace::Over, SAME),
+            },
+            TapePlace::Labels(code, dropped) => label_of_volume(code, dropped, bytes),
+            TapePlace::Second(code) => second_label(code, bytes),
+            TapePlace::Headers(code) => (place, any_label(code, bytes)),
+            TapePlace::Data(_) => (place, SAME),
+            TapePlace::Trailer(code) => first_trailer(code, bytes),
+            TapePlace::Trailers(code) => (place, any_label(code, bytes)),
+            TapePlace::Next(code) => next_header(code, bytes),
+            TapePlace::Ended => match begin(bytes) {
+                Some(_) => (TapePlace::Over, SAME),
+                None => (TapePlace::Ended, DROPPED),
+            },
+            TapePlace::Blank | TapePlace::Over => (TapePlace::Over, SAME),
+        },
+        Item::Bad => match place {
+            TapePlace::Data(_) => (place, SAME),
+            TapePlace::Ended => (TapePlace::Ended, DROPPED),
+            _ => (TapePlace::Over, SAME),
+        },
+        Item::Mark => match place {
+            TapePlace::Start(dropped) => drop_first(dropped),
+            TapePlace::Labels(_, _) => (TapePlace::Blank, SAME),
+            TapePlace::Second(code) => {
+                let change = Change {
+                    missing: Missing::SecondLabel,
+                    instead: Replacement::Same,
+                };
+                (TapePlace::Data(code), change)
+            }
+            TapePlace::Headers(code) => (TapePlace::Data(code), SAME),
+            TapePlace::Data(code) => (TapePlace::Trailer(code), SAME),
+            TapePlace::Trailers(code) => (TapePlace::Next(code), SAME),
+            TapePlace::Next(_) | TapePlace::Blank => (TapePlace::Ended, SAME),
+            TapePlace::Ended => (TapePlace::Ended, DROPPED),
+            TapePlace::Trailer(_) | TapePlace::Over => (TapePlace::Over, SAME),
+        },
+    }
+}

@@ -1,0 +1,156 @@
+//! Tests of the normal form: tapes written out by hand, and what replaces each of their items.
+
+use std::process::Abort;
+use tape_core::normal::{Change, Missing, Replacement, TapePlace, step};
+use tape_image::Item;
+
+const VOL1: &[u8; 80] =
+    b"VOL1ABC001                           SMITH                                     4";
+
+const HDR1: &[u8; 80] =
+    b"HDR1PAYROLL          ABC00100010001000100 85113 00000 000000SYSTEM              ";
+
+const HDR2: &[u8; 80] =
+    b"HDR2F0080000080                                   00                            ";
+
+const BLANK2: &[u8; 80] =
+    b"HDR2F00800   80                                                                 ";
+
+const HDR3: &[u8; 80] =
+    b"HDR3                                                                            ";
+
+const EOF1: &[u8; 80] =
+    b"EOF1PAYROLL          ABC00100010001000100 85113 00000 000002SYSTEM              ";
+
+const DUMMY: &[u8; 80] =
+    b"HDR10000000000000000000000000000000000000000000000000000000000000000000000000000";
+
+/// Returns a capital letter, digit or blank in code page 037. There the letters are in three runs.
+fn in_ebcdic(character: u8) -> u8 {
+    match character {
+        b'A'..=b'I' => 0xC1 + (character - b'A'),
+        b'J'..=b'R' => 0xD1 + (character - b'J'),
+        b'S'..=b'Z' => 0xE2 + (character - b'S'),
+        b'0'..=b'9' => 0xF0 + (character - b'0'),
+        _ => 0x40,
+    }
+}
+
+/// Returns a label in code page 037.
+fn ebcdic(label: &[u8; 80]) -> [u8; 80] {
+    let mut text = *label;
+    for at in 0..80 {
+        text[at] = in_ebcdic(label[at]);
+    }
+    text
+}
+
+/// Returns the label of a letter: in EBCDIC for a small letter.
+fn label(letter: u8) -> Option<[u8; 80]> {
+    Some(match letter {
+        b'V' => *VOL1,
+        b'H' => *HDR1,
+        b'S' => *HDR2,
+        b'P' => *BLANK2,
+        b'T' => *HDR3,
+        b'E' => *EOF1,
+        b'Z' => *DUMMY,
+        b'v' => ebcdic(VOL1),
+        b'h' => ebcdic(HDR1),
+        b's' => ebcdic(HDR2),
+        b'e' => ebcdic(EOF1),
+        _ => return None,
+    })
+}
+
+/// Returns the label in ASCII that is expected instead of the label of a letter.
+fn ascii(letter: u8) -> &'static [u8; 80] {
+    match letter {
+        b'v' => VOL1,
+        b'h' => HDR1,
+        b's' | b'P' => HDR2,
+        _ => EOF1,
+    }
+}
+
+/// Does the step for a letter: a label, `m` a mark, `b` an unreadable block, `n` four bytes of
+/// noise, any other letter a block of 512 bytes.
+fn step_of(place: TapePlace, letter: u8) -> (TapePlace, Change) {
+    let long = [b'D'; 512];
+    match (letter, label(letter)) {
+        (b'm', _) => step(place, Item::Mark),
+        (b'b', _) => step(place, Item::Bad),
+        (b'n', _) => step(place, Item::Block(&long[..4])),
+        (_, Some(text)) => step(place, Item::Block(&text)),
+        (_, None) => step(place, Item::Block(&long)),
+    }
+}
+
+/// Returns what happened to the item of a letter: `=` it is kept, `-` dropped, `A` it became its
+/// label in ASCII, `+` it is kept and `&` it became its label after an inserted volume label, `2` it
+/// is kept and a second label is missing.
+fn shown(change: &Change, letter: u8) -> u8 {
+    match (change.missing, change.instead) {
+        (Missing::Nothing, Replacement::Same) => b'=',
+        (Missing::Nothing, Replacement::Dropped) => b'-',
+        (Missing::VolumeLabel, Replacement::Same) => b'+',
+        (Missing::SecondLabel, Replacement::Same) => b'2',
+        (Missing::Nothing, Replacement::Label(text)) if text == *ascii(letter) => b'A',
+        (Missing::VolumeLabel, Replacement::Label(text)) if text == *ascii(letter) => b'&',
+        _ => b'?',
+    }
+}
+
+/// Checks what happens to each item of a tape.
+fn becomes(rt: &impl Abort, items: &str, wanted: &str) {
+    let mut got = [b' '; 16];
+    let mut place = TapePlace::Start(0);
+    let count = items.len().min(16);
+    for at in 0..count {
+        let letter = items.as_bytes()[at];
+        let (next, change) = step_of(place, letter);
+        got[at] = shown(&change, letter);
+        place = next;
+    }
+    assert_eq!(rt; &got[..count], wanted.as_bytes(), "{items}");
+}
+
+#[test]
+fn tapes_and_their_normal_forms(rt: HostRuntime) {
+    let tapes = [
+        ("VHSmDDmEmm", "=========="),
+        ("vhsmeDmemm", "AAA====A=="),
+        ("VHSmVHEmEmm", "==========="),
+        ("mnVHSm", "--===="),
+        ("VDHSm", "=-==="),
+        ("HSmD", "+==="),
+        ("hsmD", "&A=="),
+        ("bHSm", "===="),
+        ("DmVHS", "====="),
+        ("VHmD", "==2="),
+        ("VHTmD", "==2=="),
+        ("VHbmD", "====="),
+        ("VHPmD", "==A=="),
+        ("VHSmDmEmmDmbH", "=========---="),
+        ("VZmmD", "=-==-"),
+        ("vhsmDbDmemhsm", "AAA=====A=AA="),
+        ("vhsmDDbemhsm", "AAA========="),
+    ];
+    for (items, wanted) in tapes {
+        becomes(&rt, items, wanted);
+    }
+}
+
+#[test]
+fn at_most_64_items_are_dropped(rt: HostRuntime) {
+    let mut place = TapePlace::Start(0);
+    let mut dropped = 0;
+    for _ in 0..65 {
+        let (next, change) = step(place, Item::Mark);
+        if change.instead == Replacement::Dropped {
+            dropped += 1;
+        }
+        place = next;
+    }
+    assert_eq!(rt; (dropped, place), (64, TapePlace::Over));
+}
