@@ -29,6 +29,7 @@ pub mod WideLawful
 pub mod Laid
 pub mod Crashes
 pub mod Overlap
+pub mod Eighty
 pub mod NormalForm
 mod Cases
 mod Examples

@@ -3,6 +3,5 @@
 pub mod Agree
 pub mod Ahead
 pub mod Data
-pub mod Eighty
 pub mod KindKept
 pub mod Same

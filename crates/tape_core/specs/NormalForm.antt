@@ -11,11 +11,12 @@ use Rattle.std.specs.Prelude.{ℕ, ◌+◌, nat_lt, ◌&&◌, ◌||◌, not, Boo
 use Rattle.std.specs.Prelude.{if◌then◌else◌}
 use Rattle.tape_image.specs.Tape.{TapeItem, block, bad, mark}
 use Rattle.tape_label.specs.{Kinds.kind_at, VolumeLabels.is_volume_label}
+use Rattle.tape_label.specs.WideHead2.{is_further_header}
 use Rattle.tape_core.specs.declared.normal.code.Code.{Code}
 use Rattle.tape_core.specs.declared.normal.code.Code.TheVariants.{Ascii, Ebcdic}
 use Rattle.tape_core.specs.NormalForm.{Codes.in_ascii, Mended.is_vol1, Mended.is_hdr1}
 use Rattle.tape_core.specs.NormalForm.{Mended.is_hdr2}
-use Rattle.tape_core.specs.NormalForm.Mended.{is_first_trailer, is_dummy, is_further, mended}
+use Rattle.tape_core.specs.NormalForm.Mended.{is_first_trailer, is_dummy, mended}
 use Rattle.tape_core.specs.NormalForm.Mended.{no_volume_label}
 
 -- the greatest number of items that are dropped before VOL1, or between VOL1 and HDR1
@@ -73,7 +74,7 @@ abbrev mutual
   of_second code (block b ∷ xs) =
       if is_hdr2 (kind_at (in_ascii code b))
       then block (mended (in_ascii code b)) ∷ of_headers code xs
-      else if is_further (in_ascii code b)
+      else if is_further_header (in_ascii code b)
       then block (in_ascii code b) ∷ of_headers code xs
       else block b ∷ xs
   of_second code (mark ∷ xs) = mark ∷ of_data code xs

@@ -5,6 +5,7 @@ use Rattle.std.proofs.lemmas.Slice.Eq.{bytes_eq-Decides}
 use Rattle.std.specs.Str.{bytes_eq}
 use Rattle.tape_image.specs.Tape.{TapeItem, block, bad, mark}
 use Rattle.tape_label.specs.{Kinds.kind_at, VolumeLabels.is_volume_label}
+use Rattle.tape_label.specs.WideHead2.{is_further_header}
 use Rattle.tape_core.specs.declared.normal.code.Code.{Code}
 use Rattle.tape_core.specs.declared.normal.code.Code.TheVariants.{Ascii, Ebcdic}
 use Rattle.tape_core.specs.declared.normal.machine.{TapePlace.TapePlace, Missing.Missing}
@@ -19,7 +20,7 @@ use Rattle.tape_core.specs.declared.normal.machine.Replacement.TheVariants as re
 use Rattle.tape_core.specs.declared.normal.machine.Missing.TheVariants.{SecondLabel}
 use Rattle.tape_core.specs.NormalForm.{Codes.in_ascii, Mended.is_vol1, Mended.is_hdr1}
 use Rattle.tape_core.specs.NormalForm.{Mended.is_hdr2}
-use Rattle.tape_core.specs.NormalForm.Mended.{is_first_trailer, is_dummy, is_further, mended}
+use Rattle.tape_core.specs.NormalForm.Mended.{is_first_trailer, is_dummy, mended}
 use Rattle.tape_core.specs.NormalForm.{is_noise, most_dropped, of_labels, of_second}
 use Rattle.tape_core.specs.NormalForm.{of_trailers, of_headers}
 use Rattle.tape_core.specs.NormalForm.Steps.{Gives, step_of, from, given, instead, instead_in}
@@ -82,7 +83,7 @@ module _ (b : List ℕ) (xs : List TapeItem) where
   trailer_gives code false e = rw (e) refl
 
   second_gives : (code : Code) (t u : Bool) → is_hdr2 (kind_at (in_ascii code b)) ≡ t
-      → is_further (in_ascii code b) ≡ u
+      → is_further_header (in_ascii code b) ≡ u
       → from (Second code) (block b ∷ xs)
       ≡ given (second_at code (in_ascii code b)).1 (block b)
       ++ from (second_at code (in_ascii code b)).0 xs
@@ -154,7 +155,7 @@ table_gives Blank (block b) xs = refl
 table_gives Blank mark xs = refl
 table_gives Blank bad xs = refl
 table_gives (Second code) (block b) xs =
-    second_gives b xs code (is_hdr2 (kind_at (in_ascii code b))) (is_further (in_ascii code b))
+    second_gives b xs code (is_hdr2 (kind_at (in_ascii code b))) (is_further_header (in_ascii code b))
     refl refl
 table_gives (Second code) mark xs = refl
 table_gives (Second code) bad xs = refl

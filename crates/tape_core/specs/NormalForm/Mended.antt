@@ -47,15 +47,6 @@ abbrev pub is_dummy : List ℕ → Bool
 is_dummy label =
     not (is_ok (head1_at label)) && bytes_eq label (codes "HDR1" ++ replicate 76 48)
 
--- a further header label: 80 characters that begin with `HDR3` to `HDR9`, or `UHL`
-abbrev pub is_further : List ℕ → Bool
-is_further label =
-    (length label == 80)
-    && (bytes_eq (positions label 1 3) (codes "UHL")
-    || (bytes_eq (positions label 1 3) (codes "HDR")
-    && (nat_lt 50 (slice_index label 3)
-    && nat_lt (slice_index label 3) 58)))
-
 -- ---- second labels that are changed
 
 -- zeros in place of the blanks and NULs that the characters begin with

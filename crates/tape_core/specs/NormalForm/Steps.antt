@@ -5,11 +5,12 @@ use Rattle.std.specs.Prelude.{Option, Some, None}
 use Rattle.std.specs.Str.{bytes_eq}
 use Rattle.tape_image.specs.Tape.{TapeItem, block, bad, mark}
 use Rattle.tape_label.specs.{Kinds.kind_at, VolumeLabels.is_volume_label}
+use Rattle.tape_label.specs.WideHead2.{is_further_header}
 use Rattle.tape_core.specs.declared.normal.code.Code.{Code}
 use Rattle.tape_core.specs.declared.normal.code.Code.TheVariants.{Ascii, Ebcdic}
 use Rattle.tape_core.specs.NormalForm.{Codes.in_ascii, Mended.is_vol1, Mended.is_hdr1}
 use Rattle.tape_core.specs.NormalForm.{Mended.is_hdr2}
-use Rattle.tape_core.specs.NormalForm.Mended.{is_first_trailer, is_dummy, is_further, mended}
+use Rattle.tape_core.specs.NormalForm.Mended.{is_first_trailer, is_dummy, mended}
 use Rattle.tape_core.specs.NormalForm.{is_noise, most_dropped}
 use Rattle.tape_core.specs.declared.normal.machine.{TapePlace.TapePlace, Missing.Missing}
 use Rattle.tape_core.specs.declared.normal.machine.{Replacement.Replacement, Change.Change}
@@ -123,7 +124,7 @@ abbrev pub second_at : Code → List ℕ → TapePlace × Change
 second_at code text =
     if is_hdr2 (kind_at text)
     then (Headers code, record { missing = Nothing; instead = second_instead code text })
-    else if is_further text then (Headers code, translated_with SecondLabel code text)
+    else if is_further_header text then (Headers code, translated_with SecondLabel code text)
     else (Over, same)
 
 -- any label; a block of another length is not one

@@ -10,12 +10,12 @@ ghost use Rattle.tape_core.specs.NormalForm.Steps.{any_at, second_at, next_at, t
 ghost use Rattle.tape_core.specs.NormalForm.Steps.{translated_with, instead_in};
 ghost use Rattle.tape_core.specs.NormalForm.Steps.{drop_block, drop_first};
 ghost use Rattle.tape_core.specs.NormalForm.{begins_tape};
-ghost use Rattle.tape_core.specs.NormalForm.Mended.{is_further, is_dummy};
+ghost use Rattle.tape_core.specs.NormalForm.Mended.{is_dummy};
 
 use crate::normal::code::{Code, in_ascii};
 use crate::normal::mend::mended;
 use tape_image::Item;
-use tape_label::{Kind, is_volume_label, kind, read_head1};
+use tape_label::{Kind, is_further_header, is_volume_label, kind, read_head1};
 
 /// What is expected next on a tape.
 #[derive(Clone, Copy, Debug, PartialEq, Eq)]
@@ -143,17 +143,6 @@ fn eighty(bytes: &[u8]) -> Option<&[u8; 80]>
     bytes.try_into().ok()
 }
 
-/// Returns whether the label is a further label of a file: `HDR3` to `HDR9`, or a label of a user.
-fn is_further(label: &[u8; 80]) -> bool
-    ensures { result ≡ is_further label.now }
-{
-    match &label[..3] {
-        b"HDR" => matches!(label[3], b'3'..=b'9'),
-        b"UHL" => true,
-        _ => false,
-    }
-}
-
 /// Returns whether the label is an `HDR1` of zeros alone, as volumes without files have it.
 fn is_dummy(label: &[u8; 80]) -> bool
     ensures { result ≡ is_dummy label.now }
@@ -162,7 +151,7 @@ fn is_dummy(label: &[u8; 80]) -> bool
 }
 
 /// Takes a block as the first label, in either code.
-#[tactic(auto, using(crate::proofs::NormalForm::Eighty::no_beginning))]
+#[tactic(auto, using(crate::proofs::Eighty::no_beginning))]
 fn begin(bytes: &[u8]) -> Option<(TapePlace, Change)>
     ensures { result ≡ begin_at bytes.now }
 {
@@ -189,7 +178,7 @@ fn begin_in(code: Code, label: &[u8; 80]) -> Option<(TapePlace, Change)>
 }
 
 /// Takes a block after the volume label: a label, or a block to be dropped.
-#[tactic(auto, using(crate::proofs::NormalForm::Eighty::no_kind_of, crate::proofs::NormalForm::Eighty::no_volume_label_of))]
+#[tactic(auto, using(crate::proofs::Eighty::no_kind_of, crate::proofs::Eighty::no_volume_label_of))]
 fn label_of_volume(code: Code, dropped: u8, bytes: &[u8]) -> (TapePlace, Change)
     ensures { result ≡ labels_at code dropped (in_ascii' code bytes.now) }
 {
@@ -229,7 +218,7 @@ fn drop_first(dropped: u8) -> (TapePlace, Change)
 }
 
 /// Takes a block after an `HDR1`.
-#[tactic(auto, using(crate::proofs::NormalForm::Eighty::second_over))]
+#[tactic(auto, using(crate::proofs::Eighty::second_over))]
 fn second_label(code: Code, bytes: &[u8]) -> (TapePlace, Change)
     ensures { result ≡ second_at code (in_ascii' code bytes.now) }
 {
@@ -249,7 +238,7 @@ fn second_label(code: Code, bytes: &[u8]) -> (TapePlace, Change)
         };
         return (TapePlace::Headers(code), change);
     }
-    if is_further(&text) {
+    if is_further_header(&text) {
         let change = Change {
             missing: Missing::SecondLabel,
             instead: instead_in(code, text),
@@ -270,7 +259,7 @@ fn any_label(code: Code, bytes: &[u8]) -> Change
 }
 
 /// Takes a block where the `HDR1` of the next file may be.
-#[tactic(auto, using(crate::proofs::NormalForm::Eighty::no_kind_of))]
+#[tactic(auto, using(crate::proofs::Eighty::no_kind_of))]
 fn next_header(code: Code, bytes: &[u8]) -> (TapePlace, Change)
     ensures { result ≡ next_at code (in_ascii' code bytes.now) }
 {
@@ -285,7 +274,7 @@ fn next_header(code: Code, bytes: &[u8]) -> (TapePlace, Change)
 }
 
 /// Takes a block where the first trailer label is expected.
-#[tactic(auto, using(crate::proofs::NormalForm::Eighty::no_kind_of))]
+#[tactic(auto, using(crate::proofs::Eighty::no_kind_of))]
 fn first_trailer(code: Code, bytes: &[u8]) -> (TapePlace, Change)
     ensures { result ≡ trailer_at code (in_ascii' code bytes.now) }
 {

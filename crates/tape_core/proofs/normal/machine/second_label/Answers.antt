@@ -1,5 +1,5 @@
 use Rattle.std.proofs.Common.{refl, sym}
-use Rattle.tape_core.proofs.NormalForm.Eighty.{second_over}
+use Rattle.tape_core.proofs.Eighty.{second_over}
 use Rattle.tape_core.proofs.normal.machine.second_label.Goals as goal
 
 pub returns-in_default : goal.returns-in_default

@@ -1,9 +1,10 @@
 -- A block of another length than 80 is not a label in either code.
 use Rattle.std.proofs.Common.{◌≡◌, ◌≢◌, ℕ, List, length, ◌==◌, false, None, refl, arith, ap, ◌∙◌}
 use Rattle.tape_label.specs.{Kinds.kind_at, VolumeLabels.is_volume_label}
+use Rattle.tape_label.specs.WideHead2.{is_further_header}
 use Rattle.tape_core.specs.declared.normal.code.Code.{Code}
 use Rattle.tape_core.specs.declared.normal.code.Code.TheVariants.{Ascii, Ebcdic}
-use Rattle.tape_core.specs.NormalForm.{Codes.in_ascii, Mended.is_further, Steps.begin_at}
+use Rattle.tape_core.specs.NormalForm.{Codes.in_ascii, Steps.begin_at}
 use Rattle.tape_core.specs.NormalForm.Steps.{second_at, same}
 use Rattle.tape_core.specs.declared.normal.machine.TapePlace.TheVariants.{Over}
 
@@ -29,12 +30,12 @@ pub no_volume_label_of : (code : Code) (b : List ℕ) → length b ≢ 80
     → is_volume_label (in_ascii code b) ≡ false
 no_volume_label_of code b n = ap (λ v. is_volume_label v) (same_of code b n) ∙ no_volume b n
 
-pub not_further : (b : List ℕ) → length b ≢ 80 → is_further b ≡ false
+pub not_further : (b : List ℕ) → length b ≢ 80 → is_further_header b ≡ false
 not_further b n = rw (not_80 b n) refl
 
 pub not_further_of : (code : Code) (b : List ℕ) → length b ≢ 80
-    → is_further (in_ascii code b) ≡ false
-not_further_of code b n = ap (λ v. is_further v) (same_of code b n) ∙ not_further b n
+    → is_further_header (in_ascii code b) ≡ false
+not_further_of code b n = ap (λ v. is_further_header v) (same_of code b n) ∙ not_further b n
 
 -- neither code begins a tape with such a block
 pub no_beginning : (b : List ℕ) → length b ≢ 80 → begin_at b ≡ None
