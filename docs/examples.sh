@@ -13,7 +13,7 @@ if [ ! -x "$program" ]; then
     exit 2
 fi
 if [ "$program" = "$top/tape" ] && [ ! -x "$top/crates/tape/out/tape" ]; then
-    echo "the program is not built: run ./tape --help first" >&2
+    echo "the program is not proved: run ./tape --prove first" >&2
     exit 2
 fi
 folder=$(mktemp -d) || exit 2
