@@ -1,58 +1,19 @@
 #!/usr/bin/env python3
-"""Writes the man page docs/tape.1 from the texts of the program's help.
+"""Writes the man page docs/tape.1 from the program's help.
 
-    docs/man.py                   writes the page
-    docs/man.py --check           reports if the page or docs/tape.bash is older than the help
-    docs/man.py --program PATH    reports which of these texts the help of this program does not print
+    docs/man.py [--program PATH]            writes the page
+    docs/man.py [--program PATH] --check    reports if it is out of date, with status 1
 
-The last two exit with status 1 if something differs. The texts are those of crates/tape_tool/src/help.rt
-and help/; the table below says which argument of a command has which text.
+The commands, their arguments and all texts come from the program; commands.py reads them.
 """
 import os
 import re
-import subprocess
 import sys
 import textwrap
 
-TOP = os.path.dirname(os.path.dirname(os.path.abspath(__file__)))
-SOURCE = os.path.join(TOP, "crates", "tape_tool", "src")
-PAGE = os.path.join(TOP, "docs", "tape.1")
-COMPLETION = os.path.join(TOP, "docs", "tape.bash")
+import commands
 
-# For each command its usage, and its arguments with the names of their texts in help.rt.
-COMMANDS = {
-    "list": ("[--offsets] [IMAGE]", [("IMAGE", "IMAGE"), ("--offsets", "OFFSETS")]),
-    "check": ("[--files-from LIST [--null]] [IMAGE]...", [
-        ("IMAGE", "IMAGES"), ("--files-from LIST", "FROM"), ("--null", "NULL")]),
-    "survey": ("[--tsv] [--files-from LIST [--null]] [IMAGE]...", [
-        ("IMAGE", "IMAGES"), ("--files-from LIST", "FROM"), ("--null", "NULL"), ("--tsv", "ROWS")]),
-    "compare": ("[--files-from LIST [--null]] [IMAGE]...", [
-        ("IMAGE", "READINGS"), ("--files-from LIST", "FROM"), ("--null", "NULL")]),
-    "merge": ("[--log LOG] [--files-from LIST [--null]] OUT [IMAGE]...", [
-        ("OUT", "MERGED_OUT"), ("IMAGE", "READINGS"), ("--files-from LIST", "FROM"),
-        ("--null", "NULL"), ("--log LOG", "LOG")]),
-    "extract": ("[OPTIONS] SET FILE OUT [IMAGE]...", [
-        ("SET", "SET"), ("FILE", "FILE"), ("OUT", "OUT"), ("IMAGE", "REELS"),
-        ("--files-from LIST", "FROM"), ("--null", "NULL"),
-        ("--form lines|raw", "FORM_OF_OUT"), ("--stage PATH", "STAGE"),
-        ("--again", "AGAIN")]),
-    "unpack": ("[OPTIONS] [--files-from LIST [--null]] DIR [IMAGE]...", [
-        ("DIR", "FOLDER_OF_FILES"), ("IMAGE", "SHELF"), ("--files-from LIST", "FROM"),
-        ("--null", "NULL"), ("--form lines|raw", "FORM_OF_OUT"), ("--set SET", "SET_TO_UNPACK"),
-        ("--file N|NAME", "FILES_TO_UNPACK"), ("--list", "LIST_ONLY"), ("--salvage", "SALVAGE_FILES")]),
-    "salvage": ("[--form FORM] [--files-from LIST [--null]] SET FILE OUT [IMAGE]...", [
-        ("SET", "SET"), ("FILE", "FILE"), ("OUT", "OUT_OF_SALVAGE"), ("IMAGE", "SHELF"),
-        ("--files-from LIST", "FROM"), ("--null", "NULL"),
-        ("--form lines|raw|blocks", "FORM_OF_SALVAGED")]),
-    "stage": ("[--form FORM] [--damaged] PATH [OUT]", [
-        ("PATH", "STAGE_READ"), ("OUT", "OUT_OF_STAGE"), ("--form lines|raw", "FORM_OF_OUT"),
-        ("--damaged", "DAMAGED")]),
-    "init": ("DIR PRE COUNT", [("DIR", "FOLDER"), ("PRE", "PREFIX"), ("COUNT", "COUNT")]),
-    "write": ("[OPTIONS] DIR PRE CAPACITY ID=PATH...", [
-        ("DIR", "FOLDER"), ("PRE", "PREFIX"), ("CAPACITY", "CAPACITY"), ("ID=PATH", "FILES"),
-        ("--format F|D|S", "FORMAT"), ("--block N", "BLOCK"), ("--record N", "RECORD"),
-        ("--offset N", "OFFSET"), ("--pad-full", "PAD_FULL"), ("--form lines|raw", "FORM")]),
-}
+PAGE = os.path.join(commands.TOP, "docs", "tape.1")
 
 # The date of the page. It goes with the version of the program.
 DATE = "2026-11-26"
@@ -101,35 +62,6 @@ which comes with the SIMH simulators.""".split("\n")
 # What is known to be missing.
 BUGS = ("The program was tested only with images generated from the format descriptions, never with "
         "a dump of a real reel. It cannot detect errors that a drive did not report.")
-
-# The options of every command; the parser itself has the last two.
-OPTIONS = [("--explain", "EXPLAIN")]
-PARSER_OPTIONS = [("-h, --help", "print help"), ("-V, --version", "print the version")]
-
-
-def read(*path):
-    with open(os.path.join(*path), encoding="utf-8") as file:
-        return file.read()
-
-
-def words_of(name):
-    """The file of the arguments of a command; those of `compare` are with `merge`'s, and so on."""
-    return {"compare": "merge.rt", "survey": "check.rt", "write": os.path.join("write", "words.rt")}.get(name, name + ".rt")
-
-
-def texts():
-    """The texts of help.rt and help/ by their names."""
-    below = [("help", name) for name in sorted(os.listdir(os.path.join(SOURCE, "help")))]
-    source = "".join(read(SOURCE, *part) for part in [("help.rt",), *below])
-    found = re.findall(r'pub const (\w+): &str =\s*"((?:[^"\\]|\\.)*)";', source, re.S)
-    return {name: unescaped(text) for name, text in found}
-
-
-def unescaped(text):
-    """The text of a string in the source."""
-    text = re.sub(r"\\\n\s*", "", text)
-    return re.sub(r"\\(.)", lambda it: "\n" if it[1] == "n" else it[1], text)
-
 
 def escaped(text):
     """Text with the escapes of roff."""
@@ -223,45 +155,31 @@ def titled(text):
     return out
 
 
-def usage(name):
-    """The usage of a command."""
-    return f".B tape {name}\n{escaped(COMMANDS[name][0])}"
+def words(listed):
+    """Arguments and options, each with its text."""
+    return [line for word in listed for line in (".TP", f".B {escaped(word.call)}", escaped(word.described))]
 
 
-def defaults(name):
-    """The default values of a command's options, as its help shows them."""
-    found = re.findall(r'Word\(\s*"([\w-]+)",\s*Kind::\w+Option\([^()]*&\["(\w+)"\]\)',
-                       read(SOURCE, "words.rt") + read(SOURCE, words_of(name)))
-    return {"--" + option: f" [default: {value}]" for option, value in found}
-
-
-def command_part(name, said):
+def command_part(command):
     """The section of a command."""
-    out = [f".SS {quoted('tape ' + name)}", escaped(said["ABOUT_" + name.upper()]) + "."]
-    left_out = defaults(name)
-    for word, text in COMMANDS[name][1]:
-        default = left_out.get(word.split(" ")[0], "")
-        out += [".TP", f".B {escaped(word)}", escaped(said[text] + default)]
-    return out + [".PP", *paragraphs(said["AFTER_" + name.upper()])]
+    return [f".SS {quoted('tape ' + command.name)}", escaped(command.about) + ".",
+            *words(command.arguments + command.options), ".PP", *paragraphs(command.after)]
 
 
-def page():
+def page(program):
     """The man page."""
-    said = texts()
-    version = re.search(r'\.version\("([^"]+)"\)', read(SOURCE, "command_line.rt"))[1]
-    about = said["ABOUT"]
-    out = [r".\" Made by docs/man.py from the texts of the program's help.",
-           f'.TH TAPE 1 "{DATE}" "tape {version}" "User Commands"', ".SH NAME",
+    about = program.whole.about
+    out = [r".\" Made by docs/man.py from the program's help.",
+           f'.TH TAPE 1 "{DATE}" "tape {program.version}" "User Commands"', ".SH NAME",
            rf"tape \- {escaped(about[0].lower() + about[1:])}", ".SH SYNOPSIS"]
-    out += "\n.br\n".join(usage(name) for name in COMMANDS).split("\n")
-    out += [".SH DESCRIPTION", "Each command prints its part of this page with"]
-    out += [r".BR \-\-help .", ".SH OPTIONS"]
-    for word, text in [*((word, said[text]) for word, text in OPTIONS), *PARSER_OPTIONS]:
-        out += [".TP", f".B {escaped(word)}", escaped(text)]
-    out += [".SH COMMANDS"]
-    for name in COMMANDS:
-        out += command_part(name, said)
-    out += titled(said["AFTER"])
+    for command in program.commands:
+        name = f"tape {command.name}"
+        out += [f".B {name}", escaped(command.usage.removeprefix(name).strip()), ".br"]
+    out[-1:] = [".SH DESCRIPTION", "Each command prints its part of this page with"]
+    out += [r".BR \-\-help .", ".SH OPTIONS", *words(program.own), ".SH COMMANDS"]
+    for command in program.commands:
+        out += command_part(command)
+    out += titled(program.whole.after)
     out += [".SH ENVIRONMENT", ".TP", ".B TAPE_EXPLAIN"]
     out += [escaped("if set and not empty, errors are explained as with --explain"), ".SH FILES"]
     for name, text in FILES:
@@ -285,68 +203,10 @@ def tidied(lines):
     return out
 
 
-def words_of_source():
-    """Each argument of the commands with the name of its text, as in the sources."""
-    parts = [("command_line.rt",), ("command_spec.rt",), ("words.rt",),
-             *((words_of(name),) for name in COMMANDS if name != "compare")]
-    source = "".join(read(SOURCE, *part) for part in parts)
-    rows = re.findall(r'Word\(\s*"([^"]+)",\s*Kind::(\w+).*?help::(\w+)', source, re.S)
-    options = ("Flag", "TextOption", "TextOptions", "NumberOption", "NameOption")
-    pairs = {("--" + name if kind in options else name, text) for name, kind, text in rows}
-    for one in re.findall(r"Arg::new\(alloc, \"[^;{}]*", source):
-        name = re.search(r'\.long\("([\w-]+)"\)', one)
-        text = re.search(r"help\(help::(\w+)\)", one)
-        pairs.add(("--" + name[1], text[1]))
-    return pairs
-
-
-def old():
-    """What is older than the help."""
-    commands = {name[6:].lower() for name in texts() if name.startswith("ABOUT_")}
-    for name in sorted(commands ^ set(COMMANDS)):
-        yield f"man.py: the command {name} is only in man.py or only in the help"
-    listed = {(word.split(" ")[0], text)
-              for words in [OPTIONS, *(words for _, words in COMMANDS.values())]
-              for word, text in words}
-    for word, text in sorted(listed ^ words_of_source()):
-        yield f"man.py: {word} with the text {text} is only in man.py or only in the sources"
-    if not os.path.exists(PAGE) or read(PAGE) != page():
-        yield "docs/tape.1 is out of date: run docs/man.py"
-    completion = read(COMPLETION)
-    for word in sorted({*COMMANDS, *(word for word, _ in listed if word.startswith("--"))}):
-        if not re.search(rf"(?<![\w-]){word}(?![\w-])", completion):
-            yield f"docs/tape.bash does not complete {word}"
-
-
-def not_printed(program):
-    """The texts that the help of the program does not print."""
-    said = texts()
-
-    def missing(arguments, names):
-        run = subprocess.run([program, *arguments], stdout=subprocess.PIPE, check=True)
-        printed = " ".join(run.stdout.decode().split())
-        return [f"{' '.join(['tape', *arguments])} does not print {name}"
-                for name in names if " ".join(said[name].split()) not in printed]
-
-    found = missing(["--help"], ["ABOUT", "AFTER", *(text for _, text in OPTIONS)])
-    for name, (_, words) in COMMANDS.items():
-        mine = [f"ABOUT_{name.upper()}", f"AFTER_{name.upper()}"]
-        found += missing([name, "--help"], mine + [text for _, text in words])
-    return found
-
-
 def main():
-    if sys.argv[1:2] == ["--program"]:
-        wrong = not_printed(sys.argv[2])
-    elif sys.argv[1:] == ["--check"]:
-        wrong = list(old())
-    else:
-        with open(PAGE, "w", encoding="utf-8") as file:
-            file.write(page())
-        wrong = []
-    for line in wrong:
-        print(line)
-    return 1 if wrong else 0
+    options = commands.parse(__doc__)
+    text = page(commands.read(options.program))
+    return commands.write({PAGE: text}, options.check, "docs/man.py")
 
 
 if __name__ == "__main__":

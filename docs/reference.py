@@ -1,20 +1,22 @@
 #!/usr/bin/env python3
-"""Writes the tables of docs/REFERENCE.md from the texts of the program's help and of --explain.
+"""Writes the tables of docs/REFERENCE.md from the program's help and the texts of --explain.
 
-    docs/reference.py             writes them
-    docs/reference.py --check     reports if they are out of date, or if an explanation is too long, with status 1
+    docs/reference.py [--program PATH]            writes them
+    docs/reference.py [--program PATH] --check    reports if they are out of date, or if an explanation is too
+                                                  long, with status 1
 
 A table is between '<!-- usage of COMMAND -->' or '<!-- errors -->' and '<!-- end -->'. The rest of the page is
-written by hand and stays. Usage and arguments come from help.rt and help/, as in docs/man.py; errors come from
+written by hand and stays. Usage and arguments come from the program, as in docs/man.py; errors come from
 explain.rt and explain/files.rt.
 """
 import os
 import re
 import sys
 
-import man
+import commands
 
-PAGE = os.path.join(man.TOP, "docs", "REFERENCE.md")
+PAGE = os.path.join(commands.TOP, "docs", "REFERENCE.md")
+SOURCE = os.path.join(commands.TOP, "crates", "tape_tool", "src")
 BLOCK = re.compile(r"(<!-- (usage of (\w+)|errors) -->\n).*?(<!-- end -->\n)", re.S)
 
 # The lists of explanations whose errors have a kind of their own.
@@ -43,20 +45,29 @@ def cell(text):
     return " ".join(text.split()).replace("|", "\\|")
 
 
-def usage(name):
+def read(*path):
+    with open(os.path.join(*path), encoding="utf-8") as file:
+        return file.read()
+
+
+def unescaped(text):
+    """The text of a string in the source."""
+    text = re.sub(r"\\\n\s*", "", text)
+    return re.sub(r"\\(.)", lambda it: "\n" if it[1] == "n" else it[1], text)
+
+
+def usage(command):
     """The usage of a command, and a table of its arguments."""
-    said, left_out = man.texts(), man.defaults(name)
-    rows = [f"| `{cell(word)}` | {cell(said[text])}{left_out.get(word.split(' ')[0], '')} |"
-            for word, text in man.COMMANDS[name][1]]
-    return "\n".join([said[f"ABOUT_{name.upper()}"] + ".", "", f"    tape {name} {man.COMMANDS[name][0]}", "",
+    rows = [f"| `{cell(word.call)}` | {cell(word.described)} |" for word in command.arguments + command.options]
+    return "\n".join([command.about + ".", "", "    " + command.usage, "",
                       "| Argument | Meaning |", "|---|---|", *rows]) + "\n"
 
 
 def explanations():
     """The texts of --explain: single ones, and lists by the number of the error."""
-    source = "".join(man.read(man.SOURCE, *part) for part in (("explain.rt",), ("explain", "files.rt")))
+    source = "".join(read(SOURCE, *part) for part in (("explain.rt",), ("explain", "files.rt")))
     string = r'"(?:[^"\\]|\\.)*"'
-    single = {name: man.unescaped(text[1:-1]) for name, text in
+    single = {name: unescaped(text[1:-1]) for name, text in
               re.findall(rf"const (\w+): &str =\s*({string});", source, re.S)}
     lists = {name: {int(number): text for number, text in
                     (item.split("  ", 1) for item in body.split("\n#")[1:])}
@@ -70,8 +81,8 @@ def misfits():
     """The texts of --explain that do not fit on a screen: each has one to three lines of at most 79 columns."""
     single, lists = explanations()
     missing = re.findall(r'"([A-Z](?:[^"\\{]|\\.)*\n(?:[^"\\{]|\\.)*)"',
-                         man.read(man.SOURCE, "explain", "missing.rt"), re.S)
-    texts = [*map(man.unescaped, missing), *(text for name, text in single.items() if name not in lists),
+                         read(SOURCE, "explain", "missing.rt"), re.S)
+    texts = [*map(unescaped, missing), *(text for name, text in single.items() if name not in lists),
              *(text for texts in lists.values() for text in texts.values())]
     for text in texts:
         lines = ("  " + text).split("\n")
@@ -95,31 +106,23 @@ def errors():
                       *(f"| {error} | {file} | {cell(text)} |" for error, file, text in rows)]) + "\n"
 
 
-def page():
+def page(program):
     """The page with its tables."""
-    return BLOCK.sub(lambda it: it[1] + (usage(it[3]) if it[3] else errors()) + it[4], man.read(PAGE))
-
-
-def old():
-    """What is out of date."""
-    text = man.read(PAGE)
-    for name in sorted(set(man.COMMANDS) - set(re.findall(r"<!-- usage of (\w+) -->", text))):
-        yield f"docs/REFERENCE.md has no usage of {name}"
-    if text != page():
-        yield "docs/REFERENCE.md is out of date: run docs/reference.py"
-    for text in misfits():
-        yield f"an explanation has more than three lines, or a line that is too long: {text!r}"
+    usages = {command.name: usage(command) for command in program.commands}
+    text = read(PAGE)
+    found = [it[3] for it in BLOCK.finditer(text) if it[3]]
+    if sorted(found) != sorted(usages):
+        sys.exit(f"docs/REFERENCE.md has usages of {' '.join(found)}; the commands are {' '.join(usages)}")
+    return BLOCK.sub(lambda it: it[1] + (usages[it[3]] if it[3] else errors()) + it[4], text)
 
 
 def main():
-    if sys.argv[1:] == ["--check"]:
-        wrong = list(old())
-        print(*wrong, sep="\n", end="\n" if wrong else "")
-        return 1 if wrong else 0
-    text = page()
-    with open(PAGE, "w", encoding="utf-8") as file:
-        file.write(text)
-    return 0
+    options = commands.parse(__doc__)
+    status = commands.write({PAGE: page(commands.read(options.program))}, options.check, "docs/reference.py")
+    for text in misfits() if options.check else []:
+        print(f"an explanation has more than three lines, or a line that is too long: {text!r}")
+        status = 1
+    return status
 
 
 if __name__ == "__main__":

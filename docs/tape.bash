@@ -1,77 +1,86 @@
-# Completion of tape(1) for bash.
+# Completion of tape(1) for bash. Made by docs/completions.py from the program's help.
 _tape() {
     local cur=${COMP_WORDS[COMP_CWORD]} prev=${COMP_WORDS[COMP_CWORD-1]} start=1
-    # Options of the program may stand before the command.
+    local commands='list check survey compare merge extract unpack salvage stage init write'
+    # Options of the program may precede the command.
     while [ "$start" -lt "$COMP_CWORD" ] && [[ ${COMP_WORDS[start]} == -* ]]; do
         start=$((start + 1))
     done
-    local word at place=1 command=${COMP_WORDS[start]}
+    local word at place=1 kind='' command=${COMP_WORDS[start]}
     if [ "$COMP_CWORD" -eq "$start" ]; then
-        COMPREPLY=($(compgen -W 'list check survey compare merge extract unpack salvage stage init write help --explain --help --version' -- "$cur"))
+        COMPREPLY=($(compgen -W "$commands help --explain --help --version" -- "$cur"))
         return
     fi
-    # Bash takes '=' for a word of its own.
+    # Bash makes '=' a word.
     [ "$cur" = '=' ] && cur=''
     [ "$prev" = '=' ] && prev=${COMP_WORDS[COMP_CWORD-2]}
+    # The value of an option.
     case $command:$prev in
-    salvage:--form) COMPREPLY=($(compgen -W 'lines raw blocks' -- "$cur")); return ;;
+    check:--files-from | survey:--files-from | compare:--files-from | \
+        merge:--files-from | extract:--files-from | unpack:--files-from | \
+        salvage:--files-from) kind='file' ;;
+    merge:--log | extract:--stage) kind='other' ;;
+    extract:--form | unpack:--form | stage:--form | write:--form) kind='lines raw' ;;
+    unpack:--set | unpack:--file | write:--block | write:--record | \
+        write:--offset) kind='text' ;;
+    salvage:--form) kind='lines raw blocks' ;;
+    write:--format) kind='F D S' ;;
     esac
-    case $prev in
-    --form) COMPREPLY=($(compgen -W 'lines raw' -- "$cur")); return ;;
-    --format) COMPREPLY=($(compgen -W 'F D S' -- "$cur")); return ;;
-    --block | --record | --offset | --set | --file) return ;;
-    esac
-    case $command:$cur in
-    help:*)
-        [ "$COMP_CWORD" -gt $((start + 1)) ] && return
-        COMPREPLY=($(compgen -W 'list check survey compare merge extract unpack salvage stage init write' -- "$cur"))
-        return ;;
-    list:-*) COMPREPLY=($(compgen -W '--offsets --explain --help' -- "$cur")); return ;;
-    merge:-*) COMPREPLY=($(compgen -W '--log --files-from --null --explain --help' -- "$cur")); return ;;
-    check:-* | compare:-*) COMPREPLY=($(compgen -W '--files-from --null --explain --help' -- "$cur")); return ;;
-    survey:-*) COMPREPLY=($(compgen -W '--files-from --null --tsv --explain --help' -- "$cur")); return ;;
-    unpack:-*)
-        COMPREPLY=($(compgen -W '--files-from --null --form --set --file --list --salvage --explain --help' -- "$cur"))
-        return ;;
-    salvage:-*)
-        COMPREPLY=($(compgen -W '--files-from --null --form --explain --help' -- "$cur"))
-        return ;;
-    stage:-*) COMPREPLY=($(compgen -W '--form --damaged --explain --help' -- "$cur")); return ;;
-    extract:-*)
-        COMPREPLY=($(compgen -W '--files-from --null --form --stage --again --explain --help' -- "$cur"))
-        return ;;
-    write:-*)
-        COMPREPLY=($(compgen -W \
-            '--format --block --record --offset --pad-full --form --explain --help' -- "$cur"))
-        return ;;
-    *:-*) COMPREPLY=($(compgen -W '--explain --help' -- "$cur")); return ;;
-    esac
-    # Which of the words without a name this one is.
+    if [ -z "$kind" ] && [[ $cur == -* ]]; then
+        case $command in
+        list) word='--offsets' ;;
+        check) word='--files-from --null' ;;
+        survey) word='--files-from --null --tsv' ;;
+        compare) word='--files-from --null' ;;
+        merge) word='--log --files-from --null' ;;
+        extract) word='--files-from --null --form --stage --again' ;;
+        unpack) word='--files-from --null --form --set --file --list --salvage' ;;
+        salvage) word='--files-from --null --form' ;;
+        stage) word='--form --damaged' ;;
+        write) word='--format --block --record --offset --pad-full --form' ;;
+        *) word='' ;;
+        esac
+        COMPREPLY=($(compgen -W "$word --explain --help" -- "$cur"))
+        return
+    fi
+    if [ "$command" = help ]; then
+        [ "$COMP_CWORD" -gt $((start + 1)) ] || COMPREPLY=($(compgen -W "$commands" -- "$cur"))
+        return
+    fi
+    # An argument: which of them.
     for ((at = start + 1; at < COMP_CWORD; at++)); do
-        word=${COMP_WORDS[at]}
-        case $word in
-        --files-from | --form | --stage | --log | --format | --block | --record | --offset | --set | --file)
-            at=$((at + 1)) ;;
+        case ${COMP_WORDS[at]} in
+        --block | --file | --files-from | --form | --format | --log | \
+            --offset | --record | --set | --stage)
+            at=$((at + 1))
+            [ "${COMP_WORDS[at]}" = '=' ] && at=$((at + 1)) ;;
         -*) ;;
         *) place=$((place + 1)) ;;
         esac
     done
-    case $command:$place in
-    extract:1 | extract:2 | salvage:1 | salvage:2 | init:2 | init:3 | write:2 | write:3)
-        case $prev in --files-from | --stage) ;; *) return ;; esac ;;
+    [ -n "$kind" ] || case $command:$place in
+    merge:1 | extract:3 | salvage:3 | stage:1) kind='other' ;;
+    extract:1 | extract:2 | salvage:1 | salvage:2 | init:2 | init:3 | \
+        write:2 | write:3) kind='text' ;;
+    unpack:1 | init:1 | write:1) kind='directory' ;;
+    list:* | check:* | survey:* | compare:* | merge:* | extract:* | unpack:* \
+        | salvage:*) kind='image' ;;
+    stage:*) kind='other' ;;
+    write:*) kind='file' ;;
     esac
     # Bash itself completes the names of files and directories, with any characters in them.
-    case $command:$place:$prev in
-    *:--files-from) compopt -o default ;;
-    init:1:* | write:1:* | unpack:1:*) compopt -o dirnames ;;
-    # No image is offered for OUT, which would be written over, nor for a stage.
-    extract:3:* | salvage:3:* | merge:1:* | stage:[12]:* | *:--stage | *:--log)
+    case $kind in
+    text | '') ;;
+    image | file) compopt -o default ;;
+    directory) compopt -o dirnames ;;
+    # No image is offered for an output, which would replace it, nor for a stage.
+    other)
         compopt -o filenames
         # A name with a line feed comes in pieces, which are not offered.
         while IFS= read -r word; do
             [ -e "${word/#\~\//$HOME/}" ] && COMPREPLY+=("$word")
         done < <(compgen -f -X '*.[tT][aA][pP]' -- "$cur") ;;
-    *) compopt -o default ;;
+    *) COMPREPLY=($(compgen -W "$kind" -- "$cur")) ;;
     esac
 }
 complete -F _tape tape

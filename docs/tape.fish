@@ -1,0 +1,108 @@
+# Completion of tape(1) for fish. Made by docs/completions.py from the program's help.
+
+# Succeeds if the command is $argv[1], and the word at the cursor is its argument with the number $argv[2], or
+# with a higher one if $argv[3] is +.
+function __tape_at
+    set -l command ''
+    set -l place 1
+    set -l is_value false
+    for word in (commandline -opc)[2..]
+        if $is_value
+            set is_value false
+            continue
+        end
+        switch $word
+            case --block --file --files-from --form --format --log --offset --record --set --stage
+                set is_value true
+            case '-*'
+            case '*'
+                if test -z "$command"
+                    set command $word
+                else
+                    set place (math $place + 1)
+                end
+        end
+    end
+    $is_value; and return 1
+    test "$command" = "$argv[1]"; or return 1
+    test $place -eq $argv[2]; or test "$argv[3]" = + -a $place -gt $argv[2]
+end
+
+# Succeeds if the command is $argv[1].
+function __tape_in
+    string match -q -- $argv[1] (string match -v -- '-*' (commandline -opc)[2..])[1]
+end
+
+# Lists the files but images: none is offered for an output, which would replace it, nor for a stage.
+function __tape_other
+    string match -vir '\.tap(\t|$)' -- (__fish_complete_path (string replace -r '^--[a-z-]+=' '' -- (commandline -ct)))
+end
+
+complete -c tape -f
+complete -c tape -l explain -d 'Explain errors, and say what to do next'
+complete -c tape -s h -l help -d 'Print help (see a summary with '\''-h'\'')'
+complete -c tape -n '__tape_at "" 1' -s V -l version -d 'Print version'
+complete -c tape -n '__tape_at "" 1' -a list -d 'List the blocks, tape marks and labels of an image'
+complete -c tape -n '__tape_at "" 1' -a check -d 'Report which file sections are on the images and what is missing'
+complete -c tape -n '__tape_at "" 1' -a survey -d 'Describe each image, and report what is complete and what is missing'
+complete -c tape -n '__tape_at "" 1' -a compare -d 'Report whether images can be readings of the same tape'
+complete -c tape -n '__tape_at "" 1' -a merge -d 'Make one good image from several readings of a tape'
+complete -c tape -n '__tape_at "" 1' -a extract -d 'Recover one file from the images of its set'
+complete -c tape -n '__tape_at "" 1' -a unpack -d 'Recover every file on the images into a directory'
+complete -c tape -n '__tape_at "" 1' -a salvage -d 'Recover what is readable of a file that no image has completely'
+complete -c tape -n '__tape_at "" 1' -a stage -d 'Show what a stage contains, and write its records'
+complete -c tape -n '__tape_at "" 1' -a init -d 'Create blank labelled volumes'
+complete -c tape -n '__tape_at "" 1' -a write -d 'Write files to labelled volumes'
+complete -c tape -n '__tape_at "" 1' -a help -d 'Print the help of a command'
+complete -c tape -n '__tape_at help 1' -a 'list check survey compare merge extract unpack salvage stage init write'
+complete -c tape -n '__tape_in list' -l offsets -d 'Print the byte offset and size of each item before its line'
+complete -c tape -n '__tape_at list 1 +' -F
+complete -c tape -n '__tape_in check' -l files-from -r -F -d 'More names, one per line ('\''-'\'': standard input)'
+complete -c tape -n '__tape_in check' -l null -d 'Names in LIST end with NUL, as of '\''find -print0'\'''
+complete -c tape -n '__tape_at check 1 +' -F
+complete -c tape -n '__tape_in survey' -l files-from -r -F -d 'More names, one per line ('\''-'\'': standard input)'
+complete -c tape -n '__tape_in survey' -l null -d 'Names in LIST end with NUL, as of '\''find -print0'\'''
+complete -c tape -n '__tape_in survey' -l tsv -d 'Print tab-separated values, for scripts'
+complete -c tape -n '__tape_at survey 1 +' -F
+complete -c tape -n '__tape_in compare' -l files-from -r -F -d 'More names, one per line ('\''-'\'': standard input)'
+complete -c tape -n '__tape_in compare' -l null -d 'Names in LIST end with NUL, as of '\''find -print0'\'''
+complete -c tape -n '__tape_at compare 1 +' -F
+complete -c tape -n '__tape_in merge' -l log -x -a '(__tape_other)' -d 'Also create LOG, with a row for each item that fewer than two images have, or that is bad in one; LOG must not exist'
+complete -c tape -n '__tape_in merge' -l files-from -r -F -d 'More names, one per line ('\''-'\'': standard input)'
+complete -c tape -n '__tape_in merge' -l null -d 'Names in LIST end with NUL, as of '\''find -print0'\'''
+complete -c tape -n '__tape_at merge 1' -a '(__tape_other)'
+complete -c tape -n '__tape_at merge 2 +' -F
+complete -c tape -n '__tape_in extract' -l files-from -r -F -d 'More names, one per line ('\''-'\'': standard input)'
+complete -c tape -n '__tape_in extract' -l null -d 'Names in LIST end with NUL, as of '\''find -print0'\'''
+complete -c tape -n '__tape_in extract' -l form -x -a 'lines raw' -d 'lines: end each record with a line feed; raw: do not'
+complete -c tape -n '__tape_in extract' -l stage -x -a '(__tape_other)' -d 'Save recovered data here, and continue from it'
+complete -c tape -n '__tape_in extract' -l again -d 'Repeat until a pass recovers nothing new'
+complete -c tape -n '__tape_at extract 3' -a '(__tape_other)'
+complete -c tape -n '__tape_at extract 4 +' -F
+complete -c tape -n '__tape_in unpack' -l files-from -r -F -d 'More names, one per line ('\''-'\'': standard input)'
+complete -c tape -n '__tape_in unpack' -l null -d 'Names in LIST end with NUL, as of '\''find -print0'\'''
+complete -c tape -n '__tape_in unpack' -l form -x -a 'lines raw' -d 'lines: end each record with a line feed; raw: do not'
+complete -c tape -n '__tape_in unpack' -l set -x -d 'Only files of this set'
+complete -c tape -n '__tape_in unpack' -l file -x -d 'Only files with this number or name; '\''*'\'' in a name represents any characters'
+complete -c tape -n '__tape_in unpack' -l list -d 'Print what would be done, and create nothing'
+complete -c tape -n '__tape_in unpack' -l salvage -d 'Write what is readable of each incomplete file as NAME.salvaged, and where it has gaps as NAME.gaps'
+complete -c tape -n '__tape_at unpack 1' -a '(__fish_complete_directories (commandline -ct))'
+complete -c tape -n '__tape_at unpack 2 +' -F
+complete -c tape -n '__tape_in salvage' -l files-from -r -F -d 'More names, one per line ('\''-'\'': standard input)'
+complete -c tape -n '__tape_in salvage' -l null -d 'Names in LIST end with NUL, as of '\''find -print0'\'''
+complete -c tape -n '__tape_in salvage' -l form -x -a 'lines raw blocks' -d 'lines: end each record with a line feed; raw: do not; blocks: whole blocks'
+complete -c tape -n '__tape_at salvage 3' -a '(__tape_other)'
+complete -c tape -n '__tape_at salvage 4 +' -F
+complete -c tape -n '__tape_in stage' -l form -x -a 'lines raw' -d 'lines: end each record with a line feed; raw: do not'
+complete -c tape -n '__tape_in stage' -l damaged -d 'Use the intact beginning of a damaged stage'
+complete -c tape -n '__tape_at stage 1' -a '(__tape_other)'
+complete -c tape -n '__tape_at stage 2 +' -a '(__tape_other)'
+complete -c tape -n '__tape_at init 1' -a '(__fish_complete_directories (commandline -ct))'
+complete -c tape -n '__tape_in write' -l format -x -a 'F D S' -d 'F fixed, D variable, S spanned records'
+complete -c tape -n '__tape_in write' -l block -x -d 'Longest block, 18 to 99999 (S: to 9999)'
+complete -c tape -n '__tape_in write' -l record -x -d 'Record length'
+complete -c tape -n '__tape_in write' -l offset -x -d 'Bytes before a block'\''s records, 0 to 99'
+complete -c tape -n '__tape_in write' -l pad-full -d 'D: fill every block to --block with padding'
+complete -c tape -n '__tape_in write' -l form -x -a 'lines raw' -d 'lines: one record per line; raw: F cuts the input into records, S takes it as one record'
+complete -c tape -n '__tape_at write 1' -a '(__fish_complete_directories (commandline -ct))'
+complete -c tape -n '__tape_at write 4 +' -F
