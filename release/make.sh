@@ -3,20 +3,27 @@
 # a clean work tree, and has its proofs in crates/*/out (what is not there is proved first).
 #
 # OUT is a new or an empty directory, and gets
-#   tape-volumes_VERSION_amd64.deb      the program as proved and built, for Debian's C library
-#   tape-VERSION-x86_64-linux.tar.gz    the program linked statically, and in relink/ the files
-#                                       that it is linked from
-#   tape.stamp                          the toolchain's checksum of sources, toolchain and program
-#   PROVED.txt                          commit, toolchain, the last line of each proof, checksums
+#   tape-volumes_VERSION_amd64.deb       the program as proved and built, for Debian's C library
+#   tape-VERSION-MACHINE-linux.tar.gz    for x86_64 and aarch64: the program linked statically, and
+#                                        in link/ the object file and the C source that it is of
+#   tape.stamp                           the toolchain's checksum of sources, toolchain and program
+#   PROVED.txt                           commit, toolchain, the last line of each proof, checksums
+#   ASSUMED.txt                          the C functions whose contracts the proofs assume
+#   parts.spdx.json                      the parts of the program, with versions and licences
 #   SHA256SUMS
-# Both packages have man page, completion, pages and a sample image. CI-LOG is the output of 'rt ci'
-# at this commit; its last line is copied into PROVED.txt.
-# The same commit and CI-LOG, with the same toolchain, C compiler and packers, give the same bytes:
+# All packages have man page, completions, pages, licences and a sample image. CI-LOG is the output
+# of 'rt ci' at this commit; its last line is copied into PROVED.txt.
+# The same commit and CI-LOG, with the same toolchain, C compilers and packers, give the same bytes:
 # times are the commit's, and names are sorted.
+#
+# With TRIAL=DIR nothing is proved or built, to try this script alone: DIR has the program `tape`,
+# and for each machine MACHINE.o and MACHINE.log, the object file and what `rattle build` printed.
+# The version then ends in ~trial, and PROVED.txt says that nothing is proved.
 set -eu
 here=$(dirname "$(readlink -f "$0")")
 out=$(realpath -m "${1:?usage: make.sh OUT [CI-LOG]}")
 gate=${2:+$(tail -n 1 "$2")}
+trial=${TRIAL:+$(realpath "$TRIAL")}
 cd "$here/.."
 
 fail() {
@@ -24,16 +31,17 @@ fail() {
     exit 1
 }
 
-[ -z "$(git status --porcelain)" ] || fail "the work tree is not clean"
+[ -n "$trial" ] || [ -z "$(git status --porcelain)" ] || fail "the work tree is not clean"
 case ${gate:-, 0 failed} in
 *', 0 failed') ;;
 *) fail "the last line of CI is '$gate'" ;;
 esac
 [ ! -e "$out" ] || rmdir "$out" || fail "OUT exists, and is not an empty directory"
-docs/man.py --check || fail "the man page is out of date"
-docs/reference.py --check || fail "docs/REFERENCE.md is out of date"
 docs/links.py >/dev/null || fail "a link leads nowhere: docs/links.py"
 docs/definitions.py --check || fail "docs/DEFINITIONS.md is out of date"
+for it in aarch64-linux-gnu-gcc qemu-aarch64-static; do
+    command -v $it >/dev/null || fail "$it is not installed; release/README.md lists what is needed"
+done
 
 commit=$(git rev-parse HEAD)
 export SOURCE_DATE_EPOCH LC_ALL=C TZ=UTC
@@ -42,12 +50,16 @@ umask 022
 room=$(mktemp -d)
 trap 'rm -rf "$room"' EXIT
 mkdir -p "$out"
+kit=$(dirname "$(rt doc)")
+crates=
+for it in $(sed -n 's/^tape_tool: //p' crates.txt) tape_tool; do
+    [ ! -d "crates/$it" ] || crates="$crates $it"
+done
 
 # The proofs: each crate's own last line, lowest first.
 verdicts() {
     local crate log=$room/log
-    for crate in $(sed -n 's/^tape_tool: //p' crates.txt) tape_tool tape; do
-        [ -d "crates/$crate" ] || continue
+    for crate in $crates tape; do
         (cd "crates/$crate" && rt check --jobs 1) >"$log" 2>&1 ||
             fail "$crate: $(tail -n 3 "$log")"
         printf '  %-12s %s\n' "$crate" "$(tail -n 1 "$log")"
@@ -56,56 +68,148 @@ verdicts() {
         fi
     done
 }
-verdicts >"$room/verdicts"
 
-# The program that was proved: built here, or before, where nothing has changed since.
-(cd crates/tape && rt run -- --version) </dev/null >"$room/run" 2>&1 ||
-    fail "$(tail "$room/run")"
-built=$PWD/crates/tape/out
-program=$built/tape object=$built/tape.o
-number=$(env -i "$program" --version | cut -d' ' -f2)
+# The object file of the proved program for a machine, from the kept proofs.
+object() {
+    local machine=$1 crate words=()
+    for crate in $crates; do
+        words+=(-L "dependency=../$crate/out/rlib")
+    done
+    (cd crates/tape && "$kit/bin/rattle" build --crate-name tape src/main.rt --list-axioms \
+        --extern "std=$kit/rlibs/std.rlib" -L "dependency=$kit/rlibs" \
+        --extern tape_tool=../tape_tool/out/rlib/tape_tool.rlib "${words[@]}" \
+        --antt-project "$kit/rattle/logic/antt-project.json" --logic-built "$kit/logic_built" \
+        --incremental "$room/kept" --jobs 1 --toolchain "$kit/toolchain" --backend llvm \
+        --target "$machine-unknown-linux-gnu" -o "$room/$machine.o") </dev/null \
+        >"$room/$machine.log" 2>&1 || fail "$machine: $(tail -n 3 "$room/$machine.log")"
+}
+
+machines='x86_64 aarch64'
+if [ -n "$trial" ]; then
+    echo "  none: a trial of make.sh. NOTHING HERE IS PROVED" >"$room/verdicts"
+    for it in $machines; do
+        cp "$trial/$it.o" "$trial/$it.log" "$room/"
+    done
+    program=$trial/tape
+    echo trial >"$out/tape.stamp"
+else
+    verdicts >"$room/verdicts"
+    # The program that was proved: built here, or before, where nothing has changed since.
+    (cd crates/tape && rt run -- --version) </dev/null >"$room/run" 2>&1 ||
+        fail "$(tail "$room/run")"
+    program=$PWD/crates/tape/out/tape
+    cp crates/tape/out/tape.stamp "$out/"
+    cp -a crates/tape/out/incremental "$room/kept"
+    for it in $machines; do
+        object "$it"
+        printf '  %-12s %s\n' "tape $it" "$(tail -n 1 "$room/$it.log")" >>"$room/verdicts"
+    done
+    cmp "$room/x86_64.o" crates/tape/out/tape.o
+fi
+number=$(env -i "$program" --version | grep -o '[0-9]*\.[0-9]*\.[0-9]*' | head -n 1)
 version=$number+$(git log -1 --format=%cd --date=format:%Y%m%d).$(git rev-parse --short=8 HEAD)
-docs/man.py --program "$program" || fail "the man page differs from the help of the program"
+version=$version${trial:+~trial}
+for it in docs/man.py docs/completions.py docs/reference.py; do
+    "$it" --check --program "$program" || fail "run $it"
+done
 
-# The same object file, linked by the system's compiler with no library left outside.
-relink=$room/relink
-mkdir "$relink"
-kit=$(dirname "$(rt doc)")
-cp "$object" "$kit/c/libos_c.a" "$kit/c/liblibc_c.a" "$relink/"
-cp "$here/relink.sh" "$relink/"
-sh "$relink/relink.sh" "$room/tape"
+# Each machine's program: the object file, with its main under another name, linked with shim.c.
+cp "$here/shim.c" "$room/"
+# The prefix of the compiler and its tools for a machine.
+tools() {
+    [ "$1" = "$(uname -m)" ] || echo "$1-linux-gnu-"
+}
+for it in $machines; do
+    mkdir "$room/$it"
+    "$(tools "$it")objcopy" --redefine-sym main=tape_main "$room/$it.o" "$room/$it/tape.o"
+    (cd "$room/$it" && "$(tools "$it")gcc" -O2 -s -static tape.o ../shim.c -o tape)
+done
 
-# Both do what the stored run wants, and all examples.
-for it in "$program" "$room/tape"; do
+# Prints what a program prints in the stored run, in a root directory with nothing else in it.
+alone() {
+    local machine=$1 program=$2 qemu='' root=$room/root
+    rm -rf "$root"
+    mkdir "$root"
+    cp "$program" "$root/tape"
+    if [ "$machine" != "$(uname -m)" ]; then
+        qemu=/qemu
+        cp "$(command -v "qemu-$machine-static")" "$root$qemu"
+    fi
     # shellcheck disable=SC2046 # the words of the stored run, one a line
-    env -i "$it" $(cat crates/tape/args) <crates/tape/stdin | cmp - crates/tape/stdout
+    env -i PATH="$PATH" unshare --map-root-user chroot "$root" $qemu /tape $(cat crates/tape/args) \
+        <crates/tape/stdin
+}
+for it in $machines; do
+    alone "$it" "$room/$it/tape" | cmp - crates/tape/stdout
+done
+
+# The same with the other compilers and the other C library, where they are installed.
+linked=
+for it in gcc clang musl-gcc; do
+    command -v $it >/dev/null || continue
+    $it -O2 -s -static -Wall -Wextra -Werror "$room/x86_64/tape.o" "$room/shim.c" -o "$room/by"
+    alone x86_64 "$room/by" | cmp - crates/tape/stdout
+    linked="$linked $it"
+done
+
+# All examples of the pages, with the toolchain's program and each machine's.
+mkdir "$room/bin"
+cat >"$room/bin/aarch64" <<T
+#!/bin/sh
+exec qemu-aarch64-static "$room/aarch64/tape" "\$@"
+T
+chmod +x "$room/bin/aarch64"
+for it in "$program" "$room/x86_64/tape" "$room/bin/aarch64"; do
     docs/examples.sh "$it" >"$room/log" || fail "$it: $(cat "$room/log")"
 done
+[ "$(file -b -m docs/tape.magic crates/tape/stdin)" = \
+    'SIMH magnetic tape image, labelled volume "ABC001", first file "PAYROLL          "' ] ||
+    fail "docs/tape.magic does not recognise the sample image"
+
+# The parts with their licences, and the C functions whose contracts are assumed.
+mkdir -p "$room/deb/usr/bin"
+cp "$program" "$room/deb/usr/bin/tape"
+"$here/parts.py" "$room" "$version" "$commit" shim.c x86_64/tape.o x86_64/tape aarch64/tape.o \
+    aarch64/tape deb/usr/bin/tape
+cp "$room/parts.spdx.json" "$out/"
+{
+    echo "# The C functions whose contracts the proofs assume: crate and name, and the machines."
+    for it in $machines; do
+        sed -n "s/^  \([A-Za-z_0-9:]*\)  *reached\$/\1 $it/p" "$room/$it.log"
+    done | sort | awk '{of[$1] = of[$1] " " $2} END {for (name in of) print name of[name]}' | sort
+} >"$out/ASSUMED.txt"
 
 sum() {
     sha256sum <"$1" | cut -c1-64
 }
-cat >"$out/PROVED.txt" <<T
+{
+    cat <<T
 tape $version
 commit     $commit
 toolchain  $(rt version)
-proofs     the last line of 'rt check' in each crate, over the work that earlier checks kept:
+proofs     the last line of 'rt check' in each crate, over the work that earlier checks kept, and of
+           'rattle build' of the program for each machine:
 $(cat "$room/verdicts")
 CI         ${gate:-not given}
-examples   $(tail -n 1 "$room/log")
+assumed    $(grep -vc '^#' "$out/ASSUMED.txt") functions of C, listed in ASSUMED.txt
+examples   $(tail -n 1 "$room/log"), with each of the programs below
+linked     also by:$linked; each alone in an empty root directory
 sums       (SHA-256)
-  $(sum "$object")  tape.o, as the toolchain made it
   $(sum "$program")  tape, as the toolchain linked it: /usr/bin/tape of the package
-  $(sum "$room/tape")  tape of the archive, linked by $(cc --version | head -n 1)
-  $(sum "$built/tape.stamp")  tape.stamp
 T
-cp "$built/tape.stamp" "$out/"
+    for it in $machines; do
+        echo "  $(sum "$room/$it.o")  tape.o for $it, as the toolchain made it"
+        echo "  $(sum "$room/$it/tape.o")  link/tape.o for $it: the same, its main renamed tape_main"
+        echo "  $(sum "$room/$it/tape")  tape for $it, linked by $("$(tools "$it")gcc" --version | head -n 1)"
+    done
+    echo "  $(sum "$out/tape.stamp")  tape.stamp"
+} >"$out/PROVED.txt"
 
-# What both packages have: all pages, so that their links lead somewhere, and an image to try.
+# What all packages have: all pages, so that their links lead somewhere, and an image to try.
 papers() {
     mkdir -p "$1/examples"
     git ls-files -z '*.md' docs/page.html ':!.github' | xargs -0 cp --parents -t "$1"
-    cp "$out/PROVED.txt" "$1/"
+    cp "$out/PROVED.txt" "$out/ASSUMED.txt" "$out/parts.spdx.json" "$1/"
     cp crates/tape/stdin "$1/examples/reel.tap"
 }
 
@@ -115,37 +219,31 @@ settle() {
     find "$1" -exec touch -h -d "@$SOURCE_DATE_EPOCH" {} +
 }
 
-# The licence, and what the static program holds besides.
-if [ -f LICENSE ]; then
-    cp LICENSE "$room/copyright"
-else
-    echo "No licence has been granted for this work yet." >"$room/copyright"
-fi
+for it in $machines; do
+    top=tape-$version-$it-linux
+    papers "$room/$top"
+    install -m 755 "$room/$it/tape" "$room/$top/tape"
+    install -m 755 docs/page.py "$room/$top/tape-page"
+    cp docs/tape.1 docs/tape.bash docs/_tape docs/tape.fish docs/tape.magic "$room/$top/"
+    install -m 644 -D "$room/$it/tape.o" "$room/$top/link/tape.o"
+    cp "$room/shim.c" "$room/$top/link/"
+    cp "$room/COPYRIGHT.static" "$room/$top/COPYRIGHT"
+    settle "$room/$top"
+    tar -C "$room" --sort=name --owner=0 --group=0 --numeric-owner -cf - "$top" |
+        gzip -9n >"$out/$top.tar.gz"
+done
 
-top=tape-$version-x86_64-linux
-papers "$room/$top"
-install -m 755 "$room/tape" "$room/$top/tape"
-install -m 755 docs/page.py "$room/$top/tape-page"
-cp docs/tape.1 docs/tape.bash "$room/$top/"
-cp -r "$relink" "$room/$top/relink"
-cat "$room/copyright" - >"$room/$top/COPYRIGHT" <<'T'
-The program in this archive has the GNU C library linked in, which is under the LGPL 2.1 or later;
-the folder relink links it with another one.
-T
-settle "$room/$top"
-chmod 755 "$room/$top/tape"
-tar -C "$room" --sort=name --owner=0 --group=0 --numeric-owner -cf - "$top" |
-    gzip -9n >"$out/$top.tar.gz"
-
-deb=$room/deb doc=$room/deb/usr/share/doc/tape-volumes
+deb=$room/deb doc=$room/deb/usr/share/doc/tape-volumes share=$room/deb/usr/share
 papers "$doc"
-cp "$room/copyright" "$doc/copyright"
-mkdir -p "$deb/DEBIAN" "$deb/usr/bin" "$deb/usr/share/man/man1" \
-    "$deb/usr/share/bash-completion/completions"
-cp "$program" "$deb/usr/bin/tape"
+cp "$room/COPYRIGHT" "$doc/copyright"
+mkdir -p "$deb/DEBIAN"
 install -m 755 docs/page.py "$deb/usr/bin/tape-page"
-gzip -9nc docs/tape.1 >"$deb/usr/share/man/man1/tape.1.gz"
-cp docs/tape.bash "$deb/usr/share/bash-completion/completions/tape"
+install -m 644 -D docs/tape.bash "$share/bash-completion/completions/tape"
+install -m 644 -D docs/_tape "$share/zsh/vendor-completions/_tape"
+install -m 644 -D docs/tape.fish "$share/fish/vendor_completions.d/tape.fish"
+install -m 644 -D docs/tape.magic "$share/tape-volumes/tape.magic"
+mkdir -p "$share/man/man1"
+gzip -9nc docs/tape.1 >"$share/man/man1/tape.1.gz"
 maintainer="Sevumbia maintainers <maintainers@users.noreply.sevumbia.example>"
 day=$(date -u -R -d "@$SOURCE_DATE_EPOCH")
 printf 'tape-volumes (%s) stable; urgency=low\n\n  * Commit %s.\n\n -- %s  %s\n' \

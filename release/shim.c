@@ -1,6 +1,6 @@
 /* What the object file of tape needs besides POSIX, for any C library on Linux:
 
-       cc -O2 -static tape.o shim.c -o tape
+       cc -O2 -s -static tape.o shim.c -o tape
 
    tape.o is what the toolchain made of the proved sources, except that its main is named
    tape_main. What these functions do is assumed, not proved, as for those of the C library;
