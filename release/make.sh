@@ -172,6 +172,13 @@ cp "$program" "$room/deb/usr/bin/tape"
 "$here/parts.py" "$room" "$version" "$commit" shim.c x86_64/tape.o x86_64/tape aarch64/tape.o \
     aarch64/tape deb/usr/bin/tape
 cp "$room/parts.spdx.json" "$out/"
+# Its licences are read by a program that is not ours. Debian has none for all of SPDX.
+NODE_PATH=/usr/share/nodejs node -e '
+    const parse = require("spdx-expression-parse"), file = require("fs").readFileSync(0, "utf8");
+    for (const it of JSON.parse(file).packages)
+        for (const text of [it.licenseConcluded, it.licenseDeclared])
+            if (text != "NONE" && text != "NOASSERTION") parse(text);
+' <"$room/parts.spdx.json" || fail "a licence in parts.spdx.json is not SPDX"
 {
     echo "# The C functions whose contracts the proofs assume: crate and name, and the machines."
     for it in $machines; do
@@ -198,9 +205,10 @@ sums       (SHA-256)
   $(sum "$program")  tape, as the toolchain linked it: /usr/bin/tape of the package
 T
     for it in $machines; do
+        cc=$("$(tools "$it")gcc" --version | head -n 1)
         echo "  $(sum "$room/$it.o")  tape.o for $it, as the toolchain made it"
-        echo "  $(sum "$room/$it/tape.o")  link/tape.o for $it: the same, its main renamed tape_main"
-        echo "  $(sum "$room/$it/tape")  tape for $it, linked by $("$(tools "$it")gcc" --version | head -n 1)"
+        echo "  $(sum "$room/$it/tape.o")  link/tape.o for $it: its main renamed tape_main"
+        echo "  $(sum "$room/$it/tape")  tape for $it, linked by $cc"
     done
     echo "  $(sum "$out/tape.stamp")  tape.stamp"
 } >"$out/PROVED.txt"
@@ -227,7 +235,7 @@ for it in $machines; do
     cp docs/tape.1 docs/tape.bash docs/_tape docs/tape.fish docs/tape.magic "$room/$top/"
     install -m 644 -D "$room/$it/tape.o" "$room/$top/link/tape.o"
     cp "$room/shim.c" "$room/$top/link/"
-    cp "$room/COPYRIGHT.static" "$room/$top/COPYRIGHT"
+    cp "$room/COPYRIGHT" "$room/$top/"
     settle "$room/$top"
     tar -C "$room" --sort=name --owner=0 --group=0 --numeric-owner -cf - "$top" |
         gzip -9n >"$out/$top.tar.gz"
@@ -235,7 +243,7 @@ done
 
 deb=$room/deb doc=$room/deb/usr/share/doc/tape-volumes share=$room/deb/usr/share
 papers "$doc"
-cp "$room/COPYRIGHT" "$doc/copyright"
+cp "$room/COPYRIGHT.debian" "$doc/copyright"
 mkdir -p "$deb/DEBIAN"
 install -m 755 docs/page.py "$deb/usr/bin/tape-page"
 install -m 644 -D docs/tape.bash "$share/bash-completion/completions/tape"

@@ -7,8 +7,10 @@ The parts are the libraries of the toolchain that crates.txt names for `tape` an
 those that they use in turn. Their licences are in the toolchain's folders. OUT gets
 
     parts.spdx.json     the parts, with their versions, licences and origins, as SPDX 2.3
-    COPYRIGHT           the same for people, with all licence texts: the program as the toolchain links it
-    COPYRIGHT.static    the same for the static programs, which also contain the GNU C library
+    COPYRIGHT           the same for people, with all licence texts, and those of the GNU C library, which the
+                        static programs contain
+    COPYRIGHT.debian    the same for Debian's package, without the C library, and without the text of the
+                        Apache License, which each Debian system has
 
 Each FILE, named by its path below OUT, is listed with its checksums: an object file, shim.c, or a program.
 SOURCE_DATE_EPOCH is the time in the list. A licence text that is not recognised ends the script with an error.
@@ -86,8 +88,8 @@ def parts_of(kit):
     return [found[name] for name in sorted(found)]
 
 
-def copyright_of(version, parts, static):
-    """All licence texts."""
+def copyright_of(version, parts, is_debian):
+    """The parts and all licence texts."""
     path = os.path.join(TOP, "LICENSE")
     own = read(path).strip() if os.path.exists(path) else "No licence has been granted for this work yet."
     out = [f"tape {version}", own, "The program contains these parts, which belong to others. parts.spdx.json is the "
@@ -95,11 +97,13 @@ def copyright_of(version, parts, static):
     texts = {}
     for part in parts:
         for text in part.texts:
+            if is_debian and licence_of(text, part.name) == "Apache-2.0":
+                text = "The Apache License 2.0: see /usr/share/common-licenses/Apache-2.0"
             texts.setdefault(text, []).append(part.name)
     out += [f"---- {', '.join(names)} ----\n\n{text}" for text, names in texts.items()]
-    if static:
+    if not is_debian:
         out += ["---- the GNU C library ----\n\nThe program is linked with it statically. To link it with another "
-                "version, or another C library:\n\n    cc -O2 -s -static tape.o shim.c -o tape",
+                "version, or another C library,\nin the directory link:\n\n    cc -O2 -s -static tape.o shim.c -o tape",
                 read("/usr/share/doc", STATIC["glibc"][0], "copyright").strip(),
                 read("/usr/share/common-licenses/LGPL-2.1").strip(),
                 "---- libgcc ----\n\nA few of its functions may be in the program, under the GNU General Public "
@@ -169,7 +173,7 @@ def main():
     os.chdir(out)
     kit = os.path.dirname(output("rt", "doc"))
     parts = parts_of(kit)
-    texts = {"COPYRIGHT": copyright_of(version, parts, False), "COPYRIGHT.static": copyright_of(version, parts, True),
+    texts = {"COPYRIGHT": copyright_of(version, parts, False), "COPYRIGHT.debian": copyright_of(version, parts, True),
              "parts.spdx.json": json.dumps(spdx(version, commit, kit, parts, files), indent=1) + "\n"}
     for name, text in texts.items():
         with open(name, "w", encoding="utf-8") as file:

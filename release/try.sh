@@ -1,7 +1,7 @@
 #!/bin/bash
 # try.sh OUT ROOT: tries the package of a release in ROOT, a Debian root of its own, as debootstrap
-# makes it: installed there, run with nothing else, all examples, removed. Then the program of the
-# archive with nothing beside it, linked again where ROOT has a C compiler. By hand, as root.
+# makes it: installed there, run with nothing else, all examples, removed. Then the program of each
+# archive with nothing beside it, linked again if ROOT has a C compiler for it. By hand, as root.
 set -eu
 here=$(dirname "$(readlink -f "$0")")
 out=$(realpath "$1") root=$(realpath "$2")
@@ -34,13 +34,21 @@ inside dpkg --purge tape-volumes
 find "$root/usr" "$root/etc" -xdev | LC_ALL=C sort >"$out.after"
 diff "$out.before" "$out.after" && echo "nothing is left"
 
-tar -C "$root/try" -xzf "$out"/*.tar.gz
-archive=$(echo "$root"/try/tape-*/)
-# shellcheck disable=SC2046 # the words of the stored run, one a line
-chroot "$archive" /tape $(cat "$top/crates/tape/args") <"$top/crates/tape/stdin" |
-    cmp - "$top/crates/tape/stdout"
-echo "the archive's program runs alone"
-if inside sh -c 'command -v cc' >/dev/null; then
-    inside sh -c 'sh /try/tape-*/relink/relink.sh /try/linked && cmp /try/linked /try/tape-*/tape'
-    echo "linked again it is the same"
-fi
+for machine in x86_64 aarch64; do
+    tar -C "$root/try" -xzf "$out"/tape-*-"$machine"-linux.tar.gz
+    archive=$(echo "$root"/try/tape-*-"$machine"-linux)
+    qemu='' cc=cc
+    if [ "$machine" != "$(uname -m)" ]; then
+        qemu=/qemu cc=$machine-linux-gnu-gcc
+        cp "$(command -v "qemu-$machine-static")" "$archive$qemu"
+    fi
+    # shellcheck disable=SC2046 # the words of the stored run, one a line
+    chroot "$archive" $qemu /tape $(cat "$top/crates/tape/args") <"$top/crates/tape/stdin" |
+        cmp - "$top/crates/tape/stdout"
+    echo "$machine: the archive's program runs alone"
+    if inside sh -c "command -v $cc" >/dev/null; then
+        inside sh -c "cd /try/tape-*-$machine-linux/link &&
+            $cc -O2 -s -static tape.o shim.c -o /try/linked && cmp /try/linked ../tape"
+        echo "$machine: linked again it is the same"
+    fi
+done
