@@ -9,7 +9,7 @@
 #   tape.stamp                           the toolchain's checksum of sources, toolchain and program
 #   PROVED.txt                           commit, toolchain, the last line of each proof, checksums
 #   ASSUMED.txt                          the C functions whose contracts the proofs assume
-#   parts.spdx.json                      the parts of the program, with versions and licences
+#   parts.spdx.json                      the parts of the program, with origins and licences
 #   SHA256SUMS
 # All packages have man page, completions, pages, licences and a sample image. CI-LOG is the output
 # of 'rt ci' at this commit; its last line is copied into PROVED.txt.
@@ -216,7 +216,7 @@ T
 # What all packages have: all pages, so that their links lead somewhere, and an image to try.
 papers() {
     mkdir -p "$1/examples"
-    git ls-files -z '*.md' docs/page.html ':!.github' | xargs -0 cp --parents -t "$1"
+    git archive "$commit" -- '*.md' docs/page.html ':!.github' | tar -x -C "$1"
     cp "$out/PROVED.txt" "$out/ASSUMED.txt" "$out/parts.spdx.json" "$1/"
     cp crates/tape/stdin "$1/examples/reel.tap"
 }

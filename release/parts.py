@@ -6,7 +6,7 @@
 The parts are the libraries of the toolchain that crates.txt names for `tape` and for the crates below it, and
 those that they use in turn. Their licences are in the toolchain's folders. OUT gets
 
-    parts.spdx.json     the parts, with their versions, licences and origins, as SPDX 2.3
+    parts.spdx.json     the parts, with their licences and origins, as SPDX 2.3
     COPYRIGHT           the same for people, with all licence texts, and those of the GNU C library, which the
                         static programs contain
     COPYRIGHT.debian    the same for Debian's package, without the C library, and without the text of the
@@ -125,25 +125,20 @@ def spdx(version, commit, kit, parts, files):
     toolchain = read(kit, "KIT-ID").split(" ")[0]
     packages = [package("tape", version, own, supplier=MAINTAINERS, primaryPackagePurpose="APPLICATION",
                         sourceInfo=f"git commit {commit}"),
-                package("rattle", toolchain, "NOASSERTION", comment="The toolchain that proved and compiled it.")]
+                package("rattle", toolchain, "NOASSERTION", sourceInfo="The toolchain that proved and compiled it.")]
     relations = [("SPDXRef-DOCUMENT", "DESCRIBES", "SPDXRef-tape"),
                  ("SPDXRef-rattle", "BUILD_TOOL_OF", "SPDXRef-tape")]
     for part in parts:
-        more = {"copyrightText": "\n".join(part.owners) or "NOASSERTION"}
-        if part.origin:
-            more["comment"] = f"Written in Rattle after the Rust crate {part.name} {part.origin}."
-            more["externalRefs"] = [{"referenceCategory": "PACKAGE-MANAGER", "referenceType": "purl",
-                                     "referenceLocator": f"pkg:cargo/{part.name}@{part.origin}",
-                                     "comment": "the crate that it follows"}]
-        else:
-            more["comment"] = "A library of the toolchain. No licence text comes with it."
-        packages.append(package(part.name, part.origin or toolchain, part.licence or "NOASSERTION", **more))
+        source = (f"Written in Rattle after the Rust crate {part.name} {part.origin}." if part.origin else
+                  "A library of the toolchain. No licence text comes with it.")
+        packages.append(package(part.name, toolchain, part.licence or "NOASSERTION", sourceInfo=source,
+                                copyrightText="\n".join(part.owners) or "NOASSERTION"))
         relations.append(("SPDXRef-tape", "STATIC_LINK", packages[-1]["SPDXID"]))
         relations += [(packages[-1]["SPDXID"], "DEPENDS_ON", f"SPDXRef-{it.replace('_', '-')}") for it in part.uses]
     for name, (debian, licence) in STATIC.items():
         said = output("dpkg-query", "-W", "-f", "${source:Package} ${source:Version}", debian).split(" ")
         packages.append(package(name, said[1], licence, supplier="Organization: Debian",
-                                comment=f"Debian's source package {said[0]}."))
+                                sourceInfo=f"Debian's source package {said[0]}."))
     listed = []
     for at, file in enumerate(files):
         with open(file, "rb") as it:
