@@ -11,7 +11,9 @@ import tempfile
 from dataclasses import dataclass, field
 
 TOP = os.path.dirname(os.path.dirname(os.path.abspath(__file__)))
-BUILT = os.path.join(TOP, "crates", "tape", "out", "tape")
+OUT = os.path.join(TOP, "crates", "tape", "out")
+# The proved program, or else the unproved one that `./tape` makes.
+BUILT = next(filter(os.path.exists, [os.path.join(OUT, "tape"), os.path.join(OUT, "unproved")]), OUT)
 
 
 @dataclass
@@ -129,8 +131,8 @@ def parse(page):
     parser.add_argument("--check", action="store_true", help="write nothing; report what is out of date, with status 1")
     parser.add_argument("--program", default=BUILT, help="the built program (default: %(default)s)")
     options = parser.parse_args()
-    if not os.path.exists(options.program):
-        sys.exit(f"{options.program} does not exist: run ./tape --help first, or name another program with --program")
+    if not os.path.isfile(options.program):
+        sys.exit(f"{options.program} is no program: run ./tape --help first, or name another one with --program")
     return options
 
 
