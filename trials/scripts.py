@@ -107,8 +107,9 @@ def converted(trial, content, items, what):
     said = f"{len(blocks)} blocks, {len(items) - len(blocks)} tape marks\n".encode()
     note = any(len(item) > 99_999 for item in blocks)
     trial.expect((done.returncode, done.stdout, bool(done.stderr)) == (0, said, note), f"{what}: {done}")
-    trial.expect(out.read_bytes() == b"".join(map(encoded, items)) + END, f"{what}: the items differ")
-    out.unlink()
+    seen = out.read_bytes() if out.exists() else b""
+    trial.expect(seen == b"".join(map(encoded, items)) + END, f"{what}: the items differ")
+    out.unlink(missing_ok=True)
 
 
 def refused_image(trial, content, why):
@@ -260,6 +261,14 @@ def try_reread(trial):
             (["1=/dev/null"], "/dev/null is empty"), (["1=long"], "long is longer"), (["block"], "block is not N=FILE"),
             (["-1=block"], "usage"), (["1=block", "01=block"], "named twice")):
         trial.refused(["tape-patch", "bad.tap", "OUT.tap", *words], why, 2 if why == "usage" else 1)
+    # The patch says nothing about the end: a fault at the end of the image stays one.
+    (folder / "a").write_bytes(b"a")
+    for at, (end, word_of_end) in enumerate(((b"\1", b"CUT"), (b"", b"PHYSICAL"), (END, b"MARKED"))):
+        line, status = b"MERGED 4 0 4 " + word_of_end, 3 * (word_of_end == b"CUT")
+        (folder / "end.tap").write_bytes(image()[:264] + bad(b"a") + end)
+        trial.run("tape-patch", "end.tap", f"patch{at}.tap", "4=a")
+        done = trial.run("tape", "merge", f"merged{at}.tap", "end.tap", f"patch{at}.tap")
+        trial.expect((done.stdout.splitlines()[-1:], done.returncode) == ([line], status), f"the end of a patch: {done}")
     trial.refused(["tape-patch", "bad.tap", "good.tap", "1=block"], "already exists")
     trial.refused(["tape-patch", "none.tap", "OUT.tap", "1=block"], "none.tap: tape: file fault 2")
     trial.refused(["tape-patch", "bad.tap"], "usage: tape-patch", 2)
@@ -372,6 +381,7 @@ def try_bags(trial):
     trial.expect(not list(faults(bag)), "bags.py: the bag is as before")
     (folder / "one.tap").write_bytes(image())
     trial.refused(["tape-bag", "OUT.tap", "none.tap"], "no file was recovered", 3)
+    trial.refused(["tape-bag", "OUT.tap", "one.tap", "no UTF-8 \udcff.tap"], "not valid UTF-8")
     for words, why in ((["one.tap", "--", "A:B=x"], "'A:B=x' is not FIELD=VALUE"), (["one.tap", "--", "A"], "not FIELD"),
             (["one.tap", "--", "A=x\ny"], "not FIELD"), (["one.tap", "--", " A=x"], "not FIELD"),
             (["one.tap", "--", "payload-oxum=1.1"], "is written by tape-bag"), ([], "usage: tape-bag"),
