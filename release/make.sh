@@ -232,6 +232,7 @@ for it in $machines; do
     papers "$room/$top"
     install -m 755 "$room/$it/tape" "$room/$top/tape"
     install -m 755 docs/page.py "$room/$top/tape-page"
+    install -m 755 scripts/* "$room/$top/"
     cp docs/tape.1 docs/tape.bash docs/_tape docs/tape.fish docs/tape.magic "$room/$top/"
     install -m 644 -D "$room/$it/tape.o" "$room/$top/link/tape.o"
     cp "$room/shim.c" "$room/$top/link/"
@@ -246,6 +247,7 @@ papers "$doc"
 cp "$room/COPYRIGHT.debian" "$doc/copyright"
 mkdir -p "$deb/DEBIAN"
 install -m 755 docs/page.py "$deb/usr/bin/tape-page"
+install -m 755 scripts/* "$deb/usr/bin/"
 install -m 644 -D docs/tape.bash "$share/bash-completion/completions/tape"
 install -m 644 -D docs/_tape "$share/zsh/vendor-completions/_tape"
 install -m 644 -D docs/tape.fish "$share/fish/vendor_completions.d/tape.fish"
@@ -266,6 +268,7 @@ Maintainer: $maintainer
 Installed-Size: $size
 Depends: libc6 (>= $glibc)
 Recommends: python3
+Suggests: mt-st, hercules, gddrescue
 Section: utils
 Priority: optional
 Description: reads and writes ANSI labelled magnetic tapes in .tap images
