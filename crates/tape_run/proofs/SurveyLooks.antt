@@ -6,7 +6,7 @@ use Rattle.tape_image.specs.{Tape.TapeItem, Reader.IfKnown}
 use Rattle.tape_image.specs.Step.{TakesItem, TakesEnd, TakesFault}
 use Rattle.tape_image.proofs.Walks.{known_end, known_fault, IfKnown-map}
 use Rattle.tape_label.specs.{declared.values.Head1.Head1, declared.values.Head2.Head2}
-use Rattle.tape_run.specs.SurveyFiles.{Filed, with_met, with_form, form_in, with_label, with_all}
+use Rattle.tape_run.specs.SurveyFiles.{Labelled, with_met, with_form, form_in, with_label, with_all}
 use Rattle.tape_run.specs.SurveyGlance.{blank_glance, head_in, look_to, look_all, glance_of}
 use Rattle.tape_run.specs.{declared.survey.files.FileKey.FileKey, declared.passing.Phase.Phase}
 use Rattle.tape_run.specs.{declared.survey.glance.ImageSummary.ImageSummary, Noted.noted_all}
@@ -31,11 +31,12 @@ look_all-append g p [] x = refl
 look_all-append g p (y ∷ ys) x = look_all-append (look_to g p y (step p y).0) (step p y).0 ys x
 
 -- and the header label that it is was recorded
-pub with_all-append : (files : List Filed) (p : Phase) (xs : List TapeItem) (x : TapeItem)
-    → with_all files p (xs ++ x ∷ [])
-    ≡ with_label (with_all files p xs) (phase_after p xs) x
-with_all-append files p [] x = refl
-with_all-append files p (y ∷ ys) x = with_all-append (with_label files p y) (step p y).0 ys x
+pub with_all-append : (image : ℕ) (files : Labelled) (p : Phase) (xs : List TapeItem) (x : TapeItem)
+    → with_all image files p (xs ++ x ∷ [])
+    ≡ with_label image (with_all image files p xs) (phase_after p xs) x
+with_all-append image files p [] x = refl
+with_all-append image files p (y ∷ ys) x =
+    with_all-append image (with_label image files p y) (step p y).0 ys x
 
 -- and the image of its section was recorded
 pub locate_all-append : (image : ℕ) (sections : List Told) (located : List Located) (p : Phase)
@@ -66,22 +67,22 @@ damages_in-append items x =
 
 -- Of the bytes `all` the items up to an offset were examined, and the results were recorded.
 pub record LookedSoFar (all left : Option (List ℕ)) (place image : ℕ) (sections : List Told)
-    (files : List Filed) (located : List Located) (known : Copied) (phase : Phase)
+    (files : Labelled) (located : List Located) (known : Copied) (phase : Phase)
     (g : ImageSummary)
-    (digest : ℕ) (told : List Told) (filed : List Filed) (locations : List Located)
+    (digest : ℕ) (told : List Told) (filed : Labelled) (locations : List Located)
     (copies : Copied)
     (damaged : List SectionLine) : Type 0 where
   pub count : ℕ
   pub so_far : SoFar all left place count sections phase told
   pub counted : g.items ≡ count
   pub glance : g ≡ glance_of so_far.items
-  pub named : filed ≡ filed_in files so_far.items
+  pub named : filed ≡ filed_in image files so_far.items
   pub places : locations ≡ located_in image sections located so_far.items
   pub copied : CopiedSoFar so_far.items image known digest copies
   pub damages : damaged ≡ damages_in (told_from Volume so_far.items)
 
 pub looks_start : (all left : Option (List ℕ)) (place image : ℕ) (sections : List Told)
-    (files : List Filed) (located : List Located) (known : Copied) (g : ImageSummary)
+    (files : Labelled) (located : List Located) (known : Copied) (g : ImageSummary)
     (listed : List SectionLine) → place ≡ 0 → left ≡ all → g ≡ blank_glance → listed ≡ []
     → LookedSoFar all left place image sections files located known Volume g 0 sections files
     located
@@ -99,21 +100,22 @@ looks_start all left place image sections files located known g listed first sam
     }
 
 -- one more item was read for the labels of files
-pub labels_noted : (old mid new : List Filed) (p : Phase) (x : TapeItem) (head : Option Head1)
-    (form : Option (FileKey × Head2)) → mid ≡ with_met old head → head ≡ head_in p x
-    → new ≡ with_form mid form → form ≡ form_in p x → new ≡ with_label old p x
-labels_noted old mid new p x head form noted is formed found =
+pub labels_noted : (image : ℕ) (old mid new : Labelled) (p : Phase) (x : TapeItem)
+    (head : Option Head1) (form : Option (FileKey × Head2)) → mid ≡ with_met old image head
+    → head ≡ head_in p x → new ≡ with_form mid form → form ≡ form_in p x
+    → new ≡ with_label image old p x
+labels_noted image old mid new p x head form noted is formed found =
     rw (formed, found, noted, is)
 
 pub looks_more : (all left next : Option (List ℕ)) (p q image : ℕ) (item : TapeItem)
-    (sections : List Told) (files : List Filed) (located : List Located) (known : Copied)
+    (sections : List Told) (files : Labelled) (located : List Located) (known : Copied)
     (phase after : Phase) (g h : ImageSummary) (digest then : ℕ) (mid told : List Told)
-    (named filed : List Filed) (there locations : List Located) (found copies : Copied)
+    (named filed : Labelled) (there locations : List Located) (found copies : Copied)
     (here : Option Told) (listed damaged : List SectionLine)
     → LookedSoFar all left p image sections files located known phase g digest mid named there found
     listed
     → IfKnown left next (TakesItem p item q) → after ≡ (step phase item).0
-    → told ≡ noted_all mid (in_list (step phase item).1) → filed ≡ with_label named phase item
+    → told ≡ noted_all mid (in_list (step phase item).1) → filed ≡ with_label image named phase item
     → locations ≡ with_location mid there image (head_in phase item)
     → here ≡ (step phase item).1 → copies ≡ with_told found image here digest
     → damaged ≡ listed ++ damages_in (in_list here)
@@ -132,7 +134,7 @@ looks_more all left next p q image item sections files located known phase after
           goes notes;
       counted = rw (looks, s.counted);
       glance = rw (looks, goes, stands, s.glance, look_all-append blank_glance Volume items item);
-      named = rw (names, stands, s.named, with_all-append files Volume items item);
+      named = rw (names, stands, s.named, with_all-append image files Volume items item);
       places = rw (
         places,
         stands,
@@ -158,8 +160,8 @@ all_damages items phase listed damaged stands so_far lists =
     ∙ sym (flat_map-append damage_in (told_from Volume items) last)
 
 pub viewed_end : (all left next : Option (List ℕ)) (p q image : ℕ) (ending : Ending)
-    (sections : List Told) (files : List Filed) (located : List Located) (known : Copied)
-    (phase : Phase) (sight : ImageSurvey) (digest : ℕ) (mid told : List Told) (filed : List Filed)
+    (sections : List Told) (files : Labelled) (located : List Located) (known : Copied)
+    (phase : Phase) (sight : ImageSurvey) (digest : ℕ) (mid told : List Told) (filed : Labelled)
     (locations : List Located) (copies : Copied) (listed : List SectionLine)
     → LookedSoFar all left p image sections files located known phase sight.glance digest mid filed
     locations copies listed
@@ -185,8 +187,8 @@ viewed_end all left next p q image ending sections files located known phase sig
     }
 
 pub viewed_fault : (all left next : Option (List ℕ)) (p image : ℕ) (fault : ImageFault)
-    (sections : List Told) (files : List Filed) (located : List Located) (known : Copied)
-    (phase : Phase) (sight : ImageSurvey) (digest : ℕ) (mid told : List Told) (filed : List Filed)
+    (sections : List Told) (files : Labelled) (located : List Located) (known : Copied)
+    (phase : Phase) (sight : ImageSurvey) (digest : ℕ) (mid told : List Told) (filed : Labelled)
     (locations : List Located) (copies : Copied) (listed : List SectionLine)
     → LookedSoFar all left p image sections files located known phase sight.glance digest mid filed
     locations copies listed

@@ -67,13 +67,16 @@ pub none_missing : (ts : List Told) → found_all ts ≡ true → lacks ts ≡ [
 none_missing [] e = absurd (cc e)
 none_missing (t ∷ ts) e = none_lacks (lacks (t ∷ ts)) e
 
+no_pair : (pair : Option (ℕ × ℕ)) → is_some pair ≡ false → pair ≡ None
+no_pair None e = refl
+no_pair (Some p) e = absurd (cc e)
+
 one_label : (fs : List Filed) → any_differs fs ≡ false
-    → AllByRecursion (λ f. f.1.differs ≡ false) fs
+    → AllByRecursion (λ f. f.1.conflict ≡ None) fs
 one_label [] e = tt
-one_label (f ∷ fs) e = (
-  (or_parts f.1.differs (any_differs fs) e).0,
-  one_label fs (or_parts f.1.differs (any_differs fs) e).1,
-)
+one_label (f ∷ fs) e =
+    let (first, rest) = or_parts (is_some f.1.conflict) (any_differs fs) e in
+    (no_pair f.1.conflict first, one_label fs rest)
 
 -- ---- the contents of a map after an insertion
 
@@ -278,12 +281,12 @@ pub all_is_sound : {L R : Type 0} (gives : Mounting L R) (remaining : R → Opti
     → IsSound gives remaining shelf last sights d v
 all_is_sound gives remaining shelf last sights d v e =
     let (whole, one) = and_parts d.whole (found_all d.sections && (all_good d.sections
-    && (not (any_differs d.files) && is_agreed d.copies.conflicts))) e in
+    && (not (any_differs d.files.notes) && is_agreed d.copies.conflicts))) e in
     let (found, two) = and_parts (found_all d.sections) (all_good d.sections
-    && (not (any_differs d.files) && is_agreed d.copies.conflicts)) one in
+    && (not (any_differs d.files.notes) && is_agreed d.copies.conflicts)) one in
     let (good, three) = and_parts (all_good d.sections)
-    (not (any_differs d.files) && is_agreed d.copies.conflicts) two in
-    let (labels, agreed) = and_parts (not (any_differs d.files)) (is_agreed d.copies.conflicts)
+    (not (any_differs d.files.notes) && is_agreed d.copies.conflicts) two in
+    let (labels, agreed) = and_parts (not (any_differs d.files.notes)) (is_agreed d.copies.conflicts)
     three in
     let all = images_noted gives remaining [] shelf 0 sights nothing_found last d v (λ _. tt) agreed
     in
@@ -292,7 +295,7 @@ all_is_sound gives remaining shelf last sights d v e =
       found = some_found d.sections found;
       sections = all_are_good d.sections good;
       missing = none_missing d.sections found;
-      labels = one_label d.files (not-true (any_differs d.files) labels);
+      labels = one_label d.files.notes (not-true (any_differs d.files.notes) labels);
       copies = λ x y i j same. agree d.copies.notes x y
           (of_all (IsNoted d.copies.notes)
           (all_placed gives remaining shelf 0 sights nothing_found last d v) x all i)

@@ -55,7 +55,7 @@ pub record CasesOfSurveys : Type 0 where
       → IfKnown before v.0 (StopsBehind v.1.items s.stop) × (s.glance ≡ glance_of v.1.items)
       × (s.damaged ≡ damages_in (met_in v.1.items))
       × (d.sections ≡ noted_all c.sections (met_in v.1.items))
-      × (d.files ≡ filed_in c.files v.1.items)
+      × (d.files ≡ filed_in c.images c.files v.1.items)
       × (d.locations ≡ located_in c.images c.sections c.locations v.1.items)
       × (d.copies ≡ copied_in c.images c.copies v.1.items)
       × (d.whole ≡ (c.whole && is_whole_sight s)) × (d.images ≡ next_image c.images)

@@ -1,6 +1,6 @@
 -- The good copies of sections, compared by their data blocks.
 use Rattle.std.specs.Prelude.{ℕ, ◌+◌, ◌==◌, ◌&&◌, min, Bool, true, false, if◌then◌else◌, List, []}
-use Rattle.std.specs.Prelude.{◌∷◌, ◌++◌, Option, Some, None, is_some}
+use Rattle.std.specs.Prelude.{◌∷◌, ◌++◌, Option, Some, None, is_some, option_map}
 use Rattle.std.specs.{List.flat_map, Map.lookup, Option.option_or}
 use Rattle.indexmap.specs.IndexMap.{insert_entry}
 use Rattle.tape_image.specs.Tape.{TapeItem, block, bad, mark}
@@ -9,7 +9,7 @@ use Rattle.tape_run.specs.declared.{passing.Phase.Phase, section.SectionKey.Sect
 use Rattle.tape_run.specs.declared.passing.Phase.TheVariants.{Volume, Headers, Data}
 use Rattle.tape_run.specs.{Noted.same_key, Noted.is_good, Passing.Told, Passing.step}
 use Rattle.tape_run.specs.{SurveyDigest.digest_of, SurveyDigest.digest_with, SurveyFiles.same_file}
-use Rattle.tape_run.specs.SurveyFiles.{file_key}
+use Rattle.tape_run.specs.{SurveyFiles.file_key, Lacks.key_at}
 
 -- ---- the good copies on an image
 
@@ -127,6 +127,20 @@ digest_in digest p x = digest
 -- a section of a file whose good copies differ, if any
 abbrev pub dispute_at : Copied → FileKey → Option ℕ
 dispute_at c key = lookup (same_file key) c.conflicts
+
+-- two images with good copies of the section with this record that differ, if any
+abbrev pub opponents_by : Option CopyNote → Option (ℕ × ℕ)
+opponents_by None = None
+opponents_by (Some n) = option_map (λ other. (n.image, other)) n.other
+
+-- those of this section of a file, if good copies of it differ
+abbrev pub opponents_in : List Noted → FileKey → Option ℕ → Option (ℕ × ℕ)
+opponents_in notes key None = None
+opponents_in notes key (Some sect) = opponents_by (noted_at notes (key_at key.set_id key.file sect))
+
+-- those of a section of the file
+abbrev pub opponents_at : Copied → FileKey → Option (ℕ × ℕ)
+opponents_at c key = opponents_in c.notes key (dispute_at c key)
 
 -- good copies of the section with this record differ
 abbrev pub differs : Option CopyNote → Bool

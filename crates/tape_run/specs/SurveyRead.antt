@@ -5,7 +5,8 @@ use Rattle.tape_image.specs.{Tape.TapeItem, Reader.IfKnown}
 use Rattle.tape_run.specs.{declared.survey.view.ImageSurvey.ImageSurvey, SurveyTally.is_whole_sight}
 use Rattle.tape_run.specs.{Added.StopsBehind, SurveyGlance.glance_of, SurveyGlance.damages_in}
 use Rattle.tape_run.specs.{Checked.Reel, Noted.noted_all, Reeling.Mounting}
-use Rattle.tape_run.specs.{Passing.Told, Passing.met_in, SurveyFiles.Filed, SurveyFiles.filed_in}
+use Rattle.tape_run.specs.{Passing.Told, Passing.met_in, SurveyFiles.Labelled, SurveyFiles.filed_in}
+use Rattle.tape_run.specs.SurveyFiles.{no_labels}
 use Rattle.tape_run.specs.SurveyCopies.{Copied, no_copies, copied_in}
 use Rattle.tape_run.specs.SurveyLocations.{Located, located_in, next_image}
 
@@ -13,7 +14,7 @@ use Rattle.tape_run.specs.SurveyLocations.{Located, located_in, next_image}
 -- completely, the image of each section, its good copies, and the number of images
 pub record Found : Type 0 where
   pub sections : List Told
-  pub files : List Filed
+  pub files : Labelled
   pub whole : Bool
   pub locations : List Located
   pub copies : Copied
@@ -23,7 +24,7 @@ pub record Found : Type 0 where
 abbrev pub nothing_found : Found
 nothing_found = record {
   sections = [];
-  files = [];
+  files = no_labels;
   whole = true;
   locations = [];
   copies = no_copies;
@@ -34,15 +35,15 @@ nothing_found = record {
 -- header labels in them were added, the places of the sections, and the good copies. Before the
 -- call the reader had the bytes `before`, and then the bytes `after`.
 pub record ViewsItems (before after : Option (List ℕ)) (image : ℕ) (sections : List Told)
-    (files : List Filed) (located : List Located) (known : Copied) (sight : ImageSurvey)
-    (told : List Told) (filed : List Filed) (locations : List Located) (copies : Copied) : Type 0
+    (files : Labelled) (located : List Located) (known : Copied) (sight : ImageSurvey)
+    (told : List Told) (filed : Labelled) (locations : List Located) (copies : Copied) : Type 0
   where
     pub items : List TapeItem
     pub stop : IfKnown before after (StopsBehind items sight.stop)
     pub glance : sight.glance ≡ glance_of items
     pub damaged : sight.damaged ≡ damages_in (met_in items)
     pub noted : told ≡ noted_all sections (met_in items)
-    pub named : filed ≡ filed_in files items
+    pub named : filed ≡ filed_in image files items
     pub places : locations ≡ located_in image sections located items
     pub copied : copies ≡ copied_in image known items
 

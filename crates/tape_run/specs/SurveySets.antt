@@ -39,7 +39,7 @@ known_text None = codes "(no label found)"
 
 -- labels of different files were found
 abbrev pub is_mixed : Option FileNote → Bool
-is_mixed (Some note) = note.differs
+is_mixed (Some note) = is_some note.conflict
 is_mixed None = false
 
 -- nothing of the file is missing
@@ -114,4 +114,4 @@ all_good (t ∷ ts) = is_good t.1.state && all_good ts
 -- copies differ.
 abbrev pub is_all : Found → Bool
 is_all d = d.whole && (found_all d.sections && (all_good d.sections
-    && (not (any_differs d.files) && is_agreed d.copies.conflicts)))
+    && (not (any_differs d.files.notes) && is_agreed d.copies.conflicts)))

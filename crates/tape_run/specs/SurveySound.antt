@@ -26,7 +26,7 @@ pub record IsSound {L R : Type 0} (gives : Mounting L R) (remaining : R → Opti
   pub found : d.sections ≢ []
   pub sections : AllByRecursion (λ t. t.1.state ≡ Good) d.sections
   pub missing : lacks d.sections ≡ []
-  pub labels : AllByRecursion (λ f. f.1.differs ≡ false) d.files
+  pub labels : AllByRecursion (λ f. f.1.conflict ≡ None) d.files.notes
   pub copies : (x y : Placed)
       → IsIn (all_placed gives remaining shelf 0 sights nothing_found last d v) x
       → IsIn (all_placed gives remaining shelf 0 sights nothing_found last d v) y

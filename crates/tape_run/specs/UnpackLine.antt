@@ -4,7 +4,7 @@ use Rattle.tape_run.specs.declared.unpack.line.{UnpackOutcome.UnpackOutcome, Not
 use Rattle.tape_run.specs.declared.unpack.line.UnpackOutcome.TheVariants.{Complete, Awaits, Ready}
 use Rattle.tape_run.specs.declared.unpack.line.UnpackOutcome.TheVariants.{Lacks, Exists, Conflict}
 use Rattle.tape_run.specs.declared.unpack.line.UnpackOutcome.TheVariants.{NotFound, Failed}
-use Rattle.tape_run.specs.declared.unpack.line.UnpackOutcome.TheVariants.{Salvaged}
+use Rattle.tape_run.specs.declared.unpack.line.UnpackOutcome.TheVariants.{Salvaged, StageKept}
 use Rattle.tape_run.specs.declared.unpack.line.Notice.TheVariants.{NoSet, NoFile, Unread}
 use Rattle.tape_run.specs.{Identifier.identifier_text, Quoting.name_text}
 
@@ -19,6 +19,7 @@ unpack_outcome_text Conflict = codes "CONFLICT"
 unpack_outcome_text NotFound = codes "NOT FOUND"
 unpack_outcome_text Failed = codes "FAILED"
 unpack_outcome_text Salvaged = codes "SALVAGED"
+unpack_outcome_text StageKept = codes "STAGE KEPT"
 
 -- a path, if there is one
 abbrev pub path_text : List ℕ → List ℕ

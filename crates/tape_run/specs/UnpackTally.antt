@@ -4,7 +4,7 @@ use Rattle.tape_run.specs.declared.unpack.{line.UnpackOutcome.UnpackOutcome, tal
 use Rattle.tape_run.specs.declared.unpack.line.UnpackOutcome.TheVariants.{Complete, Awaits, Ready}
 use Rattle.tape_run.specs.declared.unpack.line.UnpackOutcome.TheVariants.{Lacks, Exists, Conflict}
 use Rattle.tape_run.specs.declared.unpack.line.UnpackOutcome.TheVariants.{NotFound, Failed}
-use Rattle.tape_run.specs.declared.unpack.line.UnpackOutcome.TheVariants.{Salvaged}
+use Rattle.tape_run.specs.declared.unpack.line.UnpackOutcome.TheVariants.{Salvaged, StageKept}
 
 -- nothing was reported
 abbrev pub nothing_counted : Tally
@@ -32,6 +32,7 @@ counted t Conflict files = record t { in_conflict = more t.in_conflict files }
 counted t NotFound files = record t { not_found = more t.not_found files }
 counted t Failed files = record t { failed = more t.failed files }
 counted t Salvaged files = t
+counted t StageKept files = t
 
 -- the last line
 abbrev pub total_line : Tally → List ℕ

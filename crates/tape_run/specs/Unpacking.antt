@@ -2,7 +2,7 @@
 use Rattle.std.specs.Prelude.{◌≡◌, ◌==◌, ◌&&◌, ◌||◌, not, false, ℕ, zero, suc, ◌+◌, ◌-◌, ◌/◌, ◌%◌}
 use Rattle.std.specs.Prelude.{nat_le, nat_lt, Bool, if◌then◌else◌, List, [], ◌∷◌, ◌++◌, length}
 use Rattle.std.specs.Prelude.{take, Option, Some, None, option_map, is_some, codes, decimal, get_or}
-use Rattle.std.specs.List.{flat_map}
+use Rattle.std.specs.{List.flat_map, Option.option_or}
 use Rattle.tape_label.specs.declared.values.Head1.{Head1}
 use Rattle.tape_set.specs.declared.position.Want.{Want}
 use Rattle.tape_run.specs.declared.survey.glance.{First.First, First.TheVariants.Volume}
@@ -10,18 +10,20 @@ use Rattle.tape_run.specs.declared.survey.{view.ImageSurvey.ImageSurvey, files.F
 use Rattle.tape_run.specs.declared.unpack.{SetFile.SetFile, FoundFiles.FoundFiles}
 use Rattle.tape_run.specs.{Lacks.SetFiles, Lacks.sets_from, Lacks.lack_of, Quoting.hex}
 use Rattle.tape_run.specs.{Reeling.Mounting, SurveyCopies.dispute_at, SurveyLine.trimmed_len}
+use Rattle.tape_run.specs.SurveyCopies.{opponents_at}
 use Rattle.tape_run.specs.{SurveyTally.is_whole_sight, SurveyFiles.note_at, SurveyFiles.file_key}
 use Rattle.tape_run.specs.SurveyRead.{Found, nothing_found, AreViewed}
 
 -- the file that is described by these facts about its labels; without a label there is none. It is
--- in conflict if its labels differ, or good copies of a section.
+-- in conflict if its labels differ, or good copies of a section, and then two images are named.
 abbrev pub file_by : Found → List ℕ → ℕ → Option FileNote → List SetFile
 file_by d set_id file None = []
 file_by d set_id file (Some note) = record {
   set_id = set_id;
   file = file;
   file_id = note.head.file_id;
-  differs = note.differs || is_some (dispute_at d.copies (file_key set_id file));
+  differs = is_some note.conflict || is_some (dispute_at d.copies (file_key set_id file));
+  conflict = option_or note.conflict (opponents_at d.copies (file_key set_id file));
   lacks = lack_of d.sections set_id file;
 } ∷ []
 

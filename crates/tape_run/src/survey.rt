@@ -27,7 +27,7 @@ mod volumes;
 
 use crate::check::pass_on;
 use crate::extract::images::ImageSource;
-use crate::fault::EngineFault;
+use crate::fault::{EngineFault, RunFault};
 use compared::add_copies;
 use copies::{Held, disputed_on};
 use line::{image_line, state_at};
@@ -80,10 +80,16 @@ pub fn survey_to<R: Read + Drop, L: ImageSource<R>, P: Write>(
     ensures fault { IfErr result IsCheckFault }
 {
     let mut findings = Findings::new(alloc);
-    let sights = read_images(&mut findings, images, names.len())?;
-    let (text, all) = survey_text(&findings, sights.as_slice(), names, wording)?;
-    pass_on(report, text.as_slice())?;
-    Ok(all)
+    let Ok(sights) = read_images(&mut findings, images, names.len()) else {
+        return Err(EngineFault::Run(RunFault::OutOfMemory));
+    };
+    let Ok((text, all)) = survey_text(&findings, sights.as_slice(), names, wording) else {
+        return Err(EngineFault::Run(RunFault::OutOfMemory));
+    };
+    match pass_on(report, text.as_slice()) {
+        Ok(()) => Ok(all),
+        Err(_) => Err(EngineFault::WriteFailed),
+    }
 }
 
 /// Returns the survey of images that were read, and whether all is well.

@@ -35,6 +35,8 @@ pub struct SetFile {
     pub file_id: Field<17>,
     /// Whether labels of different files have the number, or complete copies of a section differ.
     pub differs: bool,
+    /// The numbers of two images with such labels or copies, if there are any.
+    pub conflict: Option<(usize, usize)>,
     /// The first section that is complete on no image, if there is one.
     pub lacks: Option<u16>,
 }
@@ -73,9 +75,13 @@ pub fn find_files<R: Read + Drop, L: ImageSource<R>>(
 {
     let mut findings = Findings::new(alloc);
     let count = images.count();
-    let sights = read_images(&mut findings, images, count)?;
+    let Ok(sights) = read_images(&mut findings, images, count) else {
+        return Err(RunFault::OutOfMemory);
+    };
     let whole = findings.whole;
-    let files = files_of(alloc, &findings)?;
+    let Ok(files) = files_of(alloc, &findings) else {
+        return Err(RunFault::OutOfMemory);
+    };
     Ok(FoundFiles {
         files: Sequence::of_vec(files),
         images: Sequence::of_vec(sights),
@@ -144,14 +150,15 @@ fn add_file(
         ≡ files.old.items ++ file_at findings.now set_id file) }
 {
     let key = FileKey { set_id, file };
-    let Some(note) = findings.files.get(&key) else {
+    let Some(note) = findings.files.notes.get(&key) else {
         return Ok(());
     };
     files.push(SetFile {
         set_id,
         file,
         file_id: note.head.file_id,
-        differs: note.differs || findings.copies.dispute(&key).is_some(),
+        differs: note.conflict.is_some() || findings.copies.dispute(&key).is_some(),
+        conflict: note.conflict.or(findings.copies.opponents(&key)),
         lacks: lack_of(&findings.sections, set_id, file),
     })?;
     Ok(())

@@ -74,6 +74,104 @@ fn files_of_shelves(rt: HostRuntime) -> Result<(), Fail> {
     found(&rt, &[whole, whole], true, payroll)
 }
 
+/// Header labels, one on each image: what is between `HDR1` and the expiration date; and the
+/// numbers of the two images in conflict, if there are any.
+const LABELS: &[(&[&str], Option<(usize, usize)>)] = &[
+    // The sections of a file were created on different days.
+    (
+        &[
+            "PAYROLL          ABC00100010001000100 85010",
+            "PAYROLL          ABC00100020001000200 85011",
+            "PAYROLL          ABC00100010001000100 85010",
+        ],
+        None,
+    ),
+    // Two labels of one section have different dates or generations, whatever was found before.
+    (
+        &[
+            "PAYROLL          ABC00100010001000100 85010",
+            "PAYROLL          ABC00100010001000100 85017",
+        ],
+        Some((0, 1)),
+    ),
+    (
+        &[
+            "PAYROLL          ABC00100010001000100 85010",
+            "PAYROLL          ABC00100020001000100 85011",
+            "PAYROLL          ABC00100010001000100 85010",
+            "PAYROLL          ABC00100020001000100 85018",
+            "PAYROLL          ABC00100010001000100 85017",
+        ],
+        Some((1, 3)),
+    ),
+    (
+        &[
+            "PAYROLL          ABC00100020001000100 85010",
+            "PAYROLL          ABC00100010001000100 85010",
+            "PAYROLL          ABC00100010001000200 85010",
+        ],
+        Some((1, 2)),
+    ),
+    // The identifiers of all sections are compared.
+    (
+        &[
+            "PAYROLL          ABC00100010001000100 85010",
+            "PAYROLL          ABC00100030001000100 85010",
+            "STOCK            ABC00100020001000100 85010",
+        ],
+        Some((0, 2)),
+    ),
+    // The labels of other files and sets are not.
+    (
+        &[
+            "STOCK            ABC00200010001000100 85010",
+            "PAYROLL          ABC00100010001000100 85010",
+            "STOCK            ABC00100010002000100 85017",
+        ],
+        None,
+    ),
+];
+
+#[test]
+fn labels_in_conflict(rt: HostRuntime) -> Result<(), Fail> {
+    let alloc = rt.alloc();
+    for (labels, conflict) in LABELS {
+        let mut images = Vec::new(alloc);
+        for label in *labels {
+            let header = format!(in alloc; "HDR1{label} 00000 000000")?;
+            images.push(one_section(alloc, header.as_str(), EOF_ONE)?)?;
+        }
+        let mut shelf = Vec::new(alloc);
+        for image in images.as_slice() {
+            shelf.push(Some(image.bytes.as_slice()))?;
+        }
+        let met = find_files(alloc, &mut shelf)?;
+        let mut found = None;
+        for file in met.files.as_slice() {
+            assert!(rt; file.differs == file.conflict.is_some());
+            found = found.or(file.conflict);
+        }
+        assert_eq!(rt; found, *conflict);
+    }
+    Ok(())
+}
+
+/// The two images with complete copies that differ are those of one section.
+#[test]
+fn copies_in_conflict(rt: HostRuntime) -> Result<(), Fail> {
+    let alloc = rt.alloc();
+    let (first, second) = (first_of_two(alloc)?, second_of_two(alloc)?);
+    let shorter = one_section(alloc, HDR1, EOF_ONE)?;
+    let [first, second, shorter] = [&first, &second, &shorter].map(|image| Some(
+        image.bytes.as_slice(),
+    ));
+    let mut shelf = Vec::from_slice(alloc, &[second, first, second, shorter])?;
+    let met = find_files(alloc, &mut shelf)?;
+    let conflict = met.files.as_slice().first().and_then(|file| file.conflict);
+    assert_eq!(rt; conflict, Some((1, 3)));
+    Ok(())
+}
+
 /// Words, the name of file 12, and whether the word means the file.
 const MEANT: &[(&str, &[u8; 17], bool)] = &[
     ("12", b"PAYROLL          ", true),
@@ -114,6 +212,7 @@ fn words_mean_files(rt: HostRuntime) {
             file: 12,
             file_id: Field::of_bytes(**name),
             differs: false,
+            conflict: None,
             lacks: None,
         };
         assert!(rt; means(*word, &file) == *is_meant, "{word}");

@@ -2,6 +2,7 @@
 ghost use Rattle.std.specs.{Result.IsOkUnless, Prelude.◌≡◌, Prelude.OnOk, Prelude.IfOk};
 ghost use Rattle.tape_run.specs.SurveyCopies.{no_copies, copy_note, noted_at, with_told};
 ghost use Rattle.tape_run.specs.SurveyCopies.{dispute_at, differs, disputed, disputed_on};
+ghost use Rattle.tape_run.specs.SurveyCopies.{opponents_at, opponents_by};
 ghost use Rattle.tape_run.specs.declared.fault.RunFault.TheVariants as faults;
 
 use super::files::FileKey;
@@ -130,6 +131,18 @@ impl Copies {
         self.conflicts.get(key).copied()
     }
 
+    /// Returns the numbers of two images with complete copies of a section of the file that differ,
+    /// if there are any.
+    pub(crate) fn opponents(&self, key: &FileKey) -> Option<(usize, usize)>
+        ensures { result ≡ opponents_at self.now key.now }
+    {
+        let (set_id, file) = (key.set_id, key.file);
+        match self.dispute(key) {
+            Some(sect) => opponents_of(self.notes.get(&SectionKey { set_id, file, sect }).copied()),
+            None => None,
+        }
+    }
+
     /// Returns whether complete copies of a section differ.
     fn differs(&self, key: &SectionKey) -> bool
         ensures { result ≡ differs (noted_at self.now.notes key.now) }
@@ -152,6 +165,18 @@ impl Copies {
             }
         }
         Ok(copies)
+    }
+}
+
+/// Returns the numbers of two images with complete copies of a section that differ, by the record of
+/// the section.
+fn opponents_of(note: Option<CopyNote>) -> Option<(usize, usize)>
+    ensures { result ≡ opponents_by note }
+{
+    let note = note?;
+    match note.other {
+        Some(other) => Some((note.image, other)),
+        None => None,
     }
 }
 

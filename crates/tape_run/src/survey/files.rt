@@ -1,13 +1,18 @@
 //! The files whose header labels were found, by their numbers.
-ghost use Rattle.std.specs.{Result.IsOkUnless, Prelude.◌≡◌, Prelude.OnOk, Map.lookup};
-ghost use Rattle.tape_run.specs.SurveyFiles.{same_file, is_other, note_of, with_met, form_in};
-ghost use Rattle.tape_run.specs.SurveyFiles.{with_form, any_differs};
+ghost use Rattle.std.specs.{Result.IsOkUnless, Prelude.◌≡◌, Prelude.OnOk, Prelude.IfOk};
+ghost use Rattle.tape_run.specs.SurveyFiles.{no_labels, is_other, opponent, note_of, with_met};
+ghost use Rattle.tape_run.specs.SurveyFiles.{first_in, with_first, form_in, with_form, any_differs};
+ghost use Rattle.tape_run.specs.SurveyFiles.{same_file, with_form_of, with_note};
+ghost use Rattle.std.specs.Map.{lookup};
 ghost use Rattle.tape_image.specs.Reader.{tape_item};
 ghost use Rattle.tape_run.specs.declared.fault.RunFault.TheVariants as faults;
 
 use crate::fault::RunFault;
 use crate::passing::Phase;
+use crate::section::SectionKey;
 use indexmap::IndexMap;
+use std::alloc::Global;
+use std::marker::Model;
 use tape_image::Item;
 use tape_label::{Field, Head1, Head2, Kind, kind, read_head2};
 
@@ -23,57 +28,152 @@ pub struct FileKey {
 pub struct FileNote {
     /// The label that was found first.
     pub head: Head1,
+    /// The number of its image.
+    pub image: usize,
     /// The second label that was found first, if one was supported.
     pub form: Option<Head2>,
-    /// Whether a label of another file was found.
-    pub differs: bool,
+    /// The numbers of the first two images with labels of different files, if there are any.
+    pub conflict: Option<(usize, usize)>,
+}
+
+/// The header label of a section that was found first, and the number of its image.
+#[derive(Clone, Copy)]
+pub struct FirstHead {
+    pub image: usize,
+    pub head: Head1,
 }
 
 /// The record of each file.
-pub(crate) type Files = IndexMap<FileKey, FileNote>;
+pub(crate) type FileNotes = IndexMap<FileKey, FileNote>;
 
-/// Returns whether header labels with one number belong to different files: by the file identifier,
-/// the creation date and the generation.
+/// The first label of each section.
+type FirstHeads = IndexMap<SectionKey, FirstHead>;
+
+/// The header labels that were found.
+#[derive(Drop)]
+pub(crate) struct Files {
+    pub(crate) notes: FileNotes,
+    heads: FirstHeads,
+}
+
+// Contracts see the labels as the record of each file, and the first label of each section.
+impl Model for Files {
+    ghost use Rattle.tape_run.specs.SurveyFiles.{Labelled};
+
+    ghost Value = { Labelled };
+
+    ghost view = { λ f. record { notes = f.notes.entries; heads = f.heads.entries } };
+}
+
+impl Files {
+    /// Creates an empty record, without labels. Does not allocate.
+    pub(crate) fn new(alloc: Global) -> Files
+        ensures { result ≡ no_labels }
+    {
+        Files {
+            notes: FileNotes::new(alloc),
+            heads: FirstHeads::new(alloc),
+        }
+    }
+}
+
+/// Returns whether header labels with one file number belong to different files: by the file
+/// identifier, and in one section also by the creation date and the generation. The sections of a
+/// file may have been created on different days.
 fn is_other(first: &Head1, second: &Head1) -> bool
     ensures { result ≡ is_other first.now second.now }
 {
     first.file_id != second.file_id
-        || first.created != second.created
-        || first.generation != second.generation
+        || (first.sect == second.sect
+            && (first.created != second.created || first.generation != second.generation))
 }
 
-/// Returns the record of a file after one more of its labels.
-fn note_of(files: &Files, key: &FileKey, head: Head1) -> FileNote
-    ensures { result ≡ note_of (lookup (same_file key.now) files.now.entries) head }
+/// Returns the number of the image with a label of another file than `head`, if it is known: that
+/// of `first`, the first label of the section, or else that of the file's first label.
+fn opponent(note: &FileNote, first: Option<FirstHead>, head: &Head1) -> Option<usize>
+    ensures { result ≡ opponent note.now first head.now }
 {
-    match files.get(key) {
-        Some(note) => FileNote {
-            differs: note.differs || is_other(&note.head, &head),
-            ..*note
-        },
-        None => FileNote {
-            head,
-            form: None,
-            differs: false,
-        },
+    match first {
+        Some(first) if is_other(&first.head, head) => Some(first.image),
+        _ if is_other(&note.head, head) => Some(note.image),
+        _ => None,
     }
 }
 
-/// Records the header label that was found, if any.
-pub(crate) fn note_met(files: &mut Files, head: Option<Head1>) -> Result<(), RunFault>
+/// Returns the record of a file after one more of its labels, on image number `image`. The first
+/// label of its section is `first`, if one was found before.
+fn note_of(note: Option<FileNote>, first: Option<FirstHead>, image: usize, head: Head1) -> FileNote
+    ensures { result ≡ note_of note first image head }
+{
+    let Some(note) = note else {
+        return FileNote {
+            head,
+            image,
+            form: None,
+            conflict: None,
+        };
+    };
+    let found = opponent(&note, first, &head).map(|other| (other, image));
+    FileNote {
+        conflict: note.conflict.or(found),
+        ..note
+    }
+}
+
+/// Records the header label that was found on image number `image`, if any.
+pub(crate) fn note_met(files: &mut Files, image: usize, head: Option<Head1>) -> Result<(), RunFault>
     ensures fault { IsOkUnless result faults.OutOfMemory }
-    ensures ok { OnOk result (files.new.entries ≡ with_met files.old.entries head) }
+    ensures ok { OnOk result (files.new ≡ with_met files.old image head) }
 {
     let Some(head) = head else {
         return Ok(());
     };
+    let first = note_first(&mut files.heads, image, &head)?;
+    note_file(&mut files.notes, first, image, head)
+}
+
+/// Records a label of a file, on image number `image`. The first label of its section is `first`, if
+/// one was found before.
+fn note_file(
+    notes: &mut FileNotes,
+    first: Option<FirstHead>,
+    image: usize,
+    head: Head1,
+) -> Result<(), RunFault>
+    ensures fault { IsOkUnless result faults.OutOfMemory }
+    ensures ok { OnOk result (notes.new.entries ≡ with_note notes.old.entries first image head) }
+{
     let key = FileKey {
         set_id: head.set_id,
         file: head.sequence,
     };
-    let note = note_of(files, &key, head);
-    files.insert(key, note)?;
+    let note = note_of(notes.get(&key).copied(), first, image, head);
+    notes.insert(key, note)?;
     Ok(())
+}
+
+/// Records a header label, on image number `image`, unless one of its section was recorded before,
+/// and returns that one.
+fn note_first(
+    heads: &mut FirstHeads,
+    image: usize,
+    head: &Head1,
+) -> Result<Option<FirstHead>, RunFault>
+    ensures fault { IsOkUnless result faults.OutOfMemory }
+    ensures first { IfOk result (λ first. first ≡ first_in heads.old.entries head.now) }
+    ensures ok { OnOk result (heads.new.entries ≡ with_first heads.old.entries image head.now
+        (first_in heads.old.entries head.now)) }
+{
+    let section = SectionKey {
+        set_id: head.set_id,
+        file: head.sequence,
+        sect: head.sect,
+    };
+    let Some(first) = heads.get(&section).copied() else {
+        heads.insert(section, FirstHead { image, head: *head })?;
+        return Ok(None);
+    };
+    Ok(Some(first))
 }
 
 /// Returns the second header label that an item is, if it is supported and expected, and its file.
@@ -95,28 +195,37 @@ pub(crate) fn form_in(phase: &Phase, item: Item<'_>) -> Option<(FileKey, Head2)>
 /// Records the second header label that was found, if any.
 pub(crate) fn note_form(files: &mut Files, found: Option<(FileKey, Head2)>) -> Result<(), RunFault>
     ensures fault { IsOkUnless result faults.OutOfMemory }
-    ensures ok { OnOk result (files.new.entries ≡ with_form files.old.entries found) }
+    ensures ok { OnOk result (files.new ≡ with_form files.old found) }
 {
     let Some((key, form)) = found else {
         return Ok(());
     };
-    let Some(note) = files.get(&key).copied() else {
+    note_form_of(&mut files.notes, key, form)
+}
+
+/// Records a second header label of this file, unless one was recorded before.
+fn note_form_of(notes: &mut FileNotes, key: FileKey, form: Head2) -> Result<(), RunFault>
+    ensures fault { IsOkUnless result faults.OutOfMemory }
+    ensures ok { OnOk result (notes.new.entries
+        ≡ with_form_of notes.old.entries key (lookup (same_file key) notes.old.entries) form) }
+{
+    let Some(note) = notes.get(&key).copied() else {
         return Ok(());
     };
     let note = FileNote {
         form: note.form.or(Some(form)),
         ..note
     };
-    files.insert(key, note)?;
+    notes.insert(key, note)?;
     Ok(())
 }
 
 /// Returns whether labels of different files were found under the number of any file.
-pub(crate) fn any_differs(files: &Files) -> bool
+pub(crate) fn any_differs(files: &FileNotes) -> bool
     ensures { result ≡ any_differs files.now.entries }
 {
     for (_, note) in files {
-        if note.differs {
+        if note.conflict.is_some() {
             return true;
         }
     }

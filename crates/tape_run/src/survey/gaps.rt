@@ -14,7 +14,11 @@ use tape_label::Field;
 pub(crate) fn is_found(findings: &Findings, set_id: Field<6>, file: u16) -> bool
     ensures { result ≡ is_found findings.now set_id file }
 {
-    findings.files.get(&FileKey { set_id, file }).is_some()
+    findings
+        .files
+        .notes
+        .get(&FileKey { set_id, file })
+        .is_some()
 }
 
 /// Returns the number after that of the last file found before `file`, or 1.

@@ -126,7 +126,7 @@ pub(crate) fn file_cells(
 {
     let alloc = findings.alloc;
     let key = FileKey { set_id, file };
-    let note = findings.files.get(&key);
+    let note = findings.files.notes.get(&key);
     let standing = standing_of(&findings.sections, set_id, file);
     let found = found_cells(
         alloc,

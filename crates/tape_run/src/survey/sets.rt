@@ -102,7 +102,7 @@ pub(crate) fn is_mixed(note: Option<&FileNote>) -> bool
     ensures { result ≡ is_mixed (option_map (λ n. n.now) note.entry) }
 {
     match note {
-        Some(note) => note.differs,
+        Some(note) => note.conflict.is_some(),
         None => false,
     }
 }
@@ -120,7 +120,7 @@ fn add_head(
         (is_some (dispute_at findings.now.copies (file_key set_id file))) complete) }
 {
     let key = FileKey { set_id, file };
-    let note = findings.files.get(&key);
+    let note = findings.files.notes.get(&key);
     let disputed = findings.copies.dispute(&key).is_some();
     let head = head_line(findings.alloc, file, note, disputed, complete)?;
     texts.extend_from_slice(head.as_bytes())
@@ -171,7 +171,7 @@ pub(crate) fn add_file_row(
     let front = file_cells(findings, set_id, file)?;
     texts.extend_from_slice(front.as_bytes())?;
     add_rest(texts, findings, Wording::Rows, set_id, file)?;
-    let note = findings.files.get(&FileKey { set_id, file });
+    let note = findings.files.notes.get(&FileKey { set_id, file });
     let form = form_cells(findings.alloc, note)?;
     texts.extend_from_slice(form.as_slice())?;
     texts.push(b'\n')?;
@@ -191,7 +191,7 @@ fn is_sure(findings: &Findings, set_id: Field<6>, file: u16) -> bool
 {
     let key = FileKey { set_id, file };
     is_whole_file(&findings.sections, set_id, file)
-        && !is_mixed(findings.files.get(&key))
+        && !is_mixed(findings.files.notes.get(&key))
         && findings.copies.dispute(&key).is_none()
 }
 
@@ -225,6 +225,6 @@ pub(crate) fn is_all(findings: &Findings) -> Result<bool, AllocError>
     let sets = sets_of(findings.alloc, &findings.sections)?;
     let found = found_all(&findings.sections, &sets);
     let good = all_good(&findings.sections);
-    let one_file = !any_differs(&findings.files);
+    let one_file = !any_differs(&findings.files.notes);
     Ok(findings.whole && found && good && one_file && findings.copies.conflicts.is_empty())
 }

@@ -57,7 +57,7 @@ impl Model for Findings {
 
     ghost view = { λ f. record {
       sections = f.sections.entries;
-      files = f.files.entries;
+      files = f.files;
       whole = f.whole;
       locations = f.locations.entries;
       copies = f.copies;
@@ -188,8 +188,8 @@ fn view_items<R: Read>(
     ensures same_device { image.new.device ≡ image.old.device }
     ensures fault { IsOkUnless result faults.OutOfMemory }
     ensures ok { IfOk result (λ sight. ViewsItems image.old.left image.new.left number
-        sections.old.entries files.old.entries locations.old.entries copies.old sight
-        sections.new.entries files.new.entries locations.new.entries copies.new) }
+        sections.old.entries files.old locations.old.entries copies.old sight
+        sections.new.entries files.new locations.new.entries copies.new) }
 {
     let mut phase = Phase::Volume;
     let mut glance = blank_glance();
@@ -198,7 +198,7 @@ fn view_items<R: Read>(
     'items: loop {
         let stop = match image.next() {
             Ok(Some(item)) => {
-                note_met(files, head_in(&phase, item))?;
+                note_met(files, number, head_in(&phase, item))?;
                 note_form(files, form_in(&phase, item))?;
                 note_location(locations, sections, number, head_in(&phase, item))?;
                 let (_, told) = step(phase, item);

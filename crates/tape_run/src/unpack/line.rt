@@ -29,6 +29,9 @@ pub enum UnpackOutcome {
     Failed,
     /// A further line about an incomplete file: its readable records were written.
     Salvaged,
+    /// A further line about a complete file: the stage of an earlier run was kept, since its data
+    /// are not the beginning of the file.
+    StageKept,
 }
 
 /// Returns the words that `unpack` prints for an outcome.
@@ -45,6 +48,7 @@ pub fn unpack_outcome_text(outcome: UnpackOutcome) -> &'static [u8]
         UnpackOutcome::NotFound => b"NOT FOUND",
         UnpackOutcome::Failed => b"FAILED",
         UnpackOutcome::Salvaged => b"SALVAGED",
+        UnpackOutcome::StageKept => b"STAGE KEPT",
     }
 }
 

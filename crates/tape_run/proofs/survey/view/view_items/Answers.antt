@@ -54,7 +54,7 @@ items-preserved g c =
           _ c.items.phase _ c.items.glance _ c.items.digest _ _ _ _ _ _ _ c.items.copies _ _ _ _
           c.items.invariant.looked step.takes phase
           c.in_ok-behind-in-Ok-Some.ensures.ok
-          (labels_noted _ _ _ c.items.phase item _ _ c.in_ok-note_met-in-Ok-Some.ensures.ok
+          (labels_noted _ _ _ _ c.items.phase item _ _ c.in_ok-note_met-in-Ok-Some.ensures.ok
           c.head_in.ensures c.in_ok-note_form-in-Ok-Some.ensures.ok c.form_in.ensures)
           (c.in_ok-note_location-in-Ok-Some.ensures.ok
           ∙ ap (λ (h : Option Head1). with_location c.items.sections.entries

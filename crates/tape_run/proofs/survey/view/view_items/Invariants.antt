@@ -15,8 +15,8 @@ invariant-items g l = record {
   same_device : l.image.device ≡ l.fn.image.device;
   looked : LookedSoFar l.fn.image.left l.image.left l.image.place l.number
       l.fn.sections.entries
-      l.fn.files.entries l.fn.locations.entries l.fn.copies l.phase l.glance l.digest
-      l.sections.entries l.files.entries l.locations.entries l.copies l.damaged.items;
+      l.fn.files l.fn.locations.entries l.fn.copies l.phase l.glance l.digest
+      l.sections.entries l.files l.locations.entries l.copies l.damaged.items;
 }
 
 abbrev pub decreases-items : goal.decreases-items
