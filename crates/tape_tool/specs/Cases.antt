@@ -36,6 +36,7 @@ use Rattle.tape_tool.specs.{Ends.no_words_end, Ends.IsRefusalEnd, Fault.of_list,
 use Rattle.tape_tool.specs.{Names.end_byte, Names.pieces_of, Names.names_in, Diagnostics.fault_line}
 use Rattle.tape_tool.specs.Staging.{FailsBy, IsUnmade, RefusesBeginning}
 use Rattle.tape_tool.specs.declared.fault.ToolFault.TheVariants.{Stage as OfStage, StageInUse}
+use Rattle.tape_tool.specs.declared.fault.ToolFault.TheVariants.{Conflict}
 use Rattle.tape_tool.specs.declared.staging.StagingFault.TheVariants as staging
 use Rattle.tape_tool.specs.declared.refusal.Refusal.TheVariants as unfits
 
@@ -134,6 +135,7 @@ pub record CasesOfLines : Type 0 where
   pub stage : fault_line (OfStage (stages.BadFrame 300)) ≡ codes "tape: stage fault 2\n"
   -- after the faults of a stage itself, which are 1 to 6
   pub in_use : fault_line StageInUse ≡ codes "tape: stage fault 7\n"
+  pub conflict : fault_line Conflict ≡ codes "tape: set fault 1\n"
   -- out of memory for the arguments of the command line
   pub no_memory : fault_line no_memory ≡ codes "tape: run fault 4\n"
   -- a set on two volumes, and one without files

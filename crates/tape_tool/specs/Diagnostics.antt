@@ -6,7 +6,7 @@ use Rattle.tape_run.specs.Fault as run_faults
 use Rattle.tape_stage.specs.Faults as stage_faults
 use Rattle.tape_tool.specs.declared.fault.ToolFault.TheVariants.{Image, Label, Write, File, Run}
 use Rattle.tape_tool.specs.declared.fault.ToolFault.{ToolFault}
-use Rattle.tape_tool.specs.declared.fault.ToolFault.TheVariants.{Stage, StageInUse}
+use Rattle.tape_tool.specs.declared.fault.ToolFault.TheVariants.{Stage, StageInUse, Conflict}
 use Rattle.tape_tool.specs.Fault.{file_number, write_number}
 
 -- a kind of fault, and its number
@@ -23,6 +23,7 @@ fault_text (File fault) = numbered (codes "file") (file_number fault)
 fault_text (Run fault) = numbered (codes "run") (run_faults.number_of fault)
 fault_text (Stage fault) = numbered (codes "stage") (stage_faults.number fault)
 fault_text StageInUse = numbered (codes "stage") 7
+fault_text Conflict = numbered (codes "set") 1
 
 -- the line on standard error
 abbrev pub fault_line : ToolFault → List ℕ

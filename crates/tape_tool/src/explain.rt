@@ -3,6 +3,7 @@ mod files;
 mod missing;
 
 use crate::fault::{FileFault, OUT_OF_MEMORY, ToolFault, number_of_file, number_of_write};
+use crate::images::ImageName;
 use crate::shown::Shown;
 use crate::write::run::split;
 use files::{
@@ -41,6 +42,8 @@ pub enum FaultSite<'a> {
     List(Option<&'a str>),
     /// The image with this number in a list.
     Listed(usize),
+    /// Two images that are in conflict.
+    Conflict(ImageName<'a>, ImageName<'a>),
     /// The output file for the records.
     Out(&'a str),
     /// The output file for the merged image.
@@ -61,7 +64,8 @@ impl fmt::Display for FaultSite<'_> {
                 let folder = Shown(*folder);
                 write!(f, "  Image: {folder}/{a}{b}{c}{number:03}.tap")
             }
-            FaultSite::Listed(number) => write!(f, "  Image: name {number} in the list"),
+            FaultSite::Listed(number) => write!(f, "  Image: {}", ImageName::Listed(*number)),
+            FaultSite::Conflict(one, other) => write!(f, "  Image: {one}\n  Image: {other}"),
             _ => {
                 let (kind, name, _) = self.described();
                 write!(f, "  {kind}: {}", Shown(name))
@@ -79,6 +83,7 @@ impl<'a> FaultSite<'a> {
             FaultSite::Stdin => ("Image", "standard input", FILE_OF_IMAGE),
             FaultSite::Image(path) => ("Image", path, FILE_OF_IMAGE),
             FaultSite::Listed(_) => ("Image", "", FILE_OF_IMAGE),
+            FaultSite::Conflict(_, _) => ("Image", "", FILE_OF_IMAGES),
             FaultSite::Volume(_, _, _) => ("Image", "", FILE_OF_VOLUME),
             FaultSite::Input(word) => ("Input", word, FILE_OF_INPUT),
             FaultSite::Images(path) => ("DIR", path, FILE_OF_IMAGES),
@@ -191,6 +196,7 @@ fn text_of(fault: ToolFault, site: FaultSite<'_>) -> &'static str {
         ToolFault::Run(fault) => nth(RUN, fault.number()),
         ToolFault::Stage(fault) => nth(STAGE, fault.number()),
         ToolFault::StageInUse => nth(STAGE, 7),
+        ToolFault::Conflict => CONFLICT,
     }
 }
 
@@ -218,6 +224,11 @@ const NEVER: &str = "This should never happen: it is a bug in tape.
 
 const NO_MEMORY: &str = "Out of memory. What was written before it remains.
   Close other programs and try again.";
+
+const CONFLICT: &str =
+    "These images have labels of different files with this SET and FILE, or
+  complete copies of a section that differ. Nothing was recovered. Use only the
+  images of one file: 'tape survey' and 'tape compare' show how they differ.";
 
 const NO_IMAGE: &str = "This does not look like a .tap image. Nothing was listed.
   Is it compressed (try 'zcat NAME | tape list'), or a different kind of file?";

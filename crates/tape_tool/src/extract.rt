@@ -104,7 +104,7 @@ pub fn extract<'a, R: Progress>(
     *site = FaultSite::Out(task.out);
     let named = named.as_slice();
     let way = way_to_out(rt.host(), task.out, task.stage, order.images.list, named)?;
-    let names = names_to_read(rt, task, named)?;
+    let names = names_to_read(rt, order, named, site)?;
     let images = &mut Images::new(rt, names.as_slice());
     images.reels = explained.then_some(0);
     let Some(path) = task.stage else {
@@ -124,16 +124,34 @@ pub fn extract<'a, R: Progress>(
 
 /// Returns the names in the order in which the images are read. If they may be read again, and each
 /// is a file, they are surveyed first, and those on which a section of the file begins come first.
-fn names_to_read<'n, R: Progress>(
+///
+/// # Errors
+///
+/// Returns `Conflict` if the survey finds labels of different files with the file's number, or
+/// complete copies of one of its sections that differ: `site` then names two such images.
+fn names_to_read<'n, 'a, R: Progress>(
     rt: &'n R,
-    task: &Task<'_>,
+    order: &ExtractOrder<'a>,
     names: &'n [&'n str],
+    site: &mut FaultSite<'a>,
 ) -> Result<Vec<&'n str>, ToolFault> {
-    if task.again && names.len() > 1 && are_files(rt.host(), names) {
-        let met = find_files(rt.alloc(), &mut Images::new(rt, names))?;
-        return Ok(in_reading_order(rt.alloc(), names, &met, (task.set_id, task.file))?);
+    let task = &order.task;
+    if !task.again || names.len() < 2 || !are_files(rt.host(), names) {
+        return Ok(Vec::from_slice(rt.alloc(), names)?);
     }
-    Ok(Vec::from_slice(rt.alloc(), names)?)
+    let met = find_files(rt.alloc(), &mut Images::new(rt, names))?;
+    for file in met.files.as_slice() {
+        if file.set_id == task.set_id && file.file == task.file && file.differs {
+            *site = match file.conflict {
+                Some((one, other)) => {
+                    FaultSite::Conflict(order.images.image(one), order.images.image(other))
+                }
+                None => FaultSite::Unknown,
+            };
+            return Err(ToolFault::Conflict);
+        }
+    }
+    Ok(in_reading_order(rt.alloc(), names, &met, (task.set_id, task.file))?)
 }
 
 /// Returns whether each of these is a plain file, or does not exist: only these can be read twice.

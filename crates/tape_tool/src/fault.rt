@@ -64,6 +64,9 @@ pub enum ToolFault {
     Stage(StageFault),
     /// Another run is using the stage.
     StageInUse,
+    /// The images have labels of different files with one number, or complete copies of a section
+    /// that differ.
+    Conflict,
 }
 
 /// The fault if memory runs out, also for the arguments of the command line.
@@ -90,6 +93,7 @@ impl fmt::Display for FaultLine {
             ToolFault::Stage(fault) => write!(f, "tape: stage fault {}\n", fault.number()),
             // The stage's own faults have the numbers 1 to 6.
             ToolFault::StageInUse => write!(f, "tape: stage fault {}\n", 7u8),
+            ToolFault::Conflict => write!(f, "tape: set fault {}\n", 1u8),
         }
     }
 }

@@ -13,8 +13,8 @@ use crate::screen::{Host, Progress};
 use crate::shown::Shown;
 use std::alloc::{AllocError, Global};
 use std::fs::File;
-use std::io;
 use std::io::{BufRead, BufReader, ErrorKind, Read};
+use std::{fmt, io};
 use tape_label::Field;
 use tape_run::{FoundFiles, ImageSource};
 
@@ -34,6 +34,35 @@ pub struct List<'a> {
     pub file: Option<&'a str>,
     /// Whether each name ends with a NUL instead of a line feed.
     pub null: bool,
+}
+
+/// The name of an image.
+#[derive(Clone, Copy, PartialEq, Eq)]
+pub enum ImageName<'a> {
+    /// An argument.
+    Word(&'a str),
+    /// The name with this number in a list, counted from 1.
+    Listed(usize),
+}
+
+impl fmt::Display for ImageName<'_> {
+    fn fmt<W: fmt::Write>(&self, f: &mut fmt::Formatter<W>) -> fmt::Result {
+        match self {
+            ImageName::Word(name) => write!(f, "{}", Shown(*name)),
+            ImageName::Listed(number) => write!(f, "name {number} in the list"),
+        }
+    }
+}
+
+impl<'a> Named<'a> {
+    /// Returns the name of image `number`, counted from 0.
+    pub fn image(&self, number: usize) -> ImageName<'a> {
+        let words = self.words.as_slice();
+        match words.get(number) {
+            Some(name) => ImageName::Word(*name),
+            None => ImageName::Listed(number.saturating_sub(words.len()).saturating_add(1)),
+        }
+    }
 }
 
 /// Returns the names of all images: those in the arguments, followed by those in the list, whose

@@ -5,7 +5,7 @@ use crate::explain::FaultSite;
 use crate::extract::{Draft, Output, is_one_name};
 use crate::fault::{FileFault, OUT_OF_MEMORY, ToolFault};
 use crate::help;
-use crate::images::{Images, Named, names_of};
+use crate::images::{ImageName, Images, Named, names_of};
 use crate::program::End;
 use crate::refusal::Refusal;
 use crate::screen::Progress;
@@ -135,10 +135,9 @@ fn merge_files<'a, R: Progress, W: Write + Drop, O: Place<W>, G: Write>(
     };
     End::Faulted(match stop {
         MergeStop::NotOpened(number) => {
-            let words = order.images.words.as_slice();
-            *site = match words.get(number) {
-                Some(name) => FaultSite::Image(*name),
-                None => FaultSite::Listed(number.saturating_sub(words.len()).saturating_add(1)),
+            *site = match order.images.image(number) {
+                ImageName::Word(name) => FaultSite::Image(name),
+                ImageName::Listed(number) => FaultSite::Listed(number),
             };
             ToolFault::File(FileFault::NotOpened)
         }

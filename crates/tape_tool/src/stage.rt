@@ -100,7 +100,7 @@ pub fn stage<'a, R: Progress>(
 /// A file that is never changed: writing and truncating fail. Syncing does nothing and reports
 /// success, since a stage is synced when it is opened.
 #[derive(Drop)]
-struct ReadOnly(File);
+pub struct ReadOnly(pub File);
 
 impl Read for ReadOnly {
     fn read(&mut self, buf: &mut [u8]) -> io::Result<usize> {

@@ -2,6 +2,7 @@
 pub mod report;
 mod run;
 mod salvaged;
+mod stages;
 
 use crate::command_spec::{CommandSpec, Kind, Word};
 use crate::help;

@@ -20,9 +20,9 @@
 //!   `cut FILE LENGTH` its length.
 //! - `worked FILE ..` creates the example image, `front FILE LENGTH` its first bytes,
 //!   `damaged FILE BLOCK` an image with an unreadable block, `lost FILE` one without its second
-//!   block, `first FILE` and `second FILE` the volumes of the example file on two,
-//!   `first_damaged FILE BLOCK` the first one with an unreadable block, `records FILE` its records,
-//!   and `second_file FILE` a volume without the first file of its set.
+//!   block, `lost_damaged FILE BLOCK` one with both, `first FILE` and `second FILE` the volumes of
+//!   the example file on two, `first_damaged FILE BLOCK` the first one with an unreadable block,
+//!   `records FILE` its records, and `second_file FILE` a volume without the first file of its set.
 //! - `has FILE TEXT`, `at FILE OFFSET TEXT`, `length FILE COUNT`, `is_worked FILE`,
 //!   `missing FILE ..` and `allowed FILE MODE` check the contents of a file, the bytes at an
 //!   offset, the length, that it is the example image or does not exist, and its permissions.
@@ -245,9 +245,13 @@ fn take(rt: &HostRuntime, word: &str, rest: &str) -> Result<bool, Fail> {
             let bytes = example(alloc, word, 0)?;
             put(rt, path, bytes.as_slice().get(..number).unwrap_or(&[]))
         }
-        "damaged" | "lost" | "first" | "first_damaged" | "second" | "second_file" => {
-            put(rt, path, example(alloc, word, number)?.as_slice())
-        }
+        "damaged"
+        | "lost"
+        | "lost_damaged"
+        | "first"
+        | "first_damaged"
+        | "second"
+        | "second_file" => { put(rt, path, example(alloc, word, number)?.as_slice()) }
         "records" => put(rt, path, payroll(alloc)?.as_slice()),
         "has" => holds(rt, path, bytes_of(alloc, text)?.as_slice()),
         "at" => has_text(rt, path, text),

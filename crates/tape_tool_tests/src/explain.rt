@@ -51,6 +51,17 @@ const SITES: &str = "
     1$ extract ABC001 1 told.txt told.tap --stage told.stage --explain =>   Stage: told.stage
     ~   This is not a stage, and it was not changed.
     1: extract ABC001 1 lost/told.txt told.tap --explain =>   OUT: lost/told.txt
+    # Two images in conflict, in an argument and in a list.
+    folder told_one told_other
+    0: write told_one TLM 100000 ONE=told.stage | write told_other TLM 100000 OTHER=told.stage
+    put told.names told_one/TLM001.tap\\0Atold_other/TLM001.tap
+    1$ extract TLM001 1 told.txt told_other/TLM001.tap told_one/TLM001.tap --again --explain
+    ~   Image: told_other/TLM001.tap
+    ~   Image: told_one/TLM001.tap
+    ~   These images have labels of different files
+    1: extract TLM001 1 told.txt told.tap --files-from told.names --again --explain
+    ~   Image: name 1 in the list
+    ~   Image: name 2 in the list
     1$ unpack lost told.tap --explain =>   DIR: lost
     1: unpack told told_bad.tap --explain
     ~   Stage: the path reported as FAILED, with .stage after it

@@ -147,14 +147,41 @@ const AGAIN: &str = "
     0: extract ABC001 1 out.txt first_bad.tap second_bad.tap --form raw --again --stage a.stage
     length out.txt 2000
     length a.stage 2381
-    # The data of the suspect copy is discarded even without a stage.
-    lost miscounted.tap
-    worked counted.tap
-    3: extract ABC001 1 counted.txt miscounted.tap counted.tap
+    # The data of a copy that lost a block is discarded even without a stage. No copy is complete,
+    # so the one that is named last is read first.
+    damaged late.tap 3
+    damaged early.tap 1
+    lost_damaged miscounted.tap 9
+    3: extract ABC001 1 counted.txt miscounted.tap late.tap early.tap
     3: extract ABC001 1 counted.txt miscounted.tap --again
     missing counted.txt
-    0: extract ABC001 1 counted.txt miscounted.tap counted.tap --again
-    at counted.txt 810 0011 \\20
+    $ extract ABC001 1 counted.txt late.tap early.tap miscounted.tap --again
+    > REEL 1 BLOCK COUNT 5 4
+    > REEL 2 BAD ITEM
+    > REEL 3 COMPLETE
+    > COMPLETE 25
+    length counted.txt 2025
+    at counted.txt 405 0006 \\20
+    # A complete copy is read first.
+    worked counted.tap
+    $ extract ABC001 1 counted.txt miscounted.tap counted.tap --again
+    > REEL 1 COMPLETE
+    > COMPLETE 25
+    # Labels of different files with one number, and complete copies of a section that differ:
+    # nothing is read, and an existing output is unchanged.
+    folder one other changed
+    fill one.bin 130 1
+    fill other.bin 130 2
+    0: write one MIX 100000 ONE=one.bin | write other MIX 100000 OTHER=one.bin
+    0: write changed MIX 100000 ONE=other.bin
+    put mixed.txt kept
+    set fault 1$ extract MIX001 1 mixed.txt one/MIX001.tap other/MIX001.tap --again
+    set fault 1$ extract MIX001 1 mixed.txt one/MIX001.tap changed/MIX001.tap --again
+    set fault 1$ extract MIX001 1 mixed.txt one/MIX001.tap other/MIX001.tap --again --stage a.stage
+    has mixed.txt kept
+    length a.stage 2381
+    # A file is not affected by those of other sets, or by an image that is named twice.
+    0: extract MIX001 1 mixed.txt one/MIX001.tap counted.tap one/MIX001.tap --again
 ";
 
 #[test]

@@ -30,6 +30,7 @@ fn push_label(image: &mut Vec<u8>, text: &str) -> Result<(), AllocError> {
 ///
 /// - `lost` is without its second block, which its trailer label still counts;
 /// - `damaged` has the records in blocks of 400, of which block `bad` is unreadable;
+/// - `lost_damaged` is `damaged` without its second block, which its trailer label still counts;
 /// - `first` has no room for the end-of-file labels, and `second` is the volume after it, with an
 ///   empty section;
 /// - `first_damaged` is `first` with the blocks of `damaged`;
@@ -66,7 +67,7 @@ pub fn example(alloc: Global, name: &str, bad: usize) -> Result<Vec<u8>, AllocEr
         records.chunks(800)
     };
     for (number, block) in blocks.enumerate() {
-        if !is_empty && (name != "lost" || number != 1) {
+        if !is_empty && !(name.starts_with("lost") && number == 1) {
             let is_bad = is_damaged && number == bad;
             push_block(&mut image, block, if is_bad { 0x80 } else { 0 })?;
         }

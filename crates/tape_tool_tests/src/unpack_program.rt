@@ -30,6 +30,41 @@ const UNPACKED: &str = "
     remove days/ABC001.1.PAYROLL
     0: unpack days day1.tap day2.tap
     at days/ABC001.1.PAYROLL 1944 0025 \\20
+    # If a complete copy is given, the file is read from it alone. The stage of an earlier run is
+    # removed if the file begins with its data.
+    folder older
+    worked older1.tap
+    3: unpack older day1.tap
+    length older/ABC001.1.PAYROLL.stage 681
+    $ unpack older older1.tap
+    > FILE ABC001 1 COMPLETE 25 older/ABC001.1.PAYROLL
+    > TOTAL 1 complete 0 existing 0 incomplete 0 in conflict 0 not found 0 failed
+    missing older/ABC001.1.PAYROLL.stage
+    # A stage with other data is kept, for example that of a copy that lost a block and is damaged
+    # after it, and so is one that is not a stage, or a link.
+    remove older/ABC001.1.PAYROLL
+    lost_damaged older2.tap 3
+    3: unpack older older2.tap
+    length older/ABC001.1.PAYROLL.stage 1106
+    $ unpack older older1.tap older2.tap
+    > FILE ABC001 1 COMPLETE 25 older/ABC001.1.PAYROLL
+    > FILE ABC001 1 STAGE KEPT older/ABC001.1.PAYROLL.stage
+    > TOTAL 1 complete 0 existing 0 incomplete 0 in conflict 0 not found 0 failed
+    length older/ABC001.1.PAYROLL.stage 1106
+    at older/ABC001.1.PAYROLL 405 0006 \\20
+    remove older/ABC001.1.PAYROLL
+    0: unpack older older1.tap --form raw
+    | STAGE KEPT
+    remove older/ABC001.1.PAYROLL
+    put older/ABC001.1.PAYROLL.stage noise
+    0: unpack older older1.tap
+    | STAGE KEPT
+    has older/ABC001.1.PAYROLL.stage noise
+    remove older/ABC001.1.PAYROLL
+    remove older/ABC001.1.PAYROLL.stage
+    link older/ABC001.1.PAYROLL.stage ../older2.tap
+    0: unpack older older1.tap
+    | STAGE KEPT
     # A file that is not a stage is unchanged, and a link in its place is not followed. The other
     # files are unpacked.
     folder failed

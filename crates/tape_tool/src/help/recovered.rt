@@ -81,6 +81,9 @@ With --again the numbering continues: the second pass over three images is
 REEL 4 to REEL 6. With --explain the name of each image precedes its line, on
 standard error:
   REEL 4: one.tap
+With --again and several images, they are first read for their labels. If these
+show two files under one number, or complete copies of a section differ, nothing
+is recovered ('tape: set fault 1'); --explain names two such images.
 With --again or --stage the data of an image that answers BLOCK COUNT is
 discarded. With --again and without --stage the records are kept in memory until
 the file is complete.
@@ -132,8 +135,9 @@ pub const AFTER_UNPACK: &str =
     "tape first reads all images to find out which sets and files they contain, as
 'tape survey' reports them. Then it recovers each file as 'tape extract --again'
 does. A file that is incomplete leaves a stage in DIR, and the next run
-continues from it, with other images too. Images are opened more than once, so a
-pipe such as '<(zcat NAME)' does not work.
+continues from it, with other images too; but if each section is complete on one
+of the images, the file is read from these alone. Images are opened more than
+once, so a pipe such as '<(zcat NAME)' does not work.
 
 One line per file:
   FILE ABC001 1 COMPLETE 25 ../out/ABC001.1.PAYROLL
@@ -142,6 +146,9 @@ One line per file:
            incomplete: file, section, block (and part) missing; its stage
   FILE ABC001 2 SALVAGED 90 ../out/ABC001.2.LEDGER.salvaged
            with --salvage: the readable records of an incomplete file
+  FILE ABC001 1 STAGE KEPT ../out/ABC001.1.PAYROLL.stage
+           after COMPLETE: the stage of an earlier run has other data than the
+           file, or cannot be compared with it
   FILE ABC001 3 EXISTS ../out/ABC001.3.TAXES
            a file of this name exists; it was not changed
   FILE ABC001 4 CONFLICT
@@ -166,8 +173,8 @@ Files are named SET.FILE.NAME after their labels. In SET, '_' replaces a space
 and %XX any other character except digits and capital letters; in NAME, %XX
 replaces '%', unprintable characters and those that some file system refuses,
 and spaces at the end are left out. A file gets its name when it is complete,
-and its stage, NAME.stage, is then removed. Existing files are never
-overwritten.
+and its stage, NAME.stage, is then removed if the file begins with all that it
+has. Existing files are never overwritten.
 
 With --salvage, NAME.gaps names the images and has the lines of 'tape salvage'.
 Both files are written anew by each run and removed when the file is complete,

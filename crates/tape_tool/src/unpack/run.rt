@@ -3,6 +3,7 @@
 use super::UnpackOrder;
 use super::report::{Ended, LastLine, after_word};
 use super::salvaged::Salvaged;
+use super::stages::is_front;
 use crate::explain::FaultSite;
 use crate::extract::{Draft, Output, Task, extract_whole, gather};
 use crate::fault::{FileFault, OUT_OF_MEMORY, ToolFault};
@@ -169,14 +170,32 @@ impl<R: Progress, P: Write> Run<'_, R, P> {
             (Err(fault), _) => return self.tell_failed(file, out, fault),
         };
         self.tell(file, outcome, after_word(last.text()), path)?;
-        if self.order.salvage && outcome == UnpackOutcome::Awaits {
-            return self.salvage_file(file, out, end);
+        match outcome {
+            UnpackOutcome::Complete => self.end_stage(file, out, stage)?,
+            UnpackOutcome::Awaits if self.order.salvage => {
+                return self.salvage_file(file, out, end);
+            }
+            _ => {}
         }
         Ok(end)
     }
 
-    /// Recovers a file. Removes the stage of a complete one, and the salvaged records, since the
-    /// file then contains all that they had.
+    /// Removes the stage of a complete file if the file begins with all that the stage has. Reports
+    /// any other stage, and keeps it: a copy that was read earlier has other data.
+    fn end_stage(&mut self, file: &SetFile, out: &str, stage: &str) -> Result<(), ToolFault> {
+        let host = self.rt.host();
+        if let Ok(None) = found(fs::symlink_metadata(host, stage)) {
+            return Ok(());
+        }
+        if is_front(host, stage, out, self.order.form) {
+            remove(self.rt, stage);
+            return Ok(());
+        }
+        self.tell(file, UnpackOutcome::StageKept, b"", stage)
+    }
+
+    /// Recovers a file. Removes the salvaged records of a complete one, since the file then
+    /// contains all that they had.
     fn unpacked(
         &mut self,
         file: &SetFile,
@@ -184,32 +203,25 @@ impl<R: Progress, P: Write> Run<'_, R, P> {
         stage: &str,
         last: &mut LastLine,
     ) -> Result<End, ToolFault> {
-        let rt = self.rt;
-        // A link is not followed to a stage.
-        let is_staged = match found(fs::symlink_metadata(rt.host(), stage))? {
-            Some(there) if !there.is_file() => return Err(ToolFault::File(FileFault::NotOpened)),
-            there => there.is_some(),
-        };
-        let end = self.recover(file, out, stage, is_staged, last)?;
+        let end = self.recover(file, out, stage, last)?;
         if let End::Faulted(fault) = end {
             return Err(fault);
         }
         if end == End::Done {
-            remove(rt, stage);
-            Salvaged::of(rt.alloc(), out)?.remove(rt)?;
+            Salvaged::of(self.rt.alloc(), out)?.remove(self.rt)?;
         }
         Ok(end)
     }
 
-    /// Recovers a file. If all its sections are intact, reads the images that have them once. Any
-    /// other file, or one that is still incomplete then, is recovered on its stage, in passes.
-    /// `last` remembers the last line of either.
+    /// Recovers a file. If all its sections are intact, reads the images that have them once, and
+    /// nothing from its stage, which may have data of other copies. Any other file, or one that is
+    /// still incomplete then, is recovered on its stage, in passes. `last` remembers the last line
+    /// of either.
     fn recover(
         &mut self,
         file: &SetFile,
         out: &str,
         stage: &str,
-        is_staged: bool,
         last: &mut LastLine,
     ) -> Result<End, ToolFault> {
         let task = Task {
@@ -220,7 +232,7 @@ impl<R: Progress, P: Write> Run<'_, R, P> {
             stage: Some(stage),
             again: true,
         };
-        if file.lacks.is_none() && !is_staged {
+        if file.lacks.is_none() {
             let images = &mut Images::new(self.rt, self.names);
             let (mounted, locations) = (&mut self.mounted, &self.met.locations);
             let end = extract_whole(self.rt, &task, images, mounted, locations, last);
@@ -245,6 +257,10 @@ impl<R: Progress, P: Write> Run<'_, R, P> {
         last: &mut LastLine,
     ) -> Result<End, ToolFault> {
         let (rt, met) = (self.rt, self.met);
+        // A link is not followed to a stage.
+        if found(fs::symlink_metadata(rt.host(), path))?.is_some_and(|there| !there.is_file()) {
+            return Err(ToolFault::File(FileFault::NotOpened));
+        }
         let mut session = session_in(rt.host(), path, task.set_id, task.file)?;
         let mut names = Vec::new(rt.alloc());
         if let Some(want) = session.want() {

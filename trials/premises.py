@@ -1,0 +1,360 @@
+#!/usr/bin/env python3
+"""Images that show that a premise of the promises is broken: COMPLETE must not be said of a wrong file.
+
+    trials/premises.py [--program PROGRAM]
+
+The images are made here from docs/FORMATS.md alone, so the trial knows which records are the file.
+Each scene of SCENES is a list of calls in a directory of its own, which has all images and an empty
+directory `u`:
+
+    ## TITLE          begins a scene
+    N ARGUMENTS       a call, and its exit status
+    > LINE            a line of its output;  ! TEXT  a text on standard error
+    = FILE RECORDS    FILE has exactly these records;  - FILE  there is no such file
+    ? FILE RECORDS    it has these records, or there is no such file
+    not yet REASON    the program is still wrong in this scene, and why
+
+Prints each wrong result, and what is wrong in each scene with the words 'not yet', which are counted
+apart. Exit status 1 if a result is wrong in another scene, or if none is in one of these.
+"""
+import subprocess
+import sys
+
+from common import Results, arguments, folder_with
+from make_worked_image import block, label, word
+
+MARK, END = word(0), word(0xFFFFFFFF)
+RECORD = 80
+
+
+def first_label(kind, name, sect, date, count=0):
+    return label((kind, 4), (name, 17), ("ABC001", 6), (f"{sect:04}", 4), ("0001", 4), ("0001", 4), ("00", 2),
+                 (date, 6), (" 00000", 6), ("", 1), (f"{count:06}", 6), ("", 13), ("", 7))
+
+
+def second_label(kind, size):
+    return label((kind, 4), ("F", 1), (f"{size:05}", 5), (f"{RECORD:05}", 5), ("", 35), ("00", 2), ("", 28))
+
+
+def text(records):
+    return [record.ljust(RECORD).encode() for record in records]
+
+
+def blocks_of(records, size):
+    data = b"".join(text(records))
+    return [data[at:at + size] for at in range(0, len(data), size)]
+
+
+def unreadable(data):
+    lead = word(0x80000000 | len(data))
+    return lead + data + lead
+
+
+def image(name, blocks, size=800, sect=1, date=" 00000", end="EOF", closing=None, bad=(), lost=(), cut=None):
+    """A volume with one section, of which the blocks `bad` are unreadable. Its first mark is lost, or its
+    second, if `lost` has 1 or 2. If `cut` is a number, the image ends after so many of the items after HDR2."""
+    items = [] if 1 in lost else [MARK]
+    items += [unreadable(data) if at in bad else block(data) for at, data in enumerate(blocks)]
+    items += [] if 2 in lost else [MARK]
+    other, day = closing or (name, date)
+    items += [first_label(f"{end}1", other, sect, day, len(blocks)), second_label(f"{end}2", size), MARK, MARK + END]
+    volume = label(("VOL1", 4), (f"ABC00{sect}", 6), ("", 69), ("4", 1))
+    return b"".join([volume, first_label("HDR1", name, sect, date), second_label("HDR2", size), *items[:cut]])
+
+
+CARDS = [f"CARD {number}" for number in range(1, 4)]
+FORTY = [f"{number:04}" for number in range(1, 41)]
+WEEKS = [[f"WEEK {week} {number:04}" for number in range(1, 41)] for week in (1, 2)]
+RECORDS = {"cards": CARDS, "forty": FORTY, "week2": WEEKS[1], "first-twenty": FORTY[:20]}
+
+THREE, FOUR = blocks_of(CARDS, 80), blocks_of(FORTY, 800)
+ONE, TWO = (blocks_of(week, 800) for week in WEEKS)
+DUP, SKIP = [FOUR[0], FOUR[0], FOUR[1]], [FOUR[0], FOUR[2]]
+IMAGES = {
+    "good": image("CARDS", THREE, 80),
+    # A mark is lost: the trailer labels are read as data.
+    "lost": image("CARDS", THREE, 80, lost=[1]),
+    "lostcut": image("CARDS", THREE, 80, lost=[1], cut=6),
+    "lost2": image("CARDS", THREE, 80, lost=[2]),
+    # One file in blocks of 400, truncated, and in blocks of 800.
+    "x": image("CARDS", blocks_of(FORTY, 400), 400, cut=3),
+    "y": image("CARDS", FOUR),
+    # Two sets of one identifier, each truncated or with an unreadable block.
+    "w1": image("CARDS", ONE, date=" 85010", cut=3),
+    "w2": image("CARDS", TWO, date=" 85017"),
+    "w1b": image("CARDS", ONE, date=" 85010", bad=[2]),
+    "w2b": image("CARDS", TWO, date=" 85017", bad=[0]),
+    # A copy with a block twice, or without one, and damaged after that; other copies.
+    "dup": image("CARDS", DUP, cut=4),
+    "skip": image("CARDS", SKIP, cut=3),
+    "first-bad": image("CARDS", FOUR, bad=[0]),
+    "last-bad": image("CARDS", FOUR, bad=[3]),
+    "third-bad": image("CARDS", FOUR, bad=[2]),
+    # A copy with a block less than its trailer label counts.
+    "count": image("CARDS", FOUR).replace(block(FOUR[1]), b""),
+    # A file on two volumes, and its second section truncated and in other blocks.
+    "s1": image("CARDS", FOUR[:2], end="EOV"),
+    "s2": image("CARDS", FOUR[2:], sect=2),
+    "s2cut": image("CARDS", blocks_of(FORTY[20:], 400), 400, sect=2, cut=3),
+    # The same with another date in section 2, and section 2 of another week.
+    "m1": image("BACKUP", FOUR[:2], date=" 85010", end="EOV"),
+    "m2": image("BACKUP", FOUR[2:], date=" 85011", sect=2),
+    "m2other": image("BACKUP", ONE[2:], date=" 85018", sect=2, cut=2),
+    # The sections of two files under one number.
+    "p1": image("PAYROLL", FOUR[:1], end="EOV"),
+    "p2": image("STOCK", ONE[:1], sect=2),
+    # A trailer label of another file: the end of an older recording.
+    "over": image("TUE.BCK", FOUR[:2], date=" 85142", closing=("MON.BCK", " 85141")),
+}
+
+LOOP = "blocks that a reel skips are not compared with those that were recovered"
+TRAILERS = "the names in trailer labels are not compared with those in the header labels"
+WARNING = "extract without --again prints no warning if a reel differs from the data recovered before it"
+SECTIONS = "salvage does not compare the labels of the sections of a file"
+SCENES = f"""
+## unpack: a lost mark, then a good copy alone
+3 unpack u lost.tap
+> FILE ABC001 1 AWAITS 1 1 2 u/ABC001.1.CARDS.stage
+0 unpack u good.tap
+> FILE ABC001 1 COMPLETE 3 u/ABC001.1.CARDS
+> FILE ABC001 1 STAGE KEPT u/ABC001.1.CARDS.stage
+= u/ABC001.1.CARDS cards
+## unpack: a lost mark, then a good copy with it
+3 unpack u lost.tap
+3 unpack u lost.tap good.tap
+> FILE ABC001 1 COMPLETE 3 u/ABC001.1.CARDS
+> INCOMPLETE IMAGE lost.tap
+= u/ABC001.1.CARDS cards
+## unpack: a lost mark on a truncated image
+3 unpack u lostcut.tap
+0 unpack u good.tap
+> FILE ABC001 1 STAGE KEPT u/ABC001.1.CARDS.stage
+= u/ABC001.1.CARDS cards
+## unpack: blocks of 400, truncated, then blocks of 800
+3 unpack u x.tap
+0 unpack u y.tap
+> FILE ABC001 1 COMPLETE 40 u/ABC001.1.CARDS
+= u/ABC001.1.CARDS forty
+- u/ABC001.1.CARDS.stage
+## unpack: blocks of 400 and of 800
+3 unpack u x.tap
+3 unpack u x.tap y.tap
+> FILE ABC001 1 COMPLETE 40 u/ABC001.1.CARDS
+> INCOMPLETE IMAGE x.tap
+= u/ABC001.1.CARDS forty
+## unpack: one set, then another one of the same identifier
+3 unpack u w1.tap
+0 unpack u w2.tap
+> FILE ABC001 1 COMPLETE 40 u/ABC001.1.CARDS
+> FILE ABC001 1 STAGE KEPT u/ABC001.1.CARDS.stage
+= u/ABC001.1.CARDS week2
+## unpack: two sets of one identifier
+3 unpack u w1.tap
+3 unpack u w1.tap w2.tap
+> FILE ABC001 1 CONFLICT
+- u/ABC001.1.CARDS
+## unpack: two sets of one identifier, neither of them complete
+3 unpack u w1b.tap w2b.tap
+> FILE ABC001 1 CONFLICT
+- u/ABC001.1.CARDS
+## unpack: a doubled block in a truncated copy, then a good copy
+3 unpack u dup.tap
+0 unpack u y.tap
+> FILE ABC001 1 STAGE KEPT u/ABC001.1.CARDS.stage
+= u/ABC001.1.CARDS forty
+## unpack: a lost block in a truncated copy, then a good copy
+3 unpack u skip.tap
+0 unpack u y.tap
+> FILE ABC001 1 STAGE KEPT u/ABC001.1.CARDS.stage
+= u/ABC001.1.CARDS forty
+## unpack: a lost block, a damaged copy, then a good copy
+3 unpack u skip.tap
+3 unpack u last-bad.tap
+- u/ABC001.1.CARDS
+0 unpack u y.tap
+= u/ABC001.1.CARDS forty
+## unpack: a truncated second section, then the whole one
+3 unpack u s1.tap s2cut.tap
+0 unpack u s1.tap s2.tap
+= u/ABC001.1.CARDS forty
+- u/ABC001.1.CARDS.stage
+## unpack: a doubled block, then a copy without block 0
+not yet {LOOP}
+3 unpack u dup.tap
+3 unpack u first-bad.tap
+? u/ABC001.1.CARDS forty
+## unpack: a trailer label of another file
+not yet {TRAILERS}
+3 unpack u over.tap
+- u/ABC001.1.TUE.BCK
+## a valid set whose second section has another date
+0 survey m1.tap m2.tap
+0 check m1.tap m2.tap
+0 unpack u m1.tap m2.tap
+> FILE ABC001 1 COMPLETE 40 u/ABC001.1.BACKUP
+= u/ABC001.1.BACKUP forty
+0 extract ABC001 1 out m2.tap m1.tap --again
+= out forty
+## two second sections of different dates, and one first section
+3 survey m1.tap m2.tap m2other.tap
+3 unpack u m1.tap m2.tap m2other.tap
+> FILE ABC001 1 CONFLICT
+- u/ABC001.1.BACKUP
+1 extract ABC001 1 out m1.tap m2.tap m2other.tap --again --explain
+! tape: set fault 1
+! Image: m2.tap
+! Image: m2other.tap
+- out
+## extract --again: two sets of one identifier
+1 extract ABC001 1 out w1.tap w2.tap --again --explain
+! tape: set fault 1
+! Image: w1.tap
+! Image: w2.tap
+- out
+1 extract ABC001 1 out w1b.tap w2b.tap --again --stage st
+! tape: set fault 1
+- out
+- st
+## extract --again: the sections of two files under one number
+1 extract ABC001 1 out p1.tap p2.tap --again
+! tape: set fault 1
+- out
+## extract --again: images in one call from nothing
+0 extract ABC001 1 out lost.tap good.tap --again
+= out cards
+0 extract ABC001 1 out2 lostcut.tap good.tap --again
+= out2 cards
+0 extract ABC001 1 out3 lost2.tap good.tap --again
+= out3 cards
+0 extract ABC001 1 out4 x.tap y.tap --again
+= out4 forty
+0 extract ABC001 1 out5 dup.tap skip.tap y.tap --again
+= out5 forty
+0 extract ABC001 1 out6 first-bad.tap last-bad.tap --again
+= out6 forty
+## extract --again: the data of a reel with a wrong count is dropped, without a stage and with one
+0 extract ABC001 1 out third-bad.tap first-bad.tap count.tap --again
+> REEL 1 BLOCK COUNT 4 3
+> REEL 2 BAD ITEM
+> REEL 3 COMPLETE
+= out forty
+0 extract ABC001 1 out2 third-bad.tap first-bad.tap count.tap --again --stage st
+= out2 forty
+## extract --again: a stage of blocks of 400, then blocks of 800
+not yet {LOOP}
+3 extract ABC001 1 out x.tap --again --stage st
+3 extract ABC001 1 out y.tap --again --stage st
+- out
+## extract --again: a stage of a copy with a doubled block
+not yet {LOOP}
+3 extract ABC001 1 out dup.tap --again --stage st
+3 extract ABC001 1 out y.tap --again --stage st
+- out
+## extract --again: a stage of a copy with a lost block
+not yet {LOOP}
+3 extract ABC001 1 out skip.tap --again --stage st
+3 extract ABC001 1 out last-bad.tap first-bad.tap --again --stage st
+- out
+## extract --again: a stage of another set
+not yet {LOOP}
+3 extract ABC001 1 out w1.tap --again --stage st
+3 extract ABC001 1 out w2.tap --again --stage st
+- out
+## extract --again: a stage of a second section in other blocks
+not yet {LOOP}
+3 extract ABC001 1 out s1.tap s2cut.tap --again --stage st
+3 extract ABC001 1 out s2.tap --again --stage st
+- out
+## extract --again: no copy is complete, and one has a doubled block
+not yet {LOOP}
+3 extract ABC001 1 out first-bad.tap dup.tap --again
+? out forty
+## extract --again: a trailer label of another file
+not yet {TRAILERS}
+3 extract ABC001 1 out over.tap --again
+- out
+## extract: a lost mark, then a good copy
+not yet {WARNING}
+0 extract ABC001 1 out lost.tap good.tap
+> REEL 1 BAD LABEL 2
+> REEL 2 COMPLETE
+! warning
+## extract: two sets of one identifier
+not yet {WARNING}
+0 extract ABC001 1 out w1.tap w2.tap
+! warning
+## extract: a stage of a copy with a doubled block
+not yet {WARNING}
+3 extract ABC001 1 out dup.tap --stage st
+0 extract ABC001 1 out y.tap --stage st
+! warning
+## extract: a trailer label of another file
+not yet {WARNING}
+0 extract ABC001 1 out over.tap --stage st
+! warning
+## salvage: the sections of two files under one number
+not yet {SECTIONS}
+3 salvage ABC001 1 out p1.tap p2.tap
+## salvage: trailer labels in the place of data
+not yet the blocks of a section may be trailer labels
+3 salvage ABC001 1 out lost2.tap
+= out cards
+## salvage: copies of one section in other blocks, and of two sets
+0 salvage ABC001 1 out x.tap y.tap
+= out forty
+0 salvage ABC001 1 out2 w1.tap w2.tap
+= out2 week2
+"""
+
+
+def scenes():
+    """Each scene: its title, why it is not right yet, and its other lines."""
+    for page in SCENES.split("\n## ")[1:]:
+        title, *lines = page.splitlines()
+        reasons = [line[8:] for line in lines if line.startswith("not yet ")]
+        yield title, reasons[0] if reasons else None, [line for line in lines if not line.startswith("not yet ")]
+
+
+def wrong_in(program, lines):
+    """What is wrong in a scene."""
+    with folder_with({f"{name}.tap": content for name, content in IMAGES.items()}) as folder:
+        (folder / "u").mkdir()
+        done, wrong = None, []
+        for line in lines:
+            what, rest = line.split(" ", 1)
+            if what.isdigit():
+                done = subprocess.run([program, *rest.split()], cwd=folder, capture_output=True, check=False)
+                is_right, found = done.returncode == int(what), f"status {done.returncode}"
+            elif what == ">":
+                is_right, found = rest in done.stdout.decode().splitlines(), f"printed {done.stdout.decode()!r}"
+            elif what == "!":
+                is_right, found = rest in done.stderr.decode(), f"errors {done.stderr.decode()!r}"
+            else:
+                path, *name = rest.split()
+                content = (folder / path).read_bytes() if (folder / path).exists() else None
+                right = b"".join(record + b"\n" for record in text(RECORDS[name[0]])) if name else None
+                is_right = content == right or (what == "?" and content is None)
+                found = "no such file" if content is None else f"{path} has {len(content) // (RECORD + 1)} records"
+            if not is_right:
+                wrong.append(f"'{line}': {found}")
+        return wrong
+
+
+def main():
+    options = arguments(__doc__)
+    results, not_yet = Results(), 0
+    for title, reason, lines in scenes():
+        wrong = wrong_in(options.program, lines)
+        if reason:
+            not_yet += 1
+            for what in wrong:
+                print(f"not yet: {title}: {what}")
+            results.expect(wrong, f"{title}: nothing is wrong any more, so remove 'not yet'")
+        else:
+            results.expect(not wrong, f"{title}: " + "; ".join(wrong))
+    print(f"{not_yet} scenes are not right yet")
+    return results.end("scenes")
+
+
+if __name__ == "__main__":
+    sys.exit(main())
