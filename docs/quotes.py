@@ -1,8 +1,8 @@
 #!/usr/bin/env python3
 """Reports quotes in docs/PROVED.md and the crates' README.md that differ from the code.
 
-A quote is an indented block without '$ '. Its lines must appear in one file of crates/*/src or
-crates/*/specs, in the same order; lines of the file may be omitted between them, and leading space
+A quote is an indented block without '$ '. Its lines must appear in one file of crates/*/src,
+crates/*/specs or crates/*/python, or in a C program of trials, in the same order; lines of the file may be omitted between them, and leading space
 is ignored. The last line printed is the number of quotes that differ. Run manually, not in CI.
 """
 import pathlib
@@ -27,7 +27,8 @@ def quotes_of(page):
 
 
 def main():
-    files = [*TOP.glob("crates/*/src/**/*.rt"), *TOP.glob("crates/*/specs/**/*.antt")]
+    files = [*TOP.glob("crates/*/src/**/*.rt"), *TOP.glob("crates/*/specs/**/*.antt"),
+             *TOP.glob("crates/*/python/*.py"), *TOP.glob("trials/*.c")]
     sources = [lines_of(file.read_text()) for file in sorted(files)]
     count = differ = 0
     for page in [TOP / "docs/PROVED.md", *sorted(TOP.glob("crates/*/README.md"))]:

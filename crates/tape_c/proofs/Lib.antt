@@ -1,0 +1,5 @@
+pub mod Trailing
+pub mod Tables
+pub mod Listings
+pub mod Shelves
+pub mod Surveys
