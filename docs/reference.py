@@ -26,7 +26,8 @@ KINDS = {"IMAGE": "image fault {} at P", "LABEL": "label fault {}", "WRITE": "wr
 # Single explanations: the error, and the file.
 SINGLE = {"NO_IMAGE": ("`image fault 1`, `2` or `3` `at 0`", ""),
           "A_FOLDER": ("`image fault 5`", "a directory"),
-          "MERGED_TOO_LONG": ("`image fault 4`", "`merge`, `compare`")}
+          "MERGED_TOO_LONG": ("`image fault 4`", "`merge`, `compare`"),
+          "CONFLICT": ("`set fault 1`", "`extract --again`")}
 
 # The number of the error of each kind for which the explanation is NO_MEMORY.
 MEMORY = {"IMAGE": 6, "WRITE": 10, "RUN": 4, "STAGE": 4}

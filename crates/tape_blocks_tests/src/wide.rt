@@ -237,7 +237,7 @@ const OF_FORMAT_F: &[Padded<'_>] = &[
 /// Checks the content of each block of shape `shape`.
 fn each_has_content(rt: &impl Abort, shape: &Shape, rows: &[Padded<'_>]) {
     for (name, block, len) in rows {
-        assert!(rt; content(shape, block) == &block[..*len], "{name}");
+        assert!(rt; Some(content(shape, block)) == block.get(..*len), "{name}");
     }
 }
 

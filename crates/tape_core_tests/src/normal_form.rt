@@ -144,11 +144,11 @@ fn tapes_and_their_normal_forms(rt: HostRuntime) {
 #[test]
 fn at_most_64_items_are_dropped(rt: HostRuntime) {
     let mut place = TapePlace::Start(0);
-    let mut dropped = 0;
+    let mut dropped = 0u8;
     for _ in 0..65 {
         let (next, change) = step(place, Item::Mark);
         if change.instead == Replacement::Dropped {
-            dropped += 1;
+            dropped = dropped.saturating_add(1);
         }
         place = next;
     }
