@@ -225,8 +225,7 @@ const NEVER: &str = "This should never happen: it is a bug in tape.
 const NO_MEMORY: &str = "Out of memory. What was written before it remains.
   Close other programs and try again.";
 
-const CONFLICT: &str =
-    "These images have labels of different files with this SET and FILE, or
+const CONFLICT: &str = "These images have labels of different files with this SET and FILE, or
   complete copies of a section that differ. Nothing was recovered. Use only the
   images of one file: 'tape survey' and 'tape compare' show how they differ.";
 
