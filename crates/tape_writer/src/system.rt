@@ -19,7 +19,7 @@ pub use input_file::InputFile;
 pub use opening::make_image;
 use std::fs::{File, Files};
 use std::rt::Runtime;
-pub use written::{FolderPlan, write_in_folder};
+pub use written::{FolderPlan, Unwritten, write_in_folder};
 
 /// A system with memory, and with files that can be locked.
 pub trait Host: Runtime + AllocGlobal + Files<File = File> {}

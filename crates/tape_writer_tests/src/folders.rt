@@ -12,7 +12,7 @@ use std::rt::Runtime;
 use std::test::Fail;
 use tape_blocks::{Form, Shape};
 use tape_writer::system::{
-    Ended, FileFault, FolderPlan, Host, InputFile, SystemFault, image_path, make_image,
+    Ended, FileFault, FolderPlan, Host, InputFile, SystemFault, Unwritten, image_path, make_image,
     write_in_folder,
 };
 use tape_writer::{Input, Prefix, WriteFault};
@@ -77,19 +77,25 @@ fn ended<R: Host>(
     capacity: u32,
     shape: Shape,
     bytes: &[u8],
-) -> Result<Vec<Ended>, SystemFault> {
+) -> Result<Vec<Ended>, Unwritten> {
     let plan = FolderPlan {
         folder,
         prefix: ABC,
         capacity,
         shape,
         form: Form::Raw,
+        dry: false,
     };
+    planned(rt, &plan, bytes)
+}
+
+/// Writes the bytes as the only file of a set.
+fn planned<R: Host>(rt: &R, plan: &FolderPlan<'_>, bytes: &[u8]) -> Result<Vec<Ended>, Unwritten> {
     let mut files = [Input {
         head: head(),
         reader: bytes,
     }];
-    write_in_folder(rt, &plan, &mut files)
+    write_in_folder(rt, plan, &mut files)
 }
 
 /// Writes the bytes as `ended` does, and returns the number of volumes and the size of the last
@@ -101,7 +107,10 @@ fn write<R: Host>(
     shape: Shape,
     bytes: &[u8],
 ) -> Result<(usize, u64), SystemFault> {
-    let ended = ended(rt, folder, capacity, shape, bytes)?;
+    let ended = match ended(rt, folder, capacity, shape, bytes) {
+        Ok(ended) => ended,
+        Err(unwritten) => return Err(unwritten.fault),
+    };
     let size = match ended.as_slice() {
         [.., last] => last.size,
         [] => 0,
@@ -198,6 +207,80 @@ fn a_set_in_a_folder(rt: HostRuntime) -> Result<(), Fail> {
     let wanted = one_volume(rt.alloc(), records.as_slice())?;
     holds(&rt, "one/ABC001.tap", wanted.as_slice())?;
     holds(&rt, "second/ABC002.tap", b"kept")
+}
+
+/// A directory and the second image in it, the image that fails, and the images that were created.
+/// The first image is created, or was blank before.
+const BEGUN: &[(&str, bool, Option<u16>, &[u16])] = &[
+    ("begun", false, Some(2), &[1]),
+    ("reused", true, Some(2), &[]),
+];
+
+/// If the second image of a set already exists, the first is reported, if it was created.
+#[test]
+fn what_was_begun(rt: HostRuntime) -> Result<(), Fail> {
+    let records = payroll(rt.alloc(), b"")?;
+    for (folder, is_blank, image, made) in BEGUN {
+        fs::create_dir(&rt, *folder)?;
+        let path = image_path(rt.alloc(), folder, ABC, 2)?;
+        put(&rt, path.as_str(), b"kept")?;
+        if *is_blank {
+            let path = image_path(rt.alloc(), folder, ABC, 1)?;
+            put(&rt, path.as_str(), BLANK)?;
+        }
+        match ended(&rt, *folder, 2_500, FIXED, records.as_slice()) {
+            Ok(_) => return Err(Fail::from("a set that was refused")),
+            Err(begun) => {
+                assert!(rt;
+                    begun.image == *image && begun.made.as_slice() == *made,
+                    "{folder}"
+                );
+            }
+        }
+    }
+    Ok(())
+}
+
+/// A dry plan has the volumes of the set, and the faults of existing images. It creates nothing.
+#[test]
+fn a_dry_run(rt: HostRuntime) -> Result<(), Fail> {
+    fs::create_dir(&rt, "dry")?;
+    let records = payroll(rt.alloc(), b"")?;
+    let plan = FolderPlan {
+        folder: "dry",
+        prefix: ABC,
+        capacity: 100_000,
+        shape: FIXED,
+        form: Form::Raw,
+        dry: true,
+    };
+    for (blank, fault) in [
+        (None, None),
+        (Some(BLANK), None),
+        (Some(b"kept"), Some(SystemFault::File(FileFault::Exists))),
+    ] {
+        if let Some(bytes) = blank {
+            put(&rt, "dry/ABC001.tap", bytes)?;
+        }
+        match planned(&rt, &plan, records.as_slice()) {
+            Ok(ended) => {
+                let is_size = match ended.as_slice() {
+                    [volume] => volume.size == 2_484,
+                    _ => false,
+                };
+                assert!(rt; is_size && fault.is_none(), "{fault:?}");
+            }
+            Err(begun) => {
+                let none = begun.made.is_empty();
+                assert!(rt; fault == Some(begun.fault) && none, "{fault:?}");
+            }
+        }
+        match blank {
+            Some(bytes) => holds(&rt, "dry/ABC001.tap", bytes)?,
+            None => assert!(rt; fs::metadata(&rt, "dry/ABC001.tap").is_err()),
+        }
+    }
+    Ok(())
 }
 
 /// A directory, a capacity, a block length for format S, and the length of the one record. The

@@ -1,6 +1,7 @@
 //! Image files, each created when it is first written to.
 ghost use Rattle.std.specs.Prelude.{◌≡◌, ◌⊎◌, [], length, None, Some, IsSome, OnSome, OnOk, OnErr};
-ghost use Rattle.std.specs.{Prelude.IfOk, Prelude.IsErr, Option.option_map_or, Io.WritesAtMost};
+ghost use Rattle.std.specs.{Prelude.IfOk, Prelude.IsErr, Prelude.false, Option.option_map_or};
+ghost use Rattle.std.specs.Io.{WritesAtMost};
 ghost use Rattle.std.specs.Io.KnownBytes.{WriteAppends};
 ghost use Rattle.tape_writer.specs.Holding.{Opens, FilePasses, FileStops, FileTakes};
 
@@ -9,7 +10,7 @@ use crate::fault::WriteFault;
 use crate::system::Host;
 use crate::system::fault::{FileFault, SystemFault};
 use crate::system::folder::{image_path, sync_folder_of};
-use crate::system::opening::open_image;
+use crate::system::opening::{open_image, try_image};
 use crate::system::write_behind::{ROOM, WriteBehind};
 use std::fs::File;
 use std::io;
@@ -21,28 +22,44 @@ pub const NO_MEMORY: SystemFault = SystemFault::Write(WriteFault::OutOfMemory);
 /// The file of an image. It is created at the first write; an existing file must be a blank volume.
 ///
 /// Bytes are buffered and written together. A flush makes all of them durable, under the file's
-/// name. After a fault every later call is refused.
+/// name. After a fault every later call is refused. If the image is dry, an existing file is
+/// checked in the same way, but nothing is created or changed: the bytes are only counted.
 #[derive(Drop)]
 pub struct ImageFile<'a, R: Host> {
     rt: &'a R,
     folder: &'a str,
     prefix: Prefix,
     number: u16,
+    /// Whether the bytes are only counted.
+    dry: bool,
+    /// Whether the file was created by this value.
+    made: bool,
     file: Option<WriteBehind<File>>,
     fault: Option<SystemFault>,
 }
 
 impl<'a, R: Host> ImageFile<'a, R> {
-    /// Returns the image file of volume number `number`, from 1 to 999, without opening it.
-    pub fn new(rt: &'a R, folder: &'a str, prefix: Prefix, number: u16) -> ImageFile<'a, R>
+    /// Returns the image file of volume number `number`, from 1 to 999, without opening it. If
+    /// `dry` is true, nothing will be written to it.
+    pub fn new(
+        rt: &'a R,
+        folder: &'a str,
+        prefix: Prefix,
+        number: u16,
+        dry: bool,
+    ) -> ImageFile<'a, R>
         ensures place { (result.prefix ≡ prefix) × (result.number ≡ number) }
+        ensures dry { result.dry ≡ dry }
         ensures unopened { (result.file ≡ None) × (result.fault ≡ None) }
+        ensures unmade { result.made ≡ false }
     {
         ImageFile {
             rt,
             folder,
             prefix,
             number,
+            dry,
+            made: false,
             file: None,
             fault: None,
         }
@@ -56,6 +73,13 @@ impl<'a, R: Host> ImageFile<'a, R> {
             Some(file) => file.size(),
             None => 0,
         }
+    }
+
+    /// Returns the number of the volume, and whether its file was created by this value.
+    pub(crate) fn origin(&self) -> (u16, bool)
+        ensures { result ≡ (self.now.number, self.now.made) }
+    {
+        (self.number, self.made)
     }
 
     /// Writes the buffered bytes, and returns the fault if anything failed.
@@ -99,8 +123,13 @@ impl<'a, R: Host> ImageFile<'a, R> {
             return Err(NO_MEMORY);
         };
         let path = self.path()?;
-        let opened = open_image(self.rt, path.as_str(), self.prefix, self.number);
-        let file = opened.map_err(|fault| SystemFault::File(fault))?;
+        let opened = if self.dry {
+            try_image(self.rt, path.as_str(), self.prefix, self.number)
+        } else {
+            open_image(self.rt, path.as_str(), self.prefix, self.number)
+        };
+        let (file, made) = opened.map_err(|fault| SystemFault::File(fault))?;
+        self.made = made;
         self.file = Some(WriteBehind::over(room, file));
         Ok(())
     }
@@ -133,6 +162,9 @@ impl<'a, R: Host> ImageFile<'a, R> {
         let Some(file) = &self.file else {
             return Ok(());
         };
+        if self.dry {
+            return Ok(());
+        }
         let path = self.path()?;
         let synced = file.device().sync_all();
         if synced.is_err() || sync_folder_of(self.rt, path.as_str()).is_err() {

@@ -29,8 +29,12 @@ pub struct ImageFiles<'a, R: Host> {
     rt: &'a R,
     folder: &'a str,
     prefix: Prefix,
+    /// Whether the bytes are only counted.
+    dry: bool,
     /// The number of files lent.
     lent: u16,
+    /// The numbers of the images that have ended and whose files were created.
+    pub(crate) made: Vec<u16>,
     /// The volumes whose images ended, and their sizes.
     pub(crate) ended: Vec<Ended>,
     ghost room: { 256 ≤ vec_capacity ended },
@@ -38,12 +42,17 @@ pub struct ImageFiles<'a, R: Host> {
 
 impl<'a, R: Host> ImageFiles<'a, R> {
     /// Returns the image files of volumes with prefix `prefix` in directory `folder`. Opens
-    /// nothing.
+    /// nothing. If `dry` is true, nothing will be written to them.
     ///
     /// # Errors
     ///
     /// Returns `AllocError` if the allocation fails.
-    pub fn new(rt: &'a R, folder: &'a str, prefix: Prefix) -> Result<ImageFiles<'a, R>, AllocError>
+    pub fn new(
+        rt: &'a R,
+        folder: &'a str,
+        prefix: Prefix,
+        dry: bool,
+    ) -> Result<ImageFiles<'a, R>, AllocError>
         ensures { IfOk result (λ files. (files.prefix ≡ prefix) × (files.lent ≡ 0)
             × (files.ended.items ≡ [])) }
     {
@@ -51,7 +60,9 @@ impl<'a, R: Host> ImageFiles<'a, R> {
             rt,
             folder,
             prefix,
+            dry,
             lent: 0,
+            made: Vec::new(rt.alloc()),
             ended: Vec::with_capacity(rt.alloc(), usize::from(VOLUMES))?,
         })
     }
@@ -81,7 +92,7 @@ impl<'a, R: Host> ImageStore for ImageFiles<'a, R> {
             return None;
         }
         self.lent += 1;
-        Some(ImageFile::new(self.rt, self.folder, self.prefix, self.lent))
+        Some(ImageFile::new(self.rt, self.folder, self.prefix, self.lent, self.dry))
     }
 
     fn keep(&mut self, device: ImageFile<'a, R>)
@@ -92,6 +103,10 @@ impl<'a, R: Host> ImageStore for ImageFiles<'a, R> {
             } ∷ [] }
         ensures same { (self.new.lent ≡ self.old.lent) × (self.new.prefix ≡ self.old.prefix) }
     {
+        if let (number, true) = device.origin() {
+            // If memory runs out, this image is not removed after a fault.
+            let _ = self.made.push(number);
+        }
         let volume = blank_volume(self.prefix, self.lent.min(VOLUMES)).volume;
         // The list has room for all files that are lent.
         let _ = self.ended.push(Ended {

@@ -1,4 +1,6 @@
 //! Inputs, each opened when it is needed.
+ghost use Rattle.std.specs.Prelude.{◌≡◌, ◌↔◌, false};
+
 use crate::system::fault::FileFault;
 use std::fs::{File, Files};
 use std::io::{Read, Result};
@@ -46,6 +48,18 @@ impl<'a, R: Files> InputFile<'a, R> {
             path,
             turn: Turn::Waits,
         })
+    }
+}
+
+impl<R: Files> InputFile<'_, R> {
+    /// Returns true if the input was read, or opening it for that failed.
+    pub fn has_begun(&self) -> bool
+        ensures { (result ≡ false) ↔ (self.now.turn ≡ Turn.Waits) }
+    {
+        match &self.turn {
+            Turn::Waits => false,
+            Turn::Runs(_) | Turn::Ended => true,
+        }
     }
 }
 

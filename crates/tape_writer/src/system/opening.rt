@@ -13,16 +13,17 @@ use std::io::{ErrorKind, Read, Seek, SeekFrom};
 use tape_image::fill;
 
 /// Creates an image file, or opens the existing file if it is a blank volume, and truncates it. The
-/// file is locked as long as it is open.
+/// file is locked as long as it is open. Returns whether it was created.
 pub fn open_image<R: Host>(
     rt: &R,
     path: &str,
     prefix: Prefix,
     number: u16,
-) -> Result<File, FileFault> {
+) -> Result<(File, bool), FileFault> {
     match make_file(rt, path) {
         Err(FileFault::Exists) => {}
-        made => return made,
+        Err(fault) => return Err(fault),
+        Ok(file) => return Ok((file, true)),
     }
     let mut options = OpenOptions::new();
     options.read(true).write(true);
@@ -37,7 +38,27 @@ pub fn open_image<R: Host>(
     if there.set_len(0).is_err() || there.seek(SeekFrom::Start(0)).is_err() {
         return Err(FileFault::WriteFailed);
     }
-    Ok(there)
+    Ok((there, false))
+}
+
+/// Checks whether `open_image` would accept the file at `path`, and opens a file that accepts and
+/// forgets all bytes in its place. Creates and changes nothing.
+pub fn try_image<R: Host>(
+    rt: &R,
+    path: &str,
+    prefix: Prefix,
+    number: u16,
+) -> Result<(File, bool), FileFault> {
+    match File::open(rt, path) {
+        Ok(mut there) => require_blank(&mut there, prefix, number)?,
+        Err(error) if error.kind() == ErrorKind::NotFound => {}
+        Err(_) => return Err(FileFault::NotOpened),
+    }
+    let mut options = OpenOptions::new();
+    match options.write(true).open(rt, "/dev/null") {
+        Ok(file) => Ok((file, false)),
+        Err(_) => Err(FileFault::NotOpened),
+    }
 }
 
 /// Creates a file that must not exist yet, and locks it.

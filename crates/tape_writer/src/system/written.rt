@@ -1,5 +1,5 @@
 //! Writes a set to image files in a directory.
-ghost use Rattle.std.specs.Prelude.{◌≡◌, ◌≢◌, IfOk};
+ghost use Rattle.std.specs.Prelude.{◌≡◌, ◌≢◌, [], IfOk};
 ghost use Rattle.tape_writer.specs.{Blank.blank_volumes, Blank.volume_id, System.of_set};
 
 use crate::blank::{Prefix, blank_volume};
@@ -24,10 +24,25 @@ pub struct FolderPlan<'a> {
     pub capacity: u32,
     pub shape: Shape,
     pub form: Form,
+    /// Whether the images are only measured: nothing is created or changed.
+    pub dry: bool,
+}
+
+/// The reason why a set was not written, and what was begun.
+#[derive(Drop)]
+pub struct Unwritten {
+    /// The reason.
+    pub fault: SystemFault,
+    /// The number of the volume whose image failed, if the fault is one of an image.
+    pub image: Option<u16>,
+    /// The numbers of the volumes whose images were created. No other run has written to them.
+    pub made: Vec<u16>,
 }
 
 /// Writes a set, and returns its volumes. One image is open at a time. An image is created when it
-/// is first written to; an existing image must be a blank volume.
+/// is first written to; an existing image must be a blank volume. A dry plan creates and changes
+/// nothing: existing images are checked, all inputs are read, and the volumes are those that would
+/// be written.
 ///
 /// # Errors
 ///
@@ -37,12 +52,12 @@ pub fn write_in_folder<R: Host, I: Read>(
     rt: &R,
     plan: &FolderPlan<'_>,
     files: &mut [Input<I>],
-) -> Result<Vec<Ended>, SystemFault> {
+) -> Result<Vec<Ended>, Unwritten> {
     let Ok(volumes) = volumes_of(rt.alloc(), plan.prefix) else {
-        return Err(NO_MEMORY);
+        return Err(unbegun(rt.alloc()));
     };
-    let Ok(images) = ImageFiles::new(rt, plan.folder, plan.prefix) else {
-        return Err(NO_MEMORY);
+    let Ok(images) = ImageFiles::new(rt, plan.folder, plan.prefix, plan.dry) else {
+        return Err(unbegun(rt.alloc()));
     };
     let set = SetPlan {
         set_id: set_id(plan.prefix),
@@ -75,24 +90,43 @@ fn set_id(prefix: Prefix) -> Field<6>
     blank_volume(prefix, 1).volume
 }
 
-/// Returns the fault of a refusal: instead of the fault of a device, the fault of its file. Writes
-/// the buffered bytes of the current volume first.
-fn told<R: Host>(refused: RefusedSet<ImageFiles<'_, R>>) -> SystemFault
+/// The answer if there was no memory to begin.
+fn unbegun(alloc: Global) -> Unwritten
+    ensures { (result.fault ≡ SystemFault.Write WriteFault.OutOfMemory) × (result.made.items ≡ []) }
+{
+    Unwritten {
+        fault: NO_MEMORY,
+        image: None,
+        made: Vec::new(alloc),
+    }
+}
+
+/// Returns the fault of a refusal: instead of the fault of a device, the fault of its file. Also
+/// returns what was begun. Writes the buffered bytes of the current volume first.
+fn told<R: Host>(refused: RefusedSet<ImageFiles<'_, R>>) -> Unwritten
     ensures { refused.entry.fault ≢ SetFault.Write WriteFault.Device
-        → result ≡ of_set refused.entry.fault }
+        → result.fault ≡ of_set refused.entry.fault }
 {
     let RefusedSet {
         fault,
-        images: _ended,
+        images,
         under_way,
     } = refused;
-    let of_file = match under_way {
-        Some(image) => image.into_device().end(),
-        None => None,
-    };
-    match (fault, of_file) {
-        (SetFault::Write(WriteFault::Device), Some(of_file)) => of_file,
-        (SetFault::Write(fault), _) => SystemFault::Write(fault),
-        (SetFault::ReadFailed, _) => SystemFault::File(FileFault::ReadFailed),
+    let (mut made, mut of_file) = (images.made, None);
+    if let Some(image) = under_way {
+        let mut image = image.into_device();
+        let ended = image.end();
+        let (number, is_made) = image.origin();
+        of_file = ended.map(|fault| (fault, number));
+        if is_made {
+            // If memory runs out, this image is not removed.
+            let _ = made.push(number);
+        }
     }
+    let (fault, image) = match (fault, of_file) {
+        (SetFault::Write(WriteFault::Device), Some((of_file, number))) => (of_file, Some(number)),
+        (SetFault::Write(fault), _) => (SystemFault::Write(fault), None),
+        (SetFault::ReadFailed, _) => (SystemFault::File(FileFault::ReadFailed), None),
+    };
+    Unwritten { fault, image, made }
 }
