@@ -117,7 +117,7 @@ shape_by : (first later : State) (heading : Heading) (form : FileForm) (t : Bool
 shape_by first later heading form true = tt
 shape_by first later heading form false = refl
 
-head2_law : (first later : State) (heading : Heading) (r : Result Head2 LabelFault)
+pub head2_law : (first later : State) (heading : Heading) (r : Result Head2 LabelFault)
     → PassesTo (expected_over (at_head2 first heading r)) later
     (passed later (Headers heading None))
 head2_law first later heading (Err fault) = tt

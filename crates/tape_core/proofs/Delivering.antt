@@ -35,7 +35,7 @@ head1 core (Ok h) =
     (pick (nat_lt (sect_of core.position) h.sect) _ _ (λ e. cc)
     (pick (other_file_id core.known h.file_id) _ _ (λ e. cc) (λ e. cc))))))
 
-head2 : (core : State) (heading : Heading) (r : Result Head2 LabelFault)
+pub head2 : (core : State) (heading : Heading) (r : Result Head2 LabelFault)
     → (at_head2 core heading r).0 ≢ Deliver
 head2 core heading (Err fault) = λ e. cc
 head2 core heading (Ok g) =

@@ -8,7 +8,7 @@ use Rattle.tape_core.specs.NormalForm.{Codes.in_ascii, Steps.begin_at}
 use Rattle.tape_core.specs.NormalForm.Steps.{second_at, same}
 use Rattle.tape_core.specs.declared.normal.machine.TapePlace.TheVariants.{Over}
 
-not_80 : (b : List ℕ) → length b ≢ 80 → (length b == 80) ≡ false
+pub not_80 : (b : List ℕ) → length b ≢ 80 → (length b == 80) ≡ false
 not_80 b n = grind (arith, n)
 
 pub same_of : (code : Code) (b : List ℕ) → length b ≢ 80 → in_ascii code b ≡ b

@@ -25,7 +25,10 @@ pub mod Delivering
 pub mod Standing
 pub mod Weights
 pub mod WideSteps
-pub mod WideLawful
+pub mod WideBehind
+mod WideLawful
+pub mod WideReading
+pub mod WideCopies
 pub mod Laid
 pub mod Crashes
 pub mod Overlap

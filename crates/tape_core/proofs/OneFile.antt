@@ -49,7 +49,7 @@ same_head1 core (Ok h) =
     (pick core (other_file_id core.known h.file_id) _ _ (same core _ refl refl)
     (same core _ refl refl))))))
 
-same_head2 : (core : State) (heading : Heading) (r : Result Head2 LabelFault)
+pub same_head2 : (core : State) (heading : Heading) (r : Result Head2 LabelFault)
     → Same core (at_head2 core heading r)
 same_head2 core heading (Err fault) = same core _ refl refl
 same_head2 core heading (Ok g) = pick core (other_shape core.known (form_at heading g)) _ _
@@ -143,7 +143,7 @@ same_unless : (core : State) (p : Position) (out : Outcome) → Same core out
 same_unless core Finished out s = same core _ refl refl
 same_unless core (Awaits sect b part) out s = s
 
-same_step : (core : State) (arrived : Option TapeItem) → Same core (step_of core arrived)
+pub same_step : (core : State) (arrived : Option TapeItem) → Same core (step_of core arrived)
 same_step core arrived = same_unless core core.position (at_arrival core core.phase arrived)
     (same_arrival core core.phase arrived)
 

@@ -1,5 +1,5 @@
 -- Over copies of a valid set, no item of the data contradicts what was delivered.
-use Rattle.std.proofs.Common.{◌≡◌, ◌<◌, ◌≤◌, ◌⊎◌, ℕ, zero, suc, ◌+◌, ◌-◌, List, [], ◌∷◌, ◌++◌}
+use Rattle.std.proofs.Common.{◌≡◌, ◌<◌, ◌⊎◌, ℕ, zero, suc, ◌+◌, ◌-◌, List, [], ◌∷◌, ◌++◌}
 use Rattle.std.proofs.Common.{length}
 use Rattle.std.proofs.Common.{take, drop, Bool, true, false, cond, Option, Some, None, refl, sym}
 use Rattle.std.proofs.Common.{ap}
@@ -9,22 +9,22 @@ use Rattle.std.proofs.lemmas.Bool.Decides.{nat_tests}
 use Rattle.std.specs.List.{AllByRecursion}
 use Rattle.tape_image.specs.Tape.{TapeItem, block as block', bad, mark}
 use Rattle.tape_blocks.specs.Block.{Portion}
-use Rattle.tape_blocks.specs.Tight.{Filled, parts_of_all, bytes_of_all}
+use Rattle.tape_blocks.specs.Tight.{Filled, parts_of_all}
 use Rattle.tape_set.specs.declared.position.Position.{Position}
 use Rattle.tape_set.specs.declared.position.Position.TheVariants.{Awaits, Finished}
-use Rattle.tape_set.specs.Position.{awaiting, sect_of, block_of, part_of}
+use Rattle.tape_set.specs.Position.{awaiting, sect_of, block_of}
 use Rattle.tape_set.specs.Layout.{FileSet, Section, Placed, Entry, a_data_block, a_mark, item_of}
 use Rattle.tape_set.specs.Layout.{data_group, trailer_group, entries, items, nth, file_of}
 use Rattle.tape_set.specs.Layout.{section_of, Volume}
-use Rattle.tape_set.specs.Before.{before, section_parts, parts_before, parts_up_to, blocks_of}
+use Rattle.tape_set.specs.Before.{before, section_parts, parts_up_to, blocks_of}
 use Rattle.tape_set.specs.Before.{parts_at, parts_of, IsIn}
 use Rattle.tape_set.specs.Lawful.{IsLawful, FileForm, TellsForm}
 use Rattle.tape_set.specs.Reach.{stopped, good_run}
 use Rattle.tape_set.proofs.{Everywhere.every_rest, Forms.blocks_held}
-use Rattle.tape_core.specs.declared.event.{Heading.Heading, Phase.Phase}
+use Rattle.tape_core.specs.declared.event.{Heading.Heading}
 use Rattle.tape_core.specs.declared.event.Phase.TheVariants.{DataWanted, TrailerWanted}
 use Rattle.tape_core.specs.{State.State, Follows.InData, Follows.IsReading, Follows.FollowsFrom}
-use Rattle.tape_core.specs.{Follows.Left, Follows.to_come, Follows.block_after, Follows.AtTrailer}
+use Rattle.tape_core.specs.{Follows.Left, Follows.to_come, Follows.AtTrailer}
 use Rattle.tape_label.specs.{declared.values.Trail1.Trail1, Reading.trail1_at}
 use Rattle.tape_label.proofs.First.{trail1_again}
 use Rattle.tape_blocks.specs.Judged.{begun_behind}
@@ -99,7 +99,8 @@ split_parts set file sect n part w found = go (file_of set file) refl
     go None e = absurd (let f : section_of set file sect ≡ Some w = found in cc)
     go (Some ss) e =
         let at_it : nth ss sect ≡ Some w = cc in
-        rw e (ap (λ z. section_parts (take (sect - 1) ss) ++ parts_up_to (blocks_of z) n part) at_it)
+        rw e
+        (ap (λ z. section_parts (take (sect - 1) ss) ++ parts_up_to (blocks_of z) n part) at_it)
 
 -- the parts of a block are in order from what its first unit says
 own_order : (form : FileForm) (bytes : List ℕ) (begun end : Bool) (parts : List Portion)
@@ -206,7 +207,7 @@ module _ (aim : Aim) where
         answer (block' d.bytes) (Some []) (rw h (refl, (d.parts, held, rest_is)))
         (inr (inr h))
 
-    held_there : (d : Filled) (rest : List Filled) → i.blocks ≡ d ∷ rest
+    pub held_there : (d : Filled) (rest : List Filled) → i.blocks ≡ d ∷ rest
         → (slice_get w.blocks count ≡ Some d) × Contains form d.bytes d.parts
     held_there d rest q =
         let split : i.past ++ d ∷ rest ≡ w.blocks =
@@ -219,7 +220,8 @@ module _ (aim : Aim) where
         (every_rest _ i.past (d ∷ rest) (subst
         (λ z. AllByRecursion (λ b. Holds form.format form.rec_len form.offset b.bytes b.parts) z)
         (sym split) (blocks_held set core.file l sect w form found tells))).0 in
-        let order : InOrder (begun_behind false (before set core.file (awaiting sect count))) d.parts
+        let order : InOrder
+        (begun_behind false (before set core.file (awaiting sect count))) d.parts
         (begun_behind false (before set core.file (awaiting sect (count + 1)))) =
         block_in_order set core.file sect w (its_file aim) l i.past rest d count split i.numbered in
         (at_d, own_order form d.bytes _ _ d.parts held order)

@@ -1,8 +1,8 @@
 -- On the volumes of a valid set, and on reels that do not belong to it, a step of the wider reading
 -- is that of the table; and so it is at the end of a reel.
 use Rattle.std.proofs.Common.{◌≡◌, ℕ, List, ◌∷◌, ◌++◌, length, Bool, true, false, cond, Option}
-use Rattle.std.proofs.Common.{Some, None, Ok, refl, sym, ap, subst, ◌∙◌, slice_get, map, IsSome}
-use Rattle.std.proofs.Common.{arith, length-append, ◌+◌}
+use Rattle.std.proofs.Common.{Some, None, Ok, refl, sym, ap, subst, ◌∙◌, slice_get, IsSome}
+use Rattle.std.proofs.Common.{arith, length-append}
 use Rattle.std.proofs.lemmas.List.{length-map}
 use Rattle.tape_image.specs.Tape.{TapeItem, block, bad}
 use Rattle.tape_label.specs.declared.values.Kind.TheVariants as kinds
@@ -112,7 +112,7 @@ item_same core arrived set p k good g item l vol s a r = go (nth set.volumes k) 
 
 -- ---- behind the end of a volume
 
-beyond : (done todo all : List Entry) (e : Entry) (n : ℕ) → done ++ e ∷ todo ≡ all
+pub beyond : (done todo all : List Entry) (e : Entry) (n : ℕ) → done ++ e ∷ todo ≡ all
     → length done ≡ n → n ≡ length all → ⊥
 beyond done todo all e n whole count same =
     omega (arith, ap length whole, length-append done (e ∷ todo), count, same)

@@ -7,6 +7,9 @@ pub mod Laws
 pub mod Ahead
 -- A definition about private code, proved to agree with the ones above.
 pub mod Steps
+-- The bytes of images in normal form, and what is left of one.
+pub mod Bytes
+pub mod Image
 use Rattle.std.specs.Prelude.{ℕ, ◌+◌, nat_lt, ◌&&◌, ◌||◌, not, Bool, List, [], ◌∷◌, length}
 use Rattle.std.specs.Prelude.{if◌then◌else◌}
 use Rattle.tape_image.specs.Tape.{TapeItem, block, bad, mark}

@@ -76,3 +76,32 @@ content_by phase bytes = bytes
 -- the same by the state
 abbrev pub content_of : State → List ℕ → List ℕ
 content_of core bytes = content_by core.phase bytes
+
+-- the item with its content, by the phase
+abbrev pub item_by : Phase → TapeItem → TapeItem
+item_by phase (block bytes) = block (content_by phase bytes)
+item_by phase item = item
+
+-- the same by the state
+abbrev pub content_item : State → TapeItem → TapeItem
+content_item core item = item_by core.phase item
+
+-- an item, or the reel's end, with its content
+abbrev pub content_step : State → Option TapeItem → Outcome
+content_step core None = step_of core None
+content_step core (Some item) = step_of core (Some (content_item core item))
+
+-- an item, or the reel's end, in the wider reading (`true`) or in that of the table
+abbrev pub step_by : Bool → State → Option TapeItem → Outcome
+step_by false core arrived = Table.step_of core arrived
+step_by true core arrived = content_step core arrived
+
+-- the item as that reading takes it
+abbrev pub read_as : Bool → State → TapeItem → TapeItem
+read_as false core item = item
+read_as true core item = content_item core item
+
+-- the bytes of a block as that reading takes them
+abbrev pub bytes_as : Bool → State → List ℕ → List ℕ
+bytes_as false core bytes = bytes
+bytes_as true core bytes = content_of core bytes

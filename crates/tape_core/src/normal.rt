@@ -3,9 +3,13 @@
 //! second labels, nothing before the first label and nothing after the end. Data are never changed.
 
 mod code;
+mod held;
+mod image;
 pub mod laws;
+mod looking;
 mod machine;
 mod mend;
 
-pub use code::Code;
+pub use code::{Code, to_ascii};
+pub use image::{NormalImage, Rules};
 pub use machine::{Change, Missing, Replacement, TapePlace, step};

@@ -11,6 +11,8 @@ mod labels;
 #[cfg(test)]
 mod normal_form;
 #[cfg(test)]
+mod normal_image;
+#[cfg(test)]
 mod parts;
 #[cfg(test)]
 mod passed_over;

@@ -46,7 +46,7 @@ fn ebcdic(label: &[u8; 80]) -> [u8; 80] {
 }
 
 /// Returns the label of a letter: in EBCDIC for a small letter.
-fn label(letter: u8) -> Option<[u8; 80]> {
+pub(crate) fn label(letter: u8) -> Option<[u8; 80]> {
     Some(match letter {
         b'V' => *VOL1,
         b'H' => *HDR1,
@@ -87,8 +87,8 @@ fn step_of(place: TapePlace, letter: u8) -> (TapePlace, Change) {
 }
 
 /// Returns what happened to the item of a letter: `=` it is kept, `-` dropped, `A` it became its
-/// label in ASCII, `+` it is kept and `&` it became its label after an inserted volume label, `2` it
-/// is kept and a second label is missing.
+/// label in ASCII, `+` it is kept and `&` it became its label after an inserted volume label, `2`
+/// it is kept and a second label is missing.
 fn shown(change: &Change, letter: u8) -> u8 {
     match (change.missing, change.instead) {
         (Missing::Nothing, Replacement::Same) => b'=',

@@ -155,7 +155,8 @@ table_gives Blank (block b) xs = refl
 table_gives Blank mark xs = refl
 table_gives Blank bad xs = refl
 table_gives (Second code) (block b) xs =
-    second_gives b xs code (is_hdr2 (kind_at (in_ascii code b))) (is_further_header (in_ascii code b))
+    second_gives b xs code (is_hdr2 (kind_at (in_ascii code b)))
+    (is_further_header (in_ascii code b))
     refl refl
 table_gives (Second code) mark xs = refl
 table_gives (Second code) bad xs = refl

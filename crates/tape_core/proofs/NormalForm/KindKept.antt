@@ -20,7 +20,7 @@ filled_length (c ∷ cs) = go ((c == 0) || (c == 32)) (filled_length cs)
     go false h = refl
 
 -- the length, and the first four characters
-record Alike (xs ys : List ℕ) : Type 0 where
+pub record Alike (xs ys : List ℕ) : Type 0 where
   pub size : length xs ≡ 80
   pub front : take 4 xs ≡ take 4 ys
 
@@ -42,7 +42,7 @@ fill_alike first last b n f o l =
           ∙ take-take 4 (first - 1) b (omega (arith, f));
     }
 
-filled_alike : (b : List ℕ) → length b ≡ 80 → Alike (filled b) b
+pub filled_alike : (b : List ℕ) → length b ≡ 80 → Alike (filled b) b
 filled_alike b n =
     let x = fill_alike 6 10 b n (omega arith) (omega arith) (omega arith) in
     let y = fill_alike 11 15 (fill_at 6 10 b) x.size (omega arith) (omega arith) (omega arith) in

@@ -1,11 +1,12 @@
 -- Laws about the normal form. Each is the contract of a function of the module `laws`.
-use Rattle.std.specs.Prelude.{◌≡◌, ℕ, Bool, List, ◌∷◌, ◌++◌}
+use Rattle.std.specs.Prelude.{◌≡◌, ◌≤◌, ℕ, Bool, List, ◌∷◌, ◌++◌, length}
 use Rattle.std.specs.List.{AllByRecursion}
 use Rattle.tape_image.specs.Tape.{TapeItem, mark}
+use Rattle.tape_image.specs.{Begins.image_limit, Spelling.Spells}
 use Rattle.tape_set.specs.Layout.{FileSet, items}
 use Rattle.tape_set.specs.Reading.{as_read}
 use Rattle.tape_core.specs.declared.normal.code.Code.{Code}
-use Rattle.tape_core.specs.NormalForm.{normal, of_data, of_trailer}
+use Rattle.tape_core.specs.NormalForm.{normal, of_data, of_trailer, Bytes.normal_bytes}
 
 -- A copy of a volume of a valid set is its own normal form, however damaged it is, and wherever it
 -- ends.
@@ -26,3 +27,14 @@ DataKept =
     → (of_data code data' ≡ data')
     × ((rest : List TapeItem)
     → of_data code (data' ++ mark ∷ rest) ≡ data' ++ mark ∷ of_trailer code rest)
+
+-- An image of at most 4,294,967,295 bytes that encodes the items of a tape, up to the end of the
+-- medium, gives one that encodes those of the tape in normal form.
+abbrev pub NormalSpells : Type 0
+NormalSpells = (xs : List ℕ) (items : List TapeItem) → length xs ≤ image_limit → Spells xs items
+    → Spells (normal_bytes xs) (normal items)
+
+-- Such an image of a copy of a volume of a valid set gives one that encodes the same items.
+abbrev pub CopySpells : FileSet → Type 0
+CopySpells set = (k : ℕ) (good : List Bool) (xs : List ℕ) → length xs ≤ image_limit
+    → Spells xs (as_read (items set k) good) → Spells (normal_bytes xs) (as_read (items set k) good)

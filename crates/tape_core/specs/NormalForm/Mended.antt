@@ -1,7 +1,7 @@
 -- Labels that are inserted, dropped or changed.
-use Rattle.std.specs.Prelude.{ℕ, ◌-◌, ◌==◌, nat_lt, take, drop, slice_index, ◌||◌, ◌&&◌, not, Bool}
+use Rattle.std.specs.Prelude.{ℕ, ◌-◌, ◌==◌, take, drop, ◌||◌, ◌&&◌, not, Bool}
 use Rattle.std.specs.Prelude.{true, false, List, [], ◌∷◌}
-use Rattle.std.specs.Prelude.{◌++◌, length, replicate, codes, Option, Some, Result, Ok, Err}
+use Rattle.std.specs.Prelude.{◌++◌, replicate, codes, Option, Some, Result, Ok, Err}
 use Rattle.std.specs.Prelude.{if◌then◌else◌}
 use Rattle.std.specs.Str.{bytes_eq}
 use Rattle.tape_label.specs.declared.values.{Kind.Kind}

@@ -32,8 +32,9 @@ const TABLE: [u8; 256] = [
     0x30, 0x31, 0x32, 0x33, 0x34, 0x35, 0x36, 0x37, 0x38, 0x39, 0xB3, 0xDB, 0xDC, 0xD9, 0xDA, 0x9F,
 ];
 
-/// Returns the character that a byte is in code page 037.
-fn to_ascii(byte: u8) -> u8
+/// Returns the character that a byte is in EBCDIC (code page 037), in ISO 8859-1, which begins with
+/// ASCII.
+pub fn to_ascii(byte: u8) -> u8
     ensures { result ≡ to_ascii byte }
 {
     TABLE[usize::from(byte)]

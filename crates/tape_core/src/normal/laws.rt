@@ -2,7 +2,7 @@
 
 ghost use Rattle.tape_set.specs.{Layout.FileSet, Lawful.IsLawful};
 ghost use Rattle.tape_core.specs.NormalForm.{Ahead.NormalIsAhead, Ahead.BehindIsAhead};
-ghost use Rattle.tape_core.specs.NormalForm.Laws.{NormalKeeps, DataKept};
+ghost use Rattle.tape_core.specs.NormalForm.Laws.{NormalKeeps, DataKept, NormalSpells, CopySpells};
 
 /// A copy of a volume of a valid set is its own normal form, however damaged it is, and wherever it
 /// ends.
@@ -27,4 +27,17 @@ pub fn normal_is_ahead()
 #[tactic(auto, using(crate::proofs::NormalForm::Ahead::behind_is_ahead))]
 pub fn behind_is_ahead()
     ensures { BehindIsAhead }
+{}
+
+/// An image that encodes the items of a tape up to the end of the medium gives one that encodes
+/// those of the tape in normal form.
+#[tactic(auto, using(crate::proofs::NormalForm::Spelled::normal_spells))]
+pub fn normal_spells()
+    ensures { NormalSpells }
+{}
+
+/// Such an image of a copy of a volume of a valid set gives one that encodes the same items.
+#[tactic(auto, using(crate::proofs::NormalForm::Spelled::copy_spells))]
+pub fn copy_spells()
+    ensures { (set : FileSet) → IsLawful set → CopySpells set }
 {}

@@ -104,7 +104,7 @@ impl Missing {
 }
 
 /// The item unchanged, with no label missing.
-const SAME: Change = Change {
+pub(crate) const SAME: Change = Change {
     missing: Missing::Nothing,
     instead: Replacement::Same,
 };
@@ -288,6 +288,31 @@ fn first_trailer(code: Code, bytes: &[u8]) -> (TapePlace, Change)
     }
 }
 
+/// Returns what is expected after a block, and what replaces it.
+fn step_at_block(place: TapePlace, bytes: &[u8]) -> (TapePlace, Change)
+    ensures { result ≡ step_of place (block bytes.now) }
+{
+    match place {
+        TapePlace::Start(dropped) => match begin(bytes) {
+            Some(begun) => begun,
+            None if bytes.len() < NOISE => drop_first(dropped),
+            None => (TapePlace::Over, SAME),
+        },
+        TapePlace::Labels(code, dropped) => label_of_volume(code, dropped, bytes),
+        TapePlace::Second(code) => second_label(code, bytes),
+        TapePlace::Headers(code) => (place, any_label(code, bytes)),
+        TapePlace::Data(_) => (place, SAME),
+        TapePlace::Trailer(code) => first_trailer(code, bytes),
+        TapePlace::Trailers(code) => (place, any_label(code, bytes)),
+        TapePlace::Next(code) => next_header(code, bytes),
+        TapePlace::Ended => match begin(bytes) {
+            Some(_) => (TapePlace::Over, SAME),
+            None => (TapePlace::Ended, DROPPED),
+        },
+        TapePlace::Blank | TapePlace::Over => (TapePlace::Over, SAME),
+    }
+}
+
 /// Returns what is expected after an item, and what replaces the item. Does not allocate.
 #[tactic(auto, using(crate::proofs::NormalForm::Agree::table_gives))]
 pub fn step(place: TapePlace, item: Item<'_>) -> (TapePlace, Change)
@@ -297,25 +322,7 @@ pub fn step(place: TapePlace, item: Item<'_>) -> (TapePlace, Change)
     ensures exact { result ≡ step_of place (tape_item item.entry) }
 {
     match item {
-        Item::Block(bytes) => match place {
-            TapePlace::Start(dropped) => match begin(bytes) {
-                Some(begun) => begun,
-                None if bytes.len() < NOISE => drop_first(dropped),
-                None => (TapePlace::Over, SAME),
-            },
-            TapePlace::Labels(code, dropped) => label_of_volume(code, dropped, bytes),
-            TapePlace::Second(code) => second_label(code, bytes),
-            TapePlace::Headers(code) => (place, any_label(code, bytes)),
-            TapePlace::Data(_) => (place, SAME),
-            TapePlace::Trailer(code) => first_trailer(code, bytes),
-            TapePlace::Trailers(code) => (place, any_label(code, bytes)),
-            TapePlace::Next(code) => next_header(code, bytes),
-            TapePlace::Ended => match begin(bytes) {
-                Some(_) => (TapePlace::Over, SAME),
-                None => (TapePlace::Ended, DROPPED),
-            },
-            TapePlace::Blank | TapePlace::Over => (TapePlace::Over, SAME),
-        },
+        Item::Block(bytes) => step_at_block(place, bytes),
         Item::Bad => match place {
             TapePlace::Data(_) => (place, SAME),
             TapePlace::Ended => (TapePlace::Ended, DROPPED),

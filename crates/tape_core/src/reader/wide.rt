@@ -1,8 +1,8 @@
 //! The wider reading: files of formats U and V, sections without HDR2, and padding of NULs or
 //! spaces.
 
-ghost use Rattle.std.specs.Prelude.{◌≡◌, ◌≢◌, ◌++◌, ◌∷◌, [], ℕ, List, Bool, Some, None, IsSome};
-ghost use Rattle.std.specs.Prelude.{length, slice_get, if◌then◌else◌};
+ghost use Rattle.std.specs.Prelude.{◌≡◌, ◌≢◌, ◌≤◌, ◌++◌, ◌∷◌, [], ℕ, List, Bool, Some, None};
+ghost use Rattle.std.specs.Prelude.{IsSome, length, slice_get, if◌then◌else◌};
 ghost use Rattle.tape_image.specs.Tape.{TapeItem, bad, block as block'};
 ghost use Rattle.tape_label.specs.{Kinds.kind_at, declared.label.LabelFault.LabelFault};
 ghost use Rattle.tape_blocks.specs.declared.check.BlockFault.{BlockFault};
@@ -130,6 +130,42 @@ impl ReaderCore {
         match &self.phase {
             Phase::DataWanted(_, form, _) => content(&shape_of(form), block),
             _ => block,
+        }
+    }
+
+    /// Returns a block as a reading takes it: its content in the wider one, otherwise all of it.
+    pub fn as_read<'a>(&self, wide: bool, block: &'a [u8]) -> &'a [u8]
+        ensures value { result.now ≡ Wide.bytes_as wide self.now block.now }
+        ensures short { length result.now ≤ length block.now }
+    {
+        if wide {
+            return self.content(block);
+        }
+        block
+    }
+
+    /// Processes the next event in the wider reading, as `wide_step` does with the content of a
+    /// block, or, if `wide` is false, as `step` does.
+    pub fn step_by(&mut self, wide: bool, event: Event<'_>) -> Answer
+        ensures table { (result, self.new) ≡ Wide.step_by wide self.old (arrival event.entry) }
+        ensures complete { result ≡ Answer.Complete → self.new.position ≡ Position.Finished }
+        ensures checked { result ≡ Answer.Deliver → (bytes : List ℕ)
+            × (arrival event.entry ≡ Some (block' bytes))
+            × Checked (Some (block' (Wide.bytes_as wide self.old bytes))) self.old self.new }
+        ensures set_id { self.new.set_id ≡ self.old.set_id }
+        ensures file { self.new.file ≡ self.old.file }
+        ensures left { arrival event.entry ≡ None
+            → (rest_of self.new ≡ rest_of self.old) × IsFinal result }
+    {
+        if !wide {
+            return self.step(event);
+        }
+        match event {
+            Event::Block(block) => {
+                let content = self.content(block);
+                self.wide_step(Event::Block(content))
+            }
+            event => self.wide_step(event),
         }
     }
 }

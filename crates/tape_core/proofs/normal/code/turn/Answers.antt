@@ -5,7 +5,8 @@ use Rattle.tape_core.proofs.normal.code.turn.Goals as goal
 
 pub loop-place-init : goal.loop-place-init
 loop-place-init c =
-    let e : drop 80 c.args.text.now ≡ [] = drop_all 80 c.args.text.now (omega (arith, c.told-text)) in
+    let e : drop 80 c.args.text.now ≡ [] =
+    drop_all 80 c.args.text.now (omega (arith, c.told-text)) in
     record {
       inside = omega arith;
       size = c.told-text;

@@ -39,8 +39,8 @@ returns-in-Ok-2-clause-told c = λ e.
     let f = c.in-Ok.ensures.found in
     ap is_spanned (sym c.shape_of.ensures.format)
     ∙ begun_spans s.format (own_len s.format s.rec_len s.offset block) c.if-part-eq0.before
-    c.in-Ok.field-0 f.0 f.1.1.units f.2 (λ b. ap is_spanned c.shape_of.ensures.format ∙ before_spans c.args.form.now
-    c.args.part c.args.begun c.args.block.now c.requires.told
+    c.in-Ok.field-0 f.0 f.1.1.units f.2 (λ b. ap is_spanned c.shape_of.ensures.format
+    ∙ before_spans c.args.form.now c.args.part c.args.begun c.args.block.now c.requires.told
     (before ∙ b)) e
 
 -- the block was checked

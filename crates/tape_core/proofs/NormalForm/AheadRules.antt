@@ -1,0 +1,246 @@
+-- The rules of the reader, one after another, over a tape and its normal form.
+use Rattle.std.proofs.Common.{◌≡◌, ℕ, ◌+◌, List, ◌∷◌, Bool, true, false, cond, Option}
+use Rattle.std.proofs.Common.{Some, None}
+use Rattle.std.proofs.Common.{Result, Ok, Err, refl, ap, ◌∙◌, nat_lt, not}
+use Rattle.std.proofs.{Common.◌==◌}
+use Rattle.std.specs.Str.{bytes_eq}
+use Rattle.tape_image.specs.Tape.{TapeItem, block, bad, mark}
+use Rattle.tape_label.specs.declared.{values.Kind.Kind, values.Head1.Head1, values.Head2.Head2}
+use Rattle.tape_label.specs.declared.{values.Trail1.Trail1, label.LabelFault.LabelFault}
+use Rattle.tape_label.specs.declared.values.Kind.TheVariants as kinds
+use Rattle.tape_label.specs.{Kinds.kind_at, VolumeLabels.is_volume_label}
+use Rattle.tape_label.specs.Reading.{head1_at, head2_at, trail1_at}
+use Rattle.tape_label.proofs.{First.head1_found, First.trail1_found, Apart.kind_again}
+use Rattle.tape_core.proofs.NormalForm.{Same.first_trailer, KindKept.kind_mended}
+use Rattle.tape_set.specs.declared.position.Position.{Position}
+use Rattle.tape_set.specs.declared.position.Position.TheVariants.{Awaits, Finished}
+use Rattle.tape_set.specs.Position.{next_block, next_section, block_of, sect_of, part_of}
+use Rattle.tape_set.specs.Lawful.{most_blocks, label_count}
+use Rattle.tape_blocks.specs.{declared.check.BlockFault.BlockFault, Judged.judged}
+use Rattle.tape_core.specs.Parts.{begun_before, other_front}
+use Rattle.tape_core.specs.Labels.{form_at, other_shape}
+use Rattle.tape_core.specs.Table.{other_numbers, broken, moved_to}
+use Rattle.tape_core.specs.Labels.{heading_of, other_file_id}
+use Rattle.tape_core.specs.declared.event.Reason.TheVariants as reasons
+use Rattle.tape_set.specs.Lawful.{FileForm}
+use Rattle.tape_core.specs.declared.event.{Phase.Phase, Heading.Heading}
+use Rattle.tape_core.specs.declared.event.Answer.TheVariants.{SectionDone}
+use Rattle.tape_core.specs.declared.event.Answer.TheVariants.{Complete}
+use Rattle.tape_core.specs.declared.event.Phase.TheVariants as phases
+use Rattle.tape_core.specs.{State.State, Known.is_finished}
+use Rattle.tape_core.specs.Table.{Outcome, step_of, unless_complete, at_item}
+use Rattle.tape_core.specs.Table.{first_label, first_labels, at_head1, at_head2, second_label}
+use Rattle.tape_core.specs.Table.{at_awaited, at_judged, delivered as delivered', passed}
+use Rattle.tape_core.specs.Table.{at_passed_trailer, at_wanted_trailer, at_end, in_phase, useless}
+use Rattle.tape_core.specs.declared.normal.code.Code.TheVariants.{Ascii}
+use Rattle.tape_core.specs.declared.normal.machine.TapePlace.{TapePlace}
+use Rattle.tape_core.specs.declared.normal.machine.TapePlace.TheVariants as places
+use Rattle.tape_core.specs.NormalForm.Mended.{mended}
+use Rattle.tape_core.specs.NormalForm.{Steps.from}
+use Rattle.tape_core.proofs.NormalForm.AheadFacts.{Fits, Stands, Fact}
+use Rattle.tape_core.proofs.NormalForm.AheadFacts.{ends, kept, changed}
+
+-- ---- the rules of the reader, one after another
+
+pub at_other : (pos : Position) (core : State) (other : Outcome) → is_finished pos ≡ false
+    → unless_complete core pos other ≡ other
+at_other Finished core other w = absurd (cc)
+at_other (Awaits s b p) core other w = refl
+
+pub step_is : (core : State) (p : Phase) → is_finished core.position ≡ false → core.phase ≡ p
+    → (x : TapeItem) → step_of core (Some x) ≡ at_item core p x
+step_is core p w e x =
+    at_other core.position core (at_item core core.phase x) w ∙ ap (λ v. at_item core v x) e
+
+pub next_waits : (p : Position) → is_finished p ≡ false → is_finished (next_block p) ≡ false
+next_waits Finished w = absurd (cc)
+next_waits (Awaits s b p) w = refl
+
+module _ (core : State) (w : is_finished core.position ≡ false) where
+  pub stays : (next : TapePlace) (p : Phase) → Fits p next → Stands next (in_phase core p)
+  stays next p h = record { waits = w; fits = h }
+
+  pub pick : (place : TapePlace) (x : TapeItem) (t : Bool) (a b : Outcome) → Fact core place x a
+      → Fact core place x b → Fact core place x (cond t a b)
+  pick place x true a b f g = f
+  pick place x false a b f g = g
+
+  pub volume : (n : ℕ) (b : List ℕ) (k : Option Kind) → kind_at b ≡ k
+      → Fact core (places.Start n) (block b) (first_label core k)
+  volume n b (Some kinds.Vol1) e =
+      kept (places.Labels Ascii 0) (λ xs. rw (e) refl)
+      (λ g. stays (places.Labels Ascii 0) phases.VolumeLabels tt)
+  volume n b k e = ends tt
+
+  pub heads : (place : TapePlace) (b : List ℕ)
+      → ((h : Head1) → head1_at b ≡ Ok h → (xs : List TapeItem)
+      → from place (block b ∷ xs) ≡ block b ∷ from (places.Second Ascii) xs)
+      → (o : Result Head1 LabelFault) → head1_at b ≡ o
+      → Fact core place (block b) (at_head1 core o)
+  heads place b keep (Err fault) e = ends tt
+  heads place b keep (Ok h) e =
+      go (not (bytes_eq h.set_id core.set_id)) (nat_lt h.sequence core.file)
+      (nat_lt core.file h.sequence) (nat_lt h.sect (sect_of core.position))
+      (nat_lt (sect_of core.position) h.sect) (other_file_id core.known h.file_id)
+    where
+      go : (a c d f g i : Bool) → Fact core place (block b)
+          (cond a (useless core reasons.OtherSet)
+          (cond c (passed core (phases.Header2 (heading_of h) false))
+          (cond d (useless core reasons.NotOnReel)
+          (cond f (useless core reasons.EarlierSection)
+          (cond g (useless core reasons.LaterSection)
+          (cond i (useless core reasons.SectionDiffers)
+          (passed core (phases.Header2 (heading_of h) true))))))))
+      go true c d f g i = ends tt
+      go false true d f g i =
+          kept (places.Second Ascii) (keep h e)
+          (λ g. stays (places.Second Ascii) (phases.Header2 (heading_of h) false) tt)
+      go false false true f g i = ends tt
+      go false false false true g i = ends tt
+      go false false false false true i = ends tt
+      go false false false false false true = ends tt
+      go false false false false false false =
+          kept (places.Second Ascii) (keep h e)
+          (λ g. stays (places.Second Ascii) (phases.Header2 (heading_of h) true) tt)
+
+  pub labels : (n : ℕ) (b : List ℕ) (v : Bool) → is_volume_label b ≡ v → (k : Option Kind)
+      → kind_at b ≡ k
+      → Fact core (places.Labels Ascii n) (block b)
+      (cond v (passed core phases.VolumeLabels) (first_labels core b k))
+  labels n b true e k f =
+      kept (places.Labels Ascii n) (λ xs. rw (e) refl)
+      (λ g. stays (places.Labels Ascii n) phases.VolumeLabels tt)
+  labels n b false e (Some kinds.Hdr1) f =
+      heads (places.Labels Ascii n) b (λ h o xs. rw (e, f, o) refl) (head1_at b) refl
+  labels n b false e k f = ends tt
+
+  pub second : (heading : Heading) (wanted : Bool) (b : List ℕ) (k : Option Kind) → kind_at b ≡ k
+      → core.phase ≡ phases.Header2 heading wanted
+      → Fact core (places.Second Ascii) (block b) (second_label core heading wanted b k)
+  second heading false b (Some kinds.Hdr2) e p =
+      changed (places.Headers Ascii) (block (mended b)) (λ xs. rw (e) refl) refl
+      (step_is core (phases.Header2 heading false) w p (block (mended b))
+      ∙ ap (λ v. second_label core heading false (mended b) v) (kind_mended b e))
+      (stays (places.Headers Ascii) _ tt)
+  second heading true b (Some kinds.Hdr2) e p = go (head2_at b) refl
+    where
+      go : (o : Result Head2 LabelFault) → head2_at b ≡ o
+          → Fact core (places.Second Ascii) (block b) (at_head2 core heading o)
+      go (Err fault) f = ends tt
+      go (Ok g) f =
+          pick (places.Second Ascii) (block b) (other_shape core.known (form_at heading g))
+          (useless core reasons.SectionDiffers)
+          (passed core (phases.Headers heading (Some (form_at heading g)))) (ends tt)
+          (kept (places.Headers Ascii) (λ xs. rw (e, f) refl)
+          (λ a. stays (places.Headers Ascii) (phases.Headers heading (Some (form_at heading g)))
+          tt))
+  second heading false b k e p = ends tt
+  second heading true b k e p = ends tt
+
+  pub headers : (heading : Heading) (form : Option FileForm) (x : TapeItem)
+      → Fact core (places.Headers Ascii) x (at_item core (phases.Headers heading form) x)
+  headers heading form (block b) =
+      kept (places.Headers Ascii) (λ xs. refl) (λ g. stays (places.Headers Ascii) _ tt)
+  headers heading None mark =
+      kept (places.Data Ascii) (λ xs. refl) (λ g. stays (places.Data Ascii) _ tt)
+  headers heading (Some form) mark =
+      kept (places.Data Ascii) (λ xs. refl) (λ g. stays (places.Data Ascii) _ tt)
+  headers heading form bad = ends tt
+
+  pub data_passed : (heading : Heading) (x : TapeItem)
+      → Fact core (places.Data Ascii) x (at_item core (phases.DataPassed heading) x)
+  data_passed heading (block b) =
+      kept (places.Data Ascii) (λ xs. refl) (λ g. stays (places.Data Ascii) _ tt)
+  data_passed heading bad =
+      kept (places.Data Ascii) (λ xs. refl) (λ g. stays (places.Data Ascii) _ tt)
+  data_passed heading mark =
+      kept (places.Trailer Ascii) (λ xs. refl) (λ g. stays (places.Trailer Ascii) _ tt)
+
+  pub data_wanted : (heading : Heading) (form : FileForm) (n : ℕ) (x : TapeItem)
+      → Fact core (places.Data Ascii) x (at_item core (phases.DataWanted heading form n) x)
+  data_wanted heading form n (block b) =
+      let fact = judged_fact (judged form.format form.rec_len form.offset
+      (begun_before form (part_of core.position) core.begun b) b) in
+      pick (places.Data Ascii) (block b) (nat_lt n (block_of core.position))
+      (passed core (phases.DataWanted heading form (n + 1))) (at_awaited core heading form b)
+      (kept (places.Data Ascii) (λ xs. refl)
+      (λ g. stays (places.Data Ascii) (phases.DataWanted heading form (n + 1)) tt))
+      (pick (places.Data Ascii) (block b) (not (nat_lt (block_of core.position) most_blocks))
+      (useless core reasons.SectionDiffers)
+      (at_judged core heading form b (judged form.format form.rec_len form.offset
+      (begun_before form (part_of core.position) core.begun b) b)) (ends tt) fact)
+    where
+      judged_fact : (r : Result Bool BlockFault) → Fact core (places.Data Ascii) (block b)
+          (at_judged core heading form b r)
+      judged_fact (Err fault) = ends tt
+      judged_fact (Ok end) =
+          pick (places.Data Ascii) (block b) (other_front form (part_of core.position) core.begun b)
+          (useless core reasons.SectionDiffers) (delivered' core heading form end) (ends tt)
+          (kept (places.Data Ascii) (λ xs. refl)
+          (λ g. record { waits = next_waits core.position w; fits = tt }))
+  data_wanted heading form n bad =
+      pick (places.Data Ascii) bad (nat_lt n (block_of core.position))
+      (passed core (phases.DataWanted heading form (n + 1))) (useless core reasons.BadItem)
+      (kept (places.Data Ascii) (λ xs. refl)
+      (λ g. stays (places.Data Ascii) (phases.DataWanted heading form (n + 1)) tt)) (ends tt)
+  data_wanted heading form n mark =
+      pick (places.Data Ascii) mark (nat_lt n (block_of core.position))
+      (useless core reasons.SectionDiffers) (passed core (phases.TrailerWanted heading form))
+      (ends tt)
+      (kept (places.Trailer Ascii) (λ xs. refl)
+      (λ g. stays (places.Trailer Ascii) (phases.TrailerWanted heading form) tt))
+
+  pub trailer_kept : (b : List ℕ) (t : Trail1) → trail1_at b ≡ Ok t → (xs : List TapeItem)
+      → from (places.Trailer Ascii) (block b ∷ xs) ≡ block b ∷ from (places.Trailers Ascii) xs
+  trailer_kept b t e xs =
+      let k = (first_trailer b t.eof (trail1_found b t e).kind).0 in
+      rw (k) refl
+
+  pub trailer_passed : (heading : Heading) (b : List ℕ) (o : Result Trail1 LabelFault)
+      → trail1_at b ≡ o
+      → Fact core (places.Trailer Ascii) (block b) (at_passed_trailer core heading o)
+  trailer_passed heading b (Err fault) e = ends tt
+  trailer_passed heading b (Ok t) e =
+      pick (places.Trailer Ascii) (block b) (other_numbers heading t)
+      (useless core reasons.SectionDiffers) (passed core phases.Trailers) (ends tt)
+      (kept (places.Trailers Ascii) (trailer_kept b t e)
+      (λ g. stays (places.Trailers Ascii) phases.Trailers tt))
+
+  pub trailer_wanted : (heading : Heading) (form : FileForm) (b : List ℕ)
+      (o : Result Trail1 LabelFault) → trail1_at b ≡ o
+      → Fact core (places.Trailer Ascii) (block b) (at_wanted_trailer core heading form o)
+  trailer_wanted heading form b (Err fault) e = ends tt
+  trailer_wanted heading form b (Ok t) e =
+      pick (places.Trailer Ascii) (block b) (other_numbers heading t)
+      (useless core reasons.SectionDiffers)
+      (cond (not (t.blocks == label_count (block_of core.position)))
+      (broken core (reasons.BlockCount t.blocks (block_of core.position)))
+      (at_end core form t.eof)) (ends tt)
+      (pick (places.Trailer Ascii) (block b)
+      (not (t.blocks == label_count (block_of core.position)))
+      (broken core (reasons.BlockCount t.blocks (block_of core.position)))
+      (at_end core form t.eof) (ends tt) (end_fact t.eof))
+    where
+      end_fact : (eof : Bool) → Fact core (places.Trailer Ascii) (block b) (at_end core form eof)
+      end_fact true = go core.begun
+        where
+          go : (v : Bool) → Fact core (places.Trailer Ascii) (block b)
+              (cond v (useless core reasons.SpanLeft)
+              (Complete, moved_to core Finished false form phases.Over))
+          go true = ends tt
+          go false = kept (places.Trailers Ascii) (trailer_kept b t e) (λ g. absurd g)
+      end_fact false = go (not (nat_lt (sect_of core.position) 9999))
+        where
+          go : (v : Bool) → Fact core (places.Trailer Ascii) (block b)
+              (cond v (useless core reasons.SectionDiffers) (
+                SectionDone,
+                moved_to core (next_section core.position) core.begun form phases.Over,
+              ))
+          go true = ends tt
+          go false = kept (places.Trailers Ascii) (trailer_kept b t e) (λ g. absurd g)
+
+  pub next_kept : (b : List ℕ) (h : Head1) → head1_at b ≡ Ok h → (xs : List TapeItem)
+      → from (places.Next Ascii) (block b ∷ xs) ≡ block b ∷ from (places.Second Ascii) xs
+  next_kept b h e xs =
+      let k = kind_again b kinds.Hdr1 (head1_found b h e).kind in
+      rw (k) refl

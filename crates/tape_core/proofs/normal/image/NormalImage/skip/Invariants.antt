@@ -1,0 +1,21 @@
+use Rattle.std.proofs.Common.{◌≡◌, ◌+◌, ℕ, List, length}
+use Rattle.std.specs.Io.KnownBytes.{Consumes, prepend_known}
+use Rattle.tape_core.proofs.normal.image.NormalImage.skip.Given as goal
+
+-- some of the bytes were taken, and nothing else has changed
+abbrev pub invariant-bytes : goal.invariant-bytes
+invariant-bytes g l = record {
+  taken : (bs : List ℕ)
+      × Consumes (prepend_known l.initial.self.input.held
+      (g.R.Read.remaining l.initial.self.input.device))
+      (prepend_known l.self.input.held (g.R.Read.remaining l.self.input.device)) bs
+      × (length bs + l.left ≡ l.count);
+  room : l.self.room ≡ l.initial.self.room;
+  place : l.self.place ≡ l.initial.self.place;
+  course : l.self.course ≡ l.initial.self.course;
+  inserted : l.self.inserted ≡ l.initial.self.inserted;
+  label : l.self.label ≡ l.initial.self.label;
+}
+
+abbrev pub decreases-bytes : goal.decreases-bytes
+decreases-bytes g l = l.left

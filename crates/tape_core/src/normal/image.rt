@@ -1,0 +1,320 @@
+//! The image of a tape in normal form, read from the image of the tape.
+
+ghost use Rattle.std.specs.Prelude.{◌≡◌, ◌≤◌, ◌<◌, [], length, IfOk, IfSome, IfNone, option_map};
+ghost use Rattle.std.specs.Prelude.{true};
+ghost use Rattle.std.specs.Prelude.{false, Some, ◌++◌, take};
+ghost use Rattle.std.specs.Io.KnownBytes.{Keeps, IsAtEnd, prepend_known};
+ghost use Rattle.tape_core.specs.NormalForm.Bytes.{looked};
+ghost use Rattle.tape_core.specs.NormalForm.Bytes.{normal_bytes, normal_from, by_looked, is_over};
+ghost use Rattle.tape_core.specs.NormalForm.Bytes.{IsHeld, IsShort};
+ghost use Rattle.tape_core.specs.NormalForm.Image.{normal_remaining, steps_left, GivesOn};
+
+use crate::normal::code::Code;
+use crate::normal::held::{Held, LABEL};
+use crate::normal::looking::{Looked, begins_label, look};
+use crate::normal::machine::{Change, Missing, Replacement, TapePlace};
+use std::io;
+use std::io::Read;
+
+/// The rules by which the normal form of a tape differs from the tape, as far as it was read.
+#[derive(Clone, Copy, Debug, PartialEq, Eq)]
+pub struct Rules {
+    /// Whether labels are in EBCDIC.
+    pub ebcdic: bool,
+    /// Whether the volume label is missing.
+    pub no_volume_label: bool,
+    /// Whether a file has no second header label.
+    pub no_second_label: bool,
+    /// Whether numbers in a second label begin with blanks or NULs.
+    pub blank_numbers: bool,
+    /// The number of items before the first file that are left out.
+    pub before: u64,
+    /// The number of items after the end of the volume that are left out.
+    pub after: u64,
+}
+
+impl Rules {
+    /// No rule.
+    pub const NONE: Rules = Rules {
+        ebcdic: false,
+        no_volume_label: false,
+        no_second_label: false,
+        blank_numbers: false,
+        before: 0,
+        after: 0,
+    };
+
+    /// Notes the rules of a change at the place `place`.
+    fn note(&mut self, place: TapePlace, change: &Change) {
+        match change.missing {
+            Missing::Nothing => {}
+            Missing::VolumeLabel => self.no_volume_label = true,
+            Missing::SecondLabel => self.no_second_label = true,
+        }
+        match (change.instead, place) {
+            (Replacement::Dropped, TapePlace::Ended) => self.after = self.after.saturating_add(1),
+            (Replacement::Dropped, _) => self.before = self.before.saturating_add(1),
+            (Replacement::Label(_), TapePlace::Second(Code::Ascii)) => self.blank_numbers = true,
+            (Replacement::Label(_), _) => self.ebcdic = true,
+            (Replacement::Same, _) => {}
+        }
+    }
+}
+
+/// What is done with the next bytes of the device.
+#[derive(Clone, Copy)]
+pub(crate) enum Course {
+    /// They begin with an item that has not been looked at.
+    Looking,
+    /// So many are given on.
+    Passing(u64),
+    /// So many are left out.
+    Skipping(u64),
+}
+
+/// The volume label of a tape that has none, as a block.
+const VOLUME_LABEL: &[u8; 88] = b"P\0\0\0VOL1                                        \
+    \x20                                  4P\0\0\0";
+
+/// The greatest byte offset at which an item may end.
+const IMAGE_LIMIT: u64 = 4_294_967_295;
+
+/// Copies bytes to the start of `buf`, as many as it has room for, and returns their number and the
+/// bytes after them.
+fn copy_front(bytes: &'static [u8], buf: &mut [u8]) -> (usize, &'static [u8])
+    ensures bound { result.0 ≤ length buf.new }
+    ensures bytes { bytes.now ≡ take result.0 buf.new ++ result.1.now }
+    ensures some { 0 < length bytes.now → 0 < length buf.new → 0 < result.0 }
+{
+    let count = bytes.len().min(buf.len());
+    buf[..count].copy_from_slice(&bytes[..count]);
+    (count, &bytes[count..])
+}
+
+/// A device, and the bytes that were read from it and have not been taken.
+#[derive(Drop)]
+struct Input<R> {
+    device: R,
+    held: Held,
+}
+
+impl<R: Read> Input<R> {
+    /// Holds the next item as far as it is looked at. Returns false if the device ends before that.
+    fn hold(&mut self, place: TapePlace) -> io::Result<bool>
+        ensures keeps { Keeps (prepend_known self.old.held (R.remaining self.old.device))
+            (prepend_known self.new.held (R.remaining self.new.device)) }
+        ensures all { IfOk result (λ whole. whole ≡ true → IsHeld place self.new.held) }
+        ensures end { IfOk result (λ whole. whole ≡ false
+            → IsShort place self.new.held × IsAtEnd (R.remaining self.new.device)) }
+    {
+        if !self.held.fill(&mut self.device, 4)? {
+            return Ok(false);
+        }
+        if !begins_label(place, self.held.bytes()) {
+            return Ok(true);
+        }
+        self.held.fill(&mut self.device, LABEL)
+    }
+
+    /// Looks at the next item. Returns `None` if there is none.
+    fn peek(&mut self, room: u64, place: TapePlace) -> io::Result<Option<Looked>>
+        ensures keeps { Keeps (prepend_known self.old.held (R.remaining self.old.device))
+            (prepend_known self.new.held (R.remaining self.new.device)) }
+        ensures seen { IfOk result (λ seen. IfSome
+            (prepend_known self.new.held (R.remaining self.new.device))
+            (λ xs. seen ≡ looked room place xs)) }
+        ensures size { IfOk result (λ seen. IfSome seen
+            (λ l. (4 ≤ l.size) × (l.size ≤ room))) }
+    {
+        if self.hold(place)? {
+            Ok(look(room, place, self.held.bytes()))
+        } else {
+            Ok(None)
+        }
+    }
+}
+
+impl<R: Read> Read for Input<R> {
+    ghost remaining = { λ s. prepend_known s.held (R.remaining s.device) };
+
+    fn read(&mut self, buf: &mut [u8]) -> io::Result<usize> {
+        if self.held.bytes().is_empty() {
+            return self.device.read(buf);
+        }
+        Ok(self.held.take(buf))
+    }
+}
+
+/// The image of a tape in normal form, read from the image of the tape.
+#[derive(Drop)]
+pub struct NormalImage<R> {
+    input: Input<R>,
+    rules: Rules,
+    /// The number of bytes up to the greatest offset at which an item may end.
+    room: u64,
+    place: TapePlace,
+    course: Course,
+    /// The label that is inserted, as a block.
+    inserted: &'static [u8],
+    /// The label that replaces the item, as a block.
+    label: Held,
+}
+
+impl<R: Read> NormalImage<R> {
+    /// Creates the image in normal form of the image that `device` gives.
+    pub fn new(device: R) -> NormalImage<R>
+        ensures { normal_remaining R.remaining result
+            ≡ option_map normal_bytes (R.remaining device) }
+    {
+        NormalImage {
+            input: Input {
+                device,
+                held: Held::new(),
+            },
+            rules: Rules::NONE,
+            room: IMAGE_LIMIT,
+            place: TapePlace::Start(0),
+            course: Course::Looking,
+            inserted: &[],
+            label: Held::new(),
+        }
+    }
+
+    /// Returns the rules that were applied so far.
+    pub fn rules(&self) -> Rules {
+        self.rules
+    }
+
+    /// Looks at the next item.
+    fn advance(&mut self) -> io::Result<()>
+        requires on { self.old.course ≡ Course.Looking }
+        requires there { is_over self.old.place ≡ false }
+        requires inserted { self.old.inserted.now ≡ [] }
+        requires label { self.old.label ≡ [] }
+        ensures keeps { Keeps (normal_remaining R.remaining self.old)
+            (normal_remaining R.remaining self.new) }
+        ensures steps { IfOk result (λ _. steps_left self.new < steps_left self.old) }
+    {
+        let seen = self.input.peek(self.room, self.place)?;
+        match seen {
+            Some(looked) => self.replace(looked),
+            None => {
+                self.place = TapePlace::Over;
+                self.course = Course::Passing(0);
+            }
+        }
+        Ok(())
+    }
+
+    /// Replaces an item that was looked at.
+    fn replace(&mut self, looked: Looked)
+        requires least { 4 ≤ looked.size }
+        requires most { looked.size ≤ self.old.room }
+        requires on { self.old.course ≡ Course.Looking }
+        requires there { is_over self.old.place ≡ false }
+        requires inserted { self.old.inserted.now ≡ [] }
+        requires label { self.old.label ≡ [] }
+        ensures left { normal_remaining R.remaining self.new ≡ option_map
+            (λ xs. by_looked (Some looked) self.old.room xs normal_from)
+            (prepend_known self.old.input.held (R.remaining self.old.input.device)) }
+        ensures steps { steps_left self.new < steps_left self.old }
+    {
+        let Looked { size, next, change } = looked;
+        self.rules.note(self.place, &change);
+        self.room -= size;
+        self.place = next;
+        if let Missing::VolumeLabel = change.missing {
+            self.inserted = VOLUME_LABEL;
+        }
+        match change.instead {
+            Replacement::Same => self.course = Course::Passing(size),
+            Replacement::Dropped => self.course = Course::Skipping(size),
+            Replacement::Label(text) => {
+                self.label.put(&text);
+                self.course = Course::Skipping(size);
+            }
+        }
+    }
+
+    /// Leaves out `count` bytes. If the image ends before that, what is left is one byte.
+    fn skip(&mut self, count: u64) -> io::Result<()>
+        requires on { self.old.course ≡ Course.Skipping count }
+        requires inserted { self.old.inserted.now ≡ [] }
+        requires label { self.old.label ≡ [] }
+        ensures keeps { Keeps (normal_remaining R.remaining self.old)
+            (normal_remaining R.remaining self.new) }
+        ensures steps { IfOk result (λ _. steps_left self.new < steps_left self.old) }
+    {
+        let mut waste = [0u8; 512];
+        let mut left = count;
+        'bytes: while left > 0 {
+            let most = left.min(512) as usize;
+            match self.input.read(&mut waste[..most]) {
+                Ok(0) => {
+                    self.label.cut();
+                    self.place = TapePlace::Over;
+                    self.course = Course::Passing(0);
+                    return Ok(());
+                }
+                Ok(read) => left -= read as u64,
+                Err(e) => {
+                    self.course = Course::Skipping(left);
+                    return Err(e);
+                }
+            }
+        }
+        self.course = Course::Looking;
+        Ok(())
+    }
+
+    /// Gives the next bytes on, or takes a step towards them.
+    fn give(&mut self, buf: &mut [u8]) -> io::Result<Option<usize>>
+        requires { 0 < length buf.old }
+        ensures given { GivesOn (normal_remaining R.remaining self.old)
+            (normal_remaining R.remaining self.new) result buf.new }
+        ensures steps { IfOk result
+            (λ given. IfNone given (steps_left self.new < steps_left self.old)) }
+    {
+        if !self.inserted.is_empty() {
+            let (count, rest) = copy_front(self.inserted, buf);
+            self.inserted = rest;
+            return Ok(Some(count));
+        }
+        if !self.label.bytes().is_empty() {
+            return Ok(Some(self.label.take(buf)));
+        }
+        match self.course {
+            Course::Passing(count) => {
+                if count == 0 {
+                    self.course = Course::Looking;
+                    return Ok(None);
+                }
+                let most = count.min(buf.len() as u64) as usize;
+                let read = self.input.read(&mut buf[..most])?;
+                self.course = Course::Passing(count - read as u64);
+                return Ok(Some(read));
+            }
+            Course::Skipping(count) => self.skip(count)?,
+            Course::Looking => match self.place {
+                TapePlace::Over => return Ok(Some(self.input.read(buf)?)),
+                _ => self.advance()?,
+            },
+        }
+        Ok(None)
+    }
+}
+
+impl<R: Read> Read for NormalImage<R> {
+    ghost remaining = { λ s. normal_remaining R.remaining s };
+
+    fn read(&mut self, buf: &mut [u8]) -> io::Result<usize> {
+        if buf.is_empty() {
+            return Ok(0);
+        }
+        'steps: loop {
+            if let Some(count) = self.give(buf)? {
+                return Ok(count);
+            }
+        }
+    }
+}

@@ -1,0 +1,154 @@
+//! Tests of images in normal form: images written out by hand, and the bytes that replace theirs.
+
+use crate::normal_form::label;
+use std::alloc::{AllocError, Global};
+use std::io;
+use std::io::{Error, ErrorKind, Read};
+use std::process::Abort;
+use tape_core::normal::{NormalImage, Rules};
+
+/// The volume label of a tape that has none.
+const NO_VOLUME: &[u8; 80] =
+    b"VOL1                                                                           4";
+
+/// Appends a block of 80 bytes.
+fn push_eighty(image: &mut Vec<u8>, text: &[u8; 80]) -> Result<(), AllocError> {
+    image.extend_from_slice(&[80, 0, 0, 0])?;
+    image.extend_from_slice(text)?;
+    image.extend_from_slice(&[80, 0, 0, 0])
+}
+
+/// Appends what a letter represents: a label as in the tests of the normal form, `W` the volume
+/// label of a tape that has none, `D` a block of 4 bytes, `O` one of 3 bytes with a pad byte, `d`
+/// one that is a volume label in EBCDIC, `L` one of 512 bytes, `c` the first 8 bytes of that block,
+/// `b` an unreadable block, `m` a mark, `g` a gap, `.` an end-of-medium marker, `0` the byte 0.
+fn push(image: &mut Vec<u8>, letter: u8) -> Result<(), AllocError> {
+    match (letter, label(letter)) {
+        (b'm', _) => image.extend_from_slice(&[0, 0, 0, 0]),
+        (b'g', _) => image.extend_from_slice(&[0xFE, 0xFF, 0xFF, 0xFF]),
+        (b'.', _) => image.extend_from_slice(&[0xFF, 0xFF, 0xFF, 0xFF]),
+        (b'0', _) => image.extend_from_slice(&[0]),
+        (b'D', _) => image.extend_from_slice(&[4, 0, 0, 0, b'D', b'A', b'T', b'A', 4, 0, 0, 0]),
+        (b'O', _) => image.extend_from_slice(&[3, 0, 0, 0, b'O', b'D', b'D', 7, 3, 0, 0, 0]),
+        (b'b', _) => image.extend_from_slice(&[2, 0, 0, 0x80, 9, 9, 2, 0, 0, 0x80]),
+        (b'c', _) => image.extend_from_slice(&[0, 2, 0, 0, b'B', b'B', b'B', b'B']),
+        (b'L', _) => {
+            image.extend_from_slice(&[0, 2, 0, 0])?;
+            image.extend_from_slice(&[b'B'; 512])?;
+            image.extend_from_slice(&[0, 2, 0, 0])
+        }
+        (b'W', _) => push_eighty(image, NO_VOLUME),
+        (b'd', _) => push_eighty(image, &label(b'v').unwrap_or([0; 80])),
+        (_, Some(text)) => push_eighty(image, &text),
+        _ => Ok(()),
+    }
+}
+
+/// Returns the image that letters represent.
+fn image_of(alloc: Global, letters: &str) -> Result<Vec<u8>, AllocError> {
+    let mut image = Vec::new(alloc);
+    for letter in letters.as_bytes() {
+        push(&mut image, *letter)?;
+    }
+    Ok(image)
+}
+
+/// A reader that returns one byte in every second call, and fails in the others.
+#[derive(Drop)]
+struct Halting<'a> {
+    bytes: &'a [u8],
+    fails: bool,
+}
+
+impl Read for Halting<'_> {
+    fn read(&mut self, buf: &mut [u8]) -> io::Result<usize> {
+        self.fails = !self.fails;
+        if self.fails {
+            return Err(Error::from(ErrorKind::TimedOut));
+        }
+        match (self.bytes, buf) {
+            ([first, others @ ..], [slot, ..]) => {
+                *slot = *first;
+                self.bytes = others;
+                Ok(1)
+            }
+            _ => Ok(0),
+        }
+    }
+}
+
+/// Returns all bytes of the reader, and reads on after each error.
+fn all_of<R: Read>(alloc: Global, reader: &mut R) -> Result<Vec<u8>, AllocError> {
+    let mut bytes = Vec::new(alloc);
+    for _ in 0..10_000 {
+        let mut buffer = [0; 7];
+        match reader.read(&mut buffer) {
+            Ok(0) => return Ok(bytes),
+            Ok(count) => bytes.extend_from_slice(&buffer[..count])?,
+            Err(_) => {}
+        }
+    }
+    Ok(bytes)
+}
+
+/// The images, and what they become.
+const IMAGES: [(&str, &str); 14] = [
+    ("VHSmDOgbdmEmm.", "VHSmDOgbdmEmm."),
+    ("gVgHSgmgDmEmm", "gVgHSgmgDmEmm"),
+    ("vhsmDdmemm.", "VHSmDdmEmm."),
+    ("mVHSmDmEmm.", "VHSmDmEmm."),
+    ("VLHSmDmEmm.", "VHSmDmEmm."),
+    ("HSmDmEmm.", "WHSmDmEmm."),
+    ("hsmDmemm.", "WHSmDmEmm."),
+    ("VHPmDmEmm.", "VHSmDmEmm."),
+    ("VHmDmEmm.", "VHmDmEmm."),
+    ("VHSmDmEmmDbm.", "VHSmDmEmm."),
+    ("vhsmDmbemhsm.", "VHSmDmbemhsm."),
+    ("bvhsm.", "bvhsm."),
+    ("VHc", "VHc"),
+    ("VLc", "V0"),
+];
+
+#[test]
+fn images_and_their_normal_forms(rt: HostRuntime) -> Result<(), AllocError> {
+    for (letters, wanted) in IMAGES {
+        let image = image_of(rt.alloc(), letters)?;
+        let wanted = image_of(rt.alloc(), wanted)?;
+        let got = all_of(rt.alloc(), &mut NormalImage::new(image.as_slice()))?;
+        assert_eq!(rt; got.as_slice(), wanted.as_slice(), "{letters}");
+        // Nothing is lost by errors, and no byte is read twice.
+        let halting = Halting {
+            bytes: image.as_slice(),
+            fails: false,
+        };
+        let got = all_of(rt.alloc(), &mut NormalImage::new(halting))?;
+        assert_eq!(rt; got.as_slice(), wanted.as_slice(), "{letters}");
+    }
+    Ok(())
+}
+
+/// Returns the rules that were applied to an image.
+fn rules_of(alloc: Global, letters: &str) -> Result<Rules, AllocError> {
+    let image = image_of(alloc, letters)?;
+    let mut normal = NormalImage::new(image.as_slice());
+    all_of(alloc, &mut normal)?;
+    Ok(normal.rules())
+}
+
+#[test]
+fn rules_are_known(rt: HostRuntime) -> Result<(), AllocError> {
+    let rules = rules_of(rt.alloc(), "VHSmDOgbdmEmm.")?;
+    assert_eq!(rt; rules, Rules::NONE);
+    let rules = rules_of(rt.alloc(), "mhmDmemmDD.")?;
+    let wanted = Rules {
+        ebcdic: true,
+        no_volume_label: true,
+        no_second_label: true,
+        blank_numbers: false,
+        before: 1,
+        after: 2,
+    };
+    assert_eq!(rt; rules, wanted);
+    assert!(rt; rules_of(rt.alloc(), "VHPmDmEmm.")?.blank_numbers);
+    Ok(())
+}
