@@ -1,5 +1,5 @@
 -- Sessions that begin.
-use Rattle.std.proofs.Common.{◌≡◌, ℕ, List, [], Option, refl, sym, ap, subst, ◌∙◌, length}
+use Rattle.std.proofs.Common.{◌≡◌, ℕ, Bool, List, [], Option, refl, sym, ap, subst, ◌∙◌, length}
 use Rattle.tape_blocks.specs.Block.{Portion}
 use Rattle.tape_set.specs.{Position.start, Layout.FileSet, Before.before, Before.IsIn}
 use Rattle.tape_set.proofs.AllVolumes.{has_start}
@@ -12,7 +12,7 @@ use Rattle.tape_run.specs.Headline.{HasRun, begins, IsNew, IsStart, IsRead}
 use Rattle.tape_run.specs.{Given.counted_up, Given.failed_of, Lead.at_start}
 
 pub is_new : (set : FileSet) (set_id : List ℕ)
-    (file : ℕ) (core place : State) (failures refusals : ℕ) (notes : List Point)
+    (file : ℕ) (core place : State) (failures refusals : ℕ) (wide : Bool) (notes : List Point)
     → core ≡ reader_of set_id file → place ≡ rest_of core → notes ≡ [] → IsAt set core
     → IsNew set file (record {
       place = place;
@@ -20,8 +20,9 @@ pub is_new : (set : FileSet) (set_id : List ℕ)
       notes = notes;
       failures = failures;
       refusals = refusals;
+      wide = wide;
     })
-is_new set set_id file core place failures refusals notes e f g at =
+is_new set set_id file core place failures refusals wide notes e f g at =
     let placed : IsPlaced set (rest_of core) [] =
     record { at = rests set core at; all = rw e refl } in
     let here : IsPlaced set place [] = subst (λ z. IsPlaced set z []) (sym f) placed in
@@ -32,7 +33,7 @@ is_new set set_id file core place failures refusals notes e f g at =
     }
 
 pub is_resumed : (set : FileSet) (point : Point) (place : State) (failures refusals : ℕ)
-    (notes : List Point) (held : List Portion)
+    (wide : Bool) (notes : List Point) (held : List Portion)
     → place ≡ place_of point → notes ≡ [] → Stands set point.file point held
     → IsSession set (record {
       place = place;
@@ -40,14 +41,15 @@ pub is_resumed : (set : FileSet) (point : Point) (place : State) (failures refus
       notes = notes;
       failures = failures;
       refusals = refusals;
+      wide = wide;
     })
-is_resumed set point place failures refusals notes held e g s = record {
+is_resumed set point place failures refusals wide notes held e g s = record {
   at = rw e (stood set point.file point held s);
   notes = rw g ((held, refl));
 }
 
 pub is_start : (set_id : List ℕ)
-    (file : ℕ) (core place : State) (failures refusals : ℕ) (notes : List Point)
+    (file : ℕ) (core place : State) (failures refusals : ℕ) (wide : Bool) (notes : List Point)
     → core ≡ reader_of set_id file → place ≡ rest_of core → notes ≡ [] → failures ≡ 0
     → ((set : FileSet) → set_id ≡ set.set_id → IsIn set file start → IsAt set core)
     → IsStart set_id file (record {
@@ -56,13 +58,14 @@ pub is_start : (set_id : List ℕ)
       notes = notes;
       failures = failures;
       refusals = refusals;
+      wide = wide;
     })
-is_start set_id file core place failures refusals notes e f g h at = record {
+is_start set_id file core place failures refusals wide notes e f g h at = record {
   no_notes = g;
   no_failures = h;
   no_parts = refl;
   place = f ∙ ap rest_of e;
-  each = λ set l id has. is_new set set_id file core place failures refusals notes e f g
+  each = λ set l id has. is_new set set_id file core place failures refusals wide notes e f g
       (at set id (has_start set l file has));
 }
 
@@ -72,8 +75,9 @@ kept_new set_id file s st = rw (st.no_notes) ((s.parts, refl))
 pub is_read : (set_id : List ℕ) (file : ℕ) (steps : List Step) (bytes : List (List ℕ))
     (left : List (Option (List ℕ)))
     (old new : Seen) → IsStart set_id file old → (h : HasRun old steps bytes left new)
-    → (read : IsRead set_id file steps bytes left new) × (read.which ≡ h.which)
-is_read set_id file steps bytes left old new st h = (
+    → new.wide ≡ old.wide → (read : IsRead set_id file steps bytes left new) ×
+    (read.which ≡ h.which)
+is_read set_id file steps bytes left old new st h same = (
   record {
     given = h.given;
     which = h.which;
@@ -91,10 +95,11 @@ is_read set_id file steps bytes left old new st h = (
           r.session.at.all ∙ (ap (λ z. before set z new.place.position) (r.same_file ∙ n.its_file)
               ∙ ap (λ (z : Course). before set file z.at) (sym there)),
         );
-    led = λ reels a. h.led (at_start set_id file) reels a (record {
+    led = λ reels a. h.led (at_start new.wide set_id file) reels a (record {
       place = st.place;
       parts = st.no_parts;
       notes = rw st.no_notes ((old.parts, refl));
+      wide = sym same;
     });
   },
   refl,

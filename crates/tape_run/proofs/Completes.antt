@@ -7,7 +7,8 @@ use Rattle.tape_label.specs.{VolumeLabels.is_volume_label, Kinds.kind_at, declar
 use Rattle.tape_label.specs.{declared.values.Head1.Head1, declared.values.Head2.Head2}
 use Rattle.tape_label.specs.{declared.values.Trail1.Trail1, declared.label.LabelFault.LabelFault}
 use Rattle.tape_label.specs.declared.values.Kind.TheVariants.{Hdr2 as AHdr2}
-use Rattle.tape_label.specs.Reading.{head1_at, head2_at, trail1_at}
+use Rattle.tape_label.specs.Reading.{head1_at, head2_at, trail1_at, wide_head2_at}
+use Rattle.tape_label.specs.WideHead2.{absent_head2, is_further_header}
 use Rattle.tape_core.specs.declared.event.Phase.TheVariants.{Over, Volume, VolumeLabels, Header2}
 use Rattle.tape_core.specs.declared.event.Phase.TheVariants.{DataWanted, TrailerPassed}
 use Rattle.tape_core.specs.Table.{Outcome, first_label, at_head1, first_labels, at_head2, at_block}
@@ -15,9 +16,13 @@ use Rattle.tape_core.specs.Table.{second_label, at_judged, at_data, at_passed_tr
 use Rattle.tape_core.specs.Table.{at_wanted_trailer, at_mark, at_bad, at_reel_end, at_arrival}
 use Rattle.tape_core.specs.{Labels.other_file_id, Labels.other_shape, Labels.form_at, State.State}
 use Rattle.tape_core.specs.{declared.event.Answer.TheVariants.Complete, declared.event.Phase.Phase}
+use Rattle.tape_core.specs.declared.event.Answer.TheVariants.{Passed}
 use Rattle.tape_core.specs.{declared.event.Heading.Heading, Parts.begun_before, Parts.other_front}
 use Rattle.tape_core.specs.declared.event.Phase.TheVariants.{TrailerWanted, NextFile}
-use Rattle.tape_core.specs.Table.{unless_complete, step_of, other_numbers}
+use Rattle.tape_core.specs.Table.{unless_complete, other_numbers}
+use Rattle.tape_core.specs.Table as Table
+use Rattle.tape_core.specs.Wide as Wide
+use Rattle.tape_core.specs.Wide.{step_by}
 use Rattle.tape_image.specs.Tape.{TapeItem, block, bad, mark}
 use Rattle.tape_blocks.specs.{declared.check.BlockFault.BlockFault, Judged.judged}
 use Rattle.tape_set.specs.declared.position.Position.{Position}
@@ -147,6 +152,51 @@ by_position : (core : State) (came : Option TapeItem) (p : Position) → core.po
 by_position core came Finished e = record { told = λ f. refl }
 by_position core came (Awaits sect b part) e = arrival_tells core sect b part e core.phase came
 
+table_tells : (core : State) (came : Option TapeItem) → Tells (Table.step_of core came)
+table_tells core came = by_position core came core.position refl
+
+-- ---- the wider reading
+
+then_tells : (out : Outcome) (came : Option TapeItem) → Tells out → Tells (Wide.and_then out came)
+then_tells (Passed, new) came t = table_tells new came
+then_tells (_, new) came t = t
+
+module _ (core : State) (sect b part : ℕ) (waits : core.position ≡ Awaits sect b part) where
+  without_tells : (heading : Heading) (wanted : Bool)
+      → Tells (Wide.without_second core heading wanted)
+  without_tells heading true = head2_tells core sect b part waits heading (Ok absent_head2)
+  without_tells heading false = no core sect b part waits refl
+
+  wide_second_tells : (heading : Heading) (wanted : Bool) (bytes : List ℕ) (kind : Option Kind)
+      → Tells (Wide.second_label core heading wanted bytes kind)
+  wide_second_tells heading false bytes (Some AHdr2) = no core sect b part waits refl
+  wide_second_tells heading true bytes (Some AHdr2) =
+      head2_tells core sect b part waits heading (wide_head2_at bytes)
+  wide_second_tells heading true bytes _ = choose (is_further_header bytes) _ _
+      (without_tells heading true) (no core sect b part waits refl)
+  wide_second_tells heading false bytes _ = choose (is_further_header bytes) _ _
+      (without_tells heading false) (no core sect b part waits refl)
+
+  wide_at_second_tells : (heading : Heading) (wanted : Bool) (came : Option TapeItem)
+      → Tells (Wide.at_second core heading wanted came)
+  wide_at_second_tells heading wanted (Some (block bytes)) =
+      wide_second_tells heading wanted bytes (kind_at bytes)
+  wide_at_second_tells heading wanted (Some mark) =
+      then_tells _ (Some mark) (without_tells heading wanted)
+  wide_at_second_tells heading wanted (Some bad) = table_tells core (Some bad)
+  wide_at_second_tells heading wanted None = table_tells core None
+
+phase_tells : (core : State) (phase : Phase) (p : Position) (came : Option TapeItem)
+    → core.position ≡ p → Tells (Wide.by_phase core phase p came)
+phase_tells core (Header2 heading wanted) (Awaits sect b part) came e =
+    wide_at_second_tells core sect b part e heading wanted came
+phase_tells core (Header2 heading wanted) Finished came e = table_tells core came
+phase_tells core _ p came e = table_tells core came
+
 -- If a step reaches the file's end, it answers Complete.
-pub step_tells : (core : State) (came : Option TapeItem) → Tells (step_of core came)
-step_tells core came = by_position core came core.position refl
+pub step_tells : (wide : Bool) (core : State) (came : Option TapeItem)
+    → Tells (step_by wide core came)
+step_tells false core came = table_tells core came
+step_tells true core None = phase_tells core core.phase core.position None refl
+step_tells true core (Some item) =
+    phase_tells core core.phase core.position (Some (Wide.content_item core item)) refl

@@ -125,13 +125,14 @@ comes_back old steps bytes left back there h =
 resumed_session : (set : FileSet) (c : Point) (ps : List Portion) (s : Seen) → IsResumed c ps s
     → Stands set c.file c ps → IsSession set s
 resumed_session set c ps s r st =
-    let at = is_resumed set c s.place s.failures s.refusals s.notes ps r.place r.notes st in
+    let at = is_resumed set c s.place s.failures s.refusals s.wide s.notes ps r.place r.notes st in
     subst (λ (l : List Portion). IsSession set (record {
       place = s.place;
       parts = l;
       notes = s.notes;
       failures = s.failures;
       refusals = s.refusals;
+      wide = s.wide;
     })) (sym r.parts) at
 
 -- the state that one run leaves is valid

@@ -105,19 +105,22 @@ unmoved_there t old new u s = record {
   place = u.place ∙ s.place;
   parts = u.parts ∙ s.parts;
   notes = rw (u.notes, u.parts) s.notes;
+  wide = u.same_wide ∙ s.wide;
 }
 
 cut_there : (t : Lead) (old new : Seen) (bytes : List ℕ)
     → CutShort (mount_of old.place) bytes old new
     → StandsThere t old → AreNoted [] t.notes new.notes new.parts × ((xs : List TapeItem) (end : ℕ)
     (stop : Stop) → Begins 0 bytes xs end stop
-    → IsCutAt xs (mount_of t.place) new.place t.parts new.parts)
+    → IsCutAt t.wide xs (mount_of t.place) new.place t.parts new.parts)
 cut_there t old new bytes c s = (
   subst (λ (cs : List Point). AreNoted [] t.notes cs new.parts) (sym c.notes)
       (noted_grow [] _ _ _ _ c.grows s.notes),
-  λ xs end stop b. subst (λ (l : List Portion). IsCutAt xs (mount_of t.place) new.place l new.parts)
-      s.parts (subst (λ (z : State). IsCutAt xs (mount_of z) new.place old.parts new.parts) s.place
-      (c.table xs end stop b)),
+  λ xs end stop b. subst (λ (w : Bool). IsCutAt w xs (mount_of t.place) new.place t.parts
+      new.parts) s.wide
+      (subst (λ (l : List Portion). IsCutAt old.wide xs (mount_of t.place) new.place l new.parts)
+      s.parts (subst (λ (z : State). IsCutAt old.wide xs (mount_of z) new.place old.parts new.parts)
+      s.place (c.table xs end stop b))),
 )
 
 reel_led : (t : Lead) (old new : Seen) (b : List ℕ) (bs : List (List ℕ)) (fault : RunFault)

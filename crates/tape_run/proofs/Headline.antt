@@ -39,8 +39,8 @@ after_reel set old new given saves (xs, end, stop, b, m) e f = absurd m
 after_reel set old new given (restarts n) (xs, end, stop, b, m) e f = absurd m
 
 -- a reel is read from its first item
-pub none_over : {core : State} → PassedOver core [] (mount_of core)
-none_over {core} = record { answers = tt; behind = refl; nothing = refl }
+pub none_over : {wide : Bool} {core : State} → PassedOver wide core [] (mount_of core)
+none_over {wide} {core} = record { answers = tt; behind = refl; nothing = refl }
 
 pub reel_steps : (set : FileSet) (old new : Seen) (bytes : List ℕ) (failed : Bool) (h : MountEvent)
     {left : Option (List ℕ)} → (r : Reeled bytes left failed old new) → IsLawful set
@@ -141,6 +141,7 @@ reel_given which old mid new steps b bs l left failed r (rest, same) = (
         rest.count;
     ran = reel_then old mid new steps b bs failed r rest.given rest.ran;
     led = led_reel old mid new steps b failed r rest.given rest.led;
+    same_wide = rest.same_wide ∙ r.same_wide;
   },
   ap (λ w. failed ∷ w) same,
 )
@@ -189,6 +190,7 @@ headline which old new [] bytes left (none, same) = (
     count = ap (λ (s : Seen). s.failures) same;
     ran = λ set hs l h s. nothing_ran set old new bytes hs same h s;
     led = led_nothing old new bytes same;
+    same_wide = ap (λ (s : Seen). s.wide) same;
   },
   sym none,
 )
@@ -206,6 +208,7 @@ headline which old new (Save ∷ steps) bytes left (mid, v, runs) =
         count = rest.count ∙ ap (counted_up (failed_of rest.which)) v.count;
         ran = save_then old mid new steps rest.given v rest.ran;
         led = led_save old mid new steps rest.given v rest.led;
+        same_wide = rest.same_wide ∙ v.same_wide;
       },
       same,
     )
@@ -218,6 +221,7 @@ headline which old new (Restart n ∷ steps) bytes left (mid, w, runs) =
         count = rest.count ∙ ap (counted_up (failed_of rest.which)) w.count;
         ran = restart_then old mid new n steps rest.given w rest.ran;
         led = led_restart old mid new n steps rest.given w rest.led;
+        same_wide = rest.same_wide ∙ w.same_wide;
       },
       same,
     )

@@ -215,7 +215,7 @@ last_went g a b held now n count went adds =
 -- if only a walk over the sink was made, the state of the session is unchanged
 pub walked_seen : {S : Type 0} (g : Ghosts S) (a b : SessionState S) (parts : List Portion)
     → IsWalked g a b → g.refusals b.sink ≡ g.refusals a.sink → seen g a parts ≡ seen g b parts
-walked_seen g a b parts w calm = rw (w.core, w.notes, w.failures, calm) refl
+walked_seen g a b parts w calm = rw (w.core, w.notes, w.failures, w.wide, calm) refl
 
 -- the result for the images, after the walk that writes the file
 pub stood_walked : {S : Type 0} (g : Ghosts S) (a b c : SessionState S) (held parts : List Portion)

@@ -70,10 +70,16 @@ there_reel : (old new : Seen) (bytes : List ℕ) (failed : Bool) {left : Option 
 there_reel old new bytes failed r xs end stop b t s =
     let led = r.table xs end stop b in
     record {
-      place = led.place ∙ ap (λ (z : State). rest_of (behind_items (mount_of z) xs)) s.place;
-      parts = led.parts ∙ (ap (λ (l : List Portion). l ++ delivered_parts (mount_of old.place) xs)
-          s.parts ∙ ap (λ (z : State). t.parts ++ delivered_parts (mount_of z) xs) s.place);
+      place = led.place
+          ∙ (ap (λ (z : State). rest_of (behind_items old.wide (mount_of z) xs)) s.place
+          ∙ ap (λ (w : Bool). rest_of (behind_items w (mount_of t.place) xs)) s.wide);
+      parts = led.parts
+          ∙ (ap (λ (l : List Portion). l ++ delivered_parts old.wide (mount_of old.place) xs)
+          s.parts
+          ∙ (ap (λ (z : State). t.parts ++ delivered_parts old.wide (mount_of z) xs) s.place
+          ∙ ap (λ (w : Bool). t.parts ++ delivered_parts w (mount_of t.place) xs) s.wide));
       notes = rw r.notes (noted_grow [] _ _ _ _ r.grows s.notes);
+      wide = r.same_wide ∙ s.wide;
     }
 
 there_save : (old new : Seen) → Saved old new → (t : Lead) → StandsThere t old
@@ -82,6 +88,7 @@ there_save old new v t s = record {
   place = v.place ∙ s.place;
   parts = v.parts ∙ s.parts;
   notes = rw (v.notes, v.parts, sym s.place, sym s.parts) (noted_push [] _ _ old.place _ s.notes);
+  wide = v.same_wide ∙ s.wide;
 }
 
 there_restart : (old new : Seen) (n : ℕ) → WentBack n old new → (t : Lead) → StandsThere t old
@@ -94,6 +101,7 @@ there_restart old new n w t s =
       place = w.place ∙ ap place_of at.point;
       parts = same;
       notes = rw (w.notes, same) at.left;
+      wide = w.same_wide ∙ s.wide;
     })
 
 -- ---- all steps

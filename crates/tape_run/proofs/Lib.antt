@@ -45,6 +45,7 @@ pub mod Left
 pub mod Listing
 pub mod Fronts
 pub mod Completes
+pub mod Comparing
 pub mod WorkedReels
 pub mod WorkedHistory
 mod WorkedDays
@@ -84,6 +85,7 @@ mod StoppedThere
 mod Settled
 mod TurnSteps
 mod Rounds
+mod Opening
 mod Extracted
 mod OutSinks
 mod OneEntry
@@ -175,3 +177,5 @@ mod MergeReports
 mod MergedCopies
 mod MergedOrders
 mod MergedFar
+pub mod WideSections
+pub mod WideSoFar

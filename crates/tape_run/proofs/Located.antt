@@ -95,18 +95,20 @@ pub record ReadSoFar {S L R : Type 0} (g : Ghosts S) (on : ℕ → Type 0) (give
     (opened : Bool) (whole : Option (List ℕ)) (after : Option (Mounted R)) : Type 0 where
   pub stretches : List Stretch
   pub are_read : AreFrom on gives remaining opened whole shelf stretches left
-  pub held : IsHeld remaining after (held_behind whole stretches)
+  pub held : IsHeld now.wide remaining after (held_behind whole stretches)
   pub follows : IfSeen g session (λ was. IsSeen g now (λ is. FollowsOn was stretches is))
 
 pub nothing_read : {S L R : Type 0} (g : Ghosts S) (on : ℕ → Type 0) (gives : Mounting L R)
     (remaining : R → Option (List ℕ)) (session : SessionState S) (shelf : L) (opened : Bool)
-    (whole : Option (List ℕ)) (after : Option (Mounted R)) → IsHeld remaining after whole
+    (whole : Option (List ℕ)) (after : Option (Mounted R))
+    → IsHeld session.wide remaining after whole
     → ReadSoFar g on gives remaining session session shelf shelf opened whole after
 nothing_read g on gives remaining session shelf opened whole after held = grind (arith)
 
 pub nothing_open : {S L R : Type 0} (g : Ghosts S) (on : ℕ → Type 0) (gives : Mounting L R)
     (remaining : R → Option (List ℕ)) (session : SessionState S) (shelf : L) (opened : Bool)
-    (whole : Option (List ℕ)) (after : Option (Mounted R)) (held : IsHeld remaining after whole)
+    (whole : Option (List ℕ)) (after : Option (Mounted R))
+    (held : IsHeld session.wide remaining after whole)
     → opened ≡ open_behind opened (nothing_read g on gives remaining session shelf opened whole
     after held).stretches
 unfolding nothing_read
@@ -126,7 +128,7 @@ more_read {S} {L} {R} g on gives remaining session mid new shelf left next opene
       stretches = s.stretches ++ p.stretch ∷ [];
       are_read = read_more on gives remaining opened whole shelf s.stretches left next p.stretch
           s.are_read p.is_part (of from);
-      held = subst (IsHeld remaining after)
+      held = subst (IsHeld new.wide remaining after)
           (sym (held_more whole s.stretches p.stretch ∙ p.of_image)) p.held;
       follows = λ parts was.
           let (now, has, f) = s.follows parts was in
@@ -185,7 +187,7 @@ pub sections_read : {S L R : Type 0} (g : Ghosts S) (gives : Mounting L R)
     (session now : SessionState S) (shelf left last : L) (opened : Bool)
     (whole : Option (List ℕ)) (held after : Option (Mounted R))
     (s : ReadSoFar g (BeginsOn locations session.core) gives remaining session now shelf left opened
-    whole held) → IsHeld remaining after (held_behind whole s.stretches)
+    whole held) → IsHeld now.wide remaining after (held_behind whole s.stretches)
     → EndsReading gives locations s.stretches now.core left last complete
     → ReadsSections g gives remaining locations complete session now shelf last opened whole after
 sections_read {S} {L} {R} g gives remaining locations complete session now shelf left last opened
@@ -233,7 +235,7 @@ section_failed {S} {L} {R} g gives remaining locations session mid new shelf lef
     (sym same)
     (sections_read g gives remaining locations false session mid shelf left next opened whole held
     after s
-    (subst (λ m. IsHeld remaining m (held_behind whole s.stretches)) (sym gone) tt) (
+    (subst (λ m. IsHeld mid.wide remaining m (held_behind whole s.stretches)) (sym gone) tt) (
       λ e. waits (ap (λ (z : SessionState S). z.core.position) same ∙ e),
       inr (number, at, gave),
     ))

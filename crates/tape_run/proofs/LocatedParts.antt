@@ -22,7 +22,7 @@ pub part_front : {S R : Type 0} (g : Ghosts S) (remaining : R → Option (List �
     (had left : Option (List ℕ)) (failed : Bool) (old new : SessionState S)
     (after : Option (Mounted R))
     → IfSeen g old (λ was. IsSeen g new (λ is. IfSome had (λ b. Reeled b left failed was is)))
-    → IsHeld remaining after had → ReadsPart g remaining had old new after
+    → IsHeld new.wide remaining after had → ReadsPart g remaining had old new after
 part_front {S} {R} g remaining had left failed old new after reads held = record {
   stretch = record { whole = had; front = []; had = had; left = left; failed = failed };
   of_image = refl;
@@ -42,6 +42,7 @@ part_front {S} {R} g remaining had left failed old new after reads held = record
       given = [];
       is_given = tt;
       same_file = λ some. absurd (cc);
+      same_wide = λ some. absurd (cc);
       reads = λ some. absurd (cc);
       table = λ some. absurd (cc);
     }
@@ -49,6 +50,7 @@ part_front {S} {R} g remaining had left failed old new after reads held = record
       given = r.given;
       is_given = r.is_given;
       same_file = λ some. r.same_file;
+      same_wide = λ some. r.same_wide;
       reads = λ some set h xs end stop lawful begins mount placed.
           r.reads set [] xs end stop h lawful none_over begins mount placed;
       table = λ some xs end stop begins. r.table xs end stop begins;
@@ -58,14 +60,14 @@ pub part_on : {S R : Type 0} (g : Ghosts S) (remaining : R → Option (List ℕ)
     (whole had left : Option (List ℕ)) (failed : Bool) (before : FileKey) (old new : SessionState S)
     (after : Option (Mounted R)) → is_finished old.core.position ≡ false
     → before.set_id ≡ old.core.set_id → before.file < old.core.file
-    → (p : IfKnown whole had (PassesTo before)) → IfSeen g old (λ was. IsSeen g new (λ is.
+    → (p : IfKnown whole had (PassesTo old.wide before)) → IfSeen g old (λ was. IsSeen g new (λ is.
     IfSome had (λ b. ReeledFrom (behind_of was.place) b left failed was is)))
-    → IsHeld remaining after whole → ReadsPart g remaining whole old new after
+    → IsHeld new.wide remaining after whole → ReadsPart g remaining whole old new after
 part_on {S} {R} g remaining whole had left failed before old new after waits same less p reads held
     = record {
       stretch = record {
         whole = whole;
-        front = front_of whole had before p;
+        front = front_of old.wide whole had before p;
         had = had;
         left = left;
         failed = failed;
@@ -78,19 +80,20 @@ part_on {S} {R} g remaining whole had left failed before old new after waits sam
       held = held;
     }
   where
-    at_front : (w h : Option (List ℕ)) (q : IfKnown w h (PassesTo before))
-        → IfKnown w h (λ bytes rest. (at : ℕ) × Walks 0 bytes (front_of w h before q) at rest)
+    at_front : (w h : Option (List ℕ)) (q : IfKnown w h (PassesTo old.wide before))
+        → IfKnown w h (λ bytes rest. (at : ℕ) × Walks 0 bytes
+        (front_of old.wide w h before q) at rest)
     at_front None h q = tt
     at_front (Some bytes) None q = q
     at_front (Some bytes) (Some rest) q = (q.at, q.walks)
 
     on_behind : {parts now : List Portion} (w h : Option (List ℕ))
-        (q : IfKnown w h (PassesTo before))
+        (q : IfKnown w h (PassesTo old.wide before))
         → IfSome h (λ b. ReeledFrom (behind_of (rest_of old.core)) b left failed
         (seen g old parts) (seen g new now))
         → ReadsOn (record {
           whole = w;
-          front = front_of w h before q;
+          front = front_of old.wide w h before q;
           had = h;
           left = left;
           failed = failed;
@@ -99,21 +102,25 @@ part_on {S} {R} g remaining whole had left failed before old new after waits sam
       given = [];
       is_given = tt;
       same_file = λ some. absurd (cc);
+      same_wide = λ some. absurd (cc);
       reads = λ some. absurd (cc);
       table = λ some. absurd (cc);
     }
     on_behind (Some bytes) None q r = absurd q
     on_behind {parts} {now} (Some bytes) (Some rest) q r =
         let table : (xs : List TapeItem) (end : ℕ) (stop : Stop) → Begins 0 r.given xs end stop
-        → IsLed (q.front ++ xs) (mount_of (rest_of old.core)) (rest_of new.core) parts now =
-        λ xs end stop begins. leads_on (rest_of old.core) (rest_of new.core) q.front xs parts now
+        → IsLed old.wide (q.front ++ xs) (mount_of (rest_of old.core))
+        (rest_of new.core) parts now =
+        λ xs end stop begins. leads_on old.wide (rest_of old.core)
+        (rest_of new.core) q.front xs parts now
         waits (λ sound. q.passed (rest_of old.core) (sym same) less waits sound)
         (r.table xs end stop begins) in
         record {
           given = r.given;
           is_given = r.is_given;
           same_file = λ some. r.same_file;
-          reads = λ some set h xs end stop lawful begins mount placed. led_reads set h
+          same_wide = λ some. r.same_wide;
+          reads = λ some set h xs end stop lawful begins mount placed. led_reads old.wide set h
               (q.front ++ xs) (rest_of old.core) (rest_of new.core) parts now lawful mount
               (ap (λ p. in_phase old.core p) (sym (resting_twice old.core.phase))) placed
               (table xs end stop begins);

@@ -64,10 +64,10 @@ partial_file_given : (R : _) (LR : _) (h : _) (d : _) (κs : _) (a : _) (session
     → session.core.position ≡ Awaits 1 0 3 → ⊥
 partial_file_given R LR h d κs a session s set bytes k lawful id file all one known stands =
     let r = k.read (bytes ∷ []) known in
-    let (m, history, front) = one_given _ _ _ _ _ all r.5.are_given in
-    let steps : IsHistory set 0 a.1.1.1.0.now r.5.given (m ∷ []) = subst
-    (λ v. IsHistory set 0 v r.5.given (m ∷ [])) (sym one) history in
-    let c = (r.5.reads set (m ∷ []) lawful id file steps).0 in
+    let (m, history, front) = one_given _ _ _ _ _ all r.6.are_given in
+    let steps : IsHistory set 0 a.1.1.1.0.now r.6.given (m ∷ []) = subst
+    (λ v. IsHistory set 0 v r.6.given (m ∷ [])) (sym one) history in
+    let c = (r.6.reads set (m ∷ []) lawful id file steps).0 in
     let n : 3 ≡ 0 = sym (ap part_of stands) ∙ sym (ap (λ v. part_of v.position) r.2) ∙ ap
     (λ v. part_of v.at) c ∙ front a.1.1.0 in
     absurd (omega (arith, n))
@@ -86,7 +86,7 @@ gone_on_without_reading : (S : _) (R : _) (LS : _) (LR : _) (g : _) (d : _) (h :
     (record { at = a.1.0.now.position; notes = [] }) hs).at → ⊥) → ⊥
 gone_on_without_reading S R LS LR g d h e κs a session s set held bytes hs l was lawful stands
     known calm one there history other =
-    let (began, from, (new, has, runs)) = l.delivers held was in
+    let (began, from, strict, (new, has, runs)) = l.delivers held was in
     let run = runs bytes known in
     let none : failed_of run.which ≡ 0 =
     none_failed (failed_of run.which) (sym (sym calm ∙ run.count

@@ -10,7 +10,10 @@ use Rattle.tape_set.specs.{Lawful.IsLawful, Reading.Reading, Reading.as_read, Re
 use Rattle.tape_core.specs.{declared.event.Answer.Answer, State.State}
 use Rattle.tape_core.specs.declared.event.Answer.TheVariants.{Passed, Deliver}
 use Rattle.tape_core.specs.{Place.rest_of, Place.IsPlaced, Foreign.IsForeignAt, Foreign.Unmoved}
-use Rattle.tape_core.specs.Table.{Outcome, step_of, mount_of}
+use Rattle.tape_core.specs.Table.{Outcome, mount_of}
+use Rattle.tape_core.specs.Table as Table
+use Rattle.tape_core.specs.Wide.{step_by, read_as}
+use Rattle.tape_core.proofs.WideCopies.{by_copy, as_copy, by_behind, by_foreign}
 use Rattle.tape_core.specs.Follows.{reading, IsAt, IsFinal, IsReading, Kept, Idle, Gives, Delivers}
 use Rattle.tape_core.proofs.Steps.{mounts, step_reads, position_reads}
 use Rattle.tape_core.proofs.{IdleSteps.idle_reads, Standing.rests, Standing.rested}
@@ -115,23 +118,27 @@ begins core new is same set parts xs (restarts n) l m a = absurd m
 
 -- ---- an item is taken
 
-pub record Both (set : FileSet) (p : Position) (xs : List TapeItem) (i : ℕ) (h : MountEvent)
+pub record Both (wide : Bool) (set : FileSet) (p : Position) (xs : List TapeItem) (i : ℕ)
+    (h : MountEvent)
     (arrived : Option TapeItem) (core : State) (out : Outcome) : Type 0 where
   pub took : Took set p h arrived out.0 (rest_of core) (rest_of out.1)
+  pub plain : out.0 ≡ Deliver → (x : TapeItem) → arrived ≡ Some x → read_as wide core x ≡ x
   pub under : is_under out.1 set p xs (i + 1) h
 
-copy_inside : (core : State) (out : Outcome) (arrived : Option TapeItem)
-    → out ≡ step_of core arrived → (set : FileSet) (p : Position) (xs : List TapeItem) (i : ℕ)
+copy_inside : (wide : Bool) (core : State) (out : Outcome) (arrived : Option TapeItem)
+    → out ≡ step_by wide core arrived → (set : FileSet) (p : Position) (xs : List TapeItem) (i : ℕ)
     (r : Reading) → IsLawful set → IsCopy set xs r → IsReading set p r.volume (take i r.good) core
-    → arrived ≡ slice_get xs i → i < length r.good → Both set p xs i (reads r) arrived core out
-copy_inside core out arrived is set p xs i r l m u e lt =
+    → arrived ≡ slice_get xs i → i < length r.good → Both wide set p xs i (reads r) arrived core out
+copy_inside wide core out arrived is set p xs i r l m u e lt =
     let at = read_at _ _ m.more _ lt m.is_reading.within in
     let came : arrived ≡ Some (cond at.g at.item bad) =
     e ∙ (ap (λ z. slice_get z i) m.whole ∙ at.came) in
     let here : slice_get (items set r.volume) (length (take i r.good)) ≡ Some at.item =
     ap (slice_get (items set r.volume)) at.count ∙ at.stands in
+    let same = by_copy wide core arrived set p r.volume (take i r.good) at.g at.item l
+    m.is_reading.volume here came u in
     let kept : Kept set p r.volume (take i r.good ++ at.g ∷ []) (cond at.g at.item bad) core out =
-    step_reads _ _ _ is _ _ _ _ _ _ l m.is_reading.volume here came u in
+    step_reads core out arrived (is ∙ same) _ _ _ _ _ _ l m.is_reading.volume here came u in
     let whole : (take i r.good ++ at.g ∷ []) ++ drop (i + 1) r.good ≡ r.good =
     ap (λ z. z ++ drop (i + 1) r.good) (sym at.longer) ∙ take-append-drop (i + 1) r.good in
     record {
@@ -145,22 +152,32 @@ copy_inside core out arrived is set p xs i r l m u e lt =
         done = λ f. sym (kept.done f (drop (i + 1) r.good)) ∙ ap
             (λ z. far set out.1.file p (reading r.volume z)) whole;
       };
+      plain = λ d x came_x.
+          let it : x ≡ cond at.g at.item bad = cc (came, came_x) in
+          let told : (Table.step_of core (Some (cond at.g at.item bad))).0 ≡ Deliver =
+          ap (λ z. (Table.step_of core z).0) (sym came)
+          ∙ (sym (ap (λ (z : Outcome). z.0) (is ∙ same)) ∙ d) in
+          subst (λ (y : TapeItem). read_as wide core y ≡ y) (sym it)
+          (as_copy wide core set p r.volume (take i r.good) at.g at.item l m.is_reading.volume here
+          u told);
       under = subst (λ z. IsReading set p r.volume z out.1) (sym at.longer) kept.reads;
     }
 
-copy_behind : (core : State) (out : Outcome) (arrived : Option TapeItem)
-    → out ≡ step_of core arrived → (set : FileSet) (p : Position) (xs : List TapeItem) (i : ℕ)
+copy_behind : (wide : Bool) (core : State) (out : Outcome) (arrived : Option TapeItem)
+    → out ≡ step_by wide core arrived → (set : FileSet) (p : Position) (xs : List TapeItem) (i : ℕ)
     (r : Reading) → IsLawful set → IsCopy set xs r → IsReading set p r.volume (take i r.good) core
     → i < length xs → arrived ≡ slice_get xs i → length r.good ≤ i
-    → Both set p xs i (reads r) arrived core out
-copy_behind core out arrived is set p xs i r l m u lt e le =
+    → Both wide set p xs i (reads r) arrived core out
+copy_behind wide core out arrived is set p xs i r l m u lt e le =
     let at = item_at xs i lt in
     let came : arrived ≡ Some at.item = e ∙ at.there in
     let all : take i r.good ≡ r.good = take_all i r.good le in
     let more : take (i + 1) r.good ≡ r.good = take_all (i + 1) r.good (omega (arith, le)) in
     let whole = m.behind (some_more (items set r.volume) r.good m.more xs i m.whole le lt) in
     let idle : Idle set p r.volume r.good core out =
-    idle_reads core out arrived is set p r.volume r.good at.item l m.is_reading.volume whole.0
+    idle_reads core out arrived (is ∙ by_behind wide core arrived set p r.volume r.good whole.0
+    (subst (λ z. IsReading set p r.volume z core) all u)) set p r.volume r.good at.item l
+    m.is_reading.volume whole.0
     whole.1 came (subst (λ z. IsReading set p r.volume z core) all u) in
     record {
       took = record {
@@ -172,6 +189,7 @@ copy_behind core out arrived is set p xs i r l m u lt e le =
         );
         done = λ f. position_reads out.1 set p r.volume r.good l m.is_reading.volume idle.reads;
       };
+      plain = λ d x came_x. absurd (idle.silent d);
       under = subst (λ z. IsReading set p r.volume z out.1) (sym more) idle.reads;
     }
 
@@ -184,16 +202,18 @@ less_or (suc i) (suc n) = up (less_or i n)
     up (inl h) = inl (omega (arith, h))
     up (inr h) = inr (omega (arith, h))
 
-foreign_item : (core : State) (out : Outcome) (arrived : Option TapeItem)
-    → out ≡ step_of core arrived → (set : FileSet) (p : Position) (xs : List TapeItem) (i : ℕ)
+foreign_item : (wide : Bool) (core : State) (out : Outcome) (arrived : Option TapeItem)
+    → out ≡ step_by wide core arrived → (set : FileSet) (p : Position) (xs : List TapeItem) (i : ℕ)
     → IsAt set core → is_under core set p xs i foreign_reel
-    → i < length xs → arrived ≡ slice_get xs i → Both set p xs i foreign_reel arrived core out
-foreign_item core out arrived is set p xs i a u lt e =
+    → i < length xs → arrived ≡ slice_get xs i → Both wide set p xs i foreign_reel arrived core out
+foreign_item wide core out arrived is set p xs i a u lt e =
     let at = item_at _ _ lt in
     let came : arrived ≡ Some at.item = e ∙ at.there in
     let still : Unmoved set (drop (i + 1) xs) core out =
-    foreign_step _ _ _ is _ _ (drop (i + 1) xs) came a (subst
-    (λ z. IsForeignAt set.set_id z core.position core.phase) at.left u.1) in
+    foreign_step core out arrived (is ∙ by_foreign wide core arrived set.set_id
+    (at.item ∷ drop (i + 1) xs) (subst
+    (λ z. IsForeignAt set.set_id z core.position core.phase) at.left u.1)) _ _ (drop (i + 1) xs)
+    came a (subst (λ z. IsForeignAt set.set_id z core.position core.phase) at.left u.1) in
     record {
       took = record {
         at = rests _ _ still.at;
@@ -204,23 +224,27 @@ foreign_item core out arrived is set p xs i a u lt e =
         );
         done = λ f. still.same_position ∙ u.0;
       };
+      plain = λ d x came_x. absurd (still.silent d);
       under = (still.same_position ∙ u.0, still.foreign);
     }
 
-pub both : (core : State) (out : Outcome) (arrived : Option TapeItem) → out ≡ step_of core arrived
+pub both : (wide : Bool) (core : State) (out : Outcome) (arrived : Option TapeItem) → out
+    ≡ step_by wide core arrived
     → (set : FileSet) (parts : List Portion) (p : Position) (xs : List TapeItem) (i : ℕ)
     (h : MountEvent) → IsLawful set → IsMount set xs h → IsPlaced set (rest_of core) parts
     → is_under core set p xs i h → i < length xs → arrived ≡ slice_get xs i
-    → Both set p xs i h arrived core out
-both core out arrived is set parts p xs i (reads r) l m a u lt e = pick (less_or i (length r.good))
+    → Both wide set p xs i h arrived core out
+both wide core out arrived is set parts p xs i (reads r) l m a u lt e = pick
+    (less_or i (length r.good))
   where
-    pick : (i < length r.good) ⊎ (length r.good ≤ i) → Both set p xs i (reads r) arrived core out
-    pick (inl h) = copy_inside core out arrived is set p xs i r l m u e h
-    pick (inr h) = copy_behind core out arrived is set p xs i r l m u lt e h
-both core out arrived is set parts p xs i foreign_reel l m a u lt e =
-    foreign_item core out arrived is set p xs i (rested set core a.at) u lt e
-both core out arrived is set parts p xs i saves l m a u lt e = absurd m
-both core out arrived is set parts p xs i (restarts n) l m a u lt e = absurd m
+    pick : (i < length r.good) ⊎ (length r.good ≤ i) → Both wide set p xs i
+        (reads r) arrived core out
+    pick (inl h) = copy_inside wide core out arrived is set p xs i r l m u e h
+    pick (inr h) = copy_behind wide core out arrived is set p xs i r l m u lt e h
+both wide core out arrived is set parts p xs i foreign_reel l m a u lt e =
+    foreign_item wide core out arrived is set p xs i (rested set core a.at) u lt e
+both wide core out arrived is set parts p xs i saves l m a u lt e = absurd m
+both wide core out arrived is set parts p xs i (restarts n) l m a u lt e = absurd m
 
 -- the position is the one that the mount reaches so far
 pub reached : (core : State) (set : FileSet) (p : Position) (xs : List TapeItem)

@@ -19,7 +19,7 @@ use Rattle.tape_run.specs.Passing.{blocks_of, volume_with, header_with, second_w
 use Rattle.tape_run.specs.{declared.section.ImageStop.ImageStop, declared.met.Met.Met}
 use Rattle.tape_run.specs.{declared.section.ImageLine.ImageLine, declared.passing.Phase.Phase}
 use Rattle.tape_run.specs.{declared.section.ImageStop.TheVariants.Fault, Passing.closes}
-use Rattle.tape_run.specs.declared.passing.Phase.TheVariants.{Trailer, Trailers, Next, Over}
+use Rattle.tape_run.specs.declared.passing.Phase.TheVariants.{Trailer, Trailers, Next}
 use Rattle.tape_run.specs.Noted.{noted, noted_all}
 use Rattle.tape_run.specs.Added.{Adds, AddsInPart, StopsBehind, stop_at}
 use Rattle.tape_run.proofs.ShownSections.{told_if}
@@ -166,7 +166,7 @@ one_labels : (v : List ℕ) (is : Bool) (r : Result Head1 LabelFault)
 one_labels v true r = omega arith
 one_labels v false r = one_header v r
 
-one_second : (met : Met) (k : Option Kind) → blocks_of (second_with met k) ≤ met.blocks + 1
+pub one_second : (met : Met) (k : Option Kind) → blocks_of (second_with met k) ≤ met.blocks + 1
 one_second met (Some kinds.Hdr2) = omega arith
 one_second met _ = omega arith
 

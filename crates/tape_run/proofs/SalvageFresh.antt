@@ -5,7 +5,8 @@ use Rattle.tape_image.specs.Tape.{TapeItem, block, bad, mark}
 use Rattle.tape_label.specs.declared.values.{Kind.Kind, Head1.Head1, Trail1.Trail1}
 use Rattle.tape_label.specs.declared.label.LabelFault.{LabelFault}
 use Rattle.tape_label.specs.declared.values.Kind.TheVariants as kinds
-use Rattle.tape_label.specs.{Kinds.kind_at, Reading.head1_at, Reading.head2_at, Reading.trail1_at}
+use Rattle.tape_label.specs.Reading.{head1_at, wide_head2_at, trail1_at}
+use Rattle.tape_label.specs.{Kinds.kind_at, WideHead2.is_further_header}
 use Rattle.tape_set.specs.Lawful.{label_count}
 use Rattle.tape_run.specs.declared.salvage.walk.{OpenSection.OpenSection, UnnamedItems.UnnamedItems}
 use Rattle.tape_run.specs.declared.salvage.walk.Expected.{Expected}
@@ -16,6 +17,7 @@ use Rattle.tape_run.specs.declared.salvage.walk.Expected.TheVariants.{Outside, S
 use Rattle.tape_run.specs.declared.salvage.walk.Expected.TheVariants.{Data, Trailer, Trailers, Next}
 use Rattle.tape_run.specs.declared.salvage.walk.Expected.TheVariants.{Over, Skipping, Unnamed}
 use Rattle.tape_run.specs.declared.salvage.walk.Expected.TheVariants.{UnnamedTrailer}
+use Rattle.tape_run.specs.SalvageWalk.{with_second}
 use Rattle.tape_run.specs.SalvageWalk.{step, begun_by, closed_by, unnamed_by, goes_on_by, skipping}
 use Rattle.tape_run.specs.SalvageWalk.{unnamed_after, one_read, closes, named_by, unclosed_by}
 use Rattle.tape_run.specs.SalvageImage.{is_in, read_in}
@@ -94,7 +96,7 @@ module _ (key : SectionKey) where
   enters (Outside n) mark fresh off = either (n == 0) (Outside 1) _ (tt, refl)
       (either (n == 1) (Outside 2) Over (tt, refl) (tt, refl))
   enters (Second u) (block b) fresh off =
-      let two = second_is u (kind_at b) (head2_at b) in
+      let two = second_is (with_second (is_further_header b) u) (kind_at b) (wide_head2_at b) in
       subst Begins (sym two.expects) (two.none ∙ fresh, refl)
   enters (Second u) bad fresh off = (fresh, refl)
   enters (Second u) mark fresh off = (tt, none_if (same_key u.key key) u.blocks fresh)

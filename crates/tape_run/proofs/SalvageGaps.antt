@@ -11,6 +11,7 @@ use Rattle.tape_run.specs.SalvageGaps.{salvaged_data, Gap, BlockLine, a_gap, a_t
 use Rattle.tape_run.specs.SalvageGaps.{block_line, block_lines, gaps_in, IsReadable, StartsReadable}
 use Rattle.tape_run.specs.{SalvageBlocks.refused_text, SalvageGaps.AreGaps, SalvageClosed.IsNoMark}
 use Rattle.tape_run.specs.{SalvageWalk.first_of, SalvageRecords.found_fault, SalvageRecords.is_cut}
+use Rattle.tape_run.specs.SalvageRecords.{taken}
 use Rattle.tape_run.proofs.SalvageComing.{not_bad}
 
 -- ---- lines
@@ -145,13 +146,15 @@ with_more form n g xs first (gap ∷ gaps) (rest, more, is, starts, one, last, r
 -- the lines of a block other than that of the gap before it
 abbrev after_block_text : ℕ → Option FileForm → ℕ → Salvaged → List ℕ → List ℕ
 after_block_text sect form n g b = torn_text (is_cut form g.piece b) sect n g.piece.records
-    ++ refused_text sect n (found_fault form g.piece b) g.piece.begun g.piece.records
+    ++ refused_text sect n (found_fault form g.piece b) (taken form g.piece b).begun
+    (taken form g.piece b).records
 
 after_block : (sect : ℕ) (form : Option FileForm) (n : ℕ) (g : Salvaged) (b : List ℕ)
     → Others sect (after_block_text sect form n g b)
 after_block sect form n g b = both_lines sect _ _
     (torn_lines (is_cut form g.piece b) sect n g.piece.records)
-    (refused_lines sect n (found_fault form g.piece b) g.piece.begun g.piece.records)
+    (refused_lines sect n (found_fault form g.piece b) (taken form g.piece b).begun
+    (taken form g.piece b).records)
 
 -- these lines, and those of what follows
 joined : (sect : ℕ) (ls ms : List BlockLine) (t u v : List ℕ) → t ≡ block_lines sect ls

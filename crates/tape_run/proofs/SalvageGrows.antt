@@ -7,7 +7,8 @@ use Rattle.tape_blocks.specs.declared.check.BlockFault.{BlockFault}
 use Rattle.tape_blocks.specs.{Block.Portion, Spans.continues, Spans.leaves, Spans.InOrder}
 use Rattle.tape_set.specs.Lawful.{FileForm}
 use Rattle.tape_run.specs.SalvageRecords.{Piece, nothing, with_part, with_parts, with_open}
-use Rattle.tape_run.specs.SalvageRecords.{with_end, torn, mended, mended_by, judged_at}
+use Rattle.tape_run.specs.SalvageRecords.{with_end, torn, mended, mended_by, judged_at, taken_by}
+use Rattle.tape_run.specs.SalvageRecords.{parts_before, begun_at, fault_in, content_for}
 use Rattle.tape_core.specs.Parts.{parts_in}
 use Rattle.tape_run.specs.SalvageWhole.{Blocks, all_parts, piece_after, IsBlock, FirstStays}
 use Rattle.tape_run.specs.SalvageWhole.{NeverLess}
@@ -41,13 +42,16 @@ parts_stay p (x ∷ xs) = stays_then p (with_part p x) (with_parts (with_part p 
 judged_stays : (form : FileForm) (p : Piece) (b : List _) (r : Result Bool BlockFault)
     → Stays p (mended_by form p b r)
 judged_stays form p b (Ok e) = parts_stay p (parts_in form b)
-judged_stays form p b (Err f) = same_stays p (torn p) refl
+judged_stays form p b (Err f) =
+    let q = taken_by form p b (Err f) in
+    stays_then p q (torn q) (parts_stay p (parts_before form (begun_at form p b) b
+    (fault_in form b f))) (same_stays q (torn q) refl)
 
 pub first_stays : FirstStays
 first_stays form p [] = same_stays p p refl
 first_stays form p ((true, f) ∷ bs) = stays_then p (mended (Some form) p f.bytes)
     (piece_after form (mended (Some form) p f.bytes) bs)
-    (judged_stays form p f.bytes (judged_at form p f.bytes))
+    (judged_stays form p (content_for form f.bytes) (judged_at form p (content_for form f.bytes)))
     (first_stays form (mended (Some form) p f.bytes) bs)
 first_stays form p ((false, f) ∷ bs) =
     stays_then p (torn p) (piece_after form (torn p) bs) (same_stays p (torn p) refl)

@@ -6,8 +6,8 @@ use Rattle.std.proofs.lemmas.Bool.Decides.{nat_tests}
 use Rattle.tape_label.specs.declared.values.Format.{Format}
 use Rattle.tape_label.specs.declared.values.Format.TheVariants.{Fixed, Counted, Spanned}
 use Rattle.tape_label.specs.declared.values.Format.TheVariants.{Undefined, Variable}
-use Rattle.tape_label.specs.{Formats.least_record, Head2.HasOffset, Reading.head2_at}
-use Rattle.tape_label.proofs.Second.{head2_again}
+use Rattle.tape_label.specs.{Formats.least_record, Head2.HasOffset, Reading.wide_head2_at}
+use Rattle.tape_label.proofs.{Second.head2_again, Wide.wide_as_strict}
 use Rattle.tape_set.specs.Layout.{Section}
 use Rattle.tape_set.specs.Lawful.{FileForm, TellsForm, binding_len, label_count}
 use Rattle.tape_core.specs.{Known.known_of, Range.form_in_range}
@@ -40,14 +40,15 @@ few_digits label n (inl h) = let f = h.fits in omega (arith, f)
 few_digits label n (inr (spaces, e)) = omega (arith, e)
 
 pub form_read : (form : FileForm) (s : Section) (t : TellsForm form s)
-    → form_by t.head.file_id (head2_at s.hdr2) ≡ Some form
+    → form_by t.head.file_id (wide_head2_at s.hdr2) ≡ Some form
 form_read form s t =
     let g = t.second in
     let len = t.hdr2.rec_len in
     let most = len.fits in
-    ap (form_by t.head.file_id) (head2_again _ _ _ t.hdr2) ∙ ap (λ (b : Bool). if b then Some
-    (form_of t.head.file_id g) else None) (in_range_by _ _ _ t.head.file_id len.at_least
-    (omega (arith, most)) (few_digits _ _ t.hdr2.offset)) ∙ ap (λ (f : FileForm). Some f) t.told
+    ap (form_by t.head.file_id) (wide_as_strict _ _ (head2_again _ _ _ t.hdr2))
+    ∙ ap (λ (b : Bool). if b then Some (form_of t.head.file_id g) else None)
+    (in_range_by _ _ _ t.head.file_id len.at_least (omega (arith, most))
+    (few_digits _ _ t.hdr2.offset)) ∙ ap (λ (f : FileForm). Some f) t.told
 
 -- ---- a copy
 

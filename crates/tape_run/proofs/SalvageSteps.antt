@@ -4,7 +4,8 @@ use Rattle.std.proofs.Common.{◌∙◌, arith, Some, None}
 use Rattle.tape_image.specs.Tape.{TapeItem, block, bad, mark}
 use Rattle.tape_label.specs.declared.values.Kind.TheVariants as kinds
 use Rattle.tape_label.specs.declared.values.{Head1.Head1, Trail1.Trail1}
-use Rattle.tape_label.specs.{Kinds.kind_at, Reading.head1_at, Reading.head2_at, Reading.trail1_at}
+use Rattle.tape_label.specs.Reading.{head1_at, wide_head2_at, trail1_at}
+use Rattle.tape_label.specs.{Kinds.kind_at, WideHead2.is_further_header}
 use Rattle.tape_label.proofs.First.{head1_again, trail1_again}
 use Rattle.tape_set.specs.Lawful.{FileForm, label_count}
 use Rattle.tape_run.specs.declared.salvage.walk.{OpenSection.OpenSection, Closing.Closing}
@@ -12,6 +13,7 @@ use Rattle.tape_run.specs.declared.salvage.walk.Expected.{Expected}
 use Rattle.tape_run.specs.declared.section.SectionKey.{SectionKey}
 use Rattle.tape_run.specs.declared.salvage.walk.Expected.TheVariants.{Outside, Second, Headers}
 use Rattle.tape_run.specs.declared.salvage.walk.Expected.TheVariants.{Data, Trailer, Trailers, Next}
+use Rattle.tape_run.specs.SalvageWalk.{with_second}
 use Rattle.tape_run.specs.SalvageWalk.{step, expected_after, section_by, begun_by, with_item}
 use Rattle.tape_run.specs.SalvageWalk.{with_data, with_unreadable, doubted, closes, with_trailer}
 use Rattle.tape_run.specs.SalvageWalk.{form_by}
@@ -81,7 +83,7 @@ pub record IsAsRead (set_id : List ℕ) (r : SectionRead) (section : OpenSection
   pub eof : (t : Trail1) → trail1_at r.placed.section.trailer ≡ Ok t → closing.eof ≡ t.eof
   pub form : (h : Head1) (f : FileForm) → head1_at r.placed.section.hdr1 ≡ Ok h
       → FirstIsRead r.headers → kind_at r.placed.section.hdr2 ≡ Some kinds.Hdr2
-      → form_by h.file_id (head2_at r.placed.section.hdr2) ≡ Some f → section.form ≡ Some f
+      → form_by h.file_id (wide_head2_at r.placed.section.hdr2) ≡ Some f → section.form ≡ Some f
 
 module _ {A : Type 0} (act : Expected → A → TapeItem → A) where
   pub follow : (s t u : Expected) (a b c : A) (xs ys : List TapeItem) → Walk act s a xs t b
@@ -151,13 +153,13 @@ module _ {A : Type 0} (act : Expected → A → TapeItem → A) where
     unread : section.unreadable ≡ u.unreadable
     certain : AllRead ls → section.certain ≡ u.certain
     form : FirstIsRead ls → kind_at b ≡ Some kinds.Hdr2
-        → section.form ≡ form_by u.file_id (head2_at b)
+        → section.form ≡ form_by u.file_id (wide_head2_at b)
 
   after_head : Quiet act → (u : OpenSection) (a : A) (ls : Labels) (b : List ℕ)
       (more : List (List ℕ)) → labels_of ls ≡ b ∷ more → AfterHead u a ls b
   after_head q u a [] b more e = absurd (cc e)
   after_head q u a ((true, x) ∷ ls) b more e =
-      let two = second_is u (kind_at x) (head2_at x) in
+      let two = second_is (with_second (is_further_header x) u) (kind_at x) (wide_head2_at x) in
       let v = two.section in
       let is : x ≡ b = cc e in
       record {
@@ -170,7 +172,7 @@ module _ {A : Type 0} (act : Expected → A → TapeItem → A) where
         unread = unread_headed v ls ∙ two.unread;
         certain = λ all. certain_headed v ls all ∙ two.certain;
         form = λ read kind. form_headed v ls ∙ two.form (ap kind_at is ∙ kind)
-            ∙ ap (λ y. form_by u.file_id (head2_at y)) is;
+            ∙ ap (λ y. form_by u.file_id (wide_head2_at y)) is;
       }
   after_head q u a ((false, x) ∷ ls) b more e =
       let v = doubted u in
@@ -193,7 +195,7 @@ module _ {A : Type 0} (act : Expected → A → TapeItem → A) where
   unfolding trailed
   trailers q u k a b [] none m n = one (Trailers u k) Next a b mark refl m
   trailers q u k a b ((true, x) ∷ ls) none m n =
-      let v = with_trailer u (head2_at x) in
+      let v = with_trailer u (wide_head2_at x) in
       first (Trailers u k) (Trailers v k) (after_trailers ls) a a b (block x)
       (read_labels ls ++ mark ∷ []) refl (q.trailers u k a x) (trailers q v k a b ls none m n)
   trailers q u k a b ((false, x) ∷ ls) none m n =
@@ -277,6 +279,6 @@ module _ {A : Type 0} (act : Expected → A → TapeItem → A) where
           form = λ h' f is first kind has.
               let same : h ≡ h' = cc (sym (head1_again y.hdr1 h header.label) ∙ is) in
               form_trailed w r.trailers f (form_section v r.blocks ∙ two.form first kind
-              ∙ ap (λ (x : Head1). form_by x.file_id (head2_at y.hdr2)) same ∙ has);
+              ∙ ap (λ (x : Head1). form_by x.file_id (wide_head2_at y.hdr2)) same ∙ has);
         };
       }

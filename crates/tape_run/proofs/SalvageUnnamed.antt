@@ -8,7 +8,8 @@ use Rattle.tape_image.specs.Tape.{TapeItem, block, bad, mark}
 use Rattle.tape_label.specs.declared.values.{Kind.Kind, Head1.Head1, Head2.Head2, Trail1.Trail1}
 use Rattle.tape_label.specs.declared.label.LabelFault.{LabelFault}
 use Rattle.tape_label.specs.declared.values.Kind.TheVariants as kinds
-use Rattle.tape_label.specs.{Kinds.kind_at, Reading.head1_at, Reading.head2_at, Reading.trail1_at}
+use Rattle.tape_label.specs.Reading.{head1_at, wide_head2_at, trail1_at}
+use Rattle.tape_label.specs.{Kinds.kind_at, WideHead2.is_further_header}
 use Rattle.tape_set.specs.Lawful.{label_count}
 use Rattle.tape_run.specs.declared.salvage.walk.{OpenSection.OpenSection, Closing.Closing}
 use Rattle.tape_run.specs.declared.salvage.walk.{UnnamedItems.UnnamedItems, Expected.Expected}
@@ -16,6 +17,7 @@ use Rattle.tape_run.specs.declared.salvage.walk.Expected.TheVariants.{Outside, S
 use Rattle.tape_run.specs.declared.salvage.walk.Expected.TheVariants.{Data, Trailer, Trailers, Next}
 use Rattle.tape_run.specs.declared.salvage.walk.Expected.TheVariants.{Over, Skipping, Unnamed}
 use Rattle.tape_run.specs.declared.salvage.walk.Expected.TheVariants.{UnnamedTrailer}
+use Rattle.tape_run.specs.SalvageWalk.{with_second}
 use Rattle.tape_run.specs.SalvageWalk.{step, begun_by, closed_by, unnamed_by, goes_on_by, one_read}
 use Rattle.tape_run.specs.SalvageWalk.{one_unreadable, second_by, closes, named_by, unclosed_by}
 use Rattle.tape_run.specs.SalvageWalk.{FoundAt, and_read}
@@ -145,7 +147,8 @@ back (Outside n) (block b) xs v k h own = outside (nat_lt n 2) (n == 1) b xs v k
 back (Outside n) bad xs v k h own = outside_bad n (nat_lt n 2) (n == 1) xs v k refl refl (h own)
 back (Outside n) mark xs v k h own = inl (outside_mark (n == 0) (n == 1) xs v k (h own))
 back (Second u) (block b) xs v k h own =
-    either (h own) (further (block b) xs v k) (second u (kind_at b) (head2_at b) xs v k)
+    either (h own) (further (block b) xs v k)
+    (second (with_second (is_further_header b) u) (kind_at b) (wide_head2_at b) xs v k)
 back (Second u) bad xs v k h own = either (h own) (further bad xs v k) (λ o. o)
 back (Second u) mark xs v k h own = either (h own) (further mark xs v k) (λ o. o)
 back (Headers u) (block b) xs v k h own = either (h own) (further (block b) xs v k) (λ o. o)

@@ -1,15 +1,19 @@
 -- The records that are complete in the blocks that were read.
 use Rattle.std.proofs.Common.{◌≡◌, ◌≢◌, ℕ, Bool, true, false, List, [], ◌∷◌, ◌++◌, refl, sym, ap}
 use Rattle.std.proofs.Common.{subst, ◌∙◌, arith, append-nil, append_assoc, Ok, Some, if◌then◌else◌}
+use Rattle.std.proofs.Common.{◌≤◌}
 use Rattle.std.specs.List.{AllByRecursion}
 use Rattle.tape_blocks.specs.{Block.Portion, Block.Holds, Judged.judged, Tight.Filled}
 use Rattle.tape_blocks.specs.Spans.{continues, leaves, InOrder}
-use Rattle.tape_blocks.proofs.OwnLaws.{judged_only}
+use Rattle.tape_blocks.proofs.{OwnLaws.judged_only, Wide.content_kept}
+use Rattle.tape_label.specs.declared.values.Format.{Format}
+use Rattle.tape_label.specs.declared.values.Format.TheVariants.{Fixed, Counted, Spanned}
+use Rattle.tape_label.specs.declared.values.Format.TheVariants.{Undefined, Variable}
 use Rattle.tape_set.specs.Lawful.{FileForm}
 use Rattle.tape_core.specs.Parts.{goes_on_at}
 use Rattle.tape_core.proofs.BlockLaws.{parts_in_it, first_begun}
 use Rattle.tape_run.specs.SalvageRecords.{Piece, with_part, with_parts, torn, mended}
-use Rattle.tape_run.specs.SalvageRecords.{mended_by, begun_at, judged_at}
+use Rattle.tape_run.specs.SalvageRecords.{mended_by, mended_in, begun_at, judged_at, content_for}
 use Rattle.tape_run.specs.SalvageWhole.{Blocks, parts_of_block, parts_with, all_parts, whole_from}
 use Rattle.tape_run.specs.SalvageWhole.{piece_after, IsBlock, RecoversWhole, AllWhole}
 
@@ -157,11 +161,28 @@ without_block p begun all end front (x ∷ xs) rest t o none (c, i) =
 
 -- ---- blocks
 
+-- in format F a block that contains its parts has records of at least one byte
+some_holds : (format : Format) (rec_len offset : ℕ) (block : List ℕ) (ps : List Portion)
+    → Holds format rec_len offset block ps → format ≡ Fixed → 1 ≤ rec_len
+some_holds Fixed rec_len offset block ps h e = let l = h.2.1 in omega (arith, l)
+some_holds Counted rec_len offset block ps h e = absurd cc
+some_holds Spanned rec_len offset block ps h e = absurd cc
+some_holds Undefined rec_len offset block ps h e = absurd cc
+some_holds Variable rec_len offset block ps h e = absurd cc
+
+-- a block without a fault has no other padding
+kept : (form : FileForm) (p : Piece) (block : List ℕ) (parts : List Portion) (end : Bool)
+    → Holds form.format form.rec_len form.offset block parts → judged_at form p block ≡ Ok end
+    → content_for form block ≡ block
+kept form p block parts end h j = content_kept form.format form.rec_len form.offset
+    (begun_at form p block) end block (some_holds _ _ _ _ _ h) j
+
 pub same_piece : (form : FileForm) (p : Piece) (block : List ℕ) (parts : List Portion) (end : Bool)
     → Holds form.format form.rec_len form.offset block parts → judged_at form p block ≡ Ok end
     → mended (Some form) p block ≡ with_parts p parts
 same_piece form p block parts end h j =
-    ap (mended_by form p block) j ∙ ap (with_parts p) (parts_in_it form block parts h)
+    ap (mended_in form p) (kept form p block parts end h j) ∙ ap (mended_by form p block) j
+    ∙ ap (with_parts p) (parts_in_it form block parts h)
 
 judged_from : (form : FileForm) (p : Piece) (block : List ℕ) (parts : List Portion)
     (begun end : Bool)

@@ -84,29 +84,32 @@ kept_save old new v k =
 -- ---- a reel
 
 -- a session in this state, with its numbers of failed readers and of refusals
-abbrev pub session_of : State → List Portion → List Point → ℕ → ℕ → Seen
-session_of place parts notes failures refusals = record {
+abbrev pub session_of : State → List Portion → List Point → ℕ → ℕ → Bool → Seen
+session_of place parts notes failures refusals wide = record {
   place = place;
   parts = parts;
   notes = notes;
   failures = failures;
   refusals = refusals;
+  wide = wide;
 }
 
 rest_again : (core : State) → rest_of core ≡ rest_of (rest_of core)
 rest_again core = ap (λ f. record core { phase = f }) (sym (resting_twice core.phase))
 
 -- the bytes of a reel whose parts were put as the table says
-pub reeled : (failed : Bool) (core mounted start new : State) (held now : List Portion)
+pub reeled : (wide later failed : Bool) → later ≡ wide → (core mounted start new : State)
+    (held now : List Portion)
     (bytes : List ℕ) (unread left : Option (List ℕ)) (notes : List Point) (f1 f2 r1 r2 : ℕ)
     → left ≡ unread → new.set_id ≡ core.set_id → new.file ≡ core.file → r2 ≡ r1 → IsFront held now
     → f2 ≡ counted failed f1 → mounted ≡ start
-    → ReadsImage failed mounted new held now unread bytes
-    → ReeledFrom start bytes left failed (session_of (rest_of core) held notes f1 r1)
-    (session_of (rest_of new) now notes f2 r2)
-reeled failed core mounted start new held now bytes unread left notes f1 f2 r1 r2 same_left set_id
+    → ReadsImage wide failed mounted new held now unread bytes
+    → ReeledFrom start bytes left failed (session_of (rest_of core) held notes f1 r1 wide)
+    (session_of (rest_of new) now notes f2 r2 later)
+reeled wide later failed same_wide core mounted start new held now bytes unread left notes f1 f2 r1
+    r2 same_left set_id
     file calm grows count mount reads =
-    let r = subst (λ (z : State). ReadsImage failed z new held now unread bytes) mount reads in
+    let r = subst (λ (z : State). ReadsImage wide failed z new held now unread bytes) mount reads in
     record {
       given = r.given;
       is_given = subst (λ l. IsGiven failed bytes l r.given) (sym same_left) r.is_given;
@@ -115,28 +118,34 @@ reeled failed core mounted start new held now bytes unread left notes f1 f2 r1 r
       same_set = set_id;
       same_file = file;
       calm = calm;
+      same_wide = same_wide;
       grows = grows;
-      reads = λ set front xs end stop h l over b m at. led_reads set h (front ++ xs) (rest_of core)
-          (rest_of new) held now l m (rest_again core) at (leads_over_all (rest_of core) start
+      reads = λ set front xs end stop h l over b m at. led_reads wide set h (front ++ xs)
+          (rest_of core)
+          (rest_of new) held now l m (rest_again core) at (leads_over_all wide (rest_of core) start
           (rest_of new) front xs held now over (r.table xs end stop b));
       table = r.table;
     }
 
-pub cut_short : (core mounted start new : State) (held now : List Portion) (bytes : List ℕ)
+pub cut_short : (wide later : Bool) → later ≡ wide → (core mounted start new : State)
+    (held now : List Portion) (bytes : List ℕ)
     (notes : List Point) (f r1 r2 : ℕ) → new.set_id ≡ core.set_id → new.file ≡ core.file
-    → IsFront held now → mounted ≡ start → CutsTable mounted (rest_of new) held now bytes
-    → CutShort start bytes (session_of (rest_of core) held notes f r1)
-    (session_of (rest_of new) now notes f r2)
-cut_short core mounted start new held now bytes notes f r1 r2 set_id file grows mount cut =
-    let cuts = subst (λ (z : State). CutsTable z (rest_of new) held now bytes) mount cut in
+    → IsFront held now → mounted ≡ start → CutsTable wide mounted (rest_of new) held now bytes
+    → CutShort start bytes (session_of (rest_of core) held notes f r1 wide)
+    (session_of (rest_of new) now notes f r2 later)
+cut_short wide later same_wide core mounted start new held now bytes notes f r1 r2 set_id file
+    grows mount cut =
+    let cuts = subst (λ (z : State). CutsTable wide z (rest_of new) held now bytes) mount cut in
     record {
       count = refl;
       notes = refl;
       same_set = set_id;
       same_file = file;
+      same_wide = same_wide;
       grows = grows;
-      stops = λ set front xs end stop h l over b m at. cut_reads set h (front ++ xs) (rest_of core)
-          (rest_of new) held now l m (rest_again core) at (cuts_over_all (rest_of core) start
+      stops = λ set front xs end stop h l over b m at. cut_reads wide set h (front ++ xs)
+          (rest_of core)
+          (rest_of new) held now l m (rest_again core) at (cuts_over_all wide (rest_of core) start
           (rest_of new) front xs held now over (cuts xs end stop b));
       table = cuts;
     }
@@ -144,7 +153,7 @@ cut_short core mounted start new held now bytes notes f r1 r2 set_id file grows 
 -- nothing is read of a file that is complete
 pub not_read : (start core : State) (bytes : List ℕ) (left : Option (List ℕ)) (s : Seen)
     (failed : Bool) → failed ≡ false → s.place ≡ rest_of core
-    → ((xs : List TapeItem) → IsLed xs start s.place s.parts s.parts)
+    → ((xs : List TapeItem) → IsLed s.wide xs start s.place s.parts s.parts)
     → ReeledFrom start bytes left failed s s
 not_read start core bytes left s failed f place table =
     let resting : s.place ≡ rest_of s.place =
@@ -157,9 +166,12 @@ not_read start core bytes left s failed f place table =
       same_set = refl;
       same_file = refl;
       calm = refl;
+      same_wide = refl;
       grows = front_self s.parts;
-      reads = λ set front xs end stop h l over b m at. led_reads set h (front ++ xs) s.place s.place
-          s.parts s.parts l m resting at (leads_over_all s.place start s.place front xs s.parts
+      reads = λ set front xs end stop h l over b m at. led_reads s.wide set h
+          (front ++ xs) s.place s.place
+          s.parts s.parts l m resting at
+          (leads_over_all s.wide s.place start s.place front xs s.parts
           s.parts over (table xs));
       table = λ xs end stop b. table xs;
     })
@@ -234,17 +246,17 @@ pub record GoesBack (n : ℕ) (point : Point) (old : Seen) (new : List Portion �
 
 -- a core moved there, and the later checkpoints were dropped
 pub goes_back : (n : ℕ) (point : Point) (from place : State) (held : List Portion)
-    (notes left : List Point) (failures before refusals : ℕ)
+    (notes left : List Point) (failures before refusals : ℕ) (wide : Bool)
     → slice_get notes n ≡ Some point → KeepsNotes from [] notes held
     → place ≡ place_of point
     → left ≡ take (n + 1) notes → refusals ≡ before
-    → GoesBack n point (session_of from held notes failures before)
-    (λ parts. session_of place parts left failures refusals)
-goes_back n point from place held notes left failures before refusals noted kept there forgets
+    → GoesBack n point (session_of from held notes failures before wide)
+    (λ parts. session_of place parts left failures refusals wide)
+goes_back n point from place held notes left failures before refusals wide noted kept there forgets
     calm =
     let at = kept_at from [] notes n point held noted kept in
-    let old = session_of from held notes failures before in
-    let new = session_of place at.ps left failures refusals in
+    let old = session_of from held notes failures before wide in
+    let new = session_of place at.ps left failures refusals wide in
     let went : WentBack n old new = record {
       point = point;
       noted = noted;
@@ -254,6 +266,7 @@ goes_back n point from place held notes left failures before refusals noted kept
       notes = forgets;
       count = refl;
       calm = calm;
+      same_wide = refl;
     } in
     record {
       parts = at.ps;

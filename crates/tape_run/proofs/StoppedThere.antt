@@ -28,6 +28,7 @@ stopped_walked g remaining back a b held fault has walked = (
     parts = refl;
     notes = walked.notes;
     count = walked.failures;
+    same_wide = walked.wide;
   },
 )
 
@@ -37,6 +38,7 @@ session_walked g a = record {
   core = refl;
   notes = refl;
   failures = refl;
+  wide = refl;
   kept = λ parts has. has;
   crash = λ parts has. only_same _ (g.crashes a.sink);
 }
@@ -45,8 +47,17 @@ session_walked g a = record {
 pub stopped_there : {S R : Type 0} (g : Ghosts S) (remaining : R → Option (List ℕ))
     (back : Bool) (a : SessionState S) (held : List Portion) (fault : EngineFault)
     → g.holds a.sink held → IsStopped g remaining back (seen g a held) None fault a
-stopped_there g remaining back a held fault has =
-    (held, (λ live. has), record { place = refl; parts = refl; notes = refl; count = refl })
+stopped_there g remaining back a held fault has = (
+  held,
+  (λ live. has),
+  record {
+    place = refl;
+    parts = refl;
+    notes = refl;
+    count = refl;
+    same_wide = refl;
+  },
+)
 
 -- a reel was read, and the step after it failed
 pub step_stops : {R : Type 0} (remaining : R → Option (List ℕ)) (back : Bool) (image : R)
@@ -60,7 +71,8 @@ step_stops remaining back image left answer fault old mid new r n =
 -- the turn of an image that was opened
 pub one_turn : {S : Type 0} (g : Ghosts S) (back spares : Bool) (a b c : SessionState S)
     (o : Opened) (held now last : List Portion) → a.core.position ≢ Finished
-    → IfKnown o.had o.left (λ bytes left. Reads a.core.position a.core (mount_of a.core) bytes left
+    → IfKnown o.had o.left (λ bytes left. Reads a.wide a.core.position a.core
+    (mount_of a.core) bytes left
     o.answer b.core)
     → IfSome o.had (λ bytes. Reeled bytes o.left (is_device o.answer.fault) (seen g a held)
     (seen g b now))
@@ -91,6 +103,7 @@ reads_nothing g a held was = (
     same_set = refl;
     same_file = refl;
     kept = λ kept. kept;
+    same_wide = refl;
   },
 )
 
@@ -107,5 +120,6 @@ reads_then g a b c first then held was =
         same_set = two.same_set ∙ one.same_set;
         same_file = two.same_file ∙ one.same_file;
         kept = λ kept. two.kept (one.kept kept);
+        same_wide = two.same_wide ∙ one.same_wide;
       },
     )

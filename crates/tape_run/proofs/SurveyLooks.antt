@@ -5,22 +5,27 @@ use Rattle.tape_image.specs.{declared.item.Ending.Ending, declared.item.ImageFau
 use Rattle.tape_image.specs.{Tape.TapeItem, Reader.IfKnown}
 use Rattle.tape_image.specs.Step.{TakesItem, TakesEnd, TakesFault}
 use Rattle.tape_image.proofs.Walks.{known_end, known_fault, IfKnown-map}
-use Rattle.tape_label.specs.{declared.values.Head1.Head1, declared.values.Head2.Head2}
+use Rattle.tape_label.specs.{declared.values.Head1.Head1}
 use Rattle.tape_run.specs.SurveyFiles.{Labelled, with_met, with_form, form_in, with_label, with_all}
-use Rattle.tape_run.specs.SurveyGlance.{blank_glance, head_in, look_to, look_all, glance_of}
-use Rattle.tape_run.specs.{declared.survey.files.FileKey.FileKey, declared.passing.Phase.Phase}
+use Rattle.tape_run.specs.SurveyFiles.{with_fit}
+use Rattle.tape_run.specs.declared.survey.forms.FormNote.{FormNote}
+use Rattle.tape_run.specs.SurveyGlance.{label_in, blank_glance, head_in, look_to, look_all}
+use Rattle.tape_run.specs.SurveyGlance.{glance_of}
+use Rattle.tape_run.specs.{declared.passing.Phase.Phase}
 use Rattle.tape_run.specs.{declared.survey.glance.ImageSummary.ImageSummary, Noted.noted_all}
 use Rattle.tape_run.specs.{declared.survey.view.ImageSurvey.ImageSurvey, SurveyRead.ViewsItems}
 use Rattle.tape_run.specs.{declared.passing.Phase.TheVariants.Volume, SurveyFiles.filed_in}
 use Rattle.tape_run.specs.{declared.section.ImageStop.ImageStop, Added.StopsBehind, Added.stop_at}
 use Rattle.tape_run.specs.declared.section.SectionLine.{SectionLine}
 use Rattle.tape_run.specs.declared.section.ImageStop.TheVariants.{Fault}
-use Rattle.tape_run.specs.Passing.{Told, step, in_list, phase_after, told_from, under_way, met_in}
+use Rattle.tape_run.specs.Passing.{Told, in_list, under_way}
+use Rattle.tape_run.specs.WidePassing.{step, phase_after, told_from, met_in}
 use Rattle.tape_run.specs.SurveyCopies.{Copied, with_told, digest_in}
 use Rattle.tape_run.specs.SurveyGlance.{damage_in, damages_in}
 use Rattle.tape_run.specs.SurveyLocations.{Located, with_location, locate_all, located_in}
-use Rattle.tape_run.proofs.NotedSoFar.{SoFar, starts, one_more, by_ending, all_noted}
-use Rattle.tape_run.proofs.{KeepingPlaces.noted_all-append, NotedSoFar.told_from-append}
+use Rattle.tape_run.proofs.WideSoFar.{SoFar, starts, one_more, all_noted}
+use Rattle.tape_run.proofs.{KeepingPlaces.noted_all-append, WideSoFar.told_from-append}
+use Rattle.tape_run.proofs.NotedSoFar.{by_ending}
 use Rattle.tape_run.proofs.SurveyCopies.{CopiedSoFar, copied_none, copied_more}
 
 -- one more item was examined
@@ -100,12 +105,13 @@ looks_start all left place image sections files located known g listed first sam
     }
 
 -- one more item was read for the labels of files
-pub labels_noted : (image : ℕ) (old mid new : Labelled) (p : Phase) (x : TapeItem)
-    (head : Option Head1) (form : Option (FileKey × Head2)) → mid ≡ with_met old image head
-    → head ≡ head_in p x → new ≡ with_form mid form → form ≡ form_in p x
-    → new ≡ with_label image old p x
-labels_noted image old mid new p x head form noted is formed found =
-    rw (formed, found, noted, is)
+pub labels_noted : (image : ℕ) (old mid then new : Labelled) (p : Phase) (x : TapeItem)
+    (head : Option Head1) (form : Option FormNote) (told : Option Told)
+    → mid ≡ with_met old image head
+    → head ≡ label_in p x → then ≡ with_form mid image form → form ≡ form_in p x
+    → new ≡ with_fit then p x told → told ≡ (step p x).1 → new ≡ with_label image old p x
+labels_noted image old mid then new p x head form told noted is formed found fits ends =
+    rw (fits, ends, formed, found, noted, is)
 
 pub looks_more : (all left next : Option (List ℕ)) (p q image : ℕ) (item : TapeItem)
     (sections : List Told) (files : Labelled) (located : List Located) (known : Copied)

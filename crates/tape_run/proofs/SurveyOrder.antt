@@ -7,12 +7,13 @@ use Rattle.tape_run.specs.SurveyGlance.{blank_glance, look_to, look_all, glance_
 use Rattle.tape_run.specs.declared.survey.course.ExpectedItem.{ExpectedItem}
 use Rattle.tape_run.specs.declared.survey.course.LabelOrder.{LabelOrder}
 use Rattle.tape_run.specs.declared.survey.glance.ImageSummary.{ImageSummary}
-use Rattle.tape_run.specs.{declared.passing.Phase.Phase, Passing.step, Passing.phase_after}
+use Rattle.tape_run.specs.{declared.passing.Phase.Phase, WidePassing.step}
+use Rattle.tape_run.specs.WidePassing.{phase_after}
 use Rattle.tape_run.specs.declared.passing.Phase.TheVariants.{Volume, Labels, Second, Next, Over}
 use Rattle.tape_run.specs.declared.survey.course.LabelOrder.TheVariants.{Leaves}
 use Rattle.tape_run.specs.SurveyGlance.{behind_mark, behind, course_with}
 use Rattle.tape_run.specs.SurveyLaws.{course_of, has_left, IsFirstAstray, LeavesThere}
-use Rattle.tape_run.proofs.{NotedSoFar.phase_after-append, SurveyLooks.look_all-append}
+use Rattle.tape_run.proofs.{WideSoFar.phase_after-append, SurveyLooks.look_all-append}
 
 -- the summary counts the items
 counts : (g : ImageSummary) (p : Phase) (xs : List TapeItem)

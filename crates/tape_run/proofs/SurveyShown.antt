@@ -11,15 +11,19 @@ use Rattle.tape_label.specs.Reading.{vol1_at, head1_at, trail1_at}
 use Rattle.tape_label.specs.declared.values.Kind.TheVariants as kinds
 use Rattle.tape_run.specs.declared.passing.Phase.TheVariants.{Volume, Labels, Second, Headers, Data}
 use Rattle.tape_run.specs.Passing.{Told, closes, told_with, volume_with, header_with, second_with}
+use Rattle.tape_label.specs.WideHead2.{is_further_header}
+use Rattle.tape_run.specs.WidePassing.{second_if}
 use Rattle.tape_run.specs.{declared.section.SectionState.SectionState, declared.met.Met.Met}
-use Rattle.tape_run.specs.{declared.passing.Phase.Phase, Noted.is_good, Passing.step}
+use Rattle.tape_run.specs.{declared.passing.Phase.Phase, Noted.is_good, WidePassing.step}
 use Rattle.tape_run.specs.declared.section.SectionState.TheVariants.{Good, Bad, Count, Cut}
-use Rattle.tape_run.specs.declared.passing.Phase.TheVariants.{Trailer, Trailers, Next, Over}
+use Rattle.tape_run.specs.declared.passing.Phase.TheVariants.{Trailer, Trailers, Next}
 use Rattle.tape_run.specs.SurveyConflicts.{ShownAs, CopiesAreShown}
 use Rattle.tape_run.specs.SurveyCopies.{Copy, blocks_with, good_told, copies_from}
-use Rattle.tape_run.proofs.SectionsMet.{Stood, begins_more, shown_more, filled_first, filled_more}
-use Rattle.tape_run.proofs.SectionsMet.{filled_closed, state_good, shown_as, map_push}
-use Rattle.tape_run.proofs.ShownSections.{stands_on, told_if}
+use Rattle.tape_run.proofs.WideSections.{Stood, shown_more, filled_first, filled_none, filled_more}
+use Rattle.tape_run.proofs.WideSections.{filled_closed, shown_as, headed, labels_or, further_or}
+use Rattle.tape_run.proofs.WideSections.{labelled_more, begun_on}
+use Rattle.tape_run.proofs.SectionsMet.{begins_more, state_good, map_push}
+use Rattle.tape_run.proofs.ShownSections.{told_if}
 
 -- the data found so far are these blocks, unless one of them is bad
 abbrev Same : (p : Phase) (items : List TapeItem) (blocks : List (List ℕ)) → Stood p items → Type 0
@@ -34,6 +38,10 @@ StoodAs p items blocks = (h : Stood p items) × Same p items blocks h
 abbrev ShownIf : List TapeItem → Option Told → List (List ℕ) → Type 0
 ShownIf items None blocks = ⊤
 ShownIf items (Some t) blocks = t.1.state ≡ Good → ShownAs items t blocks
+
+-- both
+abbrev BothAs : List TapeItem → Phase × Option Told → List (List ℕ) → Type 0
+BothAs items after blocks = StoodAs after.0 items blocks × ShownIf items after.1 blocks
 
 -- ---- while no data are read
 
@@ -61,14 +69,16 @@ second_as items blocks met None h = (h, tt)
 second_as items blocks met (Some kinds.Hdr2) h = (h, tt)
 second_as items blocks met _ h = (h, tt)
 
+further_as : (items : List TapeItem) (blocks : List (List ℕ)) (met : Met) (b : List ℕ) (is : Bool)
+    → Stood (second_if met b is).0 items → BothAs items (second_if met b is) blocks
+further_as items blocks met b true h = ((h, tt), tt)
+further_as items blocks met b false h = (second_as items blocks met (kind_at b) h, tt)
+
 -- ---- where they are
 
 or_true : (p : Bool) → (p || true) ≡ false → ⊥
 or_true true e = cc e
 or_true false e = cc e
-
-abbrev BothAs : List TapeItem → Phase × Option Told → List (List ℕ) → Type 0
-BothAs items after blocks = StoodAs after.0 items blocks × ShownIf items after.1 blocks
 
 trailed_as : (items : List TapeItem) (blocks : List (List ℕ)) (met : Met) (b : List ℕ)
     (trail : Trail1) (c : Bool) → closes met trail ≡ c → trail1_at b ≡ Ok trail
@@ -96,23 +106,22 @@ told_as items blocks met b (Err _) e h = ((tt, tt), λ good. absurd (cc good))
 stands_as : (p : Phase) (items : List TapeItem) (x : TapeItem) (blocks : List (List ℕ))
     → StoodAs p items blocks → StoodAs (step p x).0 (items ++ x ∷ []) (blocks_with blocks p x)
     × ShownIf (items ++ x ∷ []) (step p x).1 blocks
-unfolding filled_first filled_more filled_closed
+unfolding filled_first filled_none filled_more filled_closed
 stands_as Volume items (block b) blocks (h, same) = (
-  volume_as (items ++ block b ∷ []) blocks (vol1_at b) (stands_on Volume items (block b) h).0,
+  volume_as (items ++ block b ∷ []) blocks (vol1_at b) (begun_on items b h),
   tt,
 )
 stands_as (Labels v) items (block b) blocks (h, same) = (
   labels_as (items ++ block b ∷ []) blocks v (head1_at b) (is_volume_label b)
-      (stands_on (Labels v) items (block b) h).0,
+      (labels_or items v b (is_volume_label b) h),
   tt,
 )
-stands_as (Second met) items (block b) blocks (h, same) = (
-  second_as (items ++ block b ∷ []) blocks met (kind_at b)
-      (stands_on (Second met) items (block b) h).0,
-  tt,
-)
+stands_as (Second met) items (block b) blocks (h, same) =
+    further_as (items ++ block b ∷ []) blocks met b (is_further_header b)
+    (further_or items met b (is_further_header b) refl h)
+stands_as (Second met) items mark blocks (h, same) = ((filled_none items met h, λ _. refl), tt)
 stands_as (Headers met) items (block b) blocks (h, same) =
-    (((stands_on (Headers met) items (block b) h).0, tt), tt)
+    ((labelled_more items met b h, tt), tt)
 stands_as (Headers met) items mark blocks (h, same) = ((filled_first items met h, λ _. refl), tt)
 stands_as (Data met) items (block b) blocks (h, same) = (
   (
@@ -134,11 +143,11 @@ stands_as (Trailer met) items (block b) blocks h = told_as items blocks met b (t
 stands_as (Trailer met) items bad blocks h = ((tt, tt), λ good. absurd (cc good))
 stands_as (Trailer met) items mark blocks h = ((tt, tt), λ good. absurd (cc good))
 stands_as (Trailers v) items (block b) blocks (h, same) =
-    (((stands_on (Trailers v) items (block b) h).0, tt), tt)
+    ((begins_more items v (block b ∷ []) h, tt), tt)
 stands_as (Trailers v) items mark blocks (h, same) =
-    (((stands_on (Trailers v) items mark h).0, tt), tt)
+    ((begins_more items v (mark ∷ []) h, tt), tt)
 stands_as (Next v) items (block b) blocks (h, same) = (
-  header_as (items ++ block b ∷ []) blocks v (head1_at b) (stands_on (Next v) items (block b) h).0,
+  header_as (items ++ block b ∷ []) blocks v (head1_at b) (headed items v b (head1_at b) refl h),
   tt,
 )
 stands_as _ items x blocks h = ((tt, tt), tt)

@@ -15,7 +15,9 @@ use Rattle.tape_run.specs.declared.section.SectionState.TheVariants.{Good}
 use Rattle.tape_run.specs.{declared.survey.copies.CopyNote.CopyNote, Noted.same_key, Noted.is_good}
 use Rattle.tape_run.specs.{Reeling.Mounting, Lacks.lacks, Lacks.is_none_lacking, Lacks.found_all}
 use Rattle.tape_run.specs.{SurveyTally.is_whole_sight, SurveyFiles.Filed, SurveyFiles.any_differs}
-use Rattle.tape_run.specs.SurveySets.{all_good, is_all}
+use Rattle.tape_run.specs.SurveySets.{all_good, is_all, is_flawless}
+use Rattle.tape_run.specs.SurveyFiles.{any_lost, any_misfit, reads_wide}
+use Rattle.tape_run.specs.declared.survey.fits.Misfit.{Misfit}
 use Rattle.tape_run.specs.SurveyConflicts.{Placed, placed_on, placed_in, all_placed}
 use Rattle.tape_run.specs.SurveyRead.{Found, nothing_found, IsViewed, AreViewed}
 use Rattle.tape_run.specs.SurveySound.{IsWhole, Agree, IsSound}
@@ -77,6 +79,28 @@ one_label [] e = tt
 one_label (f ∷ fs) e =
     let (first, rest) = or_parts (is_some f.1.conflict) (any_differs fs) e in
     (no_pair f.1.conflict first, one_label fs rest)
+
+no_misfit : (misfit : Option Misfit) → is_some misfit ≡ false → misfit ≡ None
+no_misfit None e = refl
+no_misfit (Some m) e = absurd (cc e)
+
+true_if_not : (b : Bool) → not b ≡ false → b ≡ true
+true_if_not true e = refl
+true_if_not false e = absurd (cc e)
+
+all_fit : (fs : List Filed) → any_misfit fs ≡ false
+    → AllByRecursion (λ f. f.1.misfit ≡ None) fs
+all_fit [] e = tt
+all_fit (f ∷ fs) e =
+    let (first, rest) = or_parts (is_some f.1.misfit) (any_misfit fs) e in
+    (no_misfit f.1.misfit first, all_fit fs rest)
+
+none_lost : (fs : List Filed) → any_lost fs ≡ false
+    → AllByRecursion (λ f. reads_wide f.1 ≡ true) fs
+none_lost [] e = tt
+none_lost (f ∷ fs) e =
+    let (first, rest) = or_parts (not (reads_wide f.1)) (any_lost fs) e in
+    (true_if_not (reads_wide f.1) first, none_lost fs rest)
 
 -- ---- the contents of a map after an insertion
 
@@ -280,14 +304,18 @@ pub all_is_sound : {L R : Type 0} (gives : Mounting L R) (remaining : R → Opti
     (v : AreViewed gives remaining shelf 0 sights nothing_found last d) → is_all d ≡ true
     → IsSound gives remaining shelf last sights d v
 all_is_sound gives remaining shelf last sights d v e =
-    let (whole, one) = and_parts d.whole (found_all d.sections && (all_good d.sections
-    && (not (any_differs d.files.notes) && is_agreed d.copies.conflicts))) e in
-    let (found, two) = and_parts (found_all d.sections) (all_good d.sections
-    && (not (any_differs d.files.notes) && is_agreed d.copies.conflicts)) one in
-    let (good, three) = and_parts (all_good d.sections)
-    (not (any_differs d.files.notes) && is_agreed d.copies.conflicts) two in
-    let (labels, agreed) = and_parts (not (any_differs d.files.notes)) (is_agreed d.copies.conflicts)
-    three in
+    let lost = any_lost d.files.notes in
+    let misfit = any_misfit d.files.notes in
+    let flawless = is_flawless d.files.notes in
+    let agreed_all = is_agreed d.copies.conflicts && flawless in
+    let labelled = not (any_differs d.files.notes) && agreed_all in
+    let (whole, one) = and_parts d.whole (found_all d.sections
+    && (all_good d.sections && labelled)) e in
+    let (found, two) = and_parts (found_all d.sections) (all_good d.sections && labelled) one in
+    let (good, three) = and_parts (all_good d.sections) labelled two in
+    let (labels, four) = and_parts (not (any_differs d.files.notes)) agreed_all three in
+    let (agreed, five) = and_parts (is_agreed d.copies.conflicts) flawless four in
+    let (second, fits) = and_parts (not lost) (not misfit) five in
     let all = images_noted gives remaining [] shelf 0 sights nothing_found last d v (λ _. tt) agreed
     in
     record {
@@ -296,6 +324,8 @@ all_is_sound gives remaining shelf last sights d v e =
       sections = all_are_good d.sections good;
       missing = none_missing d.sections found;
       labels = one_label d.files.notes (not-true (any_differs d.files.notes) labels);
+      second = none_lost d.files.notes (not-true lost second);
+      fits = all_fit d.files.notes (not-true misfit fits);
       copies = λ x y i j same. agree d.copies.notes x y
           (of_all (IsNoted d.copies.notes)
           (all_placed gives remaining shelf 0 sights nothing_found last d v) x all i)

@@ -7,7 +7,11 @@ use Rattle.std.specs.{Prelude.⊤, List.AllByRecursion}
 use Rattle.tape_image.specs.Tape.{TapeItem, block, mark}
 use Rattle.tape_label.specs.{declared.values.Kind.Kind, declared.values.Vol1.Vol1, Head1.IsHead1}
 use Rattle.tape_label.specs.{declared.values.Head1.Head1, declared.label.LabelFault.LabelFault}
-use Rattle.tape_label.specs.{Kinds.HasKind, Kinds.kind_at, Reading.vol1_at, Reading.head1_at}
+use Rattle.tape_label.specs.{Kinds.kind_at, Reading.vol1_at, Reading.head1_at}
+use Rattle.tape_label.specs.WideHead2.{is_further_header}
+use Rattle.std.proofs.Common.{inl, inr}
+use Rattle.tape_run.specs.WidePassing.{second_if}
+use Rattle.tape_run.specs.WideShown.{IsSecond, AreHeaders}
 use Rattle.tape_label.specs.VolumeLabels.{is_volume_label}
 use Rattle.tape_label.specs.declared.values.Kind.TheVariants as kinds
 use Rattle.tape_label.proofs.{First.vol1_found, First.head1_found, Apart.kind_found}
@@ -45,10 +49,16 @@ pub record Heads (items : List TapeItem) (met : Met) (behind : List TapeItem) : 
   pub is_head : IsHead1 hdr1 head
   pub sect : met.key.sect ≡ head.sect
   pub file : met.key.file ≡ head.sequence
-  pub hdr2 : List ℕ
-  pub second : HasKind hdr2 kinds.Hdr2
   pub headers : List (List ℕ)
-  pub stands : items ≡ before ++ block hdr1 ∷ block hdr2 ∷ map block headers ++ behind
+  pub second : AreHeaders headers
+  pub stands : items ≡ before ++ block hdr1 ∷ map block headers ++ behind
+
+-- its labels, of which at least one follows HDR1
+pub record Seconded (items : List TapeItem) (met : Met) : Type 0 where
+  pub heads : Heads items met []
+  pub hdr2 : List ℕ
+  pub more : List (List ℕ)
+  pub are : heads.headers ≡ hdr2 ∷ more
 
 -- its labels and its blocks
 pub record Fills (items : List TapeItem) (met : Met) (behind : List TapeItem) : Type 0 where
@@ -85,7 +95,7 @@ At p (Leaves n w) items = ⊤
 At Volume Follows items = items ≡ []
 At (Labels v) Follows items = IsBegun items []
 At (Second met) Follows items = Head items met (λ b. block b ∷ [])
-At (Headers met) Follows items = Heads items met []
+At (Headers met) Follows items = Seconded items met
 At (Data met) Follows items = Fills items met []
 At (Trailer met) Follows items = Fills items met (mark ∷ [])
 At (Trailers v) Follows items = Closes items
@@ -167,25 +177,64 @@ label_read items number v b true e begun = begun_label items b e begun
 label_read items number v b false e begun =
     head_read items [] (Labels v) number v b (head1_at b) refl begun
 
+label_follows : (items : List TapeItem) (met : Met) (b : List ℕ) → IsSecond b
+    → Head items met (λ c. block c ∷ []) → Seconded (items ++ block b ∷ []) met
+label_follows items met b is h = record {
+  heads = record {
+    before = h.before;
+    sections = h.sections;
+    begun = h.begun;
+    hdr1 = h.hdr1;
+    head = h.head;
+    is_head = h.is_head;
+    sect = h.sect;
+    file = h.file;
+    headers = b ∷ [];
+    second = is;
+    stands = ap (λ (r : List TapeItem). r ++ block b ∷ []) h.stands
+        ∙ append_assoc h.before (block h.hdr1 ∷ []) (block b ∷ [])
+        ∙ sym (append-nil (h.before ++ block h.hdr1 ∷ block b ∷ []));
+  };
+  hdr2 = b;
+  more = [];
+  are = refl;
+}
+
 pub second_read : (items : List TapeItem) (met : Met) (number : ℕ) (b : List ℕ) (k : Option Kind)
     → kind_at b ≡ k → Head items met (λ c. block c ∷ [])
     → At (second_with met k) (left_by number (Second met) (second_with met k))
     (items ++ block b ∷ [])
 second_read items met number b None e h = tt
-second_read items met number b (Some kinds.Hdr2) e h = record {
-  before = h.before;
-  sections = h.sections;
-  begun = h.begun;
-  hdr1 = h.hdr1;
-  head = h.head;
-  is_head = h.is_head;
-  sect = h.sect;
-  file = h.file;
-  hdr2 = b;
-  second = kind_found b kinds.Hdr2 e;
-  headers = [];
-  stands = ap (λ (r : List TapeItem). r ++ block b ∷ []) h.stands
-      ∙ append_assoc h.before (block h.hdr1 ∷ []) (block b ∷ [])
-      ∙ sym (append-nil (h.before ++ block h.hdr1 ∷ block b ∷ []));
-}
+second_read items met number b (Some kinds.Hdr2) e h =
+    label_follows items met b (inl (kind_found b kinds.Hdr2 e)) h
 second_read items met number b _ e h = tt
+
+-- or a further label
+pub further_read : (items : List TapeItem) (met : Met) (number : ℕ) (b : List ℕ) (is : Bool)
+    → is_further_header b ≡ is → Head items met (λ c. block c ∷ [])
+    → At (second_if met b is).0 (left_by number (Second met) (second_if met b is).0)
+    (items ++ block b ∷ [])
+further_read items met number b true e h = label_follows items met b (inr e) h
+further_read items met number b false e h =
+    second_read items met number b (kind_at b) refl h
+
+-- or a mark
+pub mark_read : (items : List TapeItem) (met : Met) → Head items met (λ c. block c ∷ [])
+    → Fills (items ++ mark ∷ []) met []
+mark_read items met h = record {
+  content = [];
+  no_mark = tt;
+  heads = record {
+    before = h.before;
+    sections = h.sections;
+    begun = h.begun;
+    hdr1 = h.hdr1;
+    head = h.head;
+    is_head = h.is_head;
+    sect = h.sect;
+    file = h.file;
+    headers = [];
+    second = tt;
+    stands = ap (λ (r : List TapeItem). r ++ mark ∷ []) h.stands;
+  };
+}

@@ -4,7 +4,7 @@ use Rattle.std.proofs.Common.{refl, sym, ap, subst, ◌∙◌, append_assoc, app
 use Rattle.std.proofs.{Common.flat_map, lemmas.Bool.Decides.nat_tests}
 use Rattle.tape_image.specs.Tape.{TapeItem, block, bad, mark}
 use Rattle.tape_label.specs.{declared.label.LabelFault.LabelFault, declared.values.Trail1.Trail1}
-use Rattle.tape_label.specs.{Kinds.kind_at, Trail1.IsTrail1, VolumeLabels.is_volume_label}
+use Rattle.tape_label.specs.{Trail1.IsTrail1, VolumeLabels.is_volume_label}
 use Rattle.tape_label.specs.Reading.{vol1_at, head1_at, trail1_at}
 use Rattle.tape_label.proofs.First.{trail1_found}
 use Rattle.tape_run.specs.declared.passing.Phase.TheVariants.{Volume, Labels, Second, Headers, Data}
@@ -13,12 +13,15 @@ use Rattle.tape_run.specs.declared.survey.glance.ImageSummary.{ImageSummary}
 use Rattle.tape_run.specs.declared.passing.Phase.{Phase}
 use Rattle.tape_run.specs.declared.passing.Phase.TheVariants.{Trailer, Trailers, Next, Over}
 use Rattle.tape_run.specs.declared.survey.course.LabelOrder.TheVariants.{Follows, Blank, Ended}
-use Rattle.tape_run.specs.Passing.{step, volume_with, header_with, told_with, closes}
+use Rattle.tape_run.specs.Passing.{volume_with, header_with, told_with, closes}
+use Rattle.tape_run.specs.{WidePassing.step, WideShown.AreHeaders}
+use Rattle.tape_label.specs.WideHead2.{is_further_header}
 use Rattle.tape_run.specs.SurveyGlance.{blank_glance, look_to, look_all, left_by, course_with}
 use Rattle.tape_run.specs.SurveyLaws.{IsVolumeInOrder, EndedIsVolume}
 use Rattle.tape_run.proofs.SurveyStands.{Heads, Fills, Closes, Follow, Marked, At, all_more}
 use Rattle.tape_run.proofs.SurveyStands.{joined_push, one_mark, first_label, head_read, label_read}
-use Rattle.tape_run.proofs.{ShownSections.told_if, SectionsMet.map_push, SurveyStands.second_read}
+use Rattle.tape_run.proofs.{ShownSections.told_if, SectionsMet.map_push, SurveyStands.Seconded}
+use Rattle.tape_run.proofs.SurveyStands.{further_read, mark_read}
 
 -- the same labels, followed by other items
 heads_then : (items : List TapeItem) (met met2 : Met) (behind more : List TapeItem)
@@ -34,34 +37,45 @@ heads_then items met met2 behind more same h = record {
       ∙ h.sect;
   file = ap (λ (k : Rattle.tape_run.specs.declared.section.SectionKey.SectionKey). k.file) same
       ∙ h.file;
-  hdr2 = h.hdr2;
-  second = h.second;
   headers = h.headers;
+  second = h.second;
   stands = ap (λ (r : List TapeItem). r ++ more) h.stands ∙ simp append_assoc;
 }
 
-heads_more : (items : List TapeItem) (met : Met) (b : List ℕ) → Heads items met []
-    → Heads (items ++ block b ∷ []) met []
-heads_more items met b h = record {
-  before = h.before;
-  sections = h.sections;
-  begun = h.begun;
-  hdr1 = h.hdr1;
-  head = h.head;
-  is_head = h.is_head;
-  sect = h.sect;
-  file = h.file;
-  hdr2 = h.hdr2;
-  second = h.second;
-  headers = h.headers ++ b ∷ [];
-  stands =
-      let labels : List TapeItem = block h.hdr1 ∷ block h.hdr2 ∷ [] in
-      let front : List TapeItem = h.before ++ (labels ++ map block h.headers) in
-      ap (λ (r : List TapeItem). r ++ block b ∷ []) (h.stands ∙ append-nil front)
-      ∙ append_assoc h.before (labels ++ map block h.headers) (block b ∷ [])
-      ∙ ap (λ (r : List TapeItem). h.before ++ (labels ++ r)) (map_push h.headers b)
-      ∙ sym (append-nil (h.before ++ (labels ++ map block (h.headers ++ b ∷ []))));
-}
+-- one more label after the first that follows HDR1
+still_headers : (labels more : List (List ℕ)) (hdr2 b : List ℕ) → labels ≡ hdr2 ∷ more
+    → AreHeaders labels → AreHeaders (labels ++ b ∷ [])
+still_headers [] more hdr2 b e is = absurd (cc e)
+still_headers (x ∷ xs) more hdr2 b e is = is
+
+heads_more : (items : List TapeItem) (met : Met) (b : List ℕ) → Seconded items met
+    → Seconded (items ++ block b ∷ []) met
+heads_more items met b s =
+    let h = s.heads in
+    record {
+      heads = record {
+        before = h.before;
+        sections = h.sections;
+        begun = h.begun;
+        hdr1 = h.hdr1;
+        head = h.head;
+        is_head = h.is_head;
+        sect = h.sect;
+        file = h.file;
+        headers = h.headers ++ b ∷ [];
+        second = still_headers h.headers s.more s.hdr2 b s.are h.second;
+        stands =
+            let labels : List TapeItem = block h.hdr1 ∷ [] in
+            let front : List TapeItem = h.before ++ (labels ++ map block h.headers) in
+            ap (λ (r : List TapeItem). r ++ block b ∷ []) (h.stands ∙ append-nil front)
+            ∙ append_assoc h.before (labels ++ map block h.headers) (block b ∷ [])
+            ∙ ap (λ (r : List TapeItem). h.before ++ (labels ++ r)) (map_push h.headers b)
+            ∙ sym (append-nil (h.before ++ (labels ++ map block (h.headers ++ b ∷ []))));
+      };
+      hdr2 = s.hdr2;
+      more = s.more ++ b ∷ [];
+      are = ap (λ (l : List (List ℕ)). l ++ b ∷ []) s.are;
+    }
 
 fills_none : (items : List TapeItem) (met : Met) → Heads items met []
     → Fills (items ++ mark ∷ []) met []
@@ -102,7 +116,7 @@ closed : (items : List TapeItem) (met : Met) (b : List ℕ) (trail : Trail1) →
     → Fills items met (mark ∷ []) → Closes (items ++ block b ∷ [])
 closed items met b trail is sect file h =
     let s = h.heads in
-    let front = block s.hdr1 ∷ block s.hdr2 ∷ map block s.headers in
+    let front = block s.hdr1 ∷ map block s.headers in
     let part = front ++ mark ∷ h.content ++ mark ∷ block b ∷ [] in
     record {
       before = s.before;
@@ -112,7 +126,6 @@ closed items met b trail is sect file h =
       more = [];
       whole = λ trailers. record {
         hdr1 = s.hdr1;
-        hdr2 = s.hdr2;
         headers = s.headers;
         content = h.content;
         trailer = b;
@@ -226,9 +239,11 @@ follows_on Volume items (block b) number e =
     (first_label b number (vol1_at b) refl)
 follows_on (Labels v) items (block b) number h = label_read _ number v b (is_volume_label b) refl h
 follows_on (Labels v) items mark number h = record { before = items; begun = h; stands = refl }
-follows_on (Second met) items (block b) number h = second_read items met number b (kind_at b) refl h
+follows_on (Second met) items (block b) number h =
+    further_read items met number b (is_further_header b) refl h
+follows_on (Second met) items mark number h = mark_read items met h
 follows_on (Headers met) items (block b) number h = heads_more items met b h
-follows_on (Headers met) items mark number h = fills_none items met h
+follows_on (Headers met) items mark number h = fills_none items met h.heads
 follows_on (Data met) items (block b) number h =
     fills_more _ _ (Rattle.tape_run.specs.Passing.with_block met false) _ refl (no_mark_block b) h
 follows_on (Data met) items bad number h =

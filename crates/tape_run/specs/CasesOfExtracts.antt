@@ -17,9 +17,8 @@ use Rattle.tape_core.specs.declared.sink.SinkFault.TheVariants as sink
 use Rattle.tape_run.specs.declared.fault.RunFault.TheVariants.{Sink, NoSuchPoint, TooFewReels}
 use Rattle.tape_run.specs.OutSinks.{HasTaken, IsText, RefusesText, TellsAlways, text_so_far}
 use Rattle.tape_run.specs.Reeling.{Opened, Turn, answer_of, AreTurns, IsTurn, Follows, AreSteps}
-use Rattle.tape_run.specs.Reeling.{counts_differ, IsNoted, ReadsAndNotes, goes_back, IsKeptFor}
-use Rattle.tape_run.specs.Reeling.{AreFirstTurns, AreTold, Took, step_behind, notes_behind}
-use Rattle.tape_run.specs.Reeling.{steps_of}
+use Rattle.tape_run.specs.Reeling.{counts_differ, steps_of, ReadsAndNotes, goes_back, IsKeptFor}
+use Rattle.tape_run.specs.Reeling.{AreFirstTurns, AreTold, Took, step_behind, notes_behind, IsNoted}
 use Rattle.tape_run.specs.{declared.fault.EngineFault.EngineFault, declared.fault.RunFault.RunFault}
 use Rattle.tape_run.specs.declared.fault.EngineFault.TheVariants.{Run, WriteFailed}
 use Rattle.tape_run.specs.declared.fault.RunFault.TheVariants.{OutOfMemory, OtherFile}
@@ -117,7 +116,8 @@ pub record CasesOfTurns : Type 0 where
   pub told_alone : (b : List ℕ) → AreTold (None ∷ []) (b ∷ []) → ⊥
   pub reel_read : (back spares : Bool) (core next : State) (old new : Seen) (o : Opened)
       (r : ReadsAndNotes back spares core old o next new) → (core.position ≢ Finished)
-      × IfKnown o.had o.left (λ bytes left. Reads core.position core (mount_of core) bytes left
+      × IfKnown o.had o.left (λ bytes left. Reads old.wide core.position core
+      (mount_of core) bytes left
       o.answer r.behind) × (new.place ≡ rest_of next)
   pub waits : (back spares : Bool) (core last : State) (old new : Seen)
       → Follows back spares core old (None ∷ []) last new

@@ -29,6 +29,7 @@ section_with sect blocks digest = record {
   key = record { set_id = []; file = 1; sect = sect };
   file_id = [];
   form = None;
+  has_no_second = false;
   blocks = blocks;
   certain = None;
   unreadable = 0;

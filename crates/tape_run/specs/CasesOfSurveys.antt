@@ -3,8 +3,7 @@ use Rattle.std.specs.Prelude.{◌≡◌, ◌≢◌, ◌++◌, ◌+◌, ◌&&◌,
 use Rattle.std.specs.Prelude.{◌∷◌, Option, Some, None, codes}
 use Rattle.std.specs.{List.AllByRecursion, Io.KnownBytes.Appends}
 use Rattle.tape_image.specs.{Tape.TapeItem, Tape.mark, Written.AppendsFront, Reader.IfKnown}
-use Rattle.tape_label.specs.declared.values.Kind.TheVariants as kinds
-use Rattle.tape_label.specs.{Kinds.HasKind, Vol1.IsVol1, Head1.IsHead1, Trail1.IsTrail1}
+use Rattle.tape_label.specs.{Vol1.IsVol1, Head1.IsHead1, Trail1.IsTrail1}
 use Rattle.tape_label.specs.VolumeLabels.{is_volume_label}
 use Rattle.tape_run.specs.SurveyLaws.{course_of, has_left, end_marks, IsSectionInOrder, IsBegun}
 use Rattle.tape_run.specs.SurveyLaws.{IsVolumeInOrder, IsFirstAstray, LeavesThere, EndedIsVolume}
@@ -12,13 +11,16 @@ use Rattle.tape_run.specs.{declared.survey.course.ExpectedItem.ExpectedItem, Sur
 use Rattle.tape_run.specs.{Noted.noted_all, Survey.survey_text, Survey.Surveys, Survey.SurveysFront}
 use Rattle.tape_run.specs.{declared.survey.dates.Date.Date, declared.survey.Wording.Wording}
 use Rattle.tape_run.specs.{declared.survey.view.ImageSurvey.ImageSurvey, SurveyTally.is_whole_sight}
-use Rattle.tape_run.specs.{Passing.met_in, SurveyConflicts.TellsDispute, SurveyConflicts.all_placed}
+use Rattle.tape_run.specs.{WidePassing.met_in, SurveyConflicts.TellsDispute}
+use Rattle.tape_run.specs.SurveyConflicts.{all_placed}
 use Rattle.tape_run.specs.declared.survey.course.LabelOrder.TheVariants.{Blank, Ended, Leaves}
 use Rattle.tape_run.specs.{CasesOfExtracts.Known, CasesOfExtracts.Readers, SurveySets.is_all}
 use Rattle.tape_run.specs.{Reeling.Took, SurveyLocations.located_in, SurveyLocations.next_image}
 use Rattle.tape_run.specs.Dates.{date_of, date_text}
 use Rattle.tape_run.specs.{Added.StopsBehind, SurveyGlance.glance_of, SurveyGlance.damages_in}
 use Rattle.tape_run.specs.SurveyCopies.{copied_in, disputed, disputed_on}
+use Rattle.tape_run.specs.{WideShown.AreHeaders, WideShown.IsSecond, WidePassing.IsNoAbsence}
+use Rattle.tape_run.specs.declared.{met.Met.Met, passing.Phase.TheVariants.Second}
 use Rattle.tape_run.specs.SurveyRead.{Found, nothing_found, IsViewed, AreViewed}
 
 -- a day of the calendar
@@ -30,9 +32,15 @@ pub record CasesOfSurveys : Type 0 where
   -- a section has labels with the numbers of one section, and a volume has its label and its
   -- sections
   pub section : (items : List TapeItem) (s : IsSectionInOrder items) → IsHead1 s.hdr1 s.head
-      × HasKind s.hdr2 kinds.Hdr2 × IsTrail1 s.trailer s.trail
+      × AreHeaders s.headers × IsTrail1 s.trailer s.trail
       × (s.trail.head.sect ≡ s.head.sect) × (s.trail.head.sequence ≡ s.head.sequence)
       × AllByRecursion (λ x. x ≢ mark) s.content
+  -- the first label that follows HDR1 is HDR2 or a further header label, and none may follow
+  pub first_header : (b : List ℕ) (bs : List (List ℕ)) → AreHeaders (b ∷ bs) → IsSecond b
+  pub no_header : AreHeaders []
+  pub not_any : IsSecond [] → ⊥
+  -- a mark that follows HDR1 shows that a section has no HDR2
+  pub absence : (met : Met) → IsNoAbsence (Second met) mark → ⊥
   pub begun : (items : List TapeItem) (sections : List (List TapeItem)) (b : IsBegun items sections)
       → IsVol1 b.vol1 b.label × AllByRecursion (λ l. is_volume_label l ≡ true) b.labels
       × AllByRecursion IsSectionInOrder sections

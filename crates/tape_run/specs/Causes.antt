@@ -5,6 +5,7 @@ use Rattle.tape_core.specs.{declared.sink.PartSink.Ghosts, declared.sink.SinkFau
 use Rattle.tape_core.specs.declared.sink.SinkFault.TheVariants.{Failed}
 use Rattle.tape_run.specs.declared.fault.RunFault.TheVariants.{Sink, NoSuchPoint, OutOfMemory}
 use Rattle.tape_run.specs.{declared.fault.EngineFault.EngineFault, SessionState.SessionState}
+use Rattle.tape_run.specs.declared.fault.RunFault.{RunFault}
 use Rattle.tape_run.specs.declared.fault.EngineFault.TheVariants.{Run, WriteFailed}
 use Rattle.tape_run.specs.{Seen.IsKept, Seen.IfSeen, Seen.IsSeen, Steps.IsRefused}
 
@@ -42,6 +43,20 @@ ReadingFails g = ExtractFails g g.refuses_change
 abbrev pub RefusesAny : {S : Type 0} → Ghosts S → (S → SinkFault → S → Type 0) → S → SinkFault → S
     → Type 0
 RefusesAny g walk old fault new = g.refuses_change old fault new ⊎ walk old fault new
+
+-- one of two calls of a sink was refused
+abbrev pub RefusesWalk : {S : Type 0} → (S → SinkFault → S → Type 0)
+    → (S → SinkFault → S → Type 0) → S → SinkFault → S → Type 0
+RefusesWalk one other old fault new = one old fault new ⊎ other old fault new
+
+-- why an image was not opened: the sink refused a call of a walk over its parts; or memory ran out,
+-- and it refused none
+abbrev pub OpeningFails : {S : Type 0} → Ghosts S → (S → SinkFault → S → Type 0) → RunFault
+    → SessionState S → SessionState S → Type 0
+OpeningFails g refuses (Sink cause) old new =
+    IsRefused g.refusals refuses old.sink cause new.sink
+OpeningFails g refuses OutOfMemory old new = g.refusals new.sink ≡ g.refusals old.sink
+OpeningFails g refuses fault old new = ⊥
 
 -- No call of the sink was refused, a session with checkpoints still has one, and the invariant of
 -- sessions is preserved.

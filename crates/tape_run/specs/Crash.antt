@@ -107,6 +107,7 @@ pub record IsWalked {S : Type 0} (g : Ghosts S) (old new : SessionState S) : Typ
   pub core : new.core ≡ old.core
   pub notes : new.notes ≡ old.notes
   pub failures : new.failures ≡ old.failures
+  pub wide : new.wide ≡ old.wide
   pub kept : (parts : List Portion) → g.holds old.sink parts → g.holds new.sink parts
   pub crash : BringsNoMore g old.sink new.sink
 

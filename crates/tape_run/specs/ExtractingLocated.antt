@@ -19,25 +19,26 @@ use Rattle.tape_run.specs.{SessionState.SessionState, declared.survey.files.File
 
 -- ---- an image that stays open
 
--- The session of every later file of the set skips these items.
-abbrev pub ArePassed : FileKey → List TapeItem → Type 0
-ArePassed key front = (core : State) → core.set_id ≡ key.set_id → key.file < core.file
+-- The session of every later file of the set skips these items, in that reading.
+abbrev pub ArePassed : Bool → FileKey → List TapeItem → Type 0
+ArePassed wide key front = (core : State) → core.set_id ≡ key.set_id → key.file < core.file
     → is_finished core.position ≡ false → core.phase ≢ Broken
-    → PassedOver core front (behind_of core)
+    → PassedOver wide core front (behind_of core)
 
 -- The bytes of an image begin with items that the session of every later file skips, and these
 -- bytes are left.
-pub record PassesTo (key : FileKey) (bytes left : List ℕ) : Type 0 where
+pub record PassesTo (wide : Bool) (key : FileKey) (bytes left : List ℕ) : Type 0 where
   pub front : List TapeItem
   pub at : ℕ
   pub walks : Walks 0 bytes front at left
-  pub passed : ArePassed key front
+  pub passed : ArePassed wide key front
 
 -- The open image, if any, has these bytes, and later files' sessions continue where its reader is.
-abbrev pub IsHeld : {R : Type 0} → (R → Option (List ℕ)) → Option (Mounted R) → Option (List ℕ)
+abbrev pub IsHeld : {R : Type 0} → Bool → (R → Option (List ℕ)) → Option (Mounted R) → Option
+    (List ℕ)
     → Type 0
-IsHeld remaining None whole = ⊤
-IsHeld remaining (Some m) whole = IfKnown whole (remaining m.device) (PassesTo m.file)
+IsHeld wide remaining None whole = ⊤
+IsHeld wide remaining (Some m) whole = IfKnown whole (remaining m.device) (PassesTo wide m.file)
 
 -- ---- what a session reads
 
@@ -62,13 +63,14 @@ pub record ReadsOn (s : Stretch) (old new : Seen) : Type 0 where
   pub given : List ℕ
   pub is_given : IfKnown s.whole s.had (λ bytes had. IsGiven s.failed had s.left given)
   pub same_file : IsSome s.whole → new.place.file ≡ old.place.file
+  pub same_wide : IsSome s.whole → new.wide ≡ old.wide
   pub reads : IsSome s.whole → (set : FileSet) (h : MountEvent) (xs : List TapeItem) (end : ℕ)
       (stop : Stop) → IsLawful set → Begins 0 given xs end stop → IsMount set (s.front ++ xs) h
       → IsPlaced set old.place old.parts
       → ReadBy set old.place.file old.place.position h new.place new.parts
   pub table : IsSome s.whole → (xs : List TapeItem) (end : ℕ) (stop : Stop)
       → Begins 0 given xs end stop
-      → IsLed (s.front ++ xs) (mount_of old.place) new.place old.parts new.parts
+      → IsLed old.wide (s.front ++ xs) (mount_of old.place) new.place old.parts new.parts
 
 -- The stretches, one after another, took the session from one state to another.
 abbrev pub FollowsOn : Seen → List Stretch → Seen → Type 0
@@ -107,7 +109,7 @@ pub record ReadsPart {S R : Type 0} (g : Ghosts S) (remaining : R → Option (Li
   pub of_image : stretch.whole ≡ whole
   pub is_part : IsPartOf stretch
   pub reads : IfSeen g old (λ was. IsSeen g new (λ is. ReadsOn stretch was is))
-  pub held : IsHeld remaining after whole
+  pub held : IsHeld new.wide remaining after whole
 
 -- A stretch was read from the open image, or from the image with this number, which the source
 -- yielded. Or that image cannot be opened, and nothing changed.
@@ -142,7 +144,7 @@ pub record ReadsSections {S L R : Type 0} (g : Ghosts S) (gives : Mounting L R)
   pub mid : L
   pub are_from : AreFrom (BeginsOn locations old.core) gives remaining opened whole shelf stretches
       mid
-  pub held : IsHeld remaining after (held_behind whole stretches)
+  pub held : IsHeld new.wide remaining after (held_behind whole stretches)
   pub follows : IfSeen g old (λ was. IsSeen g new (λ is. FollowsOn was stretches is))
   pub ends : EndsReading gives locations stretches new.core mid left complete
 

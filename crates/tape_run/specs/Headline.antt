@@ -40,6 +40,7 @@ pub record HasRun (old : Seen) (steps : List Step) (bytes : List (List ℕ))
   pub ran : (set : FileSet) (hs : List MountEvent) → IsLawful set
       → IsHistory set (length old.notes) steps given hs → IsSession set old → Ran set old hs new
   pub led : LeadsBy old steps given new
+  pub same_wide : new.wide ≡ old.wide
 
 -- ---- a session that begins a file
 
@@ -78,7 +79,7 @@ pub record IsRead (set_id : List ℕ) (file : ℕ) (steps : List Step) (bytes : 
       → (course_of s ≡ course set file begins hs)
       × (s.parts ≡ before set file (course set file begins hs).at)
   pub led : (reels : List (List TapeItem)) → AreItems given reels
-      → StandsThere (lead (at_start set_id file) steps reels) s
+      → StandsThere (lead (at_start s.wide set_id file) steps reels) s
 
 -- ---- a fault ended the run
 

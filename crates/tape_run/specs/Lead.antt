@@ -1,5 +1,6 @@
 -- Where the reader's table leads a run, for any reels, without reference to a set.
-use Rattle.std.specs.Prelude.{◌≡◌, ℕ, ◌+◌, List, [], ◌∷◌, ◌++◌, take, Option, Some, None, slice_get}
+use Rattle.std.specs.Prelude.{◌≡◌, ℕ, ◌+◌, Bool, List, [], ◌∷◌, ◌++◌, take, Option, Some, None}
+use Rattle.std.specs.Prelude.{slice_get}
 use Rattle.std.specs.Prelude.{⊤}
 use Rattle.tape_blocks.specs.Block.{Portion}
 use Rattle.tape_image.specs.{Tape.TapeItem, Begins.Stop, Begins.Begins}
@@ -16,22 +17,30 @@ pub record Noted : Type 0 where
   pub place : State
   pub parts : List Portion
 
--- the state of the reader, the parts that were delivered, and the checkpoints, the oldest first
+-- the state of the reader, the parts that were delivered, the checkpoints, the oldest first, and
+-- whether reels are read in the wider reading
 pub record Lead : Type 0 where
   pub place : State
   pub parts : List Portion
   pub notes : List Noted
+  pub wide : Bool
 
 -- the start of a file
-abbrev pub at_start : List ℕ → ℕ → Lead
-at_start set_id file = record { place = reader_of set_id file; parts = []; notes = [] }
+abbrev pub at_start : Bool → List ℕ → ℕ → Lead
+at_start wide set_id file = record {
+  place = reader_of set_id file;
+  parts = [];
+  notes = [];
+  wide = wide;
+}
 
 -- after a reel with these items
 abbrev pub over_reel : Lead → List TapeItem → Lead
 over_reel t xs = record {
-  place = rest_of (behind_items (mount_of t.place) xs);
-  parts = t.parts ++ delivered_parts (mount_of t.place) xs;
+  place = rest_of (behind_items t.wide (mount_of t.place) xs);
+  parts = t.parts ++ delivered_parts t.wide (mount_of t.place) xs;
   notes = t.notes;
+  wide = t.wide;
 }
 
 -- with one more checkpoint
@@ -40,6 +49,7 @@ over_save t = record {
   place = t.place;
   parts = t.parts;
   notes = t.notes ++ record { place = t.place; parts = t.parts } ∷ [];
+  wide = t.wide;
 }
 
 -- after a rollback to checkpoint n, if it exists, with no reading under way: the later checkpoints
@@ -50,6 +60,7 @@ back_to t n (Some note) = record {
   place = record note.place { phase = Over };
   parts = note.parts;
   notes = take (n + 1) t.notes;
+  wide = t.wide;
 }
 
 -- after these steps, over reels with these items
@@ -82,6 +93,7 @@ pub record StandsThere (t : Lead) (s : Seen) : Type 0 where
   pub place : s.place ≡ t.place
   pub parts : s.parts ≡ t.parts
   pub notes : AreNoted [] t.notes s.notes s.parts
+  pub wide : s.wide ≡ t.wide
 
 -- The steps lead a session to where the table leads, for any items of its reels.
 abbrev pub LeadsBy : Seen → List Step → List (List ℕ) → Seen → Type 0
@@ -98,5 +110,5 @@ ItemsAreThere = (given : List (List ℕ)) → (reels : List (List TapeItem)) × 
 abbrev pub StopsBy : Lead → Step → List (List ℕ) → RunFault → Seen → Type 0
 StopsBy t Reel (bytes ∷ readers) (Sink cause) new = AreNoted [] t.notes new.notes new.parts
     × ((xs : List TapeItem) (end : ℕ) (stop : Stop) → Begins 0 bytes xs end stop
-    → IsCutAt xs (mount_of t.place) new.place t.parts new.parts)
+    → IsCutAt t.wide xs (mount_of t.place) new.place t.parts new.parts)
 StopsBy t step readers fault new = StandsThere t new

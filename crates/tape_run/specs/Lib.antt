@@ -55,6 +55,7 @@ pub mod CheckExamples
 pub mod SurveyGaps
 pub mod SurveyGlance
 pub mod SurveyFiles
+pub mod SurveyFits
 pub mod SurveyDigest
 pub mod SurveyCopies
 pub mod SurveyTally
@@ -84,6 +85,7 @@ pub mod ReelLine
 pub mod RecordText
 pub mod OutSinks
 pub mod Causes
+pub mod Comparing
 pub mod Reeling
 pub mod Stopping
 pub mod Rounds
@@ -138,3 +140,5 @@ pub mod CasesOfLaws
 pub mod CasesOfSurveys
 pub mod CasesOfUnpacking
 pub mod CasesOfSalvage
+pub mod WidePassing
+pub mod WideShown

@@ -109,7 +109,7 @@ pub record ReadsAndNotes (back spares : Bool) (core : State) (old : Seen) (o : O
   pub waits : core.position ≢ Finished
   pub behind : State
   pub answers : IfKnown o.had o.left
-      (λ bytes left. Reads core.position core (mount_of core) bytes left o.answer behind)
+      (λ bytes left. Reads old.wide core.position core (mount_of core) bytes left o.answer behind)
   pub reeled : IfSome o.had (λ bytes. (mid : Seen)
       × Reeled bytes o.left (is_device o.answer.fault) old mid
       × IsNoted back spares (counts_differ o.answer.answer) o.noted mid new)

@@ -1,5 +1,5 @@
 -- The answer of a reel: the core's answers to the items that the reader returned, one after
--- another.
+-- another, in the wider reading (`wide`) or in that of the table.
 use Rattle.std.specs.Prelude.{◌≡◌, ◌⊎◌, ℕ, ◌+◌, ◌≤◌, Bool, List, [], ◌∷◌, ◌++◌, Option, Some, None}
 use Rattle.std.specs.{Prelude.⊤, List.AllByRecursion}
 use Rattle.tape_image.specs.{declared.item.ImageFault.ImageFault, declared.item.Ending.Ending}
@@ -8,7 +8,7 @@ use Rattle.tape_image.specs.Step.{TakesEnd, TakesFault}
 use Rattle.tape_core.specs.{declared.event.Answer.Answer, State.State, Point.Point, Follows.IsFinal}
 use Rattle.tape_core.specs.declared.event.Answer.TheVariants.{Passed, Deliver, Complete}
 use Rattle.tape_core.specs.Place.{rest_of, place_of}
-use Rattle.tape_core.specs.Table.{step_of, saved}
+use Rattle.tape_core.specs.{Table.saved, Wide.step_by}
 use Rattle.tape_set.specs.{Position.part_of, declared.position.Position.Position}
 use Rattle.tape_set.specs.declared.position.Position.TheVariants.{Awaits, Finished}
 use Rattle.tape_run.specs.{declared.reel_reader.ReelAnswer.ReelAnswer, Puts.refused_point}
@@ -16,14 +16,15 @@ use Rattle.tape_run.specs.declared.fault.RunFault.{RunFault}
 use Rattle.tape_run.specs.declared.fault.RunFault.TheVariants.{Sink, OutOfMemory}
 
 -- the core after these items
-abbrev pub behind_items : State → List TapeItem → State
-behind_items core [] = core
-behind_items core (x ∷ xs) = behind_items (step_of core (Some x)).1 xs
+abbrev pub behind_items : Bool → State → List TapeItem → State
+behind_items wide core [] = core
+behind_items wide core (x ∷ xs) = behind_items wide (step_by wide core (Some x)).1 xs
 
 -- its answers to them
-abbrev pub answers_to : State → List TapeItem → List Answer
-answers_to core [] = []
-answers_to core (x ∷ xs) = (step_of core (Some x)).0 ∷ answers_to (step_of core (Some x)).1 xs
+abbrev pub answers_to : Bool → State → List TapeItem → List Answer
+answers_to wide core [] = []
+answers_to wide core (x ∷ xs) = (step_by wide core (Some x)).0 ∷ answers_to wide
+    (step_by wide core (Some x)).1 xs
 
 -- the reading continues after this answer
 abbrev pub GoesOn : Answer → Type 0
@@ -37,10 +38,10 @@ delivered_by (answer ∷ answers) = delivered_by answers
 
 -- The bytes begin with these items, after each of which the reading continued; then an item ended
 -- it, nothing after that was taken, and the core has its new state.
-pub record EndedByItem (core : State) (items : List TapeItem) (bytes left : List ℕ)
+pub record EndedByItem (wide : Bool) (core : State) (items : List TapeItem) (bytes left : List ℕ)
     (answer : ReelAnswer) (new : State) : Type 0 where
   pub item : TapeItem
-  pub last : (answer.answer, new) ≡ step_of (behind_items core items) (Some item)
+  pub last : (answer.answer, new) ≡ step_by wide (behind_items wide core items) (Some item)
   pub final : IsFinal answer.answer
   pub no_fault : answer.fault ≡ None
   pub at : ℕ
@@ -48,9 +49,9 @@ pub record EndedByItem (core : State) (items : List TapeItem) (bytes left : List
 
 -- The bytes begin with these items, after each of which the reading continued; then the medium
 -- ended.
-pub record EndedByMedium (core : State) (items : List TapeItem) (bytes left : List ℕ)
+pub record EndedByMedium (wide : Bool) (core : State) (items : List TapeItem) (bytes left : List ℕ)
     (answer : ReelAnswer) (new : State) : Type 0 where
-  pub last : (answer.answer, new) ≡ step_of (behind_items core items) None
+  pub last : (answer.answer, new) ≡ step_by wide (behind_items wide core items) None
   pub no_fault : answer.fault ≡ None
   pub ending : Ending
   pub at : ℕ
@@ -58,9 +59,9 @@ pub record EndedByMedium (core : State) (items : List TapeItem) (bytes left : Li
 
 -- The bytes begin with these items, after each of which the reading continued; then the image had a
 -- fault, which is reported.
-pub record EndedByFault (core : State) (items : List TapeItem) (bytes left : List ℕ)
+pub record EndedByFault (wide : Bool) (core : State) (items : List TapeItem) (bytes left : List ℕ)
     (answer : ReelAnswer) (new : State) : Type 0 where
-  pub last : (answer.answer, new) ≡ step_of (behind_items core items) None
+  pub last : (answer.answer, new) ≡ step_by wide (behind_items wide core items) None
   pub fault : ImageFault
   pub told : answer.fault ≡ Some fault
   pub taken : TakesFault 0 items fault bytes left
@@ -68,14 +69,15 @@ pub record EndedByFault (core : State) (items : List TapeItem) (bytes left : Lis
 -- A core at the start of a reel took the items that the bytes begin with, up to the one, the end or
 -- the fault that ended the reading; what is left was not read. The answer is the core's last one,
 -- with the fault and the blocks delivered.
-pub record ReadsReel (core : State) (bytes left : List ℕ) (answer : ReelAnswer) (new : State)
+pub record ReadsReel (wide : Bool) (core : State) (bytes left : List ℕ) (answer : ReelAnswer)
+    (new : State)
     : Type 0 where
   pub items : List TapeItem
-  pub on : AllByRecursion GoesOn (answers_to core items)
-  pub blocks : answer.blocks ≡ delivered_by (answers_to core items)
-  pub ended : EndedByItem core items bytes left answer new
-      ⊎ (EndedByMedium core items bytes left answer new
-      ⊎ EndedByFault core items bytes left answer new)
+  pub on : AllByRecursion GoesOn (answers_to wide core items)
+  pub blocks : answer.blocks ≡ delivered_by (answers_to wide core items)
+  pub ended : EndedByItem wide core items bytes left answer new
+      ⊎ (EndedByMedium wide core items bytes left answer new
+      ⊎ EndedByFault wide core items bytes left answer new)
 
 -- A part of the block between these two checkpoints was refused, the expected one or a later one,
 -- and the core's position is that part.
@@ -84,27 +86,27 @@ StopsAt before after new = (part : ℕ) × (begun : Bool) × (part_of before.pos
     × (rest_of new ≡ place_of (refused_point before after part begun))
 
 -- The same up to a block that was delivered and of which the sink refused a part.
-pub record ReadsToBlock (new core : State) (bytes left : List ℕ) : Type 0 where
+pub record ReadsToBlock (wide : Bool) (new core : State) (bytes left : List ℕ) : Type 0 where
   pub items : List TapeItem
-  pub on : AllByRecursion GoesOn (answers_to core items)
+  pub on : AllByRecursion GoesOn (answers_to wide core items)
   pub content : List ℕ
-  pub delivers : (step_of (behind_items core items) (Some (block content))).0 ≡ Deliver
-  pub stops : StopsAt (saved (behind_items core items) 0)
-      (saved (step_of (behind_items core items) (Some (block content))).1 0) new
+  pub delivers : (step_by wide (behind_items wide core items) (Some (block content))).0 ≡ Deliver
+  pub stops : StopsAt (saved (behind_items wide core items) 0)
+      (saved (step_by wide (behind_items wide core items) (Some (block content))).1 0) new
   pub at : ℕ
   pub taken : Walks 0 bytes (items ++ block content ∷ []) at left
 
 -- The answer of a reel, its unread bytes, and the state then: for a complete file nothing is read,
 -- otherwise the reel is read from the state in which it is mounted.
-abbrev pub Reads : Position → State → State → List ℕ → List ℕ → ReelAnswer → State → Type 0
-Reads Finished core mounted bytes left answer new = (left ≡ bytes) × (answer.answer ≡ Complete)
+abbrev pub Reads : Bool → Position → State → State → List ℕ → List ℕ → ReelAnswer → State → Type 0
+Reads wide Finished core mounted bytes left answer new = (left ≡ bytes) × (answer.answer ≡ Complete)
     × (answer.fault ≡ None) × (answer.blocks ≡ 0) × (new ≡ core)
-Reads (Awaits sect number part) core mounted bytes left answer new =
-    ReadsReel mounted bytes left answer new
+Reads wide (Awaits sect number part) core mounted bytes left answer new =
+    ReadsReel wide mounted bytes left answer new
 
 -- The unread bytes of a reel that was not read to its end, if they are known, and the state then:
 -- the bytes after the refused block, or all bytes if memory was refused.
-abbrev pub Leaves : RunFault → State → Option (List ℕ) → Option (List ℕ) → State → Type 0
-Leaves (Sink cause) core old left new = IfKnown old left (ReadsToBlock new core)
-Leaves OutOfMemory core old left new = left ≡ old
-Leaves fault core old left new = ⊤
+abbrev pub Leaves : Bool → RunFault → State → Option (List ℕ) → Option (List ℕ) → State → Type 0
+Leaves wide (Sink cause) core old left new = IfKnown old left (ReadsToBlock wide new core)
+Leaves wide OutOfMemory core old left new = left ≡ old
+Leaves wide fault core old left new = ⊤

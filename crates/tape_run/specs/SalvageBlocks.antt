@@ -6,6 +6,7 @@ use Rattle.tape_image.specs.{Tape.TapeItem, Tape.block, Tape.bad, Tape.mark, Wri
 use Rattle.tape_blocks.specs.declared.check.BlockFault.{BlockFault}
 use Rattle.tape_set.specs.Lawful.{FileForm}
 use Rattle.tape_run.specs.SalvageRecords.{Piece, Start, HasPiece, nothing, mended, found_fault}
+use Rattle.tape_run.specs.SalvageRecords.{taken}
 use Rattle.tape_run.specs.{SalvageWalk.first_of, SalvageRecords.torn, SalvageRecords.is_cut}
 use Rattle.tape_run.specs.SalvageLine.{gap_line, torn_line, refused_line}
 use Rattle.tape_run.specs.declared.salvage.recovery.Recovery.{Recovery}
@@ -29,7 +30,7 @@ gap_text sect (Some first) next records = gap_line sect first (next - 1) records
 abbrev pub torn_text : Bool → ℕ → ℕ → ℕ → List ℕ
 torn_text is sect n records = if is then torn_line sect n records else []
 
--- the lines of a block that contains no records
+-- the lines of a block with a fault; a record that is unfinished there is left out
 abbrev pub refused_text : ℕ → ℕ → Option BlockFault → Bool → ℕ → List ℕ
 refused_text sect n None begun records = []
 refused_text sect n (Some fault) begun records =
@@ -54,7 +55,8 @@ abbrev pub with_block_text : ℕ → Option FileForm → ℕ → List ℕ → Sa
 with_block_text sect form n b g =
     gap_text sect g.gap n g.piece.records
     ++ (torn_text (is_cut form g.piece b) sect n g.piece.records
-    ++ refused_text sect n (found_fault form g.piece b) g.piece.begun g.piece.records)
+    ++ refused_text sect n (found_fault form g.piece b) (taken form g.piece b).begun
+    (taken form g.piece b).records)
 
 -- an item was read: the data item of the section with this number, or an item that is not one of
 -- its data

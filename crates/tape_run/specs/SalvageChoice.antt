@@ -4,6 +4,7 @@ use Rattle.std.specs.Prelude.{List, [], ◌∷◌, ◌++◌, Option, Some, None,
 use Rattle.std.specs.List.{AllByRecursion}
 use Rattle.tape_set.specs.Lawful.{FileForm}
 use Rattle.tape_run.specs.{declared.salvage.copies.SectionCopy.SectionCopy, SalvageCopies.rank}
+use Rattle.tape_run.specs.SalvageWalk.{absent_form, form_or}
 
 -- the copies of a section that are considered: the first one on each image
 abbrev pub is_on : ℕ → Option ℕ → Bool
@@ -25,9 +26,19 @@ IsBest cs (Some b) = (front rest : List SectionCopy) × (cs ≡ front ++ b ∷ r
     × AllByRecursion (λ c. rank c < rank b) front × AllByRecursion (λ c. rank c ≤ rank b) rest
 
 -- the form of the file's blocks that the first label with a form records
+abbrev pub recorded_form : List SectionCopy → Option FileForm
+recorded_form [] = None
+recorded_form (c ∷ cs) = if is_some c.section.form then c.section.form else recorded_form cs
+
+-- the form of the first section without HDR2
+abbrev pub absent_form_in : List SectionCopy → Option FileForm
+absent_form_in [] = None
+absent_form_in (c ∷ cs) =
+    if c.section.has_no_second then Some (absent_form c.section.file_id) else absent_form_in cs
+
+-- the form of the file's blocks: that which a label records, or else that of a section without HDR2
 abbrev pub form_of_file : List SectionCopy → Option FileForm
-form_of_file [] = None
-form_of_file (c ∷ cs) = if is_some c.section.form then c.section.form else form_of_file cs
+form_of_file cs = form_or (recorded_form cs) (absent_form_in cs)
 
 -- the greatest number of a section
 abbrev pub last_section : List SectionCopy → ℕ

@@ -5,13 +5,16 @@
 -- label with its numbers; then the marks before and after its data were read, and all items between
 -- them are its data. If HDR1 was not read, the items between two tape marks are the data of the
 -- section whose trailer label follows, provided that it counts as many blocks.
-use Rattle.std.specs.Prelude.{ℕ, ◌+◌, ◌-◌, min, ◌==◌, ◌&&◌, nat_lt, Bool, if◌then◌else◌, List, []}
+use Rattle.std.specs.Prelude.{ℕ, ◌+◌, ◌-◌, min, ◌==◌, ◌&&◌, nat_lt, Bool, true, false, List, []}
+use Rattle.std.specs.Prelude.{if◌then◌else◌}
 use Rattle.std.specs.Prelude.{◌∷◌, ◌++◌, Option, Some, None, option_map, Result, Ok, Err}
 use Rattle.tape_image.specs.Tape.{TapeItem, block, bad, mark}
 use Rattle.tape_label.specs.declared.values.{Kind.Kind, Head1.Head1, Head2.Head2, Trail1.Trail1}
 use Rattle.tape_label.specs.declared.label.LabelFault.{LabelFault}
 use Rattle.tape_label.specs.declared.values.Kind.TheVariants as kinds
-use Rattle.tape_label.specs.{Kinds.kind_at, Reading.head1_at, Reading.head2_at, Reading.trail1_at}
+use Rattle.tape_label.specs.{Kinds.kind_at, Reading.head1_at, Reading.trail1_at}
+use Rattle.tape_label.specs.{Reading.wide_head2_at, WideHead2.absent_head2}
+use Rattle.tape_label.specs.WideHead2.{is_further_header}
 use Rattle.tape_set.specs.Lawful.{FileForm, binding_len, label_count}
 use Rattle.tape_core.specs.{Known.known_of, Range.form_in_range}
 use Rattle.tape_run.specs.SurveyDigest.{digest_with}
@@ -57,6 +60,7 @@ section_by h = record {
   key = record { set_id = h.set_id; file = h.sequence; sect = h.sect };
   file_id = h.file_id;
   form = None;
+  has_no_second = false;
   blocks = 0;
   certain = None;
   unreadable = 0;
@@ -73,10 +77,18 @@ begun_by (Err _) other = other
 abbrev pub form_of : List ℕ → Head2 → FileForm
 form_of file_id g = known_of g.format (binding_len g.format g.rec_len) g.offset file_id
 
+-- the form of a section without HDR2: each block is one record
+abbrev pub absent_form : List ℕ → FileForm
+absent_form file_id = form_of file_id absent_head2
+
 abbrev pub form_by : List ℕ → Result Head2 LabelFault → Option FileForm
 form_by file_id (Ok g) =
     if form_in_range (form_of file_id g) then Some (form_of file_id g) else None
 form_by file_id (Err _) = None
+
+-- the section after what is in place of its second label, which shows that it has none or does not
+abbrev pub with_second : Bool → OpenSection → OpenSection
+with_second is_absent u = record u { has_no_second = is_absent }
 
 -- after a block at which a second label is expected
 abbrev pub second_by : OpenSection → Option Kind → Result Head2 LabelFault → Expected
@@ -179,9 +191,10 @@ abbrev pub step : Expected → TapeItem → Expected × Option FoundSection
 step (Outside n) (block b) = (outside_by n (kind_at b) (head1_at b), None)
 step (Outside n) bad = (outside_bad n, None)
 step (Outside n) mark = (outside_mark n, None)
-step (Second u) (block b) = (second_by u (kind_at b) (head2_at b), None)
+step (Second u) (block b) =
+    (second_by (with_second (is_further_header b) u) (kind_at b) (wide_head2_at b), None)
 step (Second u) bad = (Headers (doubted u), None)
-step (Second u) mark = (Data u, None)
+step (Second u) mark = (Data (with_second true u), None)
 step (Headers u) (block b) = (Headers u, None)
 step (Headers u) bad = (Headers (doubted u), None)
 step (Headers u) mark = (Data u, None)
@@ -191,7 +204,7 @@ step (Data u) mark = (Trailer u, None)
 step (Trailer u) (block b) = closed_by u (trail1_at b) (head1_at b)
 step (Trailer u) bad = (Outside 0, Some (u, None))
 step (Trailer u) mark = (Outside 1, Some (u, None))
-step (Trailers u k) (block b) = (Trailers (with_trailer u (head2_at b)) k, None)
+step (Trailers u k) (block b) = (Trailers (with_trailer u (wide_head2_at b)) k, None)
 step (Trailers u k) bad = (Outside 0, Some (u, Some k))
 step (Trailers u k) mark = (Next, Some (u, Some k))
 step Next (block b) = (begun_by (head1_at b) (Outside 0), None)

@@ -1,5 +1,5 @@
 -- A session whose sink contains these parts.
-use Rattle.std.specs.Prelude.{◌≡◌, ℕ, List, [], ◌∷◌}
+use Rattle.std.specs.Prelude.{◌≡◌, ℕ, Bool, List, [], ◌∷◌}
 use Rattle.tape_blocks.specs.Block.{Portion}
 use Rattle.tape_set.specs.Layout.{FileSet}
 use Rattle.tape_core.specs.{Point.Point, State.State, Place.IsPlaced, Place.rest_of, Weight.IsFront}
@@ -7,13 +7,15 @@ use Rattle.tape_core.specs.{Stands.Stands, Stands.weight_of, declared.sink.PartS
 use Rattle.tape_run.specs.SessionState.{SessionState}
 
 -- a session between two calls: its core, the parts that its sink contains, its checkpoints, how
--- many readers failed, and how many calls the sink refused
+-- many readers failed, how many calls the sink refused, and whether it reads reels in the wider
+-- reading
 pub record Seen : Type 0 where
   pub place : State
   pub parts : List Portion
   pub notes : List Point
   pub failures : ℕ
   pub refusals : ℕ
+  pub wide : Bool
 
 -- The checkpoints are valid for prefixes of the parts, each at least as long as the one before, and
 -- the first at least as long as the given prefix.
@@ -53,6 +55,7 @@ seen g s parts = record {
   notes = s.notes;
   failures = s.failures;
   refusals = g.refusals s.sink;
+  wide = s.wide;
 }
 
 -- For any parts that its sink contains, this is true of the session with these parts.

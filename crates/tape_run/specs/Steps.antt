@@ -36,13 +36,14 @@ pub record ReeledFrom (start : State) (bytes : List ℕ) (left : Option (List �
   pub same_set : new.place.set_id ≡ old.place.set_id
   pub same_file : new.place.file ≡ old.place.file
   pub calm : new.refusals ≡ old.refusals
+  pub same_wide : new.wide ≡ old.wide
   pub grows : IsFront old.parts new.parts
   pub reads : (set : FileSet) (front xs : List TapeItem) (end : ℕ) (stop : Stop) (h : MountEvent)
-      → IsLawful set → PassedOver old.place front start → Begins 0 given xs end stop
+      → IsLawful set → PassedOver old.wide old.place front start → Begins 0 given xs end stop
       → IsMount set (front ++ xs) h → IsPlaced set old.place old.parts
       → ReadBy set old.place.file old.place.position h new.place new.parts
   pub table : (xs : List TapeItem) (end : ℕ) (stop : Stop) → Begins 0 given xs end stop
-      → IsLed xs start new.place old.parts new.parts
+      → IsLed old.wide xs start new.place old.parts new.parts
 
 -- A reel was mounted and read.
 abbrev pub Reeled : List ℕ → Option (List ℕ) → Bool → Seen → Seen → Type 0
@@ -55,6 +56,7 @@ pub record Saved (old new : Seen) : Type 0 where
   pub notes : new.notes ≡ old.notes ++ saved old.place (weight_of old.parts) ∷ []
   pub count : new.failures ≡ old.failures
   pub calm : new.refusals ≡ old.refusals
+  pub same_wide : new.wide ≡ old.wide
 
 -- The session rolled back to a checkpoint, with the first parts up to its weight, and dropped the
 -- later checkpoints.
@@ -67,6 +69,7 @@ pub record WentBack (n : ℕ) (old new : Seen) : Type 0 where
   pub notes : new.notes ≡ take (n + 1) old.notes
   pub count : new.failures ≡ old.failures
   pub calm : new.refusals ≡ old.refusals
+  pub same_wide : new.wide ≡ old.wide
 
 -- the session has the position of the checkpoint with this number
 abbrev pub IsAtNote : {S : Type 0} → ℕ → SessionState S → SessionState S → Type 0
@@ -96,13 +99,14 @@ pub record CutShort (start : State) (bytes : List ℕ) (old new : Seen) : Type 0
   pub notes : new.notes ≡ old.notes
   pub same_set : new.place.set_id ≡ old.place.set_id
   pub same_file : new.place.file ≡ old.place.file
+  pub same_wide : new.wide ≡ old.wide
   pub grows : IsFront old.parts new.parts
   pub stops : (set : FileSet) (front xs : List TapeItem) (end : ℕ) (stop : Stop) (h : MountEvent)
-      → IsLawful set → PassedOver old.place front start → Begins 0 bytes xs end stop
+      → IsLawful set → PassedOver old.wide old.place front start → Begins 0 bytes xs end stop
       → IsMount set (front ++ xs) h → IsPlaced set old.place old.parts
       → StoppedBy set old.place.file old.place.position (front ++ xs) h new.place new.parts
   pub table : (xs : List TapeItem) (end : ℕ) (stop : Stop) → Begins 0 bytes xs end stop
-      → IsCutAt xs start new.place old.parts new.parts
+      → IsCutAt old.wide xs start new.place old.parts new.parts
 
 -- the session as before, except for the count of refused calls
 pub record Unmoved (old new : Seen) : Type 0 where
@@ -110,6 +114,7 @@ pub record Unmoved (old new : Seen) : Type 0 where
   pub parts : new.parts ≡ old.parts
   pub notes : new.notes ≡ old.notes
   pub count : new.failures ≡ old.failures
+  pub same_wide : new.wide ≡ old.wide
 
 -- The state after a reel that was not read to its end, because memory was refused before, or
 -- because the sink refused a part. Whether the sink did refuse a call is in `Refuses`.

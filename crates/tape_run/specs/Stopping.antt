@@ -59,6 +59,7 @@ pub record HasReadOn (old new : Seen) : Type 0 where
   pub same_set : new.place.set_id ≡ old.place.set_id
   pub same_file : new.place.file ≡ old.place.file
   pub kept : IsKept old → IsKept new
+  pub same_wide : new.wide ≡ old.wide
 
 -- the same, for any parts of its sink
 abbrev pub ReadsOnly : {S : Type 0} → Ghosts S → SessionState S → SessionState S → Type 0

@@ -4,14 +4,15 @@ use Rattle.std.specs.{Prelude.None, Prelude.option_map, List.AllByRecursion}
 use Rattle.tape_image.specs.Tape.{TapeItem}
 use Rattle.tape_run.specs.{declared.section.SectionKey.SectionKey, Checked.Reel, Passing.Told}
 use Rattle.tape_run.specs.{declared.survey.view.ImageSurvey.ImageSurvey, Reeling.Mounting}
-use Rattle.tape_run.specs.{Shown.Shown, SurveyRead.Found, SurveyRead.IsViewed, SurveyRead.AreViewed}
+use Rattle.tape_run.specs.{WideShown.WideShown, SurveyRead.Found, SurveyRead.IsViewed}
+use Rattle.tape_run.specs.SurveyRead.{AreViewed}
 use Rattle.tape_run.specs.SurveyCopies.{Copy, Noted, copies_on, noted_at, differs}
 
 -- ---- a good copy
 
 -- The items show this good section, and these are its data blocks.
 pub record ShownAs (items : List TapeItem) (t : Told) (blocks : List (List ℕ)) : Type 0 where
-  pub shown : Shown items t.0 t.1
+  pub shown : WideShown items t.0 t.1
   pub blocks_are : shown.content ≡ blocks
 
 -- Each good copy that is compared is one that the items show, with all its data blocks.

@@ -3,11 +3,11 @@ use Rattle.std.specs.Prelude.{ℕ, ◌+◌, ◌==◌, ◌&&◌, min, Bool, true,
 use Rattle.std.specs.Prelude.{◌∷◌, ◌++◌, Option, Some, None, is_some, option_map}
 use Rattle.std.specs.{List.flat_map, Map.lookup, Option.option_or}
 use Rattle.indexmap.specs.IndexMap.{insert_entry}
-use Rattle.tape_image.specs.Tape.{TapeItem, block, bad, mark}
+use Rattle.tape_image.specs.Tape.{TapeItem, block, mark}
 use Rattle.tape_run.specs.declared.survey.{copies.CopyNote.CopyNote, files.FileKey.FileKey}
 use Rattle.tape_run.specs.declared.{passing.Phase.Phase, section.SectionKey.SectionKey}
-use Rattle.tape_run.specs.declared.passing.Phase.TheVariants.{Volume, Headers, Data}
-use Rattle.tape_run.specs.{Noted.same_key, Noted.is_good, Passing.Told, Passing.step}
+use Rattle.tape_run.specs.declared.passing.Phase.TheVariants.{Volume, Second, Headers, Data}
+use Rattle.tape_run.specs.{Noted.same_key, Noted.is_good, Passing.Told, WidePassing.step}
 use Rattle.tape_run.specs.{SurveyDigest.digest_of, SurveyDigest.digest_with, SurveyFiles.same_file}
 use Rattle.tape_run.specs.{SurveyFiles.file_key, Lacks.key_at}
 
@@ -19,6 +19,7 @@ Copy = Told × List (List ℕ)
 
 -- the data blocks of the section that is being read, after one more item
 abbrev pub blocks_with : List (List ℕ) → Phase → TapeItem → List (List ℕ)
+blocks_with blocks (Second met) mark = []
 blocks_with blocks (Headers met) mark = []
 blocks_with blocks (Data met) (block b) = blocks ++ b ∷ []
 blocks_with blocks p x = blocks
@@ -118,6 +119,7 @@ copied_in image c items = with_copies image c (copies_on items)
 
 -- the digest of the data blocks of the section that is being read, after an item
 abbrev pub digest_in : ℕ → Phase → TapeItem → ℕ
+digest_in digest (Second met) mark = 0
 digest_in digest (Headers met) mark = 0
 digest_in digest (Data met) (block b) = digest_with digest b
 digest_in digest p x = digest

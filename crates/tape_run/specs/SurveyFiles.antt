@@ -1,18 +1,30 @@
 -- The facts about files in their header labels.
-use Rattle.std.specs.Prelude.{ℕ, ◌==◌, ◌&&◌, ◌||◌, not, if◌then◌else◌, Bool, false, List, [], ◌∷◌}
+use Rattle.std.specs.Prelude.{ℕ, ◌==◌, ◌&&◌, ◌||◌, not, if◌then◌else◌, Bool, true, false, List, []}
+use Rattle.std.specs.Prelude.{◌∷◌}
 use Rattle.std.specs.Prelude.{Option, Some, None, is_some, option_map, Result, Ok}
 use Rattle.std.specs.{Map.lookup, Str.bytes_eq}
 use Rattle.indexmap.specs.IndexMap.{insert_entry}
-use Rattle.tape_image.specs.Tape.{TapeItem, block, bad, mark}
+use Rattle.tape_image.specs.Tape.{TapeItem, block, mark}
 use Rattle.tape_label.specs.{declared.values.Head1.Head1, declared.values.Head2.Head2}
-use Rattle.tape_label.specs.{declared.values.Kind.Kind, declared.values.Kind.TheVariants.Hdr2}
-use Rattle.tape_label.specs.{declared.label.LabelFault.LabelFault, Kinds.kind_at, Reading.head2_at}
+use Rattle.tape_label.specs.declared.values.Kind.{Kind}
+use Rattle.tape_label.specs.declared.values.Kind.TheVariants.{Hdr2, Eof2, Eov2}
+use Rattle.tape_label.specs.WideHead2.{is_further_header}
+use Rattle.tape_label.specs.{declared.label.LabelFault.LabelFault, Kinds.kind_at}
+use Rattle.tape_label.specs.Reading.{wide_head2_at}
 use Rattle.tape_run.specs.{declared.survey.files.FileKey.FileKey, declared.passing.Phase.Phase}
 use Rattle.tape_run.specs.declared.survey.{files.FileNote.FileNote, files.FirstHead.FirstHead}
-use Rattle.tape_run.specs.{Passing.step, Noted.same_key, Lacks.key_at}
+use Rattle.tape_run.specs.declared.survey.forms.FirstForm.{FirstForm}
+use Rattle.tape_label.specs.Formats.{letter}
+use Rattle.tape_run.specs.{WidePassing.step, Noted.same_key, Noted.is_good, Lacks.key_at}
+use Rattle.tape_run.specs.{Passing.Told, SurveyFits.no_fit, SurveyFits.fit_in}
+use Rattle.tape_run.specs.{SurveyFits.misfit_of, declared.survey.fits.Fit.Fit}
+use Rattle.tape_run.specs.declared.survey.fits.{Misfit.Misfit, Flaw.Flaw}
+use Rattle.tape_run.specs.declared.survey.fits.Flaw.TheVariants.{Lost, Unsupported, Misfits}
 use Rattle.tape_run.specs.declared.section.SectionKey.{SectionKey}
-use Rattle.tape_run.specs.declared.passing.Phase.TheVariants.{Volume, Second}
-use Rattle.tape_run.specs.SurveyGlance.{head_in}
+use Rattle.tape_run.specs.declared.passing.Phase.TheVariants.{Volume, Second, Trailers}
+use Rattle.tape_run.specs.declared.survey.forms.FormNote.{FormNote}
+use Rattle.tape_run.specs.declared.survey.forms.FormNote.TheVariants.{Stated, Absent, Trailer}
+use Rattle.tape_run.specs.SurveyGlance.{label_in}
 use Rattle.std.specs.Option.{option_or}
 
 -- a file, and its record
@@ -23,14 +35,22 @@ Filed = FileKey × FileNote
 abbrev pub Headed : Type 0
 Headed = SectionKey × FirstHead
 
--- the files of which header labels were found, and the first label of each section
+-- a section, and its second label that was found first
+abbrev pub Formed : Type 0
+Formed = SectionKey × FirstForm
+
+-- the files of which header labels were found, the first label and the first second label of each
+-- section, the file of the header label that was read last, and the section that is being read
 pub record Labelled : Type 0 where
   pub notes : List Filed
   pub heads : List Headed
+  pub forms : List Formed
+  pub reading : Option FileKey
+  pub fit : Fit
 
 -- no label was found
 abbrev pub no_labels : Labelled
-no_labels = record { notes = []; heads = [] }
+no_labels = record { notes = []; heads = []; forms = []; reading = None; fit = no_fit }
 
 -- one file
 abbrev pub same_file : FileKey → FileKey → Bool
@@ -54,11 +74,18 @@ abbrev pub opponent : FileNote → Option FirstHead → Head1 → Option ℕ
 opponent note first head = option_or (other_section first head)
     (if is_other note.head head then Some note.image else None)
 
--- the record of a file after one more label, on this image; `first` is the label of its section that
--- was found before
+-- the record of a file after one more label, on this image; `first` is the label of its section
+-- that was found before
 abbrev pub note_of : Option FileNote → Option FirstHead → ℕ → Head1 → FileNote
-note_of None first image head =
-    record { head = head; image = image; form = None; conflict = None }
+note_of None first image head = record {
+  head = head;
+  image = image;
+  form = None;
+  absent = false;
+  trailers = false;
+  misfit = None;
+  conflict = None;
+}
 note_of (Some note) first image head = record note {
   conflict = option_or note.conflict (option_map (λ other. (other, image))
       (opponent note first head));
@@ -80,8 +107,8 @@ section_of head = key_at head.set_id head.sequence head.sect
 abbrev pub first_in : List Headed → Head1 → Option FirstHead
 first_in heads head = lookup (same_key (section_of head)) heads
 
--- the first label of each section after one more label, on this image, of a section whose first label
--- is given
+-- the first label of each section after one more label, on this image, of a section whose first
+-- label is given
 abbrev pub with_first : List Headed → ℕ → Head1 → Option FirstHead → List Headed
 with_first heads image head (Some first) = heads
 with_first heads image head None =
@@ -101,6 +128,9 @@ with_head files image head =
     record {
       notes = with_note files.notes first image head;
       heads = with_first files.heads image head first;
+      forms = files.forms;
+      reading = Some (file_key head.set_id head.sequence);
+      fit = files.fit;
     }
 
 -- after a header label, if one was found
@@ -108,35 +138,156 @@ abbrev pub with_met : Labelled → ℕ → Option Head1 → Labelled
 with_met files image None = files
 with_met files image (Some head) = with_head files image head
 
--- a second header label of this kind, if it could be read as one, and the file of its section
-abbrev pub form_by : SectionKey → Option Kind → Result Head2 LabelFault → Option (FileKey × Head2)
-form_by key (Some Hdr2) (Ok form) = Some (file_key key.set_id key.file, form)
-form_by key _ _ = None
+-- the file of a section has one without a second label, if this is so
+abbrev pub absent_if : SectionKey → Bool → Option FormNote
+absent_if key is = if is then Some (Absent (file_key key.set_id key.file)) else None
 
--- the item as a second header label, if it is one that is supported and one is expected
-abbrev pub form_in : Phase → TapeItem → Option (FileKey × Head2)
-form_in (Second met) (block b) = form_by met.key (kind_at b) (head2_at b)
+-- a second header label of this kind, if it could be read as one; or a further header label in its
+-- place, if it is one
+abbrev pub form_by : SectionKey → Option Kind → Result Head2 LabelFault → Bool → Option FormNote
+form_by key (Some Hdr2) (Ok form) is = Some (Stated key form)
+form_by key _ _ is = absent_if key is
+
+-- a block of this kind behind a trailer label
+abbrev pub trailer_by : Option Kind → Option FormNote
+trailer_by (Some Eof2) = Some Trailer
+trailer_by (Some Eov2) = Some Trailer
+trailer_by _ = None
+
+-- What an item says about second labels: it is the second header label of a section, and supported;
+-- or a section has none, since a tape mark or a further header label is in its place; or it is an
+-- EOF2 or EOV2 behind a trailer label.
+abbrev pub form_in : Phase → TapeItem → Option FormNote
+form_in (Second met) mark = Some (Absent (file_key met.key.set_id met.key.file))
+form_in (Second met) (block b) =
+    form_by met.key (kind_at b) (wide_head2_at b) (is_further_header b)
+form_in (Trailers volume) (block b) = trailer_by (kind_at b)
 form_in _ _ = None
 
--- the record of a file after one more second label: the label found first is kept
-abbrev pub with_form_of : List Filed → FileKey → Option FileNote → Head2 → List Filed
-with_form_of notes key None form = notes
-with_form_of notes key (Some note) form =
-    insert_entry same_file notes key (record note { form = option_or note.form (Some form) })
+-- Two second labels of one section say different things: the copies do not come from one recording.
+abbrev pub is_other_form : Head2 → Head2 → Bool
+is_other_form a b = not (letter a.format == letter b.format)
+    || (not (a.block_len == b.block_len)
+    || (not (a.rec_len == b.rec_len) || not (a.offset == b.offset)))
 
--- the files after a second header label, if one was found
-abbrev pub with_form : Labelled → Option (FileKey × Head2) → Labelled
-with_form files None = files
-with_form files (Some (key, form)) = record {
-  notes = with_form_of files.notes key (note_at files key) form;
+-- this image and the one with the first second label of the section, if the labels differ
+abbrev pub form_conflict : Option FirstForm → ℕ → Head2 → Option (ℕ × ℕ)
+form_conflict None image form = None
+form_conflict (Some first) image form =
+    if is_other_form first.form form then Some (first.image, image) else None
+
+-- the record of a file after one more second label, on this image, of a section whose first second
+-- label is given: the label of the file that was found first is kept
+abbrev pub with_form_of : List Filed → FileKey → Option FileNote → Option FirstForm → ℕ → Head2
+    → List Filed
+with_form_of notes key None first image form = notes
+with_form_of notes key (Some note) first image form =
+    insert_entry same_file notes key (record note {
+      form = option_or note.form (Some form);
+      conflict = option_or note.conflict (form_conflict first image form);
+    })
+
+-- the second label of a section that was found first
+abbrev pub first_form : List Formed → SectionKey → Option FirstForm
+first_form forms key = lookup (same_key key) forms
+
+-- the first second label of each section after one more, on this image
+abbrev pub with_first_form : List Formed → ℕ → SectionKey → Head2 → Option FirstForm → List Formed
+with_first_form forms image key form (Some first) = forms
+with_first_form forms image key form None =
+    insert_entry same_key forms key (record { image = image; form = form })
+
+-- the record of a file of which a section has no second label
+abbrev pub with_absent : List Filed → FileKey → Option FileNote → List Filed
+with_absent notes key None = notes
+with_absent notes key (Some note) =
+    insert_entry same_file notes key (record note { absent = true })
+
+-- the record of a file of which a section has a second trailer label
+abbrev pub with_trailer_of : List Filed → FileKey → Option FileNote → List Filed
+with_trailer_of notes key None = notes
+with_trailer_of notes key (Some note) =
+    insert_entry same_file notes key (record note { trailers = true })
+
+-- the record of the file that is being read, if any
+abbrev pub with_trailer : List Filed → Option FileKey → List Filed
+with_trailer notes None = notes
+with_trailer notes (Some key) = with_trailer_of notes key (lookup (same_file key) notes)
+
+-- the files after one more second label, on this image
+abbrev pub with_stated : Labelled → ℕ → SectionKey → Head2 → Labelled
+with_stated files image key form =
+    let first = first_form files.forms key in
+    let file = file_key key.set_id key.file in
+    record {
+      notes = with_form_of files.notes file (note_at files file) first image form;
+      heads = files.heads;
+      forms = with_first_form files.forms image key form first;
+      reading = files.reading;
+      fit = files.fit;
+    }
+
+-- the files after what an item of this image says about second labels, if it says anything
+abbrev pub with_form : Labelled → ℕ → Option FormNote → Labelled
+with_form files image None = files
+with_form files image (Some (Stated key form)) = with_stated files image key form
+with_form files image (Some (Absent key)) = record {
+  notes = with_absent files.notes key (note_at files key);
   heads = files.heads;
+  forms = files.forms;
+  reading = files.reading;
+  fit = files.fit;
+}
+with_form files image (Some Trailer) = record {
+  notes = with_trailer files.notes files.reading;
+  heads = files.heads;
+  forms = files.forms;
+  reading = files.reading;
+  fit = files.fit;
 }
 
--- after the label that an item of an image in this phase is, if it is one
-abbrev pub with_label : ℕ → Labelled → Phase → TapeItem → Labelled
-with_label image files p x = with_form (with_met files image (head_in p x)) (form_in p x)
+-- No section of the file lacks a second header label; or no section has one, nor a second trailer
+-- label.
+abbrev pub reads_wide : FileNote → Bool
+reads_wide note = not (note.absent && (is_some note.form || note.trailers))
 
--- after the header labels among these items of an image, in this phase
+-- the record of a file of which a block is not in its format, unless one was found before
+abbrev pub with_misfit_of : List Filed → FileKey → Option FileNote → Misfit → List Filed
+with_misfit_of notes key None misfit = notes
+with_misfit_of notes key (Some note) misfit = insert_entry same_file notes key (record note {
+  misfit = option_or note.misfit (Some misfit);
+})
+
+-- the same for the block of a section with this number, if there is one
+abbrev pub with_misfit_in : List Filed → SectionKey → Option ℕ → List Filed
+with_misfit_in notes key None = notes
+with_misfit_in notes key (Some b) =
+    let file = file_key key.set_id key.file in
+    with_misfit_of notes file (lookup (same_file file) notes)
+    (record { sect = key.sect; block = b })
+
+-- the records after the section that was completed, if it is good
+abbrev pub with_misfit : List Filed → Option Told → Fit → List Filed
+with_misfit notes None fit = notes
+with_misfit notes (Some t) fit =
+    if is_good t.1.state then with_misfit_in notes t.0 (misfit_of fit t.1) else notes
+
+-- the files after an item in this phase, and the section that it completes
+abbrev pub with_fit : Labelled → Phase → TapeItem → Option Told → Labelled
+with_fit files p x told = let fit = fit_in files.fit p x in record {
+  notes = with_misfit files.notes told fit;
+  heads = files.heads;
+  forms = files.forms;
+  reading = files.reading;
+  fit = fit;
+}
+
+-- after an item of an image in this phase: the label that it is, or the block
+abbrev pub with_label : ℕ → Labelled → Phase → TapeItem → Labelled
+with_label image files p x = with_fit
+    (with_form (with_met files image (label_in p x)) image (form_in p x)) p x (step p x).1
+
+-- after the labels and blocks of sections among these items of an image, in this phase
 abbrev pub with_all : ℕ → Labelled → Phase → List TapeItem → Labelled
 with_all image files p [] = files
 with_all image files p (x ∷ xs) = with_all image (with_label image files p x) (step p x).0 xs
@@ -144,6 +295,35 @@ with_all image files p (x ∷ xs) = with_all image (with_label image files p x) 
 -- after those of an image
 abbrev pub filed_in : ℕ → Labelled → List TapeItem → Labelled
 filed_in image files items = with_all image files Volume items
+
+-- some section of the file, of which no label was found or this record, has no second header label,
+-- no other section has one, and a section has a second trailer label: the header label is lost
+abbrev pub is_unclear : Option FileNote → Bool
+is_unclear None = false
+is_unclear (Some note) = note.absent && (not (is_some note.form) && note.trailers)
+
+-- why a file is not readable although all its sections are good, if there is a reason: its second
+-- label is lost, a block is not in the format, or no second label is supported
+abbrev pub flaw_of : FileNote → Option Flaw
+flaw_of note = if is_unclear (Some note) then Some Lost
+    else option_or (option_map (λ misfit. Misfits misfit) note.misfit)
+    (if note.absent || is_some note.form then None else Some Unsupported)
+
+-- the section that is not readable
+abbrev pub flaw_section : Flaw → ℕ
+flaw_section Lost = 1
+flaw_section Unsupported = 1
+flaw_section (Misfits misfit) = misfit.sect
+
+-- a block of a good section of one of these files is not in its format
+abbrev pub any_misfit : List Filed → Bool
+any_misfit [] = false
+any_misfit (f ∷ fs) = is_some f.1.misfit || any_misfit fs
+
+-- one of these files may not be read in the wider reading
+abbrev pub any_lost : List Filed → Bool
+any_lost [] = false
+any_lost (f ∷ fs) = not (reads_wide f.1) || any_lost fs
 
 -- different files were found under the number of one of these files
 abbrev pub any_differs : List Filed → Bool

@@ -7,7 +7,10 @@ use Rattle.tape_label.specs.declared.values.{Kind.Kind, Vol1.Vol1, Head1.Head1, 
 use Rattle.tape_label.specs.declared.label.LabelFault.{LabelFault}
 use Rattle.tape_label.specs.declared.values.Kind.TheVariants as kinds
 use Rattle.tape_label.specs.{Kinds.kind_at, Positions.positions}
-use Rattle.tape_label.specs.Reading.{vol1_at, head1_at, head2_at}
+use Rattle.tape_label.specs.Reading.{vol1_at, head1_at, trail1_at, wide_head2_at}
+use Rattle.tape_label.specs.declared.values.Trail1.{Trail1}
+use Rattle.tape_run.specs.declared.met.Met.{Met}
+use Rattle.tape_run.specs.Passing.{closes}
 use Rattle.tape_run.specs.declared.survey.glance.{First.First, ImageSummary.ImageSummary}
 use Rattle.tape_run.specs.declared.survey.course.{ExpectedItem.ExpectedItem, LabelOrder.LabelOrder}
 use Rattle.tape_run.specs.declared.{passing.Phase.Phase, section.SectionLine.SectionLine}
@@ -16,7 +19,7 @@ use Rattle.tape_run.specs.declared.survey.glance.First.TheVariants as firsts
 use Rattle.tape_run.specs.declared.survey.course.ExpectedItem.TheVariants as wanted
 use Rattle.tape_run.specs.declared.survey.course.LabelOrder.TheVariants.{Follows, Blank, Ended}
 use Rattle.tape_run.specs.declared.survey.course.LabelOrder.TheVariants.{Leaves}
-use Rattle.tape_run.specs.{Lacks.line_of, Noted.is_good, Passing.Told, Passing.step}
+use Rattle.tape_run.specs.{Lacks.line_of, Noted.is_good, Passing.Told, WidePassing.step}
 
 -- 80 bytes that begin VOL1 in EBCDIC
 unfoldable pub is_ebcdic : List ℕ → Bool
@@ -54,6 +57,18 @@ head_in (phases.Labels v) (block b) = head_by (head1_at b)
 head_in (phases.Next v) (block b) = head_by (head1_at b)
 head_in _ _ = None
 
+-- the fields of a section's trailer label, with the set of its header, if the numbers are the
+-- section's
+abbrev pub trailer_head : Met → Result Trail1 LabelFault → Option Head1
+trailer_head met (Ok trail) =
+    if closes met trail then Some (record trail.head { set_id = met.key.set_id }) else None
+trailer_head met (Err fault) = None
+
+-- the label of a section: its HDR1, or its trailer label
+abbrev pub label_in : Phase → TapeItem → Option Head1
+label_in (phases.Trailer met) (block b) = trailer_head met (trail1_at b)
+label_in p x = head_in p x
+
 -- the file, if its block in place of a second label is an HDR2 that cannot be read as one
 abbrev pub unread_by : ℕ → Option Kind → Result Head2 LabelFault → Option ℕ
 unread_by file (Some kinds.Hdr2) (Err _) = Some file
@@ -61,7 +76,7 @@ unread_by file _ _ = None
 
 -- the same for an item
 abbrev pub unread_in : Phase → TapeItem → Option ℕ
-unread_in (phases.Second met) (block b) = unread_by met.key.file (kind_at b) (head2_at b)
+unread_in (phases.Second met) (block b) = unread_by met.key.file (kind_at b) (wide_head2_at b)
 unread_in _ _ = None
 
 -- the item expected in each phase

@@ -3,9 +3,8 @@ use Rattle.std.specs.Prelude.{◌≡◌, ◌≢◌, ℕ, ◌+◌, Bool, true, fa
 use Rattle.std.specs.Prelude.{◌≤◌, ◌<◌, Option, Some, None, replicate}
 use Rattle.std.specs.{Str.bytes_eq, List.AllByRecursion, List.flat_map}
 use Rattle.tape_image.specs.Tape.{TapeItem, block, mark}
-use Rattle.tape_label.specs.declared.values.Kind.TheVariants as kinds
 use Rattle.tape_label.specs.declared.values.{Vol1.Vol1, Head1.Head1, Trail1.Trail1}
-use Rattle.tape_label.specs.{Kinds.HasKind, Vol1.IsVol1, Head1.IsHead1, Trail1.IsTrail1}
+use Rattle.tape_label.specs.{Vol1.IsVol1, Head1.IsHead1, Trail1.IsTrail1}
 use Rattle.tape_label.specs.VolumeLabels.{is_volume_label}
 use Rattle.tape_run.specs.declared.survey.course.{ExpectedItem.ExpectedItem, LabelOrder.LabelOrder}
 use Rattle.tape_run.specs.declared.section.Entry.{Entry}
@@ -14,24 +13,24 @@ use Rattle.tape_run.specs.declared.survey.volumes.VolumeItem.TheVariants.{Named,
 use Rattle.tape_run.specs.{Lacks.SetFiles, Lacks.entry_at, Lacks.key_at, SurveyChain.is_last}
 use Rattle.tape_run.specs.{SurveyChain.volumes_from, SurveyChain.volumes_of, SurveyConflicts.IsIn}
 use Rattle.tape_run.specs.{SurveyGaps.is_found, SurveyGlance.glance_of, SurveyRead.Found}
+use Rattle.tape_run.specs.WideShown.{AreHeaders}
 
 -- ---- the order of a volume
 
--- A section: two header labels and further ones, a mark, its blocks, a mark, a trailer label with
--- the numbers of its first label and further ones, a mark.
+-- A section: HDR1 and further header labels, of which HDR2 may be absent, a mark, its blocks, a
+-- mark, a trailer label with the numbers of its first label and further ones, a mark.
 pub record IsSectionInOrder (items : List TapeItem) : Type 0 where
   pub hdr1 : List ℕ
-  pub hdr2 : List ℕ
   pub headers : List (List ℕ)
   pub content : List TapeItem
   pub trailer : List ℕ
   pub trailers : List (List ℕ)
   pub head : Head1
   pub trail : Trail1
-  pub stands : items ≡ block hdr1 ∷ block hdr2 ∷ map block headers
+  pub stands : items ≡ block hdr1 ∷ map block headers
       ++ mark ∷ content ++ mark ∷ block trailer ∷ map block trailers ++ mark ∷ []
   pub is_head : IsHead1 hdr1 head
-  pub second : HasKind hdr2 kinds.Hdr2
+  pub second : AreHeaders headers
   pub no_mark : AllByRecursion (λ x. x ≢ mark) content
   pub is_trail : IsTrail1 trailer trail
   pub sect : trail.head.sect ≡ head.sect

@@ -5,7 +5,8 @@ use Rattle.tape_image.specs.{Tape.TapeItem, Reader.IfKnown}
 use Rattle.tape_run.specs.{declared.survey.view.ImageSurvey.ImageSurvey, SurveyTally.is_whole_sight}
 use Rattle.tape_run.specs.{Added.StopsBehind, SurveyGlance.glance_of, SurveyGlance.damages_in}
 use Rattle.tape_run.specs.{Checked.Reel, Noted.noted_all, Reeling.Mounting}
-use Rattle.tape_run.specs.{Passing.Told, Passing.met_in, SurveyFiles.Labelled, SurveyFiles.filed_in}
+use Rattle.tape_run.specs.{Passing.Told, WidePassing.met_in, SurveyFiles.Labelled}
+use Rattle.tape_run.specs.SurveyFiles.{filed_in}
 use Rattle.tape_run.specs.SurveyFiles.{no_labels}
 use Rattle.tape_run.specs.SurveyCopies.{Copied, no_copies, copied_in}
 use Rattle.tape_run.specs.SurveyLocations.{Located, located_in, next_image}

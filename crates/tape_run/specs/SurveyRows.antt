@@ -10,13 +10,13 @@ use Rattle.tape_run.specs.declared.survey.{view.ImageSurvey.ImageSurvey, Wording
 use Rattle.tape_run.specs.declared.section.SectionKey.{SectionKey}
 use Rattle.tape_run.specs.declared.survey.glance.First.TheVariants as firsts
 use Rattle.tape_run.specs.declared.survey.sets.Standing.TheVariants.{Complete, Damaged, Behind}
-use Rattle.tape_run.specs.declared.survey.sets.Standing.TheVariants.{Missing}
+use Rattle.tape_run.specs.declared.survey.sets.Standing.TheVariants.{Missing, Misfit}
 use Rattle.tape_run.specs.{CheckLine.state_text, CheckLine.stop_text, Dates.date_of}
 use Rattle.tape_run.specs.{Dates.date_cell, Passing.Told, SurveyCopies.dispute_at}
 use Rattle.tape_run.specs.{SurveyFiles.note_at, SurveyFiles.file_key, Quoting.name_text}
 use Rattle.tape_run.specs.{SurveyLine.trimmed_text, SurveyLine.seen_text, SurveyRead.Found}
 use Rattle.tape_run.specs.SurveyTally.{is_sound}
-use Rattle.tape_run.specs.SurveySets.{standing_of, is_mixed, rest_lines}
+use Rattle.tape_run.specs.SurveySets.{standing_of, clear_standing, flaw_in, is_mixed, rest_lines}
 
 -- the state of an image: whether it is in conflict, or else was read completely without damage
 abbrev pub whole_cell : Bool → Bool → List ℕ
@@ -77,6 +77,7 @@ standing_cells (Damaged sect entry) = state_text entry.state ++ (codes "\t" ++ (
 standing_cells (Behind sect volume) =
     codes "MISSING\t" ++ (decimal sect ++ (codes "\t" ++ trimmed_text volume))
 standing_cells (Missing sect) = codes "MISSING\t" ++ (decimal sect ++ codes "\t")
+standing_cells (Misfit sect) = codes "FORMAT\t" ++ (decimal sect ++ codes "\t")
 
 -- labels of different files were found under its number, or good copies of a section differ
 abbrev pub conflict_cell : Bool → List ℕ
@@ -95,7 +96,8 @@ file_text set_id file found = codes "FILE\t" ++ (trimmed_text set_id
 -- the columns of a file, up to the last one
 abbrev pub file_cells : Found → List ℕ → ℕ → List ℕ
 file_cells d set_id file = let key = file_key set_id file in
-    file_text set_id file (found_cells (note_at d.files key) (standing_of d.sections set_id file)
+    file_text set_id file (found_cells (note_at d.files key)
+    (clear_standing (flaw_in d set_id file) (standing_of d.sections set_id file))
     (is_some (dispute_at d.copies key)))
 
 -- the record format, the block length and the record length, if a second label states them

@@ -6,14 +6,20 @@ use Rattle.std.specs.List.{flat_map, repeat}
 use Rattle.tape_run.specs.declared.survey.sets.Standing.TheVariants.{Complete, Damaged, Behind}
 use Rattle.tape_run.specs.{declared.section.Entry.Entry, declared.survey.files.FileNote.FileNote}
 use Rattle.tape_run.specs.{declared.survey.sets.Standing.Standing, declared.survey.Wording.Wording}
-use Rattle.tape_run.specs.{declared.survey.sets.Standing.TheVariants.Missing, Noted.is_good}
+use Rattle.tape_run.specs.declared.survey.sets.Standing.TheVariants.{Missing, Misfit}
+use Rattle.tape_run.specs.Noted.{is_good}
 use Rattle.tape_run.specs.declared.survey.Wording.TheVariants.{Words, Rows}
 use Rattle.tape_run.specs.{Dates.date_of, Dates.date_text, Identifier.identifier_text, Passing.Told}
 use Rattle.tape_run.specs.{SurveyCopies.dispute_at, SurveyCopies.is_agreed, SurveyGlance.one_if}
 use Rattle.tape_run.specs.{SurveyLine.trimmed_text, SurveyLine.damage_text, SurveyRead.Found}
 use Rattle.tape_run.specs.SurveyProblems.{problem_lines}
+use Rattle.tape_label.specs.declared.values.{Format.Format, Head2.Head2}
+use Rattle.tape_label.specs.declared.values.Format.TheVariants.{Undefined, Variable}
 use Rattle.tape_run.specs.Lacks.{entry_at, key_at, lack_of, found_all}
-use Rattle.tape_run.specs.SurveyFiles.{note_at, file_key, any_differs}
+use Rattle.tape_run.specs.SurveyFiles.{Filed, note_at, file_key, any_differs, any_lost, any_misfit}
+use Rattle.tape_run.specs.SurveyFiles.{flaw_of, flaw_section}
+use Rattle.tape_run.specs.declared.survey.fits.{Flaw.Flaw, Flaw.TheVariants.Lost}
+use Rattle.tape_run.specs.declared.survey.fits.Flaw.TheVariants.{Unsupported, Misfits}
 
 -- the state of a file without this section; the entries are those of it and of the one before it
 abbrev pub state_without : ℕ → Option Entry → Option Entry → Standing
@@ -30,6 +36,12 @@ standing_by c set_id file (Some sect) = state_without sect (entry_at c (key_at s
 -- the state of a file: it is complete if none of its sections is missing from the catalogue
 abbrev pub standing_of : List Told → List ℕ → ℕ → Standing
 standing_of c set_id file = standing_by c set_id file (lack_of c set_id file)
+
+-- the state of a file that is not readable for this reason, if there is one
+abbrev pub clear_standing : Option Flaw → Standing → Standing
+clear_standing (Some Lost) Complete = Missing 1
+clear_standing (Some flaw) Complete = Misfit (flaw_section flaw)
+clear_standing flaw standing = standing
 
 -- the facts about a file in its labels: its identifier, and when it was created
 abbrev pub known_text : Option FileNote → List ℕ
@@ -54,32 +66,69 @@ file_word mixed disputed complete =
     else if disputed then codes "conflict: good copies of a section differ"
     else if complete then codes "complete" else codes "incomplete"
 
+-- what the labels say of a format other than F, D and S
+abbrev pub format_word : Format → List ℕ
+format_word Undefined = codes ", U"
+format_word Variable = codes ", V"
+format_word _ = []
+
+abbrev pub form_by : Option Head2 → Bool → List ℕ
+form_by (Some form) absent = format_word form.format
+form_by None true = codes ", blocks (no HDR2)"
+form_by None false = []
+
+unfoldable pub form_word : Option FileNote → List ℕ
+form_word (Some note) = form_by note.form note.absent
+form_word None = []
+
 -- the first line of a file, which may be in conflict or complete; its number has at least four
 -- columns
 abbrev pub head_line : ℕ → Option FileNote → Bool → Bool → List ℕ
 head_line file note disputed complete = let number = decimal file in
     repeat (4 - length number) (codes " ") ++ (number ++ (codes " " ++ (known_text note
-    ++ (codes "  " ++ (file_word (is_mixed note) disputed complete ++ codes "\n")))))
+    ++ (codes "  " ++ (file_word (is_mixed note) disputed complete ++ (form_word note
+    ++ codes "\n"))))))
 
 -- the damaged and missing sections of a file, unless it is complete
 unfoldable pub rest_lines : Wording → List Told → List ℕ → ℕ → List ℕ
 rest_lines y c set_id file =
     if is_whole_file c set_id file then [] else problem_lines y c set_id file
 
--- the lines about a file: its state and, unless it is complete, its damaged and missing sections
+-- why the file of which this is known is not readable, if there is a reason
+abbrev pub flaw_by : Option FileNote → Option Flaw
+flaw_by None = None
+flaw_by (Some note) = flaw_of note
+
+-- the same for this file
+abbrev pub flaw_in : Found → List ℕ → ℕ → Option Flaw
+flaw_in d set_id file = flaw_by (note_at d.files (file_key set_id file))
+
+-- the line about that
+unfoldable pub flaw_line : Option Flaw → List ℕ
+flaw_line None = []
+flaw_line (Some Lost) =
+    codes "            HDR2 is lost on each image: the record format is unknown\n"
+flaw_line (Some Unsupported) = codes "            the record format in HDR2 is not supported\n"
+flaw_line (Some (Misfits misfit)) = (codes "        section " ++ (decimal misfit.sect
+    ++ codes " is not readable: ")) ++ (codes "block " ++ (decimal misfit.block
+    ++ codes " is not in the format that HDR2 states\n"))
+
+-- the lines about a file: its state and, unless it is complete, its damaged and missing sections,
+-- or why it is not readable
 abbrev pub file_lines : Found → List ℕ → ℕ → List ℕ
 file_lines d set_id file =
     let key = file_key set_id file in
     head_line file (note_at d.files key) (is_some (dispute_at d.copies key))
-    (is_whole_file d.sections set_id file) ++ rest_lines Words d.sections set_id file
+    (is_whole_file d.sections set_id file && is_none (flaw_in d set_id file))
+    ++ (flaw_line (flaw_in d set_id file) ++ rest_lines Words d.sections set_id file)
 
--- the file is complete, no label of another file has its number, and no good copies of its sections
--- differ
+-- the file is complete, no label of another file has its number, no good copies of its sections
+-- differ, and it is readable
 abbrev pub is_sure : Found → List ℕ → ℕ → Bool
 is_sure d set_id file =
     let key = file_key set_id file in
     is_whole_file d.sections set_id file && (not (is_mixed (note_at d.files key))
-    && is_none (dispute_at d.copies key))
+    && (is_none (dispute_at d.copies key) && is_none (flaw_in d set_id file)))
 
 -- the number of complete files among n files of a set, from this one on
 abbrev pub sure_files : Found → List ℕ → ℕ → ℕ → ℕ
@@ -109,9 +158,14 @@ abbrev pub all_good : List Told → Bool
 all_good [] = true
 all_good (t ∷ ts) = is_good t.1.state && all_good ts
 
+-- no second label of these files is lost, and each block of a good section is in its format
+abbrev pub is_flawless : List Filed → Bool
+is_flawless fs = not (any_lost fs) && not (any_misfit fs)
+
 -- Nothing is missing, and everything was read: all images are complete, each file that was found is
--- complete, each section has a good copy, no two files were found under one number, and no good
--- copies differ.
+-- complete, each section has a good copy, no two files were found under one number, no good copies
+-- differ, no second label is lost, and each block is in its format.
 abbrev pub is_all : Found → Bool
 is_all d = d.whole && (found_all d.sections && (all_good d.sections
-    && (not (any_differs d.files.notes) && is_agreed d.copies.conflicts)))
+    && (not (any_differs d.files.notes) && (is_agreed d.copies.conflicts
+    && is_flawless d.files.notes))))

@@ -18,14 +18,14 @@ fault_of (Ok came) = None
 fault_of (Err fault) = Some fault
 
 -- The parts that the table delivers for the items of an image that a reader returned were put.
-pub record ReadsImage (failed : Bool) (old new : State) (held now : List Portion)
+pub record ReadsImage (wide failed : Bool) (old new : State) (held now : List Portion)
     (left : Option (List ℕ)) (bytes : List ℕ) : Type 0 where
   pub given : List ℕ
   pub is_given : IsGiven failed bytes left given
   pub table : (xs : List TapeItem) (end : ℕ) (stop : Stop) → Begins 0 given xs end stop
-      → IsLed xs old (rest_of new) held now
+      → IsLed wide xs old (rest_of new) held now
 
 -- The refused part is one of those that the table delivers.
-abbrev pub CutsTable : State → State → List Portion → List Portion → List ℕ → Type 0
-CutsTable old new held now bytes = (xs : List TapeItem) (end : ℕ) (stop : Stop)
-    → Begins 0 bytes xs end stop → IsCutAt xs old new held now
+abbrev pub CutsTable : Bool → State → State → List Portion → List Portion → List ℕ → Type 0
+CutsTable wide old new held now bytes = (xs : List TapeItem) (end : ℕ) (stop : Stop)
+    → Begins 0 bytes xs end stop → IsCutAt wide xs old new held now

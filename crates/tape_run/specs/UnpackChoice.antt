@@ -1,6 +1,6 @@
 -- The found files that `unpack` is to recover.
 use Rattle.std.specs.Prelude.{◌≡◌, ◌≢◌, ◌⊎◌, ℕ, List, [], ◌∷◌, ◌++◌, length, decimal, Option}
-use Rattle.std.specs.{Prelude.IfSome, Borrow.Bor, List.Any}
+use Rattle.std.specs.{Prelude.IfSome, List.Any}
 use Rattle.tape_run.specs.{declared.unpack.SetFile.SetFile, SurveyLine.trimmed_text}
 use Rattle.tape_run.specs.declared.unpack.choice.FileChoice.{FileChoice}
 

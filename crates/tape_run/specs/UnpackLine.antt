@@ -5,6 +5,8 @@ use Rattle.tape_run.specs.declared.unpack.line.UnpackOutcome.TheVariants.{Comple
 use Rattle.tape_run.specs.declared.unpack.line.UnpackOutcome.TheVariants.{Lacks, Exists, Conflict}
 use Rattle.tape_run.specs.declared.unpack.line.UnpackOutcome.TheVariants.{NotFound, Failed}
 use Rattle.tape_run.specs.declared.unpack.line.UnpackOutcome.TheVariants.{Salvaged, StageKept}
+use Rattle.tape_run.specs.declared.unpack.line.UnpackOutcome.TheVariants.{Different, NotCompared}
+use Rattle.tape_run.specs.declared.unpack.line.UnpackOutcome.TheVariants.{Differs}
 use Rattle.tape_run.specs.declared.unpack.line.Notice.TheVariants.{NoSet, NoFile, Unread}
 use Rattle.tape_run.specs.{Identifier.identifier_text, Quoting.name_text}
 
@@ -15,11 +17,14 @@ unpack_outcome_text Awaits = codes "AWAITS"
 unpack_outcome_text Ready = codes "READY"
 unpack_outcome_text Lacks = codes "LACKS"
 unpack_outcome_text Exists = codes "EXISTS"
+unpack_outcome_text Different = codes "DIFFERENT"
+unpack_outcome_text NotCompared = codes "NOT COMPARED"
 unpack_outcome_text Conflict = codes "CONFLICT"
 unpack_outcome_text NotFound = codes "NOT FOUND"
 unpack_outcome_text Failed = codes "FAILED"
 unpack_outcome_text Salvaged = codes "SALVAGED"
 unpack_outcome_text StageKept = codes "STAGE KEPT"
+unpack_outcome_text Differs = codes "SECTION DIFFERS"
 
 -- a path, if there is one
 abbrev pub path_text : List ℕ → List ℕ

@@ -5,6 +5,8 @@ use Rattle.tape_run.specs.declared.unpack.line.UnpackOutcome.TheVariants.{Comple
 use Rattle.tape_run.specs.declared.unpack.line.UnpackOutcome.TheVariants.{Lacks, Exists, Conflict}
 use Rattle.tape_run.specs.declared.unpack.line.UnpackOutcome.TheVariants.{NotFound, Failed}
 use Rattle.tape_run.specs.declared.unpack.line.UnpackOutcome.TheVariants.{Salvaged, StageKept}
+use Rattle.tape_run.specs.declared.unpack.line.UnpackOutcome.TheVariants.{Different, NotCompared}
+use Rattle.tape_run.specs.declared.unpack.line.UnpackOutcome.TheVariants.{Differs}
 
 -- nothing was reported
 abbrev pub nothing_counted : Tally
@@ -28,11 +30,14 @@ counted t Ready files = record t { complete = more t.complete files }
 counted t Awaits files = record t { incomplete = more t.incomplete files }
 counted t Lacks files = record t { incomplete = more t.incomplete files }
 counted t Exists files = record t { existing = more t.existing files }
+counted t Different files = record t { existing = more t.existing files }
+counted t NotCompared files = record t { existing = more t.existing files }
 counted t Conflict files = record t { in_conflict = more t.in_conflict files }
 counted t NotFound files = record t { not_found = more t.not_found files }
 counted t Failed files = record t { failed = more t.failed files }
 counted t Salvaged files = t
 counted t StageKept files = t
+counted t Differs files = t
 
 -- the last line
 abbrev pub total_line : Tally → List ℕ

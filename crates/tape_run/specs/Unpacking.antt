@@ -1,5 +1,6 @@
 -- Which files are unpacked from images, and under which names.
-use Rattle.std.specs.Prelude.{◌≡◌, ◌==◌, ◌&&◌, ◌||◌, not, false, ℕ, zero, suc, ◌+◌, ◌-◌, ◌/◌, ◌%◌}
+use Rattle.std.specs.Prelude.{◌≡◌, ◌==◌, ◌&&◌, ◌||◌, not, false, ℕ, zero, suc, ◌+◌, ◌-◌}
+use Rattle.std.specs.Prelude.{◌/◌, ◌%◌}
 use Rattle.std.specs.Prelude.{nat_le, nat_lt, Bool, if◌then◌else◌, List, [], ◌∷◌, ◌++◌, length}
 use Rattle.std.specs.Prelude.{take, Option, Some, None, option_map, is_some, codes, decimal, get_or}
 use Rattle.std.specs.{List.flat_map, Option.option_or}
@@ -12,19 +13,30 @@ use Rattle.tape_run.specs.{Lacks.SetFiles, Lacks.sets_from, Lacks.lack_of, Quoti
 use Rattle.tape_run.specs.{Reeling.Mounting, SurveyCopies.dispute_at, SurveyLine.trimmed_len}
 use Rattle.tape_run.specs.SurveyCopies.{opponents_at}
 use Rattle.tape_run.specs.{SurveyTally.is_whole_sight, SurveyFiles.note_at, SurveyFiles.file_key}
+use Rattle.tape_run.specs.SurveyFiles.{reads_wide, flaw_of, flaw_section}
+use Rattle.tape_run.specs.declared.survey.fits.Flaw.{Flaw}
 use Rattle.tape_run.specs.SurveyRead.{Found, nothing_found, AreViewed}
 
+-- the first section that is complete on no image, or else the one that is not readable for this
+-- reason
+abbrev pub lack_with : Option Flaw → Option ℕ → Option ℕ
+lack_with (Some flaw) None = Some (flaw_section flaw)
+lack_with flaw lack = lack
+
 -- the file that is described by these facts about its labels; without a label there is none. It is
--- in conflict if its labels differ, or good copies of a section, and then two images are named.
+-- in conflict if its labels differ, or good copies of a section, and then two images are named. It
+-- may be read in the wider reading unless a section has lost its second label.
 abbrev pub file_by : Found → List ℕ → ℕ → Option FileNote → List SetFile
 file_by d set_id file None = []
 file_by d set_id file (Some note) = record {
   set_id = set_id;
   file = file;
   file_id = note.head.file_id;
+  created = note.head.created;
   differs = is_some note.conflict || is_some (dispute_at d.copies (file_key set_id file));
   conflict = option_or note.conflict (opponents_at d.copies (file_key set_id file));
-  lacks = lack_of d.sections set_id file;
+  lacks = lack_with (flaw_of note) (lack_of d.sections set_id file);
+  wide = reads_wide note;
 } ∷ []
 
 -- the file with this number, if a label of it was found

@@ -6,12 +6,14 @@ pub mod images;
 pub mod line;
 mod located;
 mod now;
+pub mod opening;
 mod out_sink;
 
 ghost use Rattle.std.specs.Prelude.{◌≡◌, ◌≢◌, None, List, OnOk, IfOk, OnErr, IfErr, true, false};
 ghost use Rattle.std.specs.Io.KnownBytes.{Appends};
 ghost use Rattle.tape_blocks.specs.{Block.Portion, Parts.view};
-ghost use Rattle.tape_run.specs.Causes.{WritingFails, ExtractFails, RefusesAny, IsCalm};
+ghost use Rattle.tape_run.specs.Causes.{WritingFails, ExtractFails, RefusesAny, RefusesWalk};
+ghost use Rattle.tape_run.specs.Causes.{IsCalm};
 ghost use Rattle.tape_run.specs.{Crash.IsWalked, Crash.BringsNoMore, Reeling.goes_back};
 ghost use Rattle.tape_run.specs.Extracting.{Extracts, Stops, EndsFile, StopsAtEnd, IsWritten};
 ghost use Rattle.tape_run.specs.Extracting.{LeavesOutput};
@@ -28,6 +30,7 @@ use images::read_rounds;
 pub use line::{ReelLine, ReportLine, last_line};
 pub use located::{Mounted, extract_located};
 pub use now::{Place, extract_streaming};
+pub use opening::{AsTheyAre, Opener};
 pub use out_sink::OutSink;
 use std::io::{Read, Write};
 use tape_blocks::{Form, Part};
@@ -84,7 +87,7 @@ pub fn extract_to<S: PartWalk, R: Read + Drop, L: ImageSource<R>, W: Write, P: W
     ensures calm { OnOk result (IsCalm S.PartSink session.old session.new) }
 {
     let back = has_note(session);
-    read_rounds(session, images, back, false, report)?;
+    read_rounds(session, images, &mut AsTheyAre, back, false, report)?;
     end_file(session, form, out, report)
 }
 
@@ -94,15 +97,23 @@ pub fn extract_to<S: PartWalk, R: Read + Drop, L: ImageSource<R>, W: Write, P: W
 ///
 /// After a reel the session is saved only if its position differs from that of its last checkpoint.
 ///
-/// Each image is opened again in each pass. A source that yields an image only once yields none
-/// then, and it is reported as not opened.
+/// Each image is opened by `opener`, again in each pass. A source that yields an image only once
+/// yields none then, and it is reported as not opened.
 ///
 /// # Errors
 ///
 /// The errors of `extract_to`.
-pub fn extract_in_passes<S: PartWalk, R: Read + Drop, L: ImageSource<R>, W: Write, P: Write>(
+pub fn extract_in_passes<
+    S: PartWalk,
+    R: Read + Drop,
+    L: ImageSource<R>,
+    M: Opener<S, R, L>,
+    W: Write,
+    P: Write,
+>(
     session: &mut Session<S>,
     images: &mut L,
+    opener: &mut M,
     form: Form,
     out: &mut W,
     report: &mut P,
@@ -120,12 +131,12 @@ pub fn extract_in_passes<S: PartWalk, R: Read + Drop, L: ImageSource<R>, W: Writ
     // The sink refused a call, or memory ran out, or a write failed; a session without a checkpoint
     // is not rolled back.
     ensures cause { IfErr result (λ fault. ExtractFails S.PartSink
-        (RefusesAny S.PartSink S.refuses) (goes_back session.old.notes) fault
-        session.old session.new) }
+        (RefusesAny S.PartSink (RefusesWalk S.refuses M.refuses))
+        (goes_back session.old.notes) fault session.old session.new) }
     ensures calm { OnOk result (IsCalm S.PartSink session.old session.new) }
 {
     let back = has_note(session);
-    read_rounds(session, images, back, true, report)?;
+    read_rounds(session, images, opener, back, true, report)?;
     end_file(session, form, out, report)
 }
 

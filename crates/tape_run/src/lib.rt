@@ -36,8 +36,8 @@ pub use crate::extract::images::ImageSource;
 pub use catalogue::Catalogue;
 pub use check::check_to;
 pub use extract::{
-    Mounted, OutSink, Place, ReelLine, ReportLine, extract_in_passes, extract_located,
-    extract_streaming, extract_to, last_line, write_file, write_part,
+    AsTheyAre, Mounted, Opener, OutSink, Place, ReelLine, ReportLine, extract_in_passes,
+    extract_located, extract_streaming, extract_to, last_line, write_file, write_part,
 };
 pub use fault::{EngineFault, ListFault, RunFault, Stopped, WriteFailed};
 pub use laws::{only_refusals_stop, stands_across_crashes, stood_comes_back};
@@ -54,6 +54,8 @@ pub use salvage::{Content, SalvageTask, salvage_to};
 pub use script::{Step, run};
 pub use section::{Entry, ImageLine, ImageStop, Lack, SectionKey, SectionLine, SectionState};
 pub use session::Session;
+pub use session::compared::Overlap;
+pub use survey::dates::{Date, date_of};
 pub use survey::locations::Locations;
 pub use survey::{Wording, survey_to};
 pub use text::{flush, write_text};

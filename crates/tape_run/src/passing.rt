@@ -4,11 +4,14 @@ ghost use Rattle.std.specs.Prelude.{◌≡◌, ◌<◌};
 ghost use Rattle.tape_image.specs.Reader.{tape_item};
 ghost use Rattle.tape_set.specs.Lawful.{most_blocks};
 ghost use Rattle.tape_run.specs.Passing.{under_way, blocks_of, header_phase, step};
+ghost use Rattle.tape_run.specs.WidePassing as Wide;
 
 use crate::met::{Met, Told};
 use crate::section::SectionKey;
 use tape_image::Item;
-use tape_label::{Field, Kind, is_volume_label, kind, read_head1, read_trail1, read_vol1};
+use tape_label::{
+    Field, Kind, is_further_header, is_volume_label, kind, read_head1, read_trail1, read_vol1,
+};
 
 /// The kind of item that is expected next.
 #[derive(Clone, Copy)]
@@ -95,6 +98,21 @@ pub(crate) fn step(phase: Phase, item: Item<'_>) -> (Phase, Option<Told>)
             Phase::Trailers(volume) => (Phase::Next(volume), None),
             _ => (Phase::Over, None),
         },
+    }
+}
+
+/// Processes an item as `step` does, in the wider reading: a section has no HDR2 if its HDR1 is
+/// followed by a tape mark or a further header label.
+pub(crate) fn wide_step(phase: Phase, item: Item<'_>) -> (Phase, Option<Told>)
+    requires { blocks_of phase < most_blocks }
+    ensures { result ≡ Wide.step phase (tape_item item.entry) }
+{
+    match (phase, item) {
+        (Phase::Second(met), Item::Mark) => (Phase::Data(met), None),
+        (Phase::Second(met), Item::Block(bytes)) if is_further_header(bytes) => {
+            (Phase::Headers(met), None)
+        }
+        _ => step(phase, item),
     }
 }
 

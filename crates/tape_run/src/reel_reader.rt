@@ -1,5 +1,7 @@
 //! Reads a reel into a sink, and returns the outcome.
 
+pub mod walk;
+
 ghost use Rattle.std.specs.Prelude.{◌≡◌, ℕ, ◌+◌, ◌++◌, ◌<◌, ◌≤◌, List, Some, None, OnOk, OnErr};
 ghost use Rattle.std.specs.Prelude.{IfOk, IfErr, IfSome, length, drop};
 ghost use Rattle.tape_image.specs.Reader.{going, seen, IfKnown};
@@ -60,10 +62,14 @@ impl ReelAnswer {
 pub struct ReelReader<S> {
     pub core: ReaderCore,
     pub sink: S,
+    /// Whether reels are read in the wider reading.
+    pub wide: bool,
 }
 
 /// Returns the event for the result of an image's reader, and the image's fault, if any.
-fn event_of<'a>(told: Result<Option<Item<'a>>, ImageFault>) -> (Event<'a>, Option<ImageFault>)
+pub(crate) fn event_of<'a>(
+    told: Result<Option<Item<'a>>, ImageFault>,
+) -> (Event<'a>, Option<ImageFault>)
     ensures comes { arrival result.0 ≡ came_of (seen told.entry) }
     ensures fault { result.1 ≡ fault_of (seen told.entry) }
 {
@@ -122,6 +128,7 @@ impl<S: PartSink> ReelReader<S> {
             (saved (after_block self.old.core awaited.now.end) 0) self.new.core) }
         ensures file { self.new.core.file ≡ self.old.core.file }
         ensures set_id { self.new.core.set_id ≡ self.old.core.set_id }
+        ensures wide { self.new.wide ≡ self.old.wide }
         ensures cause { IfErr result (λ fault. IsRefused S.refusals S.refuses_change
             self.old.sink fault self.new.sink) }
         ensures calm { OnOk result (S.refusals self.new.sink ≡ S.refusals self.old.sink) }
@@ -156,39 +163,42 @@ impl<S: PartSink> ReelReader<S> {
         ensures same_device { image.new.device ≡ image.old.device }
         ensures file { self.new.core.file ≡ self.old.core.file }
         ensures set_id { self.new.core.set_id ≡ self.old.core.set_id }
+        ensures wide { self.new.wide ≡ self.old.wide }
         ensures answer { IfOk result (λ answer. IfKnown image.old.left image.new.left
-            (λ bytes left. ReadsReel self.old.core bytes left answer self.new.core)) }
+            (λ bytes left. ReadsReel self.old.wide self.old.core bytes left answer self.new.core)) }
         ensures complete { IfOk result (λ answer. answer.answer ≡ Answer.Complete
             → self.new.core.position ≡ Position.Finished) }
         ensures finished { IfOk result (λ answer.
             self.new.core.position ≡ Position.Finished → answer.answer ≡ Answer.Complete) }
         ensures taken { OnErr result (IfKnown image.old.left image.new.left
-            (ReadsToBlock self.new.core self.old.core)) }
+            (ReadsToBlock self.old.wide self.new.core self.old.core)) }
         ensures ok { IfOk result (λ answer. (held : List Portion) → S.holds self.old.sink held
             → (now : List Portion) × S.holds self.new.sink now × IsFront held now
-            × IfSome image.old.left (ReadsImage (is_device answer.fault) self.old.core
-            self.new.core held now image.new.left)) }
+            × IfSome image.old.left (ReadsImage self.old.wide (is_device answer.fault)
+            self.old.core self.new.core held now image.new.left)) }
         ensures err { OnErr result ((held : List Portion) → S.holds self.old.sink held
             → (now : List Portion) × S.holds self.new.sink now × IsFront held now
             × IfSome image.old.left
-            (CutsTable self.old.core (rest_of self.new.core) held now)) }
+            (CutsTable self.old.wide self.old.core (rest_of self.new.core) held now)) }
         ensures cause { IfErr result (λ fault. IsRefused S.refusals S.refuses_change
             self.old.sink fault self.new.sink) }
         ensures calm { OnOk result (S.refusals self.new.sink ≡ S.refusals self.old.sink) }
         ensures crash { BringsNoMore S.PartSink self.old.sink self.new.sink }
     {
+        let wide = self.wide;
         let mut blocks = 0u32;
         'items: loop {
             let told = image.next();
             if let Ok(Some(Item::Block(block))) = told {
-                if let Some(awaited) = self.core.awaited(block) {
-                    self.put_block(&awaited, block)?;
+                let content = self.core.as_read(wide, block);
+                if let Some(awaited) = self.core.awaited(content) {
+                    self.put_block(&awaited, content)?;
                     blocks += 1;
                     continue 'items;
                 }
             }
             let (event, fault) = event_of(told);
-            match self.core.step(event) {
+            match self.core.step_by(wide, event) {
                 Answer::Passed => continue 'items,
                 answer => return Ok(ReelAnswer::new(answer, fault, blocks)),
             }

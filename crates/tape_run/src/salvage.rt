@@ -10,6 +10,7 @@ ghost use Rattle.tape_image.specs.Written.{AppendsFront};
 mod conflicts;
 mod copies;
 mod ending;
+mod front;
 mod image;
 mod mender;
 mod outside;

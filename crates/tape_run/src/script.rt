@@ -98,6 +98,7 @@ pub fn run<S: PartSink, R: Read>(
     ensures calm { OnOk result (IsCalm S.PartSink session.old session.new) }
     ensures cause { IfErr result (λ end. StopsFor S.PartSink steps.now end.step end.fault
         session.old session.new) }
+    ensures wide { session.new.wide ≡ session.old.wide }
     // A reader that no step took is unchanged.
     ensures unread { OnOk result (drop (reels_in steps.now) reels.new
         ≡ drop (reels_in steps.now) reels.old) }
@@ -139,6 +140,7 @@ fn make<S: PartSink, R: Read>(
     ensures calm { OnOk result (IsCalm S.PartSink session.old session.new) }
     ensures cause { IfErr result (λ fault.
         RefusesStep S.PartSink step fault session.old session.new) }
+    ensures wide { session.new.wide ≡ session.old.wide }
     ensures takes { IfOk result (λ now_used. now_used ≡ used + reels_in (step ∷ [])) }
     ensures behind { drop (used + reels_in (step ∷ [])) reels.new
         ≡ drop (used + reels_in (step ∷ [])) reels.old }

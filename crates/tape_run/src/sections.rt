@@ -55,7 +55,7 @@ fn make_room(sections: &mut Sections, phase: &Phase) -> Result<(), RunFault>
 
 /// Adds the section that was completed, if any. A known section keeps its place, with the better of
 /// the two states.
-fn note_told(sections: &mut Sections, told: Option<Told>) -> Result<(), RunFault>
+pub(crate) fn note_told(sections: &mut Sections, told: Option<Told>) -> Result<(), RunFault>
     ensures fault { IsOkUnless result faults.OutOfMemory }
     ensures ok { OnOk result (sections.new.entries
         ≡ noted_all sections.old.entries (in_list told)) }

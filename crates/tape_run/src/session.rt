@@ -1,11 +1,13 @@
 //! Sessions: one file read from its reels, in any order, into one sink.
 
 mod behind;
+pub mod compared;
 mod output;
 mod points;
+mod reading;
 
-ghost use Rattle.std.specs.Prelude.{◌≡◌, [], ◌≢◌, List, Option, None, Ok, Err, IsOk, OnOk, IfOk};
-ghost use Rattle.std.specs.Prelude.{IfErr, IfSome, OnErr, length, take, ◌++◌, ◌∷◌, ◌+◌};
+ghost use Rattle.std.specs.Prelude.{◌≡◌, [], ◌≢◌, false, List, Option, None, Ok, Err, IsOk, OnOk};
+ghost use Rattle.std.specs.Prelude.{IfOk, IfErr, IfSome, OnErr, length, take, ◌++◌, ◌∷◌, ◌+◌};
 ghost use Rattle.tape_image.specs.Reader.{IfKnown};
 ghost use Rattle.tape_blocks.specs.Block.{Portion};
 ghost use Rattle.tape_set.specs.{Layout.FileSet, Position.want_at};
@@ -49,6 +51,7 @@ impl<S> Model for Session<S> {
       sink = s.reel_reader.sink;
       notes = s.notes.items;
       failures = s.failures;
+      wide = s.reel_reader.wide;
     } };
 }
 
@@ -64,6 +67,7 @@ impl<S: PartSink + Drop> Session<S> {
         ensures start { IfOk result (λ session. IsStart set_id file (seen S.PartSink session [])) }
         ensures kept { IfOk result (λ session. IsKept (seen S.PartSink session [])) }
         ensures core { IfOk result (λ session. session.core ≡ reader_of set_id file) }
+        ensures strict { IfOk result (λ session. session.wide ≡ false) }
         ensures number { IsFileNumber file → IsOk result }
         ensures refused { (IsFileNumber file → ⊥) → result ≡ Err CoreFault.FileNumber }
     {
@@ -80,10 +84,15 @@ impl<S: PartSink> Session<S> {
         ensures place { rest_of result.core ≡ rest_of core }
         ensures notes { result.notes ≡ [] }
         ensures failures { result.failures ≡ 0 }
+        ensures strict { result.wide ≡ false }
     {
         Session {
             alloc,
-            reel_reader: ReelReader { core, sink },
+            reel_reader: ReelReader {
+                core,
+                sink,
+                wide: false,
+            },
             notes: Vec::new(alloc),
             failures: 0,
         }
@@ -99,6 +108,7 @@ impl<S: PartSink> Session<S> {
         ensures resumed { (held : List Portion)
             → IsResumed point.now held (seen S.PartSink result held) }
         ensures failures { result.failures ≡ 0 }
+        ensures strict { result.wide ≡ false }
     {
         Session::over(alloc, ReaderCore::at(point), sink)
     }
@@ -144,6 +154,7 @@ impl<S: PartSink> Session<S> {
         ensures notes { self.new.notes ≡ self.old.notes }
         ensures file { (self.new.core.set_id ≡ self.old.core.set_id)
             × (self.new.core.file ≡ self.old.core.file) }
+        ensures wide { self.new.wide ≡ self.old.wide }
         ensures count { IfOk result (λ answer.
             self.new.failures ≡ counted (is_device answer.fault) self.old.failures) }
         ensures calm { IfOk result (λ _.
@@ -154,15 +165,15 @@ impl<S: PartSink> Session<S> {
         // no byte after what ended the reading was read.
         ensures answer { IfOk result (λ answer. IfKnown (R.remaining device.old)
             (R.remaining device.new)
-            (λ bytes left. Reads self.old.core.position self.old.core (mount_of self.old.core)
-            bytes left answer self.new.core)) }
+            (λ bytes left. Reads self.old.wide self.old.core.position self.old.core
+            (mount_of self.old.core) bytes left answer self.new.core)) }
         // Whatever was read, the answer is Complete exactly if nothing is missing any more.
         ensures complete { IfOk result (λ answer. answer.answer ≡ Answer.Complete
             → self.new.core.position ≡ Position.Finished) }
         ensures finished { IfOk result (λ answer.
             self.new.core.position ≡ Position.Finished → answer.answer ≡ Answer.Complete) }
         ensures unread { IfErr result (λ fault.
-            Leaves fault (mount_of self.old.core) (R.remaining device.old)
+            Leaves self.old.wide fault (mount_of self.old.core) (R.remaining device.old)
             (R.remaining device.new) self.new.core) }
         // In any case: a crash during or after it leaves nothing new.
         ensures crash { BringsNoMore S.PartSink self.old.sink self.new.sink }
@@ -208,6 +219,7 @@ impl<S: PartSink> Session<S> {
         ensures at { IfOk result (λ point.
             point ≡ saved (rest_of self.old.core) (S.weighs self.old.sink)) }
         ensures place { self.new.core ≡ self.old.core }
+        ensures wide { self.new.wide ≡ self.old.wide }
         ensures calm { OnOk result (S.refusals self.new.sink ≡ S.refusals self.old.sink) }
         ensures refuses { IfErr result (λ fault. Refuses S.PartSink fault self.old self.new) }
         // The checkpoint is valid, with the parts delivered.
@@ -250,6 +262,7 @@ impl<S: PartSink> Session<S> {
         ensures notes { OnOk result (self.new.notes ≡ self.old.notes
             ++ saved (rest_of self.old.core) (S.weighs self.old.sink) ∷ []) }
         ensures place { self.new.core ≡ self.old.core }
+        ensures wide { self.new.wide ≡ self.old.wide }
         ensures err { IfErr result (λ fault. (fault ≡ RunFault.OutOfMemory)
             × (self.new ≡ self.old)) }
     {
@@ -286,6 +299,7 @@ impl<S: PartSink> Session<S> {
             × (self.new.notes ≡ self.old.notes)) }
         ensures place { OnOk result (IsAtNote n self.old self.new) }
         ensures notes { OnOk result (self.new.notes ≡ take (n + 1) self.old.notes) }
+        ensures wide { self.new.wide ≡ self.old.wide }
         ensures calm { OnOk result (S.refusals self.new.sink ≡ S.refusals self.old.sink) }
         ensures refuses { IfErr result (λ fault.
             RefusesRestart S.PartSink n fault self.old self.new) }

@@ -3,6 +3,7 @@
 
 ghost use Rattle.tape_run.specs.{SurveyConflicts.CopiesAreShown, SurveyDigest.TellsWordsApart};
 ghost use Rattle.tape_run.specs.SurveyLaws.{LeavesThere, EndedIsVolume, VolumesAreListed};
+ghost use Rattle.tape_run.specs.WidePassing.{FindsTheSame};
 
 /// If an item is reported to break the order of a volume, the items before it are in that order,
 /// and together with it they are not.
@@ -37,4 +38,11 @@ pub fn copies_are_shown()
 #[tactic(auto, using(crate::proofs::SurveyListed::volumes_are_listed))]
 pub fn volumes_are_listed()
     ensures { VolumesAreListed }
+{}
+
+/// If no HDR1 on an image is followed by a tape mark or by a header label other than HDR2, a survey
+/// finds the sections that `check` finds.
+#[tactic(auto, using(crate::proofs::WideSoFar::finds_the_same))]
+pub fn finds_what_check_finds()
+    ensures { FindsTheSame }
 {}

@@ -6,9 +6,9 @@ pub mod name;
 mod order;
 pub mod tally;
 
-ghost use Rattle.std.specs.{Prelude.◌≡◌, Prelude.◌++◌, Prelude.IfOk, Prelude.OnOk};
+ghost use Rattle.std.specs.Prelude.{◌≡◌, ◌++◌, ◌∷◌, [], Some, IfOk, OnOk};
 ghost use Rattle.std.specs.Result.{IsOkUnless};
-ghost use Rattle.tape_run.specs.Unpacking.{file_at, files_from, files_of};
+ghost use Rattle.tape_run.specs.Unpacking.{file_at, file_by, files_from, files_of, lack_with};
 ghost use Rattle.tape_run.specs.Unpacking.{is_read, is_passed, set_of, volume_of, FilesOn};
 ghost use Rattle.tape_run.specs.declared.fault.RunFault.TheVariants as faults;
 
@@ -16,7 +16,8 @@ use crate::extract::images::ImageSource;
 use crate::fault::RunFault;
 use crate::lacks::lack_of;
 use crate::report::sets_of;
-use crate::survey::files::FileKey;
+use crate::survey::files::{FileKey, FileNote, reads_wide};
+use crate::survey::fits::{Flaw, flaw_of};
 use crate::survey::glance::First;
 use crate::survey::locations::Locations;
 use crate::survey::view::{Findings, ImageSurvey, read_images};
@@ -33,12 +34,19 @@ pub struct SetFile {
     pub file: u16,
     /// The file identifier of the header label that was found first.
     pub file_id: Field<17>,
+    /// The creation date of that label.
+    pub created: Field<6>,
     /// Whether labels of different files have the number, or complete copies of a section differ.
     pub differs: bool,
     /// The numbers of two images with such labels or copies, if there are any.
     pub conflict: Option<(usize, usize)>,
-    /// The first section that is complete on no image, if there is one.
+    /// The first section that is complete on no image or, if there is none, one that is not
+    /// readable: its second label is lost or not supported, or a block is not in its format.
     pub lacks: Option<u16>,
+    /// Whether it may be read in the wider reading ([`Session::widen`](crate::Session::widen)):
+    /// no section lacks its second header label, or no section has one, nor a second trailer
+    /// label. Otherwise that label is lost, and the blocks are not records.
+    pub wide: bool,
 }
 
 /// The findings of `unpack` on its images.
@@ -139,6 +147,34 @@ pub fn volume_of(sight: &Option<ImageSurvey>) -> Option<Field<6>>
     }
 }
 
+/// Returns the first section that is complete on no image, or else the one that is not readable for
+/// this reason, if there is one.
+fn lack_with(flaw: Option<Flaw>, lack: Option<u16>) -> Option<u16>
+    ensures { result ≡ lack_with flaw lack }
+{
+    match (lack, flaw) {
+        (None, Some(flaw)) => Some(flaw.section()),
+        (lack, _) => lack,
+    }
+}
+
+/// Returns what is known of a file.
+fn set_file(findings: &Findings, key: FileKey, note: &FileNote) -> SetFile
+    ensures { result ∷ [] ≡ file_by findings.now key.set_id key.file (Some note.now) }
+{
+    let FileKey { set_id, file } = key;
+    SetFile {
+        set_id,
+        file,
+        file_id: note.head.file_id,
+        created: note.head.created,
+        differs: note.conflict.is_some() || findings.copies.dispute(&key).is_some(),
+        conflict: note.conflict.or(findings.copies.opponents(&key)),
+        lacks: lack_with(flaw_of(note), lack_of(&findings.sections, set_id, file)),
+        wide: reads_wide(note),
+    }
+}
+
 /// Adds a file to those before it, if a label of it was found.
 fn add_file(
     files: &mut Vec<SetFile>,
@@ -153,14 +189,7 @@ fn add_file(
     let Some(note) = findings.files.notes.get(&key) else {
         return Ok(());
     };
-    files.push(SetFile {
-        set_id,
-        file,
-        file_id: note.head.file_id,
-        differs: note.conflict.is_some() || findings.copies.dispute(&key).is_some(),
-        conflict: note.conflict.or(findings.copies.opponents(&key)),
-        lacks: lack_of(&findings.sections, set_id, file),
-    })?;
+    files.push(set_file(findings, key, note))?;
     Ok(())
 }
 

@@ -1,6 +1,6 @@
 //! Whole readings, each in one call.
 
-ghost use Rattle.std.specs.Prelude.{◌≡◌, [], List, Err, IsOk, IfOk, OnOk, IfErr, map};
+ghost use Rattle.std.specs.Prelude.{◌≡◌, [], false, List, Err, IsOk, IfOk, OnOk, IfErr, map};
 ghost use Rattle.tape_blocks.specs.Block.{Portion};
 ghost use Rattle.tape_core.specs.{Known.IsFileNumber, Place.rest_of, Memory.portions};
 ghost use Rattle.tape_core.specs.Table.{reader_of};
@@ -35,11 +35,11 @@ pub fn read_file<R: Read>(
     // that the history leads to.
     ensures read { IfOk result (λ read. OnOk read.1 (IfTold R.remaining reels.old (λ bytes.
         (now : Seen) × (now.parts ≡ portions read.0.sink) × (now.place ≡ rest_of read.0.core)
-        × (now.notes ≡ read.0.notes) × (now.failures ≡ read.0.failures)
+        × (now.notes ≡ read.0.notes) × (now.failures ≡ read.0.failures) × (now.wide ≡ false)
         × IsRead set_id file steps.now bytes (map R.remaining reels.new) now))) }
     // If it stopped at a step, the same is true of the steps before it.
     ensures stopped { IfOk result (λ read. IfErr read.1 (λ end. IfTold R.remaining reels.old
-        (λ bytes. (began : Seen) × IsStart set_id file began
+        (λ bytes. (began : Seen) × IsStart set_id file began × (began.wide ≡ false)
         × (now : Seen) × (now.place ≡ rest_of read.0.core)
         × (now.notes ≡ read.0.notes) × (now.failures ≡ read.0.failures)
         × ((LosesParts steps.now end.step end.fault → ⊥) → now.parts ≡ portions read.0.sink)
@@ -75,12 +75,12 @@ pub fn resume_and_run<S: PartSink, R: Read>(
     // If all steps succeeded: a session that was resumed at the checkpoint is where the history
     // leads, with the parts before that position.
     ensures delivers { OnOk result.1 ((held : List Portion) → S.holds sink held
-        → (began : Seen) × IsResumed point.now held began
+        → (began : Seen) × IsResumed point.now held began × (began.wide ≡ false)
         × IsSeen S.PartSink result.0 (λ new. IfTold R.remaining reels.old (λ bytes.
         HasRun began steps.now bytes (map R.remaining reels.new) new))) }
     // If it stopped at one of them: the same for the steps before it.
     ensures stopped { IfErr result.1 (λ end. (held : List Portion) → S.holds sink held
-        → (began : Seen) × IsResumed point.now held began
+        → (began : Seen) × IsResumed point.now held began × (began.wide ≡ false)
         × IsSeenUnless (LosesParts steps.now end.step end.fault) S.PartSink result.0 (λ new.
         IfTold R.remaining reels.old (λ bytes.
         HasStopped began steps.now bytes (map R.remaining reels.new) end.step end.fault

@@ -37,6 +37,8 @@ mod now;
 #[cfg(test)]
 mod order;
 #[cfg(test)]
+mod overlap;
+#[cfg(test)]
 mod placed;
 #[cfg(test)]
 mod points;
@@ -49,6 +51,8 @@ mod rounds;
 #[cfg(test)]
 mod salvaged;
 #[cfg(test)]
+mod salvaged_formats;
+#[cfg(test)]
 mod scripts;
 #[cfg(test)]
 mod sections;
@@ -59,10 +63,18 @@ mod survey;
 #[cfg(test)]
 mod survey_copies;
 #[cfg(test)]
+mod survey_fits;
+#[cfg(test)]
+mod survey_mixed;
+#[cfg(test)]
 mod survey_rows;
+#[cfg(test)]
+mod survey_wide;
 #[cfg(test)]
 mod taken_back;
 #[cfg(test)]
 mod unpack;
 #[cfg(test)]
 mod volumes;
+#[cfg(test)]
+mod wide;

@@ -9,7 +9,7 @@ use std::process::Abort;
 use std::test::Fail;
 use tape_blocks::Form;
 use tape_core::MemorySink;
-use tape_run::{ImageSource, Session, extract_in_passes};
+use tape_run::{AsTheyAre, ImageSource, Session, extract_in_passes};
 
 /// A source of reels, each of which is returned as often as it is mounted.
 #[derive(Drop)]
@@ -54,7 +54,15 @@ fn gives<H: Abort + AllocGlobal>(
     let mut session = Session::new(rt.alloc(), set_id(), 1, MemorySink::new(rt.alloc()))?;
     session.note()?;
     let mut shelf = Kept { reels };
-    extract_in_passes(&mut session, &mut shelf, Form::Raw, &mut out, &mut report)?;
+    let (out, report) = (&mut out, &mut report);
+    extract_in_passes(
+        &mut session,
+        &mut shelf,
+        &mut AsTheyAre,
+        Form::Raw,
+        out,
+        report,
+    )?;
     assert_eq!(rt; report.as_slice(), lines.as_bytes(), "{lines}");
     assert!(rt; out.len() == length, "{lines}");
     Ok(())
@@ -91,7 +99,15 @@ fn reels_that_are_given_once(rt: HostRuntime) -> Result<(), Fail> {
     let (mut report, mut out) = (Vec::new(rt.alloc()), Vec::new(rt.alloc()));
     let mut session = Session::new(rt.alloc(), set_id(), 1, MemorySink::new(rt.alloc()))?;
     let mut shelf = shelf_of(rt.alloc(), &mut [Some(two.bytes.as_slice())])?;
-    extract_in_passes(&mut session, &mut shelf, Form::Raw, &mut out, &mut report)?;
+    let (out, report) = (&mut out, &mut report);
+    extract_in_passes(
+        &mut session,
+        &mut shelf,
+        &mut AsTheyAre,
+        Form::Raw,
+        out,
+        report,
+    )?;
     let lines = "REEL 1 BAD ITEM\nREEL 2 NOT OPENED\nAWAITS 1 1 1\n";
     assert_eq!(rt; report.as_slice(), lines.as_bytes(), "{lines}");
     Ok(())

@@ -15,10 +15,10 @@ use tape_run::{Content, ImageSource, SalvageTask, salvage_to};
 /// A source of one image. Its reader returns `first` the first time and `again` from then on, and
 /// then fails.
 #[derive(Drop)]
-struct Twice<'a> {
-    first: &'a [u8],
-    again: &'a [u8],
-    is_read: bool,
+pub struct Twice<'a> {
+    pub first: &'a [u8],
+    pub again: &'a [u8],
+    pub is_read: bool,
 }
 
 impl<'a> ImageSource<Failing<'a>> for Twice<'a> {

@@ -30,12 +30,12 @@ pub fn second_of_two(alloc: Global) -> Result<Image, AllocError> {
     Ok(image)
 }
 
-/// Returns a volume with the header label `header`, one block of one byte, and the trailer label
+/// Returns a volume with the header label `header`, one block of one record, and the trailer label
 /// `trailer`.
 pub fn one_section(alloc: Global, header: &str, trailer: &str) -> Result<Image, AllocError> {
     let mut image = Image::new(alloc);
     image.headers(&[VOL1, header, HDR2])?;
-    image.block(b"x")?;
+    image.records(0, 1, true)?;
     image.trailers(&[trailer])?;
     image.end()?;
     Ok(image)

@@ -54,10 +54,10 @@ fn begun(alloc: Global, block: &[u8]) -> Result<Image, AllocError> {
     Ok(image)
 }
 
-/// Returns the labels of the example volume without its `HDR2`, as some systems wrote them.
-fn without_second(alloc: Global) -> Result<Image, AllocError> {
+/// Returns a volume on which HDR1 is followed by another HDR1.
+fn headed_twice(alloc: Global) -> Result<Image, AllocError> {
     let mut image = Image::new(alloc);
-    image.headers(&[VOL1, HDR1])?;
+    image.headers(&[VOL1, HDR1, HDR1])?;
     image.block(b"x")?;
     image.trailers(&[EOF_ONE])?;
     image.end()?;
@@ -77,7 +77,7 @@ fn behind_noise(alloc: Global) -> Result<Image, AllocError> {
 fn second_unread(alloc: Global) -> Result<Image, AllocError> {
     let mut image = Image::new(alloc);
     image.headers(&[VOL1, HDR1, HDR2])?;
-    image.block(b"x")?;
+    image.records(0, 1, true)?;
     image.trailers(&[EOF_ONE])?;
     image.bad(b"y")?;
     image.end()?;
@@ -85,12 +85,12 @@ fn second_unread(alloc: Global) -> Result<Image, AllocError> {
 }
 
 /// Returns a volume with a file in an unsupported format.
-fn undefined(alloc: Global) -> Result<Image, AllocError> {
+fn unsupported(alloc: Global) -> Result<Image, AllocError> {
     let mut image = Image::new(alloc);
     image.headers(&[
         VOL1,
         HDR1,
-        "HDR2U0080000000                                   00",
+        "HDR2X0080000000                                   00",
     ])?;
     image.block(b"x")?;
     image.trailers(&[EOF_ONE])?;
@@ -208,22 +208,23 @@ Set ABC001: 1 of 1 files complete
 1 image: 0 ok, 1 damaged
 ";
 
-const UNDEFINED: &str = "one.tap                   unsupported  volume ABC001, 1 section
+const UNSUPPORTED: &str = "one.tap                   unsupported  volume ABC001, 1 section
     file 1 has an unsupported record format
-Set ABC001: 1 of 1 files complete
+Set ABC001: 0 of 1 files complete
   Volumes: ABC001
-   1 PAYROLL                        complete
+   1 PAYROLL                        incomplete
+            the record format in HDR2 is not supported
 1 image: 0 ok, 1 unsupported
 ";
 
 #[test]
 fn left_over(rt: HostRuntime) -> Result<(), Fail> {
     let alloc = rt.alloc();
-    one(&rt, &without_second(alloc)?, NO_SECOND)?;
+    one(&rt, &headed_twice(alloc)?, NO_SECOND)?;
     one(&rt, &second_unread(alloc)?, UNREAD)?;
     one(&rt, &with_items_behind(alloc)?, BEHIND)?;
     one(&rt, &cut(alloc, 2476)?, CUT)?;
-    one(&rt, &undefined(alloc)?, UNDEFINED)
+    one(&rt, &unsupported(alloc)?, UNSUPPORTED)
 }
 
 const COUNT: &str = "one.tap                   damaged      volume ABC001, 1 section

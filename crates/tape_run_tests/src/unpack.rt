@@ -139,7 +139,8 @@ fn labels_in_conflict(rt: HostRuntime) -> Result<(), Fail> {
         let mut images = Vec::new(alloc);
         for label in *labels {
             let header = format!(in alloc; "HDR1{label} 00000 000000")?;
-            images.push(one_section(alloc, header.as_str(), EOF_ONE)?)?;
+            let trailer = format!(in alloc; "EOF1{label} 00000 000001")?;
+            images.push(one_section(alloc, header.as_str(), trailer.as_str())?)?;
         }
         let mut shelf = Vec::new(alloc);
         for image in images.as_slice() {
@@ -211,9 +212,11 @@ fn words_mean_files(rt: HostRuntime) {
             set_id: Field::of_bytes(*b"ABC001"),
             file: 12,
             file_id: Field::of_bytes(**name),
+            created: Field::of_bytes(*b" 85113"),
             differs: false,
             conflict: None,
             lacks: None,
+            wide: true,
         };
         assert!(rt; means(*word, &file) == *is_meant, "{word}");
         for (set_id, is_of_set) in [

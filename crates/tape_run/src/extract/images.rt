@@ -5,12 +5,14 @@ ghost use Rattle.std.specs.{Prelude.IfOk, Prelude.IfErr, Bool.OnTrue, Bool.OnFal
 ghost use Rattle.tape_set.specs.declared.position.Position.TheVariants.{Finished};
 ghost use Rattle.tape_core.specs.Place.{rest_of};
 ghost use Rattle.tape_run.specs.{Causes.ReadingFails, Causes.IsCalm, Crash.LeavesStep, Seen.IfSeen};
+ghost use Rattle.tape_run.specs.Causes.{ExtractFails, RefusesAny};
 ghost use Rattle.tape_run.specs.Reeling.{Takes, TakesAll, counts_differ, IsKeptFor, Mounting, Took};
 ghost use Rattle.tape_run.specs.Stopping.{IsStopped, RefusesSave, StopsReading};
 ghost use Rattle.tape_run.specs.Rounds.{TakesRounds, StopsInRound};
 
 use crate::extract::line::ReelLine;
-use crate::fault::{EngineFault, NO_MEMORY, RunFault};
+use crate::extract::opening::Opener;
+use crate::fault::{EngineFault, RunFault};
 use crate::reel_reader::ReelAnswer;
 use crate::session::Session;
 use crate::text::write_line;
@@ -59,11 +61,12 @@ impl<R: Read> ImageSource<R> for Vec<Option<R>> {
     }
 }
 
-/// Opens the images in their order, once or, if they are read `again`, pass by pass until a pass
-/// was the last. `back` says whether the session rolls back after a suspect reel.
-pub fn read_rounds<S: PartSink, R: Read + Drop, L: ImageSource<R>, P: Write>(
+/// Opens the images in their order by `opener`, once or, if they are read `again`, pass by pass
+/// until a pass was the last. `back` says whether the session rolls back after a suspect reel.
+pub fn read_rounds<S: PartSink, R: Read + Drop, L: ImageSource<R>, M: Opener<S, R, L>, P: Write>(
     session: &mut Session<S>,
     images: &mut L,
+    opener: &mut M,
     back: bool,
     again: bool,
     report: &mut P,
@@ -74,15 +77,15 @@ pub fn read_rounds<S: PartSink, R: Read + Drop, L: ImageSource<R>, P: Write>(
     ensures err { IfErr result (StopsInRound S.PartSink (L.size images.old) L.gives R.remaining back
         again session.old session.new images.old images.new
         (P.contents report.old) (P.contents report.new)) }
-    ensures cause { IfErr result (λ fault.
-        ReadingFails S.PartSink back fault session.old session.new) }
+    ensures cause { IfErr result (λ fault. ExtractFails S.PartSink
+        (RefusesAny S.PartSink M.refuses) back fault session.old session.new) }
     ensures calm { OnOk result (IsCalm S.PartSink session.old session.new) }
 {
     let count = images.count();
     let mut lines = 0u64;
     'rounds: loop {
         let before = session.want();
-        read_round(session, images, count, lines, back, again, report)?;
+        read_round(session, images, opener, count, lines, back, again, report)?;
         if is_enough(again, before, session.want()) {
             return Ok(());
         }
@@ -106,9 +109,10 @@ fn is_enough(again: bool, before: Option<Want>, want: Option<Want>) -> bool
 /// Opens `count` images in order until the file is complete. `lines` lines precede theirs. `back`
 /// says whether the session rolls back after a suspect reel, `spares` whether it skips a checkpoint
 /// whose position the last one already has.
-fn read_round<S: PartSink, R: Read + Drop, L: ImageSource<R>, P: Write>(
+fn read_round<S: PartSink, R: Read + Drop, L: ImageSource<R>, M: Opener<S, R, L>, P: Write>(
     session: &mut Session<S>,
     images: &mut L,
+    opener: &mut M,
     count: usize,
     lines: u64,
     back: bool,
@@ -122,17 +126,15 @@ fn read_round<S: PartSink, R: Read + Drop, L: ImageSource<R>, P: Write>(
     ensures err { IfErr result (StopsReading S.PartSink count lines L.gives R.remaining back
         spares session.old session.new images.old images.new
         (P.contents report.old) (P.contents report.new)) }
-    ensures cause { IfErr result (λ fault.
-        ReadingFails S.PartSink back fault session.old session.new) }
+    ensures cause { IfErr result (λ fault. ExtractFails S.PartSink
+        (RefusesAny S.PartSink M.refuses) back fault session.old session.new) }
     ensures calm { OnOk result (IsCalm S.PartSink session.old session.new) }
 {
     for number in 0..count {
         if session.want().is_none() {
             return Ok(());
         }
-        let Ok(image) = images.mount(number) else {
-            return Err(NO_MEMORY);
-        };
+        let image = opener.open(session, images, number)?;
         let outcome = read_image(session, image, back, spares)?;
         let number = lines + number as u64 + 1;
         write_line(report, &ReelLine { number, outcome })?;

@@ -59,7 +59,7 @@ pub fn extract_located<W: Write + Drop, R: Read + Drop, L: ImageSource<R>, O: Pl
 ) -> Result<Option<u64>, EngineFault>
     // Whatever image is open, it is one with these bytes.
     ensures ok { IfOk result (λ records. (whole : Option (List ℕ))
-        → IsHeld R.remaining mounted.old whole
+        → IsHeld session.old.wide R.remaining mounted.old whole
         → ExtractsLocated ⟦<OutSink<W> as PartSink>⟧ L.gives R.remaining locations.now.entries
         session.old session.new images.old images.new (is_some mounted.old) whole mounted.new form
         (TellsAlways W.contents) (O.stands out.new) records) }
@@ -68,6 +68,7 @@ pub fn extract_located<W: Write + Drop, R: Read + Drop, L: ImageSource<R>, O: Pl
     ensures let_go { OnErr result (mounted.new ≡ None) }
     // Whatever the result, the session only read on.
     ensures reads { ReadsOnly ⟦<OutSink<W> as PartSink>⟧ session.old session.new }
+    ensures wide { session.new.wide ≡ session.old.wide }
     // While the images were read the sink refused a call, or memory ran out; or the file is
     // complete, and its output could not be ended; or a write failed.
     ensures cause { IfErr result (λ fault.
@@ -100,13 +101,14 @@ fn read_sections<S: PartSink, R: Read + Drop, L: ImageSource<R>>(
     locations: &Locations,
 ) -> Result<bool, EngineFault>
     ensures ok { IfOk result (λ complete. (whole : Option (List ℕ))
-        → IsHeld R.remaining mounted.old whole
+        → IsHeld session.old.wide R.remaining mounted.old whole
         → ReadsSections S.PartSink L.gives R.remaining locations.now.entries complete
         session.old session.new images.old images.new (is_some mounted.old) whole mounted.new) }
     ensures finished { IfOk result (λ complete. complete ≡ true
         → session.new.core.position ≡ Finished) }
     ensures let_go { OnErr result (mounted.new ≡ None) }
     ensures reads { ReadsOnly S.PartSink session.old session.new }
+    ensures wide { session.new.wide ≡ session.old.wide }
     ensures cause { IfErr result (λ fault.
         ReadingFails S.PartSink false fault session.old session.new) }
     ensures read_only { IfErr result (λ fault. fault ≢ EngineFault.WriteFailed) }
@@ -142,12 +144,14 @@ fn read_section<S: PartSink, R: Read + Drop, L: ImageSource<R>>(
     number: usize,
 ) -> Result<Option<Mounted<R>>, EngineFault>
     requires waits { session.old.core.position ≢ Finished }
-    ensures ok { IfOk result (λ after. (whole : Option (List ℕ)) → IsHeld R.remaining held whole
+    ensures ok { IfOk result (λ after. (whole : Option (List ℕ))
+        → IsHeld session.old.wide R.remaining held whole
         → ReadsLocated S.PartSink L.gives R.remaining number session.old session.new images.old
         images.new (is_some held) whole after) }
     ensures file { (session.new.core.set_id ≡ session.old.core.set_id)
         × (session.new.core.file ≡ session.old.core.file) }
     ensures reads { ReadsOnly S.PartSink session.old session.new }
+    ensures wide { session.new.wide ≡ session.old.wide }
     ensures unfinished { IfOk result (λ after. after ≡ None
         → session.new.core.position ≢ Finished) }
     ensures cause { IfErr result (λ fault.

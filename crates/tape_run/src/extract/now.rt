@@ -8,6 +8,7 @@ ghost use Rattle.tape_run.specs.Extracting.{Extracts, Stops, IsPut, LeavesName};
 
 use crate::extract::end_report;
 use crate::extract::images::{ImageSource, read_rounds};
+use crate::extract::opening::AsTheyAre;
 use crate::extract::out_sink::OutSink;
 use crate::fault::{EngineFault, WriteFailed};
 use crate::session::Session;
@@ -72,7 +73,7 @@ pub fn extract_streaming<W: Write + Drop, R: Read + Drop, L: ImageSource<R>, O: 
         × EndingFails session.new.sink.begun session.new.sink.form form fault)) }
 {
     // What was written remains: this session does not roll back.
-    read_rounds(session, images, false, false, report)?;
+    read_rounds(session, images, &mut AsTheyAre, false, false, report)?;
     if let Some(want) = session.want() {
         end_report(report, Some(want), 0)?;
         return Ok(Some(want));

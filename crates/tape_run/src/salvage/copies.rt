@@ -6,7 +6,8 @@ ghost use Rattle.tape_run.specs.SalvageCopies.{FindsCopies, believed, of_file, i
 ghost use Rattle.tape_run.specs.SalvageChoice.{IsBest, firsts};
 ghost use Rattle.tape_run.specs.{Checked.IsCheckFault, SalvageWalk.in_list};
 ghost use Rattle.tape_run.specs.SalvageCopies.{rank, start_of, skip_of, is_complete};
-ghost use Rattle.tape_run.specs.SalvageChoice.{last_section, form_of_file};
+ghost use Rattle.tape_run.specs.SalvageChoice.{last_section, form_of_file, recorded_form};
+ghost use Rattle.tape_run.specs.SalvageChoice.{absent_form_in};
 ghost use Rattle.tape_run.specs.declared.salvage.copies.SectionCopy.{SectionCopy};
 
 use crate::fault::{EngineFault, NO_MEMORY};
@@ -15,7 +16,7 @@ use std::alloc::Global;
 use std::io::Read;
 use tape_core::Known;
 use tape_image::ImageReader;
-use tape_label::Field;
+use tape_label::{Field, absent_head2};
 
 /// A section found on an image.
 #[derive(Clone, Copy)]
@@ -256,8 +257,8 @@ pub fn best_copy(copies: &[SectionCopy], sect: u16) -> Option<SectionCopy>
 }
 
 /// Returns the form of the file's blocks that the first label with a form records.
-pub fn form_of_file(copies: &[SectionCopy]) -> Option<Known>
-    ensures { result ≡ form_of_file copies.now }
+fn recorded_form(copies: &[SectionCopy]) -> Option<Known>
+    ensures { result ≡ recorded_form copies.now }
 {
     for copy in copies {
         if let Some(form) = copy.section.form {
@@ -265,4 +266,25 @@ pub fn form_of_file(copies: &[SectionCopy]) -> Option<Known>
         }
     }
     None
+}
+
+/// Returns the form of the first section without HDR2.
+fn absent_form(copies: &[SectionCopy]) -> Option<Known>
+    ensures { result ≡ absent_form_in copies.now }
+{
+    for copy in copies {
+        if copy.section.has_no_second {
+            let head = absent_head2();
+            return Known::from_parts(head.format, head.rec_len, head.offset, copy.section.file_id);
+        }
+    }
+    None
+}
+
+/// Returns the form of the file's blocks: that which a label records, or else that of a section
+/// without HDR2.
+pub fn form_of_file(copies: &[SectionCopy]) -> Option<Known>
+    ensures { result ≡ form_of_file copies.now }
+{
+    recorded_form(copies).or(absent_form(copies))
 }

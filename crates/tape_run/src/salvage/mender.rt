@@ -1,18 +1,21 @@
 //! The complete records in blocks, some of which are missing.
 
 ghost use Rattle.std.specs.Prelude.{◌≡◌, ◌≤◌, length, IfOk, IfErr, OnOk, Ok, Bool, Some};
+ghost use Rattle.std.specs.Prelude.{if◌then◌else◌};
+ghost use Rattle.tape_blocks.specs.Judged.{in_order};
 ghost use Rattle.tape_blocks.specs.{Judged.judged, Parts.view, Packing.longest_block};
 ghost use Rattle.tape_core.specs.Parts.{parts_in};
 ghost use Rattle.tape_run.specs.SalvageRecords.{Piece, Start, HasPiece, nothing, with_part};
 ghost use Rattle.tape_run.specs.Checked.{IsCheckFault};
-ghost use Rattle.tape_run.specs.SalvageRecords.{with_parts, torn, mended, found_fault, is_cut};
+ghost use Rattle.tape_run.specs.SalvageRecords.{with_parts, torn, taken, found_fault, is_cut};
 
 use crate::extract::write_part;
 use crate::fault::{EngineFault, NO_MEMORY};
+use crate::salvage::front::{fault_in, front_to};
 use crate::text::write_text;
 use std::alloc::Global;
 use std::io::Write;
-use tape_blocks::{BlockFault, Form, Part, Parts, Span, check_block};
+use tape_blocks::{BlockFault, Form, Part, Parts, Span, check_block, content};
 use tape_core::{Known, goes_on_at, shape_of};
 
 /// Writes the records of blocks as they come, except records of which a part is missing. Buffers
@@ -81,9 +84,11 @@ impl<W: Write> Mender<W> {
         self.out
     }
 
-    /// Processes the next block: writes its records, or the block unchanged if `form` is `None`.
-    /// Returns the reason if the block contains no records in this form; the block then counts as
-    /// missing.
+    /// Processes the next block: writes its records, without padding, or the block unchanged if
+    /// `form` is `None`. If the block has a fault in this form, writes the records before it, and
+    /// returns the reason, and the place where these records end; the rest of the block is missing
+    /// (`tear_if`). In format F the last records before padding of NULs or spaces are left out if
+    /// they consist of that byte alone.
     ///
     /// # Errors
     ///
@@ -97,7 +102,7 @@ impl<W: Write> Mender<W> {
         requires short { length block.now ≤ longest_block }
         ensures ok { IfOk result (λ fault. (start : Start) (p : Piece)
             → HasPiece W.contents start self.old p
-            → HasPiece W.contents start self.new (mended form.now p block.now)
+            → HasPiece W.contents start self.new (taken form.now p block.now)
             × (fault ≡ found_fault form.now p block.now)) }
         ensures fault { IfErr result IsCheckFault }
     {
@@ -109,6 +114,7 @@ impl<W: Write> Mender<W> {
             return Ok(None);
         };
         let shape = shape_of(form);
+        let block = content(&shape, block);
         let begun = if self.torn {
             goes_on_at(form.format, form.offset, block)
         } else {
@@ -120,9 +126,20 @@ impl<W: Write> Mender<W> {
                 Ok(None)
             }
             Err(fault) => {
-                self.tear();
+                let fault = fault_in(form, block, fault);
+                self.put_front(form, begun, front_to(form.format, block, fault.place))?;
                 Ok(Some(fault))
             }
+        }
+    }
+
+    /// Records that something is missing here, if `so` is true.
+    pub fn tear_if(&mut self, so: bool)
+        ensures { (start : Start) (p : Piece) → HasPiece W.contents start self.old p
+            → HasPiece W.contents start self.new (if so then torn p else p) }
+    {
+        if so {
+            self.tear();
         }
     }
 
@@ -134,6 +151,26 @@ impl<W: Write> Mender<W> {
         self.unfinished.clear();
         self.begun = false;
         self.torn = true;
+    }
+
+    /// Processes the first parts of a block that are in order.
+    fn put_front(&mut self, form: &Known, begun: bool, block: &[u8]) -> Result<(), EngineFault>
+        requires short { length block.now ≤ longest_block }
+        ensures ok { OnOk result ((start : Start) (p : Piece)
+            → HasPiece W.contents start self.old p
+            → HasPiece W.contents start self.new
+            (with_parts p (in_order begun (parts_in form.now block.now)))) }
+        ensures fault { IfErr result IsCheckFault }
+    {
+        let mut going = begun;
+        for part in Parts::at_front(&shape_of(form), block) {
+            if part.span.continues() != going {
+                return Ok(());
+            }
+            going = part.span.leaves();
+            self.put(part)?;
+        }
+        Ok(())
     }
 
     /// Processes the parts of a block that was checked.

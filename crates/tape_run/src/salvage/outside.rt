@@ -21,6 +21,7 @@ fn section_by(head: Head1) -> OpenSection
         },
         file_id: head.file_id,
         form: None,
+        has_no_second: false,
         blocks: 0,
         certain: None,
         unreadable: 0,

@@ -72,7 +72,8 @@ fn write_torn<P: Write>(
     Ok(())
 }
 
-/// Writes the reason why block `number` yielded no records, if there is one.
+/// Writes the fault of block `number`, if there is one, after the line about the record that is
+/// unfinished there.
 fn write_refused<P: Write>(
     report: &mut P,
     sect: u16,
@@ -216,7 +217,6 @@ impl<W: Write> Recovery<W> {
         ensures fault { IfErr result IsCheckFault }
     {
         let records = self.mender.records();
-        let begun = self.mender.is_begun();
         write_gap(report, sect, self.gap, number, records)?;
         write_torn(
             report,
@@ -226,7 +226,9 @@ impl<W: Write> Recovery<W> {
             records,
         )?;
         let fault = self.mender.take(form, block)?;
+        let (begun, records) = (self.mender.is_begun(), self.mender.records());
         write_refused(report, sect, number, &fault, begun, records)?;
+        self.mender.tear_if(fault.is_some());
         self.gap = None;
         self.missing = self.missing || fault.is_some();
         Ok(())

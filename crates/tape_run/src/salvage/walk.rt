@@ -11,8 +11,8 @@ use crate::survey::digest::digest_with;
 use tape_core::Known;
 use tape_image::Item;
 use tape_label::{
-    Field, Format, Head1, Head2, Kind, LabelFault, Trail1, kind, read_head1, read_head2,
-    read_trail1,
+    Field, Format, Head1, Head2, Kind, LabelFault, Trail1, is_further_header, kind, read_head1,
+    read_trail1, read_wide_head2,
 };
 
 /// A section whose first label was read.
@@ -24,6 +24,8 @@ pub struct OpenSection {
     pub file_id: Field<17>,
     /// The form of its blocks in its HDR2 or, if no HDR2 was read, in its EOF2 or EOV2.
     pub form: Option<Known>,
+    /// Whether its HDR1 was followed by a tape mark or a further header label: it has no HDR2.
+    pub has_no_second: bool,
     /// The number of data items so far, including unreadable ones.
     pub blocks: u32,
     /// The number of data items before the first unreadable item after the section's HDR1.
@@ -147,6 +149,16 @@ impl OpenSection {
         }
     }
 
+    /// Records whether what follows its HDR1 shows that it has no HDR2.
+    fn with_second(self, is_absent: bool) -> OpenSection
+        ensures { result ≡ Walk.with_second is_absent self }
+    {
+        OpenSection {
+            has_no_second: is_absent,
+            ..self
+        }
+    }
+
     /// Returns whether `trail` is the section's trailer label.
     fn closes(&self, trail: &Trail1) -> bool
         ensures { result ≡ Walk.closes self.now trail.now }
@@ -222,12 +234,16 @@ fn block_step(expected: Expected, bytes: &[u8]) -> (Expected, Option<FoundSectio
 {
     match expected {
         Expected::Outside(marks) => (outside_by(marks, kind(bytes), read_head1(bytes)), None),
-        Expected::Second(section) => (second_by(section, kind(bytes), read_head2(bytes)), None),
+        Expected::Second(section) => {
+            let section = section.with_second(is_further_header(bytes));
+            let read = read_wide_head2(bytes);
+            (second_by(section, kind(bytes), read), None)
+        }
         Expected::Headers(section) => (Expected::Headers(section), None),
         Expected::Data(section) => (Expected::Data(section.with_data(bytes)), None),
         Expected::Trailer(section) => closed_by(section, read_trail1(bytes), read_head1(bytes)),
         Expected::Trailers(section, closed) => {
-            let section = section.with_trailer(read_head2(bytes));
+            let section = section.with_trailer(read_wide_head2(bytes));
             (Expected::Trailers(section, closed), None)
         }
         Expected::Next => (begun_by(read_head1(bytes), Expected::Outside(0)), None),
@@ -251,7 +267,8 @@ fn mark_step(expected: Expected) -> (Expected, Option<FoundSection>)
         Expected::Outside(0) => (Expected::Outside(1), None),
         Expected::Outside(1) => (Expected::Outside(2), None),
         Expected::Outside(_) => (Expected::Over, None),
-        Expected::Second(section) | Expected::Headers(section) => (Expected::Data(section), None),
+        Expected::Second(section) => (Expected::Data(section.with_second(true)), None),
+        Expected::Headers(section) => (Expected::Data(section), None),
         Expected::Data(section) => (Expected::Trailer(section), None),
         Expected::Trailer(section) => (Expected::Outside(1), Some((section, None))),
         Expected::Trailers(section, closed) => (Expected::Next, Some((section, Some(closed)))),

@@ -38,17 +38,19 @@ impl<S: PartSink> Session<S> {
         ensures notes { self.new.notes ≡ self.old.notes }
         ensures file { (self.new.core.set_id ≡ self.old.core.set_id)
             × (self.new.core.file ≡ self.old.core.file) }
+        ensures wide { self.new.wide ≡ self.old.wide }
         ensures count { IfOk result (λ answer.
             self.new.failures ≡ counted (is_device answer.fault) self.old.failures) }
         ensures calm { IfOk result (λ _.
             S.refusals self.new.sink ≡ S.refusals self.old.sink) }
         ensures refuses { IfErr result (λ fault. Refuses S.PartSink fault self.old self.new) }
-        ensures unread { IfErr result (λ fault. Leaves fault (behind_of self.old.core)
-            (R.remaining device.old) (R.remaining device.new) self.new.core) }
+        ensures unread { IfErr result (λ fault. Leaves self.old.wide fault
+            (behind_of self.old.core) (R.remaining device.old) (R.remaining device.new)
+            self.new.core) }
         ensures answer { IfOk result (λ answer. IfKnown (R.remaining device.old)
             (R.remaining device.new)
-            (λ bytes left. Reads self.old.core.position self.old.core (behind_of self.old.core)
-            bytes left answer self.new.core)) }
+            (λ bytes left. Reads self.old.wide self.old.core.position self.old.core
+            (behind_of self.old.core) bytes left answer self.new.core)) }
         ensures complete { IfOk result (λ answer. answer.answer ≡ Answer.Complete
             → self.new.core.position ≡ Position.Finished) }
         ensures finished { IfOk result (λ answer.

@@ -168,8 +168,8 @@ impl Copies {
     }
 }
 
-/// Returns the numbers of two images with complete copies of a section that differ, by the record of
-/// the section.
+/// Returns the numbers of two images with complete copies of a section that differ, by the record
+/// of the section.
 fn opponents_of(note: Option<CopyNote>) -> Option<(usize, usize)>
     ensures { result ≡ opponents_by note }
 {

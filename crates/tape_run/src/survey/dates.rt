@@ -7,10 +7,13 @@ use tape_label::{Field, digits_value};
 
 /// A day of the calendar, which is printed as 1985-04-23, for example.
 #[derive(Clone, Copy)]
-pub(crate) struct Date {
-    year: u16,
-    month: u16,
-    day: u16,
+pub struct Date {
+    /// The year, 1900 to 2099.
+    pub year: u16,
+    /// The month, 1 to 12.
+    pub month: u16,
+    /// The day of the month, from 1.
+    pub day: u16,
 }
 
 /// Returns the date of day number `day` of the last months of a year, which have the given numbers
@@ -44,7 +47,7 @@ fn in_year(year: u16, day: u16) -> Option<Date>
 }
 
 /// Returns the date in the six characters of a label, if they are a date.
-pub(crate) fn date_of(field: &Field<6>) -> Option<Date>
+pub fn date_of(field: &Field<6>) -> Option<Date>
     ensures { result ≡ date_of field.now }
 {
     let [century, rest @ ..] = field.bytes() else {

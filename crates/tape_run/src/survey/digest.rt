@@ -132,13 +132,13 @@ pub(crate) fn digest_with(digest: u64, block: &[u8]) -> u64
 }
 
 /// Returns the digest of the data blocks of the section that is being read, after one more item:
-/// data begin after the mark that ends the headers.
+/// data begin after the mark that ends the labels.
 pub(crate) fn digest_in(digest: u64, phase: &Phase, item: Item<'_>) -> u64
     ensures { result ≡ digest_in digest phase.now (tape_item item.entry) }
 {
     match (phase, item) {
         (Phase::Data(_), Item::Block(bytes)) => digest_with(digest, bytes),
-        (Phase::Headers(_), Item::Mark) => 0,
+        (Phase::Second(_) | Phase::Headers(_), Item::Mark) => 0,
         _ => digest,
     }
 }

@@ -1,20 +1,21 @@
 //! The files whose header labels were found, by their numbers.
 ghost use Rattle.std.specs.{Result.IsOkUnless, Prelude.◌≡◌, Prelude.OnOk, Prelude.IfOk};
+ghost use Rattle.std.specs.Prelude.{Some};
 ghost use Rattle.tape_run.specs.SurveyFiles.{no_labels, is_other, opponent, note_of, with_met};
-ghost use Rattle.tape_run.specs.SurveyFiles.{first_in, with_first, form_in, with_form, any_differs};
-ghost use Rattle.tape_run.specs.SurveyFiles.{same_file, with_form_of, with_note};
+ghost use Rattle.tape_run.specs.SurveyFiles.{file_key, reads_wide, is_unclear, any_lost};
+ghost use Rattle.tape_run.specs.SurveyFiles.{first_in, with_first, any_differs};
+ghost use Rattle.tape_run.specs.SurveyFiles.{same_file, with_note};
 ghost use Rattle.std.specs.Map.{lookup};
-ghost use Rattle.tape_image.specs.Reader.{tape_item};
 ghost use Rattle.tape_run.specs.declared.fault.RunFault.TheVariants as faults;
 
+use super::fits::{Fit, Misfit};
+use super::forms::FirstForms;
 use crate::fault::RunFault;
-use crate::passing::Phase;
 use crate::section::SectionKey;
 use indexmap::IndexMap;
 use std::alloc::Global;
 use std::marker::Model;
-use tape_image::Item;
-use tape_label::{Field, Head1, Head2, Kind, kind, read_head2};
+use tape_label::{Field, Head1, Head2};
 
 /// Identifies a file: its file set, and its number there.
 #[derive(Clone, Copy, PartialEq, Eq, Hash)]
@@ -32,6 +33,12 @@ pub struct FileNote {
     pub image: usize,
     /// The second label that was found first, if one was supported.
     pub form: Option<Head2>,
+    /// Whether a section without a second header label was found.
+    pub absent: bool,
+    /// Whether a section with a second trailer label was found.
+    pub trailers: bool,
+    /// The first block that was found of a complete section that is not in its format, if any.
+    pub misfit: Option<Misfit>,
     /// The numbers of the first two images with labels of different files, if there are any.
     pub conflict: Option<(usize, usize)>,
 }
@@ -54,15 +61,27 @@ type FirstHeads = IndexMap<SectionKey, FirstHead>;
 pub(crate) struct Files {
     pub(crate) notes: FileNotes,
     heads: FirstHeads,
+    pub(crate) forms: FirstForms,
+    /// The file of the header label that was read last.
+    pub(crate) reading: Option<FileKey>,
+    /// The blocks of the section that is being read.
+    pub(crate) fit: Fit,
 }
 
-// Contracts see the labels as the record of each file, and the first label of each section.
+// Contracts see the labels as the record of each file, the first labels of each section, and the
+// file and the section that are being read.
 impl Model for Files {
     ghost use Rattle.tape_run.specs.SurveyFiles.{Labelled};
 
     ghost Value = { Labelled };
 
-    ghost view = { λ f. record { notes = f.notes.entries; heads = f.heads.entries } };
+    ghost view = { λ f. record {
+      notes = f.notes.entries;
+      heads = f.heads.entries;
+      forms = f.forms.entries;
+      reading = f.reading;
+      fit = f.fit;
+    } };
 }
 
 impl Files {
@@ -73,6 +92,13 @@ impl Files {
         Files {
             notes: FileNotes::new(alloc),
             heads: FirstHeads::new(alloc),
+            forms: FirstForms::new(alloc),
+            reading: None,
+            fit: Fit {
+                form: None,
+                begun: None,
+                misfit: None,
+            },
         }
     }
 }
@@ -110,6 +136,9 @@ fn note_of(note: Option<FileNote>, first: Option<FirstHead>, image: usize, head:
             head,
             image,
             form: None,
+            absent: false,
+            trailers: false,
+            misfit: None,
             conflict: None,
         };
     };
@@ -128,12 +157,16 @@ pub(crate) fn note_met(files: &mut Files, image: usize, head: Option<Head1>) -> 
     let Some(head) = head else {
         return Ok(());
     };
+    files.reading = Some(FileKey {
+        set_id: head.set_id,
+        file: head.sequence,
+    });
     let first = note_first(&mut files.heads, image, &head)?;
     note_file(&mut files.notes, first, image, head)
 }
 
-/// Records a label of a file, on image number `image`. The first label of its section is `first`, if
-/// one was found before.
+/// Records a label of a file, on image number `image`. The first label of its section is `first`,
+/// if one was found before.
 fn note_file(
     notes: &mut FileNotes,
     first: Option<FirstHead>,
@@ -176,48 +209,41 @@ fn note_first(
     Ok(Some(first))
 }
 
-/// Returns the second header label that an item is, if it is supported and expected, and its file.
-pub(crate) fn form_in(phase: &Phase, item: Item<'_>) -> Option<(FileKey, Head2)>
-    ensures { result ≡ form_in phase.now (tape_item item.entry) }
+/// Identifies the file of a section.
+pub(crate) fn file_of(section: &SectionKey) -> FileKey
+    ensures { result ≡ file_key section.now.set_id section.now.file }
 {
-    let (Phase::Second(met), Item::Block(bytes)) = (phase, item) else {
-        return None;
-    };
-    match (kind(bytes), read_head2(bytes)) {
-        (Some(Kind::Hdr2), Ok(form)) => {
-            let (set_id, file) = (met.key.set_id, met.key.file);
-            Some((FileKey { set_id, file }, form))
-        }
-        _ => None,
+    FileKey {
+        set_id: section.set_id,
+        file: section.file,
     }
 }
 
-/// Records the second header label that was found, if any.
-pub(crate) fn note_form(files: &mut Files, found: Option<(FileKey, Head2)>) -> Result<(), RunFault>
-    ensures fault { IsOkUnless result faults.OutOfMemory }
-    ensures ok { OnOk result (files.new ≡ with_form files.old found) }
+/// Returns whether a file may be read in the wider reading.
+pub(crate) fn reads_wide(note: &FileNote) -> bool
+    ensures { result ≡ reads_wide note.now }
 {
-    let Some((key, form)) = found else {
-        return Ok(());
-    };
-    note_form_of(&mut files.notes, key, form)
+    !(note.absent && (note.form.is_some() || note.trailers))
 }
 
-/// Records a second header label of this file, unless one was recorded before.
-fn note_form_of(notes: &mut FileNotes, key: FileKey, form: Head2) -> Result<(), RunFault>
-    ensures fault { IsOkUnless result faults.OutOfMemory }
-    ensures ok { OnOk result (notes.new.entries
-        ≡ with_form_of notes.old.entries key (lookup (same_file key) notes.old.entries) form) }
+/// Returns whether the second header label of a section of a file is lost, since a section has a
+/// second trailer label, and no other header label says how the file was recorded.
+pub(crate) fn is_unclear(note: &FileNote) -> bool
+    ensures { result ≡ is_unclear (Some note.now) }
 {
-    let Some(note) = notes.get(&key).copied() else {
-        return Ok(());
-    };
-    let note = FileNote {
-        form: note.form.or(Some(form)),
-        ..note
-    };
-    notes.insert(key, note)?;
-    Ok(())
+    note.absent && note.form.is_none() && note.trailers
+}
+
+/// Returns whether a second label of any file is lost.
+pub(crate) fn any_lost(files: &FileNotes) -> bool
+    ensures { result ≡ any_lost files.now.entries }
+{
+    for (_, note) in files {
+        if !reads_wide(note) {
+            return true;
+        }
+    }
+    false
 }
 
 /// Returns whether labels of different files were found under the number of any file.

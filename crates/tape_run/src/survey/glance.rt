@@ -2,7 +2,7 @@
 ghost use Rattle.std.specs.Result.{IsOkUnless};
 ghost use Rattle.std.specs.Prelude.{◌≡◌, ◌<◌, ◌≤◌, ◌++◌, OnOk};
 ghost use Rattle.tape_image.specs.{Reader.tape_item, Begins.image_limit};
-ghost use Rattle.tape_run.specs.SurveyGlance.{blank_glance, first_of, is_vol1, head_in};
+ghost use Rattle.tape_run.specs.SurveyGlance.{blank_glance, first_of, is_vol1, head_in, label_in};
 ghost use Rattle.tape_run.specs.SurveyGlance.{unread_in, one_if, damages_in, look_to};
 ghost use Rattle.tape_run.specs.Passing.{in_list};
 ghost use Rattle.tape_run.specs.declared.fault.RunFault.TheVariants as faults;
@@ -14,7 +14,7 @@ use crate::passing::Phase;
 use crate::report::line_of;
 use crate::section::SectionLine;
 use tape_image::Item;
-use tape_label::{Head1, Kind, Vol1, kind, read_head1, read_head2, read_vol1};
+use tape_label::{Head1, Kind, Vol1, kind, read_head1, read_trail1, read_vol1, read_wide_head2};
 
 /// The kind of item that an image begins with.
 #[derive(Clone, Copy)]
@@ -112,6 +112,23 @@ pub(crate) fn head_in(phase: &Phase, item: Item<'_>) -> Option<Head1>
     }
 }
 
+/// Returns the label of a section that an item is, with the fields of a first header label: its
+/// HDR1, or its trailer label, with the set of its header.
+pub(crate) fn label_in(phase: &Phase, item: Item<'_>) -> Option<Head1>
+    ensures { result ≡ label_in phase.now (tape_item item.entry) }
+{
+    let (Phase::Trailer(met), Item::Block(bytes)) = (phase, item) else {
+        return head_in(phase, item);
+    };
+    match read_trail1(bytes) {
+        Ok(trail) if met.closes(&trail) => Some(Head1 {
+            set_id: met.key.set_id,
+            ..trail.head
+        }),
+        _ => None,
+    }
+}
+
 /// Returns the number of the current file if `item` is an `HDR2` that is not supported.
 fn unread_in(phase: &Phase, item: Item<'_>) -> Option<u16>
     ensures { result ≡ unread_in phase.now (tape_item item.entry) }
@@ -119,7 +136,7 @@ fn unread_in(phase: &Phase, item: Item<'_>) -> Option<u16>
     let (Phase::Second(met), Item::Block(bytes)) = (phase, item) else {
         return None;
     };
-    match (kind(bytes), read_head2(bytes)) {
+    match (kind(bytes), read_wide_head2(bytes)) {
         (Some(Kind::Hdr2), Err(_)) => Some(met.key.file),
         _ => None,
     }

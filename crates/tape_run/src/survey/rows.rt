@@ -9,7 +9,7 @@ use super::dates::date_of;
 use super::facts::seen_text;
 use super::files::{FileKey, FileNote};
 use super::glance::First;
-use super::sets::{Standing, is_mixed, standing_of};
+use super::sets::{Standing, clear_standing, flaw_in, is_mixed, standing_of};
 use super::view::{Findings, ImageSurvey};
 use crate::check_line::state_text;
 use crate::quoting::name_text;
@@ -128,6 +128,7 @@ pub(crate) fn file_cells(
     let key = FileKey { set_id, file };
     let note = findings.files.notes.get(&key);
     let standing = standing_of(&findings.sections, set_id, file);
+    let standing = clear_standing(flaw_in(findings, set_id, file), standing);
     let found = found_cells(
         alloc,
         note,
@@ -204,6 +205,7 @@ fn standing_cells(alloc: Global, standing: &Standing) -> Result<String, AllocErr
             format!(in alloc; "MISSING\t{sect}\t{volume}")
         }
         Standing::Missing(sect) => format!(in alloc; "MISSING\t{sect}\t"),
+        Standing::Misfit(sect) => format!(in alloc; "FORMAT\t{sect}\t"),
     }
 }
 

@@ -1,14 +1,17 @@
 //! The part of a survey about sets and their files.
 ghost use Rattle.std.specs.Prelude.{◌≡◌, ◌++◌, IfOk, OnOk, is_some, option_map, string_bytes};
 ghost use Rattle.tape_run.specs.SurveySets.{standing_of, known_text, file_word, head_line};
+ghost use Rattle.tape_run.specs.SurveySets.{form_word};
 ghost use Rattle.tape_run.specs.SurveySets.{is_mixed, file_lines, is_whole_file, is_sure};
-ghost use Rattle.tape_run.specs.SurveySets.{sure_files, all_good, is_all, rest_lines};
+ghost use Rattle.tape_run.specs.SurveySets.{sure_files, all_good, is_all, rest_lines, flaw_in};
+ghost use Rattle.tape_run.specs.SurveySets.{flaw_line, clear_standing, is_flawless};
 ghost use Rattle.tape_run.specs.{SurveyRows.file_row, SurveyCopies.dispute_at};
 ghost use Rattle.tape_run.specs.SurveyFiles.{note_at, file_key};
 
 use super::Wording;
 use super::dates::date_of;
-use super::files::{FileKey, FileNote, any_differs};
+use super::files::{FileKey, FileNote, FileNotes, any_differs, any_lost};
+use super::fits::{Flaw, any_misfit, flaw_of};
 use super::glance::one_if;
 use super::problems::{add_problems, before_of};
 use super::rows::{file_cells, form_cells};
@@ -19,7 +22,7 @@ use crate::section::{Entry, SectionKey};
 use crate::sections::Sections;
 use crate::text::Identifier;
 use std::alloc::{AllocError, Global};
-use tape_label::Field;
+use tape_label::{Field, Format};
 
 /// The state of a file.
 #[derive(Clone, Copy)]
@@ -32,6 +35,8 @@ pub(crate) enum Standing {
     Behind(u16, Field<6>),
     /// This section is missing, and the one before it is not known.
     Missing(u16),
+    /// This section is complete, and not in a format that can be read.
+    Misfit(u16),
 }
 
 /// Returns the state of a file.
@@ -46,6 +51,17 @@ pub(crate) fn standing_of(sections: &Sections, set_id: Field<6>, file: u16) -> S
         (Some(entry), _) => Standing::Damaged(sect, *entry),
         (None, Some(before)) => Standing::Behind(sect, before.volume),
         (None, None) => Standing::Missing(sect),
+    }
+}
+
+/// Returns the state of a file that is not readable for this reason, if there is one.
+pub(crate) fn clear_standing(flaw: Option<Flaw>, standing: Standing) -> Standing
+    ensures { result ≡ clear_standing flaw standing }
+{
+    match (flaw, standing) {
+        (Some(Flaw::Lost), Standing::Complete) => Standing::Missing(1),
+        (Some(flaw), Standing::Complete) => Standing::Misfit(flaw.section()),
+        (_, standing) => standing,
     }
 }
 
@@ -79,6 +95,25 @@ fn file_word(mixed: bool, disputed: bool, complete: bool) -> &'static str
     }
 }
 
+/// Returns what the labels of a file say of its record format, if it is not F, D or S.
+#[tactic(auto, unfolding(crate::specs::SurveySets::form_word))]
+fn form_word(note: Option<&FileNote>) -> &'static str
+    ensures { result.now ≡ form_word (option_map (λ n. n.now) note.entry) }
+{
+    let Some(note) = note else {
+        return "";
+    };
+    match note.form {
+        Some(form) => match form.format {
+            Format::Undefined => ", U",
+            Format::Variable => ", V",
+            _ => "",
+        },
+        None if note.absent => ", blocks (no HDR2)",
+        None => "",
+    }
+}
+
 /// Returns the first line about a file.
 fn head_line(
     alloc: Global,
@@ -94,7 +129,8 @@ fn head_line(
     let spaces = " ".repeat(alloc, 4usize.saturating_sub(number.len()))?;
     let known = known_text(alloc, note)?;
     let word = file_word(is_mixed(note), disputed, complete);
-    format!(in alloc; "{spaces}{number} {known}  {word}\n")
+    let form = form_word(note);
+    format!(in alloc; "{spaces}{number} {known}  {word}{form}\n")
 }
 
 /// Returns whether header labels of different files were found.
@@ -154,8 +190,10 @@ pub(crate) fn add_lines(
     ensures { OnOk result (texts.new.items
         ≡ texts.old.items ++ file_lines findings.now set_id file) }
 {
-    let complete = is_whole_file(&findings.sections, set_id, file);
+    let flaw = flaw_in(findings, set_id, file);
+    let complete = is_whole_file(&findings.sections, set_id, file) && flaw.is_none();
     add_head(texts, findings, set_id, file, complete)?;
+    texts.extend_from_slice(flaw_line(findings.alloc, flaw)?.as_bytes())?;
     add_rest(texts, findings, Wording::Words, set_id, file)
 }
 
@@ -185,7 +223,39 @@ pub(crate) fn is_whole_file(sections: &Sections, set_id: Field<6>, file: u16) ->
     lack_of(sections, set_id, file).is_none()
 }
 
-/// Returns whether a file is complete and not in conflict.
+/// Returns the reason why a file is not readable although all its sections are complete, if there
+/// is one.
+pub(crate) fn flaw_in(findings: &Findings, set_id: Field<6>, file: u16) -> Option<Flaw>
+    ensures { result ≡ flaw_in findings.now set_id file }
+{
+    match findings.files.notes.get(&FileKey { set_id, file }) {
+        Some(note) => flaw_of(note),
+        None => None,
+    }
+}
+
+/// Returns the line about this reason.
+#[tactic(auto, unfolding(crate::specs::SurveySets::flaw_line))]
+fn flaw_line(alloc: Global, flaw: Option<Flaw>) -> Result<String, AllocError>
+    ensures { IfOk result (λ line. string_bytes line ≡ flaw_line flaw) }
+{
+    match flaw {
+        None => Ok(String::new(alloc)),
+        Some(Flaw::Lost) => format!(in alloc;
+            "            HDR2 is lost on each image: the record format is unknown\n"
+        ),
+        Some(Flaw::Unsupported) => format!(in alloc;
+            "            the record format in HDR2 is not supported\n"
+        ),
+        Some(Flaw::Misfits(misfit)) => {
+            let (sect, block) = (misfit.sect, misfit.block);
+            let front = format!(in alloc; "        section {sect} is not readable: ")?;
+            format!(in alloc; "{front}block {block} is not in the format that HDR2 states\n")
+        }
+    }
+}
+
+/// Returns whether a file is complete, readable and not in conflict.
 fn is_sure(findings: &Findings, set_id: Field<6>, file: u16) -> bool
     ensures { result ≡ is_sure findings.now set_id file }
 {
@@ -193,6 +263,7 @@ fn is_sure(findings: &Findings, set_id: Field<6>, file: u16) -> bool
     is_whole_file(&findings.sections, set_id, file)
         && !is_mixed(findings.files.notes.get(&key))
         && findings.copies.dispute(&key).is_none()
+        && flaw_in(findings, set_id, file).is_none()
 }
 
 /// Returns how many files of a set, up to its greatest file number, are complete.
@@ -218,6 +289,13 @@ fn all_good(sections: &Sections) -> bool
     true
 }
 
+/// Returns whether no second label is lost, and each block of a complete section is in its format.
+fn is_flawless(files: &FileNotes) -> bool
+    ensures { result ≡ is_flawless files.now.entries }
+{
+    !any_lost(files) && !any_misfit(files)
+}
+
 /// Returns whether all is well; the exit status of a survey says the same.
 pub(crate) fn is_all(findings: &Findings) -> Result<bool, AllocError>
     ensures { IfOk result (λ all. all ≡ is_all findings.now) }
@@ -226,5 +304,7 @@ pub(crate) fn is_all(findings: &Findings) -> Result<bool, AllocError>
     let found = found_all(&findings.sections, &sets);
     let good = all_good(&findings.sections);
     let one_file = !any_differs(&findings.files.notes);
-    Ok(findings.whole && found && good && one_file && findings.copies.conflicts.is_empty())
+    let agreed = findings.copies.conflicts.is_empty();
+    let flawless = is_flawless(&findings.files.notes);
+    Ok(findings.whole && found && good && one_file && agreed && flawless)
 }

@@ -9,15 +9,17 @@ ghost use Rattle.tape_run.specs.SurveyTally.{is_whole_sight, is_sound, is_ended,
 use super::copies::Copies;
 use super::course::LabelOrder;
 use super::digest::digest_in;
-use super::files::{Files, form_in, note_form, note_met};
-use super::glance::{ImageSummary, blank_glance, head_in, look, note_damage};
+use super::files::{Files, note_met};
+use super::fits::note_fit;
+use super::forms::{form_in, note_form};
+use super::glance::{ImageSummary, blank_glance, head_in, label_in, look, note_damage};
 use super::locations::{Locations, note_location};
 use crate::catalogue::stop_at;
 use crate::extract::images::ImageSource;
 use crate::fault::RunFault;
-use crate::passing::{Phase, step};
+use crate::passing::{Phase, wide_step};
 use crate::section::{ImageStop, SectionLine};
-use crate::sections::{Sections, close, take};
+use crate::sections::{Sections, close, note_told};
 use std::alloc::Global;
 use std::io::Read;
 use std::marker::Model;
@@ -198,13 +200,14 @@ fn view_items<R: Read>(
     'items: loop {
         let stop = match image.next() {
             Ok(Some(item)) => {
-                note_met(files, number, head_in(&phase, item))?;
-                note_form(files, form_in(&phase, item))?;
+                note_met(files, number, label_in(&phase, item))?;
+                note_form(files, number, form_in(&phase, item))?;
                 note_location(locations, sections, number, head_in(&phase, item))?;
-                let (_, told) = step(phase, item);
+                let (behind, told) = wide_step(phase, item);
+                note_fit(files, &phase, item, told)?;
                 copies.note(number, told, digest)?;
                 note_damage(&mut damaged, &told)?;
-                let behind = take(sections, phase, item)?;
+                note_told(sections, told)?;
                 digest = digest_in(digest, &phase, item);
                 glance = look(&glance, &phase, item, &behind);
                 phase = behind;

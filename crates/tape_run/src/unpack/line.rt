@@ -19,8 +19,14 @@ pub enum UnpackOutcome {
     Ready,
     /// It is only listed: a section of it is complete on no image.
     Lacks,
-    /// A file of its name exists; it was not changed.
+    /// A file of its name exists; it was not changed. Unless it is only listed, the file has
+    /// exactly the records of this one.
     Exists,
+    /// A file of its name exists, and has other records; it was not changed.
+    Different,
+    /// A file of its name exists, and could not be compared with this one in full; it was not
+    /// changed.
+    NotCompared,
     /// Labels of different files have its number, or complete copies of a section differ.
     Conflict,
     /// No label of it was found.
@@ -32,6 +38,9 @@ pub enum UnpackOutcome {
     /// A further line about a complete file: the stage of an earlier run was kept, since its data
     /// are not the beginning of the file.
     StageKept,
+    /// A further line about a file: this image has other data of a section than an image that was
+    /// read before, and was not used.
+    Differs,
 }
 
 /// Returns the words that `unpack` prints for an outcome.
@@ -44,11 +53,14 @@ pub fn unpack_outcome_text(outcome: UnpackOutcome) -> &'static [u8]
         UnpackOutcome::Ready => b"READY",
         UnpackOutcome::Lacks => b"LACKS",
         UnpackOutcome::Exists => b"EXISTS",
+        UnpackOutcome::Different => b"DIFFERENT",
+        UnpackOutcome::NotCompared => b"NOT COMPARED",
         UnpackOutcome::Conflict => b"CONFLICT",
         UnpackOutcome::NotFound => b"NOT FOUND",
         UnpackOutcome::Failed => b"FAILED",
         UnpackOutcome::Salvaged => b"SALVAGED",
         UnpackOutcome::StageKept => b"STAGE KEPT",
+        UnpackOutcome::Differs => b"SECTION DIFFERS",
     }
 }
 

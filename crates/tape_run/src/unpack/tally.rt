@@ -52,7 +52,9 @@ impl Tally {
             UnpackOutcome::Complete | UnpackOutcome::Ready => {
                 self.complete = self.complete.saturating_add(files);
             }
-            UnpackOutcome::Exists => self.existing = self.existing.saturating_add(files),
+            UnpackOutcome::Exists | UnpackOutcome::Different | UnpackOutcome::NotCompared => {
+                self.existing = self.existing.saturating_add(files);
+            }
             UnpackOutcome::Awaits | UnpackOutcome::Lacks => {
                 self.incomplete = self.incomplete.saturating_add(files);
             }
@@ -60,7 +62,7 @@ impl Tally {
             UnpackOutcome::NotFound => self.not_found = self.not_found.saturating_add(files),
             UnpackOutcome::Failed => self.failed = self.failed.saturating_add(files),
             // The file was counted before.
-            UnpackOutcome::Salvaged | UnpackOutcome::StageKept => {}
+            UnpackOutcome::Salvaged | UnpackOutcome::StageKept | UnpackOutcome::Differs => {}
         }
     }
 }

@@ -1,6 +1,7 @@
 use Rattle.std.proofs.Common.{refl, inl, true}
 use Rattle.std.proofs.lemmas.Result.{IfErr-weaker}
-use Rattle.tape_run.proofs.{Causes.images_fail, Ended.told_err, Reporting.if_ok_both}
+use Rattle.tape_run.proofs.{Opening.fails_by, Opening.any_walk, Ended.told_err}
+use Rattle.tape_run.proofs.Reporting.{if_ok_both}
 use Rattle.tape_run.proofs.Extracted.{extracted, stops_reading, stops_at_end, leaves_more}
 use Rattle.tape_run.specs.Reeling.{goes_back}
 use Rattle.tape_run.proofs.extract.extract_in_passes.Goals as goal
@@ -15,10 +16,11 @@ returns-in_err-read_rounds-clause-err g c =
 
 pub returns-in_err-read_rounds-clause-cause : goal.returns-in_err-read_rounds-clause-cause
 returns-in_err-read_rounds-clause-cause g c =
-    told_err _ _ _ c.from_residual.ensures.1 (images_fail g.S.PartSink g.S.PartWalk.refuses
+    told_err _ _ _ c.from_residual.ensures.1 (fails_by g.S.PartSink _ _
     (goes_back c.args.session.now.notes) c.has_note-back.result
     c.in_err-read_rounds.field-0.0 c.args.session.now c.read_rounds.new.session
-    c.has_note-back.ensures c.in_err-read_rounds.ensures.cause)
+    c.has_note-back.ensures (any_walk g.S.PartSink g.S.PartWalk.refuses g.M.Opener.refuses)
+    c.in_err-read_rounds.ensures.cause)
 
 pub returns-clause-ok : goal.returns-clause-ok
 returns-clause-ok g c =

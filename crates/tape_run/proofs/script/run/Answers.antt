@@ -10,7 +10,7 @@ use Rattle.tape_run.proofs.script.run.Goals as goal
 
 pub loop-step-preserved : goal.loop-step-preserved
 loop-step-preserved g c =
-    let (which, count, row, come, calm, taken, behind) = c.loop-step.invariant in
+    let (which, count, row, come, calm, stays, taken, behind) = c.loop-step.invariant in
     let (more, unread, writes, first, makes) = c.in-Ok.ensures.ok in
     let steps = c.args.steps.now in
     let here = drop_more steps c.loop-step.step _ c.loop-step-test.true in (
@@ -25,6 +25,7 @@ loop-step-preserved g c =
           (c.make.ensures.crash mid.now mid.has mid.kept)),
       calm_then g.S.PartSink c.args.session.now c.loop-step.session c.make.new.session calm
           c.in-Ok.ensures.calm,
+      c.make.ensures.wide ∙ stays,
       c.in-Ok.ensures.takes ∙ taken_then steps c.loop-step.step _ here c.loop-step.used taken,
       subst (λ n. drop n c.make.new.reels ≡ drop n c.args.reels.now) (sym c.in-Ok.ensures.takes)
           (stays_behind c.loop-step.used _ _ _ _ behind c.in-Ok.ensures.behind),
@@ -32,7 +33,7 @@ loop-step-preserved g c =
 
 pub returns-in-Err-clause-untaken : goal.returns-in-Err-clause-untaken
 returns-in-Err-clause-untaken g c =
-    let (which, count, row, come, calm, taken, behind) = c.loop-step.invariant in
+    let (which, count, row, come, calm, stays, taken, behind) = c.loop-step.invariant in
     let steps = c.args.steps.now in
     let here = drop_more steps c.loop-step.step _ c.loop-step-test.true in
     subst (λ n. drop n c.make.new.reels ≡ drop n c.args.reels.now)
@@ -41,7 +42,7 @@ returns-in-Err-clause-untaken g c =
 
 pub returns-clause-runs : goal.returns-clause-runs
 returns-clause-runs g c = λ held was kept.
-    let (which, count, row, come, calm, taken, behind) = c.loop-step.invariant in
+    let (which, count, row, come, calm, stays, taken, behind) = c.loop-step.invariant in
     let end = come held was kept in
     let (runs, last) = came_to_end c.args.steps.now _ _ _ _ end
     (omega (arith, c.loop-step-test.false)) in
@@ -49,7 +50,7 @@ returns-clause-runs g c = λ held was kept.
 
 pub returns-clause-headline : goal.returns-clause-headline
 returns-clause-headline g c = λ held was kept.
-    let (which, count, row, come, calm, taken, behind) = c.loop-step.invariant in
+    let (which, count, row, come, calm, stays, taken, behind) = c.loop-step.invariant in
     let end = come held was kept in
     let (runs, last) = came_to_end c.args.steps.now _ _ _ _ end
     (omega (arith, c.loop-step-test.false)) in (
@@ -71,7 +72,7 @@ returns-clause-start g c = λ set_id file was st.
       has,
       λ bytes e.
           let (ran, row) = run bytes e in
-          let (read, same) = is_read set_id file _ bytes _ _ _ st ran in
+          let (read, same) = is_read set_id file _ bytes _ _ _ st ran ran.same_wide in
           (read, row ∙ ap (λ w. written w c.args.failed.now) (sym same)),
     )
 
@@ -94,7 +95,7 @@ returns-clause-crash g c = λ held was kept. adds_so_far _ _ _
 pub returns-in-Err-clause-faults : goal.returns-in-Err-clause-faults
 returns-in-Err-clause-faults g c = λ held was kept.
     let here = drop_more c.args.steps.now _ _ c.loop-step-test.true in
-    let (which, count, row, come, calm, taken, behind) = c.loop-step.invariant in
+    let (which, count, row, come, calm, stays, taken, behind) = c.loop-step.invariant in
     let mid = come held was kept in
     let rem = g.R.Read.remaining in
     let used = c.loop-step.used in
@@ -134,7 +135,7 @@ returns-in-Err-clause-crash g c = λ held was kept.
 
 pub returns-in-Err-clause-cause : goal.returns-in-Err-clause-cause
 returns-in-Err-clause-cause g c =
-    let (which, count, row, come, calm, taken, behind) = c.loop-step.invariant in
+    let (which, count, row, come, calm, stays, taken, behind) = c.loop-step.invariant in
     let steps = c.args.steps.now in
     record {
       step = _;

@@ -12,4 +12,5 @@ invariant-loop-step g l = (which : List Bool) × (length which ≡ l.used)
     l.steps (map g.R.Read.remaining l.fn.reels) l.step l.session
     (map g.R.Read.remaining (take l.used l.reels))
     (map g.R.Read.remaining (drop l.used l.reels))) × IsCalm g.S.PartSink l.fn.session l.session
-    × (l.used ≡ reels_in (take l.step l.steps)) × (drop l.used l.reels ≡ drop l.used l.fn.reels)
+    × (l.session.wide ≡ l.fn.session.wide) × (l.used ≡ reels_in (take l.step l.steps)) ×
+    (drop l.used l.reels ≡ drop l.used l.fn.reels)

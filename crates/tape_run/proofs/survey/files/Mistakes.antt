@@ -38,7 +38,15 @@ sections_taken_for_files κs a z s h w first second =
 
 -- the record of the first backup, after its first label on image 0
 abbrev noted : FileNote
-noted = record { head = made_on 1 (codes " 85100"); image = 0; form = None; conflict = None }
+noted = record {
+  head = made_on 1 (codes " 85100");
+  image = 0;
+  form = None;
+  absent = false;
+  trailers = false;
+  misfit = None;
+  conflict = None;
+}
 
 -- its second section, on image 1
 abbrev second : FirstHead

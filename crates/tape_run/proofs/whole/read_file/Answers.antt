@@ -15,11 +15,13 @@ returns-clause-read g c = on_ok_weaker c.run-made.result (λ start bytes e.
         notes = session.notes;
         failures = session.failures;
         refusals = session.sink.refused;
+        wide = session.wide;
       },
       has,
       refl,
       refl,
       refl,
+      c.run-made.ensures.wide ∙ c.in_ok-session.ensures.strict,
       (reads bytes e).0,
     ))
     c.run-made.ensures.start

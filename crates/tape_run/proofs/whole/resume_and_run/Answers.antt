@@ -30,6 +30,7 @@ returns-clause-delivers g c = on_ok_weaker c.run-result.result (λ run held was.
     (c.resume-session.ensures.kept held) in (
       first,
       c.resume-session.ensures.resumed held,
+      c.resume-session.ensures.strict,
       (now, has, λ bytes e. (reads bytes e).0),
     ))
     c.run-result.ensures.headline
@@ -38,8 +39,12 @@ pub returns-clause-stopped : goal.returns-clause-stopped
 returns-clause-stopped g c = IfErr-weaker c.run-result.result _ _ (λ fault run held was.
     let first = seen g.S.PartSink c.resume-session.result held in
     let (now, has, (k, stops)) = run held (rw c.resume-session.ensures.sink was)
-    (c.resume-session.ensures.kept held) in
-    (first, c.resume-session.ensures.resumed held, (now, has, λ bytes e. (stops bytes e).0)))
+    (c.resume-session.ensures.kept held) in (
+      first,
+      c.resume-session.ensures.resumed held,
+      c.resume-session.ensures.strict,
+      (now, has, λ bytes e. (stops bytes e).0),
+    ))
     c.run-result.ensures.stopped
 
 pub returns-clause-cause : goal.returns-clause-cause

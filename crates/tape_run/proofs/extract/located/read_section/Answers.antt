@@ -1,7 +1,7 @@
 use Rattle.std.proofs.Common.{◌≡◌, ◌<◌, inl, inr, refl, ap, is_some, rules}
 use Rattle.tape_run.specs.Given.{is_device}
 use Rattle.tape_run.proofs.LocatedParts.{part_front, part_on}
-use Rattle.tape_run.proofs.LocatedReaders.{held_front, held_on, not_finished}
+use Rattle.tape_run.proofs.LocatedReaders.{held_by, held_front, held_on, not_finished}
 use Rattle.tape_run.proofs.extract.located.read_section.Goals as goal
 
 pub returns-then-ends_section-clause-ok : goal.returns-then-ends_section-clause-ok
@@ -17,9 +17,10 @@ returns-then-ends_section-clause-ok g c whole held =
       part_on _ _ whole _ _ (is_device c.in_ok-answer-in-Some.answer.fault) _ _ _ _ waits same
           less before (λ parts was.
           let (now, has, (front, keeps, reeled)) = c.in_ok-answer-in-Some.ensures.ok parts was in
-          (now, has, reeled)) (held_on whole _ _ _ _ _ _ _ waits same less
+          (now, has, reeled)) (held_by _ _ _ _ _ c.reel_behind.ensures.wide
+          (held_on _ whole _ _ _ _ _ _ _ waits same less
           c.file_key-file.ensures.set_id c.file_key-file.ensures.file c.if-ends_section.ensures.yes
-          before c.in_ok-answer-in-Some.ensures.answer),
+          before c.in_ok-answer-in-Some.ensures.answer)),
     )
 
 pub returns-then-held-file-clause-ok : goal.returns-then-held-file-clause-ok
@@ -45,10 +46,10 @@ returns-then-ends_section-2-clause-ok g c whole held =
       part_front _ _ _ _
           (is_device c.in_ok-answer.answer.fault) _ _ _ (λ parts was.
           let (now, has, (front, keeps, reeled)) = c.in_ok-answer.ensures.ok parts was in
-          (now, has, reeled)) (held_front _ _ _ _ _ _
+          (now, has, reeled)) (held_by _ _ _ _ _ c.reel.ensures.wide (held_front _ _ _ _ _ _ _
           (not_finished c.args.session.now.core.position c.requires.waits)
           c.file_key-file.ensures.set_id c.file_key-file.ensures.file
-          c.if-ends_section-2.ensures.yes c.in_ok-answer.ensures.answer),
+          c.if-ends_section-2.ensures.yes c.in_ok-answer.ensures.answer)),
     ))
 
 pub returns-clause-ok : goal.returns-clause-ok

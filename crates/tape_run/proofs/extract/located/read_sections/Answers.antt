@@ -35,6 +35,7 @@ pub sections-init : goal.sections-init
 sections-init g c = record {
   set_id = refl;
   file = refl;
+  wide = refl;
   calm = calm_same g.S.PartSink c.args.session.now;
   only = reads_nothing g.S.PartSink c.args.session.now;
   reads = λ whole held. (
@@ -57,6 +58,7 @@ sections-preserved g c =
     record {
       set_id = c.in_ok-mounted.ensures.file.0 ∙ inv.set_id;
       file = c.in_ok-mounted.ensures.file.1 ∙ inv.file;
+      wide = c.read_section.ensures.wide ∙ inv.wide;
       calm = calm_then g.S.PartSink c.args.session.now c.sections.session
           c.read_section.new.session inv.calm c.in_ok-mounted.ensures.calm;
       only = reads_then g.S.PartSink c.args.session.now c.sections.session

@@ -2,6 +2,7 @@ use Rattle.std.proofs.Common.{rules, ◌≡◌, [], Some, None, refl, sym, ◌�
 use Rattle.tape_set.specs.Position.{want_at}
 use Rattle.tape_run.proofs.{Ended.told_err, Extracted.none_finished}
 use Rattle.tape_run.proofs.{Fitting.no_text, StoppedThere.session_walked}
+use Rattle.tape_run.proofs.Opening.{reading_fails}
 use Rattle.tape_run.proofs.Extracted.{extracted, stops_reading, stops_at_end, leaves_more}
 use Rattle.tape_run.proofs.extract.now.extract_streaming.Goals as goal
 
@@ -10,6 +11,11 @@ returns-in_err-read_rounds-clause-err g c =
     told_err _ _ _ c.from_residual.ensures.1 (stops_reading _ g.L.ImageSource.size _ _
     c.args.session.now c.read_rounds.new.session _ _ _ _ _ false false false _ refl
     c.in_err-read_rounds.ensures.err (λ less now few. inl (refl, inl few)))
+
+pub returns-in_err-read_rounds-clause-cause : goal.returns-in_err-read_rounds-clause-cause
+returns-in_err-read_rounds-clause-cause g c =
+    told_err _ _ _ c.from_residual.ensures.1 (inl (reading_fails _ _ _ _ _ _ _ _ _ _ _ _ _
+    c.in_err-read_rounds.ensures.err c.in_err-read_rounds.ensures.cause))
 
 pub returns-in_err-end_report-clause-err : goal.returns-in_err-end_report-clause-err
 returns-in_err-end_report-clause-err g c =

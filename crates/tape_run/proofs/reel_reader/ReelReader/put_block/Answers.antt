@@ -109,12 +109,14 @@ loop-part-preserved g c =
     rw (map-append view l.yielded (c.in-Some.part ∷ [])) (elim c.if-first-seen.branch [
       | then-first-seen+in-Ok w ↦ record {
         core = rw w.self-is l.invariant.core;
+        wide = rw w.self-is l.invariant.wide;
         puts = rw (w.self-is, w.begun-is, w.leaves-begun.ensures) (one_put _ _ _ _ l.self.sink
             w.put.new.self l.seen l.begun _ _ w.if-first-seen.true w.in-Ok.ensures.ok
             w.in-Ok.ensures.calm w.put.ensures.crash l.invariant.puts);
       }
       | else-first-seen w ↦ record {
         core = rw w.self-is l.invariant.core;
+        wide = rw w.self-is l.invariant.wide;
         puts = rw (w.self-is, w.begun-is) (one_passed _ _ _ _ l.self.sink l.seen l.begun _ _
             w.if-first-seen.false l.invariant.puts);
       }

@@ -12,15 +12,16 @@ invariant-items g l = record {
   few : l.blocks * 4 ≤ l.image.place;
   same_device : l.image.device ≡ l.fn.image.device;
   file : l.self.core.file ≡ l.fn.self.core.file;
+  wide : l.self.wide ≡ l.fn.self.wide;
   set_id : l.self.core.set_id ≡ l.fn.self.core.set_id;
   calm : g.S.PartSink.refusals l.self.sink ≡ g.S.PartSink.refusals l.fn.self.sink;
   answers : IfKnown l.fn.image.left l.image.left
-      (ReadsSoFar l.fn.self.core l.self.core l.blocks l.image.place);
+      (ReadsSoFar l.fn.self.wide l.fn.self.core l.self.core l.blocks l.image.place);
   crash : (held : List Portion) → g.S.PartSink.holds l.fn.self.sink held
       → AddsNothing (g.S.PartSink.crashes l.fn.self.sink) (g.S.PartSink.crashes l.self.sink);
   so_far : (held : List Portion) → g.S.PartSink.holds l.fn.self.sink held
       → (now : List Portion) × g.S.PartSink.holds l.self.sink now × IsFront held now
-      × IfKnown l.fn.image.left l.image.left (SoFar l.fn.self.core
+      × IfKnown l.fn.image.left l.image.left (SoFar l.fn.self.wide l.fn.self.core
       l.self.core held
       now l.image.place);
 }

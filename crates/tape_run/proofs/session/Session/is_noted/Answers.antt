@@ -23,6 +23,7 @@ returns-in-Some-clause-yes g c =
       sink = c.self.inside.reel_reader.sink;
       notes = c.self.inside.notes.items;
       failures = c.self.inside.failures;
+      wide = c.self.inside.reel_reader.wide;
     } in
     subst (λ z. OnTrue c.eq.result (IfSeen sink z HasNotedHere)) c.self.view_is
     (OnTrue_from c.eq.result _ (λ same held was.
@@ -41,6 +42,7 @@ returns-in-Some-clause-no g c =
       sink = c.self.inside.reel_reader.sink;
       notes = c.self.inside.notes.items;
       failures = c.self.inside.failures;
+      wide = c.self.inside.reel_reader.wide;
     } in
     subst (λ z. OnFalse c.eq.result (IfSeen sink z (λ now. HasNotedHere now → ⊥))) c.self.view_is
     (OnFalse_from c.eq.result _ (λ other held was.

@@ -20,7 +20,8 @@ returns-then-is_none-clause-ok g c =
     still_seen g.S.PartSink _ _ _ (λ bytes. Continued bytes (g.R.Read.remaining
     c.args.device.now) (is_device c.new.result.fault)) c.self.view_is (λ held bytes. not_read _
     c.self.inside.reel_reader.core bytes _ _ _ (ap is_device c.new.ensures.fault) refl
-    (λ xs. led_nowhere_behind c.self.inside.reel_reader.core held xs finished))
+    (λ xs. led_nowhere_behind c.self.inside.reel_reader.wide c.self.inside.reel_reader.core held xs
+    finished))
 
 pub returns-in-Ok-read-clause-ok : goal.returns-in-Ok-read-clause-ok
 returns-in-Ok-read-clause-ok g c =
@@ -34,6 +35,7 @@ returns-in-Ok-read-clause-ok g c =
       sink = c.read-read.new.self.sink;
       notes = c.self.inside.notes.items;
       failures = c.counted-self-inside.result;
+      wide = c.read-read.new.self.wide;
     } in
     reel_seen g.S.PartSink _ _ new _ (λ bytes. Continued bytes _
     (is_device c.in-Ok-read.answer.fault))
@@ -42,7 +44,8 @@ returns-in-Ok-read-clause-ok g c =
       has,
       front,
       some_at _ c.over-image.result.left _ _ c.over-image.ensures.unread
-          (λ bytes r. reeled (is_device c.in-Ok-read.answer.fault) core c.mount_behind.new.self _
+          (λ bytes r. reeled _ _
+          (is_device c.in-Ok-read.answer.fault) end.wide core c.mount_behind.new.self _
           c.read-read.new.self.core held now bytes _ _ c.self.inside.notes.items
           c.self.inside.failures c.counted-self-inside.result _ _ (search rules) set_id file
           end.calm front (c.counted-self-inside.ensures
@@ -62,6 +65,7 @@ returns-in-Err-clause-err g c =
       sink = c.read-read.new.self.sink;
       notes = c.self.inside.notes.items;
       failures = c.self.inside.failures;
+      wide = c.read-read.new.self.wide;
     } in
     reel_seen g.S.PartSink _ _ new _ (λ bytes was is. ReelFailsFrom (behind_of was.place) bytes
     (Sink c.in-Err.cause) was is)
@@ -70,7 +74,8 @@ returns-in-Err-clause-err g c =
       has,
       front,
       some_at _ c.over-image.result.left _ _ c.over-image.ensures.unread
-          (λ bytes t. cut_short core c.mount_behind.new.self _ c.read-read.new.self.core held now
+          (λ bytes t. cut_short _ _ end.wide core c.mount_behind.new.self _
+          c.read-read.new.self.core held now
           bytes c.self.inside.notes.items c.self.inside.failures _ _ set_id file front
           (c.mount_behind.ensures.table ∙ behind_rest core) t) cuts,
     ))

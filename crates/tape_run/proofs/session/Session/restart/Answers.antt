@@ -14,7 +14,7 @@ returns-clause-ok g c =
     let noted : slice_get s.notes.items c.args.n ≡ Some point = grind (arith, common_steps, gets) in
     let back = goes_back c.args.n point (rest_of s.reel_reader.core)
     (rest_of c.at-self-inside.result) held s.notes.items c.truncate.new.self.items s.failures
-    (refusals s.reel_reader.sink) (refusals c.cut_to.new.self) noted kept
+    (refusals s.reel_reader.sink) (refusals c.cut_to.new.self) s.reel_reader.wide noted kept
     (ap rest_of c.at-self-inside.ensures) c.truncate.ensures.items c.in-Ok.ensures.calm in (
       back.parts,
       c.in-Ok.ensures.ok back.parts back.front.0
@@ -64,7 +64,7 @@ returns-in-Err-clause-crash g c =
     let point = c.in-Some.field-0.now in
     let noted : slice_get s.notes.items c.args.n ≡ Some point = grind (arith, common_steps, gets) in
     let here = session_of (rest_of s.reel_reader.core) held s.notes.items s.failures
-    (g.S.PartSink.refusals s.reel_reader.sink) in
+    (g.S.PartSink.refusals s.reel_reader.sink) s.reel_reader.wide in
     cut_only here c.args.n point _ _ noted kept (g.S.PartSink.holds s.reel_reader.sink) was
     c.cut_to.ensures.crash)
 
@@ -75,6 +75,6 @@ returns-clause-crash g c =
     let point = c.in-Some.field-0.now in
     let noted : slice_get s.notes.items c.args.n ≡ Some point = grind (arith, common_steps, gets) in
     let here = session_of (rest_of s.reel_reader.core) held s.notes.items s.failures
-    (g.S.PartSink.refusals s.reel_reader.sink) in
+    (g.S.PartSink.refusals s.reel_reader.sink) s.reel_reader.wide in
     cut_only here c.args.n point _ _ noted kept (g.S.PartSink.holds s.reel_reader.sink) was
     c.cut_to.ensures.crash)

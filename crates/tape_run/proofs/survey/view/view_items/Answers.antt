@@ -6,9 +6,10 @@ use Rattle.tape_label.specs.declared.values.Head1.{Head1}
 use Rattle.tape_run.specs.{declared.passing.Phase.Phase, Added.stop_at, SurveyGlance.damages_in}
 use Rattle.tape_run.specs.declared.survey.glance.ImageSummary.{ImageSummary}
 use Rattle.tape_run.specs.Passing.{Told, blocks_of, in_list}
+use Rattle.tape_run.specs.Noted.{noted_all}
 use Rattle.tape_run.specs.SurveyLocations.{with_location}
 use Rattle.tape_run.proofs.SurveyLooks.{looks_start, looks_more, labels_noted, viewed_end}
-use Rattle.tape_run.proofs.{NotedSoFar.one_block, SurveyLooks.viewed_fault}
+use Rattle.tape_run.proofs.{WideSoFar.one_block, SurveyLooks.viewed_fault}
 use Rattle.tape_run.proofs.survey.view.view_items.Goals as goal
 use Rattle.tape_run.proofs.survey.view.view_items.Goals.{in-Ok-None+in-Some, in-Err}
 
@@ -32,7 +33,8 @@ items-preserved g c =
     let item = tape_item c.in-Ok-Some.item in
     let step = gave c.items.image _ next c.in-Ok-Some.item c.next.follows.holds-at-none
     c.items.invariant.on (c.in-Ok-Some.is ∙ ap Ok c.in-Ok-Some.field-0-is) in
-    let phase = c.in_ok-behind-in-Ok-Some.ensures.phase in
+    let phase = ap (λ (r : Phase × Option Told). r.0) c.wide_step.ensures in
+    let told = ap (λ (r : Phase × Option Told). r.1) c.wide_step.ensures in
     let looks = c.look-glance.ensures.exact in
     let count : c.look-glance.result.items ≡ c.items.glance.items + 1 =
     ap (λ (h : ImageSummary). h.items) looks in
@@ -53,13 +55,15 @@ items-preserved g c =
       looked = looks_more _ c.items.image.left next.left c.items.image.place next.place _ item _ _ _
           _ c.items.phase _ c.items.glance _ c.items.digest _ _ _ _ _ _ _ c.items.copies _ _ _ _
           c.items.invariant.looked step.takes phase
-          c.in_ok-behind-in-Ok-Some.ensures.ok
-          (labels_noted _ _ _ _ c.items.phase item _ _ c.in_ok-note_met-in-Ok-Some.ensures.ok
-          c.head_in.ensures c.in_ok-note_form-in-Ok-Some.ensures.ok c.form_in.ensures)
+          (c.in_ok-note_told-in-Ok-Some.ensures.ok ∙ ap (λ (o : Option Told).
+          noted_all c.items.sections.entries (in_list o)) told)
+          (labels_noted _ _ _ _ _ c.items.phase item _ _ _ c.in_ok-note_met-in-Ok-Some.ensures.ok
+          c.label_in.ensures c.in_ok-note_form-in-Ok-Some.ensures.ok c.form_in.ensures
+          c.in_ok-note_fit-in-Ok-Some.ensures.ok told)
           (c.in_ok-note_location-in-Ok-Some.ensures.ok
           ∙ ap (λ (h : Option Head1). with_location c.items.sections.entries
-          c.items.locations.entries c.args.number h) c.head_in-in-Ok-Some.ensures)
-          (ap (λ (r : Phase × Option Told). r.1) c.step.ensures)
+          c.items.locations.entries c.args.number h) c.head_in.ensures)
+          told
           c.in_ok-note-in-Ok-Some.ensures.ok c.in_ok-note_damage-in-Ok-Some.ensures.ok
           c.digest_in-digest.ensures looks;
     }
