@@ -32,6 +32,7 @@ use Rattle.tape_tool.specs.Fault.{file_number, write_number, no_memory, of_syste
 use Rattle.tape_tool.specs.Staging.{IsOfFile, first_point, StandsAt, GoesOn, Says, IsUnopened}
 use Rattle.tape_tool.specs.{declared.program.End.End, declared.fault.ToolFault.ToolFault}
 use Rattle.tape_tool.specs.declared.program.End.TheVariants.{Done, Faulted, WrongWords, Incomplete}
+use Rattle.tape_tool.specs.declared.program.End.TheVariants.{Closed}
 use Rattle.tape_tool.specs.{Ends.no_words_end, Ends.IsRefusalEnd, Fault.of_list, Report.report}
 use Rattle.tape_tool.specs.{Names.end_byte, Names.pieces_of, Names.names_in, Diagnostics.fault_line}
 use Rattle.tape_tool.specs.Staging.{FailsBy, IsUnmade, RefusesBeginning}
@@ -44,7 +45,8 @@ use Rattle.tape_tool.specs.declared.refusal.Refusal.TheVariants as unfits
 pub record CasesOfEnds : Type 0 where
   -- 0 success, 1 an error, 2 a usage error, 3 something is missing
   pub statuses : (fault : ToolFault)
-      → map exit_status (Done ∷ Faulted fault ∷ WrongWords ∷ Incomplete ∷ []) ≡ 0 ∷ 1 ∷ 2 ∷ 3 ∷ []
+      → map exit_status (Done ∷ Faulted fault ∷ WrongWords ∷ Incomplete ∷ Closed ∷ [])
+      ≡ 0 ∷ 1 ∷ 2 ∷ 3 ∷ 141 ∷ []
   -- a command succeeds, or ends with its fault
   pub commands : (fault : ToolFault)
       → (end_of (Ok tt) ≡ Done) × (end_of (Err fault) ≡ Faulted fault)

@@ -8,6 +8,7 @@ use Rattle.tape_set.specs.declared.position.Want.{Want}
 use Rattle.tape_run.specs.declared.fault.EngineFault.{EngineFault}
 use Rattle.tape_tool.specs.{declared.program.End.End, declared.fault.ToolFault.ToolFault}
 use Rattle.tape_tool.specs.declared.program.End.TheVariants.{Done, Faulted, WrongWords, Incomplete}
+use Rattle.tape_tool.specs.declared.program.End.TheVariants.{Closed}
 use Rattle.tape_tool.specs.declared.fault.ToolFault.TheVariants.{File}
 use Rattle.tape_tool.specs.declared.stage.show.StageEnding.{StageEnding}
 use Rattle.tape_tool.specs.declared.stage.show.StageEnding.TheVariants.{Whole, Broken}
@@ -21,6 +22,7 @@ exit_status Done = 0
 exit_status (Faulted _) = 1
 exit_status WrongWords = 2
 exit_status Incomplete = 3
+exit_status Closed = 141
 
 -- how a command ends with this result
 abbrev pub end_of : Result (Unit {0}) ToolFault → End

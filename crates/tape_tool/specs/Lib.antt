@@ -8,7 +8,9 @@ pub mod StageReport
 pub mod CasesOfShowing
 pub mod Report
 pub mod Names
+pub mod JsonLine
 pub mod Writing
 pub mod CasesOfWriting
 pub mod Words
 pub mod CasesOfWords
+pub mod Sums

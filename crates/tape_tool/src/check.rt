@@ -4,13 +4,16 @@ use crate::command_spec::{CommandSpec, Kind, Word};
 use crate::explain::FaultSite;
 use crate::help;
 use crate::images::{Images, Named, names_of};
+use crate::json_rows::{Column, JsonRows, RowKind, RowTable, Shape, Span};
+use crate::normal::NormalImages;
 use crate::program::{End, check_end};
 use crate::refusal::Refusal;
 use crate::screen::Progress;
+use clap::ArgMatches;
 use std::alloc::AllocError;
 use std::io;
-use std::io::BufWriter;
-use tape_run::{Wording, check_to, survey_to};
+use std::io::{BufWriter, Write};
+use tape_run::{EngineFault, Wording, check_to, survey_to};
 
 pub const CHECK: &CommandSpec = &CommandSpec {
     name: "check",
@@ -26,15 +29,102 @@ pub const SURVEY: &CommandSpec = &CommandSpec {
     words: &[
         Word("IMAGE", Kind::Images, help::IMAGES),
         Word("tsv", Kind::Flag, help::ROWS),
+        Word("json", Kind::Flag, help::SURVEY_JSON),
     ],
 };
 
-/// Reports on the images that the arguments name, on standard output: describes them in `wording`
+/// The form in which `survey` prints its report.
+#[derive(Clone, Copy, Debug, PartialEq, Eq)]
+pub enum SurveyForm {
+    /// In words, for people.
+    Words,
+    /// In tab-separated rows.
+    Tsv,
+    /// In lines of JSON.
+    Json,
+}
+
+/// The rows of a survey.
+const SURVEY_ROWS: &RowTable = &RowTable {
+    separator: b'\t',
+    front: &[],
+    kinds: &[
+        RowKind(
+            "IMAGE",
+            &[
+                Column("name", Shape::Name, Span::Cell),
+                Column("state", Shape::Text, Span::Cell),
+                Column("volume", Shape::Text, Span::Cell),
+                Column("set", Shape::Text, Span::Cell),
+                Column("system", Shape::Text, Span::Cell),
+                Column("items", Shape::Number, Span::Cell),
+                Column("files", Shape::Number, Span::Cell),
+                Column("bad", Shape::Number, Span::Cell),
+                Column("end", Shape::Text, Span::Cell),
+                Column("owner", Shape::Text, Span::Cell),
+                Column("words", Shape::Text, Span::Cell),
+            ],
+        ),
+        RowKind(
+            "SECTION",
+            &[
+                Column("set", Shape::Text, Span::Cell),
+                Column("file", Shape::Number, Span::Cell),
+                Column("section", Shape::Number, Span::Cell),
+                Column("volume", Shape::Text, Span::Cell),
+                Column("blocks", Shape::Number, Span::Cell),
+                Column("state", Shape::Text, Span::Cell),
+                Column("eof", Shape::Flag, Span::Cell),
+            ],
+        ),
+        RowKind(
+            "FILE",
+            &[
+                Column("set", Shape::Text, Span::Cell),
+                Column("file", Shape::Number, Span::Cell),
+                Column("identifier", Shape::Text, Span::Cell),
+                Column("created", Shape::Text, Span::Cell),
+                Column("state", Shape::Text, Span::Cell),
+                Column("section", Shape::Number, Span::Cell),
+                Column("volume", Shape::Text, Span::Cell),
+                Column("conflict", Shape::Flag, Span::Cell),
+                Column("sections", Shape::Text, Span::Cell),
+                Column("format", Shape::Text, Span::Cell),
+                Column("block", Shape::Number, Span::Cell),
+                Column("record", Shape::Number, Span::Cell),
+            ],
+        ),
+        RowKind(
+            "COPIES",
+            &[
+                Column("set", Shape::Text, Span::Cell),
+                Column("file", Shape::Number, Span::Cell),
+                Column("section", Shape::Number, Span::Cell),
+                Column("copies", Shape::Number, Span::Cell),
+                Column("name", Shape::Name, Span::Cell),
+                Column("other", Shape::OtherName, Span::Cell),
+                Column("result", Shape::Text, Span::Cell),
+            ],
+        ),
+    ],
+};
+
+/// Returns the form in which `survey` prints.
+pub fn survey_form(matches: &ArgMatches<'_>) -> Result<SurveyForm, Refusal> {
+    match (matches.get_flag("tsv"), matches.get_flag("json")) {
+        (true, true) => Err(Refusal::Words(help::TSV_OR_JSON)),
+        (true, false) => Ok(SurveyForm::Tsv),
+        (false, true) => Ok(SurveyForm::Json),
+        (false, false) => Ok(SurveyForm::Words),
+    }
+}
+
+/// Reports on the images that the arguments name, on standard output: describes them in `form`
 /// or, if that is `None`, lists their sections. On error, `site` says where it occurred.
 pub fn check<'a, R: Progress>(
     rt: &R,
     named: &Named<'a>,
-    wording: Option<Wording>,
+    form: Option<SurveyForm>,
     site: &mut FaultSite<'a>,
 ) -> Result<End, Refusal> {
     let mut text = String::new(rt.alloc());
@@ -42,11 +132,37 @@ pub fn check<'a, R: Progress>(
     let names = names.as_slice();
     *site = FaultSite::Lines;
     let mut report = BufWriter::new(rt.alloc(), io::writer(rt)).map_err(|_| AllocError)?;
-    let images = &mut Images::new(rt, names);
     // In a list, `-` is the name of a file.
-    images.input = named.words.iter().position(|word| *word == "-");
-    Ok(check_end(match wording {
-        None => check_to(rt.alloc(), images, &mut report),
-        Some(wording) => survey_to(rt.alloc(), images, names, wording, &mut report),
+    let input = named.words.iter().position(|word| *word == "-");
+    Ok(check_end(match form {
+        None => {
+            let images = &mut Images::new(rt, names);
+            images.input = input;
+            check_to(rt.alloc(), images, &mut report)
+        }
+        Some(form) => {
+            let images = &mut NormalImages::new(rt, names);
+            images.images.input = input;
+            survey(rt, images, names, form, &mut report)
+        }
     }))
+}
+
+/// Describes the images named `names` in `form`.
+fn survey<R: Progress, W: Write>(
+    rt: &R,
+    images: &mut NormalImages<'_, R>,
+    names: &[&str],
+    form: SurveyForm,
+    report: &mut W,
+) -> Result<bool, EngineFault> {
+    let alloc = rt.alloc();
+    match form {
+        SurveyForm::Words => survey_to(alloc, images, names, Wording::Words, report),
+        SurveyForm::Tsv => survey_to(alloc, images, names, Wording::Rows, report),
+        SurveyForm::Json => {
+            let rows = &mut JsonRows::new(alloc, SURVEY_ROWS, report);
+            survey_to(alloc, images, names, Wording::Rows, rows)
+        }
+    }
 }

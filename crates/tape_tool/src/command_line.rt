@@ -2,25 +2,25 @@
 
 ghost use Rattle.tape_tool.specs.Words.{IsMistake};
 
-use crate::check::{CHECK, SURVEY};
+use crate::check::{CHECK, SURVEY, SurveyForm, survey_form};
 use crate::command_spec::{CommandSpec, check_numbers, command_of, mistake, wrong_value};
 use crate::extract::{EXTRACT, ExtractOrder, extract_order};
 use crate::help;
 use crate::images::Named;
 use crate::init::{INIT, InitOrder, init_order};
 use crate::list::{LIST, ListOrder, list_order};
-use crate::merge::{COMPARE, MERGE, MergeOrder, merge_order};
+use crate::merge::{COMPARE, MERGE, MergeOrder, compare_order, merge_order};
 use crate::refusal::Refusal;
 use crate::salvage::{SALVAGE, SalvageOrder, salvage_order};
+use crate::show::{SHOW, ShowOrder, show_order};
 use crate::shown::Shown;
 use crate::stage::{STAGE, StageOrder, stage_order};
 use crate::unpack::{UNPACK, UnpackOrder, unpack_order};
-use crate::words::{named, named_once, text_of};
+use crate::words::{named_once, text_of};
 use crate::write::words::{WRITE, WriteOrder, write_order};
 use clap::error::ErrorKind;
 use clap::{Arg, ArgAction, ArgMatches, Command, Error};
 use std::alloc::{AllocError, Global};
-use tape_run::Wording;
 
 /// The program. The usage line shows the name that users know, whatever the file is called.
 const TAPE: &CommandSpec = &CommandSpec {
@@ -37,8 +37,8 @@ pub struct Call<'a> {
     pub order: Order<'a>,
     /// The description of its command.
     pub spec: &'static CommandSpec,
-    /// Whether errors are to be explained.
-    pub explained: bool,
+    /// Whether errors are to be explained, if the command line says it.
+    pub explained: Option<bool>,
 }
 
 /// A command with its arguments.
@@ -46,10 +46,12 @@ pub struct Call<'a> {
 pub enum Order<'a> {
     /// `list`.
     List(ListOrder<'a>),
+    /// `show`.
+    Show(ShowOrder<'a>),
     /// `init`.
     Init(InitOrder<'a>),
-    /// `survey` if a wording is requested, and otherwise `check`.
-    Check(Named<'a>, Option<Wording>),
+    /// `survey` in this form if there is one, and otherwise `check`.
+    Check(Named<'a>, Option<SurveyForm>),
     /// `write`.
     Write(WriteOrder<'a>),
     /// `extract`.
@@ -97,7 +99,11 @@ pub fn call_of<'a>(alloc: Global, words: &'a [String]) -> Result<Call<'a>, Error
         Ok(order) => Ok(Call {
             order,
             spec,
-            explained: matches.get_flag("explain"),
+            explained: if matches.get_flag("no-explain") {
+                Some(false)
+            } else {
+                matches.get_flag("explain").then_some(true)
+            },
         }),
         Err(refusal) => {
             let value = match refusal {
@@ -116,10 +122,15 @@ fn command<'a>(alloc: Global) -> Result<Command<'a>, AllocError> {
         .action(ArgAction::SetTrue)
         .global(true)
         .help(help::EXPLAIN);
+    let silent = Arg::new(alloc, "no-explain")
+        .long("no-explain")
+        .action(ArgAction::SetTrue)
+        .global(true)
+        .help(help::NO_EXPLAIN);
     let bare = command_of(alloc, TAPE)?.version("0.1.0");
-    let mut tape = bare.subcommand_required(true).arg(explain)?;
+    let mut tape = bare.subcommand_required(true).arg(explain)?.arg(silent)?;
     let commands = [
-        LIST, CHECK, SURVEY, COMPARE, MERGE, EXTRACT, UNPACK, SALVAGE, STAGE, INIT, WRITE,
+        LIST, SHOW, CHECK, SURVEY, COMPARE, MERGE, EXTRACT, UNPACK, SALVAGE, STAGE, INIT, WRITE,
     ];
     for spec in &commands {
         tape = tape.subcommand(command_of(alloc, *spec)?)?;
@@ -150,6 +161,7 @@ pub fn error_in(alloc: Global, spec: &CommandSpec, value: &str, refusal: Refusal
 fn spec_of(name: &str) -> &'static CommandSpec {
     match name {
         "list" => LIST,
+        "show" => SHOW,
         "check" => CHECK,
         "survey" => SURVEY,
         "extract" => EXTRACT,
@@ -169,13 +181,13 @@ fn spec_of(name: &str) -> &'static CommandSpec {
 fn order_of<'a>(alloc: Global, name: &str, words: &ArgMatches<'a>) -> Result<Order<'a>, Refusal> {
     Ok(match name {
         "list" => Order::List(list_order(words)?),
+        "show" => Order::Show(show_order(words)?),
         "check" => Order::Check(named_once(alloc, words, help::TOO_MANY_TO_CHECK)?, None),
         "survey" => {
-            let rows = words.get_flag("tsv");
-            let wording = if rows { Wording::Rows } else { Wording::Words };
+            let form = survey_form(words)?;
             Order::Check(
                 named_once(alloc, words, help::TOO_MANY_TO_SURVEY)?,
-                Some(wording),
+                Some(form),
             )
         }
         "extract" => Order::Extract(extract_order(alloc, words)?),
@@ -185,11 +197,7 @@ fn order_of<'a>(alloc: Global, name: &str, words: &ArgMatches<'a>) -> Result<Ord
         "init" => Order::Init(init_order(words)?),
         "write" => Order::Write(write_order(alloc, words)?),
         "merge" => Order::Merge(merge_order(alloc, words)?),
-        "compare" => {
-            let images = named(alloc, words, help::TOO_MANY_TO_COMPARE)?;
-            let (out, log) = (None, None);
-            Order::Merge(MergeOrder { out, log, images })
-        }
+        "compare" => Order::Merge(compare_order(alloc, words)?),
         _ => return Err(Refusal::Words(help::NO_COMMAND)),
     })
 }

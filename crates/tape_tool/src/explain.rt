@@ -1,14 +1,17 @@
 //! Explanations of faults, printed after the line of the fault if `--explain` is specified.
+mod container;
 mod files;
 mod missing;
 
 use crate::fault::{FileFault, OUT_OF_MEMORY, ToolFault, number_of_file, number_of_write};
 use crate::images::ImageName;
 use crate::shown::Shown;
+use crate::write::failed::OddRecord;
 use crate::write::run::split;
+pub use container::advice_about;
 use files::{
     FILE_OF_FOLDER, FILE_OF_IMAGE, FILE_OF_IMAGES, FILE_OF_INPUT, FILE_OF_LINES, FILE_OF_LIST,
-    FILE_OF_LOG, FILE_OF_NEW, FILE_OF_OUT, FILE_OF_STAGE, FILE_OF_VOLUME,
+    FILE_OF_LOG, FILE_OF_MANIFEST, FILE_OF_NEW, FILE_OF_OUT, FILE_OF_STAGE, FILE_OF_VOLUME,
 };
 pub use missing::explain_missing;
 use std::fs::File;
@@ -18,8 +21,8 @@ use std::{fmt, fs, io};
 use tape_image::ImageCause;
 use tape_run::RunFault;
 use tape_stage::StageFault;
+use tape_writer::Prefix;
 use tape_writer::system::folder_of;
-use tape_writer::{Prefix, WriteFault};
 
 /// The file or stream that the program was working on when a fault occurred, as far as it is known.
 #[derive(Clone, Copy, PartialEq, Eq)]
@@ -36,6 +39,10 @@ pub enum FaultSite<'a> {
     Volume(&'a str, Prefix, u16),
     /// The input of `write` that this argument names.
     Input(&'a str),
+    /// A record of the input of `write` that this argument names.
+    Record(&'a str, OddRecord),
+    /// The image of a volume that `write` was writing, by its directory and number.
+    Written(&'a str, Prefix, u16),
     /// The images that `write` creates in a directory.
     Images(&'a str),
     /// The list of images in a file, or on standard input.
@@ -54,12 +61,16 @@ pub enum FaultSite<'a> {
     Stage(&'a str),
     /// The directory that files are unpacked into.
     Folder(&'a str),
+    /// The list of checksums in a directory.
+    Manifest(&'a str),
 }
 
 impl fmt::Display for FaultSite<'_> {
     fn fmt<W: fmt::Write>(&self, f: &mut fmt::Formatter<W>) -> fmt::Result {
         match self {
-            FaultSite::Volume(folder, prefix, number) => {
+            FaultSite::Record(word, odd) => write!(f, "  Input: {}, {odd}", Shown(*word)),
+            FaultSite::Volume(folder, prefix, number)
+            | FaultSite::Written(folder, prefix, number) => {
                 let [a, b, c] = prefix.characters.map(char::from);
                 let folder = Shown(*folder);
                 write!(f, "  Image: {folder}/{a}{b}{c}{number:03}.tap")
@@ -85,7 +96,8 @@ impl<'a> FaultSite<'a> {
             FaultSite::Listed(_) => ("Image", "", FILE_OF_IMAGE),
             FaultSite::Conflict(_, _) => ("Image", "", FILE_OF_IMAGES),
             FaultSite::Volume(_, _, _) => ("Image", "", FILE_OF_VOLUME),
-            FaultSite::Input(word) => ("Input", word, FILE_OF_INPUT),
+            FaultSite::Input(word) | FaultSite::Record(word, _) => ("Input", word, FILE_OF_INPUT),
+            FaultSite::Written(_, _, _) => ("Image", "", FILE_OF_IMAGES),
             FaultSite::Images(path) => ("DIR", path, FILE_OF_IMAGES),
             FaultSite::List(path) => ("List", path.unwrap_or("standard input"), FILE_OF_LIST),
             FaultSite::Out(path) => ("OUT", path, FILE_OF_OUT),
@@ -93,6 +105,7 @@ impl<'a> FaultSite<'a> {
             FaultSite::Log(path) => ("LOG", path, FILE_OF_LOG),
             FaultSite::Stage(path) => ("Stage", path, FILE_OF_STAGE),
             FaultSite::Folder(path) => ("DIR", path, FILE_OF_FOLDER),
+            FaultSite::Manifest(path) => ("DIR", path, FILE_OF_MANIFEST),
         }
     }
 }
@@ -106,6 +119,8 @@ pub struct Explanation<'a> {
     pub site: FaultSite<'a>,
     /// The system's message about the file, if there is one.
     pub reason: Option<io::Error>,
+    /// What to do with a file of its kind, if it is no image and its kind is known.
+    pub advice: Option<&'static str>,
 }
 
 impl fmt::Display for Explanation<'_> {
@@ -135,7 +150,12 @@ impl fmt::Display for Explanation<'_> {
             }
             f.write_str("\n")?;
         }
-        write!(f, "  {text}\n")
+        write!(f, "  {text}\n")?;
+        if text == NO_IMAGE {
+            let advice = self.advice.unwrap_or(UNKNOWN_KIND);
+            write!(f, "  {advice}\n")?;
+        }
+        Ok(())
     }
 }
 
@@ -155,9 +175,11 @@ pub fn reason_of<R: Runtime>(rt: &R, fault: ToolFault, site: FaultSite<'_>) -> O
         FaultSite::Out(path) | FaultSite::New(path) | FaultSite::Log(path) => {
             fs::metadata(rt, folder_of(path)).err()
         }
-        FaultSite::Folder(path) | FaultSite::Images(path) | FaultSite::Volume(path, _, _) => {
-            fs::metadata(rt, path).err()
-        }
+        FaultSite::Folder(path)
+        | FaultSite::Manifest(path)
+        | FaultSite::Images(path)
+        | FaultSite::Volume(path, _, _)
+        | FaultSite::Written(path, _, _) => fs::metadata(rt, path).err(),
         _ => None,
     }
 }
@@ -187,9 +209,7 @@ fn text_of(fault: ToolFault, site: FaultSite<'_>) -> &'static str {
                 if fault.place == 0 => NO_IMAGE,
             cause => nth(IMAGE, cause.number()),
         },
-        OUT_OF_MEMORY
-        | ToolFault::Write(WriteFault::OutOfMemory)
-        | ToolFault::Stage(StageFault::OutOfMemory) => NO_MEMORY,
+        OUT_OF_MEMORY | ToolFault::Stage(StageFault::OutOfMemory) => NO_MEMORY,
         ToolFault::Label(fault) => nth(LABEL, fault.number()),
         ToolFault::Write(fault) => nth(WRITE, number_of_write(fault)),
         ToolFault::File(fault) => nth(site.described().2, number_of_file(fault)),
@@ -229,8 +249,11 @@ const CONFLICT: &str = "These images have labels of different files with this SE
   complete copies of a section that differ. Nothing was recovered. Use only the
   images of one file: 'tape survey' and 'tape compare' show how they differ.";
 
-const NO_IMAGE: &str = "This does not look like a .tap image. Nothing was listed.
-  Is it compressed (try 'zcat NAME | tape list'), or a different kind of file?";
+const NO_IMAGE: &str = "This does not look like a .tap image. Nothing was listed.";
+
+/// What follows `NO_IMAGE` if the kind of the file is unknown.
+const UNKNOWN_KIND: &str =
+    "Is it compressed, cut off, or of a different kind? 'file NAME' may tell.";
 
 const A_FOLDER: &str = "This is a directory, not an image. Nothing was listed.
   Name an image in it.";
@@ -243,12 +266,12 @@ const IMAGE: &str = "
 #1  The image ends in the middle of a block: it was cut off. All items before
   that block were listed. Copy the image again from its source, or use
   'extract' with this and other copies.
-#2  The lengths before and after a block differ: the image is damaged, or remains
-  of an older recording follow the end. All items before that were listed.
-  Copy the image again, or use 'extract' with other copies too.
-#3  The bytes there are not a record length: the image is damaged, or remains of
-  an older recording follow the end. All items before that were listed.
-  Copy the image again, or use 'extract' with other copies too.
+#2  The lengths before and after a block differ: damage, no pad bytes (E11), a
+  copy made as text, or an older recording after the end. All items before that
+  were listed. Copy the image again, or use 'extract' with other copies too.
+#3  The bytes there are not a record length: damage, a record or marker of SIMH's
+  extended format, or an older recording after the end. All items before that
+  were listed. Copy the image again, or use 'extract' with other copies too.
 #4  The image is longer than 4,294,967,295 bytes; tape reads no further.
   All items before that were listed.
 #5  The image could not be read there: is it a directory, or is the disk failing?
@@ -267,12 +290,14 @@ const WRITE: &str = "
 #3  CAPACITY is less than the block length plus 1,024 bytes. Nothing was written.
   With the default --block of 2048 it must be at least 3072.
 #4  A record is too long or, with --format F, not as long as --record says.
-  Remove the images that were started; they are no longer blank. Then increase
-  --block and --record, or use --format S, which has no limit.
-#7  The set does not fit on 256 volumes. Those written so far remain.
-  Remove them, and increase CAPACITY or write fewer files.
+  Increase --block and --record, or use --format S, which has no limit.
+  Created images were removed; remove blank ones that were begun.
+#7  The set does not fit on 256 volumes. Increase CAPACITY or write fewer files.
+  Created images were removed; remove blank ones that were begun.
 #8  A set can have at most 9,999 files: split it into several sets.
-  Remove the images that were started; they are no longer blank.";
+  Created images were removed; remove blank ones that were begun.
+#10  Out of memory.
+  Created images were removed; remove blank ones that were begun.";
 
 const RUN: &str = "
 #1  The recovered data could not be saved: out of memory, or the disk is full or

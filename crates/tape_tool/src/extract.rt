@@ -4,27 +4,29 @@ mod draft;
 mod out;
 
 use crate::command_spec::{CommandSpec, Kind, Word};
+use crate::compared::Compared;
 use crate::explain::FaultSite;
 use crate::fault::{OUT_OF_MEMORY, ToolFault};
 use crate::help;
-use crate::images::{Image, Images, Named, in_reading_order, names_of};
-use crate::program::{End, end_of, extract_end};
+use crate::images::{Images, Named, in_reading_order, names_of};
+use crate::normal::NormalImages;
+use crate::program::{End, extract_end};
 use crate::refusal::Refusal;
 use crate::screen::{Host, Progress};
-use crate::staging::session_in;
+use crate::staging::{StageSink, session_in};
 use crate::words::{FORM, form_of, named, out_of, set_id_of, text_of};
 use clap::ArgMatches;
 pub use draft::Draft;
 pub use out::{Output, Way, is_one_name, way_to_out};
 use std::alloc::Global;
-use std::io::Write;
+use std::io::{Read, Write};
 use std::{fs, io};
 use tape_blocks::Form;
 use tape_core::{MemorySink, PartWalk, SinkFault};
 use tape_label::Field;
 use tape_run::{
-    EngineFault, Locations, Mounted, OutSink, RunFault, Session, extract_in_passes,
-    extract_located, extract_streaming, extract_to, find_files, last_line, write_text,
+    AsTheyAre, EngineFault, ImageSource, Opener, OutSink, RunFault, Session, extract_in_passes,
+    extract_streaming, extract_to, find_files,
 };
 use tape_set::Want;
 
@@ -52,6 +54,8 @@ pub struct Task<'a> {
     pub stage: Option<&'a str>,
     /// Whether the images are read again until a pass recovers nothing.
     pub again: bool,
+    /// Whether the images are read in the wider reading.
+    pub wide: bool,
 }
 
 pub const EXTRACT: &CommandSpec = &CommandSpec {
@@ -83,6 +87,7 @@ pub fn extract_order<'a>(
         form: form_of(matches),
         stage: matches.get_str("stage"),
         again: matches.get_flag("again"),
+        wide: false,
     };
     let images = named(alloc, matches, help::TOO_MANY_IMAGES)?;
     Ok(ExtractOrder { task, images })
@@ -104,17 +109,79 @@ pub fn extract<'a, R: Progress>(
     *site = FaultSite::Out(task.out);
     let named = named.as_slice();
     let way = way_to_out(rt.host(), task.out, task.stage, order.images.list, named)?;
-    let names = names_to_read(rt, order, named, site)?;
-    let images = &mut Images::new(rt, names.as_slice());
-    images.reels = explained.then_some(0);
+    let reels = explained.then_some(0);
+    if task.again {
+        return Ok(extract_again(rt, order, named, way, reels, awaited, site)?);
+    }
+    let images = &mut Images::new(rt, named);
+    images.reels = reels;
+    Ok(recover(rt, task, images, &mut AsTheyAre, way, awaited, site)?)
+}
+
+/// Recovers the file from images that are read in normal form, in the wider reading if a survey
+/// of them permits it. If `reels` is not `None`, names each image before it is read.
+///
+/// # Errors
+///
+/// As `recover`; also `Conflict`, see `names_to_read`.
+fn extract_again<'n, 'a, R: Progress>(
+    rt: &'n R,
+    order: &ExtractOrder<'a>,
+    named: &'n [&'n str],
+    way: Way,
+    reels: Option<u64>,
+    awaited: &mut Option<Want>,
+    site: &mut FaultSite<'a>,
+) -> Result<End, ToolFault> {
+    let surveyed = are_files(rt.host(), named);
+    let mut wide = false;
+    let names = names_to_read(rt, order, named, surveyed, &mut wide, site)?;
+    let task = &order.task;
+    let task = &Task { wide, ..*task };
+    let images = &mut NormalImages::new(rt, names.as_slice());
+    images.images.reels = reels;
+    if surveyed {
+        images.is_told();
+    }
+    let opener = &mut Compared::new(rt.alloc(), surveyed);
+    recover(rt, task, images, opener, way, awaited, site)
+}
+
+/// Recovers the file `task` from images. If something is missing, `awaited` says what is expected
+/// next. On error, `site` says where it occurred.
+fn recover<'a, R, I, L, M>(
+    rt: &R,
+    task: &Task<'a>,
+    images: &mut L,
+    opener: &mut M,
+    way: Way,
+    awaited: &mut Option<Want>,
+    site: &mut FaultSite<'a>,
+) -> Result<End, ToolFault>
+where
+    R: Progress,
+    I: Read + Drop,
+    L: ImageSource<I>,
+    M: Opener<MemorySink, I, L> + Opener<StageSink, I, L>,
+{
     let Some(path) = task.stage else {
-        return Ok(extract_now(rt, task, images, way, awaited)?);
+        return extract_now(rt, task, images, opener, way, awaited);
     };
     *site = FaultSite::Stage(path);
     let mut session = session_in(rt.host(), path, task.set_id, task.file)?;
+    if task.wide {
+        session.widen();
+    }
     *site = FaultSite::Out(task.out);
     let output = Output::new(rt, task.out, way)?;
-    let end = gather(task, images, output, &mut io::writer(rt), &mut session);
+    let end = gather(
+        task,
+        images,
+        opener,
+        output,
+        &mut io::writer(rt),
+        &mut session,
+    );
     *awaited = session.want();
     if let End::Faulted(ToolFault::Run(_)) = end {
         *site = FaultSite::Stage(path);
@@ -122,8 +189,9 @@ pub fn extract<'a, R: Progress>(
     Ok(end)
 }
 
-/// Returns the names in the order in which the images are read. If they may be read again, and each
-/// is a file, they are surveyed first, and those on which a section of the file begins come first.
+/// Returns the names in the order in which the images are read. If they are surveyed first, those
+/// on which a section of the file begins come first, and `wide` is set if the file may be read in
+/// the wider reading.
 ///
 /// # Errors
 ///
@@ -133,15 +201,21 @@ fn names_to_read<'n, 'a, R: Progress>(
     rt: &'n R,
     order: &ExtractOrder<'a>,
     names: &'n [&'n str],
+    surveyed: bool,
+    wide: &mut bool,
     site: &mut FaultSite<'a>,
 ) -> Result<Vec<&'n str>, ToolFault> {
     let task = &order.task;
-    if !task.again || names.len() < 2 || !are_files(rt.host(), names) {
+    if !surveyed {
         return Ok(Vec::from_slice(rt.alloc(), names)?);
     }
-    let met = find_files(rt.alloc(), &mut Images::new(rt, names))?;
+    let met = find_files(rt.alloc(), &mut NormalImages::new(rt, names))?;
     for file in met.files.as_slice() {
-        if file.set_id == task.set_id && file.file == task.file && file.differs {
+        if file.set_id != task.set_id || file.file != task.file {
+            continue;
+        }
+        *wide = file.wide;
+        if file.differs {
             *site = match file.conflict {
                 Some((one, other)) => {
                     FaultSite::Conflict(order.images.image(one), order.images.image(other))
@@ -163,13 +237,20 @@ pub fn are_files<R: Host>(rt: &R, names: &[&str]) -> bool {
 /// read, unless the output is written in place; otherwise holds its data in memory. If the images
 /// are read repeatedly, the data of a suspect reel can be dropped again: the session has a
 /// checkpoint at its start. If something is missing, `awaited` says what is expected next.
-fn extract_now<R: Progress>(
+fn extract_now<R, I, L, M>(
     rt: &R,
     task: &Task<'_>,
-    images: &mut Images<'_, R>,
+    images: &mut L,
+    opener: &mut M,
     way: Way,
     awaited: &mut Option<Want>,
-) -> Result<End, ToolFault> {
+) -> Result<End, ToolFault>
+where
+    R: Progress,
+    I: Read + Drop,
+    L: ImageSource<I>,
+    M: Opener<MemorySink, I, L>,
+{
     let report = &mut io::writer(rt);
     let sink = MemorySink::new(rt.alloc());
     let Ok(mut session) = Session::new(rt.alloc(), task.set_id, task.file, sink) else {
@@ -177,6 +258,9 @@ fn extract_now<R: Progress>(
     };
     if task.again && session.note().is_err() {
         return Err(OUT_OF_MEMORY);
+    }
+    if task.wide {
+        session.widen();
     }
     let output = Output::new(rt, task.out, way)?;
     match output {
@@ -192,7 +276,7 @@ fn extract_now<R: Progress>(
             Ok(draft.ended(end_as_written(answer)))
         }
         output => {
-            let end = gather(task, images, output, report, &mut session);
+            let end = gather(task, images, opener, output, report, &mut session);
             *awaited = session.want();
             Ok(end)
         }
@@ -200,7 +284,7 @@ fn extract_now<R: Progress>(
 }
 
 /// Returns how the run ends: a part that could not be stored is a record that could not be written.
-fn end_as_written(answer: Result<Option<Want>, EngineFault>) -> End {
+pub fn end_as_written(answer: Result<Option<Want>, EngineFault>) -> End {
     match answer {
         Err(EngineFault::Run(RunFault::Sink(SinkFault::Device))) => {
             extract_end(Err(EngineFault::WriteFailed))
@@ -210,47 +294,27 @@ fn end_as_written(answer: Result<Option<Want>, EngineFault>) -> End {
 }
 
 /// Reads the images into the session, and writes the recovered file to `output` if it is complete.
-pub fn gather<R: Progress, S: PartWalk + Drop, P: Write>(
+pub fn gather<R, I, L, M, S, P>(
     task: &Task<'_>,
-    images: &mut Images<'_, R>,
+    images: &mut L,
+    opener: &mut M,
     output: Output<'_, R>,
     report: &mut P,
     session: &mut Session<S>,
-) -> End {
+) -> End
+where
+    R: Progress,
+    I: Read + Drop,
+    L: ImageSource<I>,
+    M: Opener<S, I, L>,
+    S: PartWalk + Drop,
+    P: Write,
+{
     let mut output = output;
     let answer = if task.again {
-        extract_in_passes(session, images, task.form, &mut output, report)
+        extract_in_passes(session, images, opener, task.form, &mut output, report)
     } else {
         extract_to(session, images, task.form, &mut output, report)
     };
     output.ended(extract_end(answer))
-}
-
-/// Recovers a file from the images that contain its sections, and prints the last line if it is
-/// complete. The last image stays open, so that the next file can continue there.
-pub fn extract_whole<'a, R: Progress, P: Write>(
-    rt: &'a R,
-    task: &Task<'a>,
-    images: &mut Images<'_, R>,
-    mounted: &mut Option<Mounted<Image<R>>>,
-    locations: &Locations,
-    report: &mut P,
-) -> Result<End, ToolFault> {
-    let (mut draft, out) = Draft::over(rt, task.out, None)?;
-    let sink = OutSink::new(out, task.form);
-    let Ok(mut session) = Session::new(rt.alloc(), task.set_id, task.file, sink) else {
-        return Ok(draft.ended(End::WrongWords));
-    };
-    let place = &mut draft;
-    let answer = extract_located(&mut session, images, mounted, locations, task.form, place);
-    drop(session);
-    let end = match answer {
-        Ok(Some(records)) => {
-            let told = write_text(report, last_line(None, records).as_bytes());
-            end_of(told.map_err(|fault| ToolFault::from(fault)))
-        }
-        Ok(None) => End::Incomplete,
-        Err(fault) => end_as_written(Err(fault)),
-    };
-    Ok(draft.ended(end))
 }

@@ -1,20 +1,26 @@
 //! The texts of help, and of most usage errors that the program finds itself.
 mod created;
+mod items;
 mod recovered;
 
 pub(crate) use created::*;
+pub(crate) use items::*;
 pub(crate) use recovered::*;
 
 // The program, `list` and `check`: descriptions of arguments and commands.
 pub const ABOUT: &str = "Read and write ANSI-labelled tape volumes (ECMA-13) as SIMH .tap images";
 
-pub const EXPLAIN: &str = "Explain errors, and say what to do next";
+pub const EXPLAIN: &str = "Explain errors, and say what to do next [default: on a terminal]";
+
+pub const NO_EXPLAIN: &str = "Print errors without explanations, on a terminal too";
 
 pub const ABOUT_LIST: &str = "List the blocks, tape marks and labels of an image";
 
 pub const IMAGE: &str = "SIMH .tap image [default: standard input]";
 
 pub const OFFSETS: &str = "Print the byte offset and size of each item before its line";
+
+pub const LIST_JSON: &str = "Print JSON: a line for each item, with its offset and size";
 
 pub const ABOUT_CHECK: &str = "Report which file sections are on the images and what is missing";
 
@@ -38,8 +44,9 @@ and rename it, or use 'tape list < NAME'\n";
 
 pub const AFTER: &str =
     "An error is one line on standard error: 'tape: KIND fault NUMBER', followed for
-images by the byte offset ('tape: image fault 1 at 1884'). With --explain, or if
-the environment variable TAPE_EXPLAIN is not empty, an explanation follows.
+images by the byte offset ('tape: image fault 1 at 1884'). An explanation follows
+if standard error is a terminal. --explain and TAPE_EXPLAIN=1 in the environment
+request it elsewhere, and --no-explain and TAPE_EXPLAIN=0 decline it.
 
 Image faults:
   1  the image ends inside a block     copy it again from its source
@@ -100,6 +107,10 @@ includes the length words:
   268 808 000005 BLOCK 00800
   1076 408 000006 BAD
 The size of an unreadable block includes any erase gaps before it.
+
+With --json each line is an object with the offset, the size and the number of
+the item, its kind as 'row', and the values of a label by their names:
+  {\"offset\":1076,\"size\":408,\"item\":6,\"row\":\"BAD\"}
 
 The last line is 'END MARKED' (end-of-medium marker) or 'END PHYSICAL' (end of
 file). If the image is damaged there is no such line: the items before the
@@ -179,6 +190,10 @@ pub const SHELF: &str = "SIMH .tap images, in any order (at most 256; see --file
 
 pub const ROWS: &str = "Print tab-separated values, for scripts";
 
+pub const SURVEY_JSON: &str = "Print the same rows as JSON, one object per line";
+
+pub const TSV_OR_JSON: &str = "--tsv and --json exclude each other: name one of them";
+
 pub const AFTER_SURVEY: &str =
     "When all images have been read, each of them: its name, its state in a word, and
 what was found on it.
@@ -221,10 +236,11 @@ The last lines are how many images there are, and how many of them in each
 state, and
   All files are complete, and every image was read to its end.
 That one appears only if nothing is missing, each section found has a good
-copy, each image is a volume from its label to its end in formats that tape
-reads, no number has labels of different files, and no good copies differ. No
-label says whether more files follow the last one found. The wording may change;
-the exit status and the columns of --tsv will not.
+copy, whose blocks are in the format that HDR2 states, each image is a volume
+from its label to its end in formats that tape reads, no number has labels of
+different files, and no good copies differ. No label says whether more files
+follow the last one found. The wording may change; the exit status and the
+columns of --tsv will not.
 
 With --tsv these rows; a column whose value is not known is empty:
   IMAGE name state volume set system items files bad end owner words
@@ -235,13 +251,17 @@ With --tsv these rows; a column whose value is not known is empty:
   FILE set file identifier created state section volume CONFLICT sections format
            block record
            state: COMPLETE, BAD, COUNT or CUT, or MISSING: the section was not
-           found, and the one before it is on that volume; sections: all that
-           are damaged or missing, as 2:CUT;4-5:MISSING; format: F, D or S, and
-           the lengths of a block and of a record, as its HDR2 states them
+           found, and the one before it is on that volume, or FORMAT: a block
+           is not in the format that HDR2 states; sections: all that are damaged
+           or missing, as 2:CUT;4-5:MISSING; format: F, D or S, and the lengths
+           of a block and of a record, as its HDR2 states them
   COPIES set file section copies name other AGREE
            for a section with several good copies: how many agree with the
            first one, on the image NAME. If one differs, its image is OTHER, and
            the last column of this row and of the file is CONFLICT
+With --json each row is a JSON object on a line. Its member 'row' is the first
+word; the columns follow, with null for a value that is not known. Names of
+images are not escaped.
 
 Exit status: 0 everything complete, 1 error, 2 usage error, 3 something is
 missing, damaged or in conflict, or an image was not read to its end

@@ -266,8 +266,8 @@ pub type Image<R> = ReadAhead<Watched<R>>;
 /// is mounted.
 #[derive(Drop)]
 pub struct Images<'a, R> {
-    rt: &'a R,
-    names: &'a [&'a str],
+    pub(crate) rt: &'a R,
+    pub(crate) names: &'a [&'a str],
     /// The number of the image that is standard input, if any.
     pub input: Option<usize>,
     /// How many images were mounted, if each is named on standard error when it is mounted, with

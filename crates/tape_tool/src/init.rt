@@ -2,9 +2,9 @@
 
 use crate::command_spec::{CommandSpec, Kind, Word};
 use crate::explain::FaultSite;
-use crate::fault::ToolFault;
+use crate::fault::{FileFault, ToolFault};
 use crate::help;
-use crate::refusal::Refusal;
+use crate::refusal::{Refusal, remove};
 use crate::screen::Progress;
 use crate::words::{folder_of, prefix_of};
 use clap::ArgMatches;
@@ -43,7 +43,8 @@ pub fn init_order<'a>(matches: &ArgMatches<'a>) -> Result<InitOrder<'a>, Refusal
     })
 }
 
-/// Creates the images one by one, and prints their number. On error, `site` says where it occurred.
+/// Creates the images one by one, and prints their number. An image that could not be written
+/// completely is removed. On error, `site` says where it occurred.
 pub fn init<'a, R: Progress>(
     rt: &R,
     order: &InitOrder<'a>,
@@ -52,7 +53,16 @@ pub fn init<'a, R: Progress>(
     for number in 1..=order.count {
         *site = FaultSite::Volume(order.folder, order.prefix, number);
         let path = image_path(rt.alloc(), order.folder, order.prefix, number)?;
-        make_image(rt.host(), path.as_str(), order.prefix, number)?;
+        match make_image(rt.host(), path.as_str(), order.prefix, number) {
+            Ok(()) => {}
+            Err(fault) => {
+                // Only then was it created by this run.
+                if fault == FileFault::WriteFailed {
+                    remove(rt, path.as_str());
+                }
+                return Err(ToolFault::from(fault));
+            }
+        }
     }
     *site = FaultSite::Lines;
     let line = format!(in rt.alloc(); "INIT {}\n", order.count)?;

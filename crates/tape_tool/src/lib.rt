@@ -1,22 +1,29 @@
 //! The commands of the program `tape`: arguments, files and texts around the other libraries.
 #![tactic(auto)]
 
+mod build_note;
 mod check;
 mod command_line;
 mod command_spec;
+mod compared;
+mod dates;
 mod explain;
 mod extract;
 mod fault;
 mod help;
 mod images;
 mod init;
+mod json_lines;
+mod json_rows;
 mod laws;
 mod list;
 mod merge;
+mod normal;
 mod program;
 mod refusal;
 mod salvage;
 mod screen;
+mod show;
 mod shown;
 mod stage;
 mod staging;
@@ -24,10 +31,12 @@ mod unpack;
 mod words;
 mod write;
 
+pub use check::SurveyForm;
 pub use command_line::{Call, Order, call_of};
 pub use explain::{Explanation, FaultSite};
 pub use fault::ToolFault;
 pub use images::Named;
+pub use json_lines::{JsonCell, json_line};
 pub use program::run_on;
 pub use staging::{StagingFault, open_session};
 pub use unpack::report::LastLine;

@@ -5,6 +5,7 @@ use crate::explain::FaultSite;
 use crate::fault::{FileFault, ToolFault};
 use crate::help;
 use crate::images::Images;
+use crate::json_rows::{Column, JsonRows, RowKind, RowTable, Shape, Span};
 use crate::program::{End, end_of};
 use crate::refusal::Refusal;
 use crate::screen::Progress;
@@ -22,6 +23,8 @@ pub struct ListOrder<'a> {
     pub image: Option<&'a str>,
     /// Whether the offset and the size of each item are printed.
     pub offsets: bool,
+    /// Whether the lines are JSON, which have both.
+    pub json: bool,
 }
 
 pub const LIST: &CommandSpec = &CommandSpec {
@@ -31,10 +34,57 @@ pub const LIST: &CommandSpec = &CommandSpec {
     words: &[
         Word(
             "IMAGE",
-            Kind::AtMostOne("tape list [--offsets] [IMAGE]"),
+            Kind::AtMostOne("tape list [--offsets | --json] [IMAGE]"),
             help::IMAGE,
         ),
         Word("offsets", Kind::Flag, help::OFFSETS),
+        Word("json", Kind::Flag, help::LIST_JSON),
+    ],
+};
+
+/// The columns of HDR1.
+const HEAD: &[Column] = &[
+    Column("identifier", Shape::Text, Span::Width(17)),
+    Column("set", Shape::Text, Span::Width(6)),
+    Column("section", Shape::Number, Span::Cell),
+    Column("file", Shape::Number, Span::Cell),
+];
+
+/// The columns of EOF1 and EOV1.
+const TRAIL: &[Column] = &[
+    Column("identifier", Shape::Text, Span::Width(17)),
+    Column("set", Shape::Text, Span::Width(6)),
+    Column("section", Shape::Number, Span::Cell),
+    Column("file", Shape::Number, Span::Cell),
+    Column("blocks", Shape::Number, Span::Cell),
+];
+
+/// The columns of HDR2, EOF2 and EOV2.
+const SECOND: &[Column] = &[
+    Column("format", Shape::Text, Span::Cell),
+    Column("block", Shape::Number, Span::Cell),
+    Column("record", Shape::Number, Span::Cell),
+    Column("prefix", Shape::Number, Span::Cell),
+];
+
+/// The lines of a listing with offsets.
+const LIST_ROWS: &RowTable = &RowTable {
+    separator: b' ',
+    front: &[
+        Column("offset", Shape::Number, Span::Cell),
+        Column("size", Shape::Number, Span::Cell),
+        Column("item", Shape::Number, Span::Digits),
+    ],
+    kinds: &[
+        RowKind("VOL1", &[Column("volume", Shape::Text, Span::Width(6))]),
+        RowKind("HDR1", HEAD),
+        RowKind("EOF1", TRAIL),
+        RowKind("EOV1", TRAIL),
+        RowKind("HDR2", SECOND),
+        RowKind("EOF2", SECOND),
+        RowKind("EOV2", SECOND),
+        RowKind("BLOCK", &[Column("length", Shape::Number, Span::Cell)]),
+        RowKind("END", &[Column("end", Shape::Text, Span::Cell)]),
     ],
 };
 
@@ -42,6 +92,7 @@ pub fn list_order<'a>(matches: &ArgMatches<'a>) -> Result<ListOrder<'a>, Refusal
     Ok(ListOrder {
         image: at_most_one(matches, "IMAGE", help::DASH, help::ONE_IMAGE)?,
         offsets: matches.get_flag("offsets"),
+        json: matches.get_flag("json"),
     })
 }
 
@@ -68,7 +119,10 @@ pub fn list<'a, R: Progress>(
         return Err(Refusal::from(FileFault::NotOpened));
     };
     let mut writer = BufWriter::new(rt.alloc(), io::writer(rt)).map_err(|_| NO_MEMORY)?;
-    let listed = if order.offsets {
+    let listed = if order.json {
+        let rows = &mut JsonRows::new(rt.alloc(), LIST_ROWS, &mut writer);
+        list_places_to(rt.alloc(), &mut image, rows)
+    } else if order.offsets {
         list_places_to(rt.alloc(), &mut image, &mut writer)
     } else {
         list_to(rt.alloc(), &mut image, &mut writer)

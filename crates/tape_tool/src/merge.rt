@@ -6,6 +6,7 @@ use crate::extract::{Draft, Output, is_one_name};
 use crate::fault::{FileFault, OUT_OF_MEMORY, ToolFault};
 use crate::help;
 use crate::images::{ImageName, Images, Named, names_of};
+use crate::json_rows::{Column, JsonRows, RowKind, RowTable, Shape, Span};
 use crate::program::End;
 use crate::refusal::Refusal;
 use crate::screen::Progress;
@@ -24,6 +25,8 @@ pub struct MergeOrder<'a> {
     pub out: Option<&'a str>,
     /// The path of the log to be created.
     pub log: Option<&'a str>,
+    /// Whether the lines are JSON.
+    pub json: bool,
     /// The readings, in the order in which they are named.
     pub images: Named<'a>,
 }
@@ -43,7 +46,50 @@ pub const COMPARE: &CommandSpec = &CommandSpec {
     name: "compare",
     about: help::ABOUT_COMPARE,
     after_help: help::AFTER_COMPARE,
-    words: &[Word("IMAGE", Kind::Images, help::READINGS)],
+    words: &[
+        Word("IMAGE", Kind::Images, help::READINGS),
+        Word("json", Kind::Flag, help::COMPARE_JSON),
+    ],
+};
+
+/// The lines of a comparison.
+const MERGE_ROWS: &RowTable = &RowTable {
+    separator: b' ',
+    front: &[],
+    kinds: &[
+        RowKind(
+            "IMAGE",
+            &[
+                Column("image", Shape::Number, Span::Cell),
+                Column("items", Shape::Number, Span::Cell),
+                Column("bad", Shape::Number, Span::Cell),
+                Column("end", Shape::Text, Span::End),
+                Column("name", Shape::Name, Span::Rest),
+            ],
+        ),
+        RowKind(
+            "MERGED",
+            &[
+                Column("items", Shape::Number, Span::Cell),
+                Column("bad", Shape::Number, Span::Cell),
+                Column("alone", Shape::Number, Span::Cell),
+                Column("end", Shape::Text, Span::Cell),
+                Column("count", Shape::Number, Span::After("COUNT")),
+            ],
+        ),
+        RowKind("DIFFER", &[Column("item", Shape::Number, Span::Cell)]),
+        RowKind(
+            "HAS",
+            &[
+                Column("image", Shape::Number, Span::Cell),
+                Column("reading", Shape::Text, Span::Cell),
+                Column("kind", Shape::Text, Span::Cell),
+                Column("length", Shape::Number, Span::Length),
+                Column("offset", Shape::Number, Span::Cell),
+                Column("name", Shape::Name, Span::Rest),
+            ],
+        ),
+    ],
 };
 
 pub fn merge_order<'a>(alloc: Global, matches: &ArgMatches<'a>) -> Result<MergeOrder<'a>, Refusal> {
@@ -53,7 +99,24 @@ pub fn merge_order<'a>(alloc: Global, matches: &ArgMatches<'a>) -> Result<MergeO
         return Err(Refusal::Words(help::LOG_IS_DASH));
     }
     let images = named(alloc, matches, help::TOO_MANY_TO_MERGE)?;
-    Ok(MergeOrder { out, log, images })
+    Ok(MergeOrder {
+        out,
+        log,
+        json: false,
+        images,
+    })
+}
+
+pub fn compare_order<'a>(
+    alloc: Global,
+    matches: &ArgMatches<'a>,
+) -> Result<MergeOrder<'a>, Refusal> {
+    Ok(MergeOrder {
+        out: None,
+        log: None,
+        json: matches.get_flag("json"),
+        images: named(alloc, matches, help::TOO_MANY_TO_COMPARE)?,
+    })
 }
 
 /// Merges the readings named in the arguments into a new image, and creates its log if one is
@@ -128,7 +191,14 @@ fn merge_files<'a, R: Progress, W: Write + Drop, O: Place<W>, G: Write>(
     site: &mut FaultSite<'a>,
 ) -> End {
     let (images, report) = (&mut Images::new(rt, names), &mut io::writer(rt));
-    let stop = match merge_now(rt.alloc(), images, names, out, place, rows, report) {
+    let alloc = rt.alloc();
+    let merged = if order.json {
+        let report = &mut JsonRows::new(alloc, MERGE_ROWS, report);
+        merge_now(alloc, images, names, out, place, rows, report)
+    } else {
+        merge_now(alloc, images, names, out, place, rows, report)
+    };
+    let stop = match merged {
         Ok(MergeEnd::Whole) => return End::Done,
         Ok(MergeEnd::Partial | MergeEnd::Differs) => return End::Incomplete,
         Err(stop) => stop,

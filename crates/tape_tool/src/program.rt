@@ -5,10 +5,11 @@ ghost use Rattle.clap.specs.Words.{kind_of};
 ghost use Rattle.tape_tool.specs.Ends.{exit_status, no_words_end, words_end, IsRefusalEnd};
 ghost use Rattle.tape_tool.specs.Ends.{end_of, check_end, extract_end, stage_end};
 
+use crate::build_note::print_note;
 use crate::check::check;
 use crate::command_line::{Order, call_of, error_in};
 use crate::command_spec::CommandSpec;
-use crate::explain::{Explanation, FaultSite, explain_missing, reason_of};
+use crate::explain::{Explanation, FaultSite, advice_about, explain_missing, reason_of};
 use crate::extract::extract;
 use crate::fault::{FaultLine, FileFault, OUT_OF_MEMORY, ToolFault};
 use crate::help;
@@ -18,6 +19,7 @@ use crate::merge::merge;
 use crate::refusal::Refusal;
 use crate::salvage::salvage;
 use crate::screen::{Host, Line, Progress, Screen};
+use crate::show::show;
 use crate::stage::show::StageEnding;
 use crate::stage::stage;
 use crate::unpack::unpack;
@@ -42,6 +44,8 @@ pub enum End {
     WrongWords,
     /// The program did what was asked, but something is missing.
     Incomplete,
+    /// Standard output is a pipe that its reader has closed, so the run ended early.
+    Closed,
 }
 
 impl End {
@@ -54,6 +58,7 @@ impl End {
             End::Faulted(_) => 1,
             End::WrongWords => 2,
             End::Incomplete => 3,
+            End::Closed => 141,
         }
     }
 }
@@ -127,8 +132,12 @@ pub fn no_words_end(kind: io::ErrorKind) -> End
     }
 }
 
+/// The end of a run whose output could not be written.
+const CANNOT_WRITE: End = End::Faulted(ToolFault::File(FileFault::WriteFailed));
+
 /// Runs the program, reports a fault, and returns the exit status. The line that shows progress is
-/// printed only if standard error is a terminal.
+/// printed only if standard error is a terminal, and explanations are printed there unless they are
+/// declined. If the reader of standard output has closed its pipe, nothing is reported.
 pub fn run_on<R: Host>(rt: &R, is_terminal: bool) -> u8 {
     let line = Cell::new(Line::new(rt, is_terminal));
     let screen = &Screen { rt, line: &line };
@@ -139,18 +148,26 @@ pub fn run_on<R: Host>(rt: &R, is_terminal: bool) -> u8 {
         Err(fault) => Err(End::Faulted(*fault)),
     };
     let (end, explained) = match &words {
-        Ok(words) => perform(screen, words.as_slice()),
+        Ok(words) => perform(screen, words.as_slice(), is_terminal),
         Err(end) => (*end, None),
     };
+    if end == CANNOT_WRITE && line.get().is_closed {
+        return End::Closed.status();
+    }
     if let End::Faulted(fault) = end {
         // If standard error is closed, the fault cannot be reported.
         let _ = screen.eprint(FaultLine(fault));
         if let Some(site) = explained {
             let reason = reason_of(rt, fault, site);
+            let advice = match (fault, site) {
+                (ToolFault::Image(_), FaultSite::Image(path)) => advice_about(rt, path),
+                _ => None,
+            };
             let _ = screen.eprint(Explanation {
                 fault,
                 site,
                 reason,
+                advice,
             });
         }
     }
@@ -246,23 +263,31 @@ impl fmt::Display for OddWord<'_> {
 
 /// Executes a command line, whose first argument is the program's name. Returns how the run ends,
 /// and the site of a fault if it is to be explained.
-fn perform<'a, R: Progress>(rt: &R, words: &'a [String]) -> (End, Option<FaultSite<'a>>) {
+fn perform<'a, R: Progress>(
+    rt: &R,
+    words: &'a [String],
+    is_terminal: bool,
+) -> (End, Option<FaultSite<'a>>) {
     let call = match call_of(rt.alloc(), words) {
         Ok(call) => call,
         Err(error) => return (refuse(rt, &error), None),
     };
-    // The environment may request explanations, too.
-    let explained = match env::var(rt.host(), "TAPE_EXPLAIN") {
-        Ok(value) => call.explained || !value.as_str().is_empty(),
-        Err(_) => call.explained,
+    // The command line decides, otherwise the environment, otherwise the terminal.
+    let requested = match (call.explained, env::var(rt.host(), "TAPE_EXPLAIN")) {
+        (None, Ok(value)) if !value.as_str().is_empty() => Some(value.as_str() != "0"),
+        (requested, _) => requested,
     };
+    let explained = requested.unwrap_or(is_terminal);
+    // Names before the lines of a run that succeeds are printed on request only.
+    let names = requested == Some(true);
     let (mut site, mut awaited) = (FaultSite::Unknown, None);
     let done = match &call.order {
         Order::List(order) => list(rt, *order, &mut site),
+        Order::Show(order) => show(rt, order, &mut site),
         Order::Init(order) => Ok(end_of(init(rt, order, &mut site))),
-        Order::Check(named, wording) => check(rt, named, *wording, &mut site),
+        Order::Check(named, form) => check(rt, named, *form, &mut site),
         Order::Write(order) => write(rt, order, &mut site),
-        Order::Extract(order) => extract(rt, order, explained, &mut awaited, &mut site),
+        Order::Extract(order) => extract(rt, order, names, &mut awaited, &mut site),
         Order::Unpack(order) => unpack(rt, order, &mut site),
         Order::Salvage(order) => salvage(rt, order, &mut site),
         Order::Stage(order) => stage(rt, order, &mut site),
@@ -279,20 +304,20 @@ fn perform<'a, R: Progress>(rt: &R, words: &'a [String]) -> (End, Option<FaultSi
 }
 
 /// Prints the text of the argument parser: help to standard output, a usage error to standard
-/// error.
-fn refuse<R: Print + Eprint>(rt: &R, error: &clap::Error) -> End
+/// error. How the program was built follows its version.
+fn refuse<R: Progress>(rt: &R, error: &clap::Error) -> End
     ensures { (printed : Bool) × (result ≡ words_end (kind_of error.now) printed) }
 {
     let kind = error.kind();
     // Out of memory is a fault, and is reported on the line of a fault.
-    let printed = kind != ErrorKind::OutOfMemory && error.print(rt).is_ok();
+    let printed = kind != ErrorKind::OutOfMemory
+        && error.print(rt).is_ok()
+        && (kind != ErrorKind::DisplayVersion || print_note(rt).is_ok());
     words_end(kind, printed)
 }
 
 /// Ends a run whose command is refused for the reason `refusal`.
-fn end_refused<R>(rt: &R, spec: &CommandSpec, refusal: Refusal) -> End
-where
-    R: Print + Eprint + AllocGlobal,
+fn end_refused<R: Progress>(rt: &R, spec: &CommandSpec, refusal: Refusal) -> End
     ensures { IsRefusalEnd refusal result }
 {
     match refusal {

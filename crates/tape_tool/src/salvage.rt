@@ -4,7 +4,8 @@ use crate::command_spec::{CommandSpec, Kind, Word};
 use crate::explain::FaultSite;
 use crate::extract::Draft;
 use crate::help;
-use crate::images::{Images, Named, names_of};
+use crate::images::{Named, names_of};
+use crate::normal::NormalImages;
 use crate::program::{End, check_end};
 use crate::refusal::Refusal;
 use crate::screen::Progress;
@@ -80,7 +81,8 @@ pub fn salvage<'a, R: Progress>(
     let names = names_of(rt.host(), &order.images, &mut text, site)?;
     *site = FaultSite::Out(order.out);
     let (mut draft, out) = Draft::new(rt, order.out)?;
-    let (images, report) = (&mut Images::new(rt, names.as_slice()), &mut io::writer(rt));
+    let images = &mut NormalImages::new(rt, names.as_slice());
+    let report = &mut io::writer(rt);
     let end = check_end(salvage_to(rt.alloc(), &order.task, images, out, &mut draft, report));
     Ok(draft.ended(end))
 }

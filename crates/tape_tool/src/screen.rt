@@ -11,6 +11,7 @@ use std::alloc::Global;
 use std::cell::Cell;
 use std::fmt::Display;
 use std::io;
+use std::io::ErrorKind;
 use std::time::{Clock, Duration, Instant};
 pub use tape_writer::system::Host;
 
@@ -39,6 +40,8 @@ pub struct Line {
     since: Option<Instant>,
     /// Whether the line is on the terminal.
     is_shown: bool,
+    /// Whether standard output is a pipe that nobody reads any more.
+    pub is_closed: bool,
 }
 
 impl Line {
@@ -54,6 +57,7 @@ impl Line {
                 None
             },
             is_shown: false,
+            is_closed: false,
         }
     }
 }
@@ -78,6 +82,22 @@ impl<R: Host> Screen<'_, R> {
             });
         }
     }
+
+    /// Returns the result of a print, and records whether it found the pipe closed.
+    fn noted<T>(&self, printed: io::Result<T>) -> io::Result<T>
+        ensures { result ≡ printed }
+    {
+        if let Err(error) = &printed
+            && error.kind() == ErrorKind::BrokenPipe
+        {
+            let line = self.line.get();
+            self.line.set(Line {
+                is_closed: true,
+                ..line
+            });
+        }
+        printed
+    }
 }
 
 impl<R: Host> Progress for Screen<'_, R> {
@@ -94,11 +114,13 @@ impl<R: Host> Progress for Screen<'_, R> {
         {
             self.clear();
             let (rt, read) = (self.rt, bytes / 1_000_000);
+            let line = self.line.get();
             let printed = rt.eprint(format_args!("image {image} of {count}: {read} MB"));
             self.line.set(Line {
                 // After an error nothing more is printed.
                 since: if printed.is_ok() { Some(now) } else { None },
                 is_shown: printed.is_ok(),
+                ..line
             });
         }
     }
@@ -107,22 +129,22 @@ impl<R: Host> Progress for Screen<'_, R> {
 impl<R: Host> Print for Screen<'_, R> {
     fn print<D: Display + Drop>(&self, value: D) -> io::Result<()> {
         self.clear();
-        self.rt.print(value)
+        self.noted(self.rt.print(value))
     }
 
     fn println<D: Display + Drop>(&self, value: D) -> io::Result<()> {
         self.clear();
-        self.rt.println(value)
+        self.noted(self.rt.println(value))
     }
 
     fn write_all(&self, bytes: &[u8]) -> io::Result<()> {
         self.clear();
-        Print::write_all(self.rt, bytes)
+        self.noted(Print::write_all(self.rt, bytes))
     }
 
     fn write_some(&self, bytes: &[u8]) -> io::Result<usize> {
         self.clear();
-        self.rt.write_some(bytes)
+        self.noted(self.rt.write_some(bytes))
     }
 }
 

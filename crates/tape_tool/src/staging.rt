@@ -22,6 +22,9 @@ use tape_stage::{
 };
 use tape_writer::system::{LockFault, locked, sync_folder_of};
 
+/// The stage of a run, in a file.
+pub type StageSink = Stage<BufferedFile<File>>;
+
 /// The reason why a session over a stage could not be opened.
 #[derive(Clone, Copy, PartialEq, Eq)]
 pub enum StagingFault {
@@ -220,7 +223,7 @@ pub fn session_in<R: Host>(
     path: &str,
     set_id: Field<6>,
     file: u16,
-) -> Result<Session<Stage<BufferedFile<File>>>, ToolFault> {
+) -> Result<Session<StageSink>, ToolFault> {
     let mut options = OpenOptions::new();
     options.read(true).write(true).create(true);
     let Ok(kept) = options.open(rt, path) else {

@@ -1,8 +1,13 @@
 //! `unpack`: recovers every file of every set on images into a directory.
+mod existing;
+mod manifest;
+mod recovery;
 pub mod report;
 mod run;
 mod salvaged;
 mod stages;
+mod summed;
+mod sums;
 
 use crate::command_spec::{CommandSpec, Kind, Word};
 use crate::help;
@@ -31,6 +36,12 @@ pub struct UnpackOrder<'a> {
     pub list: bool,
     /// Whether the readable records of incomplete files are written, too.
     pub salvage: bool,
+    /// Whether files keep the time at which they were written.
+    pub now: bool,
+    /// Whether the checksums of the files are listed.
+    pub manifest: bool,
+    /// Whether nothing is recovered, and the files are checked against their list.
+    pub verify: bool,
 }
 
 pub const UNPACK: &CommandSpec = &CommandSpec {
@@ -45,6 +56,9 @@ pub const UNPACK: &CommandSpec = &CommandSpec {
         Word("file", Kind::TextOptions("N|NAME"), help::FILES_TO_UNPACK),
         Word("list", Kind::Flag, help::LIST_ONLY),
         Word("salvage", Kind::Flag, help::SALVAGE_FILES),
+        Word("now", Kind::Flag, help::NOW),
+        Word("manifest", Kind::Flag, help::MANIFEST),
+        Word("verify", Kind::Flag, help::VERIFY),
     ],
 };
 
@@ -59,7 +73,7 @@ pub fn unpack_order<'a>(
     {
         return Err(Refusal::Value("set", help::WRONG_SET));
     }
-    Ok(UnpackOrder {
+    let order = UnpackOrder {
         folder,
         images: named(alloc, matches, help::TOO_MANY_TO_UNPACK)?,
         form: form_of(matches),
@@ -67,5 +81,20 @@ pub fn unpack_order<'a>(
         files: Vec::from_slice(alloc, matches.get_strs("file").unwrap_or(&[]))?,
         list: matches.get_flag("list"),
         salvage: matches.get_flag("salvage"),
-    })
+        now: matches.get_flag("now"),
+        manifest: matches.get_flag("manifest"),
+        verify: matches.get_flag("verify"),
+    };
+    if order.verify && !is_alone(&order) {
+        return Err(Refusal::Words(help::VERIFY_ALONE));
+    }
+    Ok(order)
+}
+
+/// Returns whether no images and no other options are named.
+fn is_alone(order: &UnpackOrder<'_>) -> bool {
+    let has_images = !order.images.words.is_empty() || order.images.list.is_some();
+    let has_choice = order.set.is_some() || !order.files.is_empty();
+    let has_flag = order.list || order.salvage || order.now || order.manifest;
+    !(has_images || has_choice || has_flag)
 }

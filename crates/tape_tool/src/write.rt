@@ -1,3 +1,4 @@
 //! `write`: writes file sets as images.
+pub mod failed;
 pub mod run;
 pub mod words;

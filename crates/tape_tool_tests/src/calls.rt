@@ -23,9 +23,12 @@
 //!   block, `lost_damaged FILE BLOCK` one with both, `first FILE` and `second FILE` the volumes of
 //!   the example file on two, `first_damaged FILE BLOCK` the first one with an unreadable block,
 //!   `records FILE` its records, and `second_file FILE` a volume without the first file of its set.
+//!   `ebcdic FILE`, `booted FILE`, `marked FILE` and `unnamed FILE` create the example image as
+//!   other systems write it: see `example`.
 //! - `has FILE TEXT`, `at FILE OFFSET TEXT`, `length FILE COUNT`, `is_worked FILE`,
 //!   `missing FILE ..` and `allowed FILE MODE` check the contents of a file, the bytes at an
 //!   offset, the length, that it is the example image or does not exist, and its permissions.
+//!   `modified FILE SECONDS` checks when it was written, in seconds from 1970 on.
 
 use crate::fake_system::{Odd, called};
 use crate::image::{example, payroll};
@@ -33,7 +36,7 @@ use std::alloc::{AllocError, Global};
 use std::fs::{OpenOptions, Permissions};
 use std::io::ErrorKind;
 use std::os::unix;
-use std::os::unix::fs::PermissionsExt;
+use std::os::unix::fs::{MetadataExt, PermissionsExt};
 use std::test::Fail;
 use std::{env, fs};
 
@@ -70,7 +73,7 @@ impl<'a> Run<'a> {
                 "1"
             }
             "" => "0",
-            _ if wanted.len() > 1 => return Ok(None),
+            _ if wanted.len() > 1 && wanted != "141" => return Ok(None),
             status => status,
         };
         let (lines, part) = lines.split_once(" => ").unwrap_or((lines, ""));
@@ -160,6 +163,7 @@ fn odd_of(text: &str) -> Odd<'_> {
         "rename" => Odd::Rename,
         "remove" => Odd::Remove,
         "full" => Odd::Full,
+        "pipe" => Odd::Pipe,
         "no_text" => Odd::NoText,
         _ => Odd::Nothing,
     }
@@ -251,10 +255,15 @@ fn take(rt: &HostRuntime, word: &str, rest: &str) -> Result<bool, Fail> {
         | "first"
         | "first_damaged"
         | "second"
-        | "second_file" => { put(rt, path, example(alloc, word, number)?.as_slice()) }
+        | "second_file"
+        | "ebcdic"
+        | "booted"
+        | "marked"
+        | "unnamed" => { put(rt, path, example(alloc, word, number)?.as_slice()) }
         "records" => put(rt, path, payroll(alloc)?.as_slice()),
         "has" => holds(rt, path, bytes_of(alloc, text)?.as_slice()),
         "at" => has_text(rt, path, text),
+        "modified" => Ok(fs::metadata(rt, path)?.mtime().unsigned_abs() == number as u64),
         "length" => Ok(fs::read(rt, path)?.len() == number),
         "is_worked" => holds(rt, path, example(alloc, word, 0)?.as_slice()),
         "missing" => Ok(rest.split(' ').all(|path| fs::read(rt, path).is_err())),

@@ -20,6 +20,25 @@ const SITES: &str = "
     1: list --explain told_cut.tap =>   Image: told_cut.tap
     ~   The image ends in the middle of a block: it was cut off.
     1: list told.gz --explain =>   This does not look like a .tap image.
+    ~   It is compressed with gzip: try 'zcat NAME | tape list'.
+    put told.bz2 BZh91AY&SY
+    1: list told.bz2 --explain =>   This does not look like a .tap image.
+    ~   It is compressed with bzip2: try 'bzcat NAME | tape list'.
+    put told.zip PK\\03\\04\\14\\00
+    1: list told.zip --explain =>   This does not look like a .tap image.
+    ~   It is a zip archive: try 'unzip -p NAME | tape list'.
+    put told.aws P\\00\\00\\00\\A0\\00VOL1
+    1: list told.aws --explain =>   This does not look like a .tap image.
+    ~   It looks like an AWS image: 'aws2tap NAME NEW.tap' converts it.
+    put told.het P\\00\\00\\00\\A1\\00VOL1
+    1: list told.het --explain =>   This does not look like a .tap image.
+    ~   It looks like a HET image,
+    put told.raw VOL1CONT01
+    1: list told.raw --explain =>   This does not look like a .tap image.
+    ~   It begins with a label, without a length before it:
+    put told.card this is a catalogue card
+    1: list told.card --explain =>   This does not look like a .tap image.
+    ~   Is it compressed, cut off, or of a different kind?
     1$ --explain list lost.tap =>   Image: lost.tap: No such file or directory
     ~   The image could not be opened.
     1$ list a\u{9b} --explain =>   Image: a\\u009B: No such
@@ -32,18 +51,31 @@ const SITES: &str = "
     1$ init . TLD 1 --explain =>   Image: ./TLD001.tap
     ~   The image already exists; it was not changed.
     1$ write . TLD 100000 A=told --explain =>   Input: A=told: Is a directory
-    ~   The input is a directory. Nothing was written.
+    ~   The input could not be read: is it a directory,
     1$ write . TLD 100000 A=told.tap Ab=told.tap --explain =>   Input: Ab=told.tap
-    1$ write none TLD 100000 A=told.stage --explain =>   DIR: none
-    ~   An image or an input could not be opened or created.
+    1$ write none TLD 100000 A=told.stage --explain =>   Image: none/TLD001.tap: No such
+    ~   The image could not be opened or created.
+    put TLE001.tap kept
+    1$ write . TLE 100000 A=told.stage --explain =>   Image: ./TLE001.tap
+    ~   The image already exists and is not blank;
+    # The input, the line that is too long, and its length.
+    put told.txt one\\0A12345678901234567890\\0A
+    1$ write . TLW 100000 A=told.stage B=told.txt --record 23 --explain
+    ~   Input: B=told.txt, line 2: 20 bytes; a record has at most 19
+    ~   A record is too long or,
+    missing TLW001.tap
+    1: write . TLW 100000 A=told.txt --format F --record 20 --form raw --explain
+    ~   Input: A=told.txt, record 2: 5 bytes; a record has 20
+    1: write . TLW 100000 A=/dev/zero --explain =>   Input: A=/dev/zero
+    missing TLW001.tap
     # The set is complete if only standard output fails, and its images remain.
     1$ write . TLS 100000 A=told.stage --explain
     * full
     ~   Output: standard output
     ~   Output failed: the disk is full,
     0: check TLS001.tap
-    1$ write . FUL 100000 A=told.stage --explain =>   DIR: .
-    ~   An image could not be written completely: is the disk full?
+    1$ write . FUL 100000 A=told.stage --explain =>   Image: ./FUL001.tap
+    ~   The image could not be written completely: is the disk full?
     1$ extract ABC001 1 told.tap lost.tap --explain =>   OUT: told.tap
     ~   OUT already exists and might be a tape image,
     1$ check told.tap --files-from lost.names --explain =>   List: lost.names
@@ -100,7 +132,7 @@ const TOLD: &[(ToolFault, FaultSite<'_>, &str)] = &[
     (
         ToolFault::File(FileFault::ReadFailed),
         FaultSite::Folder("d"),
-        "  DIR: d\n  A .salvaged or .gaps file",
+        "  DIR: d\n  An existing file in DIR",
     ),
     (ToolFault::StageInUse, FaultSite::Folder("d"), OF_FAILED),
     (
@@ -119,6 +151,7 @@ fn faults_are_told_in_words(rt: HostRuntime) -> Result<(), Fail> {
             fault: *fault,
             site: *site,
             reason: None,
+            advice: None,
         };
         let told = format!(in rt.alloc(); "{explanation}")?;
         assert!(rt; told.as_str().starts_with(text), "{told}");
@@ -170,7 +203,7 @@ const MISSING: &str = "
     > REEL 1 BAD ITEM
     > AWAITS 1 1 1
     !   REEL 1: missing3.tap
-    !   Section 1 of file 1 is complete on no image. It begins on
+    !   Section 1 of file 1 is complete and readable on no image. It begins on
     !   volume ABC001, image missing3.tap.
     !   Look for another copy of that reel, or for another image of it.
     3$ extract ABC001 1 missing.txt missing3.tap missing4.tap --again --explain
@@ -187,7 +220,7 @@ const MISSING: &str = "
     !   volume ABC001, image missing4.tap.
     !   Look for the reel that comes after that one.
     3: salvage ABC001 1 missing_one.txt missing4.tap missing3.tap --explain
-    !   Section 1 of file 1 is complete on no image. It begins on
+    !   Section 1 of file 1 is complete and readable on no image. It begins on
     !   volume ABC001, image missing3.tap.
     !   Look for another copy of that reel, or for another image of it.
     # Sections that were recovered earlier are in the stage, and on none of these images.
@@ -221,8 +254,8 @@ const MISSING: &str = "
     !   no image: look for another copy of that section. Without such a line, no
     !   section was found at all. 'tape survey' shows what the images are.
     3: unpack . missing1.tap --explain
-    !   The lines of files and images say what is missing. After AWAITS, run it again
-    !   with all images, old and new: the stage keeps what was recovered.
+    !   The lines say what is missing. After AWAITS and NOT COMPARED, run it again
+    !   with all images, old and new; after DIFFERENT unpack into another directory.
     !   For CONFLICT and INCOMPLETE IMAGE see 'tape survey'.
     3: stage ABC001.1.PAYROLL.stage --explain
     !   The stage has only a part of the file, or is damaged. After AWAITS, 'tape

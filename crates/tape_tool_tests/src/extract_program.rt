@@ -163,7 +163,7 @@ const AGAIN: &str = "
     length counted.txt 2025
     at counted.txt 405 0006 \\20
     # A complete copy is read first.
-    worked counted.tap
+    damaged counted.tap 9
     $ extract ABC001 1 counted.txt miscounted.tap counted.tap --again
     > REEL 1 COMPLETE
     > COMPLETE 25
@@ -180,6 +180,21 @@ const AGAIN: &str = "
     set fault 1$ extract MIX001 1 mixed.txt one/MIX001.tap other/MIX001.tap --again --stage a.stage
     has mixed.txt kept
     length a.stage 2381
+    # A stage of a copy that lost a block is not continued from copies that have other data there,
+    # one of them with its first block unreadable. It is unchanged.
+    lost_damaged lost_block.tap 3
+    damaged no_first.tap 0
+    3: extract ABC001 1 differs.txt lost_block.tap --again --stage differs.stage
+    length differs.stage 1106
+    3$ extract ABC001 1 differs.txt counted.tap no_first.tap --again --stage differs.stage
+    > REEL 1 SECTION DIFFERS
+    > REEL 2 SECTION DIFFERS
+    > AWAITS 1 1 2
+    missing differs.txt
+    length differs.stage 1106
+    # A copy with the same data continues it.
+    3: extract ABC001 1 differs.txt lost_block.tap --again --stage differs.stage
+    | REEL 1 BAD ITEM
     # A file is not affected by those of other sets, or by an image that is named twice.
     0: extract MIX001 1 mixed.txt one/MIX001.tap counted.tap one/MIX001.tap --again
 ";

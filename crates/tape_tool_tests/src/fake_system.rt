@@ -1,6 +1,7 @@
 //! The program in a fake system, which provides its arguments and standard input, an image of one
 //! mark, and records its output and the files that it opens. Files and memory are those of the real
-//! system, except that an image named `FUL001.tap` accepts no bytes.
+//! system, except that an image named `FUL001.tap` accepts no bytes, and that `program` is the
+//! program's own file.
 use std::alloc::{AllocError, Allocator, Global};
 use std::cell::{Cell, RefCell};
 use std::env::{Env, FillError};
@@ -33,6 +34,8 @@ pub enum Odd<'a> {
     Terminal(usize),
     /// Standard output accepts nothing.
     Full,
+    /// Standard output is a pipe that nobody reads.
+    Pipe,
     /// No argument is text.
     NoText,
 }
@@ -94,6 +97,7 @@ impl Files for FakeSystem<'_> {
             _ if path.ends_with("/FUL001.tap") => {
                 OpenOptions::new().write(true).open(&self.rt, "/dev/full")
             }
+            _ if path == "/proc/self/exe" => self.rt.open_file(how, "program"),
             _ => self.rt.open_file(how, path),
         };
         note(&self.records.opened, path)?;
@@ -197,6 +201,7 @@ impl Print for FakeSystem<'_> {
     fn print<D: Display + Drop>(&self, value: D) -> io::Result<()> {
         match self.odd {
             Odd::Full => Err(io::Error::from(ErrorKind::StorageFull)),
+            Odd::Pipe => Err(io::Error::from(ErrorKind::BrokenPipe)),
             _ => note(&self.records.out, value),
         }
     }

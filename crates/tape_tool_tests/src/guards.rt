@@ -35,7 +35,7 @@ const GUARDED: &str = "
     has guard/GRD001.1.ONE kept
     file fault 2$ unpack guard GRD001.tap
     * look guard/GRD001.2.TWO stale
-    > FILE GRD001 1 EXISTS guard/GRD001.1.ONE
+    > FILE GRD001 1 DIFFERENT guard/GRD001.1.ONE
     > FILE GRD001 2 FAILED file fault 2 guard/GRD001.2.TWO
     > TOTAL 0 complete 1 existing 0 incomplete 0 in conflict 0 not found 1 failed
     has guard/GRD001.2.TWO F\\0A
@@ -58,9 +58,9 @@ const GUARDED: &str = "
     * comes guard.tap guard.txt
     > REEL 1 COMPLETE
     has guard.txt mine
-    $ unpack guard guard.tap
+    3$ unpack guard guard.tap
     * comes guard/.tape-1.part guard/ABC001.1.PAYROLL
-    > FILE ABC001 1 EXISTS guard/ABC001.1.PAYROLL
+    > FILE ABC001 1 DIFFERENT guard/ABC001.1.PAYROLL
     > TOTAL 0 complete 1 existing 0 incomplete 0 in conflict 0 not found 0 failed
     has guard/ABC001.1.PAYROLL mine
     # An unpacked file is never written in place.
@@ -97,6 +97,13 @@ const GUARDED: &str = "
     * full
     file fault 4$ --version
     * full
+    # If the reader of the output has closed its pipe, nothing is reported.
+    141$ list guard.tap --explain
+    * pipe
+    141$ survey guard.tap
+    * pipe
+    141$ list --help
+    * pipe
     2$ lost
     * terminal 0
     # Arguments that are not text.
@@ -124,6 +131,15 @@ const SHOWN: &str = "
     ! image 1 of 1: 0 MB<
     # An error is printed after the line was removed.
     1: list progress_cut.tap
+    * terminal 9
+    ! image 1 of 1: 0 MB<
+    ! image 1 of 1: 0 MB<
+    ! tape: image fault 1 at 1884
+    !   Image: progress_cut.tap
+    !   The image ends in the middle of a block: it was cut off. All items before
+    !   that block were listed. Copy the image again from its source, or use
+    !   'extract' with this and other copies.
+    1: list progress_cut.tap --no-explain
     * terminal 9
     ! image 1 of 1: 0 MB<
     ! image 1 of 1: 0 MB<

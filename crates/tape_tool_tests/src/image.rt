@@ -16,11 +16,27 @@ fn push_block(image: &mut Vec<u8>, content: &[u8], high: u8) -> Result<(), Alloc
     image.extend_from_slice(&word)
 }
 
-/// Appends a label, which is padded with spaces.
-fn push_label(image: &mut Vec<u8>, text: &str) -> Result<(), AllocError> {
+/// Returns a capital letter, digit or space in EBCDIC. There the letters are in three runs.
+fn in_ebcdic(character: u8) -> u8 {
+    match character {
+        b'A'..=b'I' => 0xC1 + (character - b'A'),
+        b'J'..=b'R' => 0xD1 + (character - b'J'),
+        b'S'..=b'Z' => 0xE2 + (character - b'S'),
+        b'0'..=b'9' => 0xF0 + (character - b'0'),
+        _ => 0x40,
+    }
+}
+
+/// Appends a label, which is padded with spaces, in EBCDIC or in ASCII.
+fn push_label(image: &mut Vec<u8>, text: &str, is_ebcdic: bool) -> Result<(), AllocError> {
     let mut label = [b' '; 80];
     for (slot, byte) in label.iter_mut().zip(text.as_bytes()) {
         *slot = *byte;
+    }
+    if is_ebcdic {
+        for slot in label.iter_mut() {
+            *slot = in_ebcdic(*slot);
+        }
     }
     push_block(image, &label, 0)
 }
@@ -34,7 +50,9 @@ fn push_label(image: &mut Vec<u8>, text: &str) -> Result<(), AllocError> {
 /// - `first` has no room for the end-of-file labels, and `second` is the volume after it, with an
 ///   empty section;
 /// - `first_damaged` is `first` with the blocks of `damaged`;
-/// - `second_file` has only the second file of its set, without records.
+/// - `second_file` has only the second file of its set, without records;
+/// - `ebcdic` has its labels in EBCDIC, `booted` a block of 512 bytes after its volume label,
+///   `marked` a mark before it, and `unnamed` no volume label.
 pub fn example(alloc: Global, name: &str, bad: usize) -> Result<Vec<u8>, AllocError> {
     let is_damaged = name.ends_with("damaged");
     let section = if name == "second" { 2 } else { 1 };
@@ -55,9 +73,22 @@ pub fn example(alloc: Global, name: &str, bad: usize) -> Result<Vec<u8>, AllocEr
     let trailer = format!(in alloc; "{end}1{id}          {place}{count}")?;
     let form = format!(in alloc; "2F00{size}00080                                   00")?;
     let mut image = Vec::new(alloc);
-    push_label(&mut image, volume.as_str())?;
-    push_label(&mut image, header.as_str())?;
-    push_label(&mut image, format!(in alloc; "HDR{form}")?.as_str())?;
+    let is_ebcdic = name == "ebcdic";
+    if name == "marked" {
+        image.extend_from_slice(MARK)?;
+    }
+    if name != "unnamed" {
+        push_label(&mut image, volume.as_str(), is_ebcdic)?;
+    }
+    if name == "booted" {
+        push_block(&mut image, &[b'B'; 512], 0)?;
+    }
+    push_label(&mut image, header.as_str(), is_ebcdic)?;
+    push_label(
+        &mut image,
+        format!(in alloc; "HDR{form}")?.as_str(),
+        is_ebcdic,
+    )?;
     image.extend_from_slice(MARK)?;
     let records = payroll(alloc)?;
     let records = records.as_slice();
@@ -73,8 +104,12 @@ pub fn example(alloc: Global, name: &str, bad: usize) -> Result<Vec<u8>, AllocEr
         }
     }
     image.extend_from_slice(MARK)?;
-    push_label(&mut image, trailer.as_str())?;
-    push_label(&mut image, format!(in alloc; "{end}{form}")?.as_str())?;
+    push_label(&mut image, trailer.as_str(), is_ebcdic)?;
+    push_label(
+        &mut image,
+        format!(in alloc; "{end}{form}")?.as_str(),
+        is_ebcdic,
+    )?;
     image.extend_from_slice(END)?;
     Ok(image)
 }

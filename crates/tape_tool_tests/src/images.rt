@@ -167,12 +167,28 @@ const WRITTEN: &str = "
     folder UNO256.tap
     file fault 2: write . UNO 100000 A=apart.txt
     missing UNO001.tap
-    # If a second volume is not blank, the first one remains.
+    # If a second volume is not blank, the first one is removed if it was created; otherwise it
+    # remains, but is no longer blank.
     records s.bin
     put SND002.tap kept
     file fault 1: write . SND 2500 PAYROLL=s.bin --format F --block 800 --record 80 --form raw
+    missing SND001.tap
+    has SND002.tap kept
+    0: init . SND 1
+    file fault 1: write . SND 2500 PAYROLL=s.bin --format F --block 800 --record 80 --form raw
     length SND001.tap 2484
     has SND002.tap kept
+    # A dry run creates nothing, and has the faults of inputs and images.
+    0: write . DRY 2500 PAYROLL=s.bin --format F --block 800 --record 80 --form raw --dry-run
+    missing DRY001.tap
+    file fault 1: write . SND 2500 A=s.bin --format F --block 800 --record 80 --form raw --dry-run
+    length SND001.tap 2484
+    file fault 2: write none DRY 2500 A=missing.bin --dry-run
+    0: write none DRY 1042 PAYROLL=s.bin --format S --block 18 --form raw --dry-run
+    # A creation date.
+    0: write . DAY 2500 A=s.bin --format F --block 800 --record 80 --form raw --date 1985-04-23
+    at DAY001.tap 133  85113
+    2: write . DAZ 2500 A=s.bin --date 1985-02-29 | write . DAZ 2500 A=s.bin --date 85113
     # All inputs are looked up before anything is written: first one is missing, then one is a
     # directory.
     put here.txt AB\\0A
@@ -197,7 +213,9 @@ const WRITTEN: &str = "
     write fault 3: write none FLT 3071 A=nine.txt
     file fault 2: write none FLT 100000 A=nine.txt
     write fault 4: write . FLT 100000 A=nine.txt --block 20000
+    missing FLT001.tap
     write fault 4: write . FLA 100000 A=rest.bin --format F --record 80 --form raw
+    missing FLA001.tap
     file fault 3: write . FLB 100000 A=.
     # A line that never ends.
     write fault 4: write . FLD 100000 A=/dev/zero

@@ -16,9 +16,17 @@ mod image;
 #[cfg(test)]
 mod images;
 #[cfg(test)]
+mod json_program;
+#[cfg(test)]
+mod manifest_program;
+#[cfg(test)]
+mod normal_form;
+#[cfg(test)]
 mod orders;
 #[cfg(test)]
 mod seen;
+#[cfg(test)]
+mod show_program;
 #[cfg(test)]
 mod staging;
 #[cfg(test)]

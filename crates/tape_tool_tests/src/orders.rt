@@ -4,36 +4,43 @@ use crate::fake_system::words_of;
 use std::alloc::{AllocError, Global};
 use std::fmt;
 use std::test::Fail;
-use tape_run::{Content, Wording};
+use tape_run::Content;
 use tape_tool::{Named, Order, WriteOrder, call_of};
 
 /// Command lines, each before its request as `text_of` prints it, on the same line or the next.
 const REQUESTS: &str = "
-    list => list offsets=false none
-    list a.tap => list offsets=false a.tap
-    list --offsets a.tap => list offsets=true a.tap
-    list -- -odd.tap => list offsets=false -odd.tap
-    list a.tap --explain => explained: list offsets=false a.tap
-    --explain list a.tap => explained: list offsets=false a.tap
+    list => list offsets=false json=false none
+    list a.tap => list offsets=false json=false a.tap
+    list --offsets a.tap => list offsets=true json=false a.tap
+    list --json a.tap => list offsets=false json=true a.tap
+    list -- -odd.tap => list offsets=false json=false -odd.tap
+    list a.tap --explain => explained: list offsets=false json=false a.tap
+    --explain list a.tap => explained: list offsets=false json=false a.tap
+    list a.tap --no-explain => bare: list offsets=false json=false a.tap
+    list a.tap --no-explain --explain => bare: list offsets=false json=false a.tap
+    show a.tap 2 => show a.tap 2-2 raw=false ebcdic=false
+    show a.tap 2 12 --raw --ebcdic => show a.tap 2-12 raw=true ebcdic=true
     check a.tap b.tap => check a.tap b.tap
     check a.tap --files-from l => check a.tap lines of l
     check --files-from l --null => check nulls of l
     check --files-from - => check lines of none
     check - => check -
-    survey a.tap b.tap => survey words a.tap b.tap
-    survey --tsv a.tap => survey rows a.tap
-    survey --files-from - --null -- -a => survey words -a nulls of none
+    survey a.tap b.tap => survey Words a.tap b.tap
+    survey --tsv a.tap => survey Tsv a.tap
+    survey --json a.tap => survey Json a.tap
+    survey --files-from - --null -- -a => survey Words -a nulls of none
     extract ABC001 2 out a.tap b.tap
     => extract ABC001 2 out Lines stage=none again=false a.tap b.tap
     extract AB 9999 out --again --stage kept --form raw --files-from l
     => extract AB     9999 out Raw stage=kept again=true lines of l
     extract ABC001 1 out --form lines --null --files-from l a
     => extract ABC001 1 out Lines stage=none again=false a nulls of l
-    unpack dir a.tap b.tap => unpack dir Lines list=false salvage=false set=none a.tap b.tap
+    unpack dir a.tap b.tap
+    => unpack dir Lines list=false salvage=false now=false set=none a.tap b.tap
     unpack dir a --form raw --set ABC001 --file 3 --file P* --list
-    => unpack dir Raw list=true salvage=false set=ABC001 file=3 file=P* a
-    unpack dir --salvage --files-from l
-    => unpack dir Lines list=false salvage=true set=none lines of l
+    => unpack dir Raw list=true salvage=false now=false set=ABC001 file=3 file=P* a
+    unpack dir --salvage --now --files-from l
+    => unpack dir Lines list=false salvage=true now=true set=none lines of l
     salvage ABC001 2 out a.tap => salvage ABC001 2 out blocks=false Lines a.tap
     salvage ABC001 1 out --form raw a => salvage ABC001 1 out blocks=false Raw a
     salvage ABC001 1 out --form blocks a b => salvage ABC001 1 out blocks=true Raw a b
@@ -41,20 +48,25 @@ const REQUESTS: &str = "
     stage kept out --form raw --damaged => stage kept Raw damaged=true out
     init dir ABC 12 => init dir ABC 12
     write dir ABC 9K A=a B=b
-    => write dir ABC 9216 Counted 2048 offset=0 full=false Lines record=None A=a B=b
+    => write dir ABC 9216 Counted 2048 offset=0 full=false Lines record=None date= 00000 A=a B=b
     write dir X1Z 100000 A=a --format F --record 80 --block 8000 --offset 4 --pad-full
-    => write dir X1Z 100000 Fixed 8000 offset=4 full=true Lines record=Some(80) A=a
+    => write dir X1Z 100000 Fixed 8000 offset=4 full=true Lines record=Some(80) date= 00000 A=a
     write dir ABC 9000 A=a --format S --form raw --block +512 --offset 010
-    => write dir ABC 9000 Spanned 512 offset=10 full=false Raw record=None A=a
+    => write dir ABC 9000 Spanned 512 offset=10 full=false Raw record=None date= 00000 A=a
     write dir ABC 9000 A=a --record +80
-    => write dir ABC 9000 Counted 2048 offset=0 full=false Lines record=Some(80) A=a
+    => write dir ABC 9000 Counted 2048 offset=0 full=false Lines record=Some(80) date= 00000 A=a
     write dir ABC 40M A=a --format S
-    => write dir ABC 41943040 Spanned 2048 offset=0 full=false Lines record=None A=a
+    => write dir ABC 41943040 Spanned 2048 offset=0 full=false Lines record=None date= 00000 A=a
     write dir ABC 3G A=a --format S
-    => write dir ABC 3221225472 Spanned 2048 offset=0 full=false Lines record=None A=a
+    => write dir ABC 3221225472 Spanned 2048 offset=0 full=false Lines record=None date= 00000 A=a
+    write dir ABC 9000 A=a --format S --date 1985-12-31 --dry-run
+    => dry: write dir ABC 9000 Spanned 2048 offset=0 full=false Lines record=None date= 85365 A=a
+    write dir ABC 9000 A=a --format S --date 2000-02-29
+    => write dir ABC 9000 Spanned 2048 offset=0 full=false Lines record=None date=000060 A=a
     merge out a.tap b.tap => merge out log=none a.tap b.tap
     merge out --log kept a --files-from l => merge out log=kept a lines of l
-    compare a.tap b.tap => compare log=none a.tap b.tap
+    compare a.tap b.tap => compare json=false a.tap b.tap
+    compare --json a.tap b.tap => compare json=true a.tap b.tap
 ";
 
 /// Texts, each after the first text.
@@ -97,13 +109,18 @@ fn text_of(alloc: Global, order: &Order<'_>) -> Result<String, AllocError> {
     match order {
         Order::List(order) => {
             let image = order.image.unwrap_or("none");
-            format!(in alloc; "list offsets={} {image}", order.offsets)
+            format!(in alloc;
+                "list offsets={} json={} {image}",
+                order.offsets, order.json
+            )
         }
+        Order::Show(order) => format!(in alloc;
+            "show {} {}-{} raw={} ebcdic={}",
+            order.image, order.first, order.last, order.raw, order.ebcdic
+        ),
         Order::Check(images, None) => format!(in alloc; "check{}", Images(images)),
-        Order::Check(images, Some(wording)) => {
-            let is_rows = matches!(wording, Wording::Rows);
-            let wording = if is_rows { "rows" } else { "words" };
-            format!(in alloc; "survey {wording}{}", Images(images))
+        Order::Check(images, Some(form)) => {
+            format!(in alloc; "survey {form:?}{}", Images(images))
         }
         Order::Stage(order) => format!(in alloc;
             "stage {} {:?} damaged={} {}",
@@ -123,7 +140,7 @@ fn text_of(alloc: Global, order: &Order<'_>) -> Result<String, AllocError> {
             let (log, images) = (order.log.unwrap_or("none"), Images(&order.images));
             match order.out {
                 Some(out) => format!(in alloc; "merge {out} log={log}{images}"),
-                None => format!(in alloc; "compare log={log}{images}"),
+                None => format!(in alloc; "compare json={}{images}", order.json),
             }
         }
         _ => recovery_text(alloc, order),
@@ -147,11 +164,12 @@ fn recovery_text(alloc: Global, order: &Order<'_>) -> Result<String, AllocError>
             )
         }
         Order::Unpack(order) => format!(in alloc;
-            "unpack {} {:?} list={} salvage={} set={}{}{}",
+            "unpack {} {:?} list={} salvage={} now={} set={}{}{}",
             order.folder,
             order.form,
             order.list,
             order.salvage,
+            order.now,
             order.set.unwrap_or("none"),
             Texts(" file=", order.files.as_slice()),
             Images(&order.images)
@@ -174,7 +192,8 @@ fn recovery_text(alloc: Global, order: &Order<'_>) -> Result<String, AllocError>
 /// Returns a request to `write` as text.
 fn write_text(alloc: Global, order: &WriteOrder<'_>) -> Result<String, AllocError> {
     format!(in alloc;
-        "write {} {} {} {:?} {} offset={} full={} {:?} record={:?}{}",
+        "{}write {} {} {} {:?} {} offset={} full={} {:?} record={:?} date={}{}",
+        if order.dry { "dry: " } else { "" },
         order.folder,
         id(&order.prefix.characters),
         order.capacity,
@@ -184,6 +203,7 @@ fn write_text(alloc: Global, order: &WriteOrder<'_>) -> Result<String, AllocErro
         order.pad_full,
         order.form,
         order.record,
+        id(order.created.bytes()),
         Texts(" ", order.files.as_slice())
     )
 }
@@ -202,7 +222,11 @@ fn requests(rt: HostRuntime) -> Result<(), Fail> {
         }
         let words = words_of(rt.alloc(), asked.as_str())?;
         let call = call_of(rt.alloc(), words.as_slice())?;
-        let explained = if call.explained { "explained: " } else { "" };
+        let explained = match call.explained {
+            Some(true) => "explained: ",
+            Some(false) => "bare: ",
+            None => "",
+        };
         let text = text_of(rt.alloc(), &call.order)?;
         let text = format!(in rt.alloc(); "{explained}{text}")?;
         assert!(rt; text.as_str() == wanted, "{asked}: {text}");
@@ -215,17 +239,17 @@ const SAID: &str = "
     2:  => requires a subcommand
     2: lost => unrecognized subcommand 'lost'
     2: list a.tap b.tap => do echo \"$f\"; tape list \"$f\"; done
-    ~ Usage: tape list [--offsets] [IMAGE]
+    ~ Usage: tape list [--offsets | --json] [IMAGE]
     2: list - => omit IMAGE to read standard input
     2: list -- - => write './-' for a file of that name
     2: list --all => unexpected argument '--all' found
-    ~ Usage: tape list [--offsets] [IMAGE]
+    ~ Usage: tape list [--offsets | --json] [IMAGE]
     0: --help
     | Usage: tape [OPTIONS] <COMMAND>
     0: --version
     | tape 0.1.0
     0: list --help
-    | Usage: tape list [--offsets] [IMAGE]
+    | Usage: tape list [--offsets | --json] [IMAGE]
     0: check --help
     | --explain
     0: survey --help | compare --help | merge --help | extract --help | unpack --help
@@ -244,6 +268,7 @@ const SAID: &str = "
     2: salvage TOOLONG 1 a.txt a.tap => error: invalid value \"TOOLONG\": SET must have
     2: init . ab 2 => error: invalid value \"ab\": PRE must be three characters
     2: write . ABC 40X A=B => error: invalid value \"40X\": CAPACITY must be a number of bytes
+    2: write . ABC 9000 A=B --date 1985-02-29 => error: invalid value \"1985-02-29\": --date must be
     2: write . ABC 4G A=B => error: invalid value \"4G\": CAPACITY must be a number of bytes
     2: write . ABCD 100000 A=B => error: invalid value \"ABCD\": PRE must be three characters
     # It also says what was expected, if that is a number.

@@ -119,6 +119,41 @@ fn whole_calls(rt: HostRuntime) -> Result<(), Fail> {
     follow_in(&rt, "calls", CALLS)
 }
 
+/// How the program was built: a note of 128 bytes at the end of its file.
+const NOTED: &str = "
+    $ --version
+    > tape 0.1.0
+    ? /proc/self/exe?
+    put program bytes\\0Abuild of tape: proved: commit 0123abcd with changes, a toolchain \
+        whose name is so long that only three spaces follow it now\\20\\20\\20\\0A
+    $ --version
+    > tape 0.1.0
+    > proved: commit 0123abcd with changes, a toolchain \
+        whose name is so long that only three spaces follow it now
+    ? /proc/self/exe
+    $ list
+    > 000001 MARK
+    > END MARKED
+    ?
+    # What is no note is not printed.
+    put program bytes\\0Abuild of xape: proved: commit 0123abcd with changes, a toolchain \
+        whose name is so long that only three spaces follow it now\\20\\20\\20\\0A
+    $ --version
+    > tape 0.1.0
+    put program bytes\\0Abuild of tape: \\FFroved: commit 0123abcd with changes, a toolchain \
+        whose name is so long that only three spaces follow it now\\20\\20\\20\\0A
+    $ --version
+    > tape 0.1.0
+    put program build of tape: proved
+    $ --version
+    > tape 0.1.0
+";
+
+#[test]
+fn notes(rt: HostRuntime) -> Result<(), Fail> {
+    follow_in(&rt, "noted", NOTED)
+}
+
 /// Commands that read images: the files opened before the images, and the end of the output for 300
 /// images that do not exist.
 const READERS: &[(&str, &str, &str)] = &[

@@ -12,9 +12,30 @@ const UNPACKED: &str = "
     0: unpack unpacked/ unpack1.tap unpack1.tap
     length unpacked/ABC001.1.PAYROLL 2025
     missing unpacked/.tape-1.part unpacked/ABC001.1.PAYROLL.stage
-    put unpacked/ABC001.1.PAYROLL kept
-    0: unpack unpacked unpack1.tap
+    $ unpack unpacked unpack1.tap
+    > FILE ABC001 1 EXISTS unpacked/ABC001.1.PAYROLL
+    > TOTAL 0 complete 1 existing 0 incomplete 0 in conflict 0 not found 0 failed
     3: unpack unpacked unpack1.tap lost.tap
+    | EXISTS
+    # An existing file is compared, and never changed: one that is longer, shorter, or of another
+    # form, and another file.
+    cut unpacked/ABC001.1.PAYROLL 2026
+    3$ unpack unpacked unpack1.tap
+    > FILE ABC001 1 DIFFERENT unpacked/ABC001.1.PAYROLL
+    > TOTAL 0 complete 1 existing 0 incomplete 0 in conflict 0 not found 0 failed
+    length unpacked/ABC001.1.PAYROLL 2026
+    cut unpacked/ABC001.1.PAYROLL 2024
+    3: unpack unpacked unpack1.tap
+    | DIFFERENT
+    cut unpacked/ABC001.1.PAYROLL 2000
+    3: unpack unpacked unpack1.tap --form raw
+    | DIFFERENT
+    put unpacked/ABC001.1.PAYROLL kept
+    3: unpack unpacked unpack1.tap
+    | DIFFERENT
+    $ unpack unpacked unpack1.tap --list
+    > FILE ABC001 1 EXISTS unpacked/ABC001.1.PAYROLL
+    > TOTAL 0 complete 1 existing 0 incomplete 0 in conflict 0 not found 0 failed
     has unpacked/ABC001.1.PAYROLL kept
     # Damaged copies are read, one each day: the last one alone does not have all that the others
     # contributed.
@@ -30,10 +51,23 @@ const UNPACKED: &str = "
     remove days/ABC001.1.PAYROLL
     0: unpack days day1.tap day2.tap
     at days/ABC001.1.PAYROLL 1944 0025 \\20
+    # If no image has the whole file, copies are joined for the comparison, too. Nothing is saved.
+    0: unpack days day2.tap day1.tap
+    | EXISTS
+    3$ unpack days day1.tap
+    > FILE ABC001 1 NOT COMPARED days/ABC001.1.PAYROLL
+    > TOTAL 0 complete 1 existing 0 incomplete 0 in conflict 0 not found 0 failed
+    missing days/ABC001.1.PAYROLL.stage
+    put days/ABC001.1.PAYROLL kept
+    3: unpack days day1.tap
+    | NOT COMPARED
+    3: unpack days day2.tap day1.tap
+    | DIFFERENT
+    missing days/ABC001.1.PAYROLL.stage
     # If a complete copy is given, the file is read from it alone. The stage of an earlier run is
     # removed if the file begins with its data.
     folder older
-    worked older1.tap
+    damaged older1.tap 9
     3: unpack older day1.tap
     length older/ABC001.1.PAYROLL.stage 681
     $ unpack older older1.tap
@@ -43,6 +77,11 @@ const UNPACKED: &str = "
     # A stage with other data is kept, for example that of a copy that lost a block and is damaged
     # after it, and so is one that is not a stage, or a link.
     remove older/ABC001.1.PAYROLL
+    # An image whose labels give another block length is no copy.
+    worked other1.tap
+    3$ unpack older older1.tap other1.tap
+    > FILE ABC001 1 CONFLICT
+    > TOTAL 0 complete 0 existing 0 incomplete 1 in conflict 0 not found 0 failed
     lost_damaged older2.tap 3
     3: unpack older older2.tap
     length older/ABC001.1.PAYROLL.stage 1106
@@ -65,6 +104,16 @@ const UNPACKED: &str = "
     link older/ABC001.1.PAYROLL.stage ../older2.tap
     0: unpack older older1.tap
     | STAGE KEPT
+    # The stage of a copy that lost a block is not continued from a damaged copy with other data.
+    folder differs
+    damaged differs1.tap 0
+    3: unpack differs older2.tap
+    3$ unpack differs differs1.tap
+    > FILE ABC001 1 AWAITS 1 1 2 differs/ABC001.1.PAYROLL.stage
+    > FILE ABC001 1 SECTION DIFFERS differs1.tap
+    > TOTAL 0 complete 0 existing 1 incomplete 0 in conflict 0 not found 0 failed
+    length differs/ABC001.1.PAYROLL.stage 1106
+    missing differs/ABC001.1.PAYROLL
     # A file that is not a stage is unchanged, and a link in its place is not followed. The other
     # files are unpacked.
     folder failed
@@ -80,7 +129,8 @@ const UNPACKED: &str = "
     length failed2.txt 0
     # A link that leads nowhere counts as existing.
     link failed/ABC001.1.PAYROLL lost.txt
-    0: unpack failed failed1.tap
+    3: unpack failed failed1.tap
+    | NOT COMPARED
     missing failed/ABC001.1.PAYROLL
     # Each run writes the readable records of an incomplete file anew, and removes them when the
     # file is complete, but only if they are unchanged since the last run.
@@ -168,6 +218,12 @@ const CHOSEN: &str = "
     put chosen1/CHO001.1.ONE kept
     0: write . CHO 100000 ONE=chosen_a.txt TWO=chosen_b.txt THREE=chosen_a.txt
     0: write . OTH 100000 ONE=chosen_b.txt
+    # A file has the time of the day in its labels: noon of April 23rd, 1985.
+    0: write . DAT 100000 ONE=chosen_b.txt --date 1985-04-23
+    folder dated
+    0: unpack dated DAT001.tap
+    modified dated/DAT001.1.ONE 483105600
+    has dated/DAT001.1.ONE B\\0AB\\0A
     front chosen.tap 2288
     3$ unpack chosen1 --list CHO001.tap chosen.tap OTH001.tap
     > FILE CHO001 1 EXISTS chosen1/CHO001.1.ONE

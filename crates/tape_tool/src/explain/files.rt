@@ -3,21 +3,21 @@
 pub const FILE_OF_INPUT: &str = "
 #2  The input could not be opened. Nothing was written.
   Check its name and your permissions.
-#3  The input is a directory. Nothing was written. Name a file.";
+#3  The input could not be read: is it a directory, or is the disk failing?
+  Created images were removed; remove blank ones that were begun.";
 
-/// Faults of the images of `write`, and of its inputs once they are read.
+/// Faults of the images of `write`.
 pub const FILE_OF_IMAGES: &str = "
-#1  An image of this set already exists and is not blank; it was not changed.
-  Remove it, or choose another PRE or DIR. Images that were written before it,
-  if any, are no longer blank.
-#2  An image or an input could not be opened or created. Does DIR exist, and may
-  you read and write there? Images that were started, if any, are no longer
-  blank: remove them before you try again.
-#3  An input or an existing image could not be read: is it a directory, or is the
-  disk failing? Images that were started, if any, are no longer blank: remove
-  them before you try again.
-#4  An image could not be written completely: is the disk full? Images that were
-  started are no longer blank: remove them before you try again.";
+#1  The image already exists and is not blank; it was not changed. Remove it, or
+  choose another PRE or DIR.
+  Created images were removed; remove blank ones that were begun.
+#2  The image could not be opened or created. Does DIR exist, and may you read
+  and write there?
+  Created images were removed; remove blank ones that were begun.
+#3  The image already exists and could not be read: is the disk failing?
+  Created images were removed; remove blank ones that were begun.
+#4  The image could not be written completely: is the disk full?
+  Created images were removed; remove blank ones that were begun.";
 
 pub const FILE_OF_LINES: &str = "
 #4  Output failed: the disk is full, or the pipe was closed (by 'head', say).
@@ -32,8 +32,8 @@ pub const FILE_OF_VOLUME: &str = "
   any, are complete. Choose another PRE or DIR, or remove the image.
 #2  The image could not be created. Does DIR exist, and may you write to it?
   Images created before it, if any, are complete.
-#4  The image could not be written completely: is the disk full? Remove it before
-  you try again. Images created before it, if any, are complete.";
+#4  The image could not be written completely: is the disk full? It was removed.
+  Images created before it, if any, are complete.";
 
 pub const FILE_OF_LIST: &str = "
 #2  The list could not be opened. No image was read.
@@ -77,8 +77,20 @@ pub const FILE_OF_STAGE: &str = "
 pub const FILE_OF_FOLDER: &str = "
 #2  DIR, or a file in it, could not be opened or created. Files reported earlier
   are kept. Does DIR exist, and may you read and write there?
-#3  A .salvaged or .gaps file in DIR could not be read: is the disk failing? It
-  was not changed. Files reported earlier are kept.
+#3  An existing file in DIR could not be read: is the disk failing? It was not
+  changed. Files reported earlier are kept.
 #4  Writing to DIR or standard output failed: the disk is full, or a pipe was
   closed. Files reported earlier, and the stages, are kept. Free some space and
   try again.";
+
+pub const FILE_OF_MANIFEST: &str = "
+#1  MANIFEST.sha256 in DIR is not a list as tape writes it, or was changed by
+  another program. It was left as it is: rename it, and try again. Files that
+  were reported are kept.
+#2  MANIFEST.sha256 in DIR could not be opened or created. With --verify: there
+  is none; 'tape unpack --manifest' writes it. Files reported earlier are kept.
+#3  MANIFEST.sha256 in DIR could not be read, or is not a list as tape writes it.
+  'sha256sum -c' may read it. Nothing was recovered.
+#4  MANIFEST.sha256 could not be written: the disk is full or failing. An older
+  list is unchanged, and files reported earlier are kept. Free some space and
+  try again: the list is then completed.";

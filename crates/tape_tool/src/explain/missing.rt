@@ -3,6 +3,7 @@ use super::{FaultSite, NEVER};
 use crate::command_line::Order;
 use crate::extract::are_files;
 use crate::images::{Images, names_of};
+use crate::normal::NormalImages;
 use crate::screen::Progress;
 use crate::shown::Shown;
 use crate::unpack::UnpackOrder;
@@ -44,7 +45,12 @@ fn text_by_images<R: Progress>(rt: &R, order: &Order<'_>, awaited: Option<Want>)
     if !are_files(rt.host(), names) {
         return None;
     }
-    let met = &find_files(rt.alloc(), &mut Images::new(rt, names)).ok()?;
+    let met = &match order {
+        Order::Extract(order) if !order.task.again => {
+            find_files(rt.alloc(), &mut Images::new(rt, names)).ok()?
+        }
+        _ => find_files(rt.alloc(), &mut NormalImages::again(rt, names)).ok()?,
+    };
     let shelf = Shelf {
         alloc: rt.alloc(),
         names,
@@ -140,7 +146,7 @@ impl Shelf<'_> {
         let text = match found.lacks {
             Some(lacks) if lacks < sect => return Ok(None),
             Some(lacks) if lacks == sect => format!(in self.alloc;
-                "Section {sect} of file {file} is complete on no image. It begins on
+                "Section {sect} of file {file} is complete and readable on no image. It begins on
   {on}.
   Look for another copy of that reel, or for another image of it."
             )?,
@@ -263,8 +269,8 @@ fn general_text(order: &Order<'_>) -> &'static str {
   no image: look for another copy of that section. Without such a line, no
   section was found at all. 'tape survey' shows what the images are.",
         Order::Check(_, Some(_)) =>
-            "A section is missing or damaged, copies differ, or an image was not read to
-  its end: the lines of the files and images say which.",
+            "A section is missing, damaged or unreadable, copies differ, HDR2 is lost, or
+  an image was not read to its end: the lines of files and images say which.",
         Order::Extract(order) if order.task.again =>
             "Look for another copy of the section in the last line (AWAITS). If 'survey'
   says that it is complete, its labels or records could not be used: see the
@@ -274,8 +280,8 @@ fn general_text(order: &Order<'_>) -> &'static str {
   Look for the reel with that section, or for another copy of it.
   'tape survey' shows which sections the images contain.",
         Order::Unpack(_) =>
-            "The lines of files and images say what is missing. After AWAITS, run it again
-  with all images, old and new: the stage keeps what was recovered.
+            "The lines say what is missing. After AWAITS and NOT COMPARED, run it again
+  with all images, old and new; after DIFFERENT unpack into another directory.
   For CONFLICT and INCOMPLETE IMAGE see 'tape survey'.",
         Order::Salvage(_) =>
             "The lines say what is missing, could not be read, or differs. Another copy of
@@ -287,6 +293,6 @@ fn general_text(order: &Order<'_>) -> &'static str {
             "The images differ (DIFFER), or the image that they form has unreadable items,
   wrong block counts (COUNT) or no end (CUT): the lines say which.",
         // They do not end so.
-        Order::List(_) | Order::Init(_) | Order::Write(_) => NEVER,
+        Order::List(_) | Order::Show(_) | Order::Init(_) | Order::Write(_) => NEVER,
     }
 }

@@ -31,6 +31,11 @@ pub const PAD_FULL: &str = "D: fill every block to --block with padding";
 pub const FORM: &str = "lines: one record per line; raw: F cuts the input
 into records, S takes it as one record";
 
+pub const DATE: &str = "Creation date in the labels, such as 1985-04-23
+[default: none]";
+
+pub const DRY_RUN: &str = "Create nothing, only read the files and print the volumes";
+
 // `init` and `write`: errors in arguments.
 pub const NO_FOLDER: &str = "DIR is empty: write '.' for the current directory";
 
@@ -40,13 +45,15 @@ pub const WRONG_PREFIX: &str =
 pub const WRONG_CAPACITY: &str = "CAPACITY must be a number of bytes up to 4294967295, or a number
 and K, M or G: K is 1024 bytes, M is 1024K, G is 1024M; for example '40M'";
 
+pub const WRONG_DATE: &str = "--date must be a day from 1900 to 2099, for example 1985-04-23";
+
 pub const INPUT_IS_IMAGE: &str =
     "an input is one of the images to be written and would be overwritten:
 choose other inputs, another DIR or another PRE";
 
 pub const AFTER_INIT: &str = "Each image is 100 bytes long: a volume label, two tape marks and the
 end-of-medium marker. Existing files are not overwritten ('tape: file fault 1');
-images created before the error are kept.
+images created before the error are kept, and an incomplete one is removed.
 
 Exit status: 0 all created, 1 error, 2 usage error
 
@@ -58,8 +65,9 @@ pub const AFTER_WRITE: &str =
     "Images are created as DIR/PRE001.tap, DIR/PRE002.tap and so on, as many as
 needed, up to 256. An existing image must be blank, as 'tape init' creates it;
 any other is refused ('tape: file fault 1'). The set is named after its first
-volume. After an error, images that were started remain. They are no longer
-blank: remove them before you try again.
+volume. After an error, the images that were created are removed. Blank ones
+that were begun are no longer blank: remove them before you try again. With
+--explain the error names the input, and the line that is too long.
 
 Label faults:
   6  ID contains a character other than A to Z, 0 to 9, space and
@@ -162,6 +170,8 @@ an end-of-medium marker, and no data of bad blocks, so keep the images.
 Exit status: 0 OUT is complete, 1 error, 2 usage error, 3 OUT has a bad item or
 a wrong count or is truncated, or the images differ";
 
+pub const COMPARE_JSON: &str = "Print the lines as JSON, one object per line";
+
 pub const AFTER_COMPARE: &str = "Examples:
   tape compare monday.tap tuesday.tap
   find . -name 'ABC001*.tap' | tape compare --files-from -
@@ -173,6 +183,9 @@ explains the lines.
 
 An image without items, or with bad items only, agrees with every image. The
 IMAGE lines show how many items each has.
+
+With --json each line is an object with its parts by their names; 'row' is the
+first word.
 
 Exit status: 0 the images agree and together make a complete image, 1 error,
 2 usage error, 3 they differ, or that image has a bad item or a wrong count or

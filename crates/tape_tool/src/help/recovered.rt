@@ -70,7 +70,8 @@ One line per image:
                                   use --again or --stage
   REEL n BAD BLOCK CAUSE OFFSET   block contents do not fit the record format
   REEL n BAD LABEL CAUSE          label cannot be read
-  REEL n SECTION DIFFERS          labels do not match those read before
+  REEL n SECTION DIFFERS          labels do not match those read before; with
+                                  --again also: other data than those recovered
   REEL n SPAN LEFT                file ends inside a record
 followed by ' IMAGE CAUSE OFFSET' if the image itself ended the reading ('tape
 --help' lists the causes). The last line is 'COMPLETE n' (n records), or 'AWAITS
@@ -81,7 +82,7 @@ With --again the numbering continues: the second pass over three images is
 REEL 4 to REEL 6. With --explain the name of each image precedes its line, on
 standard error:
   REEL 4: one.tap
-With --again and several images, they are first read for their labels. If these
+With --again, images that are files are first read for their labels. If these
 show two files under one number, or complete copies of a section differ, nothing
 is recovered ('tape: set fault 1'); --explain names two such images.
 With --again or --stage the data of an image that answers BLOCK COUNT is
@@ -118,12 +119,23 @@ pub const SET_TO_UNPACK: &str = "Only files of this set";
 pub const FILES_TO_UNPACK: &str = "Only files with this number or name; '*' in a name
 represents any characters. May be repeated";
 
+pub const NOW: &str = "Keep the present as the time of the files, instead of
+noon (UTC) of the creation date in their labels";
+
 pub const LIST_ONLY: &str = "Print what would be done, and create nothing";
 
 pub const SALVAGE_FILES: &str = "Write what is readable of each incomplete file as
 NAME.salvaged, and where it has gaps as NAME.gaps";
 
+pub const MANIFEST: &str = "List the SHA-256 checksum of each complete file in
+MANIFEST.sha256, as 'sha256sum' does";
+
+pub const VERIFY: &str = "Check the files of DIR against MANIFEST.sha256, and
+recover nothing: takes DIR alone";
+
 // `unpack`: errors in arguments.
+pub const VERIFY_ALONE: &str = "--verify takes DIR and nothing else: it reads no images";
+
 pub const TOO_MANY_TO_UNPACK: &str =
     "unpack takes up to 256 IMAGEs, and any number of names from a list:
   find . -name '*.tap' -print0 | tape unpack DIR --files-from - --null";
@@ -149,8 +161,16 @@ One line per file:
   FILE ABC001 1 STAGE KEPT ../out/ABC001.1.PAYROLL.stage
            after COMPLETE: the stage of an earlier run has other data than the
            file, or cannot be compared with it
+  FILE ABC001 2 SECTION DIFFERS cut.tap
+           a further line: this image has other data of the file than those
+           recovered before it, and was not used. 'tape compare' shows where
   FILE ABC001 3 EXISTS ../out/ABC001.3.TAXES
-           a file of this name exists; it was not changed
+           a file of this name exists, and has exactly the records of this one
+  FILE ABC001 3 DIFFERENT ../out/ABC001.3.TAXES
+           a file of this name exists, and has other records; it was not changed
+  FILE ABC001 3 NOT COMPARED ../out/ABC001.3.TAXES
+           a file of this name exists, but these images do not have all of this
+           one, or it is no plain file; it was not changed
   FILE ABC001 4 CONFLICT
            labels of different files have this number, or good copies of a
            section differ: nothing was written. 'tape survey' says which. Keep
@@ -160,7 +180,8 @@ One line per file:
   FILE ABC001 6 FAILED file fault 2 ../out/ABC001.6.INDEX
            this error; the other files are recovered if possible
 With --list, READY or LACKS and a section replaces COMPLETE and AWAITS: whether
-each section of the file is complete on some image.
+each section of the file is complete on some image, and its blocks are in the
+format that HDR2 states. EXISTS then says only that a file of this name exists.
 
 Further lines:
   NO SET ABC002            no file was found that --set or --file means
@@ -180,12 +201,24 @@ With --salvage, NAME.gaps names the images and has the lines of 'tape salvage'.
 Both files are written anew by each run and removed when the file is complete,
 unless somebody changed them.
 
+With --manifest, MANIFEST.sha256 in DIR gets a line for each complete file: its
+SHA-256, as it was written, and its name. A file that EXISTS gets one unless it
+has it. Lines of other files stay. --verify reads the files again,
+as 'sha256sum -c MANIFEST.sha256' does in DIR, and prints a line for each that
+does not agree, and the number of files by outcome:
+  DIFFERS ABC001.1.PAYROLL     its contents were changed
+  MISSING ABC001.2.LEDGER      there is no file of this name
+  NOT READ ABC001.3.TAXES      it cannot be read, or is not a regular file
+  TOTAL 21 agree 1 differ 1 missing 1 not read
+
 Exit status: 0 all chosen files complete and all images read, 1 error, 2 usage
 error, 3 a file is incomplete, in conflict or not found, an image was not read
-to its end, or no file was found
+to its end, or no file was found. With --verify: 0 all files of the list agree,
+3 a file does not, or the list is empty
 
 Examples:
   mkdir ../out; tape unpack ../out *.tap
+  tape unpack ../out *.tap --manifest; tape unpack --verify ../out
   find . -name '*.tap' -print0 | tape unpack ../out --files-from - --null
   tape unpack ../out *.tap --set ABC001 --file 2 --file 'PAY*' --list";
 
@@ -225,8 +258,9 @@ of records written so far:
   GAP 2 - - 700         section 2 was not found on any image
   NO FORM 2 700         no label has the form of section 2: use --form blocks
   TORN 1 8 120          a record interrupted at block 8 is left out
-  REFUSED 1 9 3 0 120   block 9 does not fit the record format (block fault 3
-                        at byte 0) and counts as missing
+  REFUSED 1 9 3 40 124  block 9 does not fit the record format (block fault 3
+                        at byte 40): its records before byte 40 are written,
+                        up to record 124, and the rest counts as missing
   UNSURE 1 30 38        items 30 to 38 may be blocks or labels, and are left
                         out
   COUNT 1 40 39         the trailer label counts 40 blocks, but there are 39

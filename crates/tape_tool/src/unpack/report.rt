@@ -5,8 +5,8 @@ use crate::fault::{FaultLine, ToolFault};
 use crate::program::End;
 use crate::screen::Progress;
 use arrayvec::ArrayVec;
-use std::io;
 use std::io::Write;
+use std::{io, mem};
 use tape_run::{
     Notice, SetFile, UnpackOutcome, is_of_set, is_read, means, notice_line, report_file,
     total_line, write_text,
@@ -66,6 +66,18 @@ impl<R: Progress, P: Write> Run<'_, R, P> {
     ) -> Result<(), ToolFault> {
         let (alloc, out, tally) = (self.rt.alloc(), &mut self.out, &mut self.tally);
         Ok(report_file(alloc, out, tally, file, outcome, details, path)?)
+    }
+
+    /// Prints the images that had other data of a file than those read before them.
+    pub fn tell_differing(&mut self, file: &SetFile) -> Result<(), ToolFault> {
+        let names = self.names;
+        let differing = mem::replace(&mut self.differing, Vec::new(self.rt.alloc()));
+        for number in differing.as_slice() {
+            if let Some(name) = names.get(*number) {
+                self.tell(file, UnpackOutcome::Differs, b"", *name)?;
+            }
+        }
+        Ok(())
     }
 
     /// Reports that a file failed, and with which fault.

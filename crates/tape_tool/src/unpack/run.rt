@@ -1,18 +1,20 @@
 //! Recovers files from images into a directory.
 
 use super::UnpackOrder;
+use super::manifest::{Manifest, verify};
 use super::report::{Ended, LastLine, after_word};
 use super::salvaged::Salvaged;
 use super::stages::is_front;
+use super::summed::Checksum;
+use crate::dates::set_time;
 use crate::explain::FaultSite;
-use crate::extract::{Draft, Output, Task, extract_whole, gather};
 use crate::fault::{FileFault, OUT_OF_MEMORY, ToolFault};
 use crate::help;
-use crate::images::{Image, Images, names_of};
+use crate::images::names_of;
+use crate::normal::{Normal, NormalImages};
 use crate::program::{End, check_end};
 use crate::refusal::{Refusal, remove};
-use crate::screen::Progress;
-use crate::staging::session_in;
+use crate::screen::{Host, Progress};
 use crate::words::set_id_of;
 use std::alloc::AllocError;
 use std::io::{BufWriter, Write};
@@ -20,10 +22,12 @@ use std::{fs, io};
 use tape_label::Field;
 use tape_run::{
     Content, FileChoice, FoundFiles, Mounted, SalvageTask, SetFile, Tally, UnpackOutcome,
-    file_line, file_name, find_files, flush, is_of_set, is_passed, report_numbers, set_of,
-    write_text,
+    file_line, file_name, find_files, flush, is_of_set, report_numbers, set_of, write_text,
 };
 use tape_writer::system::found;
+
+/// The fault of an output that exists.
+const EXISTS: ToolFault = ToolFault::File(FileFault::Exists);
 
 /// A run of `unpack`: what it unpacks and from where, and its report.
 #[derive(Drop)]
@@ -34,11 +38,16 @@ pub struct Run<'n, R: Progress, P> {
     /// The names of the images, and what was found on them.
     pub names: &'n [&'n str],
     pub met: &'n FoundFiles,
+    /// The numbers of the images that had other data of the current file than those read before
+    /// them, counted from 0.
+    pub differing: Vec<usize>,
     /// The image that stays open from file to file.
-    mounted: Option<Mounted<Image<R>>>,
+    pub mounted: Option<Mounted<Normal<R>>>,
     /// The lines of the report, and how many files they were about.
     pub out: P,
     pub tally: Tally,
+    /// The list of checksums, if it is to be extended.
+    pub manifest: Option<Manifest>,
 }
 
 /// Recovers every file on the images that the arguments name. On error, `site` says where it
@@ -48,18 +57,17 @@ pub fn unpack<'a, R: Progress>(
     order: &UnpackOrder<'a>,
     site: &mut FaultSite<'a>,
 ) -> Result<End, Refusal> {
+    let folder = order.folder;
+    if order.verify {
+        return verify(rt, folder, site);
+    }
     let mut text = String::new(rt.alloc());
     let names = names_of(rt.host(), &order.images, &mut text, site)?;
     let names = names.as_slice();
-    *site = FaultSite::Folder(order.folder);
-    match fs::metadata(rt.host(), order.folder) {
-        Ok(found) if found.is_dir() => {}
-        // If it is an image, DIR was forgotten.
-        Ok(_) => return Err(Refusal::Words(help::DIR_IS_NO_FOLDER)),
-        Err(_) => return Err(Refusal::from(FileFault::NotOpened)),
-    }
+    let is_listed = order.manifest && !order.list;
+    let manifest = manifest_of(rt.host(), folder, is_listed, site)?;
     let out = BufWriter::new(rt.alloc(), io::writer(rt)).map_err(|_| AllocError)?;
-    let met = find_files(rt.alloc(), &mut Images::new(rt, names));
+    let met = find_files(rt.alloc(), &mut NormalImages::new(rt, names));
     let met = met.map_err(|fault| ToolFault::Run(fault))?;
     let choice = FileChoice {
         set_id: order.set.and_then(set_id_of),
@@ -71,15 +79,46 @@ pub fn unpack<'a, R: Progress>(
         choice: &choice,
         names,
         met: &met,
+        differing: Vec::new(rt.alloc()),
         mounted: None,
         out,
         tally: Tally::new(),
+        manifest,
     };
     let end = run.unpack_all().unwrap_or_else(|fault| End::Faulted(fault));
-    Ok(match (end, flush(&mut run.out)) {
-        (End::Done | End::Incomplete, Err(fault)) => End::Faulted(ToolFault::from(fault)),
-        (end, _) => end,
+    let listed = run.write_manifest();
+    Ok(match (end, flush(&mut run.out), listed) {
+        (End::Done | End::Incomplete, Err(fault), _) => End::Faulted(ToolFault::from(fault)),
+        (End::Done | End::Incomplete, _, Err(fault)) => {
+            *site = FaultSite::Manifest(folder);
+            End::Faulted(fault)
+        }
+        (end, _, _) => end,
     })
+}
+
+/// Checks that the directory for the files exists, and reads its list of checksums if that is to
+/// be extended. On error, `site` says where it occurred.
+fn manifest_of<'a, R: Host>(
+    rt: &R,
+    folder: &'a str,
+    is_listed: bool,
+    site: &mut FaultSite<'a>,
+) -> Result<Option<Manifest>, Refusal> {
+    *site = FaultSite::Folder(folder);
+    match fs::metadata(rt, folder) {
+        Ok(found) if found.is_dir() => {}
+        // If it is an image, DIR was forgotten.
+        Ok(_) => return Err(Refusal::Words(help::DIR_IS_NO_FOLDER)),
+        Err(_) => return Err(Refusal::from(FileFault::NotOpened)),
+    }
+    if !is_listed {
+        return Ok(None);
+    }
+    *site = FaultSite::Manifest(folder);
+    let manifest = Manifest::open(rt, folder)?;
+    *site = FaultSite::Folder(folder);
+    Ok(Some(manifest))
 }
 
 impl<R: Progress, P: Write> Run<'_, R, P> {
@@ -147,7 +186,7 @@ impl<R: Progress, P: Write> Run<'_, R, P> {
         let mut last = LastLine::new();
         let is_list = self.order.list;
         let done = match found(fs::symlink_metadata(self.rt.host(), out)) {
-            Ok(Some(_)) => Err(ToolFault::File(FileFault::Exists)),
+            Ok(Some(_)) => Err(EXISTS),
             // Its sections alone say how the recovery of the file would end.
             Ok(None) if is_list => match file.lacks {
                 Some(sect) => {
@@ -165,11 +204,13 @@ impl<R: Progress, P: Write> Run<'_, R, P> {
             (Ok(end), false) => (UnpackOutcome::Awaits, stage, end),
             (Ok(end), true) => (UnpackOutcome::Lacks, stage, end),
             // It existed before, or was created meanwhile.
-            (Err(ToolFault::File(FileFault::Exists)), _) => (UnpackOutcome::Exists, out, End::Done),
+            (Err(EXISTS), false) => return self.compare_file(file, out),
+            (Err(EXISTS), true) => (UnpackOutcome::Exists, out, End::Done),
             (Err(OUT_OF_MEMORY), _) => return Err(OUT_OF_MEMORY),
             (Err(fault), _) => return self.tell_failed(file, out, fault),
         };
         self.tell(file, outcome, after_word(last.text()), path)?;
+        self.tell_differing(file)?;
         match outcome {
             UnpackOutcome::Complete => self.end_stage(file, out, stage)?,
             UnpackOutcome::Awaits if self.order.salvage => {
@@ -178,6 +219,14 @@ impl<R: Progress, P: Write> Run<'_, R, P> {
             _ => {}
         }
         Ok(end)
+    }
+
+    /// Writes the list of checksums if it is to be extended.
+    fn write_manifest(&self) -> Result<(), ToolFault> {
+        match &self.manifest {
+            Some(manifest) => manifest.write(self.rt),
+            None => Ok(()),
+        }
     }
 
     /// Removes the stage of a complete file if the file begins with all that the stage has. Reports
@@ -203,80 +252,24 @@ impl<R: Progress, P: Write> Run<'_, R, P> {
         stage: &str,
         last: &mut LastLine,
     ) -> Result<End, ToolFault> {
-        let end = self.recover(file, out, stage, last)?;
+        let mut sum = Checksum {
+            is_wanted: self.manifest.is_some(),
+            found: None,
+        };
+        let end = self.recover(file, out, stage, &mut sum, last)?;
         if let End::Faulted(fault) = end {
             return Err(fault);
         }
         if end == End::Done {
+            if let (Some(manifest), Some(sum)) = (&mut self.manifest, sum.found) {
+                manifest.add(self.rt.alloc(), out, sum)?;
+            }
+            if !self.order.now {
+                set_time(self.rt.host(), out, &file.created);
+            }
             Salvaged::of(self.rt.alloc(), out)?.remove(self.rt)?;
         }
         Ok(end)
-    }
-
-    /// Recovers a file. If all its sections are intact, reads the images that have them once, and
-    /// nothing from its stage, which may have data of other copies. Any other file, or one that is
-    /// still incomplete then, is recovered on its stage, in passes. `last` remembers the last line
-    /// of either.
-    fn recover(
-        &mut self,
-        file: &SetFile,
-        out: &str,
-        stage: &str,
-        last: &mut LastLine,
-    ) -> Result<End, ToolFault> {
-        let task = Task {
-            set_id: file.set_id,
-            file: file.file,
-            out,
-            form: self.order.form,
-            stage: Some(stage),
-            again: true,
-        };
-        if file.lacks.is_none() {
-            let images = &mut Images::new(self.rt, self.names);
-            let (mounted, locations) = (&mut self.mounted, &self.met.locations);
-            let end = extract_whole(self.rt, &task, images, mounted, locations, last);
-            if end != Ok(End::Incomplete) {
-                if end != Ok(End::Done) {
-                    // Nothing is proved about an image at which a fault occurred.
-                    self.mounted = None;
-                }
-                return end;
-            }
-        }
-        self.recover_in_passes(&task, stage, last)
-    }
-
-    /// Recovers a file on the stage at `path` from the images that may have its missing parts, in
-    /// the order in which they are read: those of its set, without those that have only an earlier
-    /// section.
-    fn recover_in_passes(
-        &self,
-        task: &Task<'_>,
-        path: &str,
-        last: &mut LastLine,
-    ) -> Result<End, ToolFault> {
-        let (rt, met) = (self.rt, self.met);
-        // A link is not followed to a stage.
-        if found(fs::symlink_metadata(rt.host(), path))?.is_some_and(|there| !there.is_file()) {
-            return Err(ToolFault::File(FileFault::NotOpened));
-        }
-        let mut session = session_in(rt.host(), path, task.set_id, task.file)?;
-        let mut names = Vec::new(rt.alloc());
-        if let Some(want) = session.want() {
-            let numbers = met.reading_order(rt.alloc(), task.set_id, want.file, false)?;
-            for number in numbers.as_slice() {
-                let image = met.images.as_slice().get(*number);
-                if let Some(name) = self.names.get(*number)
-                    && !image.is_some_and(|image| is_passed(image, want))
-                {
-                    names.push(*name).map_err(|_| OUT_OF_MEMORY)?;
-                }
-            }
-        }
-        let images = &mut Images::new(rt, names.as_slice());
-        let (draft, out) = Draft::over(rt, task.out, None)?;
-        Ok(gather(task, images, Output::New(draft, out), last, &mut session))
     }
 
     /// Writes the readable records of an incomplete file and a report of its gaps, and prints a
@@ -299,17 +292,16 @@ impl<R: Progress, P: Write> Run<'_, R, P> {
         let path = salvaged.records.as_str();
         let mut last = LastLine::new();
         let outcome = match salvaged.write(rt, &task, names.as_slice(), &mut last) {
-            Err(ToolFault::File(FileFault::Exists)) => UnpackOutcome::Exists,
+            Err(EXISTS) => UnpackOutcome::Exists,
             Err(OUT_OF_MEMORY) => return Err(OUT_OF_MEMORY),
             Err(fault) => return self.tell_failed(file, path, fault),
             Ok(()) if last.text().starts_with(b"COMPLETE") => UnpackOutcome::Complete,
             Ok(()) => UnpackOutcome::Salvaged,
         };
-        let details = match outcome {
-            UnpackOutcome::Exists => b"",
-            _ => after_word(last.text()),
-        };
-        let line = file_line(rt.alloc(), file, outcome, details, path)?;
+        if outcome == UnpackOutcome::Exists {
+            last = LastLine::new();
+        }
+        let line = file_line(rt.alloc(), file, outcome, after_word(last.text()), path)?;
         write_text(&mut self.out, line.as_slice())?;
         Ok(end)
     }

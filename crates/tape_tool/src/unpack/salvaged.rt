@@ -5,9 +5,10 @@
 ghost use Rattle.std.specs.Prelude.{None};
 
 use super::report::LastLine;
+use super::summed::sum_of;
 use crate::extract::Draft;
 use crate::fault::{FileFault, ToolFault};
-use crate::images::Images;
+use crate::normal::NormalImages;
 use crate::program::{End, end_of};
 use crate::refusal::{FileId, open, remove};
 use crate::screen::{Host, Progress};
@@ -23,8 +24,6 @@ use tape_writer::system::found;
 /// The length of the last line of a report: `SUMS`, two checksums of 64 digits, two spaces and a
 /// line feed.
 const SUMS: usize = 135;
-
-const PIECE: usize = 4_096;
 
 /// The paths of the salvaged records and of their report.
 #[derive(Drop)]
@@ -183,7 +182,7 @@ fn written<R: Progress>(
         write_text(&mut report, b"\n")?;
     }
     let mut kept = Kept(None);
-    let images = &mut Images::new(rt, names);
+    let images = &mut NormalImages::again(rt, names);
     let records = Summed::new(records);
     salvage_to(alloc, task, images, records, &mut kept, &mut report)?;
     let Some(records) = kept.0 else {
@@ -206,19 +205,4 @@ fn sums_line(alloc: Global, records: &[u8; 32], lines: &[u8; 32]) -> Result<Stri
     let records = encode(alloc, records.as_slice())?;
     let lines = encode(alloc, lines.as_slice())?;
     format!(in alloc; "SUMS {records} {lines}\n")
-}
-
-/// Returns the SHA-256 checksum of the next `length` bytes of `file`.
-fn sum_of(file: &mut File, length: u64) -> Result<[u8; 32], FileFault> {
-    let mut sum = Sha256::new();
-    let mut buffer = [0; PIECE];
-    let mut left = length;
-    for _ in 0..length.div_ceil(PIECE as u64) {
-        let room = left.min(PIECE as u64) as usize;
-        file.read_exact(&mut buffer[..room])
-            .map_err(|_| FileFault::ReadFailed)?;
-        sum.update(&buffer[..room]);
-        left = left.saturating_sub(PIECE as u64);
-    }
-    Ok(sum.finalize())
 }

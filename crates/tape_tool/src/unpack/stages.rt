@@ -1,42 +1,17 @@
 //! The stages of files that were recovered completely.
 
+use super::existing::Existing;
 use crate::fault::ToolFault;
-use crate::images::ReadAhead;
 use crate::refusal::open;
 use crate::screen::Host;
 use crate::stage::ReadOnly;
 use crate::staging::locked_stage;
-use std::fs::File;
-use std::io::{Error, ErrorKind, Read, Write};
-use std::{fs, io};
+use std::cell::Cell;
+use std::fs;
 use tape_blocks::Form;
 use tape_core::PartWalk;
 use tape_run::write_part;
 use tape_stage::{Disk, Stage, StageFault, buffered_file};
-
-/// The number of bytes that are compared at a time.
-const PIECE: usize = 4_096;
-
-/// Compares the bytes that are written with the next ones of a reader. Writing fails if they
-/// differ.
-#[derive(Drop)]
-struct Compared<R>(R);
-
-impl<R: Read> Write for Compared<R> {
-    fn write(&mut self, buf: &[u8]) -> io::Result<usize> {
-        let mut room = [0; PIECE];
-        let count = buf.len().min(PIECE);
-        self.0.read_exact(&mut room[..count])?;
-        if room[..count] != buf[..count] {
-            return Err(Error::from(ErrorKind::InvalidData));
-        }
-        Ok(count)
-    }
-
-    fn flush(&mut self) -> io::Result<()> {
-        Ok(())
-    }
-}
 
 /// Returns whether the data in the stage at `path`, as records in this form, are the beginning of
 /// the file at `out`. Returns false if that cannot be found out: `path` is not a plain file or not
@@ -60,20 +35,17 @@ fn compare<R: Host>(rt: &R, path: &str, out: &str, form: Form) -> Result<(), Too
         return Err(ToolFault::Stage(StageFault::BadFrame(place)));
     }
     let mut stage = opened.stage;
-    compare_parts(
-        &mut stage,
-        ReadAhead::new(rt.alloc(), open(rt, out)?)?,
-        form,
-    )
+    let differs = &Cell::new(false);
+    compare_parts(&mut stage, Existing::open(rt, out, differs)?, form)
 }
 
 /// Compares the parts in a stage with the bytes of a file.
 fn compare_parts<D: Disk>(
     stage: &mut Stage<D>,
-    file: ReadAhead<File>,
+    file: Existing<'_>,
     form: Form,
 ) -> Result<(), ToolFault> {
-    let mut bytes = Compared(file);
+    let mut bytes = file;
     stage.rewind();
     for _ in 0..u64::MAX {
         match stage.next_part() {

@@ -6,6 +6,7 @@ ghost use Rattle.tape_image.specs.Written.{AppendsFront};
 ghost use Rattle.tape_tool.specs.Report.{report};
 ghost use Rattle.tape_tool.specs.Writing.{record_length, IsNoShape, plain_head};
 
+use super::failed::{remove_images, site_of};
 use super::words::WriteOrder;
 use crate::explain::FaultSite;
 use crate::fault::{FileFault, ToolFault};
@@ -37,24 +38,31 @@ pub fn write<'a, R: Progress>(
     order: &WriteOrder<'a>,
     site: &mut FaultSite<'a>,
 ) -> Result<End, Refusal> {
+    look_ahead(rt.host(), order, site)?;
     *site = FaultSite::Images(order.folder);
-    look_ahead(rt.host(), order)?;
     let plan = FolderPlan {
         folder: order.folder,
         prefix: order.prefix,
         capacity: order.capacity,
         shape: shape_of(order)?,
         form: order.form,
+        dry: order.dry,
     };
     // None of the heads is stored, since there may be thousands.
     for word in order.files.as_slice() {
         *site = FaultSite::Input(*word);
-        head_for(word)?;
+        head_for(word, order.created)?;
     }
     let mut files = find_inputs(rt.host(), order, site)?;
-    *site = FaultSite::Images(order.folder);
-    let ended = write_in_folder(rt.host(), &plan, files.as_mut_slice());
-    let ended = ended.map_err(|fault| ToolFault::from(fault))?;
+    let ended = match write_in_folder(rt.host(), &plan, files.as_mut_slice()) {
+        Ok(ended) => ended,
+        Err(unwritten) => {
+            remove_images(rt, order, unwritten.made.as_slice());
+            let begun = files.iter().filter(|file| file.reader.has_begun()).count();
+            *site = site_of(rt.host(), order, &plan.shape, begun, &unwritten);
+            return Err(Refusal::from(ToolFault::from(unwritten.fault)));
+        }
+    };
     *site = FaultSite::Lines;
     let said = say(&mut io::writer(rt), files.len() as u64, ended.as_slice());
     Ok(end_of(said.map_err(|fault| ToolFault::from(fault))))
@@ -104,10 +112,10 @@ fn record_length(order: &WriteOrder<'_>) -> u32
     }
 }
 
-/// Returns the head of the file that argument `word` names.
-fn head_for(word: &str) -> Result<Head1, ToolFault> {
+/// Returns the head of the file that argument `word` names, created on the day `created`.
+fn head_for(word: &str, created: Field<6>) -> Result<Head1, ToolFault> {
     let file_id = Field::new(split(word).0).map_err(|fault| ToolFault::Label(fault))?;
-    Ok(head_of(file_id))
+    Ok(head_of(file_id, created))
 }
 
 /// Returns a file's identifier and its path: the text before and after the first equals sign.
@@ -118,10 +126,10 @@ pub fn split<'a>(word: &'a str) -> (&'a str, &'a str)
     word.split_once('=').unwrap_or((word, ""))
 }
 
-/// Returns the head of a file, without dates or restrictions. The writer fills in the set's
-/// identifier and the numbers.
-fn head_of(file_id: Field<17>) -> Head1
-    ensures { result ≡ plain_head file_id }
+/// Returns the head of a file, without a date of expiry or restrictions. The writer fills in the
+/// set's identifier and the numbers.
+fn head_of(file_id: Field<17>, created: Field<6>) -> Head1
+    ensures { result ≡ plain_head file_id created }
 {
     Head1 {
         file_id,
@@ -130,7 +138,7 @@ fn head_of(file_id: Field<17>) -> Head1
         sequence: 1,
         generation: Field::of_bytes(*b"0001"),
         gen_version: Field::of_bytes(*b"00"),
-        created: Field::of_bytes(*b" 00000"),
+        created,
         expires: Field::of_bytes(*b" 00000"),
         access: b' ',
         implementation: Field::of_bytes([b' '; 13]),
@@ -148,7 +156,7 @@ fn find_inputs<'r, 'a: 'r, R: Host>(
         *site = FaultSite::Input(*word);
         let (_, path) = split(*word);
         let input = Input {
-            head: head_for(*word)?,
+            head: head_for(*word, order.created)?,
             reader: InputFile::find(rt, path)?,
         };
         if inputs.push(input).is_err() {
@@ -167,14 +175,19 @@ fn find_inputs<'r, 'a: 'r, R: Host>(
 /// an image, or looking up one of these files fails; with `Exists` if another file that is not a
 /// regular one has such a name, for example a pipe or a device; with `OutOfMemory` if an allocation
 /// was refused.
-fn look_ahead<R: Host>(rt: &R, order: &WriteOrder<'_>) -> Result<(), Refusal> {
-    let images = images_of(rt, order)?;
+fn look_ahead<'a, R: Host>(
+    rt: &R,
+    order: &WriteOrder<'a>,
+    site: &mut FaultSite<'a>,
+) -> Result<(), Refusal> {
+    let images = images_of(rt, order, site)?;
     let images = images.as_slice();
     if images.is_empty() {
         return Ok(());
     }
     for word in order.files.as_slice() {
-        let (_, path) = split(word);
+        *site = FaultSite::Input(*word);
+        let (_, path) = split(*word);
         if let Some(input) = found(fs::metadata(rt, path))?
             && images.iter().any(|image| same_file(image, &input))
         {
@@ -185,9 +198,14 @@ fn look_ahead<R: Host>(rt: &R, order: &WriteOrder<'_>) -> Result<(), Refusal> {
 }
 
 /// Returns the existing images of the set. Refuses anything but a regular file.
-fn images_of<R: Host>(rt: &R, order: &WriteOrder<'_>) -> Result<Vec<Metadata>, Refusal> {
+fn images_of<'a, R: Host>(
+    rt: &R,
+    order: &WriteOrder<'a>,
+    site: &mut FaultSite<'a>,
+) -> Result<Vec<Metadata>, Refusal> {
     let mut images = Vec::new(rt.alloc());
     for number in 1..=VOLUMES {
+        *site = FaultSite::Written(order.folder, order.prefix, number);
         let path = image_path(rt.alloc(), order.folder, order.prefix, number)?;
         match found(fs::metadata(rt, path.as_str()))? {
             None => {}

@@ -4,13 +4,14 @@ ghost use Rattle.std.specs.Prelude.{◌≡◌, ◌↔◌, ◌⊎◌, ◌++◌, �
 ghost use Rattle.tape_tool.specs.Words.{IsAtOdds, IsSize, IsUnit, EndsInLetter};
 
 use crate::command_spec::{CommandSpec, Kind, Word};
+use crate::dates::day_of;
 use crate::help;
 use crate::refusal::Refusal;
 use crate::words::{FORMS, form_of, prefix_of, text_of};
 use clap::ArgMatches;
-use std::alloc::Global;
+use std::alloc::{AllocError, Global};
 use tape_blocks::Form;
-use tape_label::Format;
+use tape_label::{Field, Format};
 use tape_writer::Prefix;
 
 const FORMATS: &[&str] = &["F", "D", "S"];
@@ -42,6 +43,10 @@ pub struct WriteOrder<'a> {
     pub pad_full: bool,
     /// The form of the records in the inputs.
     pub form: Form,
+    /// The creation date in the labels of all files.
+    pub created: Field<6>,
+    /// Whether the set is only measured.
+    pub dry: bool,
 }
 
 pub const WRITE: &CommandSpec = &CommandSpec {
@@ -67,6 +72,8 @@ pub const WRITE: &CommandSpec = &CommandSpec {
             Kind::NameOption("FORM", FORMS, &["lines"]),
             help::FORM,
         ),
+        Word("date", Kind::TextOption("DATE"), help::DATE),
+        Word("dry-run", Kind::Flag, help::DRY_RUN),
     ],
 };
 
@@ -74,25 +81,44 @@ pub fn write_order<'a>(alloc: Global, matches: &ArgMatches<'a>) -> Result<WriteO
     let prefix = prefix_of(matches)?;
     let capacity = size_of(text_of(matches, "CAPACITY"));
     let capacity = capacity.ok_or(Refusal::Value("CAPACITY", help::WRONG_CAPACITY))?;
-    let files = matches.get_strs("ID=PATH").unwrap_or(&[]);
-    if !files.iter().all(|file| file.contains('=')) {
-        return Err(Refusal::Words("files are given as ID=PATH, for example 'PAYROLL=payroll.txt'"));
-    }
+    let Some(created) = created_of(alloc, matches.get_str("date"))? else {
+        return Err(Refusal::Value("date", help::WRONG_DATE));
+    };
     let order = WriteOrder {
         folder: text_of(matches, "DIR"),
         prefix,
         capacity,
-        files: Vec::from_slice(alloc, files)?,
+        files: files_of(alloc, matches)?,
         format: format_of(text_of(matches, "format")),
         block: matches.get_one::<u32>("block").unwrap_or(0),
         record: matches.get_one::<u32>("record"),
         offset: matches.get_one::<u8>("offset").unwrap_or(0),
         pad_full: matches.get_flag("pad-full"),
         form: form_of(matches),
+        created,
+        dry: matches.get_flag("dry-run"),
     };
     match wrong(&order) {
         Some(text) => Err(Refusal::Words(text)),
         None => Ok(order),
+    }
+}
+
+/// Returns the arguments `ID=PATH`.
+fn files_of<'a>(alloc: Global, matches: &ArgMatches<'a>) -> Result<Vec<&'a str>, Refusal> {
+    let files = matches.get_strs("ID=PATH").unwrap_or(&[]);
+    if !files.iter().all(|file| file.contains('=')) {
+        return Err(Refusal::Words("files are given as ID=PATH, for example 'PAYROLL=payroll.txt'"));
+    }
+    Ok(Vec::from_slice(alloc, files)?)
+}
+
+/// Returns the characters of the creation date `date`, or a space and five zeros without a date.
+/// Returns `None` if `date` is no day.
+fn created_of(alloc: Global, date: Option<&str>) -> Result<Option<Field<6>>, AllocError> {
+    match date {
+        None => Ok(Some(Field::of_bytes(*b" 00000"))),
+        Some(text) => day_of(alloc, text),
     }
 }
 

@@ -1,0 +1,43 @@
+//! The note of how the program was built, at the end of its own file.
+//!
+//! Whoever builds the program appends it. Nothing is proved of what it says.
+
+use crate::screen::Progress;
+use std::fs::File;
+use std::io;
+use std::io::{Read, Seek, SeekFrom};
+use tape_writer::system::Host;
+
+/// The length of a note in bytes.
+const LEN: usize = 128;
+
+/// What a note begins with. Its line follows, and spaces up to the length.
+const MARK: &str = "\nbuild of tape: ";
+
+/// Prints the line of the note: whether the program was proved, from which commit, and with which
+/// toolchain. Prints nothing if there is no note, or if it cannot be read.
+///
+/// # Errors
+///
+/// Returns the error of standard output.
+pub fn print_note<R: Progress>(rt: &R) -> io::Result<()> {
+    let mut note = [0; LEN];
+    if read_note(rt.host(), &mut note).is_ok()
+        && let Ok(text) = str::from_utf8(&note)
+        && let Some(line) = text.strip_prefix(MARK)
+    {
+        rt.println(line.trim_end())?;
+    }
+    Ok(())
+}
+
+/// Reads the last bytes of the program's file.
+///
+/// # Errors
+///
+/// Returns the system's error, for example if `/proc` is not mounted.
+fn read_note<R: Host>(rt: &R, note: &mut [u8; LEN]) -> io::Result<()> {
+    let mut program = File::open(rt, "/proc/self/exe")?;
+    program.seek(SeekFrom::End(-128))?;
+    program.read_exact(note)
+}

@@ -1,0 +1,109 @@
+//! Images that are compared with the data of a session before they are read for it.
+
+ghost use Rattle.std.specs.Prelude.{◌≡◌, IfErr, OnOk};
+ghost use Rattle.std.specs.Result.{IsOkUnless};
+ghost use Rattle.tape_run.specs.{Causes.OpeningFails, Crash.IsWalked};
+ghost use Rattle.tape_run.specs.declared.fault.RunFault.TheVariants as faults;
+
+use crate::normal::{Normal, NormalImages};
+use crate::screen::Progress;
+use std::alloc::Global;
+use std::io::Read;
+use tape_core::PartWalk;
+use tape_run::{ImageSource, Opener, RunFault, Session};
+
+/// Opens images in normal form. If an image has other data of the section needed than the session,
+/// the image is read as if it ended with a tape mark before these data.
+#[derive(Drop)]
+pub struct Compared {
+    /// Whether images are compared: each is then opened up to two times more.
+    is_on: bool,
+    /// The numbers of the images that had other data.
+    pub differing: Vec<usize>,
+}
+
+impl Compared {
+    /// Creates an opener that compares images only if they can be read more than once.
+    pub fn new(alloc: Global, is_on: bool) -> Compared {
+        Compared {
+            is_on,
+            differing: Vec::new(alloc),
+        }
+    }
+
+    /// Returns the byte offset at which image `number` has other data of the section needed than
+    /// the session has, if it has.
+    ///
+    /// # Errors
+    ///
+    /// Returns `OutOfMemory`, or `Sink` with the fault of the walk over the session's parts.
+    fn seam<S: PartWalk, R: Progress>(
+        &mut self,
+        session: &mut Session<S>,
+        images: &mut NormalImages<'_, R>,
+        number: usize,
+    ) -> Result<Option<u64>, RunFault>
+        ensures same { IsWalked S.PartSink session.old session.new }
+        ensures calm { OnOk result
+            (S.refusals session.new.sink ≡ S.refusals session.old.sink) }
+        ensures cause { IfErr result
+            (λ fault. OpeningFails S.PartSink S.refuses fault session.old session.new) }
+    {
+        if !self.is_on || !session.is_within() {
+            return Ok(None);
+        }
+        let Some(mut image) = mounted(images, number)? else {
+            return Ok(None);
+        };
+        let overlap = match session.overlap(&mut image) {
+            Ok(Some(overlap)) => overlap,
+            Ok(None) => return Ok(None),
+            Err(_) => return Err(RunFault::OutOfMemory),
+        };
+        let Some(mut image) = mounted(images, number)? else {
+            return Ok(None);
+        };
+        if !session.differs(&mut image, &overlap)? {
+            return Ok(None);
+        }
+        if !self.differing.contains(&number) && self.differing.push(number).is_err() {
+            return Err(RunFault::OutOfMemory);
+        }
+        Ok(Some(overlap.place()))
+    }
+}
+
+/// Opens an image.
+fn mounted<R: Progress>(
+    images: &mut NormalImages<'_, R>,
+    number: usize,
+) -> Result<Option<Normal<R>>, RunFault>
+    ensures { IsOkUnless result faults.OutOfMemory }
+{
+    match images.mount(number) {
+        Ok(image) => Ok(image),
+        Err(_) => Err(RunFault::OutOfMemory),
+    }
+}
+
+impl<S: PartWalk, R: Progress> Opener<S, Normal<R>, NormalImages<'_, R>> for Compared {
+    ghost refuses = { S.refuses };
+
+    fn open(
+        &mut self,
+        session: &mut Session<S>,
+        images: &mut NormalImages<'_, R>,
+        number: usize,
+    ) -> Result<Option<Normal<R>>, RunFault> {
+        // Only the image that is read is named on standard error.
+        let reels = images.images.reels.take();
+        let seam = self.seam(session, images, number);
+        images.images.reels = reels;
+        let seam = seam?;
+        let mut image = mounted(images, number)?;
+        if let (Some(image), Some(place)) = (&mut image, seam) {
+            image.end_at(place);
+        }
+        Ok(image)
+    }
+}

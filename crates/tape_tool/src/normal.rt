@@ -1,0 +1,164 @@
+//! Images in normal form. The rules by which they differ from the images are named on standard
+//! error.
+
+ghost use Rattle.std.specs.Prelude.{⊤, ◌≤◌, length, IfOk};
+
+use crate::images::{Image, Images};
+use crate::screen::Progress;
+use std::alloc::AllocError;
+use std::io;
+use std::io::Read;
+use tape_core::normal::{NormalImage, Rules};
+use tape_run::ImageSource;
+
+/// The rules that may be applied to an image, in the order in which they are named.
+const TEXTS: [&str; 6] = [
+    "labels in EBCDIC",
+    "no volume label",
+    "a file has no HDR2",
+    "numbers in HDR2 begin with blanks or NULs",
+    "something before the first file is ignored",
+    "something after the end of the volume is ignored",
+];
+
+/// Returns which of the rules of `TEXTS` were applied.
+fn applied(rules: Rules) -> [bool; 6] {
+    [
+        rules.ebcdic,
+        rules.no_volume_label,
+        rules.no_second_label,
+        rules.blank_numbers,
+        rules.before > 0,
+        rules.after > 0,
+    ]
+}
+
+/// An open image in normal form. On its first reading it names each rule on standard error when
+/// the rule is first applied.
+#[derive(Drop)]
+pub struct Normal<R: Progress> {
+    rt: R,
+    /// The number of the image, counted from 1.
+    image: usize,
+    /// Whether the image is read for the first time.
+    is_first: bool,
+    /// The rules that were named.
+    named: Rules,
+    /// The bytes before a tape mark with which the image ends, and those left of the mark, if it is
+    /// not read to its own end.
+    seam: Option<(u64, usize)>,
+    inner: NormalImage<Image<R>>,
+}
+
+impl<R: Progress> Normal<R> {
+    /// Ends the image, which is unread, with a tape mark at byte offset `place`.
+    pub fn end_at(&mut self, place: u64) {
+        self.seam = Some((place, 4));
+    }
+
+    /// Reads an image that ends with a tape mark after `before` more bytes.
+    #[cold]
+    fn read_to_mark(&mut self, buf: &mut [u8], before: u64, mark: usize) -> io::Result<usize>
+        ensures bound { IfOk result (λ count. count ≤ length buf.new) }
+    {
+        if before == 0 {
+            let count = buf.len().min(mark);
+            buf[..count].fill(0);
+            self.seam = Some((0, mark - count));
+            return Ok(count);
+        }
+        let room = before.min(buf.len() as u64) as usize;
+        let count = self.inner.read(&mut buf[..room])?;
+        self.seam = Some((before.saturating_sub(count as u64), mark));
+        Ok(count)
+    }
+
+    /// Names the rules that were applied since the last call.
+    #[cold]
+    fn name_rules(&mut self, rules: Rules) {
+        let before = applied(self.named);
+        self.named = rules;
+        let image = self.image;
+        for ((now, before), text) in applied(rules).iter().zip(before.iter()).zip(TEXTS.iter()) {
+            if *now && !*before {
+                let _ = self.rt.eprint(format_args!("  image {image}: {text}\n"));
+            }
+        }
+    }
+}
+
+impl<R: Progress> Read for Normal<R> {
+    #[inline(always)]
+    fn read(&mut self, buf: &mut [u8]) -> io::Result<usize> {
+        if let Some((before, mark)) = self.seam {
+            return self.read_to_mark(buf, before, mark);
+        }
+        let read = self.inner.read(buf);
+        let rules = self.inner.rules();
+        if self.is_first && rules != self.named {
+            self.name_rules(rules);
+        }
+        read
+    }
+}
+
+/// Images that are read in normal form. The rules that are applied to an image are named when it
+/// is read for the first time, if the images are mounted in order.
+#[derive(Drop)]
+pub struct NormalImages<'a, R> {
+    /// The images as they are.
+    pub images: Images<'a, R>,
+    /// The number of images, from the first one on, that have been read before.
+    read: usize,
+}
+
+impl<'a, R: Progress> NormalImages<'a, R> {
+    /// Creates the source of the image files named `names`. None is opened yet.
+    pub fn new(rt: &'a R, names: &'a [&'a str]) -> NormalImages<'a, R> {
+        NormalImages {
+            images: Images::new(rt, names),
+            read: 0,
+        }
+    }
+
+    /// Names no rules from now on, since the images were read before.
+    pub fn is_told(&mut self) {
+        self.read = self.images.names.len();
+    }
+
+    /// Creates the same source, for images that were read before: no rules are named.
+    pub fn again(rt: &'a R, names: &'a [&'a str]) -> NormalImages<'a, R> {
+        NormalImages {
+            images: Images::new(rt, names),
+            read: names.len(),
+        }
+    }
+}
+
+impl<'a, R: Progress> ImageSource<Normal<R>> for NormalImages<'a, R> {
+    ghost size = { λ source. length source.images.names.now };
+
+    ghost gives = { λ _ _ _ _. ⊤ };
+
+    fn count(&self) -> usize {
+        self.images.count()
+    }
+
+    fn mount(&mut self, number: usize) -> Result<Option<Normal<R>>, AllocError> {
+        let rt = self.images.rt.clone()?;
+        let Some(image) = self.images.mount(number)? else {
+            return Ok(None);
+        };
+        // Nothing fails from here on: the source changes only if the image is mounted.
+        let is_first = number >= self.read;
+        self.read = self.read.max(number.saturating_add(1));
+        Ok(Some(Normal {
+            rt,
+            image: number.saturating_add(1),
+            is_first,
+            named: Rules::NONE,
+            seam: None,
+            inner: NormalImage::new(image),
+        }))
+    }
+}

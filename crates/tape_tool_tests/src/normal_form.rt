@@ -1,0 +1,65 @@
+//! Tests of tapes that are not written as the standard would have them: which commands read them,
+//! and what they say.
+use crate::calls::follow_in;
+use std::test::Fail;
+
+const READ: &str = "
+    ebcdic ebcdic.tap
+    booted booted.tap
+    marked marked.tap
+    unnamed unnamed.tap
+    worked worked.tap
+    # The rules that were applied to an image are named, once for each image.
+    0: survey ebcdic.tap booted.tap marked.tap
+    ~   image 1: labels in EBCDIC
+    ~   image 2: something before the first file is ignored
+    ~   image 3: something before the first file is ignored
+    0: survey unnamed.tap =>   image 1: no volume label
+    $ survey --tsv worked.tap
+    > ..
+    folder out
+    $ unpack out ebcdic.tap
+    > FILE ABC001 1 COMPLETE 25 out/ABC001.1.PAYROLL
+    > TOTAL 1 complete 0 existing 0 incomplete 0 in conflict 0 not found 0 failed
+    !   image 1: labels in EBCDIC
+    length out/ABC001.1.PAYROLL 2025
+    at out/ABC001.1.PAYROLL 1944 0025 \\20
+    remove out/ABC001.1.PAYROLL
+    $ unpack out booted.tap
+    > FILE ABC001 1 COMPLETE 25 out/ABC001.1.PAYROLL
+    > TOTAL 1 complete 0 existing 0 incomplete 0 in conflict 0 not found 0 failed
+    !   image 1: something before the first file is ignored
+    remove out/ABC001.1.PAYROLL
+    0: unpack out marked.tap
+    length out/ABC001.1.PAYROLL 2025
+    # A volume without its label is recovered, too.
+    remove out/ABC001.1.PAYROLL
+    0: unpack out unnamed.tap
+    length out/ABC001.1.PAYROLL 2025
+    $ extract --again ABC001 1 again.txt ebcdic.tap
+    > REEL 1 COMPLETE
+    > COMPLETE 25
+    !   image 1: labels in EBCDIC
+    length again.txt 2025
+    0: extract --again ABC001 1 order.txt ebcdic.tap unnamed.tap
+    ~   image 1: labels in EBCDIC
+    ~   image 2: no volume label
+    0: salvage ABC001 1 salvaged.txt ebcdic.tap =>   image 1: labels in EBCDIC
+    length salvaged.txt 2025
+    # Commands that write no file of the normal form read the tape as it is, and say nothing else.
+    3$ extract ABC001 1 plain.txt ebcdic.tap
+    > REEL 1 NOT LABELLED
+    > AWAITS 1 1 0
+    3$ extract ABC001 1 plain.txt booted.tap
+    > REEL 1 NOT LABELLED
+    > AWAITS 1 1 0
+    missing plain.txt
+    3: check ebcdic.tap | check marked.tap
+    0: compare ebcdic.tap ebcdic.tap
+    3: compare ebcdic.tap worked.tap
+";
+
+#[test]
+fn tapes_of_other_systems_are_read(rt: HostRuntime) -> Result<(), Fail> {
+    follow_in(&rt, "normal_form", READ)
+}
