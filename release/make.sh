@@ -5,7 +5,7 @@
 # OUT is a new or an empty directory, and gets
 #   tape-volumes_VERSION_amd64.deb       the program as proved and built, for Debian's C library
 #   tape-VERSION-MACHINE-linux.tar.gz    for x86_64 and aarch64: the program linked statically, and
-#                                        in link/ the object file and the C source that it is of
+#                                        in link/ the object file, C source and note it is made of
 #   tape.stamp                           the toolchain's checksum of sources, toolchain and program
 #   PROVED.txt                           commit, toolchain, the last line of each proof, checksums
 #   ASSUMED.txt                          the C functions whose contracts the proofs assume
@@ -17,8 +17,9 @@
 # times are the commit's, and names are sorted.
 #
 # With TRIAL=DIR nothing is proved or built, to try this script alone: DIR has the program `tape`,
-# and for each machine MACHINE.o and MACHINE.log, the object file and what `rattle build` printed.
-# The version then ends in ~trial, and PROVED.txt says that nothing is proved.
+# as the script `tape` keeps it, and for each machine MACHINE.o and MACHINE.log, the object file and
+# what `rattle build` printed. The version then ends in ~trial, and PROVED.txt says that nothing is
+# proved.
 set -eu
 here=$(dirname "$(readlink -f "$0")")
 out=$(realpath -m "${1:?usage: make.sh OUT [CI-LOG]}")
@@ -94,10 +95,11 @@ if [ -n "$trial" ]; then
     echo trial >"$out/tape.stamp"
 else
     verdicts >"$room/verdicts"
-    # The program that was proved: built here, or before, where nothing has changed since.
-    (cd crates/tape && rt run -- --version) </dev/null >"$room/run" 2>&1 ||
-        fail "$(tail "$room/run")"
-    program=$PWD/crates/tape/out/tape
+    # The program that was proved: built here, or before, where nothing has changed since, and with
+    # the note of this commit.
+    rm -f crates/tape/out/proved
+    ./tape --prove </dev/null >"$room/run" 2>&1 || fail "$(tail "$room/run")"
+    program=$PWD/crates/tape/out/proved
     cp crates/tape/out/tape.stamp "$out/"
     cp -a crates/tape/out/incremental "$room/kept"
     for it in $machines; do
@@ -113,8 +115,13 @@ for it in docs/man.py docs/completions.py docs/reference.py; do
     "$it" --check --program "$program" || fail "run $it"
 done
 
-# Each machine's program: the object file, with its main under another name, linked with shim.c.
+# Each machine's program: the object file, with its main under another name, linked with shim.c,
+# and the note at the end of each program, which it prints with its version.
 cp "$here/shim.c" "$room/"
+tail -c 128 "$program" >"$room/note"
+said=$(env -i "$program" --version | sed -n 2p)
+[ -n "$said" ] && [ "$said" = "$(sed -n '2s/^build of tape: //; 2s/ *$//p' "$room/note")" ] ||
+    fail "$program does not print its note"
 # The prefix of the compiler and its tools for a machine.
 tools() {
     [ "$1" = "$(uname -m)" ] || echo "$1-linux-gnu-"
@@ -123,6 +130,7 @@ for it in $machines; do
     mkdir "$room/$it"
     "$(tools "$it")objcopy" --redefine-sym main=tape_main "$room/$it.o" "$room/$it/tape.o"
     (cd "$room/$it" && "$(tools "$it")gcc" -O2 -s -static tape.o ../shim.c -o tape)
+    cat "$room/note" >>"$room/$it/tape"
 done
 
 # Prints what a program prints in the stored run, in a root directory with nothing else in it.
@@ -160,6 +168,7 @@ exec qemu-aarch64-static "$room/aarch64/tape" "\$@"
 T
 chmod +x "$room/bin/aarch64"
 for it in "$program" "$room/x86_64/tape" "$room/bin/aarch64"; do
+    [ "$("$it" --version)" = "$("$program" --version)" ] || fail "$it is of another version"
     docs/examples.sh "$it" >"$room/log" || fail "$it: $(cat "$room/log")"
 done
 [ "$(file -b -m docs/tape.magic crates/tape/stdin)" = \
@@ -202,13 +211,14 @@ assumed    $(grep -vc '^#' "$out/ASSUMED.txt") functions of C, listed in ASSUMED
 examples   $(tail -n 1 "$room/log"), with each of the programs below
 linked     also by:$linked; each alone in an empty root directory
 sums       (SHA-256)
-  $(sum "$program")  tape, as the toolchain linked it: /usr/bin/tape of the package
+  $(head -c -128 "$program" | sha256sum | cut -c1-64)  tape, as the toolchain linked it
+  $(sum "$program")  the same with its note: /usr/bin/tape of the package
 T
     for it in $machines; do
         cc=$("$(tools "$it")gcc" --version | head -n 1)
         echo "  $(sum "$room/$it.o")  tape.o for $it, as the toolchain made it"
         echo "  $(sum "$room/$it/tape.o")  link/tape.o for $it: its main renamed tape_main"
-        echo "  $(sum "$room/$it/tape")  tape for $it, linked by $cc"
+        echo "  $(sum "$room/$it/tape")  tape for $it, linked by $cc, with its note"
     done
     echo "  $(sum "$out/tape.stamp")  tape.stamp"
 } >"$out/PROVED.txt"
@@ -216,7 +226,7 @@ T
 # What all packages have: all pages, so that their links lead somewhere, and an image to try.
 papers() {
     mkdir -p "$1/examples"
-    git archive "$commit" -- '*.md' docs/page.html ':!.github' | tar -x -C "$1"
+    git archive "$commit" -- '*.md' docs/json.schema.json docs/page.html ':!.github' | tar -x -C "$1"
     cp "$out/PROVED.txt" "$out/ASSUMED.txt" "$out/parts.spdx.json" "$1/"
     cp crates/tape/stdin "$1/examples/reel.tap"
 }
@@ -235,7 +245,7 @@ for it in $machines; do
     install -m 755 scripts/* "$room/$top/"
     cp docs/tape.1 docs/tape.bash docs/_tape docs/tape.fish docs/tape.magic "$room/$top/"
     install -m 644 -D "$room/$it/tape.o" "$room/$top/link/tape.o"
-    cp "$room/shim.c" "$room/$top/link/"
+    cp "$room/shim.c" "$room/note" "$room/$top/link/"
     cp "$room/COPYRIGHT" "$room/$top/"
     settle "$room/$top"
     tar -C "$room" --sort=name --owner=0 --group=0 --numeric-owner -cf - "$top" |

@@ -58,7 +58,7 @@ class Part:
         self.uses = re.findall(r"^dep (\w+)$", read(kit, "rlibs", f"{name}.rlib", "format"), re.M)
         page = os.path.join(folder, "README.md")
         said = read(page) if os.path.exists(page) else ""
-        found = re.search(rf"\b{name}(?:_builder)?`? (\d+\.\d+\.\d+)", said)
+        found = re.search(rf"(?<![-\w]){name}(?:_builder)?`? (\d+\.\d+\.\d+)", said)
         self.origin = found and found[1]
         names = sorted(it for it in os.listdir(folder) if it.startswith("LICENSE"))
         self.texts = [read(folder, it).strip() for it in names]

@@ -48,7 +48,8 @@ for machine in x86_64 aarch64; do
     echo "$machine: the archive's program runs alone"
     if inside sh -c "command -v $cc" >/dev/null; then
         inside sh -c "cd /try/tape-*-$machine-linux/link &&
-            $cc -O2 -s -static tape.o shim.c -o /try/linked && cmp /try/linked ../tape"
+            $cc -O2 -s -static tape.o shim.c -o /try/linked && cat note >>/try/linked &&
+            cmp /try/linked ../tape"
         echo "$machine: linked again it is the same"
     fi
 done

@@ -4,7 +4,8 @@ the sources of this clone, of the toolchain on this machine, and of PROGRAM, the
 /usr/bin/tape.
 
 It proves nothing and trusts whoever wrote STAMP; it needs the toolchain, whose version is part of the
-sum, and takes a second. Exit status 0 if everything matches, otherwise 1.
+sum, and takes a second. The note at the end of PROGRAM, which the toolchain did not write, is printed.
+Exit status 0 if everything matches, otherwise 1.
 """
 import hashlib
 import importlib.machinery
@@ -14,6 +15,7 @@ import subprocess
 import sys
 
 TOP = os.path.dirname(os.path.dirname(os.path.abspath(__file__)))
+NOTE, LENGTH = b"\nbuild of tape: ", 128
 
 
 def toolchain():
@@ -41,9 +43,13 @@ def main():
     crate.said = {**crate.said, "args": words}
     said = read(stamp).decode()
     sources = said[:64] == crate.stamp()
-    made = said[64:] == hashlib.sha256(read(program)).hexdigest()
+    built, note = read(program), b""
+    if built[-LENGTH:].startswith(NOTE):
+        built, note = built[:-LENGTH], built[-LENGTH:]
+    made = said[64:] == hashlib.sha256(built).hexdigest()
     print("sources", "as they were proved" if sources else "are NOT those that were proved")
     print("program", "as it was built from them" if made else "is NOT the one that was built")
+    print("note   ", note[len(NOTE):].decode(errors="replace").strip() or "none")
     return 0 if sources and made else 1
 
 
