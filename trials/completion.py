@@ -11,6 +11,7 @@ Prints each wrong completion, and the counts. Exit status 1 if something was wro
 import os
 import pty
 import re
+import select
 import shutil
 import subprocess
 import sys
@@ -79,12 +80,19 @@ def awaited(path, seconds=4):
     return None
 
 
+def drained(terminal):
+    """Reads what the shell has printed: it would wait for ever on a terminal that is full."""
+    while select.select([terminal], [], [], 0)[0]:
+        os.read(terminal, 65536)
+
+
 def pressed(folder, terminal, words, start):
     """The arguments that the program gets if TAB and then Enter follow."""
     os.write(terminal, f"tape {' '.join(words)} {start}\t".encode())
     time.sleep(0.4)
     os.write(terminal, b"\n")
     content = awaited(Path(folder, ".args"))
+    drained(terminal)
     return content and content.split("\0")[:-1]
 
 
@@ -118,6 +126,7 @@ class Zsh:
         """What is offered for the last word, without the `=` of an option."""
         os.write(self.terminal, (" ".join(words) + "\x18").encode())
         content = awaited(Path(self.folder, ".seen"))
+        drained(self.terminal)
         os.write(self.terminal, b"\x14")
         return {word.removesuffix("=") for word in (content or "").split("\n") if word}
 

@@ -23,7 +23,7 @@ import tempfile
 import time
 
 TOP = os.path.dirname(os.path.dirname(os.path.abspath(__file__)))
-FUNCTION = re.compile(r"\s*(?:pub(?:\([a-z]+\))? )?(?:const )?fn (\w+)")
+FUNCTION = re.compile(r'\s*(?:pub(?:\([a-z]+\))? )?(?:const )?(?:extern "C" )?fn (\w+)')
 OPEN_GOAL = re.compile(r"note: (\S+?):(\d+):\d+: (it is not proved .*|`search` found no proof .*)")
 IN_PROOF = re.compile(r"(?:\./)?proofs/(\S+)/(\w+)/\w+\.antt:\d+:\d+: error: (.*)")
 SHAPE = re.compile(r"has no field|is not in scope|has no `|was not admitted|record `[^`]+` \(nearest")

@@ -7,7 +7,7 @@ Run manually; CI does not run it. The full disks are file systems in memory, whi
 Each time every volume that was begun except the last must be complete: its image ends with two tape
 marks and an end-of-medium marker, `tape check` calls its section GOOD, and its data blocks, joined to
 those of the volumes before it, are a prefix of the input. A full disk or a refusal must end with status
-1 and one line, file fault 4.
+1 and one line, file fault 4; after a full disk no volume may remain.
 Then 9,999 inputs and 256 volumes are written with 64 open files, and the maximum memory of each run is
 printed beside that of one input and one volume. Prints a line for each wrong result and a table; exit
 status 1 if there was one.
@@ -132,6 +132,8 @@ def fill_disks(options, content):
                 line = words(options, options.capacity, f"RECORDS={source}", *SHAPE)
                 done = subprocess.run(line, cwd=disk, capture_output=True, text=True, check=False)
                 wrong, ended = what_is_wrong(options, disk, content)
+                if list(disk.glob("KIL*.tap")):
+                    wrong = "an image remains"
                 if (done.returncode, done.stderr) != (1, FULL):
                     wrong = f"status {done.returncode}, {done.stderr!r}"
                 tell(options, counts, f"a disk of {size} KB", wrong, ended)

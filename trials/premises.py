@@ -105,10 +105,11 @@ IMAGES = {
     "p2": image("STOCK", ONE[:1], sect=2),
     # A trailer label of another file: the end of an older recording.
     "over": image("TUE.BCK", FOUR[:2], date=" 85142", closing=("MON.BCK", " 85141")),
+    # HDR2 is lost, and then EOF2 too.
+    "nohead2": image("CARDS", FOUR).replace(second_label("HDR2", 800), b""),
+    "no2": image("CARDS", FOUR).replace(second_label("HDR2", 800), b"").replace(second_label("EOF2", 800), b""),
 }
 
-LOOP = "blocks that a reel skips are not compared with those that were recovered"
-TRAILERS = "the names in trailer labels are not compared with those in the header labels"
 WARNING = "extract without --again prints no warning if a reel differs from the data recovered before it"
 SECTIONS = "salvage does not compare the labels of the sections of a file"
 SCENES = f"""
@@ -139,8 +140,11 @@ SCENES = f"""
 ## unpack: blocks of 400 and of 800
 3 unpack u x.tap
 3 unpack u x.tap y.tap
-> FILE ABC001 1 COMPLETE 40 u/ABC001.1.CARDS
+> FILE ABC001 1 CONFLICT
 > INCOMPLETE IMAGE x.tap
+- u/ABC001.1.CARDS
+0 unpack u y.tap
+> FILE ABC001 1 COMPLETE 40 u/ABC001.1.CARDS
 = u/ABC001.1.CARDS forty
 ## unpack: one set, then another one of the same identifier
 3 unpack u w1.tap
@@ -179,14 +183,35 @@ SCENES = f"""
 = u/ABC001.1.CARDS forty
 - u/ABC001.1.CARDS.stage
 ## unpack: a doubled block, then a copy without block 0
-not yet {LOOP}
 3 unpack u dup.tap
 3 unpack u first-bad.tap
+> FILE ABC001 1 SECTION DIFFERS first-bad.tap
 ? u/ABC001.1.CARDS forty
-## unpack: a trailer label of another file
-not yet {TRAILERS}
+## survey and unpack: a trailer label of another file
+3 survey over.tap
+>    1 TUE.BCK            1985-05-22  conflict: labels of different files have this number
 3 unpack u over.tap
+> FILE ABC001 1 CONFLICT
 - u/ABC001.1.TUE.BCK
+## a lost HDR2: the trailer label says that there was one
+3 survey nohead2.tap
+>             HDR2 is lost on each image: the record format is unknown
+3 unpack u nohead2.tap --list
+> FILE ABC001 1 LACKS 1 u/ABC001.1.CARDS.stage
+3 unpack u nohead2.tap
+- u/ABC001.1.CARDS
+3 extract ABC001 1 out nohead2.tap --again
+- out
+0 salvage ABC001 1 out2 nohead2.tap
+= out2 forty
+0 unpack u nohead2.tap y.tap
+= u/ABC001.1.CARDS forty
+## a lost HDR2 and EOF2: another image has them
+3 survey no2.tap y.tap
+0 unpack u no2.tap y.tap
+= u/ABC001.1.CARDS forty
+0 extract ABC001 1 out no2.tap y.tap --again
+= out forty
 ## a valid set whose second section has another date
 0 survey m1.tap m2.tap
 0 check m1.tap m2.tap
@@ -226,7 +251,9 @@ not yet {TRAILERS}
 = out2 cards
 0 extract ABC001 1 out3 lost2.tap good.tap --again
 = out3 cards
-0 extract ABC001 1 out4 x.tap y.tap --again
+1 extract ABC001 1 out4 x.tap y.tap --again
+- out4
+0 extract ABC001 1 out4 y.tap --again
 = out4 forty
 0 extract ABC001 1 out5 dup.tap skip.tap y.tap --again
 = out5 forty
@@ -241,37 +268,33 @@ not yet {TRAILERS}
 0 extract ABC001 1 out2 third-bad.tap first-bad.tap count.tap --again --stage st
 = out2 forty
 ## extract --again: a stage of blocks of 400, then blocks of 800
-not yet {LOOP}
 3 extract ABC001 1 out x.tap --again --stage st
 3 extract ABC001 1 out y.tap --again --stage st
+> REEL 1 SECTION DIFFERS
+> AWAITS 1 1 2
 - out
 ## extract --again: a stage of a copy with a doubled block
-not yet {LOOP}
 3 extract ABC001 1 out dup.tap --again --stage st
 3 extract ABC001 1 out y.tap --again --stage st
 - out
 ## extract --again: a stage of a copy with a lost block
-not yet {LOOP}
 3 extract ABC001 1 out skip.tap --again --stage st
 3 extract ABC001 1 out last-bad.tap first-bad.tap --again --stage st
 - out
 ## extract --again: a stage of another set
-not yet {LOOP}
 3 extract ABC001 1 out w1.tap --again --stage st
 3 extract ABC001 1 out w2.tap --again --stage st
 - out
 ## extract --again: a stage of a second section in other blocks
-not yet {LOOP}
 3 extract ABC001 1 out s1.tap s2cut.tap --again --stage st
 3 extract ABC001 1 out s2.tap --again --stage st
 - out
 ## extract --again: no copy is complete, and one has a doubled block
-not yet {LOOP}
 3 extract ABC001 1 out first-bad.tap dup.tap --again
 ? out forty
 ## extract --again: a trailer label of another file
-not yet {TRAILERS}
-3 extract ABC001 1 out over.tap --again
+1 extract ABC001 1 out over.tap --again
+! tape: set fault 1
 - out
 ## extract: a lost mark, then a good copy
 not yet {WARNING}

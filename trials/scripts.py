@@ -336,7 +336,9 @@ def try_bag(trial, salvage):
             name = path[len("data/"):]
             payload -= {name, name[:-len("salvaged")] + "gaps"}
             taken = [names[int(image) - 1] for image in images.split(",") if images]
-            held = {reel.name for reel in others[set_id, number] if any(item.file == int(number) for item in reel.items)}
+            held = {reel.name for reel in others.get((set_id, number), []) if any(item.file == int(number) for item in reel.items)}
+            # Of the reels that belong to none of the sets only this one has a file.
+            held |= {"rt11.tap"} if set_id == "RT11A" else set()
             trial.expect(salvage and (bag / path).exists() and set(taken) <= held, f"bag: {path}, {taken}, {held}")
         elif outcome != "COMPLETE":
             trial.expect((path, images) == ("", "") and outcome in ("AWAITS", "CONFLICT", "NOT FOUND"), f"bag: {path} {outcome}")

@@ -2,8 +2,9 @@
 """Runs the built program as whole.txt says, and compares exit status, both streams, files and opened files.
 Run manually; CI does not run it. Needs strace.
 
-    ./whole.py [--program PATH]
+    ./whole.py [--program PATH] [--other PATH]
 
+With --other each call is also made with that program, in a directory of its own: everything must be the same.
 The calls share a directory, in which each file has a name of its own; `list` gets an image of one mark on standard
 input. The images are written here from the format descriptions. Prints each wrong result, and the counts; exit status 1
 if there was one.
@@ -13,6 +14,8 @@ import re
 import shlex
 import subprocess
 import sys
+from contextlib import contextmanager
+from pathlib import Path
 
 from common import HERE, Results, arguments, files_in, folder_with
 from fail import volume
@@ -80,34 +83,57 @@ def opened(log):
     return " ".join(it[1].removeprefix("./") + "?" * (it[2] != "") for it in found if it)
 
 
-def main():
-    options, results = arguments(__doc__), Results()
+class Answer:
+    """What a program answers to a call in a directory."""
+
+    def __init__(self, program, folder, line):
+        words, self.to = line.replace("LOST", "lost.tap " * 255).partition(" > ")[::2]
+        log = folder.with_suffix(".log")
+        strace = ["strace", "-o", str(log), "-e", "trace=openat"]
+        if " FUL " in line:
+            strace += ["-P", f"{folder}/FUL001.tap", "-e", "trace=write", "-e", "inject=write:error=ENOSPC"]
+        with open(self.to or log, "wb") as to:
+            done = subprocess.run([*strace, program, *shlex.split(words)], cwd=folder, input=END,
+                stdout=to if self.to else subprocess.PIPE, stderr=subprocess.PIPE, check=False)
+        self.status, self.out, self.err = done.returncode, done.stdout or b"", done.stderr
+        self.opened, self.files = opened(log), files_in(folder)
+        log.unlink()
+
+    def said(self):
+        """The lines of both streams, as whole.txt has them."""
+        return [*self.out.decode().splitlines(), *(f"! {it}".rstrip() for it in self.err.decode().splitlines())]
+
+
+@contextmanager
+def prepared():
+    """A directory with the files that the calls need."""
     with folder_with(PUT) as folder:
         (folder / "nil_link.txt").symlink_to("nil_behind.txt")
         for name in ("heap", "seen"):
             (folder / name).mkdir()
-        log = folder.with_suffix(".log")
+        yield folder
+
+
+def main():
+    options, results = arguments(__doc__, ("--other", "", "another build of the same sources, whose answers must be the same")), Results()
+    other = options.other and str(Path(options.other).resolve(strict=True))
+    with prepared() as folder, prepared() as another:
         for row in (HERE / "whole.txt").read_text().split("\n$ ")[1:]:
             line, *lines = row.rstrip("\n").split("\n")
-            words, out = line.replace("LOST", "lost.tap " * 255).partition(" > ")[::2]
-            strace = ["strace", "-o", str(log), "-e", "trace=openat"]
-            if " FUL " in line:
-                strace += ["-P", f"{folder}/FUL001.tap", "-e", "trace=write", "-e", "inject=write:error=ENOSPC"]
-            with open(out or log, "wb") as to:
-                done = subprocess.run([*strace, options.program, *shlex.split(words)], cwd=folder, input=END,
-                    stdout=to if out else subprocess.PIPE, stderr=subprocess.PIPE, check=False)
-            said = [*(done.stdout or b"").decode().splitlines(), *(f"! {it}".rstrip() for it in done.stderr.decode().splitlines())]
+            answer = Answer(options.program, folder, line)
+            said = answer.said()
             text = [it for it in lines if it[:2] not in ("> ", "@ ", "# ") and it != ">"]
             if text and text[0] == "...":
                 text, said = text[1:], said[2 - len(text):]
             if text:
-                results.expect([*said, f"[{done.returncode}]"] == text, f"{line}: {said}, status {done.returncode}")
+                results.expect([*said, f"[{answer.status}]"] == text, f"{line}: {said}, status {answer.status}")
             for due in (it[1:].strip() for it in lines if it[:1] == ">"):
-                results.expect(opened(log) == due, f"{line}: opened {opened(log)}")
-            there = files_in(folder)
+                results.expect(answer.opened == due, f"{line}: opened {answer.opened}")
             for name in (it[2:] for it in lines if it[:2] == "@ "):
-                results.expect(there.get(name) == HELD[name], f"{line}: {name} is another")
-        log.unlink()
+                results.expect(answer.files.get(name) == HELD[name], f"{line}: {name} is another")
+            if other:
+                second = Answer(other, another, line)
+                results.expect(vars(second) == vars(answer), f"{line}: {other}: {second.said()}, status {second.status}, or other files")
     return results.end()
 
 

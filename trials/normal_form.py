@@ -1,0 +1,179 @@
+"""The normal form of tapes, from docs/FORMATS.md. For formats_model.py and normal_model.py."""
+
+import tape_model as model
+from tape_model import kind_of, second_label
+
+EBCDIC = bytes(range(256)).decode("cp037").encode("latin-1")
+RULES = {
+    "ebcdic": "labels in EBCDIC",
+    "volume": "no volume label",
+    "second": "a file has no HDR2",
+    "numbers": "numbers in HDR2 begin with blanks or NULs",
+    "before": "something before the first file is ignored",
+    "after": "something after the end of the volume is ignored",
+}
+NO_VOLUME = b"VOL1".ljust(80)
+MOST, SHORTEST = 64, 14
+ITEMS = ("mark", "gap", "bad", "block")
+
+# What the program does not do yet: it fills the numbers of an HDR2 only if the strict reading
+# accepts them then, so never those of formats U and V; and it does not report this rule for labels
+# in EBCDIC.
+NOT_YET = {"wide numbers", "numbers in EBCDIC"}
+
+
+def in_ascii(code, block):
+    return block.translate(EBCDIC) if code == "ebcdic" and len(block) == 80 else block
+
+
+def begins_tape(block):
+    """The code in which a block is a VOL1 or HDR1, and that label; or None twice."""
+    for code in ("ascii", "ebcdic"):
+        label = in_ascii(code, block)
+        if kind_of(label) in ("VOL1", "HDR1"):
+            return code, label
+    return None, None
+
+
+def with_zeros(field):
+    rest = field.lstrip(b" \0")
+    return b"0" * (len(field) - len(rest)) + rest
+
+
+def filled(label):
+    """An HDR2 whose lengths and offset begin with zeros instead of blanks and NULs."""
+    lengths = with_zeros(label[5:10]) + with_zeros(label[10:15])
+    return label[:5] + lengths + label[15:50] + with_zeros(label[50:52]) + label[52:]
+
+
+def is_dummy(label):
+    return kind_of(label) == "HDR1" and not label[4:].strip(b"0")
+
+
+class Normal:
+    """The normal form of a tape, item by item; `rules` are those that were applied.
+
+    Each place of a tape is a method. It returns what replaces the item, or None if it stays.
+    """
+
+    def __init__(self):
+        self.place, self.code, self.dropped, self.rules = "start", "ascii", 0, set()
+
+    def step(self, item):
+        kind, block = item
+        label = in_ascii(self.code, block) if kind == "block" else b""
+        given = getattr(self, self.place)(kind, block, label)
+        return [item] if given is None else given
+
+    def over(self, *_):
+        self.place = "over"
+
+    def drop(self, rule):
+        """Leaves an item out, unless there were too many."""
+        self.dropped += 1
+        if self.dropped > MOST and rule == "before":
+            return self.over()
+        self.rules.add(rule)
+        return []
+
+    def start(self, kind, block, _):
+        code, label = begins_tape(block) if kind == "block" else (None, None)
+        if code:
+            self.code, self.dropped = code, 0
+            has_volume = kind_of(label) == "VOL1"
+            self.place = "labels" if has_volume else "second"
+            self.rules |= {"ebcdic"} if code == "ebcdic" else set()
+            self.rules |= set() if has_volume else {"volume"}
+            return [*([] if has_volume else [("block", NO_VOLUME)]), ("block", label)]
+        if kind == "bad" or (kind == "block" and len(block) >= SHORTEST):
+            return self.over()
+        return self.drop("before")
+
+    def labels(self, kind, _, label):
+        if kind != "block":
+            self.place = "blank" if kind == "mark" else "over"
+            return None
+        if model.is_volume_label(label):
+            return [("block", label)]
+        if kind_of(label) != "HDR1" or is_dummy(label):
+            return self.drop("before")
+        self.place = "second"
+        return [("block", label)]
+
+    def blank(self, kind, *_):
+        self.place = "ended" if kind == "mark" else "over"
+
+    def second(self, kind, _, label):
+        if kind == "mark" or model.is_further_header(label):
+            self.place = "data" if kind == "mark" else "headers"
+            self.rules.add("second")
+            return None if kind == "mark" else [("block", label)]
+        if kind_of(label) != "HDR2":
+            return self.over()
+        self.place = "headers"
+        return [("block", self.with_numbers(label))]
+
+    def with_numbers(self, label):
+        """An HDR2, with its numbers filled if it can be read only then."""
+        is_wide, better = "wide numbers" not in NOT_YET, filled(label)
+        is_read = isinstance(second_label(label, False), tuple) or better == label
+        if is_read or not isinstance(second_label(better, is_wide), tuple):
+            return label
+        is_silent = self.code == "ebcdic" and "numbers in EBCDIC" in NOT_YET
+        self.rules |= set() if is_silent else {"numbers"}
+        return better
+
+    def headers(self, kind, _, label):
+        self.place = {"mark": "data", "block": "headers", "bad": "over"}[kind]
+        return [("block", label)] if kind == "block" else None
+
+    def data(self, kind, *_):
+        self.place = "trailer" if kind == "mark" else "data"
+
+    def trailer(self, _, __, label):
+        if kind_of(label) not in ("EOF1", "EOV1"):
+            return self.over()
+        self.place = "trailers"
+        return [("block", label)]
+
+    def trailers(self, kind, _, label):
+        self.place = {"mark": "next", "block": "trailers", "bad": "over"}[kind]
+        return [("block", label)] if kind == "block" else None
+
+    def next(self, kind, _, label):
+        if kind != "mark" and kind_of(label) != "HDR1":
+            return self.over()
+        self.place = "ended" if kind == "mark" else "second"
+        return None if kind == "mark" else [("block", label)]
+
+    def ended(self, kind, block, _):
+        if kind == "block" and begins_tape(block)[0]:
+            return self.over()
+        return self.drop("after")
+
+
+def is_complete(data, at, kind, end):
+    """Whether the encoding of an item ends in the image, with the word with which it begins."""
+    return kind in ("mark", "gap") or (end <= len(data) and model.is_same_word(data, at, end))
+
+
+def normal_form(data):
+    """An image in normal form, and the rules that were applied. All is kept from a fault on."""
+    machine, made, at = Normal(), bytearray(), 0
+    while machine.place != "over":
+        kind, length, end = model.head_at(data, at)
+        is_right = kind in ITEMS and is_complete(data, at, kind, end)
+        is_label = kind == "block" and length == 80 and machine.place != "data"
+        if kind not in ITEMS or (is_label and not is_right):
+            break
+        # of a block that is cut off only the length matters: it is no label
+        block = data[at + 4:at + 4 + length].ljust(length) if kind == "block" else None
+        given = [(kind, block)] if kind == "gap" else machine.step((kind, block))
+        if given and not is_right:
+            break
+        if not given and end > len(data):
+            return bytes(made) + b"\0", machine.rules
+        for each in given:
+            made += data[at:end] if each == (kind, block) else model.encoded(each[1])
+        at = end
+    return bytes(made) + data[at:], machine.rules

@@ -1,0 +1,144 @@
+"""What `survey`, `unpack` and `extract --again` find, from docs/REFERENCE.md alone.
+
+For formats_model.py and normal_model.py.
+"""
+
+from collections import Counter, defaultdict
+
+import tape_model as model
+from read_model import Reader, Volume
+
+CAPITALS = b"ABCDEFGHIJKLMNOPQRSTUVWXYZ0123456789"
+ESCAPED = b'%"*/:<>?\\|'
+
+
+def printed(text):
+    """An identifier in full width."""
+    return "".join(chr(each) if 0x20 <= each <= 0x7E else "?" for each in text)
+
+
+def path_of(set_id, file, name):
+    """The name of a file of `unpack`."""
+    def escaped(text, is_allowed):
+        return "".join(chr(each) if is_allowed(each) else f"%{each:02X}" for each in text)
+
+    capital = "_".join(escaped(word, lambda each: each in CAPITALS) for word in set_id.split(b" "))
+    made = escaped(name.rstrip(b" "), lambda each: 0x20 <= each <= 0x7E and each not in ESCAPED)
+    made = made or "%20"
+    return f"{capital}.{file}." + (made[:-1] + "%2E" if made.endswith(".") else made)
+
+
+def one_by_one(lines):
+    """The lines of `unpack`, those about a range of numbers as one line for each number."""
+    made = []
+    for line in lines:
+        numbers, rest = (line[12:].split(" ", 1) + [""])[:2]
+        if line.startswith("FILE ") and "-" in numbers:
+            first, last = map(int, numbers.split("-"))
+            made += [f"{line[:12]}{number} {rest}" for number in range(first, last + 1)]
+        else:
+            made.append(line)
+    return made
+
+
+class Survey:
+    """The files on some images, each in normal form."""
+
+    def __init__(self, images):
+        self.volumes = [Volume(data) for data in images]
+        self.sections, self.names = {}, {}
+        self.found, self.heads, self.begin, self.of_set = (defaultdict(list) for _ in range(4))
+        for at, volume in enumerate(self.volumes):
+            self.add(at, volume)
+        self.has_second_trailer = any(volume.has_second_trailer for volume in self.volumes)
+        most = {}
+        for set_id, file, _ in self.sections:
+            most[set_id] = max(file, most.get(set_id, 0))
+        # the set and number of each file, set by set; those without a label too
+        self.files = dict.fromkeys(
+            (set_id, file) for set_id, last in most.items() for file in range(1, last + 1))
+
+    def add(self, at, volume):
+        """The sections and labels of an image."""
+        self.of_set[volume.set].append(at)
+        for each in volume.sections:
+            key = each["set"], each["file"], each["section"]
+            self.found[key[:2]].append(each | {"at": at})
+            if self.sections.setdefault(key, each)["state"] != "GOOD" and each["state"] == "GOOD":
+                self.sections[key] = each
+        for each in volume.first_labels:
+            self.begin[each["set"], each["file"], each["section"]].append(at)
+            self.names.setdefault((each["set"], each["file"]), each["name"])
+        for head, each in [*zip(volume.first_labels, volume.first_labels), *volume.closing]:
+            self.heads[head["set"], head["file"]].append(each)
+
+    def section_rows(self):
+        """The columns of the rows SECTION."""
+        return [[printed(each["set"]).rstrip(), str(each["file"]), str(each["section"]),
+                 printed(each["volume"]).rstrip(), str(len(each["blocks"])), each["state"],
+                 "EOF" if each["eof"] else ""] for each in self.sections.values()]
+
+    def is_complete(self, set_id, file):
+        """Whether each section of a file is GOOD on an image."""
+        for at in range(1, 10000):
+            each = self.sections.get((set_id, file, at), {"state": "CUT"})
+            if each["state"] != "GOOD" or each["eof"]:
+                return each["state"] == "GOOD"
+        return False
+
+    def is_wide(self, set_id, file):
+        """Whether a file is read in the wider reading: the survey lists it, and no HDR2 is lost."""
+        is_listed = (set_id, file) in self.files and (set_id, file) in self.names
+        return is_listed and not self.is_lost(set_id, file)
+
+    def is_lost(self, set_id, file):
+        """Whether an HDR2 of a file is lost."""
+        shapes = [each["shape"] for each in self.found[set_id, file]]
+        return None in shapes and (any(shapes) or self.has_second_trailer)
+
+    def in_conflict(self, set_id, file):
+        """Whether labels of different files have this number, or copies of a section differ."""
+        heads = self.heads[set_id, file]
+        good = [each for each in self.found[set_id, file] if each["state"] == "GOOD"]
+        days = {(each["section"], each["day"], each["gen"]) for each in heads}
+        data = {(each["section"], tuple(each["blocks"])) for each in good}
+        counts = [Counter(section for section, *_ in each) for each in (days, data)]
+        is_other = len({each["name"] for each in heads}) > 1
+        return is_other or any(count > 1 for each in counts for count in each.values())
+
+    def images_in_conflict(self):
+        """The numbers, from 0, of the images with GOOD copies of which others differ."""
+        copies = defaultdict(list)
+        for each in sum(self.found.values(), []):
+            if each["state"] == "GOOD":
+                copies[each["set"], each["file"], each["section"]].append(each)
+        return {each["at"] for group in copies.values() for each in group
+                if any(other["blocks"] != each["blocks"] for other in group)}
+
+    def order(self, set_id, file, strangers):
+        """The images as `--again` reads them.
+
+        First are those on which section 1, 2, .. begins, up to one that begins on none.
+        """
+        order, section = {}, 1
+        while (set_id, file, section) in self.begin:
+            order |= {at: self.volumes[at] for at in self.begin[set_id, file, section]
+                      if at not in order}
+            section += 1
+        others = range(len(self.volumes)) if strangers else self.of_set[set_id]
+        return [*order.values(), *[self.volumes[at] for at in others if at not in order]]
+
+    def again(self, set_id, file, strangers):
+        """Reads a file until a pass recovers nothing new: the reader, the lines of `extract`."""
+        reader, lines, before = Reader(set_id, file, self.is_wide(set_id, file)), [], None
+        volumes = self.order(set_id, file, strangers)
+        while not reader.done and reader.position != before:
+            before = reader.position
+            for volume in volumes:
+                lines += [] if reader.done else [f"REEL {len(lines) + 1} {reader.reel(volume)}"]
+        return reader, lines
+
+    def last_line(self, reader):
+        if reader.done:
+            return f"COMPLETE {len(model.joined(reader.parts))}"
+        return f"AWAITS {reader.file} {reader.section} {reader.block}"
