@@ -17,7 +17,7 @@ import commands
 KINDS = {
     "IMAGE": "image", "LIST": "file", "ID=PATH": "file", "OUT": "other", "PATH": "other", "LOG": "other",
     "DIR": "directory", "SET": "text", "FILE": "text", "N": "text", "N|NAME": "text", "PRE": "text",
-    "COUNT": "text", "CAPACITY": "text",
+    "COUNT": "text", "CAPACITY": "text", "DATE": "text", "M": "text",
 }
 MADE = "Made by docs/completions.py from the program's help."
 

@@ -12,7 +12,7 @@ if [ ! -x "$program" ]; then
     echo "no program at $program" >&2
     exit 2
 fi
-if [ "$program" = "$top/tape" ] && [ ! -x "$top/crates/tape/out/tape" ]; then
+if [ "$program" = "$top/tape" ] && [ ! -x "$top/crates/tape/out/proved" ]; then
     echo "the program is not proved: run ./tape --prove first" >&2
     exit 2
 fi
@@ -24,11 +24,12 @@ export PATH="$folder/bin:$PATH" LC_ALL=C
 examples=0
 differ=0
 
-# A new directory with the two images that the pages use.
+# A new directory with the two images that the pages use, and the path that README.md uses.
 fresh() {
     rm -rf "$folder/run"
-    mkdir "$folder/run"
+    mkdir -p "$folder/run/crates/tape"
     ln -s "$program" "$folder/run/tape"
+    cp "$top/crates/tape/stdin" "$folder/run/crates/tape/"
     cp "$top/crates/tape/stdin" "$folder/run/reel.tap"
     head -c 2288 "$folder/run/reel.tap" >"$folder/run/cut.tap"
 }
@@ -76,6 +77,8 @@ cp "$top/crates/tape/stdin" "$folder/run/bad.tap"
 for at in 1079 1883; do
     printf '\200' | dd of="$folder/run/bad.tap" bs=1 seek=$at conv=notrunc status=none
 done
-[ ! -f "$here/page.py" ] || try "$here/page.py cut.tap bad.tap reel.tap" "$(cat "$here/page.html")"
+if [ -f "$here/page.py" ]; then
+    try "$(printf %q "$here/page.py") cut.tap bad.tap reel.tap" "$(cat "$here/page.html")"
+fi
 echo "$differ of $examples examples differ"
 [ "$differ" -eq 0 ]

@@ -97,17 +97,20 @@ def one_column(lines):
 
 def rows(lines):
     """Indented lines: rows of a key and what it means, or text that is left as it is."""
-    out, keyed, verbatim = [], False, False
+    out, keyed, verbatim, column = [], False, False, 0
     for line in lines:
         indent = len(line) - len(line.lstrip())
         cells = re.split(r" {2,}(?=\S)", line.strip())
         numbered = re.fullmatch(r"\d+", cells[0]) and len(cells) > 1
         row = re.match(r"(.*\S) {3,}(\S.*)", line.strip())
+        # A long key leaves two spaces before the column of the rows above.
+        row = row or keyed and re.match(rf"(?=.{{{column}}}\S)(.*\S) {{2}}(\S.*)", line.strip())
         if keyed and indent > 20:
             out.append(escaped(line.strip()))
             continue
         if numbered or row:
             key, said = (cells[0], cells[1:]) if numbered else (row[1], [row[2]])
+            column = 0 if numbered else row.start(2)
             out += [".EE"] * verbatim + [".PP", ".PD 0"] * (not keyed)
             out += [".TP", f".B {quoted(key)}"]
             out += [part for cell in said for part in (".br", escaped(cell))][1:]
@@ -181,7 +184,7 @@ def page(program):
         out += command_part(command)
     out += titled(program.whole.after)
     out += [".SH ENVIRONMENT", ".TP", ".B TAPE_EXPLAIN"]
-    out += [escaped("if set and not empty, errors are explained as with --explain"), ".SH FILES"]
+    out += [escaped("0 is as --no-explain, anything else that is not empty as --explain"), ".SH FILES"]
     for name, text in FILES:
         out += [".TP", f".I {quoted(name)}", escaped(text)]
     out += [".SH BUGS", escaped(BUGS), ".SH SEE ALSO", *SEE_ALSO]

@@ -37,8 +37,9 @@ FILES = {"FILE_OF_IMAGE": "an image to be read", "FILE_OF_LIST": "a list of imag
          "FILE_OF_OUT": "OUT of `extract`, `stage` or `salvage`", "FILE_OF_NEW": "OUT of `merge`",
          "FILE_OF_LOG": "LOG of `merge`",
          "FILE_OF_STAGE": "a stage", "FILE_OF_FOLDER": "DIR of `unpack`, or a file in it",
-         "FILE_OF_VOLUME": "an image of `init`", "FILE_OF_INPUT": "an input of `write`, at the start",
-         "FILE_OF_IMAGES": "an image or an input of `write`", "FILE_OF_LINES": "standard output"}
+         "FILE_OF_MANIFEST": "`MANIFEST.sha256` of `unpack`",
+         "FILE_OF_VOLUME": "an image of `init`", "FILE_OF_INPUT": "an input of `write`",
+         "FILE_OF_IMAGES": "an image of `write`", "FILE_OF_LINES": "standard output"}
 
 
 def cell(text):

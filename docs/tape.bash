@@ -1,14 +1,14 @@
 # Completion of tape(1) for bash. Made by docs/completions.py from the program's help.
 _tape() {
     local cur=${COMP_WORDS[COMP_CWORD]} prev=${COMP_WORDS[COMP_CWORD-1]} start=1
-    local commands='list check survey compare merge extract unpack salvage stage init write'
+    local commands='list show check survey compare merge extract unpack salvage stage init write'
     # Options of the program may precede the command.
     while [ "$start" -lt "$COMP_CWORD" ] && [[ ${COMP_WORDS[start]} == -* ]]; do
         start=$((start + 1))
     done
     local word at place=1 kind='' command=${COMP_WORDS[start]}
     if [ "$COMP_CWORD" -eq "$start" ]; then
-        COMPREPLY=($(compgen -W "$commands help --explain --help --version" -- "$cur"))
+        COMPREPLY=($(compgen -W "$commands help --explain --no-explain --help --version" -- "$cur"))
         return
     fi
     # Bash makes '=' a word.
@@ -22,25 +22,26 @@ _tape() {
     merge:--log | extract:--stage) kind='other' ;;
     extract:--form | unpack:--form | stage:--form | write:--form) kind='lines raw' ;;
     unpack:--set | unpack:--file | write:--block | write:--record | \
-        write:--offset) kind='text' ;;
+        write:--offset | write:--date) kind='text' ;;
     salvage:--form) kind='lines raw blocks' ;;
     write:--format) kind='F D S' ;;
     esac
     if [ -z "$kind" ] && [[ $cur == -* ]]; then
         case $command in
-        list) word='--offsets' ;;
+        list) word='--offsets --json' ;;
+        show) word='--raw --ebcdic' ;;
         check) word='--files-from --null' ;;
-        survey) word='--files-from --null --tsv' ;;
-        compare) word='--files-from --null' ;;
+        survey) word='--files-from --null --tsv --json' ;;
+        compare) word='--files-from --null --json' ;;
         merge) word='--log --files-from --null' ;;
         extract) word='--files-from --null --form --stage --again' ;;
-        unpack) word='--files-from --null --form --set --file --list --salvage' ;;
+        unpack) word='--files-from --null --form --set --file --list --salvage --now --manifest --verify' ;;
         salvage) word='--files-from --null --form' ;;
         stage) word='--form --damaged' ;;
-        write) word='--format --block --record --offset --pad-full --form' ;;
+        write) word='--format --block --record --offset --pad-full --form --date --dry-run' ;;
         *) word='' ;;
         esac
-        COMPREPLY=($(compgen -W "$word --explain --help" -- "$cur"))
+        COMPREPLY=($(compgen -W "$word --explain --no-explain --help" -- "$cur"))
         return
     fi
     if [ "$command" = help ]; then
@@ -50,8 +51,8 @@ _tape() {
     # An argument: which of them.
     for ((at = start + 1; at < COMP_CWORD; at++)); do
         case ${COMP_WORDS[at]} in
-        --block | --file | --files-from | --form | --format | --log | \
-            --offset | --record | --set | --stage)
+        --block | --date | --file | --files-from | --form | --format | --log \
+            | --offset | --record | --set | --stage)
             at=$((at + 1))
             [ "${COMP_WORDS[at]}" = '=' ] && at=$((at + 1)) ;;
         -*) ;;
@@ -59,12 +60,14 @@ _tape() {
         esac
     done
     [ -n "$kind" ] || case $command:$place in
+    show:1) kind='image' ;;
+    show:2 | extract:1 | extract:2 | salvage:1 | salvage:2 | init:2 | init:3 \
+        | write:2 | write:3) kind='text' ;;
     merge:1 | extract:3 | salvage:3 | stage:1) kind='other' ;;
-    extract:1 | extract:2 | salvage:1 | salvage:2 | init:2 | init:3 | \
-        write:2 | write:3) kind='text' ;;
     unpack:1 | init:1 | write:1) kind='directory' ;;
     list:* | check:* | survey:* | compare:* | merge:* | extract:* | unpack:* \
         | salvage:*) kind='image' ;;
+    show:*) kind='text' ;;
     stage:*) kind='other' ;;
     write:*) kind='file' ;;
     esac

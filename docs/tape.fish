@@ -12,7 +12,7 @@ function __tape_at
             continue
         end
         switch $word
-            case --block --file --files-from --form --format --log --offset --record --set --stage
+            case --block --date --file --files-from --form --format --log --offset --record --set --stage
                 set is_value true
             case '-*'
             case '*'
@@ -39,10 +39,12 @@ function __tape_other
 end
 
 complete -c tape -f
-complete -c tape -l explain -d 'Explain errors, and say what to do next'
+complete -c tape -l explain -d 'Explain errors, and say what to do next [default: on a terminal]'
+complete -c tape -l no-explain -d 'Print errors without explanations, on a terminal too'
 complete -c tape -s h -l help -d 'Print help (see a summary with '\''-h'\'')'
 complete -c tape -n '__tape_at "" 1' -s V -l version -d 'Print version'
 complete -c tape -n '__tape_at "" 1' -a list -d 'List the blocks, tape marks and labels of an image'
+complete -c tape -n '__tape_at "" 1' -a show -d 'Show items of an image in full: label fields, or bytes'
 complete -c tape -n '__tape_at "" 1' -a check -d 'Report which file sections are on the images and what is missing'
 complete -c tape -n '__tape_at "" 1' -a survey -d 'Describe each image, and report what is complete and what is missing'
 complete -c tape -n '__tape_at "" 1' -a compare -d 'Report whether images can be readings of the same tape'
@@ -54,18 +56,24 @@ complete -c tape -n '__tape_at "" 1' -a stage -d 'Show what a stage contains, an
 complete -c tape -n '__tape_at "" 1' -a init -d 'Create blank labelled volumes'
 complete -c tape -n '__tape_at "" 1' -a write -d 'Write files to labelled volumes'
 complete -c tape -n '__tape_at "" 1' -a help -d 'Print the help of a command'
-complete -c tape -n '__tape_at help 1' -a 'list check survey compare merge extract unpack salvage stage init write'
+complete -c tape -n '__tape_at help 1' -a 'list show check survey compare merge extract unpack salvage stage init write'
 complete -c tape -n '__tape_in list' -l offsets -d 'Print the byte offset and size of each item before its line'
+complete -c tape -n '__tape_in list' -l json -d 'Print JSON: a line for each item, with its offset and size'
 complete -c tape -n '__tape_at list 1 +' -F
+complete -c tape -n '__tape_in show' -l raw -d 'Write the bytes of the items as they are'
+complete -c tape -n '__tape_in show' -l ebcdic -d 'Show the text of blocks in EBCDIC (code page 037)'
+complete -c tape -n '__tape_at show 1' -F
 complete -c tape -n '__tape_in check' -l files-from -r -F -d 'More names, one per line ('\''-'\'': standard input)'
 complete -c tape -n '__tape_in check' -l null -d 'Names in LIST end with NUL, as of '\''find -print0'\'''
 complete -c tape -n '__tape_at check 1 +' -F
 complete -c tape -n '__tape_in survey' -l files-from -r -F -d 'More names, one per line ('\''-'\'': standard input)'
 complete -c tape -n '__tape_in survey' -l null -d 'Names in LIST end with NUL, as of '\''find -print0'\'''
 complete -c tape -n '__tape_in survey' -l tsv -d 'Print tab-separated values, for scripts'
+complete -c tape -n '__tape_in survey' -l json -d 'Print the same rows as JSON, one object per line'
 complete -c tape -n '__tape_at survey 1 +' -F
 complete -c tape -n '__tape_in compare' -l files-from -r -F -d 'More names, one per line ('\''-'\'': standard input)'
 complete -c tape -n '__tape_in compare' -l null -d 'Names in LIST end with NUL, as of '\''find -print0'\'''
+complete -c tape -n '__tape_in compare' -l json -d 'Print the lines as JSON, one object per line'
 complete -c tape -n '__tape_at compare 1 +' -F
 complete -c tape -n '__tape_in merge' -l log -x -a '(__tape_other)' -d 'Also create LOG, with a row for each item that fewer than two images have, or that is bad in one; LOG must not exist'
 complete -c tape -n '__tape_in merge' -l files-from -r -F -d 'More names, one per line ('\''-'\'': standard input)'
@@ -86,6 +94,9 @@ complete -c tape -n '__tape_in unpack' -l set -x -d 'Only files of this set'
 complete -c tape -n '__tape_in unpack' -l file -x -d 'Only files with this number or name; '\''*'\'' in a name represents any characters'
 complete -c tape -n '__tape_in unpack' -l list -d 'Print what would be done, and create nothing'
 complete -c tape -n '__tape_in unpack' -l salvage -d 'Write what is readable of each incomplete file as NAME.salvaged, and where it has gaps as NAME.gaps'
+complete -c tape -n '__tape_in unpack' -l now -d 'Keep the present as the time of the files, instead of noon (UTC) of the creation date in their labels'
+complete -c tape -n '__tape_in unpack' -l manifest -d 'List the SHA-256 checksum of each complete file in MANIFEST.sha256, as '\''sha256sum'\'' does'
+complete -c tape -n '__tape_in unpack' -l verify -d 'Check the files of DIR against MANIFEST.sha256, and recover nothing: takes DIR alone'
 complete -c tape -n '__tape_at unpack 1' -a '(__fish_complete_directories (commandline -ct))'
 complete -c tape -n '__tape_at unpack 2 +' -F
 complete -c tape -n '__tape_in salvage' -l files-from -r -F -d 'More names, one per line ('\''-'\'': standard input)'
@@ -104,5 +115,7 @@ complete -c tape -n '__tape_in write' -l record -x -d 'Record length'
 complete -c tape -n '__tape_in write' -l offset -x -d 'Bytes before a block'\''s records, 0 to 99'
 complete -c tape -n '__tape_in write' -l pad-full -d 'D: fill every block to --block with padding'
 complete -c tape -n '__tape_in write' -l form -x -a 'lines raw' -d 'lines: one record per line; raw: F cuts the input into records, S takes it as one record'
+complete -c tape -n '__tape_in write' -l date -x -d 'Creation date in the labels, such as 1985-04-23 [default: none]'
+complete -c tape -n '__tape_in write' -l dry-run -d 'Create nothing, only read the files and print the volumes'
 complete -c tape -n '__tape_at write 1' -a '(__fish_complete_directories (commandline -ct))'
 complete -c tape -n '__tape_at write 4 +' -F
