@@ -16,11 +16,6 @@ NO_VOLUME = b"VOL1".ljust(80)
 MOST, SHORTEST = 64, 14
 ITEMS = ("mark", "gap", "bad", "block")
 
-# What the program does not do yet: it fills the numbers of an HDR2 only if the strict reading
-# accepts them then, so never those of formats U and V; and it does not report this rule for labels
-# in EBCDIC.
-NOT_YET = {"wide numbers", "numbers in EBCDIC"}
-
 
 def in_ascii(code, block):
     return block.translate(EBCDIC) if code == "ebcdic" and len(block) == 80 else block
@@ -114,14 +109,16 @@ class Normal:
         return [("block", self.with_numbers(label))]
 
     def with_numbers(self, label):
-        """An HDR2, with its numbers filled if it can be read only then."""
-        is_wide, better = "wide numbers" not in NOT_YET, filled(label)
-        is_read = isinstance(second_label(label, False), tuple) or better == label
-        if is_read or not isinstance(second_label(better, is_wide), tuple):
-            return label
-        is_silent = self.code == "ebcdic" and "numbers in EBCDIC" in NOT_YET
-        self.rules |= set() if is_silent else {"numbers"}
-        return better
+        """An HDR2, with its numbers filled if the strict reading, or else the wider one, accepts
+        it only then."""
+        better = filled(label)
+        for is_wide in (False, True):
+            if isinstance(second_label(label, is_wide), tuple):
+                return label
+            if isinstance(second_label(better, is_wide), tuple):
+                self.rules.add("numbers")
+                return better
+        return label
 
     def headers(self, kind, _, label):
         self.place = {"mark": "data", "block": "headers", "bad": "over"}[kind]

@@ -16,6 +16,21 @@ const HDR2: &[u8; 80] =
 const BLANK2: &[u8; 80] =
     b"HDR2F00800   80                                                                 ";
 
+/// A label of format V whose numbers begin with blanks and NULs.
+const BLANK_WIDE2: &[u8; 80] =
+    b"HDR2V 8192\0\0\0\0\0                                   \0\0                            ";
+
+const WIDE2: &[u8; 80] =
+    b"HDR2V0819200000                                   00                            ";
+
+/// A label that only the wider reading accepts.
+const SPACES2: &[u8; 80] =
+    b"HDR2U     00000                                                                 ";
+
+/// The same with a length that cannot be read.
+const NO_NUMBER2: &[u8; 80] =
+    b"HDR2U  X  00000                                                                 ";
+
 const HDR3: &[u8; 80] =
     b"HDR3                                                                            ";
 
@@ -52,12 +67,16 @@ pub(crate) fn label(letter: u8) -> Option<[u8; 80]> {
         b'H' => *HDR1,
         b'S' => *HDR2,
         b'P' => *BLANK2,
+        b'U' => *BLANK_WIDE2,
+        b'X' => *SPACES2,
+        b'Y' => *NO_NUMBER2,
         b'T' => *HDR3,
         b'E' => *EOF1,
         b'Z' => *DUMMY,
         b'v' => ebcdic(VOL1),
         b'h' => ebcdic(HDR1),
         b's' => ebcdic(HDR2),
+        b'p' => ebcdic(BLANK2),
         b'e' => ebcdic(EOF1),
         _ => return None,
     })
@@ -68,7 +87,8 @@ fn ascii(letter: u8) -> &'static [u8; 80] {
     match letter {
         b'v' => VOL1,
         b'h' => HDR1,
-        b's' | b'P' => HDR2,
+        b's' | b'P' | b'p' => HDR2,
+        b'U' => WIDE2,
         _ => EOF1,
     }
 }
@@ -88,7 +108,7 @@ fn step_of(place: TapePlace, letter: u8) -> (TapePlace, Change) {
 
 /// Returns what happened to the item of a letter: `=` it is kept, `-` dropped, `A` it became its
 /// label in ASCII, `+` it is kept and `&` it became its label after an inserted volume label, `2`
-/// it is kept and a second label is missing.
+/// it is kept and a second label is missing, `0` its numbers were filled.
 fn shown(change: &Change, letter: u8) -> u8 {
     match (change.missing, change.instead) {
         (Missing::Nothing, Replacement::Same) => b'=',
@@ -97,6 +117,7 @@ fn shown(change: &Change, letter: u8) -> u8 {
         (Missing::SecondLabel, Replacement::Same) => b'2',
         (Missing::Nothing, Replacement::Label(text)) if text == *ascii(letter) => b'A',
         (Missing::VolumeLabel, Replacement::Label(text)) if text == *ascii(letter) => b'&',
+        (Missing::Digits, Replacement::Label(text)) if text == *ascii(letter) => b'0',
         _ => b'?',
     }
 }
@@ -130,7 +151,11 @@ fn tapes_and_their_normal_forms(rt: HostRuntime) {
         ("VHmD", "==2="),
         ("VHTmD", "==2=="),
         ("VHbmD", "====="),
-        ("VHPmD", "==A=="),
+        ("VHPmD", "==0=="),
+        ("VHUmD", "==0=="),
+        ("VHXmD", "====="),
+        ("VHYmD", "====="),
+        ("vhpmD", "AA0=="),
         ("VHSmDmEmmDmbH", "=========---="),
         ("VZmmD", "=-==-"),
         ("vhsmDbDmemhsm", "AAA=====A=AA="),

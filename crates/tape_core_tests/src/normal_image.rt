@@ -92,7 +92,7 @@ fn all_of<R: Read>(alloc: Global, reader: &mut R) -> Result<Vec<u8>, AllocError>
 }
 
 /// The images, and what they become.
-const IMAGES: [(&str, &str); 14] = [
+const IMAGES: [(&str, &str); 16] = [
     ("VHSmDOgbdmEmm.", "VHSmDOgbdmEmm."),
     ("gVgHSgmgDmEmm", "gVgHSgmgDmEmm"),
     ("vhsmDdmemm.", "VHSmDdmEmm."),
@@ -101,6 +101,8 @@ const IMAGES: [(&str, &str); 14] = [
     ("HSmDmEmm.", "WHSmDmEmm."),
     ("hsmDmemm.", "WHSmDmEmm."),
     ("VHPmDmEmm.", "VHSmDmEmm."),
+    ("vhpmDmemm.", "VHSmDmEmm."),
+    ("VHXmDmEmm.", "VHXmDmEmm."),
     ("VHmDmEmm.", "VHmDmEmm."),
     ("VHSmDmEmmDbm.", "VHSmDmEmm."),
     ("vhsmDmbemhsm.", "VHSmDmbemhsm."),
@@ -149,6 +151,18 @@ fn rules_are_known(rt: HostRuntime) -> Result<(), AllocError> {
         after: 2,
     };
     assert_eq!(rt; rules, wanted);
-    assert!(rt; rules_of(rt.alloc(), "VHPmDmEmm.")?.blank_numbers);
+    let filled = Rules {
+        blank_numbers: true,
+        ..Rules::NONE
+    };
+    assert_eq!(rt; rules_of(rt.alloc(), "VHPmDmEmm.")?, filled);
+    assert_eq!(rt; rules_of(rt.alloc(), "VHUmDmEmm.")?, filled);
+    assert_eq!(rt; rules_of(rt.alloc(), "VHXmDmEmm.")?, Rules::NONE);
+    let both = Rules {
+        ebcdic: true,
+        ..filled
+    };
+    assert_eq!(rt; rules_of(rt.alloc(), "vhpmDmemm.")?, both);
+    assert!(rt; !rules_of(rt.alloc(), "vhsmDmemm.")?.blank_numbers);
     Ok(())
 }

@@ -1,6 +1,6 @@
 -- The machine's table gives the normal form.
 use Rattle.std.proofs.Common.{◌≡◌, ℕ, List, [], ◌∷◌, ◌++◌, Bool, true, false, cond}
-use Rattle.std.proofs.Common.{length, ◌==◌, refl, sym, ap, nat_lt, ◌&&◌, not}
+use Rattle.std.proofs.Common.{length, ◌==◌, refl, sym, ap, ◌∙◌, nat_lt, ◌&&◌, not}
 use Rattle.std.proofs.lemmas.Slice.Eq.{bytes_eq-Decides}
 use Rattle.std.specs.Str.{bytes_eq}
 use Rattle.tape_image.specs.Tape.{TapeItem, block, bad, mark}
@@ -17,14 +17,14 @@ use Rattle.tape_core.specs.declared.normal.machine.TapePlace.TheVariants.{Next, 
 use Rattle.tape_core.specs.declared.normal.machine.Replacement.TheVariants as replacements
 use Rattle.tape_core.specs.declared.normal.machine.Missing.TheVariants.{Nothing, VolumeLabel}
 use Rattle.tape_core.specs.declared.normal.machine.Replacement.TheVariants as replacements
-use Rattle.tape_core.specs.declared.normal.machine.Missing.TheVariants.{SecondLabel}
+use Rattle.tape_core.specs.declared.normal.machine.Missing.TheVariants.{SecondLabel, Digits}
 use Rattle.tape_core.specs.NormalForm.{Codes.in_ascii, Mended.is_vol1, Mended.is_hdr1}
 use Rattle.tape_core.specs.NormalForm.{Mended.is_hdr2}
 use Rattle.tape_core.specs.NormalForm.Mended.{is_first_trailer, is_dummy, mended}
 use Rattle.tape_core.specs.NormalForm.{is_noise, most_dropped, of_labels, of_second}
 use Rattle.tape_core.specs.NormalForm.{of_trailers, of_headers}
 use Rattle.tape_core.specs.NormalForm.Steps.{Gives, step_of, from, given, instead, instead_in}
-use Rattle.tape_core.specs.NormalForm.Steps.{translated_with, second_instead}
+use Rattle.tape_core.specs.NormalForm.Steps.{translated_with, mended_with}
 use Rattle.tape_core.specs.NormalForm.Steps.{inserted, begin_at, ended_at, start_at, labels_at}
 use Rattle.tape_core.specs.NormalForm.Steps.{second_at}
 use Rattle.tape_core.specs.NormalForm.Steps.{any_at, trailer_at, next_at, drop_first}
@@ -35,18 +35,6 @@ instead_is : (code : Code) (b : List ℕ)
 instead_is Ascii b = refl
 instead_is Ebcdic b = refl
 
-second_is : (code : Code) (b : List ℕ)
-    → instead (second_instead code (in_ascii code b)) (block b)
-    ≡ block (mended (in_ascii code b)) ∷ []
-second_is Ascii b = go (bytes_eq (mended b) b) refl
-  where
-    go : (t : Bool) → bytes_eq (mended b) b ≡ t
-        → instead (cond t replacements.Same (replacements.Label (mended b))) (block b)
-        ≡ block (mended b) ∷ []
-    go true e = ap (λ v. block v ∷ []) (sym ((bytes_eq-Decides (mended b) b).0 e))
-    go false e = refl
-second_is Ebcdic b = refl
-
 -- the rest after a label
 behind : (adds : Missing) (code : Code) (b : List ℕ) (xs : List TapeItem)
     → given (translated_with adds code (in_ascii code b)) (block b) ++ xs
@@ -54,6 +42,16 @@ behind : (adds : Missing) (code : Code) (b : List ℕ) (xs : List TapeItem)
 behind Nothing code b xs = ap (λ v. v ++ xs) (instead_is code b)
 behind VolumeLabel code b xs = ap (λ v. (inserted VolumeLabel ++ v) ++ xs) (instead_is code b)
 behind SecondLabel code b xs = ap (λ v. (inserted SecondLabel ++ v) ++ xs) (instead_is code b)
+behind Digits code b xs = ap (λ v. (inserted Digits ++ v) ++ xs) (instead_is code b)
+
+second_is : (code : Code) (b : List ℕ) (xs : List TapeItem) (t : Bool)
+    → bytes_eq (mended (in_ascii code b)) (in_ascii code b) ≡ t
+    → given (mended_with code (in_ascii code b)) (block b) ++ xs
+    ≡ block (mended (in_ascii code b)) ∷ xs
+second_is code b xs true e =
+    rw (e) (behind Nothing code b xs)
+    ∙ ap (λ v. block v ∷ xs) (sym ((bytes_eq-Decides (mended (in_ascii code b)) _).0 e))
+second_is code b xs false e = rw (e) refl
 
 any_behind : (code : Code) (b : List ℕ) (xs : List TapeItem) (t : Bool) → (length b == 80) ≡ t
     → block (in_ascii code b) ∷ xs ≡ given (any_at code b) (block b) ++ xs
@@ -88,7 +86,7 @@ module _ (b : List ℕ) (xs : List TapeItem) where
       ≡ given (second_at code (in_ascii code b)).1 (block b)
       ++ from (second_at code (in_ascii code b)).0 xs
   second_gives code true u e f =
-      rw (e) (ap (λ v. v ++ of_headers code xs) (sym (second_is code b)))
+      rw (e) (sym (second_is code b (of_headers code xs) _ refl))
   second_gives code false true e f =
       rw (e, f) (sym (behind SecondLabel code b (of_headers code xs)))
   second_gives code false false e f = rw (e, f) refl

@@ -7,6 +7,7 @@ use Rattle.std.proofs.lemmas.List.{length-append}
 use Rattle.tape_core.proofs.Laid.{range_length}
 use Rattle.tape_label.specs.declared.values.Kind.TheVariants as kinds
 use Rattle.tape_label.specs.{Kinds.kind_at, Positions.positions, Reading.head2_at}
+use Rattle.tape_label.specs.{Reading.wide_head2_at}
 use Rattle.tape_label.proofs.Apart.{kind_found}
 use Rattle.tape_core.specs.NormalForm.Mended.{filled_number, fill_at, filled, mended, is_ok}
 
@@ -55,12 +56,17 @@ unfolding kind_at
 kind_alike xs ys a n = rw (a.size, n, a.front) refl
 
 pub kind_mended : (b : List ℕ) → kind_at b ≡ Some kinds.Hdr2 → kind_at (mended b) ≡ Some kinds.Hdr2
-kind_mended b e = go (is_ok (head2_at b)) (is_ok (head2_at (filled b)))
+kind_mended b e =
+    go (is_ok (head2_at b)) (is_ok (head2_at (filled b))) (is_ok (wide_head2_at b))
+    (is_ok (wide_head2_at (filled b)))
   where
     n : length b ≡ 80
     n = (kind_found b kinds.Hdr2 e).size
 
-    go : (t u : Bool) → kind_at (cond t b (cond u (filled b) b)) ≡ Some kinds.Hdr2
-    go true u = e
-    go false true = kind_alike (filled b) b (filled_alike b n) n ∙ e
-    go false false = e
+    go : (t u v w : Bool)
+        → kind_at (cond t b (cond u (filled b) (cond v b (cond w (filled b) b)))) ≡ Some kinds.Hdr2
+    go true u v w = e
+    go false true v w = kind_alike (filled b) b (filled_alike b n) n ∙ e
+    go false false true w = e
+    go false false false true = kind_alike (filled b) b (filled_alike b n) n ∙ e
+    go false false false false = e

@@ -5,6 +5,7 @@ use Rattle.std.proofs.lemmas.{Bool.Decides.nat_tests, List.length-map}
 use Rattle.std.specs.Str.{bytes_eq}
 use Rattle.tape_image.specs.Tape.{TapeItem, block, bad, mark}
 use Rattle.tape_label.specs.{Kinds.kind_at, VolumeLabels.is_volume_label, Reading.head2_at}
+use Rattle.tape_label.specs.{Reading.wide_head2_at}
 use Rattle.tape_label.specs.WideHead2.{is_further_header}
 use Rattle.tape_core.specs.declared.normal.code.Code.{Code}
 use Rattle.tape_core.specs.declared.normal.code.Code.TheVariants.{Ascii, Ebcdic}
@@ -20,7 +21,7 @@ use Rattle.tape_core.specs.NormalForm.Mended.{is_vol1, is_hdr1, is_hdr2, is_firs
 use Rattle.tape_core.specs.NormalForm.Mended.{is_dummy, mended, filled, is_ok}
 use Rattle.tape_core.specs.NormalForm.Steps.{step_of, same, dropped, drop_first, drop_block}
 use Rattle.tape_core.specs.NormalForm.Steps.{begin_in, begin_at, either, start_at, instead_in}
-use Rattle.tape_core.specs.NormalForm.Steps.{labels_at, second_at, second_instead, ended_at}
+use Rattle.tape_core.specs.NormalForm.Steps.{labels_at, second_at, mended_with, ended_at}
 use Rattle.tape_core.specs.NormalForm.Steps.{trailer_at, next_at}
 use Rattle.tape_core.specs.NormalForm.Bytes.{unlabelled, unlabelled_instead}
 use Rattle.tape_core.proofs.Eighty.{not_80, no_kind_of, no_volume_label_of, no_beginning}
@@ -124,12 +125,17 @@ block_labelled code n =
     (ap (λ (s : TapePlace × Change). s.1.instead) (plain_unlabelled (Labels code n) true))
 
 mended_80 : (b : List ℕ) → length b ≡ 80 → length (mended b) ≡ 80
-mended_80 b e = go (is_ok (head2_at b)) (is_ok (head2_at (filled b)))
+mended_80 b e =
+    go (is_ok (head2_at b)) (is_ok (head2_at (filled b))) (is_ok (wide_head2_at b))
+    (is_ok (wide_head2_at (filled b)))
   where
-    go : (t u : Bool) → length (cond t b (cond u (filled b) b)) ≡ 80
-    go true u = e
-    go false true = (filled_alike b e).size
-    go false false = e
+    go : (t u v w : Bool)
+        → length (cond t b (cond u (filled b) (cond v b (cond w (filled b) b)))) ≡ 80
+    go true u v w = e
+    go false true v w = (filled_alike b e).size
+    go false false true w = e
+    go false false false true = (filled_alike b e).size
+    go false false false false = e
 
 module _ (b : List ℕ) (e : length b ≡ 80) where
   is_80 : (length b == 80) ≡ true
@@ -178,18 +184,16 @@ module _ (b : List ℕ) (e : length b ≡ 80) where
   labels_labelled code n false true f k = rw (f, k) (instead_labelled code)
   labels_labelled code n false false f k = rw (f, k) (block_labelled code n)
 
-  second_kept : (code : Code) → Labelled (second_instead code (in_ascii code b))
-  second_kept Ascii = go (bytes_eq (mended b) b) refl
-    where
-      go : (t : Bool) → bytes_eq (mended b) b ≡ t → Labelled (second_instead Ascii b)
-      go true f = rw (f) tt
-      go false f = rw (f) (mended_80 b e)
-  second_kept Ebcdic = mended_80 (in_ascii Ebcdic b) (text_80 Ebcdic)
+  second_kept : (code : Code) (t : Bool)
+      → bytes_eq (mended (in_ascii code b)) (in_ascii code b) ≡ t
+      → Labelled (mended_with code (in_ascii code b)).instead
+  second_kept code true f = rw (f) (instead_labelled code)
+  second_kept code false f = rw (f) (mended_80 (in_ascii code b) (text_80 code))
 
   second_labelled : (code : Code) (k f : Bool) → is_hdr2 (kind_at (in_ascii code b)) ≡ k
       → is_further_header (in_ascii code b) ≡ f
       → Labelled (second_at code (in_ascii code b)).1.instead
-  second_labelled code true f p q = rw (p) (second_kept code)
+  second_labelled code true f p q = rw (p) (second_kept code _ refl)
   second_labelled code false true p q = rw (p, q) (instead_labelled code)
   second_labelled code false false p q = rw (p, q) tt
 

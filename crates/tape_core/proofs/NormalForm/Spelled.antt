@@ -21,7 +21,7 @@ use Rattle.tape_image.proofs.WrittenItems.{block_spelled}
 use Rattle.tape_core.specs.declared.normal.machine.{TapePlace.TapePlace}
 use Rattle.tape_core.specs.declared.normal.machine.{Missing.Missing, Replacement.Replacement}
 use Rattle.tape_core.specs.declared.normal.machine.Missing.TheVariants.{Nothing, VolumeLabel}
-use Rattle.tape_core.specs.declared.normal.machine.Missing.TheVariants.{SecondLabel}
+use Rattle.tape_core.specs.declared.normal.machine.Missing.TheVariants.{SecondLabel, Digits}
 use Rattle.tape_core.specs.declared.normal.machine.Replacement.TheVariants.{Same, Dropped, Label}
 use Rattle.tape_core.specs.declared.normal.machine.TapePlace.TheVariants as places
 use Rattle.tape_core.specs.declared.normal.looking.Looked.{Looked}
@@ -52,6 +52,7 @@ inserted_leads VolumeLabel xs =
     (Leads-one (written_block no_volume_label) xs (block no_volume_label ∷ [])
     (block_spelled no_volume_label refl))
 inserted_leads SecondLabel xs = Leads-nil xs
+inserted_leads Digits xs = Leads-nil xs
 
 -- the items that replace those of an encoding
 abbrev insteads : Replacement → List TapeItem → List TapeItem

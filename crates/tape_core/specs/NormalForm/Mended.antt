@@ -8,6 +8,7 @@ use Rattle.tape_label.specs.declared.values.{Kind.Kind}
 use Rattle.tape_label.specs.declared.values.Kind.TheVariants as kinds
 use Rattle.tape_label.specs.declared.label.LabelFault.{LabelFault}
 use Rattle.tape_label.specs.{Positions.positions, Reading.head1_at, Reading.head2_at}
+use Rattle.tape_label.specs.{Reading.wide_head2_at}
 
 -- ---- kinds
 
@@ -63,9 +64,12 @@ fill_at first last label =
 abbrev pub filled : List ℕ → List ℕ
 filled label = fill_at 51 52 (fill_at 11 15 (fill_at 6 10 label))
 
--- a label that can be read is kept; one that can be read with its numbers filled is filled
+-- a label that can be read is kept; one that can be read with its numbers filled is filled: by the
+-- strict reading, or else by the wider one
 abbrev pub mended : List ℕ → List ℕ
 mended label =
     if is_ok (head2_at label) then label
     else if is_ok (head2_at (filled label)) then filled label
+    else if is_ok (wide_head2_at label) then label
+    else if is_ok (wide_head2_at (filled label)) then filled label
     else label

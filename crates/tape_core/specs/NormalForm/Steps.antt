@@ -20,7 +20,7 @@ use Rattle.tape_core.specs.declared.normal.machine.TapePlace.TheVariants.{Header
 use Rattle.tape_core.specs.declared.normal.machine.TapePlace.TheVariants.{Trailers}
 use Rattle.tape_core.specs.declared.normal.machine.TapePlace.TheVariants.{Next, Ended, Over}
 use Rattle.tape_core.specs.declared.normal.machine.Missing.TheVariants.{Nothing, VolumeLabel}
-use Rattle.tape_core.specs.declared.normal.machine.Missing.TheVariants.{SecondLabel}
+use Rattle.tape_core.specs.declared.normal.machine.Missing.TheVariants.{SecondLabel, Digits}
 use Rattle.tape_core.specs.declared.normal.machine.Replacement.TheVariants.{Same, Dropped, Label}
 use Rattle.tape_core.specs.NormalForm.{of_start, of_labels, of_blank, of_second, of_headers}
 use Rattle.tape_core.specs.NormalForm.{of_data}
@@ -46,12 +46,14 @@ abbrev pub inserted_label : Missing → Option (List ℕ)
 inserted_label Nothing = None
 inserted_label VolumeLabel = Some no_volume_label
 inserted_label SecondLabel = None
+inserted_label Digits = None
 
 -- the same as an item
 abbrev pub inserted : Missing → List TapeItem
 inserted Nothing = []
 inserted VolumeLabel = block no_volume_label ∷ []
 inserted SecondLabel = []
+inserted Digits = []
 
 -- what replaces the item
 abbrev pub instead : Replacement → TapeItem → List TapeItem
@@ -115,15 +117,16 @@ labels_at code n text =
     then (Second code, translated_with Nothing code text)
     else drop_block code n
 
--- a second label that is kept as it is, or changed
-abbrev pub second_instead : Code → List ℕ → Replacement
-second_instead Ascii text = if bytes_eq (mended text) text then Same else Label (mended text)
-second_instead Ebcdic text = Label (mended text)
+-- a second label whose numbers are filled, if that is needed
+abbrev pub mended_with : Code → List ℕ → Change
+mended_with code text =
+    if bytes_eq (mended text) text then translated_with Nothing code text
+    else record { missing = Digits; instead = Label (mended text) }
 
 abbrev pub second_at : Code → List ℕ → TapePlace × Change
 second_at code text =
     if is_hdr2 (kind_at text)
-    then (Headers code, record { missing = Nothing; instead = second_instead code text })
+    then (Headers code, mended_with code text)
     else if is_further_header text then (Headers code, translated_with SecondLabel code text)
     else (Over, same)
 

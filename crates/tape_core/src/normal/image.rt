@@ -50,13 +50,13 @@ impl Rules {
             Missing::Nothing => {}
             Missing::VolumeLabel => self.no_volume_label = true,
             Missing::SecondLabel => self.no_second_label = true,
+            Missing::Digits => self.blank_numbers = true,
         }
         match (change.instead, place) {
             (Replacement::Dropped, TapePlace::Ended) => self.after = self.after.saturating_add(1),
             (Replacement::Dropped, _) => self.before = self.before.saturating_add(1),
-            (Replacement::Label(_), TapePlace::Second(Code::Ascii)) => self.blank_numbers = true,
+            (Replacement::Label(_), TapePlace::Second(Code::Ascii)) | (Replacement::Same, _) => {}
             (Replacement::Label(_), _) => self.ebcdic = true,
-            (Replacement::Same, _) => {}
         }
     }
 }

@@ -44,7 +44,7 @@ pub enum TapePlace {
     Over,
 }
 
-/// A label that is missing on a tape.
+/// What is missing on a tape: a label, or digits of one.
 #[derive(Clone, Copy, Debug, PartialEq, Eq)]
 pub enum Missing {
     /// None.
@@ -54,6 +54,8 @@ pub enum Missing {
     /// The second header label. None is inserted: it would hide that the form of the records is
     /// not known.
     SecondLabel,
+    /// The digits at the start of numbers in the second label that replaces the item.
+    Digits,
 }
 
 /// What replaces an item.
@@ -98,7 +100,7 @@ impl Missing {
         match self {
             Missing::Nothing => None,
             Missing::VolumeLabel => Some(NO_VOLUME_LABEL),
-            Missing::SecondLabel => None,
+            Missing::SecondLabel | Missing::Digits => None,
         }
     }
 }
@@ -228,13 +230,13 @@ fn second_label(code: Code, bytes: &[u8]) -> (TapePlace, Change)
     let text = in_ascii(code, label);
     if let Some(Kind::Hdr2) = kind(&text) {
         let filled = mended(&text);
-        let instead = match code {
-            Code::Ascii if filled == text => Replacement::Same,
-            _ => Replacement::Label(filled),
-        };
-        let change = Change {
-            missing: Missing::Nothing,
-            instead,
+        let change = if filled == text {
+            translated(code, text)
+        } else {
+            Change {
+                missing: Missing::Digits,
+                instead: Replacement::Label(filled),
+            }
         };
         return (TapePlace::Headers(code), change);
     }

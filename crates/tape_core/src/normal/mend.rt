@@ -3,7 +3,7 @@
 ghost use Rattle.std.specs.Prelude.{◌≡◌, ◌≤◌};
 ghost use Rattle.tape_core.specs.NormalForm.Mended.{mended, filled_number, fill_at};
 
-use tape_label::read_head2;
+use tape_label::{read_head2, read_wide_head2};
 
 /// Replaces the blanks and NULs that a number begins with by `0`.
 fn fill(number: &mut [u8])
@@ -25,8 +25,8 @@ fn fill_at(text: &mut [u8; 80], first: usize, last: usize)
     fill(&mut text[first - 1..last]);
 }
 
-/// Returns the label itself if it can be read as a second label; otherwise the label with its
-/// numbers filled with zeros, if that can be read; otherwise the label itself.
+/// Returns a second label as it is, or with its numbers filled with zeros: whichever the strict
+/// reading accepts, or else the wider one. If both can be read, or none, it stays as it is.
 pub(crate) fn mended(label: &[u8; 80]) -> [u8; 80]
     ensures { result ≡ mended label.now }
 {
@@ -37,8 +37,11 @@ pub(crate) fn mended(label: &[u8; 80]) -> [u8; 80]
     fill_at(&mut filled, 6, 10);
     fill_at(&mut filled, 11, 15);
     fill_at(&mut filled, 51, 52);
-    match read_head2(&filled) {
-        Ok(_) => filled,
-        Err(_) => *label,
+    if read_head2(&filled).is_ok() {
+        return filled;
+    }
+    match (read_wide_head2(label), read_wide_head2(&filled)) {
+        (Err(_), Ok(_)) => filled,
+        _ => *label,
     }
 }
