@@ -27,7 +27,7 @@ Definition = collections.namedtuple("Definition", "name words comment")
 OF_STD = {"Appends", "Keeps", "Consumes", "IsAtEnd"}
 
 # Pages with tables of files in specs/, and a text above each table.
-TABLES = [("CONTRACTS.md", "## What else to read"), ("DEFINITIONS.md", "By crate, these files"),
+TABLES = [("DEFINITIONS.md", "\n## What else to read"), ("DEFINITIONS.md", "By crate, these files"),
           ("ARCHITECTURE.md", "## Where to change what")]
 
 # Of a file all definitions count, and these have their comments on the page.
