@@ -42,6 +42,10 @@ FILES = {"FILE_OF_IMAGE": "an image to be read", "FILE_OF_LIST": "a list of imag
          "FILE_OF_IMAGES": "an image of `write`", "FILE_OF_LINES": "standard output"}
 
 
+# The options that the section 'Lists of images' describes for all commands.
+COMMON = ("--files-from LIST", "--null")
+
+
 def cell(text):
     """Text in one cell of a table."""
     return " ".join(text.split()).replace("|", "\\|")
@@ -59,8 +63,9 @@ def unescaped(text):
 
 
 def usage(command):
-    """The usage of a command, and a table of its arguments."""
-    rows = [f"| `{cell(word.call)}` | {cell(word.described)} |" for word in command.arguments + command.options]
+    """The usage of a command, and a table of its arguments, without those of COMMON."""
+    rows = [f"| `{cell(word.call)}` | {cell(word.described)} |" for word in command.arguments + command.options
+            if word.call not in COMMON]
     return "\n".join([command.about + ".", "", "    " + command.usage, "",
                       "| Argument | Meaning |", "|---|---|", *rows]) + "\n"
 
@@ -104,8 +109,11 @@ def errors():
                  for number, text in sorted(lists[name].items())]
     for name, file in FILES.items():
         rows += [(f"`file fault {number}`", file, text) for number, text in sorted(lists[name].items())]
+    alike = {}
+    for error, file, text in rows:
+        alike.setdefault((file, text), []).append(error)
     return "\n".join(["| Error | Of | Explanation |", "|---|---|---|",
-                      *(f"| {error} | {file} | {cell(text)} |" for error, file, text in rows)]) + "\n"
+                      *(f"| {', '.join(same)} | {file} | {cell(text)} |" for (file, text), same in alike.items())]) + "\n"
 
 
 def page(program):
