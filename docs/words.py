@@ -3,7 +3,8 @@
 
     docs/words.py            prints for each text how many sentences it has, and how many have one
     docs/words.py PLACE      prints the sentences of a place that have one
-    docs/words.py --check    says where there are more than docs/words.txt allows, with status 1
+    docs/words.py --check    says where there are more than docs/words.txt allows, or where a page uses a
+                             word that the glossary keeps for others (TERMS), with status 1
     docs/words.py --update   writes the present counts into docs/words.txt
 
 A place is a page, `help` (with --explain and usage errors), or `/// CRATE`. Code, tables' rules and
@@ -22,6 +23,14 @@ PHRASES = re.compile(r"""\b(
     | (?:is|are|be|was)\ none | fronts? | at\ hand | left\ over
     | (?:go|goes|gone|going|went)\ on | pass(?:ed|es)?\ (?:by|over) | (?:is|are)\ passed | a\ row\ of
 )\b""", re.X)
+
+# The words that the glossary of DEFINITIONS.md keeps for contracts, comments and names, and those that one
+# term replaces: what users read has none of them, and what specifies lines and bytes few.
+USERS = ("README.md", "CHANGELOG.md", "docs/GUIDE.md", "docs/RECIPES.md", "docs/JSON.md", "help")
+LINES = ("docs/REFERENCE.md", "docs/FORMATS.md")
+INNER = r"lawful|doubtful|spell(?:s|ed|ings?)|awaited|foreign|strangers?|folders?|wrong (?:usage|arguments)"
+TERMS = [(USERS, re.compile(rf"\b(?:{INNER}|sinks?|sessions?|frames?|weigh(?:t|s)|portions?|catalogue)\b", re.I)),
+         (LINES, re.compile(rf"\b(?:{INNER})\b", re.I))]
 
 
 def sentences(text):
@@ -70,19 +79,34 @@ def strings(path):
             yield part
 
 
-def places():
-    """For each place its sentences."""
+def whole_texts():
+    """For each place its paragraphs."""
     for page in sorted([*TOP.glob("*.md"), *TOP.glob("docs/*.md"), *TOP.glob("bench/*.md"), *TOP.glob("trials/*.md"),
                         *TOP.glob("release/*.md"), *TOP.glob("crates/*/README.md")]):
         if page.name != "DEFINITIONS.md":
-            yield str(page.relative_to(TOP)), [s for p in paragraphs(page) for s in sentences(p)]
+            yield str(page.relative_to(TOP)), list(paragraphs(page))
     tool = TOP / "crates" / "tape_tool" / "src"
     texts = [path for name in ("help", "explain") for path in
              [tool / f"{name}.rt", *sorted((tool / name).glob("*.rt"))] if path.exists()]
-    yield "help", [s for path in texts for p in strings(path) for s in sentences(p)]
+    yield "help", [p for path in texts for p in strings(path)]
     for crate in sorted(TOP.glob("crates/*/src")):
-        yield f"/// {crate.parent.name}", [
-            s for path in sorted(crate.rglob("*.rt")) for p in comments(path) for s in sentences(p)]
+        yield f"/// {crate.parent.name}", [p for path in sorted(crate.rglob("*.rt")) for p in comments(path)]
+
+
+def places():
+    """For each place its sentences."""
+    for place, texts in whole_texts():
+        yield place, [s for text in texts for s in sentences(text)]
+
+
+def misused():
+    """Each place with a word that the glossary keeps for others, and that word."""
+    for place, texts in whole_texts():
+        for names, words in TERMS:
+            if place in names:
+                for text in texts:
+                    bare = re.sub(r"`[^`]*`|\{[^}]*\}|\]\([^)]*\)", " ", text)
+                    yield from ((place, hit[0]) for hit in words.finditer(bare))
 
 
 def main():
@@ -100,7 +124,10 @@ def main():
         for place, count in more:
             print(f"{place}: {count} sentences with an unclear phrase, {allowed.get(place, 0)} before; "
                   f"docs/words.py '{place}' shows them")
-        return 1 if more else 0
+        wrong = list(misused())
+        for place, word in wrong:
+            print(f"{place}: '{word}' is not a word of this page; the glossary of DEFINITIONS.md has another")
+        return 1 if more or wrong else 0
     if arguments:
         for sentence in found[arguments[0]][1]:
             print(sentence.strip())
