@@ -8,7 +8,7 @@ or two images. Blocks, labels and tape marks are made unreadable, images are cut
 blocks are lost or doubled, so that the count of a trailer label is wrong; one character of a block is changed, so that
 two complete copies differ; images of other sets are among them.
 
-A model in this file, written from the description of `salvage` in docs/REFERENCE.md, determines the expected files and
+A model in this file, written from 'Salvaging' in docs/FORMATS.md and the lines in docs/REFERENCE.md, determines the expected files and
 lines. For each file the output must be equal byte for byte, and so must the lines and the exit status. The model has
 two parts that do not depend on each other: the lines are made block by block, and the output is also calculated from
 the records that the set was made of, as those of which every block was read. If `tape extract --again` completes a file
