@@ -2,12 +2,15 @@
 """Writes the man page docs/tape.1 from the program's help.
 
     docs/man.py [--program PATH]            writes the page
-    docs/man.py [--program PATH] --check    reports if it is out of date, with status 1
+    docs/man.py [--program PATH] --check    reports if it is out of date, or if `man` does not show a line of output
+                                            as the help has it, with status 1
 
 The commands, their arguments and all texts come from the program; commands.py reads them.
 """
 import os
 import re
+import shutil
+import subprocess
 import sys
 import textwrap
 
@@ -95,8 +98,17 @@ def one_column(lines):
     return out
 
 
+def is_output(lines):
+    """Whether indented lines are what the program prints: one is indented further, but not to a column of others."""
+    columns = {at.end() for line in lines for at in re.finditer(r"(?<=\S) {2,}(?=\S)", line)}
+    indents = {len(line) - len(line.lstrip()) for line in lines}
+    return any(indent > 2 and indent not in columns for indent in indents)
+
+
 def rows(lines):
     """Indented lines: rows of a key and what it means, or text that is left as it is."""
+    if is_output(lines):
+        return [".PP", ".EX", *(escaped(line[2:]) for line in lines), ".EE"]
     out, keyed, verbatim, column = [], False, False, 0
     for line in lines:
         indent = len(line) - len(line.lstrip())
@@ -206,10 +218,25 @@ def tidied(lines):
     return out
 
 
+def changed(program):
+    """The lines of output in the help that are no lines of the page as `man` shows it."""
+    shown = subprocess.run(["man", "-l", PAGE], env={**os.environ, "MANWIDTH": "120", "LC_ALL": "C.UTF-8"},
+                           stdout=subprocess.PIPE, check=True, encoding="utf-8").stdout
+    seen = {line.strip() for line in shown.split("\n")}
+    for text in [program.whole.after, *(command.after for command in program.commands)]:
+        for block in re.findall(r"(?:^  .*\n?)+", "\n".join(one_column(text.split("\n"))), re.M):
+            lines = block.rstrip("\n").split("\n")
+            yield from (line for line in lines if is_output(lines) and line.strip() not in seen)
+
+
 def main():
     options = commands.parse(__doc__)
-    text = page(commands.read(options.program))
-    return commands.write({PAGE: text}, options.check, "docs/man.py")
+    program = commands.read(options.program)
+    status = commands.write({PAGE: page(program)}, options.check, "docs/man.py")
+    for line in changed(program) if options.check and shutil.which("man") else []:
+        print(f"man does not show this line of the help: {line!r}")
+        status = 1
+    return status
 
 
 if __name__ == "__main__":
