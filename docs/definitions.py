@@ -2,14 +2,14 @@
 """Writes the list of definitions in docs/DEFINITIONS.md from the definitions themselves.
 
 READ names the definitions that have to be believed for the headline, in reading order. The list has
-the arguments of each and the comment above it in crates/NAME/specs/; definitions that a comment does
-not add much to have their names only. The rest of the page is written by hand and stays.
+the arguments of the main ones and the comments above them in crates/NAME/specs/. The rest of the
+page is written by hand and stays.
 
     docs/definitions.py           writes the list
     docs/definitions.py --check   says if the list is out of date, with status 1
 
-Both also report names of READ, of the text written by hand, and of files in three tables, that do not
-exist (status 1).
+Both also report names of READ, of the text written by hand, and of files in three tables, that do
+not exist (status 1).
 """
 import collections
 import os
@@ -33,49 +33,48 @@ TABLES = [("DEFINITIONS.md", "\n## What else to read"), ("DEFINITIONS.md", "By c
 # Of a file all definitions count, and these have their comments on the page.
 Main = collections.namedtuple("Main", "names")
 
-# What to read, in order: a heading, and files of a crate, each with the names that count, or None if
-# all do.
+# Of a file these count, without their comments.
+Names = collections.namedtuple("Names", "names")
+
+# What to read, in order: a heading, and files of a crate, each with the names that count and have
+# their comments on the page.
 READ = [
     ("What items bytes begin with", "tape_image", {
-        "Tape": None,
-        "Word": Main(["IsWord", "block_len", "extent_of"]),
-        "Spelling": Main(["item_of", "IsFramed", "IsSpelling", "Leads", "EndsHere", "Spells"]),
-        "Begins": Main(["Stop", "Stops", "Stands", "Walks", "Begins"])}),
+        "Tape": Main(["TapeItem"]), "Word": Main(["block_len"]),
+        "Spelling": Main(["item_of", "IsFramed", "Leads", "Spells"]),
+        "Begins": Main(["Stop", "Begins"])}),
     ("Which characters a label has where", "tape_label", {
-        "Positions": None, "Digits": ["digits"], "Formats": None,
-        "Kinds": Main(["identifier", "HasKind", "kind_at"]),
-        "VolumeLabels": ["IsOfVolume"], "Head1": None, "Head2": None,
-        "Trail1": Main(["IsTrail1"]), "Reading": ["begins_as"]}),
+        "Positions": Main([]), "Digits": Names(["digits"]), "Formats": Main(["is_standard"]),
+        "Kinds": Main(["HasKind"]), "VolumeLabels": Names(["IsOfVolume"]),
+        "Head1": Main(["HasHead"]), "Head2": Main(["IsHead2"]), "Trail1": Main([]),
+        "Reading": Names(["begins_as"])}),
     ("Which parts a block has, in which order", "tape_blocks", {
-        "Block": Main(["Portion", "head", "IsUnit", "IsPadding", "HoldsUnits", "own_len",
-                       "own_offset", "Holds"]),
-        "Spans": Main(["leaves", "InOrder", "join_after", "join"]),
-        "Tight": ["Filled", "parts_of_all", "Chain"]}),
+        "Block": Main(["Portion", "HoldsUnits", "Holds"]),
+        "Spans": Main(["InOrder", "join"]),
+        "Tight": Names(["Filled", "parts_of_all", "Chain"])}),
     ("What is on a volume, and which sets are valid", "tape_set", {
-        "Layout": Main(["Section", "Volume", "FileSet", "Entry", "section_entries", "entries_on",
-                        "up_to_data", "items"]),
-        "Lawful": Main(["IsVolumeLabel", "IsVolume", "label_count", "IsHeader", "IsTrailer",
-                        "IsSection", "FileForm", "HasForm", "Ends", "IsFile", "GoesOn",
-                        "IsLawful"])}),
+        "Layout": Main(["FileSet", "entries_on", "up_to_data", "items"]),
+        "Lawful": Main(["IsTrailer", "FileForm", "HasForm", "IsFile", "GoesOn", "IsLawful"])}),
     ("Positions, and how far one reading gets", "tape_set", {
         "Position": Main(["awaiting", "at_part", "IsBefore"]),
-        "Before": Main(["parts_before", "IsIn"]),
-        "Reading": None,
-        "Reach": Main(["passes", "good_run", "behind", "moved", "far_in", "far", "far_over"])}),
+        "Before": Main(["parts_before"]),
+        "Reading": Main(["Reading", "IsReadingOf", "as_read"]),
+        "Reach": Main(["passes", "good_run", "far", "far_over"])}),
     ("Which reels are not of the set", "tape_core",
      {"Foreign": ["is_of_set", "labels_of_set", "is_vol1", "starts_set"]}),
     ("What happened, and where it leads", "tape_run", {
-        "Mount": None, "History": None, "Given": Main(["IsGiven", "AreGivenBy"]),
-        "Seen": ["Seen"], "Headline": ["begins", "IsRead"]}),
+        "Mount": Main(["IsCopy", "IsMount", "after_mount"]),
+        "History": Main(["Course", "at_note", "course", "IsHistory"]), "Given": Main(["IsGiven"]),
+        "Seen": ["Seen"], "Headline": Names(["begins", "IsRead"])}),
     ("What is in memory", "tape_core",
-     {"Memory": ["portions"], "Entries": Main(["part_at", "IsLaid"])}),
+     {"Memory": Names(["portions"]), "Entries": Main(["IsLaid"])}),
     ("For any tape: the reading table", "tape_core", {
-        "Table": Main(["Outcome", "step_of", "reader_of", "mounted", "saved", "restart_of"]),
-        "Labels": Main([]), "Parts": Main(["parts_in", "begun_before", "other_front"]),
-        "Stands": ["weight_of"], "Weight": ["IsFront"], "Place": ["rest_of"]}),
+        "Table": Main(["Outcome", "step_of", "restart_of"]),
+        "Labels": Main([]), "Parts": Main(["parts_in", "other_front"]),
+        "Stands": ["weight_of"], "Weight": ["IsFront"], "Place": Names(["rest_of"])}),
     ("For any tape: where the table leads over reels and steps", "tape_run", {
-        "Reels": ["behind_items"], "ByTable": Main(["parts_at", "IsLed", "StopsInside"]),
-        "Lead": Main(["Lead", "lead", "AreItems", "StandsThere", "LeadsBy", "StopsBy"])}),
+        "Reels": Names(["behind_items"]), "ByTable": Main(["parts_at", "IsLed"]),
+        "Lead": Main(["Lead", "lead", "LeadsBy", "StopsBy"])}),
 ]
 
 
@@ -126,17 +125,17 @@ def definitions(crate, file):
 
 
 def listed(crate, file, names):
-    """The entries of a file, and the names that it should define and does not."""
+    """Which definitions of a file count, its entries, and the names that it does not define."""
     found = list(definitions(crate, file))
-    main = isinstance(names, Main)
-    named = names.names if main else names
-    counted = [each for each in found if main or names is None or each.name in named]
-    shown = [each for each in counted if each.comment and (named is None or each.name in named)]
+    main, bare = isinstance(names, Main), isinstance(names, Names)
+    named = names.names if main or bare else names
+    counted = [each for each in found if main or each.name in named]
+    shown = [each for each in counted if each.comment and each.name in named and not bare]
     out = [f"  - `{' '.join([each.name, *each.words])}`: {each.comment.rstrip('.')}"
            for each in shown]
     rest = [f"`{each.name}`" for each in counted if each not in shown]
-    out += [f"  - and {', '.join(rest)}" if out else f"  - {', '.join(rest)}"] * bool(rest)
-    return out, sorted(set(named or []) - {each.name for each in found})
+    only = "" if main else ", only " + ", ".join(rest if bare else ["these", *rest])
+    return only, out, sorted(set(named) - {each.name for each in found})
 
 
 def the_list():
@@ -145,12 +144,12 @@ def the_list():
     for number, (heading, crate, files) in enumerate(READ, 1):
         out += [f"### {number}. {heading}", ""]
         for file, names in files.items():
-            entries, unknown = listed(crate, file, names)
+            only, entries, unknown = listed(crate, file, names)
+            head = f"- `{crate}/specs/{file}`{only}"
             if len(entries) == 1:
-                entries = [f"- `{crate}/specs/{file}`: {entries[0].removeprefix('  - ')}"]
+                out.append(f"{head}: {entries[0].removeprefix('  - ')}")
             else:
-                entries = [f"- `{crate}/specs/{file}`", *entries]
-            out += entries
+                out += [head, *entries]
             missing += [f"definitions.py: {file} of {crate} does not define {name}"
                         for name in unknown]
         out.append("")
