@@ -15,7 +15,7 @@ use Rattle.tape_run.specs.declared.section.SectionState.TheVariants.{Good}
 use Rattle.tape_run.specs.{declared.survey.copies.CopyNote.CopyNote, Noted.same_key, Noted.is_good}
 use Rattle.tape_run.specs.{Reeling.Mounting, Lacks.lacks, Lacks.is_none_lacking, Lacks.found_all}
 use Rattle.tape_run.specs.{SurveyTally.is_whole_sight, SurveyFiles.Filed, SurveyFiles.any_differs}
-use Rattle.tape_run.specs.SurveySets.{all_good, is_all, is_flawless}
+use Rattle.tape_run.specs.SurveySets.{all_good, follows_end, is_all, is_flawless, none_follows}
 use Rattle.tape_run.specs.SurveyFiles.{any_lost, any_misfit, reads_wide}
 use Rattle.tape_run.specs.declared.survey.fits.Misfit.{Misfit}
 use Rattle.tape_run.specs.SurveyConflicts.{Placed, placed_on, placed_in, all_placed}
@@ -56,6 +56,13 @@ all_are_good (t ∷ ts) e = (
   good_is t.1.state (and_parts (is_good t.1.state) (all_good ts) e).0,
   all_are_good ts (and_parts (is_good t.1.state) (all_good ts) e).1,
 )
+
+none_is_behind : (c ts : List Told) → none_follows c ts ≡ true
+    → AllByRecursion (λ t. follows_end c t ≡ false) ts
+none_is_behind c [] e = tt
+none_is_behind c (t ∷ ts) e =
+    let (here, rest) = and_parts (not (follows_end c t)) (none_follows c ts) e in
+    (not-true (follows_end c t) here, none_is_behind c ts rest)
 
 some_found : (ts : List Told) → found_all ts ≡ true → ts ≢ []
 some_found [] e none = absurd (cc e)
@@ -306,7 +313,8 @@ pub all_is_sound : {L R : Type 0} (gives : Mounting L R) (remaining : R → Opti
 all_is_sound gives remaining shelf last sights d v e =
     let lost = any_lost d.files.notes in
     let misfit = any_misfit d.files.notes in
-    let flawless = is_flawless d.files.notes in
+    let behind = none_follows d.sections d.sections in
+    let flawless = is_flawless d.files.notes && behind in
     let agreed_all = is_agreed d.copies.conflicts && flawless in
     let labelled = not (any_differs d.files.notes) && agreed_all in
     let (whole, one) = and_parts d.whole (found_all d.sections
@@ -315,7 +323,8 @@ all_is_sound gives remaining shelf last sights d v e =
     let (good, three) = and_parts (all_good d.sections) labelled two in
     let (labels, four) = and_parts (not (any_differs d.files.notes)) agreed_all three in
     let (agreed, five) = and_parts (is_agreed d.copies.conflicts) flawless four in
-    let (second, fits) = and_parts (not lost) (not misfit) five in
+    let (six, ends) = and_parts (is_flawless d.files.notes) behind five in
+    let (second, fits) = and_parts (not lost) (not misfit) six in
     let all = images_noted gives remaining [] shelf 0 sights nothing_found last d v (λ _. tt) agreed
     in
     record {
@@ -323,6 +332,7 @@ all_is_sound gives remaining shelf last sights d v e =
       found = some_found d.sections found;
       sections = all_are_good d.sections good;
       missing = none_missing d.sections found;
+      ends = none_is_behind d.sections d.sections ends;
       labels = one_label d.files.notes (not-true (any_differs d.files.notes) labels);
       second = none_lost d.files.notes (not-true lost second);
       fits = all_fit d.files.notes (not-true misfit fits);

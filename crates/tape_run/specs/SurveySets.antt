@@ -15,7 +15,7 @@ use Rattle.tape_run.specs.{SurveyLine.trimmed_text, SurveyLine.damage_text, Surv
 use Rattle.tape_run.specs.SurveyProblems.{problem_lines}
 use Rattle.tape_label.specs.declared.values.{Format.Format, Head2.Head2}
 use Rattle.tape_label.specs.declared.values.Format.TheVariants.{Undefined, Variable}
-use Rattle.tape_run.specs.Lacks.{entry_at, key_at, lack_of, found_all}
+use Rattle.tape_run.specs.Lacks.{entry_at, key_at, good_end, lack_of, found_all}
 use Rattle.tape_run.specs.SurveyFiles.{Filed, note_at, file_key, any_differs, any_lost, any_misfit}
 use Rattle.tape_run.specs.SurveyFiles.{flaw_of, flaw_section}
 use Rattle.tape_run.specs.declared.survey.fits.{Flaw.Flaw, Flaw.TheVariants.Lost}
@@ -140,10 +140,32 @@ abbrev pub set_line : List ℕ → ℕ → ℕ → List ℕ
 set_line set_id complete files = codes "Set " ++ (trimmed_text set_id ++ (codes ": "
     ++ (decimal complete ++ (codes " of " ++ (decimal files ++ codes " files complete\n")))))
 
--- the line of a section, if the section is damaged and its file is complete without it
+-- it is known that this section ends its file
+abbrev pub is_known_end : Option Bool → Bool
+is_known_end None = false
+is_known_end (Some end) = end
+
+-- whether one of these sections of a file, n from this one on, is good and ends the file
+abbrev pub ends_among : List Told → List ℕ → ℕ → ℕ → ℕ → Bool
+ends_among c set_id file sect zero = false
+ends_among c set_id file sect (suc n) =
+    is_known_end (good_end (entry_at c (key_at set_id file sect)))
+    || ends_among c set_id file (sect + 1) n
+
+-- whether a good section with a lower number ends the file of a section
+abbrev pub follows_end : List Told → Told → Bool
+follows_end c t = ends_among c t.0.set_id t.0.file 0 t.0.sect
+
+-- none of these sections follows the end of its file
+abbrev pub none_follows : List Told → List Told → Bool
+none_follows c [] = true
+none_follows c (t ∷ ts) = not (follows_end c t) && none_follows c ts
+
+-- the line of a section, if its file is complete without it, and it is damaged or follows the end
 abbrev pub stray_text : List Told → Told → List ℕ
 stray_text c t =
-    if is_good t.1.state || not (is_whole_file c t.0.set_id t.0.file) then []
+    if (is_good t.1.state && not (follows_end c t)) || not (is_whole_file c t.0.set_id t.0.file)
+    then []
     else trimmed_text t.0.set_id ++ (codes " file " ++ (decimal t.0.file ++ (codes " section "
     ++ (decimal t.0.sect ++ (codes " " ++ (damage_text t.1.state ++ (codes " on "
     ++ (trimmed_text t.1.volume ++ codes ": the file ends before it\n"))))))))
@@ -163,9 +185,9 @@ abbrev pub is_flawless : List Filed → Bool
 is_flawless fs = not (any_lost fs) && not (any_misfit fs)
 
 -- Nothing is missing, and everything was read: all images are complete, each file that was found is
--- complete, each section has a good copy, no two files were found under one number, no good copies
--- differ, no second label is lost, and each block is in its format.
+-- complete, each section has a good copy, none follows the end of its file, no two files were found
+-- under one number, no good copies differ, no second label is lost, and each block is in its format.
 abbrev pub is_all : Found → Bool
 is_all d = d.whole && (found_all d.sections && (all_good d.sections
     && (not (any_differs d.files.notes) && (is_agreed d.copies.conflicts
-    && is_flawless d.files.notes))))
+    && (is_flawless d.files.notes && none_follows d.sections d.sections)))))

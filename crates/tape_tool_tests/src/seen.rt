@@ -69,6 +69,10 @@ const CALLS: &str = "
     >         section 2 missing, after volume ABC001
     > 2 images: 1 ok, 1 not opened
     ? lost.tap? seen1.tap
+    # A section after the one that ends its file.
+    worked seen_whole.tap
+    3: survey seen_whole.tap seen2.tap
+    | ABC001 file 1 section 2 is good on ABC002: the file ends before it
     # No image is opened after the one that completes the file. The directory is opened to be
     # synced.
     $ extract ABC001 1 seen.txt lost.tap seen1.tap seen2.tap seen1.tap

@@ -15,6 +15,7 @@ use super::fits::{Flaw, any_misfit, flaw_of};
 use super::glance::one_if;
 use super::problems::{add_problems, before_of};
 use super::rows::{file_cells, form_cells};
+use super::strays::none_follows;
 use super::view::Findings;
 use crate::lacks::lack_of;
 use crate::report::{found_all, sets_of};
@@ -306,5 +307,6 @@ pub(crate) fn is_all(findings: &Findings) -> Result<bool, AllocError>
     let one_file = !any_differs(&findings.files.notes);
     let agreed = findings.copies.conflicts.is_empty();
     let flawless = is_flawless(&findings.files.notes);
-    Ok(findings.whole && found && good && one_file && agreed && flawless)
+    let within = none_follows(&findings.sections);
+    Ok(findings.whole && found && good && one_file && agreed && flawless && within)
 }

@@ -112,7 +112,7 @@ pub const TOO_MANY_TO_COMPARE: &str =
   tape compare --files-from LIST";
 
 pub const ONE_READING: &str =
-    "at least two readings of the tape are needed; 'merge' takes OUT before them";
+    "name at least two readings of the tape ('merge' takes OUT before them)";
 
 // Also for `salvage`: its OUT is a new file, too.
 pub const MERGED_OUT_IS_DASH: &str =
