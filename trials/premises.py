@@ -111,7 +111,6 @@ IMAGES = {
 }
 
 WARNING = "extract without --again prints no warning if a reel differs from the data recovered before it"
-SECTIONS = "salvage does not compare the labels of the sections of a file"
 SCENES = f"""
 ## unpack: a lost mark, then a good copy alone
 3 unpack u lost.tap
@@ -316,17 +315,31 @@ not yet {WARNING}
 0 extract ABC001 1 out over.tap --stage st
 ! warning
 ## salvage: the sections of two files under one number
-not yet {SECTIONS}
 3 salvage ABC001 1 out p1.tap p2.tap
+> LABELS DIFFER 2 2 1
+> SALVAGED 20
 ## salvage: trailer labels in the place of data
-not yet the blocks of a section may be trailer labels
 3 salvage ABC001 1 out lost2.tap
+> GAP 1 3 - 3
+> UNSURE 1 3 4
 = out cards
+3 salvage ABC001 1 out2 lost.tap
+> GAP 1 0 - 0
+> UNSURE 1 0 1
 ## salvage: copies of one section in other blocks, and of two sets
 0 salvage ABC001 1 out x.tap y.tap
 = out forty
 0 salvage ABC001 1 out2 w1.tap w2.tap
 = out2 week2
+## salvage: a trailer label of another file
+3 salvage ABC001 1 out over.tap
+> LABELS DIFFER 1 1 1
+> SALVAGED 20
+## salvage: a first section of one set, and a second section of another
+3 salvage ABC001 1 out m1.tap m2.tap m2other.tap
+> CONFLICT 2 2 3
+0 salvage ABC001 1 out2 m1.tap m2.tap
+= out2 forty
 """
 
 

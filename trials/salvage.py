@@ -42,24 +42,37 @@ UNREADABLE = struct.pack("<I", 1 << 31 | 1) + b"\0\0" + struct.pack("<I", 1 << 3
 
 # ---- reading an image
 
-def items_of(image):
-    """The items of an image: a block's bytes, MARK or BAD. They end at the end marker, or at the first fault."""
+def reading_of(image):
+    """The items of an image: a block's bytes, MARK or BAD; and None, or the number and the offset of the fault at which
+    they end."""
     found, at = [], 0
-    while at + 4 <= len(image):
-        head = struct.unpack_from("<I", image, at)[0]
+    while at < len(image):
+        word_at = image[at:at + 4]
+        if len(word_at) < 4:
+            return found, (1, at)
+        head = struct.unpack("<I", word_at)[0]
         if head == 0xFFFFFFFF:
-            break
+            return found, None
         if head == 0:
             found.append(MARK)
             at += 4
             continue
         size = head & 0xFFFFFF
+        if head >> 24 not in (0, 0x80) or size == 0:
+            return found, (3, at)
         end = at + 4 + size + size % 2
-        if image[end:end + 4] != struct.pack("<I", head):
-            break
+        if end + 4 > len(image):
+            return found, (1, at)
+        if image[end:end + 4] != word_at:
+            return found, (2, at)
         found.append(BAD if head >> 31 else image[at + 4:at + 4 + size])
         at = end + 4
-    return found
+    return found, None
+
+
+def items_of(image):
+    """The items of an image. They end at the end marker, or at a fault."""
+    return reading_of(image)[0]
 
 
 def is_block(item):
@@ -77,7 +90,10 @@ def first_label(item, names):
     section, file, count = digits(item[27:31]), digits(item[31:35]), digits(item[54:60])
     if not section or not file or count is None:
         return None
-    return {"name": item[:4], "set": item[21:27], "section": section, "file": file, "count": count}
+    return {
+        "name": item[:4], "set": item[21:27], "section": section, "file": file, "count": count,
+        "identifier": item[4:21], "written": (item[41:47], item[35:39]),
+    }
 
 
 def form_in(item, names=(b"HDR2",)):
@@ -101,7 +117,21 @@ class Section:
         self.is_without_second = False
 
     def believed(self):
-        return len(self.data) if self.closing or self.doubt is None else self.doubt
+        if self.closing:
+            return len(self.data)
+        labels = [first_label(item, (b"EOF1", b"EOV1")) for item in self.data]
+        own = (self.head["section"], self.head["file"])
+        trailers = [at for at, it in enumerate(labels) if it and (it["section"], it["file"]) == own]
+        return min([len(self.data), *trailers[:1], *([] if self.doubt is None else [self.doubt])])
+
+    def recording(self):
+        return self.head["identifier"], self.head["written"]
+
+    def is_named(self):
+        return not self.closing or all(self.closing[it] == self.head[it] for it in ("identifier", "written"))
+
+    def labels(self, known):
+        return self.head["identifier"], self.form or known
 
     def miscount(self):
         counted = self.closing and self.closing["count"] != len(self.data) % 1_000_000
@@ -300,6 +330,9 @@ def recovered(images, set_id, file, blocks):
         if image is None:
             made.lines.append(f"IMAGE {number + 1} NOT OPENED")
             continue
+        fault = reading_of(image)[1]
+        if fault:
+            made.lines.append(f"IMAGE {number + 1} FAULT {fault[0]} {fault[1]}")
         own = {}
         for section in sections_on(items_of(image), number):
             if (section.head["set"], section.head["file"]) == (set_id.ljust(6).encode(), file):
@@ -316,9 +349,16 @@ def recovered(images, set_id, file, blocks):
         firsts = [it for it in copies if hasattr(it, "is_first")]
         bests[number] = max(firsts, key=lambda it: (it.rank(), -it.image), default=None)
         for copy in copies:
-            if copy.is_complete() and bests[number].is_complete() and copy.data != bests[number].data:
-                made.lines.append(f"CONFLICT {number} {bests[number].image + 1} {copy.image + 1}")
+            best = bests[number]
+            is_other = copy.is_complete() and best.is_complete() and copy.data != best.data
+            if is_other or last > 1 and copy.recording() != best.recording():
+                made.lines.append(f"CONFLICT {number} {best.image + 1} {copy.image + 1}")
                 made.missing = True
+        first = next((bests[it] for it in range(1, number + 1) if bests[it]), None)
+        best = bests[number]
+        if first and best and (best.labels(known) != first.labels(known) or not best.is_named()):
+            made.lines.append(f"LABELS DIFFER {number} {best.image + 1} {first.image + 1}")
+            made.missing = True
     for number in range(1, last + 1):
         copy = bests[number]
         goes_on = False
@@ -465,6 +505,7 @@ def check_unpacked(trial, set_id, images, names):
     folder.mkdir()
     for _ in range(2):
         lines = trial.run("unpack", "unpacked", *names, "--salvage").stdout.decode().splitlines()
+        lines = [line for line in lines if " SECTION DIFFERS " not in line]
         found = {path.name for path in folder.iterdir() if path.suffix in (".salvaged", ".gaps")}
         for line, second in zip(lines, lines[1:] + [""]):
             # A set identifier has six characters, of which the last ones may be spaces.

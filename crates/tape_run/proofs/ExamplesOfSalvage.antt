@@ -27,9 +27,19 @@ first_is_best a b (Some c) same (x ∷ y ∷ front, rest, is, less, most) =
     let m = length-append front (c ∷ rest) in
     absurd (omega (arith, n, m))
 
+-- the only copy is the best
+only_is_best : (a : SectionCopy) (o : Option SectionCopy) → IsBest (a ∷ []) o → o ≡ Some a
+only_is_best a None best = absurd (cc best)
+only_is_best a (Some c) ([], rest, is, less, most) =
+    let h : a ≡ c = cc is in ap (λ (x : SectionCopy). Some x) (sym h)
+only_is_best a (Some c) (x ∷ front, rest, is, less, most) =
+    let n = ap length is in
+    let m = length-append front (c ∷ rest) in
+    absurd (omega (arith, n, m))
+
 cases_of_conflicts : CasesOfConflicts
 unfolding digits
-cases_of_conflicts = grind (arith, first_is_best)
+cases_of_conflicts = grind (arith, first_is_best, only_is_best)
 
 -- a run of unreadable items is not split, and its items are not readable
 not_readable : IsReadable bad → ⊥

@@ -196,6 +196,7 @@ module _ (set : FileSet) (file : ℕ) (all : List (Option Reading)) (copies : Li
         image = c.image;
         section = u;
         count = k.count;
+        named = k.named;
         items = a.read;
         is = ap (λ (x : Option SectionCopy). record { copy = x; items = t.items })
             (is ∙ ap (λ (x : SectionCopy). Some x) g.copy)
@@ -244,7 +245,11 @@ module _ (set : FileSet) (file : ℕ) (all : List (Option Reading)) (copies : Li
       let adds = taken_adds set.set_id (length set.volumes) known form x.closing.eof t x.section g
       from in
       let eof : x.closing.eof ≡ ends_file w = x.eof ∙ ap (λ (q : Placed). ends_file q.section) p in
-      let k : Closing = record { eof = x.closing.eof; count = from.count } in
+      let k : Closing = record {
+        eof = x.closing.eof;
+        count = from.count;
+        named = from.named;
+      } in
       let made = ap (λ (z : Taken). end_of_taken Records known z.copy z.items) from.is in
       record {
         step = record {

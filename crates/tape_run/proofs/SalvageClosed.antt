@@ -26,6 +26,7 @@ use Rattle.tape_run.proofs.SalvageLater.{PAt, all_found, either}
 use Rattle.tape_run.proofs.SalvageComing.{all_counted, is_own, HeadersTo, Open, Comes, further}
 use Rattle.tape_run.proofs.SalvageComing.{with_label, some_first, with_doubt, at_mark, not_bad}
 use Rattle.tape_run.proofs.SalvageComing.{at_data_mark}
+use Rattle.tape_run.specs.SalvageWalk.{closing_of}
 
 -- HDR1 begins a section
 begin_here : (b : List ℕ) (h : Head1) (xs : List TapeItem) (v : OpenSection) (k : Closing)
@@ -116,7 +117,7 @@ trailer_item u b (Ok t) xs v k is none h = chosen (closes u t) refl h
   where
     chosen : (c : Bool) → closes u t ≡ c
         → IsClosedIn xs v k ⊎ Open (if c
-        then (Trailers u (record { eof = t.eof; count = t.blocks }), None)
+        then (Trailers u (closing_of u t), None)
         else unclosed_by u (head1_at b)).0 xs v k
         → IsClosedIn (block b ∷ xs) v k ⊎ Open (Trailer u) (block b ∷ xs) v k
     chosen false e h = inl (begun b (head1_at b) (Outside 0) xs v k refl (λ o. o) h)
@@ -132,7 +133,7 @@ trailer_item u b (Ok t) xs v k is none h = chosen (closes u t) refl h
       same_blocks = o.blocks;
       same_digest = o.digest;
       same_certain = o.certain;
-      closing = o.closing;
+      closing = (ap (λ (z : Closing). z.eof) o.closing, ap (λ (z : Closing). z.count) o.closing);
     })
 
 -- a block in place of the trailer label of a section without HDR1
@@ -144,7 +145,7 @@ unnamed_item r b (Err f) xs v k none h = begun b _ _ _ _ _ refl (λ o. o) h
 unnamed_item r b (Ok t) xs v k none h = chosen (t.blocks == label_count r.items) h
   where
     chosen : (c : Bool) → IsClosedIn xs v k ⊎ Open (if c
-        then Trailers (named_by r t) (record { eof = t.eof; count = t.blocks })
+        then Trailers (named_by r t) (closing_of (named_by r t) t)
         else begun_by (head1_at b) (Unnamed one_read)) xs v k → IsClosedIn (block b ∷ xs) v k
     chosen false h = begun b (head1_at b) (Unnamed one_read) xs v k refl (λ o. o) h
     chosen true (inl h) = further (block b) xs v k h

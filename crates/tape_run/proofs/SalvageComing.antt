@@ -11,6 +11,7 @@ use Rattle.tape_run.specs.declared.salvage.walk.Expected.{Expected}
 use Rattle.tape_run.specs.declared.section.SectionKey.{SectionKey}
 use Rattle.tape_run.specs.declared.salvage.walk.Expected.TheVariants.{Trailer, Trailers, Skipping}
 use Rattle.tape_run.specs.SalvageClosed.{IsNoMark, digest_items, IsClosedIn}
+use Rattle.tape_run.specs.SalvageClosed.{EndsBy}
 
 -- the number of blocks after these items
 abbrev pub counted : ℕ → List TapeItem → ℕ
@@ -51,7 +52,7 @@ pub record TrailerTo (key : SectionKey) (blocks digest : ℕ) (certain : Option 
   pub same_blocks : v.blocks ≡ blocks
   pub same_digest : v.digest ≡ digest
   pub same_certain : v.certain ≡ certain
-  pub closing : k ≡ record { eof = trail.eof; count = trail.blocks }
+  pub closing : EndsBy trail k
 
 -- its data come next
 pub record DataTo (key : SectionKey) (blocks digest : ℕ) (certain : Option ℕ) (xs : List TapeItem)
@@ -68,7 +69,7 @@ pub record DataTo (key : SectionKey) (blocks digest : ℕ) (certain : Option ℕ
   pub all_blocks : v.blocks ≡ counted blocks data_items
   pub all_digest : v.digest ≡ digest_items digest data_items
   pub readable : v.certain ≡ None → (certain ≡ None) × AllByRecursion IsReadable data_items
-  pub closing : k ≡ record { eof = trail.eof; count = trail.blocks }
+  pub closing : EndsBy trail k
 
 -- labels come next
 pub record HeadersTo (key : SectionKey) (blocks digest : ℕ) (certain : Option ℕ)

@@ -297,7 +297,7 @@ module _ (set_id : List ℕ) where
               (mark ∷ (read_blocks r.blocks ++ (mark ∷ end))));
           blocks = omega (arith, b, many, n, few);
           digest = c.digest ∙ ap (digest_items 0) exact;
-          count = ap (λ (z : Closing). z.count) c.closing
+          count = c.closing.1
               ∙ ap (λ (z : Trail1). z.blocks) (sym trails) ∙ label.count ∙ ap label_count (sym n);
         }
 

@@ -85,7 +85,7 @@ pub taken_adds : (set_id : List ℕ) (volumes : ℕ) (known : Option FileForm) (
     → Adds form eof g (after_taken Records known t.copy t.items g) r.blocks
 taken_adds set_id volumes known form eof t r g x =
     let u = x.section in
-    let closed : Closing = record { eof = eof; count = x.count } in
+    let closed : Closing = record { eof = eof; count = x.count; named = x.named } in
     let c = closed_copy x.image u closed in
     let o = Outside 0 in
     let s = salvaged_from u.key u.blocks (Some form) o g x.items in

@@ -147,10 +147,11 @@ found_are_exact set file n (None ∷ reels) old copies text l plain (image, imag
 found_are_exact set file n (Some None ∷ reels) old copies text l plain (image, images) finds all =
     absurd image
 found_are_exact set file n (Some (Some bytes) ∷ reels) old copies text l plain
-    ((xs, end, stop, begins, copy), images) (mid, one, rest, (after, found, said), finds, is) all =
+    ((xs, end, stop, begins, copy), images)
+    (mid, one, rest, (after, why, found, said), finds, is) all =
     let (ys, there, stops) =
-    IfKnown-at (Some bytes) after (StopsBehind found.items found.stop) bytes refl found.read in
-    let (more, splits) = stops_front found.items xs found.stop bytes ys end stop stops begins in
+    IfKnown-at (Some bytes) after (StopsBehind found.items why) bytes refl found.read in
+    let (more, splits) = stops_front found.items xs why bytes ys end stop stops begins in
     found_are_exact set file (n + 1) reels mid copies rest l plain images finds
     (subst (AllByRecursion (IsExactIf set)) (sym found.seen)
     (every-append (IsExactIf set) old (of_file set.set_id file n (sections_in found.items)) all

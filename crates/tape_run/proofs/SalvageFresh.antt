@@ -22,6 +22,7 @@ use Rattle.tape_run.specs.SalvageWalk.{step, begun_by, closed_by, unnamed_by, go
 use Rattle.tape_run.specs.SalvageWalk.{unnamed_after, one_read, closes, named_by, unclosed_by}
 use Rattle.tape_run.specs.SalvageImage.{is_in, read_in}
 use Rattle.tape_run.proofs.SalvageOpened.{second_is}
+use Rattle.tape_run.specs.SalvageWalk.{closing_of}
 
 -- ---- a section whose data have not begun
 
@@ -73,7 +74,7 @@ module _ (key : SectionKey) where
   closed u (Ok t) h = chosen (closes u t)
     where
       chosen : (b : Bool) → Begins (if b
-          then (Trailers u (record { eof = t.eof; count = t.blocks }), None)
+          then (Trailers u (closing_of u t), None)
           else unclosed_by u h).0
       chosen true = (tt, refl)
       chosen false = begun h (Outside 0) (tt, refl)
@@ -82,7 +83,7 @@ module _ (key : SectionKey) where
       → Begins (unnamed_by r l h)
   named r (Err f) h = begun h (Unnamed one_read) (tt, refl)
   named r (Ok t) h = either (t.blocks == label_count r.items)
-      (Trailers (named_by r t) (record { eof = t.eof; count = t.blocks }))
+      (Trailers (named_by r t) (closing_of (named_by r t) t))
       (begun_by h (Unnamed one_read)) (tt, refl) (begun h (Unnamed one_read) (tt, refl))
 
   -- after an item that is not a data item of this section

@@ -91,15 +91,15 @@ not_opened size gives remaining task shelf now left number copies said w within 
 -- the next image was opened, but not searched, or its line was not written completely
 pub stops_at : {L R : Type 0} (size : L → ℕ) (gives : Mounting L R)
     (remaining : R → Option (List ℕ)) (task : SalvageTask) (shelf now next : L) (number : ℕ)
-    (image : Option R) (mid : List SectionCopy) (said w says : Option (List ℕ))
+    (image : Option R) (mid new : List SectionCopy) (said w says : Option (List ℕ))
     → number < size shelf
     → FoundSoFar gives remaining task.set_id task.file shelf now number mid said w
     → gives now number image next
     → (says ≡ w) ⊎ ((text : List ℕ)
-    × FindsOn task.set_id task.file number (option_map remaining image) mid mid text
+    × FindsOn task.set_id task.file number (option_map remaining image) mid new text
     × AppendsFront w says text)
     → StopsSalvage size gives remaining task shelf next said says
-stops_at size gives remaining task shelf now next number image mid said w says within s gave
+stops_at size gives remaining task shelf now next number image mid new said w says within s gave
     (inl same) = record {
       reels = s.reels;
       middle = now;
@@ -115,7 +115,7 @@ stops_at size gives remaining task shelf now next number image mid said w says w
         (image, subst (λ n. gives now n image next) (sym s.counted) gave),
       ));
     }
-stops_at size gives remaining task shelf now next number image mid said w says within s gave
+stops_at size gives remaining task shelf now next number image mid new said w says within s gave
     (inr (text, f, part)) =
     let reel = option_map remaining image in
     let at : number ≡ 0 + length s.reels = omega (arith, s.counted) in
@@ -125,10 +125,10 @@ stops_at size gives remaining task shelf now next number image mid said w says w
       middle = next;
       mounted = one_mounted gives (IsReel remaining) shelf 0 s.reels now reel image next s.mounted
           (subst (λ n. gives now n image next) at gave) refl;
-      copies = mid;
+      copies = new;
       found = s.text ++ text;
-      finds = found_more task.set_id task.file 0 s.reels reel [] mid mid s.text text s.finds
-          (subst (λ n. FindsOn task.set_id task.file n reel mid mid text) at f);
+      finds = found_more task.set_id task.file 0 s.reels reel [] mid new s.text text s.finds
+          (subst (λ n. FindsOn task.set_id task.file n reel mid new text) at f);
       more = [];
       wrote = front_then said w says s.text text [] ((s.text ++ text) ++ []) s.wrote part refl;
       stops = inl (refl, refl, omega (arith, many, s.counted, within));

@@ -15,6 +15,7 @@ use Rattle.tape_run.specs.declared.salvage.walk.Expected.TheVariants.{UnnamedTra
 use Rattle.tape_run.specs.SalvageWalk.{step, expected_after, closed_by, closes, found_from, in_list}
 use Rattle.tape_run.specs.SalvageWalk.{FoundAt, FoundSection, one_further, open_section, read_after}
 use Rattle.tape_run.specs.SalvageWalk.{sections_in, unclosed_by}
+use Rattle.tape_run.specs.SalvageWalk.{closing_of}
 
 -- parts of a section that was found
 abbrev is_closed : Option FoundSection → Bool
@@ -40,7 +41,7 @@ no_end : (u : OpenSection) (r : Result Trail1 LabelFault) (h : Result Head1 Labe
 no_end u (Err f) h v k e = absurd (not_closed _ v k e refl)
 no_end u (Ok t) h v k e = chosen (closes u t) e
   where
-    chosen : (c : Bool) → (if c then (Trailers u (record { eof = t.eof; count = t.blocks }), None)
+    chosen : (c : Bool) → (if c then (Trailers u (closing_of u t), None)
         else unclosed_by u h).1 ≡ Some (v, Some k) → ⊥
     chosen true e = absurd (not_closed _ v k e refl)
     chosen false e = absurd (not_closed _ v k e refl)

@@ -8,7 +8,7 @@ use Rattle.tape_label.specs.declared.label.LabelFault.{LabelFault}
 use Rattle.tape_label.specs.Reading.{head1_at, wide_head2_at, trail1_at}
 use Rattle.tape_label.specs.declared.values.Kind.TheVariants as kinds
 use Rattle.tape_set.specs.Lawful.{FileForm}
-use Rattle.tape_run.specs.declared.salvage.walk.{OpenSection.OpenSection, Closing.Closing}
+use Rattle.tape_run.specs.declared.salvage.walk.{OpenSection.OpenSection}
 use Rattle.tape_run.specs.declared.salvage.walk.Expected.{Expected}
 use Rattle.tape_run.specs.declared.section.SectionKey.{SectionKey}
 use Rattle.tape_run.specs.declared.salvage.walk.Expected.TheVariants.{Outside, Second, Headers}
@@ -20,6 +20,7 @@ use Rattle.tape_run.specs.SalvageWalk.{form_or}
 use Rattle.tape_run.specs.SalvageWhole.{Blocks, not_read}
 use Rattle.tape_run.specs.SalvageSections.{Labels, filled_of, MayBegin, after_trailers}
 use Rattle.tape_run.proofs.SalvageComing.{some_first}
+use Rattle.tape_run.specs.SalvageWalk.{closing_of}
 
 -- ---- labels
 
@@ -78,14 +79,11 @@ closes_it u t s f =
     let b : (t.head.sequence == u.key.file) ≡ true = grind (arith, nat_tests) in
     rw (a, b) refl
 
-abbrev pub closed_of : Trail1 → Closing
-closed_of t = record { eof = t.eof; count = t.blocks }
-
 pub trailer_step : (u : OpenSection) (b : List ℕ) (t : Trail1) → trail1_at b ≡ Ok t
-    → closes u t ≡ true → step (Trailer u) (block b) ≡ (Trailers u (closed_of t), None)
+    → closes u t ≡ true → step (Trailer u) (block b) ≡ (Trailers u (closing_of u t), None)
 trailer_step u b t is closed =
     ap (λ (r : Result Trail1 LabelFault). closed_by u r (head1_at b)) is
-    ∙ ap (λ (c : Bool). (if c then (Trailers u (closed_of t), None)
+    ∙ ap (λ (c : Bool). (if c then (Trailers u (closing_of u t), None)
     else unclosed_by u (head1_at b))) closed
 
 pub key_is : (h : Head1) (set_id : List ℕ) (file sect : ℕ) → h.set_id ≡ set_id → h.sequence ≡ file

@@ -7,7 +7,7 @@ use Rattle.tape_image.specs.declared.item.{Ending.Ending, ImageFault.ImageFault}
 use Rattle.tape_image.proofs.Walks.{known_start, known_item, known_end, known_fault, IfKnown-map}
 use Rattle.tape_run.specs.declared.salvage.walk.{Expected.Expected, Expected.TheVariants.Outside}
 use Rattle.tape_run.specs.declared.salvage.copies.SectionCopy.{SectionCopy}
-use Rattle.tape_run.specs.declared.section.ImageStop.TheVariants.{Fault}
+use Rattle.tape_run.specs.declared.section.ImageStop.{ImageStop, TheVariants.Fault}
 use Rattle.tape_run.specs.Added.{StopsBehind, stop_at}
 use Rattle.tape_run.proofs.{NotedSoFar.by_ending, SalvagedSoFar.expected_after-append}
 use Rattle.tape_run.proofs.SalvageFound.{found_from-append}
@@ -105,24 +105,25 @@ module _ (set_id : List ℕ) (file image : ℕ) where
       (read : ℕ) (old mid new : List SectionCopy) → SoFar all left p expected read old mid
       → IfKnown left next (TakesEnd p [] ending q)
       → new ≡ mid ++ its (in_list read (open_section expected))
-      → FindsCopies all next set_id file image old new
-  at_end all left next p q ending expected read old mid new s takes n = record {
-    items = s.items;
-    stop = stop_at ending;
-    read = IfKnown-map all next (TakesEnd 0 s.items ending q) (StopsBehind s.items (stop_at ending))
-        (by_ending s.items ending q) (known_end all left next 0 p q s.items ending s.known takes);
-    seen = all_seen all left p expected read old mid new s n;
-  }
+      → (stop : ImageStop) → stop ≡ stop_at ending
+      → FindsCopies all next set_id file image stop old new
+  at_end all left next p q ending expected read old mid new s takes n stop at =
+      subst (λ z. FindsCopies all next set_id file image z old new) (sym at) (record {
+        items = s.items;
+        read = IfKnown-map all next (TakesEnd 0 s.items ending q)
+            (StopsBehind s.items (stop_at ending)) (by_ending s.items ending q)
+            (known_end all left next 0 p q s.items ending s.known takes);
+        seen = all_seen all left p expected read old mid new s n;
+      })
 
   pub at_fault : (all left next : Option (List ℕ)) (p : ℕ) (fault : ImageFault)
       (expected : Expected) (read : ℕ) (old mid new : List SectionCopy)
       → SoFar all left p expected read old mid
       → IfKnown left next (TakesFault p [] fault)
       → new ≡ mid ++ its (in_list read (open_section expected))
-      → FindsCopies all next set_id file image old new
+      → FindsCopies all next set_id file image (Fault fault) old new
   at_fault all left next p fault expected read old mid new s takes n = record {
     items = s.items;
-    stop = Fault fault;
     read = known_fault all left next 0 p s.items fault s.known takes;
     seen = all_seen all left p expected read old mid new s n;
   }

@@ -22,13 +22,14 @@ use Rattle.tape_run.specs.SalvageSections.{Labels, read_labels, labels_of, read_
 use Rattle.tape_run.specs.SalvageSections.{read_section, AreNoHeads, NoneBegins, IsRead, key_of}
 use Rattle.tape_run.specs.SalvageSections.{MayBegin, after_trailers}
 use Rattle.tape_run.proofs.SalvagedSoFar.{expected_after-append}
-use Rattle.tape_run.proofs.SalvageOpened.{may_begin, second_is, closes_it, closed_of, trailer_step}
+use Rattle.tape_run.proofs.SalvageOpened.{may_begin, second_is, closes_it, trailer_step}
 use Rattle.tape_run.proofs.SalvageOpened.{key_is, headed, same_headed, none_headed, section_after}
 use Rattle.tape_run.proofs.SalvageOpened.{same_section_after, counted, long, trailed, same_trailed}
 use Rattle.tape_run.proofs.SalvageOpened.{counted_trailed, after_headed, form_headed, after_section}
 use Rattle.tape_run.proofs.SalvageOpened.{form_section, after_trailed, form_trailed, unread_headed}
 use Rattle.tape_run.proofs.SalvageOpened.{AllRead, certain_headed, unread_section, certain_section}
 use Rattle.tape_run.proofs.SalvageOpened.{doubt_section, unread_trailed}
+use Rattle.tape_run.specs.SalvageWalk.{closing_of}
 
 -- ---- the walk
 
@@ -239,7 +240,7 @@ module _ {A : Type 0} (act : Expected → A → TapeItem → A) where
       let closed = closes_it w t (trailer.sect ∙ sym (ap (λ (k : SectionKey). k.sect) whose))
       (trailer.file ∙ sym (ap (λ (k : SectionKey). k.file) whose)) in
       let at = trail1_again y.trailer t trailer.label in
-      let k = closed_of t in
+      let k = closing_of w t in
       let z = trailed w r.trailers in
       let d = ends z k in
       let e = after_trailers r.trailers in

@@ -26,6 +26,7 @@ use Rattle.tape_run.specs.SalvageUnnamed.{IsUnnamedIn, IsThereUnnamed, UnnamedAr
 use Rattle.tape_run.proofs.SalvageLater.{PAt, all_found, either}
 use Rattle.tape_run.proofs.SalvageUnnamedComing.{NoHdr1, DataTo, AfterMark, AfterOne, Open, Comes}
 use Rattle.tape_run.proofs.SalvageUnnamedComing.{further, at_mark, with_item, at_trailer}
+use Rattle.tape_run.specs.SalvageWalk.{closing_of}
 
 only : (x : TapeItem) (t : Expected) (xs : List TapeItem) (v : OpenSection) (k : Closing)
     → (Open t xs v k → ⊥) → IsUnnamedIn xs v k ⊎ Open t xs v k → IsUnnamedIn (x ∷ xs) v k
@@ -104,7 +105,7 @@ trailer_item u b (Err f) xs v k h = begun b _ _ _ _ _ refl (λ none o. absurd o)
 trailer_item u b (Ok t) xs v k h = chosen (closes u t) h
   where
     chosen : (c : Bool) → IsUnnamedIn xs v k ⊎ Open (if c
-        then (Trailers u (record { eof = t.eof; count = t.blocks }), None)
+        then (Trailers u (closing_of u t), None)
         else unclosed_by u (head1_at b)).0 xs v k
         → IsUnnamedIn (block b ∷ xs) v k ⊎ NoHdr1 u.after
     chosen false h = begun b (head1_at b) (Outside 0) xs v k refl (λ none o. absurd o) h
@@ -121,7 +122,7 @@ unnamed_item r b (Ok t) xs v k is h = chosen (t.blocks == label_count r.items) r
   where
     chosen : (c : Bool) → (t.blocks == label_count r.items) ≡ c
         → IsUnnamedIn xs v k ⊎ Open (if c
-        then Trailers (named_by r t) (record { eof = t.eof; count = t.blocks })
+        then Trailers (named_by r t) (closing_of (named_by r t) t)
         else begun_by (head1_at b) (Unnamed one_read)) xs v k
         → IsUnnamedIn (block b ∷ xs) v k ⊎ Open (UnnamedTrailer r) (block b ∷ xs) v k
     chosen false e h = begun b (head1_at b) (Unnamed one_read) xs v k refl
@@ -136,7 +137,8 @@ unnamed_item r b (Ok t) xs v k is h = chosen (t.blocks == label_count r.items) r
           is = refl;
           ends = is;
           key = o.key;
-          closing = o.closing;
+          closing =
+              (ap (λ (z : Closing). z.eof) o.closing, ap (λ (z : Closing). z.count) o.closing);
           blocks = o.blocks;
           count = same ∙ ap label_count (sym o.blocks);
         }))

@@ -14,6 +14,7 @@ use Rattle.tape_run.specs.declared.salvage.walk.Expected.{Expected}
 use Rattle.tape_run.specs.declared.salvage.walk.Expected.TheVariants.{UnnamedTrailer}
 use Rattle.tape_run.specs.SalvageUnnamed.{IsNoFirst, IsUnnamedIn}
 use Rattle.tape_run.proofs.SalvageComing.{counted, all_counted}
+use Rattle.tape_run.specs.SalvageClosed.{EndsBy}
 
 -- ---- the items to come
 
@@ -36,7 +37,7 @@ pub record TrailerTo (n : ℕ) (xs : List TapeItem) (v : OpenSection) (k : Closi
   pub is : xs ≡ block trailer ∷ rest
   pub ends : trail1_at trailer ≡ Ok trail
   pub key : v.key ≡ (section_by trail.head).key
-  pub closing : k ≡ record { eof = trail.eof; count = trail.blocks }
+  pub closing : EndsBy trail k
   pub blocks : v.blocks ≡ n
   pub count : trail.blocks ≡ label_count v.blocks
 
@@ -51,7 +52,7 @@ pub record DataTo (n : ℕ) (xs : List TapeItem) (v : OpenSection) (k : Closing)
   pub no_first : AllByRecursion IsNoFirst data_items
   pub ends : trail1_at trailer ≡ Ok trail
   pub key : v.key ≡ (section_by trail.head).key
-  pub closing : k ≡ record { eof = trail.eof; count = trail.blocks }
+  pub closing : EndsBy trail k
   pub blocks : v.blocks ≡ counted n data_items
   pub count : trail.blocks ≡ label_count v.blocks
 

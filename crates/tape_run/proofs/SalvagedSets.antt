@@ -135,9 +135,10 @@ module _ {L R : Type 0} (set : FileSet) (file : ℕ) (set_id : List ℕ) (same :
         later.1,
       )
   copies_are n (r ∷ rs) (Some before ∷ reels) shelf left old new text there count at
-      (image, next, gave, is, mounted) (mid, one, rest, (after, found, said), f, e) (calm, calms) =
+      (image, next, gave, is, mounted) (mid, one, rest, (after, stop, found, said), f, e)
+      (calm, calms) =
       let (img, now_at) = opens n r image shelf next at (here_is n r rs there) gave in
-      let one = opened n r image before after found.items found.stop img is found.read calm in
+      let one = opened n r image before after found.items stop img is found.read calm in
       let later = copies_are (n + 1) rs reels next left mid new rest (later_are n r rs there)
       (omega (arith, count)) now_at mounted f calms in (
         later.0 ∙ ap (λ (l : List SectionCopy). l ++ copies_on set file (n + 1) rs)

@@ -28,10 +28,13 @@ abbrev pub section_with : ℕ → ℕ → ℕ → OpenSection
 section_with sect blocks digest = record {
   key = record { set_id = []; file = 1; sect = sect };
   file_id = [];
+  created = [];
+  generation = [];
   form = None;
   has_no_second = false;
   blocks = blocks;
   certain = None;
+  trailer = None;
   unreadable = 0;
   after = None;
   digest = digest;
@@ -42,7 +45,7 @@ abbrev pub copy_on : ℕ → ℕ → ℕ → ℕ → SectionCopy
 copy_on image sect blocks digest = record {
   image = image;
   section = section_with sect blocks digest;
-  closed = Some (record { eof = true; count = blocks % 1000000 });
+  closed = Some (record { eof = true; count = blocks % 1000000; named = true });
   skip = None;
 }
 
@@ -50,8 +53,12 @@ copy_on image sect blocks digest = record {
 abbrev pub unclosed : SectionCopy → SectionCopy
 unclosed c = record { image = c.image; section = c.section; closed = None; skip = c.skip }
 
--- Complete copies of one section that differ in their number of blocks or their digest conflict; no
--- others do.
+-- the same copy with labels that name another file
+abbrev pub of_other_file : List ℕ → SectionCopy → SectionCopy
+of_other_file file_id c = record c { section = record c.section { file_id = file_id } }
+
+-- Complete copies of one section that differ in their number of blocks or their digest conflict;
+-- sections whose labels name different files are reported.
 pub record CasesOfConflicts : Type 0 where
   -- each section is reported, and none after the last
   pub no_sections : (cs : List SectionCopy) (text : List ℕ) (any : Bool)
@@ -59,6 +66,11 @@ pub record CasesOfConflicts : Type 0 where
   pub one_section : (text : List ℕ) (any : Bool)
       → AreConflicts (copy_on 0 1 2 7 ∷ copy_on 1 1 2 8 ∷ []) 1 text any
       → (text ≡ codes "CONFLICT 1 1 2\n") × (any ≡ true)
+  pub two_files : (text : List ℕ) (any : Bool) → AreConflicts
+      (copy_on 0 1 2 7 ∷ of_other_file (codes "STOCK") (copy_on 1 2 2 8) ∷ []) 2 text any
+      → (text ≡ codes "LABELS DIFFER 2 2 1\n") × (any ≡ true)
+  pub one_file : (text : List ℕ) (any : Bool) → AreConflicts
+      (copy_on 0 1 2 7 ∷ copy_on 1 2 2 8 ∷ []) 2 text any → (text ≡ []) × (any ≡ false)
 
 -- ---- gaps
 

@@ -113,6 +113,7 @@ pub mod SalvageImage
 pub mod SalvageEnds
 pub mod SalvageChoice
 pub mod SalvageTaking
+pub mod SalvageLabels
 pub mod SalvageConflicts
 pub mod SalvageGaps
 pub mod SalvageClosed

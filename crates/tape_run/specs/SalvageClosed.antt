@@ -20,6 +20,10 @@ digest_items d (block b ∷ xs) = digest_items (digest_with d b) xs
 digest_items d (bad ∷ xs) = digest_items d xs
 digest_items d (mark ∷ xs) = digest_items d xs
 
+-- the section ends as its trailer label says
+abbrev pub EndsBy : Trail1 → Closing → Type 0
+EndsBy trail k = (k.eof ≡ trail.eof) × (k.count ≡ trail.blocks)
+
 -- The items contain the section: its HDR1, items other than tape marks, a tape mark, its data, none
 -- of which is a tape mark, a tape mark, and its trailer label. The section has exactly these data,
 -- and if no item was unreadable, all of them are blocks.
@@ -40,7 +44,7 @@ pub record IsClosedIn (items : List TapeItem) (u : OpenSection) (k : Closing) : 
   pub no_data : AllByRecursion IsNoMark data_items
   pub ends : trail1_at trailer ≡ Ok trail
   pub same : ((trail.head.sect == u.key.sect) && (trail.head.sequence == u.key.file)) ≡ true
-  pub closing : k ≡ record { eof = trail.eof; count = trail.blocks }
+  pub closing : EndsBy trail k
   pub blocks : u.blocks ≡ min (length data_items) 4294967295
   pub digest : u.digest ≡ digest_items 0 data_items
   pub readable : u.certain ≡ None → AllByRecursion IsReadable data_items

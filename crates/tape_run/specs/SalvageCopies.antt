@@ -1,5 +1,6 @@
 -- The copies of a file's sections on images, and how much of each is reliable.
-use Rattle.std.specs.Prelude.{◌≡◌, ℕ, ◌+◌, ◌-◌, ◌==◌, ◌&&◌, Bool, if◌then◌else◌, List, [], ◌∷◌}
+use Rattle.std.specs.Prelude.{◌≡◌, ℕ, ◌+◌, ◌-◌, min, ◌==◌, ◌&&◌, Bool, if◌then◌else◌, List, []}
+use Rattle.std.specs.Prelude.{◌∷◌}
 use Rattle.std.specs.Prelude.{◌++◌, Option, Some, None, option_map, is_none, is_some}
 use Rattle.std.specs.Str.{bytes_eq}
 use Rattle.tape_image.specs.{Tape.TapeItem, Reader.IfKnown}
@@ -46,14 +47,18 @@ start_of c = start_by c.skip c.section
     start_by (Some n) u = skipping n (record u { blocks = 0 })
 
 -- the number of data items that are certainly blocks of the section: all if it closes, otherwise
--- those before the first unreadable item after its HDR1
+-- those before the first unreadable item after its HDR1, and before the first that reads as its own
+-- trailer label
 abbrev pub believed : SectionCopy → ℕ
-believed s = believed_by s.closed s.section.certain s.section.blocks
+believed s = believed_by s.closed s.section.certain s.section.trailer s.section.blocks
   where
-    believed_by : {A : Type 0} → Option A → Option ℕ → ℕ → ℕ
-    believed_by (Some closed) certain blocks = blocks
-    believed_by None (Some n) blocks = n
-    believed_by None None blocks = blocks
+    up_to : Option ℕ → ℕ → ℕ
+    up_to (Some n) blocks = n
+    up_to None blocks = blocks
+
+    believed_by : {A : Type 0} → Option A → Option ℕ → Option ℕ → ℕ → ℕ
+    believed_by (Some closed) certain trailer blocks = blocks
+    believed_by None certain trailer blocks = min (up_to trailer blocks) (up_to certain blocks)
 
 -- the count of the trailer label, if that is not the number of the data items
 abbrev pub wrong_count : SectionCopy → Option ℕ
@@ -76,11 +81,10 @@ is_complete s = is_some s.closed && (is_none s.section.certain && is_none (wrong
 abbrev pub rank : SectionCopy → ℕ
 rank s = (if is_complete s then 4294967296 else 0) + blocks_read s
 
--- All items of an image were read, and its sections of the file were appended to those found
--- before.
+-- All items of an image were read up to this stop, and its sections of the file were appended to
+-- those found before.
 pub record FindsCopies (before after : Option (List ℕ)) (set_id : List ℕ) (file image : ℕ)
-    (old new : List SectionCopy) : Type 0 where
+    (stop : ImageStop) (old new : List SectionCopy) : Type 0 where
   pub items : List TapeItem
-  pub stop : ImageStop
   pub read : IfKnown before after (StopsBehind items stop)
   pub seen : new ≡ old ++ of_file set_id file image (sections_in items)

@@ -28,9 +28,10 @@ pub record IsTakenFrom (set_id : List ℕ) (volumes : ℕ) (known : Option FileF
   pub image : ℕ
   pub section : OpenSection
   pub count : ℕ
+  pub named : Bool
   pub items : List TapeItem
   pub is : t ≡ record {
-    copy = Some (closed_copy image section (record { eof = eof; count = count }));
+    copy = Some (closed_copy image section (record { eof = eof; count = count; named = named }));
     items = Some items;
   }
   pub own : same_key (key_of set_id r) section.key ≡ true

@@ -1,5 +1,8 @@
 -- The lines of `salvage`. Numbers are plain decimals.
-use Rattle.std.specs.Prelude.{ℕ, Bool, if◌then◌else◌, List, ◌++◌, codes, decimal}
+use Rattle.std.specs.Prelude.{ℕ, Bool, if◌then◌else◌, List, [], ◌++◌, codes, decimal}
+use Rattle.tape_image.specs.Fault.{number_of}
+use Rattle.tape_run.specs.declared.section.ImageStop.{ImageStop}
+use Rattle.tape_run.specs.declared.section.ImageStop.TheVariants.{Marked, Physical, Fault}
 use Rattle.tape_blocks.specs.{declared.check.BlockFault.BlockFault, Numbers.cause_number}
 
 -- blocks of the section are missing after the given number of records
@@ -52,16 +55,28 @@ unsure_line sect first last = three_numbers (codes "UNSURE ") sect first last
 abbrev pub section_line : ℕ → ℕ → ℕ → List ℕ
 section_line sect image blocks = three_numbers (codes "SECTION ") sect image blocks
 
--- two images, counted from 1, have complete copies of the section with different blocks; the first
--- one is used
+-- two images, counted from 1, have copies of the section that contradict each other; the first one
+-- is used
 abbrev pub conflict_line : ℕ → ℕ → ℕ → List ℕ
 conflict_line sect used other = three_numbers (codes "CONFLICT ") sect used other
+
+-- the best copy of the section, on the first of these images, has not the labels of the file that
+-- begins on the other
+abbrev pub labels_line : ℕ → ℕ → ℕ → List ℕ
+labels_line sect used other = three_numbers (codes "LABELS DIFFER ") sect used other
 
 -- the last line
 abbrev pub last_line : Bool → ℕ → List ℕ
 last_line whole records =
     (if whole then codes "COMPLETE" else codes "SALVAGED")
     ++ (codes " " ++ (decimal records ++ codes "\n"))
+
+-- the image could not be read to its end, because of a fault, which has a number and a byte offset
+abbrev pub stopped_line : ℕ → ImageStop → List ℕ
+stopped_line number Marked = []
+stopped_line number Physical = []
+stopped_line number (Fault fault) = codes "IMAGE " ++ (decimal number ++ (codes " FAULT "
+    ++ (decimal (number_of fault.cause) ++ (codes " " ++ (decimal fault.place ++ codes "\n")))))
 
 -- the image could not be opened
 abbrev pub not_opened_line : ℕ → List ℕ

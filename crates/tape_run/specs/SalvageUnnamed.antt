@@ -7,6 +7,7 @@ use Rattle.tape_set.specs.Lawful.{label_count}
 use Rattle.tape_run.specs.{declared.salvage.walk.OpenSection.OpenSection, SalvageSections.IsNoHead}
 use Rattle.tape_run.specs.{declared.salvage.walk.Closing.Closing, SalvageClosed.IsNoMark}
 use Rattle.tape_run.specs.SalvageWalk.{FoundAt, section_by, sections_in}
+use Rattle.tape_run.specs.SalvageClosed.{EndsBy}
 
 -- the item does not read as HDR1
 abbrev pub IsNoFirst : TapeItem → Type 0
@@ -28,7 +29,7 @@ pub record IsUnnamedIn (items : List TapeItem) (u : OpenSection) (k : Closing) :
   pub no_first : AllByRecursion IsNoFirst data_items
   pub ends : trail1_at trailer ≡ Ok trail
   pub key : u.key ≡ (section_by trail.head).key
-  pub closing : k ≡ record { eof = trail.eof; count = trail.blocks }
+  pub closing : EndsBy trail k
   pub blocks : u.blocks ≡ min (length data_items) 4294967295
   pub count : trail.blocks ≡ label_count u.blocks
 

@@ -6,7 +6,7 @@
 -- them are its data. If HDR1 was not read, the items between two tape marks are the data of the
 -- section whose trailer label follows, provided that it counts as many blocks.
 use Rattle.std.specs.Prelude.{ℕ, ◌+◌, ◌-◌, min, ◌==◌, ◌&&◌, nat_lt, Bool, true, false, List, []}
-use Rattle.std.specs.Prelude.{if◌then◌else◌}
+use Rattle.std.specs.{Prelude.if◌then◌else◌, Str.bytes_eq}
 use Rattle.std.specs.Prelude.{◌∷◌, ◌++◌, Option, Some, None, option_map, Result, Ok, Err}
 use Rattle.tape_image.specs.Tape.{TapeItem, block, bad, mark}
 use Rattle.tape_label.specs.declared.values.{Kind.Kind, Head1.Head1, Head2.Head2, Trail1.Trail1}
@@ -33,14 +33,36 @@ FoundSection = OpenSection × Option Closing
 abbrev pub with_item : OpenSection → OpenSection
 with_item u = record u { blocks = min (u.blocks + 1) 4294967295 }
 
--- one more data block that was read
-abbrev pub with_data : List ℕ → OpenSection → OpenSection
-with_data b u = record (with_item u) { digest = digest_with u.digest b }
-
 -- the first of these
 abbrev pub first_of : Option ℕ → ℕ → Option ℕ
 first_of None n = Some n
 first_of (Some m) n = Some m
+
+-- it is the trailer label of this section
+abbrev pub closes : OpenSection → Trail1 → Bool
+closes u t = (t.head.sect == u.key.sect) && (t.head.sequence == u.key.file)
+
+-- the trailer label names the file of its HDR1, as the standard requires
+abbrev pub is_named : OpenSection → Trail1 → Bool
+is_named u t = bytes_eq t.head.file_id u.file_id
+    && (bytes_eq t.head.created u.created && bytes_eq t.head.generation u.generation)
+
+-- the end that its trailer label records
+abbrev pub closing_of : OpenSection → Trail1 → Closing
+closing_of u t = record { eof = t.eof; count = t.blocks; named = is_named u t }
+
+-- the number of data items before the first that reads as the section's own trailer label, if the
+-- next one is read like this
+abbrev pub trailer_by : OpenSection → Result Trail1 LabelFault → Option ℕ
+trailer_by u (Ok t) = if closes u t then first_of u.trailer u.blocks else u.trailer
+trailer_by u (Err _) = u.trailer
+
+-- one more data block that was read
+abbrev pub with_data : List ℕ → OpenSection → OpenSection
+with_data b u = record (with_item u) {
+  trailer = trailer_by u (trail1_at b);
+  digest = digest_with u.digest b;
+}
 
 -- an unreadable item
 abbrev pub doubted : OpenSection → OpenSection
@@ -50,19 +72,18 @@ doubted u = record u { certain = first_of u.certain u.blocks }
 abbrev pub with_unreadable : OpenSection → OpenSection
 with_unreadable u = record (doubted u) { unreadable = min (u.unreadable + 1) 4294967295 }
 
--- it is the trailer label of this section
-abbrev pub closes : OpenSection → Trail1 → Bool
-closes u t = (t.head.sect == u.key.sect) && (t.head.sequence == u.key.file)
-
 -- the section whose first label this is
 abbrev pub section_by : Head1 → OpenSection
 section_by h = record {
   key = record { set_id = h.set_id; file = h.sequence; sect = h.sect };
   file_id = h.file_id;
+  created = h.created;
+  generation = h.generation;
   form = None;
   has_no_second = false;
   blocks = 0;
   certain = None;
+  trailer = None;
   unreadable = 0;
   after = None;
   digest = 0;
@@ -116,7 +137,7 @@ abbrev pub closed_by : OpenSection → Result Trail1 LabelFault → Result Head1
     → Expected × Option FoundSection
 closed_by u (Ok t) h =
     if closes u t
-    then (Trailers u (record { eof = t.eof; count = t.blocks }), None)
+    then (Trailers u (closing_of u t), None)
     else unclosed_by u h
 closed_by u (Err _) h = unclosed_by u h
 
@@ -152,7 +173,7 @@ named_by r t = record (section_by t.head) {
 abbrev pub unnamed_by : UnnamedItems → Result Trail1 LabelFault → Result Head1 LabelFault → Expected
 unnamed_by r (Ok t) h =
     if t.blocks == label_count r.items
-    then Trailers (named_by r t) (record { eof = t.eof; count = t.blocks })
+    then Trailers (named_by r t) (closing_of (named_by r t) t)
     else begun_by h (Unnamed one_read)
 unnamed_by r (Err _) h = begun_by h (Unnamed one_read)
 

@@ -53,7 +53,7 @@ abbrev pub NoneFailed : (set_id : List ℕ) (file n : ℕ) (reels : List Reel)
 NoneFailed set_id file n [] old new text found = Unit {0}
 NoneFailed set_id file n (None ∷ reels) old new text found =
     NoneFailed set_id file (n + 1) reels found.0 new found.2 found.4
-NoneFailed set_id file n (Some before ∷ reels) old new text found = IsNoDevice found.3.1.stop
+NoneFailed set_id file n (Some before ∷ reels) old new text found = IsNoDevice found.3.1
     × NoneFailed set_id file (n + 1) reels found.0 new found.2 found.4
 
 -- when a section was read from its best copy: the image was read to the mark after its data

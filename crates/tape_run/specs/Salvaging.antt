@@ -8,17 +8,19 @@ use Rattle.tape_run.specs.declared.salvage.copies.SectionCopy.{SectionCopy}
 use Rattle.tape_run.specs.{Reeling.Mounting, Reeling.AreMounted, Checked.Reel, Checked.IsReel}
 use Rattle.tape_run.specs.{declared.salvage.SalvageTask.SalvageTask, SalvageCopies.FindsCopies}
 use Rattle.tape_run.specs.{SalvageRecords.parts_text, SalvageConflicts.AreConflicts}
-use Rattle.tape_run.specs.SalvageLine.{not_opened_line, last_line}
+use Rattle.tape_run.specs.SalvageLine.{not_opened_line, stopped_line, last_line}
+use Rattle.tape_run.specs.declared.section.ImageStop.{ImageStop}
 use Rattle.tape_run.specs.SalvageBlocks.{Salvaged, none_salvaged}
 use Rattle.tape_run.specs.SalvageChoice.{form_of_file, last_section}
 use Rattle.tape_run.specs.SalvageTaking.{StopsTaking}
 
--- An image was read, and the file's sections on it were found; or it could not be opened, and its
--- line was written.
+-- An image was read, the file's sections on it were found, and its line was written if it stopped
+-- at a fault; or it could not be opened, and its line was written.
 abbrev pub FindsOn : List ℕ → ℕ → ℕ → Reel → List SectionCopy → List SectionCopy → List ℕ → Type 0
 FindsOn set_id file n None old new text = (new ≡ old) × (text ≡ not_opened_line (n + 1))
 FindsOn set_id file n (Some before) old new text =
-    (after : Option (List ℕ)) × FindsCopies before after set_id file n old new × (text ≡ [])
+    (after : Option (List ℕ)) × (stop : ImageStop)
+    × FindsCopies before after set_id file n stop old new × (text ≡ stopped_line (n + 1) stop)
 
 -- the same for images from this number on
 abbrev pub FindsOnAll : List ℕ → ℕ → ℕ → List Reel → List SectionCopy → List SectionCopy → List ℕ

@@ -3,7 +3,7 @@
 ghost use Rattle.std.specs.Prelude.{◌≡◌, ◌<◌, ◌⊎◌, ◌&&◌, not, Bool, Option, Some, List, ℕ, OnOk};
 ghost use Rattle.std.specs.Prelude.{option_map, OnErr, IfOk, IfErr, if◌then◌else◌, codes};
 ghost use Rattle.std.specs.Io.KnownBytes.{Appends};
-ghost use Rattle.tape_run.specs.Checked.{IsCheckFault};
+ghost use Rattle.tape_run.specs.{Checked.IsCheckFault, SalvageLine.stopped_line};
 ghost use Rattle.tape_run.specs.Salvaging.{FindsOn, FindsAll, Salvages, StopsSalvage};
 ghost use Rattle.tape_image.specs.Written.{AppendsFront};
 
@@ -15,16 +15,18 @@ mod image;
 mod mender;
 mod outside;
 mod recovery;
+mod second;
 mod sections;
 mod walk;
 
 use crate::extract::Place;
 use crate::extract::images::ImageSource;
-use crate::fault::{EngineFault, NO_MEMORY};
+use crate::fault::{EngineFault, NO_MEMORY, WriteFailed};
 use crate::salvage::conflicts::report_conflicts;
 use crate::salvage::copies::{SectionCopy, copies_on};
 use crate::salvage::recovery::Recovery;
 use crate::salvage::sections::recover_sections;
+use crate::section::ImageStop;
 use crate::text::{flush, write_line};
 use std::alloc::Global;
 use std::io::{Read, Write};
@@ -54,9 +56,10 @@ pub struct SalvageTask {
 }
 
 /// Recovers the readable parts of a file from images, writes them to `out`, and reports each gap,
-/// and each complete copy of a section that differs from the one that is used. Returns whether
-/// nothing is missing and no copy differs. After everything is written, gives `out` its name, and
-/// reports the last line.
+/// each copy of a section that contradicts the one that is used, and each section whose labels are
+/// not of the file that begins with the first. Returns whether nothing is missing, no copy
+/// contradicts another, and all sections are of one file and have one form. After everything is
+/// written, gives `out` its name, and reports the last line.
 ///
 /// Each image is read twice: once to find the copies of the file's sections on it, and again if a
 /// section is read from it. Allocates a buffer for one image, a row for each copy of a section, and
@@ -149,7 +152,8 @@ fn find_copies<R: Read + Drop, L: ImageSource<R>, P: Write>(
     Ok(copies)
 }
 
-/// Finds the copies of the file's sections on an image, or reports that it could not be opened.
+/// Finds the copies of the file's sections on an image. Reports an image that could not be opened,
+/// or not be read to its end.
 fn find_on<R: Read + Drop, P: Write>(
     alloc: Global,
     task: &SalvageTask,
@@ -164,14 +168,15 @@ fn find_on<R: Read + Drop, P: Write>(
         × Appends (P.contents report.old) (P.contents report.new) text) }
     ensures front { OnErr result ((P.contents report.new ≡ P.contents report.old)
         ⊎ ((text : List ℕ) × FindsOn task.now.set_id task.now.file number
-        (option_map R.remaining image) copies.old.items copies.old.items text
+        (option_map R.remaining image) copies.old.items copies.new.items text
         × AppendsFront (P.contents report.old) (P.contents report.new) text)) }
     ensures fault { IfErr result IsCheckFault }
 {
     match image {
         Some(device) => {
             let mut device = device;
-            copies_on(alloc, &task.set_id, task.file, number, &mut device, copies)
+            let stop = copies_on(alloc, &task.set_id, task.file, number, &mut device, copies)?;
+            Ok(write_stop(report, number + 1, stop)?)
         }
         None => {
             let number = number + 1;
@@ -179,4 +184,21 @@ fn find_on<R: Read + Drop, P: Write>(
             Ok(())
         }
     }
+}
+
+/// Reports that an image could not be read to its end, if it ended with a fault.
+fn write_stop<P: Write>(report: &mut P, number: usize, stop: ImageStop) -> Result<(), WriteFailed>
+    ensures ok { OnOk result (Appends (P.contents report.old) (P.contents report.new)
+        (stopped_line number stop)) }
+    ensures front { OnErr result (AppendsFront (P.contents report.old) (P.contents report.new)
+        (stopped_line number stop)) }
+{
+    if let ImageStop::Fault(fault) = stop {
+        let (cause, place) = (fault.cause.number(), fault.place);
+        return write_line(
+            report,
+            &format_args!("IMAGE {number} FAULT {cause} {place}\n"),
+        );
+    }
+    Ok(())
 }

@@ -53,6 +53,8 @@ mod salvaged;
 #[cfg(test)]
 mod salvaged_formats;
 #[cfg(test)]
+mod salvaged_labels;
+#[cfg(test)]
 mod scripts;
 #[cfg(test)]
 mod sections;

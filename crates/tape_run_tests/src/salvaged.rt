@@ -39,9 +39,9 @@ impl<'a> ImageSource<Failing<'a>> for Twice<'a> {
 
 /// A source of two images.
 #[derive(Drop)]
-struct Both<'a> {
-    first: &'a [u8],
-    second: &'a [u8],
+pub struct Both<'a> {
+    pub first: &'a [u8],
+    pub second: &'a [u8],
 }
 
 impl<'a> ImageSource<Failing<'a>> for Both<'a> {
@@ -180,7 +180,7 @@ fn comes_to(
 }
 
 /// Returns whether `salvage` of these images has this result.
-fn salvages<'a, L: ImageSource<Failing<'a>>>(
+pub fn salvages<'a, L: ImageSource<Failing<'a>>>(
     alloc: Global,
     shelf: &mut L,
     complete: bool,
@@ -239,7 +239,7 @@ fn blocks_unreadable_again(rt: HostRuntime) -> Result<(), Fail> {
             *byte = 128;
         }
     }
-    let lines = "SECTION 1 1 3\nGAP 1 2 2 20\nGAP 1 3 - 20\nSALVAGED 20\n";
+    let lines = "IMAGE 1 FAULT 5 2292\nSECTION 1 1 3\nGAP 1 2 2 20\nGAP 1 3 - 20\nSALVAGED 20\n";
     let (first, second) = (first.bytes.as_slice(), second.bytes.as_slice());
     assert!(rt; comes_to(rt.alloc(), first, second, false, lines, 1620)?);
     Ok(())

@@ -1,6 +1,7 @@
 //! The copies of a file's sections on images, and how much of each is reliable.
 
-ghost use Rattle.std.specs.Prelude.{◌≡◌, ◌++◌, ◌∷◌, max, min, [], List, OnOk, IfErr, None, Some};
+ghost use Rattle.std.specs.Prelude.{◌≡◌, ◌++◌, ◌∷◌, max, min, [], List, OnOk, IfOk, IfErr};
+ghost use Rattle.std.specs.Prelude.{None, Some};
 ghost use Rattle.tape_image.specs.Reader.{going};
 ghost use Rattle.tape_run.specs.SalvageCopies.{FindsCopies, believed, of_file, is_of, wrong_count};
 ghost use Rattle.tape_run.specs.SalvageChoice.{IsBest, firsts};
@@ -10,8 +11,10 @@ ghost use Rattle.tape_run.specs.SalvageChoice.{last_section, form_of_file, recor
 ghost use Rattle.tape_run.specs.SalvageChoice.{absent_form_in};
 ghost use Rattle.tape_run.specs.declared.salvage.copies.SectionCopy.{SectionCopy};
 
+use crate::catalogue::stop_at;
 use crate::fault::{EngineFault, NO_MEMORY};
 use crate::salvage::walk::{Closing, Expected, FoundSection, OpenSection, skipping, step};
+use crate::section::ImageStop;
 use std::alloc::Global;
 use std::io::Read;
 use tape_core::Known;
@@ -34,13 +37,18 @@ pub struct SectionCopy {
 
 impl SectionCopy {
     /// Returns how many of its data items are certainly its blocks: all if it closes, otherwise
-    /// those before the first unreadable item.
+    /// those before the first unreadable item, and before the first that reads as its own trailer
+    /// label.
     pub fn believed(&self) -> u32
         ensures { result ≡ believed self.now }
     {
         match self.closed {
             Some(_) => self.section.blocks,
-            None => self.section.certain.unwrap_or(self.section.blocks),
+            None => {
+                let certain = self.section.certain.unwrap_or(self.section.blocks);
+                let trailer = self.section.trailer.unwrap_or(self.section.blocks);
+                if trailer < certain { trailer } else { certain }
+            }
         }
     }
 
@@ -105,7 +113,8 @@ impl SectionCopy {
     }
 }
 
-/// Finds the sections of a file on an image, and adds them to `copies`.
+/// Finds the sections of a file on an image, and adds them to `copies`. Returns how the image
+/// ended.
 ///
 /// # Errors
 ///
@@ -117,9 +126,9 @@ pub fn copies_on<R: Read>(
     number: usize,
     device: &mut R,
     copies: &mut Vec<SectionCopy>,
-) -> Result<(), EngineFault>
-    ensures ok { OnOk result (FindsCopies (R.remaining device.old) (R.remaining device.new)
-        set_id.now file number copies.old.items copies.new.items) }
+) -> Result<ImageStop, EngineFault>
+    ensures ok { IfOk result (λ stop. FindsCopies (R.remaining device.old)
+        (R.remaining device.new) set_id.now file number stop copies.old.items copies.new.items) }
     ensures fault { IfErr result IsCheckFault }
 {
     let mut image = match ImageReader::new(alloc, device) {
@@ -132,19 +141,19 @@ pub fn copies_on<R: Read>(
     found
 }
 
-/// Finds the sections of a file on an unread image.
+/// Finds the sections of a file on an unread image. Returns how the image ended.
 fn copies_in_items<R: Read>(
     image: &mut ImageReader<'_, R>,
     set_id: &Field<6>,
     file: u16,
     number: usize,
     copies: &mut Vec<SectionCopy>,
-) -> Result<(), EngineFault>
+) -> Result<ImageStop, EngineFault>
     requires going { image.old.status ≡ going }
     requires first { image.old.place ≡ 0 }
     ensures same_device { image.new.device ≡ image.old.device }
-    ensures ok { OnOk result (FindsCopies image.old.left image.new.left set_id.now file number
-        copies.old.items copies.new.items) }
+    ensures ok { IfOk result (λ stop. FindsCopies image.old.left image.new.left set_id.now file
+        number stop copies.old.items copies.new.items) }
     ensures fault { IfErr result IsCheckFault }
 {
     let mut expected = Expected::Outside(0);
@@ -158,9 +167,16 @@ fn copies_in_items<R: Read>(
                 read = read.saturating_add(1);
             }
             Ok(None) => {
-                return add_copy(copies, set_id, file, number, read, expected.open_section());
+                let Some(ending) = image.ending() else {
+                    unreachable!()
+                };
+                add_copy(copies, set_id, file, number, read, expected.open_section())?;
+                return Ok(stop_at(ending));
             }
-            Err(_) => return add_copy(copies, set_id, file, number, read, expected.open_section()),
+            Err(fault) => {
+                add_copy(copies, set_id, file, number, read, expected.open_section())?;
+                return Ok(ImageStop::Fault(fault));
+            }
         }
     }
 }

@@ -4,7 +4,7 @@
 ghost use Rattle.std.specs.Prelude.{◌≡◌, if◌then◌else◌};
 ghost use Rattle.tape_run.specs.SalvageWalk as Walk;
 
-use crate::salvage::walk::{Closing, Expected, OpenSection, UnnamedItems};
+use crate::salvage::walk::{Expected, OpenSection, UnnamedItems};
 use crate::section::SectionKey;
 use tape_label::{Head1, Kind, LabelFault, Trail1};
 use tape_set::label_count;
@@ -20,10 +20,13 @@ fn section_by(head: Head1) -> OpenSection
             sect: head.sect,
         },
         file_id: head.file_id,
+        created: head.created,
+        generation: head.generation,
         form: None,
         has_no_second: false,
         blocks: 0,
         certain: None,
+        trailer: None,
         unreadable: 0,
         after: None,
         digest: 0,
@@ -90,11 +93,7 @@ impl UnnamedItems {
                     after: Some(2),
                     ..section_by(trail.head)
                 };
-                let closed = Closing {
-                    eof: trail.eof,
-                    count: trail.blocks,
-                };
-                Expected::Trailers(section, closed)
+                Expected::Trailers(section, section.closing_of(&trail))
             }
             _ => begun_by(head, Expected::Unnamed(UnnamedItems::one(true))),
         }

@@ -6,13 +6,14 @@ ghost use Rattle.tape_image.specs.{Reader.tape_item, Tape.block, Tape.bad, Tape.
 ghost use Rattle.tape_run.specs.SalvageWalk as Walk;
 
 use crate::salvage::outside::{begun_by, outside_by, unnamed_after};
+use crate::salvage::second::{form_by, second_by};
 use crate::section::SectionKey;
 use crate::survey::digest::digest_with;
 use tape_core::Known;
 use tape_image::Item;
 use tape_label::{
-    Field, Format, Head1, Head2, Kind, LabelFault, Trail1, is_further_header, kind, read_head1,
-    read_trail1, read_wide_head2,
+    Field, Head1, Head2, LabelFault, Trail1, is_further_header, kind, read_head1, read_trail1,
+    read_wide_head2,
 };
 
 /// A section whose first label was read.
@@ -22,6 +23,10 @@ pub struct OpenSection {
     pub key: SectionKey,
     /// The file identifier of its HDR1.
     pub file_id: Field<17>,
+    /// The creation date in its HDR1.
+    pub created: Field<6>,
+    /// The generation number in its HDR1.
+    pub generation: Field<4>,
     /// The form of its blocks in its HDR2 or, if no HDR2 was read, in its EOF2 or EOV2.
     pub form: Option<Known>,
     /// Whether its HDR1 was followed by a tape mark or a further header label: it has no HDR2.
@@ -30,6 +35,8 @@ pub struct OpenSection {
     pub blocks: u32,
     /// The number of data items before the first unreadable item after the section's HDR1.
     pub certain: Option<u32>,
+    /// The number of data items before the first that reads as its own trailer label.
+    pub trailer: Option<u32>,
     /// The number of unreadable data items.
     pub unreadable: u32,
     /// If its HDR1 was not read: how many items follow its data so far.
@@ -84,6 +91,8 @@ pub struct Closing {
     pub eof: bool,
     /// The count of its trailer label: the last six digits.
     pub count: u32,
+    /// Whether its trailer label names the file of its HDR1, its creation date and generation.
+    pub named: bool,
 }
 
 /// A section that ended, and how. `None` means that no trailer label with its numbers was read.
@@ -105,8 +114,24 @@ impl OpenSection {
         ensures { result ≡ Walk.with_data block.now self }
     {
         let digest = digest_with(self.digest, block);
+        let trailer = self.trailer_by(read_trail1(block));
         let counted = self.with_item();
-        OpenSection { digest, ..counted }
+        OpenSection {
+            trailer,
+            digest,
+            ..counted
+        }
+    }
+
+    /// Returns the number of data items before the first that reads as its own trailer label, if
+    /// the next one is read like this.
+    fn trailer_by(&self, read: Result<Trail1, LabelFault>) -> Option<u32>
+        ensures { result ≡ Walk.trailer_by self.now read }
+    {
+        match (self.trailer, read) {
+            (None, Ok(trail)) if self.closes(&trail) => Some(self.blocks),
+            _ => self.trailer,
+        }
     }
 
     /// Records an unreadable item: what follows is reliable only if the section closes.
@@ -165,35 +190,19 @@ impl OpenSection {
     {
         trail.head.sect == self.key.sect && trail.head.sequence == self.key.file
     }
-}
 
-/// Returns the form of the file's blocks that a second label records.
-fn form_by(file_id: Field<17>, read: Result<Head2, LabelFault>) -> Option<Known>
-    ensures { result ≡ Walk.form_by file_id read }
-{
-    match read {
-        Ok(head) => {
-            let rec_len = match head.format {
-                Format::Fixed => head.rec_len,
-                _ => 0,
-            };
-            Known::from_parts(head.format, rec_len, head.offset, file_id)
+    /// Returns the end that its trailer label records.
+    pub fn closing_of(&self, trail: &Trail1) -> Closing
+        ensures { result ≡ Walk.closing_of self.now trail.now }
+    {
+        let head = &trail.head;
+        Closing {
+            eof: trail.eof,
+            count: trail.blocks,
+            named: head.file_id.bytes() == self.file_id.bytes()
+                && head.created.bytes() == self.created.bytes()
+                && head.generation.bytes() == self.generation.bytes(),
         }
-        Err(_) => None,
-    }
-}
-
-/// Returns what is expected after a block in place of a section's second label. Some systems did
-/// not write this label.
-fn second_by(section: OpenSection, kind: Option<Kind>, read: Result<Head2, LabelFault>) -> Expected
-    ensures { result ≡ Walk.second_by section kind read }
-{
-    match kind {
-        Some(Kind::Hdr2) => Expected::Headers(OpenSection {
-            form: form_by(section.file_id, read),
-            ..section
-        }),
-        _ => Expected::Headers(section),
     }
 }
 
@@ -207,11 +216,10 @@ fn closed_by(
 {
     match read {
         Ok(trail) if section.closes(&trail) => {
-            let closed = Closing {
-                eof: trail.eof,
-                count: trail.blocks,
-            };
-            (Expected::Trailers(section, closed), None)
+            (
+                Expected::Trailers(section, section.closing_of(&trail)),
+                None,
+            )
         }
         _ => (begun_by(head, Expected::Outside(0)), Some((section, None))),
     }

@@ -23,5 +23,5 @@ returns-in_err-find_on-clause-front g c =
     omega (arith, c.loop-number-test.true, c.count-number-end.ensures) in
     on_err c.from_residual.result _
     (stops_at g.L.ImageSource.size g.L.ImageSource.gives g.R.Read.remaining c.args.task.now _
-    c.loop-number.images _ c.loop-number.number c.in-Ok.image _ _ _ _ within
+    c.loop-number.images _ c.loop-number.number c.in-Ok.image _ _ _ _ _ within
     c.loop-number.invariant c.in-Ok.ensures.ok c.in_err-find_on.ensures.front)
