@@ -56,6 +56,7 @@ mod ListExamples
 mod PlacedExamples
 mod WithoutOffsets
 mod Reporting
+pub mod ContainerSteps
 pub mod SurveyDigest
 pub mod SurveyCompared
 pub mod SurveyCopies
@@ -64,6 +65,7 @@ pub mod SurveyConflicts
 mod SurveyListed
 pub mod SurveySound
 pub mod SurveyDisputes
+mod SurveyAhead
 mod SurveyLooks
 mod SurveyRead
 mod SurveyOrder

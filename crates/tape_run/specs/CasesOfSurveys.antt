@@ -21,7 +21,7 @@ use Rattle.tape_run.specs.{Added.StopsBehind, SurveyGlance.glance_of, SurveyGlan
 use Rattle.tape_run.specs.SurveyCopies.{copied_in, disputed, disputed_on}
 use Rattle.tape_run.specs.{WideShown.AreHeaders, WideShown.IsSecond, WidePassing.IsNoAbsence}
 use Rattle.tape_run.specs.declared.{met.Met.Met, passing.Phase.TheVariants.Second}
-use Rattle.tape_run.specs.SurveyRead.{Found, nothing_found, IsViewed, AreViewed}
+use Rattle.tape_run.specs.SurveyRead.{Found, nothing_found, IsViewed, AreViewed, IsKindOf}
 
 -- a day of the calendar
 abbrev pub date : ℕ → ℕ → ℕ → Date
@@ -67,6 +67,7 @@ pub record CasesOfSurveys : Type 0 where
       × (d.locations ≡ located_in c.images c.sections c.locations v.1.items)
       × (d.copies ≡ copied_in c.images c.copies v.1.items)
       × (d.whole ≡ (c.whole && is_whole_sight s)) × (d.images ≡ next_image c.images)
+      × IsKindOf before s.kind
   -- the survey that is written describes the images that were read, in their order
   pub surveyed : (y : Wording) (names : List (List ℕ)) (shelf left : Readers) (old new : Known)
       (all : Bool) (s : Surveys y Took (λ r. r) names shelf left old new all)

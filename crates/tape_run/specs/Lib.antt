@@ -52,6 +52,11 @@ pub mod WholeReels
 pub mod OneEntry
 pub mod CheckExamples
 -- Surveys of images: definitions to trust, in reading order.
+pub mod ContainerFrames
+pub mod ContainerMarks
+pub mod ContainerRecords
+pub mod Container
+pub mod ContainerText
 pub mod SurveyGaps
 pub mod SurveyGlance
 pub mod SurveyFiles

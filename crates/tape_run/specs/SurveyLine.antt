@@ -1,5 +1,5 @@
 -- The description of an image in a survey. The text is for people, and may change.
-use Rattle.std.specs.Prelude.{Bool, true, false, length, take, ◌-◌, ℕ, ◌==◌, nat_lt, map}
+use Rattle.std.specs.Prelude.{◌||◌, Bool, true, false, length, take, ◌-◌, ℕ, ◌==◌, nat_lt, map}
 use Rattle.std.specs.Prelude.{if◌then◌else◌, List, [], ◌++◌, codes, decimal, Option, Some, None}
 use Rattle.std.specs.List.{flat_map, repeat, suffix_len}
 use Rattle.tape_image.specs.{declared.item.ImageFault.ImageFault, Fault.number_of}
@@ -14,6 +14,8 @@ use Rattle.tape_run.specs.declared.section.ImageStop.TheVariants.{Marked, Physic
 use Rattle.tape_run.specs.declared.survey.course.LabelOrder.TheVariants.{Follows, Blank, Ended}
 use Rattle.tape_run.specs.declared.survey.course.LabelOrder.TheVariants.{Leaves}
 use Rattle.tape_run.specs.{Identifier.printed, Quoting.name_text}
+use Rattle.tape_run.specs.declared.container.Container.{Container}
+use Rattle.tape_run.specs.{ContainerText.container_text, SurveyTally.is_named}
 use Rattle.tape_run.specs.SurveyTally.{is_no_image, state_of}
 use Rattle.tape_run.specs.declared.survey.glance.First.TheVariants as firsts
 use Rattle.tape_run.specs.declared.survey.course.ExpectedItem.TheVariants as wanted
@@ -138,21 +140,22 @@ abbrev pub course_shown : First → LabelOrder → LabelOrder
 course_shown firsts.Nothing course = Ended
 course_shown _ course = course
 
--- the text of what the image probably is then
-abbrev pub guess_text : ImageFault → List ℕ
-guess_text fault =
-    if is_no_image fault then codes ": not a SIMH image, or compressed (try zcat)" else []
+-- the kind of an image that cannot be read further: if it is another kind than a SIMH image, or if
+-- it stops before its first item
+abbrev pub kind_text : Container → ImageFault → List ℕ
+kind_text kind fault =
+    if is_named kind || is_no_image fault then codes ": " ++ container_text kind else []
 
--- a fault of the image, and what an image that stops before its first item probably is
-abbrev pub fault_text : ImageFault → List ℕ
-fault_text fault = codes "image fault " ++ (decimal (number_of fault.cause)
-    ++ (codes " at byte " ++ (decimal fault.place ++ guess_text fault)))
+-- a fault of the image, and the kind of the image
+abbrev pub fault_text : Container → ImageFault → List ℕ
+fault_text kind fault = codes "image fault " ++ (decimal (number_of fault.cause)
+    ++ (codes " at byte " ++ (decimal fault.place ++ kind_text kind fault)))
 
--- the number and offset of the fault with which it ends, and what the image probably is
-abbrev pub stop_text : List ℕ → ImageStop → List ℕ
-stop_text between (Fault fault) = between ++ fault_text fault
-stop_text between Marked = []
-stop_text between Physical = []
+-- the number and offset of the fault with which an image of this kind ends
+abbrev pub stop_text : List ℕ → Container → ImageStop → List ℕ
+stop_text between kind (Fault fault) = between ++ fault_text kind fault
+stop_text between kind Marked = []
+stop_text between kind Physical = []
 
 -- a section on the image whose good copies differ, if any
 abbrev pub dispute_text : List ℕ → Option SectionKey → List ℕ
@@ -164,7 +167,7 @@ dispute_text between (Some key) = between ++ (codes "section " ++ (decimal key.s
 abbrev pub seen_text : List ℕ → ImageSurvey → Option SectionKey → List ℕ
 seen_text between s key = glance_text between s.glance
     ++ (course_text between (course_shown s.glance.first s.glance.course) s.stop
-    ++ (stop_text between s.stop ++ (damages_text between s.damaged ++ dispute_text between key)))
+    ++ (stop_text between s.kind s.stop ++ (damages_text between s.damaged ++ dispute_text between key)))
 
 -- the word for a state, padded to a column
 abbrev pub state_word : ImageState → List ℕ

@@ -1,6 +1,8 @@
 -- What was read of images for a survey.
 use Rattle.std.specs.Prelude.{◌≡◌, ℕ, ◌+◌, ◌&&◌, Bool, true, false, List, [], ◌∷◌, Option, Some}
-use Rattle.std.specs.Prelude.{None}
+use Rattle.std.specs.Prelude.{None, ◌≤◌, length}
+use Rattle.std.specs.Io.KnownBytes.{Consumes}
+use Rattle.tape_run.specs.{declared.container.Container.Container, Container.container_of}
 use Rattle.tape_image.specs.{Tape.TapeItem, Reader.IfKnown}
 use Rattle.tape_run.specs.{declared.survey.view.ImageSurvey.ImageSurvey, SurveyTally.is_whole_sight}
 use Rattle.tape_run.specs.{Added.StopsBehind, SurveyGlance.glance_of, SurveyGlance.damages_in}
@@ -48,6 +50,12 @@ pub record ViewsItems (before after : Option (List ℕ)) (image : ℕ) (sections
     pub places : locations ≡ located_in image sections located items
     pub copied : copies ≡ copied_in image known items
 
+-- The kind is that of first bytes of an image, which had the bytes `before`: of as many as the
+-- survey reads first, or of those before its end or an error of its reader.
+abbrev pub IsKindOf : Option (List ℕ) → Container → Type 0
+IsKindOf before kind = (front : List ℕ) × (rest : Option (List ℕ)) × Consumes before rest front
+    × (length front ≤ 36864) × (kind ≡ container_of front)
+
 -- An image was read, completely if it is a whole volume; or it was not opened.
 abbrev pub IsViewed : Reel → Option ImageSurvey → Found → Found → Type 0
 IsViewed None None c d = d ≡ record c { whole = false; images = next_image c.images }
@@ -55,6 +63,7 @@ IsViewed (Some before) (Some sight) c d = (after : Option (List ℕ))
     × ViewsItems before after c.images c.sections c.files c.locations c.copies sight d.sections
     d.files d.locations d.copies
     × (d.whole ≡ (c.whole && is_whole_sight sight)) × (d.images ≡ next_image c.images)
+    × IsKindOf before sight.kind
 IsViewed _ _ c d = ⊥
 
 -- Images of a source from this number on, opened one after another, were read.

@@ -1,6 +1,6 @@
 -- The state of an image, and the number of images in each state. The line is for people, and may
 -- change.
-use Rattle.std.specs.Prelude.{ℕ, ◌+◌, ◌==◌, ◌&&◌, nat_le, min, length, Bool, true, false}
+use Rattle.std.specs.Prelude.{ℕ, ◌+◌, ◌==◌, ◌&&◌, not, nat_le, min, length, Bool, true, false}
 use Rattle.std.specs.Prelude.{if◌then◌else◌, List, [], ◌∷◌, ◌++◌, codes, decimal, Option, Some}
 use Rattle.std.specs.Prelude.{None, is_none}
 use Rattle.tape_image.specs.{declared.item.ImageFault.ImageFault, Fault.number_of}
@@ -10,6 +10,8 @@ use Rattle.tape_run.specs.declared.survey.course.LabelOrder.TheVariants.{Ended}
 use Rattle.tape_run.specs.declared.survey.{glance.First.First, line.ImageState.ImageState}
 use Rattle.tape_run.specs.declared.survey.{tally.Tally.Tally, view.ImageSurvey.ImageSurvey}
 use Rattle.tape_run.specs.declared.section.ImageStop.TheVariants.{Marked, Physical, Fault}
+use Rattle.tape_run.specs.declared.container.Container.{Container}
+use Rattle.tape_run.specs.declared.container.Container.TheVariants as kinds
 use Rattle.tape_run.specs.SurveyCopies.{Held, disputed_on}
 use Rattle.tape_run.specs.declared.survey.glance.First.TheVariants as firsts
 use Rattle.tape_run.specs.declared.survey.line.ImageState.TheVariants as states
@@ -60,11 +62,38 @@ state_by (firsts.Volume label) s = volume_state s
 state_by firsts.Bad s = states.Damaged
 state_by _ s = states.Unsupported
 
+-- the kind is known, and is not that of a SIMH image
+abbrev pub is_named : Container → Bool
+is_named kinds.Unknown = false
+is_named kinds.Simh = false
+is_named _ = true
+
+-- the state of an image of such a kind: files of other kinds than images of tapes are no tapes
+abbrev pub named_state : Container → ImageState
+named_state kinds.TextCopy = states.Damaged
+named_state kinds.Gzip = states.NotTape
+named_state kinds.Compress = states.NotTape
+named_state kinds.Bzip2 = states.NotTape
+named_state kinds.Xz = states.NotTape
+named_state kinds.Zstd = states.NotTape
+named_state kinds.Zip = states.NotTape
+named_state kinds.SevenZip = states.NotTape
+named_state kinds.Tar = states.NotTape
+named_state kinds.Iso = states.NotTape
+named_state kinds.Commodore = states.NotTape
+named_state kinds.Spectrum = states.NotTape
+named_state _ = states.Unsupported
+
+-- the state of an image, considered alone: its kind decides if it cannot be read to its end
+abbrev pub state_alone : ImageSurvey → ImageState
+state_alone s =
+    if is_named s.kind && not (is_end s.stop) then named_state s.kind else state_by s.glance.first s
+
 -- the state of an image: it is in conflict if it has a good copy of a section, given here, whose
 -- good copies differ
 abbrev pub state_of : ImageSurvey → Option SectionKey → ImageState
 state_of s (Some key) = states.Conflict
-state_of s None = state_by s.glance.first s
+state_of s None = state_alone s
 
 -- the same if the image was opened
 abbrev pub state_at : Option ImageSurvey → Option SectionKey → Option ImageState

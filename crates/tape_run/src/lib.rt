@@ -7,6 +7,7 @@
 mod catalogue;
 mod check;
 mod check_line;
+mod container;
 mod extract;
 mod fault;
 mod lacks;
@@ -35,6 +36,7 @@ mod whole;
 pub use crate::extract::images::ImageSource;
 pub use catalogue::Catalogue;
 pub use check::check_to;
+pub use container::{Container, KIND_BYTES, container_of, container_text};
 pub use extract::{
     AsTheyAre, Mounted, Opener, OutSink, Place, ReelLine, ReportLine, extract_in_passes,
     extract_located, extract_streaming, extract_to, last_line, write_file, write_part,

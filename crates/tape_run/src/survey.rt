@@ -14,6 +14,7 @@ mod facts;
 pub(crate) mod files;
 pub(crate) mod fits;
 mod forms;
+mod front;
 pub(crate) mod gaps;
 pub(crate) mod glance;
 mod line;

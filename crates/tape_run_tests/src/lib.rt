@@ -11,6 +11,8 @@ mod check;
 #[cfg(test)]
 mod check_faults;
 #[cfg(test)]
+mod containers;
+#[cfg(test)]
 mod copies;
 #[cfg(test)]
 mod cuts;

@@ -111,7 +111,7 @@ All files are complete, and every image was read to its end.
 const BEHIND: &str = "1.tap                     ok           volume ABC001, 1 section
 2.tap                     ok           volume ABC002, 1 section
 Set ABC001: 1 of 1 files complete
-  Volumes: ABC001, ABC002
+  Volumes: ABC001
    1 PAYROLL                        complete
 ABC001 file 1 section 2 is good on ABC002: the file ends before it
 2 images: 2 ok
@@ -179,7 +179,7 @@ const NOISE: &str = "one.tap                   damaged      does not begin with 
 const NONE: &str = "empty.tap                 empty        no items
 lost.tap                  not opened
 text.tap                  not a tape   no items
-    image fault 3 at byte 0: not a SIMH image, or compressed (try zcat)
+    image fault 3 at byte 0: not a SIMH image, or damaged in its first block
 3 images: 0 ok, 1 empty, 1 not a tape, 1 not opened
 ";
 

@@ -8,7 +8,7 @@ use crate::images::ImageName;
 use crate::shown::Shown;
 use crate::write::failed::OddRecord;
 use crate::write::run::split;
-pub use container::advice_about;
+pub use container::kind_of;
 use files::{
     FILE_OF_FOLDER, FILE_OF_IMAGE, FILE_OF_IMAGES, FILE_OF_INPUT, FILE_OF_LINES, FILE_OF_LIST,
     FILE_OF_LOG, FILE_OF_MANIFEST, FILE_OF_NEW, FILE_OF_OUT, FILE_OF_STAGE, FILE_OF_VOLUME,
@@ -19,7 +19,7 @@ use std::io::Read;
 use std::rt::Runtime;
 use std::{fmt, fs, io};
 use tape_image::ImageCause;
-use tape_run::RunFault;
+use tape_run::{Container, RunFault, container_text};
 use tape_stage::StageFault;
 use tape_writer::Prefix;
 use tape_writer::system::folder_of;
@@ -119,8 +119,8 @@ pub struct Explanation<'a> {
     pub site: FaultSite<'a>,
     /// The system's message about the file, if there is one.
     pub reason: Option<io::Error>,
-    /// What to do with a file of its kind, if it is no image and its kind is known.
-    pub advice: Option<&'static str>,
+    /// The kind of the image that cannot be read further, if it is known.
+    pub kind: Option<Container>,
 }
 
 impl fmt::Display for Explanation<'_> {
@@ -151,9 +151,16 @@ impl fmt::Display for Explanation<'_> {
             f.write_str("\n")?;
         }
         write!(f, "  {text}\n")?;
-        if text == NO_IMAGE {
-            let advice = self.advice.unwrap_or(UNKNOWN_KIND);
-            write!(f, "  {advice}\n")?;
+        match self.kind {
+            Some(Container::Unknown | Container::Simh) | None => {
+                if text == NO_IMAGE {
+                    write!(f, "  {UNKNOWN_KIND}\n")?;
+                }
+            }
+            Some(kind) => {
+                let is = container_text(kind);
+                write!(f, "  It is {is}.\n")?;
+            }
         }
         Ok(())
     }

@@ -50,9 +50,8 @@ request it elsewhere, and --no-explain and TAPE_EXPLAIN=0 decline it.
 
 Image faults:
   1  the image ends inside a block     copy it again from its source
-  2  block lengths do not match        damaged there, or not a .tap image
-  3  not a record length               at 0: not a .tap image, or compressed
-                                       (try zcat); otherwise damaged there
+  2  block lengths do not match        damaged there, or not a .tap image:
+  3  not a record length               'tape survey' names the kinds it knows
   4  longer than 4,294,967,295 bytes   only the part before can be read
   5  cannot be read                    a directory, or a failing disk
   6  out of memory
@@ -213,7 +212,7 @@ what was found on it.
   raw.tap                   unsupported  no labels; its first block has 10240
                                          bytes
   zip.tap                   not a tape   no items
-      image fault 3 at byte 0: not a SIMH image, or compressed (try zcat)
+      image fault 3 at byte 0: a zip archive: 'unzip' unpacks it
 Then each set with its volumes in order, and its files: number, identifier,
 creation date if there is one, and whether all sections were found. Below an
 incomplete file, each of its sections that is damaged or missing:

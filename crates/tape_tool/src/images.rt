@@ -16,7 +16,7 @@ use std::fs::File;
 use std::io::{BufRead, BufReader, ErrorKind, Read};
 use std::{fmt, io};
 use tape_label::Field;
-use tape_run::{FoundFiles, ImageSource};
+use tape_run::{FoundFiles, ImageSource, KIND_BYTES};
 
 /// The source of the names of a run's images.
 #[derive(Drop)]
@@ -217,8 +217,8 @@ impl<R: Progress> Read for Watched<R> {
     }
 }
 
-/// The size of the read buffer of an image in bytes.
-const SIZE: usize = 32_768;
+/// The size of the read buffer of an image in bytes: all by which the kind of a file is recognised.
+const SIZE: usize = KIND_BYTES;
 
 /// A reader with a buffer. Reads of buffered bytes are inlined in their callers, since each block
 /// of an image takes two of them.
@@ -241,6 +241,14 @@ impl<R: Read + Drop> ReadAhead<R> {
             Ok(inner) => Ok(ReadAhead { inner }),
             Err(_) => Err(AllocError),
         }
+    }
+}
+
+impl<R: Read> ReadAhead<R> {
+    /// Reads the first bytes of an image of which nothing was read, and returns them. They are read
+    /// again by the next reads. If that fails, so does the next read, and there are none.
+    pub fn front(&mut self) -> &[u8] {
+        self.inner.fill_buf().unwrap_or(&[])
     }
 }
 

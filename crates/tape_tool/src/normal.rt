@@ -9,7 +9,7 @@ use std::alloc::AllocError;
 use std::io;
 use std::io::Read;
 use tape_core::normal::{NormalImage, Rules};
-use tape_run::ImageSource;
+use tape_run::{Container, ImageSource, container_of};
 
 /// The rules that may be applied to an image, in the order in which they are named.
 const TEXTS: [&str; 6] = [
@@ -47,7 +47,47 @@ pub struct Normal<R: Progress> {
     /// The bytes before a tape mark with which the image ends, and those left of the mark, if it is
     /// not read to its own end.
     seam: Option<(u64, usize)>,
-    inner: NormalImage<Image<R>>,
+    inner: Form<R>,
+}
+
+/// The bytes of an image: in normal form or, if the image is of a kind that `tape` does not read, as
+/// they are.
+#[derive(Drop)]
+enum Form<R: Progress> {
+    Normal(NormalImage<Image<R>>),
+    Other(Image<R>),
+}
+
+impl<R: Progress> Form<R> {
+    /// Chooses the form by the first bytes of the image, which is unread.
+    fn new(mut image: Image<R>) -> Form<R> {
+        match container_of(image.front()) {
+            Container::Unknown
+            | Container::Simh
+            | Container::Extended
+            | Container::E11
+            | Container::TextCopy => Form::Normal(NormalImage::new(image)),
+            _ => Form::Other(image),
+        }
+    }
+
+    /// Returns the rules that were applied so far.
+    fn rules(&self) -> Rules {
+        match self {
+            Form::Normal(image) => image.rules(),
+            Form::Other(_) => Rules::NONE,
+        }
+    }
+}
+
+impl<R: Progress> Read for Form<R> {
+    #[inline(always)]
+    fn read(&mut self, buf: &mut [u8]) -> io::Result<usize> {
+        match self {
+            Form::Normal(image) => image.read(buf),
+            Form::Other(image) => image.read(buf),
+        }
+    }
 }
 
 impl<R: Progress> Normal<R> {
@@ -158,7 +198,7 @@ impl<'a, R: Progress> ImageSource<Normal<R>> for NormalImages<'a, R> {
             is_first,
             named: Rules::NONE,
             seam: None,
-            inner: NormalImage::new(image),
+            inner: Form::new(image),
         }))
     }
 }

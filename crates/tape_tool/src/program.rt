@@ -9,7 +9,7 @@ use crate::build_note::print_note;
 use crate::check::check;
 use crate::command_line::{Order, call_of, error_in};
 use crate::command_spec::CommandSpec;
-use crate::explain::{Explanation, FaultSite, advice_about, explain_missing, reason_of};
+use crate::explain::{Explanation, FaultSite, explain_missing, kind_of, reason_of};
 use crate::extract::extract;
 use crate::fault::{FaultLine, FileFault, OUT_OF_MEMORY, ToolFault};
 use crate::help;
@@ -159,15 +159,15 @@ pub fn run_on<R: Host>(rt: &R, is_terminal: bool) -> u8 {
         let _ = screen.eprint(FaultLine(fault));
         if let Some(site) = explained {
             let reason = reason_of(rt, fault, site);
-            let advice = match (fault, site) {
-                (ToolFault::Image(_), FaultSite::Image(path)) => advice_about(rt, path),
+            let kind = match (fault, site) {
+                (ToolFault::Image(_), FaultSite::Image(path)) => kind_of(rt, rt.alloc(), path),
                 _ => None,
             };
             let _ = screen.eprint(Explanation {
                 fault,
                 site,
                 reason,
-                advice,
+                kind,
             });
         }
     }

@@ -20,22 +20,23 @@ const SITES: &str = "
     1: list --explain told_cut.tap =>   Image: told_cut.tap
     ~   The image ends in the middle of a block: it was cut off.
     1: list told.gz --explain =>   This does not look like a .tap image.
-    ~   It is compressed with gzip: try 'zcat NAME | tape list'.
+    ~   It is compressed with gzip: 'gunzip -k' decompresses it.
     put told.bz2 BZh91AY&SY
     1: list told.bz2 --explain =>   This does not look like a .tap image.
-    ~   It is compressed with bzip2: try 'bzcat NAME | tape list'.
+    ~   It is compressed with bzip2: 'bunzip2 -k' decompresses it.
     put told.zip PK\\03\\04\\14\\00
     1: list told.zip --explain =>   This does not look like a .tap image.
-    ~   It is a zip archive: try 'unzip -p NAME | tape list'.
+    ~   It is a zip archive: 'unzip' unpacks it.
     put told.aws P\\00\\00\\00\\A0\\00VOL1
     1: list told.aws --explain =>   This does not look like a .tap image.
-    ~   It looks like an AWS image: 'aws2tap NAME NEW.tap' converts it.
+    ~   It is an AWS image: 'aws2tap' makes a SIMH image of it.
     put told.het P\\00\\00\\00\\A1\\00VOL1
     1: list told.het --explain =>   This does not look like a .tap image.
-    ~   It looks like a HET image,
-    put told.raw VOL1CONT01
+    ~   It is a HET image:
+    put told.raw VOL1CONT01..............................................................\
+4.......HDR1
     1: list told.raw --explain =>   This does not look like a .tap image.
-    ~   It begins with a label, without a length before it:
+    ~   It is the blocks of a tape without their lengths,
     put told.card this is a catalogue card
     1: list told.card --explain =>   This does not look like a .tap image.
     ~   Is it compressed, cut off, or of a different kind?
@@ -151,7 +152,7 @@ fn faults_are_told_in_words(rt: HostRuntime) -> Result<(), Fail> {
             fault: *fault,
             site: *site,
             reason: None,
-            advice: None,
+            kind: None,
         };
         let told = format!(in rt.alloc(); "{explanation}")?;
         assert!(rt; told.as_str().starts_with(text), "{told}");

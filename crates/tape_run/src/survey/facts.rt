@@ -2,14 +2,16 @@
 ghost use Rattle.std.specs.Prelude.{◌≡◌, IfOk, string_bytes};
 ghost use Rattle.tape_run.specs.SurveyLine.{first_text, system_text, files_text, bad_text};
 ghost use Rattle.tape_run.specs.SurveyLine.{late_text, unread_text, wanted_text, course_text};
-ghost use Rattle.tape_run.specs.SurveyLine.{course_shown, left_text, is_told, guess_text};
+ghost use Rattle.tape_run.specs.SurveyLine.{course_shown, left_text, is_told, kind_text};
 ghost use Rattle.tape_run.specs.SurveyLine.{fault_text, stop_text, glance_text, seen_text};
 ghost use Rattle.tape_run.specs.SurveyTally.{is_no_image};
 
 use super::course::{ExpectedItem, LabelOrder};
 use super::damages::{DamagesText, dispute_text};
 use super::glance::{First, ImageSummary};
+use super::line::is_named;
 use super::view::ImageSurvey;
+use crate::container::{Container, container_text};
 use crate::section::{ImageStop, SectionKey};
 use crate::text::{Trimmed, trimmed_len};
 use std::alloc::{AllocError, Global};
@@ -182,33 +184,40 @@ pub(super) fn is_no_image(fault: &ImageFault) -> bool
     fault.place == 0 && fault.cause.number() <= 3
 }
 
-/// Returns what an image that stops before its first item probably is.
-fn guess_text(fault: &ImageFault) -> &'static str
-    ensures { result.now ≡ guess_text fault.now }
+/// Returns the kind of an image that cannot be read further, as text: if it is another kind than a
+/// SIMH image, or if it stops before its first item.
+fn kind_text(alloc: Global, kind: Container, fault: &ImageFault) -> Result<String, AllocError>
+    ensures { IfOk result (λ text. string_bytes text ≡ kind_text kind fault.now) }
 {
-    if is_no_image(fault) {
-        ": not a SIMH image, or compressed (try zcat)"
+    if is_named(kind) || is_no_image(fault) {
+        let text = container_text(kind);
+        format!(in alloc; ": {text}")
     } else {
-        ""
+        Ok(String::new(alloc))
     }
 }
 
-/// Returns the text about a fault of the image.
-fn fault_text(alloc: Global, fault: &ImageFault) -> Result<String, AllocError>
-    ensures { IfOk result (λ text. string_bytes text ≡ fault_text fault.now) }
+/// Returns the text about a fault of the image, and the kind of the image.
+fn fault_text(alloc: Global, kind: Container, fault: &ImageFault) -> Result<String, AllocError>
+    ensures { IfOk result (λ text. string_bytes text ≡ fault_text kind fault.now) }
 {
     let (number, place) = (fault.cause.number(), fault.place);
-    let guess = guess_text(fault);
-    format!(in alloc; "image fault {number} at byte {place}{guess}")
+    let kind = kind_text(alloc, kind, fault)?;
+    format!(in alloc; "image fault {number} at byte {place}{kind}")
 }
 
-/// Returns the fault with which an image ends, if any.
-fn stop_text(alloc: Global, between: &str, stop: ImageStop) -> Result<String, AllocError>
-    ensures { IfOk result (λ text. string_bytes text ≡ stop_text between.now stop) }
+/// Returns the fault with which an image of this kind ends, if any.
+fn stop_text(
+    alloc: Global,
+    between: &str,
+    kind: Container,
+    stop: ImageStop,
+) -> Result<String, AllocError>
+    ensures { IfOk result (λ text. string_bytes text ≡ stop_text between.now kind stop) }
 {
     match stop {
         ImageStop::Fault(fault) => {
-            let text = fault_text(alloc, &fault)?;
+            let text = fault_text(alloc, kind, &fault)?;
             format!(in alloc; "{between}{text}")
         }
         ImageStop::Marked | ImageStop::Physical => Ok(String::new(alloc)),
@@ -227,7 +236,7 @@ pub(super) fn seen_text(
 {
     let glance = glance_text(alloc, between, &sight.glance)?;
     let course = course_text(alloc, between, course_shown(&sight.glance), sight.stop)?;
-    let stop = stop_text(alloc, between, sight.stop)?;
+    let stop = stop_text(alloc, between, sight.kind, sight.stop)?;
     let damages = DamagesText(between, sight.damaged.as_slice());
     let dispute = dispute_text(alloc, between, dispute)?;
     let rest = format!(in alloc; "{stop}{damages}{dispute}")?;

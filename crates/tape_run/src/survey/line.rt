@@ -1,12 +1,14 @@
 //! The line of an image in a survey.
 ghost use Rattle.std.specs.Prelude.{◌≡◌, IfOk, string_bytes};
 ghost use Rattle.tape_run.specs.SurveyTally.{volume_state, state_by, state_of};
+ghost use Rattle.tape_run.specs.SurveyTally.{is_named, named_state, state_alone};
 ghost use Rattle.tape_run.specs.SurveyTally.{state_at};
 ghost use Rattle.tape_run.specs.SurveyLine.{state_word, sight_text, image_line};
 
 use super::facts::{is_no_image, seen_text};
 use super::glance::First;
 use super::view::{ImageSurvey, is_end, is_ended};
+use crate::container::Container;
 use crate::quoting::name_text;
 use crate::section::{ImageStop, SectionKey};
 use std::alloc::{AllocError, Global};
@@ -50,7 +52,7 @@ fn volume_state(sight: &ImageSurvey) -> ImageState
     }
 }
 
-/// Returns the state of an image, considered alone.
+/// Returns the state of an image whose kind does not matter, considered alone.
 fn state_by(sight: &ImageSurvey) -> ImageState
     ensures { result ≡ state_by sight.now.glance.first sight.now }
 {
@@ -66,13 +68,53 @@ fn state_by(sight: &ImageSurvey) -> ImageState
     }
 }
 
+/// Returns whether the kind is known and is not that of a SIMH image.
+pub(super) fn is_named(kind: Container) -> bool
+    ensures { result ≡ is_named kind }
+{
+    !matches!(kind, Container::Unknown | Container::Simh)
+}
+
+/// Returns the state of an image of a kind that `tape` does not read.
+fn named_state(kind: Container) -> ImageState
+    ensures { result ≡ named_state kind }
+{
+    match kind {
+        Container::TextCopy => ImageState::Damaged,
+        Container::Gzip
+        | Container::Compress
+        | Container::Bzip2
+        | Container::Xz
+        | Container::Zstd
+        | Container::Zip
+        | Container::SevenZip
+        | Container::Tar
+        | Container::Iso
+        | Container::Commodore
+        | Container::Spectrum => ImageState::NotTape,
+        _ => ImageState::Unsupported,
+    }
+}
+
+/// Returns the state of an image, considered alone: its kind decides if it cannot be read to its
+/// end.
+fn state_alone(sight: &ImageSurvey) -> ImageState
+    ensures { result ≡ state_alone sight.now }
+{
+    if is_named(sight.kind) && !is_end(sight.stop) {
+        named_state(sight.kind)
+    } else {
+        state_by(sight)
+    }
+}
+
 /// Returns the state of an image; `dispute` is a section on it whose complete copies differ.
 fn state_of(sight: &ImageSurvey, dispute: &Option<SectionKey>) -> ImageState
     ensures { result ≡ state_of sight.now dispute.now }
 {
     match dispute {
         Some(_) => ImageState::Conflict,
-        None => state_by(sight),
+        None => state_alone(sight),
     }
 }
 

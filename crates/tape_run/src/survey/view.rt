@@ -12,9 +12,11 @@ use super::digest::digest_in;
 use super::files::{Files, note_met};
 use super::fits::note_fit;
 use super::forms::{form_in, note_form};
+use super::front::read_front;
 use super::glance::{ImageSummary, blank_glance, head_in, label_in, look, note_damage};
 use super::locations::{Locations, note_location};
 use crate::catalogue::stop_at;
+use crate::container::{Container, container_of};
 use crate::extract::images::ImageSource;
 use crate::fault::RunFault;
 use crate::passing::{Phase, wide_step};
@@ -26,9 +28,11 @@ use std::marker::Model;
 use tape_image::{ImageBuffer, ImageReader};
 use tape_set::Sequence;
 
-/// The survey of an image: the summary of its items, how they end, and its damaged sections.
+/// The survey of an image: its kind, the summary of its items, how they end, and its damaged
+/// sections.
 #[derive(Drop)]
 pub struct ImageSurvey {
+    pub kind: Container,
     pub glance: ImageSummary,
     pub stop: ImageStop,
     pub damaged: Sequence<SectionLine>,
@@ -134,9 +138,13 @@ impl Findings {
             self.images = self.images.saturating_add(1);
             return Ok(None);
         };
-        let mut image = ImageReader::over(ImageBuffer::new(self.alloc)?, &mut reader);
+        let front = read_front(self.alloc, &mut reader)?;
+        let buffer = ImageBuffer::new(self.alloc)?;
+        let mut bytes = front.as_slice().chain(reader);
+        let mut image = ImageReader::over(buffer, &mut bytes);
         let viewed = view_items(
             self.alloc,
+            container_of(front.as_slice()),
             &mut self.sections,
             &mut self.files,
             &mut self.locations,
@@ -175,9 +183,10 @@ pub(crate) fn read_images<R: Read + Drop, L: ImageSource<R>>(
     Ok(sights)
 }
 
-/// Processes the items of an unread image, and adds its sections and labels.
+/// Processes the items of an unread image of kind `kind`, and adds its sections and labels.
 fn view_items<R: Read>(
     alloc: Global,
+    kind: Container,
     sections: &mut Sections,
     files: &mut Files,
     locations: &mut Locations,
@@ -189,6 +198,7 @@ fn view_items<R: Read>(
     requires first { image.old.place ≡ 0 }
     ensures same_device { image.new.device ≡ image.old.device }
     ensures fault { IsOkUnless result faults.OutOfMemory }
+    ensures kind { IfOk result (λ sight. sight.kind ≡ kind) }
     ensures ok { IfOk result (λ sight. ViewsItems image.old.left image.new.left number
         sections.old.entries files.old locations.old.entries copies.old sight
         sections.new.entries files.new locations.new.entries copies.new) }
@@ -225,6 +235,7 @@ fn view_items<R: Read>(
         note_damage(&mut damaged, &phase.under_way())?;
         let damaged = Sequence::of_vec(damaged);
         return Ok(ImageSurvey {
+            kind,
             glance,
             stop,
             damaged,
