@@ -9,5 +9,5 @@ loop-sect-preserved c =
     omega (arith, c.loop-sect-test.true) in
     let was = rw one at c.loop-sect.invariant in
     let behind = ends_among c.args.sections.now.entries c.args.key.now.set_id
-        c.args.key.now.file (c.loop-sect.sect + 1) left in
+    c.args.key.now.file (c.loop-sect.sect + 1) left in
     sym (ap (λ a. a || behind) (sym c.is_end.ensures ∙ c.if-is_end.false)) ∙ was
