@@ -2,12 +2,17 @@
 ghost use Rattle.std.specs.Prelude.{IfOk, IfSome};
 ghost use Rattle.tape_tool.specs.Writing.{IsDay};
 
-use crate::screen::Host;
+use crate::extract::are_files;
+use crate::normal::NormalImages;
+use crate::screen::{Host, Progress};
 use std::alloc::{AllocError, Global};
+use std::fs;
 use std::fs::File;
+use std::io::Read;
 use std::time::{Duration, SystemTime, UNIX_EPOCH};
-use tape_label::{Field, digits_value};
-use tape_run::date_of;
+use tape_image::{ImageReader, Item};
+use tape_label::{Field, digits_value, read_head1};
+use tape_run::{ImageSource, date_of};
 
 /// The maximum number of days in a year.
 const DAYS: u16 = 366;
@@ -48,6 +53,54 @@ pub fn set_time<R: Host>(rt: &R, path: &str, created: &Field<6>) {
     {
         let _ = file.set_modified(noon);
     }
+}
+
+/// Sets the time of the output at `path` to noon of the day on which a file was created, by the
+/// first header label of the file on the images. Does nothing if the output is not a plain file, or
+/// the images cannot be read once more.
+pub fn date_output<R: Progress>(rt: &R, path: &str, names: &[&str], set_id: Field<6>, file: u16) {
+    let is_plain = fs::symlink_metadata(rt.host(), path).is_ok_and(|there| there.is_file());
+    if !is_plain || !are_files(rt.host(), names) {
+        return;
+    }
+    let mut images = NormalImages::again(rt, names);
+    for number in 0..names.len() {
+        if let Ok(Some(image)) = images.mount(number)
+            && let Some(created) = created_on(rt.alloc(), image, set_id, file)
+        {
+            set_time(rt.host(), path, &created);
+            return;
+        }
+    }
+}
+
+/// Returns the creation date in the first header label of a file on an image, if it has one. The
+/// image is read up to that label.
+fn created_on<R: Read + Drop>(
+    alloc: Global,
+    device: R,
+    set_id: Field<6>,
+    file: u16,
+) -> Option<Field<6>> {
+    let mut device = device;
+    let mut image = ImageReader::new(alloc, &mut device).ok()?;
+    // The tape marks since the header labels: one before the data, one after, one after the trailer.
+    let mut marks = 0u8;
+    for _ in 0..u64::MAX {
+        match image.next() {
+            Ok(Some(Item::Block(block))) => {
+                if let (0, Ok(head)) = (marks, read_head1(block))
+                    && (head.set_id, head.sequence) == (set_id, file)
+                {
+                    return Some(head.created);
+                }
+            }
+            Ok(Some(Item::Mark)) => marks = (marks + 1) % 3,
+            Ok(Some(Item::Bad)) => {}
+            _ => break,
+        }
+    }
+    None
 }
 
 /// Returns noon (UTC) of the day in the six characters of a label, or `None` if they are no day

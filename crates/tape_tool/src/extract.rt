@@ -5,6 +5,7 @@ mod out;
 
 use crate::command_spec::{CommandSpec, Kind, Word};
 use crate::compared::Compared;
+use crate::dates::date_output;
 use crate::explain::FaultSite;
 use crate::fault::{OUT_OF_MEMORY, ToolFault};
 use crate::help;
@@ -37,6 +38,8 @@ pub struct ExtractOrder<'a> {
     pub task: Task<'a>,
     /// The images, in the order in which they are read.
     pub images: Named<'a>,
+    /// Whether the output keeps the time at which it was written.
+    pub now: bool,
 }
 
 /// The file of a set to recover, and how to recover it.
@@ -70,6 +73,7 @@ pub const EXTRACT: &CommandSpec = &CommandSpec {
         FORM,
         Word("stage", Kind::TextOption("PATH"), help::STAGE),
         Word("again", Kind::Flag, help::AGAIN),
+        Word("now", Kind::Flag, help::NOW_OF_OUT),
     ],
 };
 
@@ -89,8 +93,11 @@ pub fn extract_order<'a>(
         again: matches.get_flag("again"),
         wide: false,
     };
-    let images = named(alloc, matches, help::TOO_MANY_IMAGES)?;
-    Ok(ExtractOrder { task, images })
+    Ok(ExtractOrder {
+        task,
+        images: named(alloc, matches, help::TOO_MANY_IMAGES)?,
+        now: matches.get_flag("now"),
+    })
 }
 
 /// Recovers the file that the arguments name. If `explained`, names each image on standard error
@@ -110,12 +117,17 @@ pub fn extract<'a, R: Progress>(
     let named = named.as_slice();
     let way = way_to_out(rt.host(), task.out, task.stage, order.images.list, named)?;
     let reels = explained.then_some(0);
-    if task.again {
-        return Ok(extract_again(rt, order, named, way, reels, awaited, site)?);
+    let end = if task.again {
+        extract_again(rt, order, named, way, reels, awaited, site)?
+    } else {
+        let images = &mut Images::new(rt, named);
+        images.reels = reels;
+        recover(rt, task, images, &mut AsTheyAre, way, awaited, site)?
+    };
+    if end == End::Done && !order.now {
+        date_output(rt, task.out, named, task.set_id, task.file);
     }
-    let images = &mut Images::new(rt, named);
-    images.reels = reels;
-    Ok(recover(rt, task, images, &mut AsTheyAre, way, awaited, site)?)
+    Ok(end)
 }
 
 /// Recovers the file from images that are read in normal form, in the wider reading if a survey

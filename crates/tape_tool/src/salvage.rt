@@ -1,6 +1,7 @@
 //! `salvage`: recovers the readable parts of a file that no image has completely.
 
 use crate::command_spec::{CommandSpec, Kind, Word};
+use crate::dates::date_output;
 use crate::explain::FaultSite;
 use crate::extract::Draft;
 use crate::help;
@@ -25,6 +26,8 @@ pub struct SalvageOrder<'a> {
     pub out: &'a str,
     /// The images, in the order in which they are named.
     pub images: Named<'a>,
+    /// Whether the output keeps the time at which it was written.
+    pub now: bool,
 }
 
 const FORMS_OF_SALVAGE: &[&str] = &["lines", "raw", "blocks"];
@@ -43,6 +46,7 @@ pub const SALVAGE: &CommandSpec = &CommandSpec {
             Kind::NameOption("FORM", FORMS_OF_SALVAGE, &["lines"]),
             help::FORM_OF_SALVAGED,
         ),
+        Word("now", Kind::Flag, help::NOW_OF_OUT),
     ],
 };
 
@@ -66,7 +70,13 @@ pub fn salvage_order<'a>(
         form,
     };
     let images = named(alloc, matches, help::TOO_MANY_TO_SALVAGE)?;
-    Ok(SalvageOrder { task, out, images })
+    let now = matches.get_flag("now");
+    Ok(SalvageOrder {
+        task,
+        out,
+        images,
+        now,
+    })
 }
 
 /// Recovers the readable parts of the file that the arguments name. An existing output is never
@@ -83,6 +93,10 @@ pub fn salvage<'a, R: Progress>(
     let (mut draft, out) = Draft::new(rt, order.out)?;
     let images = &mut NormalImages::new(rt, names.as_slice());
     let report = &mut io::writer(rt);
-    let end = check_end(salvage_to(rt.alloc(), &order.task, images, out, &mut draft, report));
+    let task = &order.task;
+    let end = check_end(salvage_to(rt.alloc(), task, images, out, &mut draft, report));
+    if draft.has_taken() && !order.now {
+        date_output(rt, order.out, names.as_slice(), task.set_id, task.file);
+    }
     Ok(draft.ended(end))
 }

@@ -28,7 +28,8 @@
 //! - `has FILE TEXT`, `at FILE OFFSET TEXT`, `length FILE COUNT`, `is_worked FILE`,
 //!   `missing FILE ..` and `allowed FILE MODE` check the contents of a file, the bytes at an
 //!   offset, the length, that it is the example image or does not exist, and its permissions.
-//!   `modified FILE SECONDS` checks when it was written, in seconds from 1970 on.
+//!   `modified FILE SECONDS` checks when it was written, in seconds from 1970 on, and `new FILE`
+//!   that this was in this century.
 
 use crate::fake_system::{Odd, called};
 use crate::image::{example, payroll};
@@ -264,6 +265,7 @@ fn take(rt: &HostRuntime, word: &str, rest: &str) -> Result<bool, Fail> {
         "has" => holds(rt, path, bytes_of(alloc, text)?.as_slice()),
         "at" => has_text(rt, path, text),
         "modified" => Ok(fs::metadata(rt, path)?.mtime().unsigned_abs() == number as u64),
+        "new" => Ok(fs::metadata(rt, path)?.mtime() >= 978_307_200),
         "length" => Ok(fs::read(rt, path)?.len() == number),
         "is_worked" => holds(rt, path, example(alloc, word, 0)?.as_slice()),
         "missing" => Ok(rest.split(' ').all(|path| fs::read(rt, path).is_err())),

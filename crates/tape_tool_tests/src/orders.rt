@@ -30,20 +30,22 @@ const REQUESTS: &str = "
     survey --json a.tap => survey Json a.tap
     survey --files-from - --null -- -a => survey Words -a nulls of none
     extract ABC001 2 out a.tap b.tap
-    => extract ABC001 2 out Lines stage=none again=false a.tap b.tap
+    => extract ABC001 2 out Lines stage=none again=false now=false a.tap b.tap
     extract AB 9999 out --again --stage kept --form raw --files-from l
-    => extract AB     9999 out Raw stage=kept again=true lines of l
-    extract ABC001 1 out --form lines --null --files-from l a
-    => extract ABC001 1 out Lines stage=none again=false a nulls of l
+    => extract AB     9999 out Raw stage=kept again=true now=false lines of l
+    extract ABC001 1 out --form lines --now --null --files-from l a
+    => extract ABC001 1 out Lines stage=none again=false now=true a nulls of l
     unpack dir a.tap b.tap
     => unpack dir Lines list=false salvage=false now=false set=none a.tap b.tap
     unpack dir a --form raw --set ABC001 --file 3 --file P* --list
     => unpack dir Raw list=true salvage=false now=false set=ABC001 file=3 file=P* a
     unpack dir --salvage --now --files-from l
     => unpack dir Lines list=false salvage=true now=true set=none lines of l
-    salvage ABC001 2 out a.tap => salvage ABC001 2 out blocks=false Lines a.tap
-    salvage ABC001 1 out --form raw a => salvage ABC001 1 out blocks=false Raw a
-    salvage ABC001 1 out --form blocks a b => salvage ABC001 1 out blocks=true Raw a b
+    salvage ABC001 2 out a.tap => salvage ABC001 2 out blocks=false Lines now=false a.tap
+    salvage ABC001 1 out --form raw --now a
+    => salvage ABC001 1 out blocks=false Raw now=true a
+    salvage ABC001 1 out --form blocks a b
+    => salvage ABC001 1 out blocks=true Raw now=false a b
     stage kept => stage kept Lines damaged=false none
     stage kept out --form raw --damaged => stage kept Raw damaged=true out
     init dir ABC 12 => init dir ABC 12
@@ -153,13 +155,14 @@ fn recovery_text(alloc: Global, order: &Order<'_>) -> Result<String, AllocError>
         Order::Extract(order) => {
             let task = &order.task;
             format!(in alloc;
-                "extract {} {} {} {:?} stage={} again={}{}",
+                "extract {} {} {} {:?} stage={} again={} now={}{}",
                 id(task.set_id.bytes()),
                 task.file,
                 task.out,
                 task.form,
                 task.stage.unwrap_or("none"),
                 task.again,
+                order.now,
                 Images(&order.images)
             )
         }
@@ -177,11 +180,12 @@ fn recovery_text(alloc: Global, order: &Order<'_>) -> Result<String, AllocError>
         Order::Salvage(order) => {
             let is_blocks = matches!(order.task.content, Content::Blocks);
             format!(in alloc;
-                "salvage {} {} {} blocks={is_blocks} {:?}{}",
+                "salvage {} {} {} blocks={is_blocks} {:?} now={}{}",
                 id(order.task.set_id.bytes()),
                 order.task.file,
                 order.out,
                 order.task.form,
+                order.now,
                 Images(&order.images)
             )
         }

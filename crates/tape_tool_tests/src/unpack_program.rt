@@ -224,6 +224,21 @@ const CHOSEN: &str = "
     0: unpack dated DAT001.tap
     modified dated/DAT001.1.ONE 483105600
     has dated/DAT001.1.ONE B\\0AB\\0A
+    0: extract DAT001 1 dated.txt lost.tap OTH001.tap DAT001.tap
+    modified dated.txt 483105600
+    0: extract DAT001 1 dated.txt DAT001.tap --now
+    new dated.txt
+    0: extract DAT001 1 dated.txt OTH001.tap DAT001.tap --again
+    modified dated.txt 483105600
+    0: salvage DAT001 1 dated1.txt OTH001.tap DAT001.tap | salvage OTH001 1 dated2.txt OTH001.tap
+    modified dated1.txt 483105600
+    new dated2.txt
+    # Any other file than a plain one keeps the present.
+    0: salvage DAT001 1 dated3.txt DAT001.tap --now
+    new dated3.txt
+    link dated4.txt dated3.txt
+    0: extract DAT001 1 dated4.txt DAT001.tap
+    new dated4.txt
     front chosen.tap 2288
     3$ unpack chosen1 --list CHO001.tap chosen.tap OTH001.tap
     > FILE CHO001 1 EXISTS chosen1/CHO001.1.ONE

@@ -18,6 +18,9 @@ pub const STAGE: &str = "Save recovered data here, and continue from it";
 
 pub const AGAIN: &str = "Repeat until a pass recovers nothing new";
 
+pub const NOW_OF_OUT: &str = "Keep the present as the time of OUT, instead of noon
+(UTC) of the creation date in its labels";
+
 // `extract`: errors in arguments.
 pub const WRONG_SET: &str = "SET must have 1 to 6 characters, for example 'ABC001'";
 
@@ -269,7 +272,8 @@ no copies differ, and otherwise SALVAGED and their number. OUT is written in
 both cases. Keep the lines with it: OUT itself does not show where something is
 missing.
 
-Each image is opened twice, so a pipe such as '<(zcat NAME)' does not work.
+Images are opened more than once, so a pipe such as '<(zcat NAME)' does not
+work.
 
 Exit status: 0 nothing is missing and no copies differ, 1 error, 2 usage error,
 3 something is missing, or copies differ";
