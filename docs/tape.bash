@@ -34,9 +34,9 @@ _tape() {
         survey) word='--files-from --null --tsv --json' ;;
         compare) word='--files-from --null --json' ;;
         merge) word='--log --files-from --null' ;;
-        extract) word='--files-from --null --form --stage --again' ;;
+        extract) word='--files-from --null --form --stage --again --now' ;;
         unpack) word='--files-from --null --form --set --file --list --salvage --now --manifest --verify' ;;
-        salvage) word='--files-from --null --form' ;;
+        salvage) word='--files-from --null --form --now' ;;
         stage) word='--form --damaged' ;;
         write) word='--format --block --record --offset --pad-full --form --date --dry-run' ;;
         *) word='' ;;

@@ -85,6 +85,7 @@ complete -c tape -n '__tape_in extract' -l null -d 'Names in LIST end with NUL, 
 complete -c tape -n '__tape_in extract' -l form -x -a 'lines raw' -d 'lines: end each record with a line feed; raw: do not'
 complete -c tape -n '__tape_in extract' -l stage -x -a '(__tape_other)' -d 'Save recovered data here, and continue from it'
 complete -c tape -n '__tape_in extract' -l again -d 'Repeat until a pass recovers nothing new'
+complete -c tape -n '__tape_in extract' -l now -d 'Keep the present as the time of OUT, instead of noon (UTC) of the creation date in its labels'
 complete -c tape -n '__tape_at extract 3' -a '(__tape_other)'
 complete -c tape -n '__tape_at extract 4 +' -F
 complete -c tape -n '__tape_in unpack' -l files-from -r -F -d 'More names, one per line ('\''-'\'': standard input)'
@@ -102,6 +103,7 @@ complete -c tape -n '__tape_at unpack 2 +' -F
 complete -c tape -n '__tape_in salvage' -l files-from -r -F -d 'More names, one per line ('\''-'\'': standard input)'
 complete -c tape -n '__tape_in salvage' -l null -d 'Names in LIST end with NUL, as of '\''find -print0'\'''
 complete -c tape -n '__tape_in salvage' -l form -x -a 'lines raw blocks' -d 'lines: end each record with a line feed; raw: do not; blocks: whole blocks'
+complete -c tape -n '__tape_in salvage' -l now -d 'Keep the present as the time of OUT, instead of noon (UTC) of the creation date in its labels'
 complete -c tape -n '__tape_at salvage 3' -a '(__tape_other)'
 complete -c tape -n '__tape_at salvage 4 +' -F
 complete -c tape -n '__tape_in stage' -l form -x -a 'lines raw' -d 'lines: end each record with a line feed; raw: do not'

@@ -95,7 +95,13 @@ fn created_on<R: Read + Drop>(
                     return Some(head.created);
                 }
             }
-            Ok(Some(Item::Mark)) => marks = (marks + 1) % 3,
+            Ok(Some(Item::Mark)) => {
+                marks = match marks {
+                    0 => 1,
+                    1 => 2,
+                    _ => 0,
+                };
+            }
             Ok(Some(Item::Bad)) => {}
             _ => break,
         }

@@ -148,7 +148,7 @@ const SHOWN: &str = "
     0: check lost.tap progress.tap
     * terminal 9
     ! image 2 of 2: 0 MB<
-    0: extract ABC001 1 progress.txt progress.tap
+    0: extract ABC001 1 progress.txt progress.tap --now
     * terminal 9
     ! image 1 of 1: 0 MB<
     # After an error nothing more is printed.

@@ -73,14 +73,14 @@ const CALLS: &str = "
     worked seen_whole.tap
     3: survey seen_whole.tap seen2.tap
     | ABC001 file 1 section 2 is good on ABC002: the file ends before it
-    # No image is opened after the one that completes the file. The directory is opened to be
-    # synced.
+    # No image is opened after the one that completes the file, but for its labels. The directory
+    # is opened to be synced.
     $ extract ABC001 1 seen.txt lost.tap seen1.tap seen2.tap seen1.tap
     > REEL 1 NOT OPENED
     > REEL 2 SECTION DONE
     > REEL 3 COMPLETE
     > COMPLETE 25
-    ? .tape-1.part lost.tap? seen1.tap seen2.tap .
+    ? .tape-1.part lost.tap? seen1.tap seen2.tap . lost.tap? seen1.tap
     # Blocks that are longer than the buffer, on one volume of more than 100,000 bytes.
     $ write . SEL 150000 LONG=seen_long.bin --format S --block 9999 --form raw
     > VOLUME SEL001 120642
