@@ -74,7 +74,7 @@ class Trial(Results):
         """The reader of a file of the model; None for a file in conflict or without a label."""
         if (set_id, file) not in self.found.names or self.found.in_conflict(set_id, file):
             return None
-        return self.found.again(set_id, file, False)[0]
+        return self.found.unpacked(set_id, file)
 
     def check_model(self):
         """The model is right about the records that were written."""

@@ -136,7 +136,7 @@ class Trial(Results):
         path, records = "out/" + path_of(set_id, file, survey.names.get((set_id, file), b"")), None
         line = "CONFLICT" if (set_id, file) in survey.names else "NOT FOUND"
         if line == "CONFLICT" and not survey.in_conflict(set_id, file):
-            reader, _ = survey.again(set_id, file, False)
+            reader = survey.unpacked(set_id, file)
             line = f"{survey.last_line(reader)} {path}" + ("" if reader.done else ".stage")
             records = model.joined(reader.parts) if reader.done else None
         self.told[line.split()[0].lower()] += 1

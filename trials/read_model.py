@@ -18,8 +18,8 @@ class Volume:
         self.items, self.stop = model.items_of(data)
         self.place, self.sections, self.first_labels, self.closing = "volume", [], [], []
         self.identifier = self.owner = self.system = self.set = b""
-        self.has_second_trailer = self.has_wrong_second = False
-        for kind, block in self.items:
+        self.has_wrong_second = False
+        for self.at, (kind, block) in enumerate(self.items):
             self.place = getattr(self, self.place)(kind, block or b"") or "over"
 
     @property
@@ -55,7 +55,8 @@ class Volume:
         if not self.first_labels:
             self.set, self.system = fields["set"], block[60:73]
         self.first_labels.append(fields)
-        self.open = fields | {"blocks": [], "state": "CUT", "eof": False, "shape": None}
+        self.open = fields | {"blocks": [], "state": "CUT", "eof": False, "shape": None,
+                              "has_second_trailer": False, "from": self.at}
         return "second"
 
     def second(self, kind, block):
@@ -91,7 +92,7 @@ class Volume:
         return "trailers"
 
     def trailers(self, kind, block):
-        self.has_second_trailer |= model.kind_of(block) in ("EOF2", "EOV2")
+        self.sections[-1]["has_second_trailer"] |= model.kind_of(block) in ("EOF2", "EOV2")
         return {"mark": "next", "block": "trailers", "bad": None}[kind]
 
     def ended(self, *_):
@@ -116,11 +117,14 @@ class Reader:
     def begun(self):
         return bool(self.parts) and model.begins_record(self.parts[-1][0])
 
-    def reel(self, volume):
-        """The answer of a reel. After a wrong count the parts of the reel are discarded."""
+    def reel(self, volume, begin=None):
+        """The answer of a reel, also from the item after a trailer label on.
+
+        After a wrong count the parts of the reel are discarded.
+        """
         before = self.section, self.block, self.known, len(self.parts)
-        self.phase = "volume"
-        for kind, block in volume.items:
+        self.phase = "trailers" if begin else "volume"
+        for self.end, (kind, block) in enumerate(volume.items[begin:], (begin or 0) + 1):
             is_wrong = kind == "bad" and self.phase != "data"
             answer = "BAD ITEM" if is_wrong else getattr(self, self.phase)(kind, block or b"")
             if answer and answer.startswith("BLOCK COUNT"):

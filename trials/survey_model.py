@@ -47,10 +47,10 @@ class Survey:
     def __init__(self, images):
         self.volumes = [Volume(data) for data in images]
         self.sections, self.names = {}, {}
+        self.open = ()  # the set, the image that `unpack` reads on, and the next item
         self.found, self.heads, self.begin, self.of_set = (defaultdict(list) for _ in range(4))
         for at, volume in enumerate(self.volumes):
             self.add(at, volume)
-        self.has_second_trailer = any(volume.has_second_trailer for volume in self.volumes)
         most = {}
         for set_id, file, _ in self.sections:
             most[set_id] = max(file, most.get(set_id, 0))
@@ -61,9 +61,10 @@ class Survey:
     def add(self, at, volume):
         """The sections and labels of an image."""
         self.of_set[volume.set].append(at)
-        for each in volume.sections:
+        for section in volume.sections:
+            each = section | {"at": at}
             key = each["set"], each["file"], each["section"]
-            self.found[key[:2]].append(each | {"at": at})
+            self.found[key[:2]].append(each)
             if self.sections.setdefault(key, each)["state"] != "GOOD" and each["state"] == "GOOD":
                 self.sections[key] = each
         for each in volume.first_labels:
@@ -93,8 +94,10 @@ class Survey:
 
     def is_lost(self, set_id, file):
         """Whether an HDR2 of a file is lost."""
-        shapes = [each["shape"] for each in self.found[set_id, file]]
-        return None in shapes and (any(shapes) or self.has_second_trailer)
+        found = self.found[set_id, file]
+        shapes = [each["shape"] for each in found]
+        has_trailer = any(each["has_second_trailer"] for each in found)
+        return None in shapes and (any(shapes) or has_trailer)
 
     def in_conflict(self, set_id, file):
         """Whether labels of different files have this number, or copies of a section differ."""
@@ -137,6 +140,18 @@ class Survey:
             for volume in volumes:
                 lines += [] if reader.done else [f"REEL {len(lines) + 1} {reader.reel(volume)}"]
         return reader, lines
+
+    def unpacked(self, set_id, file):
+        """Reads a file as `unpack` does: each section where it is GOOD first, or else in passes."""
+        reader, at, answer = Reader(set_id, file, self.is_wide(set_id, file)), 1, "SECTION DONE"
+        is_whole = self.is_complete(set_id, file)
+        while is_whole and answer == "SECTION DONE":
+            section = self.sections[set_id, file, at]
+            image, at = section["at"], at + 1
+            is_ahead = self.open[:2] == (set_id, image) and self.open[2] <= section["from"]
+            answer = reader.reel(self.volumes[image], self.open[2] if is_ahead else None)
+            self.open = set_id, image, reader.end
+        return reader if reader.done else self.again(set_id, file, False)[0]
 
     def last_line(self, reader):
         if reader.done:
