@@ -9,7 +9,9 @@ pub mod laws;
 mod looking;
 mod machine;
 mod mend;
+mod rules;
 
 pub use code::{Code, to_ascii};
-pub use image::{NormalImage, Rules};
+pub use image::NormalImage;
 pub use machine::{Change, Missing, Replacement, TapePlace, step};
+pub use rules::Rules;

@@ -1,5 +1,5 @@
 -- What is left of an image in normal form after a step.
-use Rattle.std.proofs.Common.{◌≡◌, ℕ, zero, suc, ◌+◌, ◌≤◌, ◌<◌, Bool, true, false, nat_lt}
+use Rattle.std.proofs.Common.{◌≡◌, ℕ, zero, suc, ◌+◌, ◌-◌, ◌≤◌, ◌<◌, Bool, true, false, nat_lt}
 use Rattle.std.proofs.Common.{◌==◌, ◌&&◌, List, [], ◌∷◌, ◌++◌}
 use Rattle.std.proofs.Common.{length, take, drop, min, replicate, Option, Some, None, IfSome, refl}
 use Rattle.std.proofs.Common.{sym, ap, ◌∙◌, arith}
@@ -7,14 +7,16 @@ use Rattle.std.proofs.Common.{option_map, append_assoc, append-nil, length-appen
 use lib.Seq.{take-append-le, drop-append-le, drop_at, take_at, take-add, drop-drop}
 use Rattle.std.proofs.lemmas.Bool.Decides.{nat_tests}
 use Rattle.std.specs.Io.KnownBytes.{Consumes, Keeps, IsAtEnd, prepend_known}
+use Rattle.std.proofs.KnownBytes.{prepend_known-nil}
 use Rattle.byteorder.specs.{Endian.little_number}
 use Rattle.tape_image.proofs.Words.{word-append}
-use Rattle.tape_image.specs.Word.{mark_word, gap_word, longest_block}
+use Rattle.tape_image.specs.Word.{mark_word, gap_word, longest_block, block_extent}
 use Rattle.tape_image.specs.Tape.{block}
-use Rattle.tape_core.specs.NormalForm.Steps.{step_of}
+use Rattle.tape_core.specs.NormalForm.Steps.{step_of, same}
 use Rattle.tape_core.specs.NormalForm.Bytes.{unlabelled, block_step}
 use Rattle.tape_core.specs.declared.normal.machine.{TapePlace.TapePlace}
 use Rattle.tape_core.specs.declared.normal.machine.TapePlace.TheVariants.{Over}
+use Rattle.tape_core.specs.declared.normal.machine.TapePlace.TheVariants as places
 use Rattle.tape_core.specs.declared.normal.looking.Looked.{Looked}
 use Rattle.tape_core.specs.declared.normal.image.Course.{Course}
 use Rattle.tape_core.specs.declared.normal.image.Course.TheVariants.{Looking, Passing, Skipping}
@@ -23,6 +25,7 @@ use Rattle.tape_core.specs.NormalForm.Bytes.{looked, looked_word, looked_label, 
 use Rattle.tape_core.specs.NormalForm.Bytes.{begins_label, reads_labels}
 use Rattle.tape_core.specs.NormalForm.Bytes.{by_looked, normal_from, skipped, IsHeld, IsShort}
 use Rattle.tape_core.proofs.NormalForm.Enough.{first_item, is_less, no_less, less_is, less_no}
+use Rattle.tape_core.proofs.NormalForm.LookedAt.{looked_is, len_of}
 
 -- ---- what is held is what is looked at
 
@@ -277,6 +280,61 @@ module _ (a b : Option (List ℕ)) (room : ℕ) (place : TapePlace) where
         (λ ys. over_left room (bs ++ ys) ∙ ap (λ (r : List ℕ). bs ++ r) (sym (over_left room ys))),
     λ none. ends_by b (normal_from room Over) (z none) refl,
   )
+
+-- ---- the word of a block of data
+
+-- where data are, a block stays as it is
+pub data_looked : (room : ℕ) (place : TapePlace) (w : ℕ) (xs : List ℕ)
+    → reads_labels place ≡ false → is_over place ≡ false → 4 ≤ length xs → little_number 4 xs ≡ w
+    → 0 < w → w ≤ longest_block → block_extent w ≤ room
+    → Some (record { size = block_extent w; next = place; change = same }) ≡ looked room place xs
+data_looked room (places.Data code) w xs d o h e some few fits =
+    let mark : (w == mark_word) ≡ false = grind (arith, nat_tests) in
+    let gap : (w == gap_word) ≡ false = grind (arith, nat_tests) in
+    let word : looked_word room (places.Data code) w xs
+    ≡ Some (record { size = block_extent w; next = places.Data code; change = same }) =
+    rw (
+      mark,
+      gap,
+      len_of w some few,
+      no_less room (block_extent w) fits,
+      no_less longest_block w few,
+    ) refl in
+    sym (looked_is room (places.Data code) xs w refl h e ∙ word)
+data_looked room places.Over w xs d o h e some few fits = absurd (cc o)
+data_looked room (places.Start n) w xs d o h e some few fits = absurd (cc d)
+data_looked room (places.Labels code n) w xs d o h e some few fits = absurd (cc d)
+data_looked room places.Blank w xs d o h e some few fits = absurd (cc d)
+data_looked room (places.Second code) w xs d o h e some few fits = absurd (cc d)
+data_looked room (places.Headers code) w xs d o h e some few fits = absurd (cc d)
+data_looked room (places.Trailer code) w xs d o h e some few fits = absurd (cc d)
+data_looked room (places.Trailers code) w xs d o h e some few fits = absurd (cc d)
+data_looked room (places.Next code) w xs d o h e some few fits = absurd (cc d)
+data_looked room places.Ended w xs d o h e some few fits = absurd (cc d)
+
+-- the word of a block of data is given on
+pub word_gives : (a b : Option (List ℕ)) (held : List ℕ) (room : ℕ) (place : TapePlace)
+    (ins lab : List ℕ) (course : Course) (w : ℕ) (bs : List ℕ) → held ≡ [] → ins ≡ [] → lab ≡ []
+    → course ≡ Looking → reads_labels place ≡ false → is_over place ≡ false → Consumes a b bs
+    → length bs ≡ 4 → little_number 4 bs ≡ w → 0 < w → w ≤ longest_block → block_extent w ≤ room
+    → Consumes
+    (option_map (λ xs. ins ++ (lab ++ left_in course room place xs)) (prepend_known held a))
+    (option_map (λ xs. ins ++ (lab ++ left_in (Passing (block_extent w - 4))
+    (room - block_extent w) place xs)) (prepend_known held b)) bs
+word_gives a b held room place ins lab course w bs h i l c d o k four e some few fits =
+    rw (h, prepend_known-nil a, prepend_known-nil b, i, l, c) (given_by a b bs
+    (normal_from room place)
+    (left_in (Passing (block_extent w - 4)) (room - block_extent w) place) k more)
+  where
+    more : (ys : List ℕ) → normal_from room place (bs ++ ys)
+        ≡ bs ++ left_in (Passing (block_extent w - 4)) (room - block_extent w) place ys
+    more ys =
+        item_left room place (bs ++ ys)
+        (Some (record { size = block_extent w; next = place; change = same }))
+        (data_looked room place w (bs ++ ys) d o (omega (arith, four, length-append bs ys))
+        (word-append bs ys (omega (arith, four)) ∙ e) some few fits)
+        ∙ pass_more (block_extent w) (block_extent w - 4) bs ys
+        (normal_from (room - block_extent w) place) (omega (arith, four))
 
 -- the inserted label is given on
 pub inserted_gives : (a : Option (List ℕ)) (all front rest : List ℕ) (f : List ℕ → List ℕ)

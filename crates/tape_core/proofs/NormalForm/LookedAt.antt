@@ -50,10 +50,10 @@ looked_is room place xs w o h e =
 noise_same : (n m : ℕ) → m ≡ min n 81 → nat_lt m 14 ≡ nat_lt n 14
 noise_same n m e = grind (arith, nat_tests)
 
-len_of : (w : ℕ) → 0 < w → w ≤ 99999 → block_len w ≡ Some w
+pub len_of : (w : ℕ) → 0 < w → w ≤ 99999 → block_len w ≡ Some w
 len_of w some few = grind (arith, nat_tests)
 
-len_is : (w n : ℕ) → block_len w ≡ Some n → w ≤ 99999 → n ≡ w
+pub len_is : (w n : ℕ) → block_len w ≡ Some n → w ≤ 99999 → n ≡ w
 len_is w n e few =
     let bounds = block_len-bounds w n e in
     cc (e, len_of w (omega (arith, bounds.0, bounds.2)) few)

@@ -71,6 +71,15 @@ impl Held {
         self.end = LABEL;
     }
 
+    /// Holds `bytes`.
+    pub(crate) fn keep(&mut self, bytes: &[u8])
+        requires { length bytes.now ≤ 88 }
+        ensures { self.new ≡ bytes.now }
+    {
+        self.bytes[..bytes.len()].copy_from_slice(bytes);
+        self.end = bytes.len();
+    }
+
     /// Moves bytes to the start of `buf`, as many as it has room for, and returns their number.
     pub(crate) fn take(&mut self, buf: &mut [u8]) -> usize
         ensures bound { result ≤ length buf.new }

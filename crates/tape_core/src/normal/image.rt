@@ -3,63 +3,20 @@
 ghost use Rattle.std.specs.Prelude.{◌≡◌, ◌≤◌, ◌<◌, [], length, IfOk, IfSome, IfNone, option_map};
 ghost use Rattle.std.specs.Prelude.{true};
 ghost use Rattle.std.specs.Prelude.{false, Some, ◌++◌, take};
+ghost use Rattle.std.specs.{Io.ReadsAtMost, Io.KnownBytes.ReadConsumes};
 ghost use Rattle.std.specs.Io.KnownBytes.{Keeps, IsAtEnd, prepend_known};
-ghost use Rattle.tape_core.specs.NormalForm.Bytes.{looked};
+ghost use Rattle.tape_core.specs.NormalForm.Bytes.{looked, reads_labels};
 ghost use Rattle.tape_core.specs.NormalForm.Bytes.{normal_bytes, normal_from, by_looked, is_over};
 ghost use Rattle.tape_core.specs.NormalForm.Bytes.{IsHeld, IsShort};
 ghost use Rattle.tape_core.specs.NormalForm.Image.{normal_remaining, steps_left, GivesOn};
 
-use crate::normal::code::Code;
 use crate::normal::held::{Held, LABEL};
-use crate::normal::looking::{Looked, begins_label, look};
-use crate::normal::machine::{Change, Missing, Replacement, TapePlace};
+use crate::normal::looking::{Looked, begins_label, block_size, look};
+use crate::normal::machine::{Missing, Replacement, TapePlace};
+use crate::normal::rules::Rules;
+use byteorder::{ByteOrder, LittleEndian};
 use std::io;
 use std::io::Read;
-
-/// The rules by which the normal form of a tape differs from the tape, as far as it was read.
-#[derive(Clone, Copy, Debug, PartialEq, Eq)]
-pub struct Rules {
-    /// Whether labels are in EBCDIC.
-    pub ebcdic: bool,
-    /// Whether the volume label is missing.
-    pub no_volume_label: bool,
-    /// Whether a file has no second header label.
-    pub no_second_label: bool,
-    /// Whether numbers in a second label begin with blanks or NULs.
-    pub blank_numbers: bool,
-    /// The number of items before the first file that are left out.
-    pub before: u64,
-    /// The number of items after the end of the volume that are left out.
-    pub after: u64,
-}
-
-impl Rules {
-    /// No rule.
-    pub const NONE: Rules = Rules {
-        ebcdic: false,
-        no_volume_label: false,
-        no_second_label: false,
-        blank_numbers: false,
-        before: 0,
-        after: 0,
-    };
-
-    /// Notes the rules of a change at the place `place`.
-    fn note(&mut self, place: TapePlace, change: &Change) {
-        match change.missing {
-            Missing::Nothing => {}
-            Missing::VolumeLabel => self.no_volume_label = true,
-            Missing::SecondLabel => self.no_second_label = true,
-            Missing::Digits => self.blank_numbers = true,
-        }
-        match (change.instead, place) {
-            (Replacement::Dropped, TapePlace::Ended) => self.after = self.after.saturating_add(1),
-            (Replacement::Dropped, _) => self.before = self.before.saturating_add(1),
-            (Replacement::Label(_), TapePlace::Second(Code::Ascii)) | (Replacement::Same, _) => {}
-            (Replacement::Label(_), _) => self.ebcdic = true,
-        }
-    }
-}
 
 /// What is done with the next bytes of the device.
 #[derive(Clone, Copy)]
@@ -267,6 +224,33 @@ impl<R: Read> NormalImage<R> {
         Ok(())
     }
 
+    /// Gives on the word of a block of data. Returns `None` if something else, or nothing, is next,
+    /// or if `buf` has no room for a word.
+    #[inline(always)]
+    fn give_word(&mut self, buf: &mut [u8]) -> io::Result<Option<usize>>
+        requires on { self.old.course ≡ Course.Looking }
+        requires data { reads_labels self.old.place ≡ false }
+        requires there { is_over self.old.place ≡ false }
+        requires inserted { self.old.inserted.now ≡ [] }
+        requires label { self.old.label ≡ [] }
+        ensures { GivesOn (normal_remaining R.remaining self.old)
+            (normal_remaining R.remaining self.new) result buf.new }
+    {
+        if buf.len() < 4 || !self.input.held.bytes().is_empty() {
+            return Ok(None);
+        }
+        let read = self.input.device.read(&mut buf[..4])?;
+        if read == 4 {
+            if let Some(size) = block_size(self.room, LittleEndian::read_u32(buf)) {
+                self.room -= size;
+                self.course = Course::Passing(size - 4);
+                return Ok(Some(4));
+            }
+        }
+        self.input.held.keep(&buf[..read]);
+        Ok(None)
+    }
+
     /// Gives the next bytes on, or takes a step towards them.
     fn give(&mut self, buf: &mut [u8]) -> io::Result<Option<usize>>
         requires { 0 < length buf.old }
@@ -302,6 +286,47 @@ impl<R: Read> NormalImage<R> {
         }
         Ok(None)
     }
+
+    /// Gives on the next bytes of an item that stays as it is, or the word of a block of data.
+    /// Returns `None` if something else is next.
+    #[inline(always)]
+    fn give_plain(&mut self, buf: &mut [u8]) -> io::Result<Option<usize>>
+        requires { 0 < length buf.old }
+        ensures { GivesOn (normal_remaining R.remaining self.old)
+            (normal_remaining R.remaining self.new) result buf.new }
+    {
+        if !self.inserted.is_empty() || !self.label.bytes().is_empty() {
+            return Ok(None);
+        }
+        match (self.course, self.place) {
+            (Course::Passing(count), _) if count > 0 => {
+                let most = count.min(buf.len() as u64) as usize;
+                let read = self.input.read(&mut buf[..most])?;
+                self.course = Course::Passing(count - read as u64);
+                Ok(Some(read))
+            }
+            (Course::Passing(_) | Course::Looking, TapePlace::Data(_)) => {
+                self.course = Course::Looking;
+                self.give_word(buf)
+            }
+            _ => Ok(None),
+        }
+    }
+
+    /// Takes steps until bytes are given on, or nothing is left.
+    #[cold]
+    fn give_next(&mut self, buf: &mut [u8]) -> io::Result<usize>
+        requires { 0 < length buf.old }
+        ensures bound { ReadsAtMost result buf.new }
+        ensures bytes { ReadConsumes (normal_remaining R.remaining self.old)
+            (normal_remaining R.remaining self.new) result buf.new }
+    {
+        'steps: loop {
+            if let Some(count) = self.give(buf)? {
+                return Ok(count);
+            }
+        }
+    }
 }
 
 impl<R: Read> Read for NormalImage<R> {
@@ -311,10 +336,9 @@ impl<R: Read> Read for NormalImage<R> {
         if buf.is_empty() {
             return Ok(0);
         }
-        'steps: loop {
-            if let Some(count) = self.give(buf)? {
-                return Ok(count);
-            }
+        match self.give_plain(buf)? {
+            Some(count) => Ok(count),
+            None => self.give_next(buf),
         }
     }
 }

@@ -1,7 +1,7 @@
 //! Looks at the item that the bytes of an image begin with.
 
-ghost use Rattle.std.specs.Prelude.{◌≡◌, ◌≤◌, length};
-ghost use Rattle.tape_image.specs.Word.{block_len};
+ghost use Rattle.std.specs.Prelude.{◌≡◌, ◌≤◌, ◌<◌, length, IfSome};
+ghost use Rattle.tape_image.specs.Word.{block_len, block_extent, longest_block};
 ghost use Rattle.tape_core.specs.NormalForm.Bytes.{reads_labels, begins_label, unlabelled};
 ghost use Rattle.tape_core.specs.NormalForm.Bytes.{block_step, looked, looked_label, within};
 
@@ -100,6 +100,21 @@ fn block_len(word: u32) -> Option<u64>
         return None;
     }
     Some(u64::from(len))
+}
+
+/// Returns the number of bytes that a block takes in an image, if `word` begins one that can be
+/// read, and it ends within the limit.
+#[inline(always)]
+pub(crate) fn block_size(room: u64, word: u32) -> Option<u64>
+    ensures size { IfSome result (λ size. size ≡ block_extent word) }
+    ensures block { IfSome result (λ size. (0 < word) × (word ≤ longest_block)) }
+    ensures within { IfSome result (λ size. size ≤ room) }
+{
+    let size = 8 + u64::from(word) + u64::from(word % 2);
+    if word == 0 || word > LONGEST_BLOCK || size > room {
+        return None;
+    }
+    Some(size)
 }
 
 /// Returns the item that the bytes begin with, and what replaces it, or `None` if the rest of the

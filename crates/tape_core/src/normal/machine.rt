@@ -51,8 +51,7 @@ pub enum Missing {
     Nothing,
     /// The volume label, which is inserted.
     VolumeLabel,
-    /// The second header label. None is inserted: it would hide that the form of the records is
-    /// not known.
+    /// The second header label. None is inserted, since the form of the records is not known.
     SecondLabel,
     /// The digits at the start of numbers in the second label that replaces the item.
     Digits,
@@ -230,13 +229,12 @@ fn second_label(code: Code, bytes: &[u8]) -> (TapePlace, Change)
     let text = in_ascii(code, label);
     if let Some(Kind::Hdr2) = kind(&text) {
         let filled = mended(&text);
-        let change = if filled == text {
-            translated(code, text)
-        } else {
-            Change {
-                missing: Missing::Digits,
-                instead: Replacement::Label(filled),
-            }
+        if filled == text {
+            return (TapePlace::Headers(code), translated(code, text));
+        }
+        let change = Change {
+            missing: Missing::Digits,
+            instead: Replacement::Label(filled),
         };
         return (TapePlace::Headers(code), change);
     }

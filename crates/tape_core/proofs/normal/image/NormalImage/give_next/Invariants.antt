@@ -1,7 +1,7 @@
 use Rattle.std.proofs.Common.{◌≡◌, length}
 use Rattle.std.specs.Io.KnownBytes.{Keeps}
 use Rattle.tape_core.specs.NormalForm.Image.{normal_remaining, steps_left}
-use Rattle.tape_core.proofs.normal.image.NormalImageRead.read.Given as goal
+use Rattle.tape_core.proofs.normal.image.NormalImage.give_next.Given as goal
 
 abbrev pub invariant-steps : goal.invariant-steps
 invariant-steps g l = record {

@@ -1,0 +1,49 @@
+//! The rules that were applied to a tape.
+
+use crate::normal::code::Code;
+use crate::normal::machine::{Change, Missing, Replacement, TapePlace};
+
+/// The rules by which the normal form of a tape differs from the tape, as far as it was read.
+#[derive(Clone, Copy, Debug, PartialEq, Eq)]
+pub struct Rules {
+    /// Whether labels are in EBCDIC.
+    pub ebcdic: bool,
+    /// Whether the volume label is missing.
+    pub no_volume_label: bool,
+    /// Whether a file has no second header label.
+    pub no_second_label: bool,
+    /// Whether numbers in a second label begin with blanks or NULs.
+    pub blank_numbers: bool,
+    /// The number of items before the first file that are left out.
+    pub before: u64,
+    /// The number of items after the end of the volume that are left out.
+    pub after: u64,
+}
+
+impl Rules {
+    /// No rule.
+    pub const NONE: Rules = Rules {
+        ebcdic: false,
+        no_volume_label: false,
+        no_second_label: false,
+        blank_numbers: false,
+        before: 0,
+        after: 0,
+    };
+
+    /// Notes the rules of a change at the place `place`.
+    pub(crate) fn note(&mut self, place: TapePlace, change: &Change) {
+        match change.missing {
+            Missing::Nothing => {}
+            Missing::VolumeLabel => self.no_volume_label = true,
+            Missing::SecondLabel => self.no_second_label = true,
+            Missing::Digits => self.blank_numbers = true,
+        }
+        match (change.instead, place) {
+            (Replacement::Dropped, TapePlace::Ended) => self.after = self.after.saturating_add(1),
+            (Replacement::Dropped, _) => self.before = self.before.saturating_add(1),
+            (Replacement::Label(_), TapePlace::Second(Code::Ascii)) | (Replacement::Same, _) => {}
+            (Replacement::Label(_), _) => self.ebcdic = true,
+        }
+    }
+}
