@@ -13,3 +13,5 @@ pub mod Same
 pub mod Enough
 pub mod Giving
 pub mod Holding
+pub mod Counting
+pub mod Kept

@@ -74,7 +74,7 @@ instead_leads (Label text) bytes more rest items s l =
     (Leads-one (written_block text) rest (block text ∷ []) (block_spelled text block_is))
 
 -- an encoding gives no item or one
-one_item : (bytes : List ℕ) (items : List TapeItem) → IsSpelling bytes items
+pub one_item : (bytes : List ℕ) (items : List TapeItem) → IsSpelling bytes items
     → (items ≡ []) ⊎ ((x : TapeItem) × (items ≡ x ∷ []))
 one_item bytes items (a_mark is e) = inr (mark, e)
 one_item bytes items (a_gap is e) = inl e
@@ -82,7 +82,7 @@ one_item bytes items (a_block w content len f e) = inr (item_of w content, e)
 
 -- ---- all encodings
 
-over_is : (place : TapePlace) → is_over place ≡ true → places.Over ≡ place
+pub over_is : (place : TapePlace) → is_over place ≡ true → places.Over ≡ place
 over_is places.Over e = refl
 over_is (places.Data code) e = absurd (cc e)
 over_is (places.Start n) e = absurd (cc e)
@@ -95,15 +95,15 @@ over_is (places.Trailers code) e = absurd (cc e)
 over_is (places.Next code) e = absurd (cc e)
 over_is places.Ended e = absurd (cc e)
 
-abbrev bytes_of : List Spelling → List ℕ
+abbrev pub bytes_of : List Spelling → List ℕ
 bytes_of ss = flat_map (λ s. s.bytes) ss
 
-abbrev items_of : List Spelling → List TapeItem
+abbrev pub items_of : List Spelling → List TapeItem
 items_of ss = flat_map (λ s. s.given) ss
 
 -- nothing is looked at where the medium ends
-end_left : (room : ℕ) (place : TapePlace) (rest : List ℕ) (ending : Ending) → EndsHere ending rest
-    → normal_from room place rest ≡ rest
+pub end_left : (room : ℕ) (place : TapePlace) (rest : List ℕ) (ending : Ending)
+    → EndsHere ending rest → normal_from room place rest ≡ rest
 end_left room place rest Physical e = rw (e) refl
 end_left room place rest Marked e =
     first_item room place rest
@@ -145,6 +145,28 @@ stepped_items place items rest (inr (x, e)) =
     ∙ ap (λ (l : List TapeItem). inserted step.1.missing ++ (l ++ from step.0 rest))
     (one_instead step.1.instead x))
 
+-- the bytes in normal form, by the first encoding
+pub first_left : (s : Spelling) (ss : List Spelling) (room : ℕ) (place : TapePlace)
+    (rest : List ℕ) → length (bytes_of (s ∷ ss) ++ rest) ≤ room → is_over place ≡ false
+    → normal_from room place (bytes_of (s ∷ ss) ++ rest)
+    ≡ inserted_bytes (stepped place s.given).1.missing
+    ++ instead_bytes (stepped place s.given).1.instead (length s.bytes)
+    (s.bytes ++ (bytes_of ss ++ rest))
+    (normal_from (room - length s.bytes) (stepped place s.given).0 (bytes_of ss ++ rest))
+first_left s ss room place rest h o =
+    let more : List ℕ = bytes_of ss ++ rest in
+    let n = length s.bytes in
+    let step = stepped place s.given in
+    let assoc : bytes_of (s ∷ ss) ++ rest ≡ s.bytes ++ more =
+    append_assoc s.bytes (bytes_of ss) rest in
+    let looks = looked_spelled room place s.bytes more s.given o
+    (omega (arith, h, ap length assoc, length-append s.bytes more)) s.spelled in
+    ap (λ (l : List ℕ). normal_from room place l) assoc ∙ first_item room place (s.bytes ++ more)
+    ∙ ap (λ (p : Option Looked). by_looked p room (s.bytes ++ more) normal_from) looks
+    ∙ ap (λ (l : List ℕ). inserted_bytes step.1.missing
+    ++ instead_bytes step.1.instead n (s.bytes ++ more) (normal_from (room - n) step.0 l))
+    (drop_at s.bytes more n refl)
+
 spelled_first : (s : Spelling) (ss : List Spelling) (room : ℕ) (place : TapePlace) (rest : List ℕ)
     → length (bytes_of (s ∷ ss) ++ rest) ≤ room → (o : Bool) → is_over place ≡ o
     → ((next : TapePlace) (n : ℕ) → length (bytes_of ss ++ rest) ≤ n
@@ -164,14 +186,9 @@ spelled_first s ss room place rest h false o next =
     let long : n + length more ≤ room =
     omega (arith, h, ap length assoc, length-append s.bytes more) in
     let left = normal_from (room - n) step.0 more in
-    let looks = looked_spelled room place s.bytes more s.given o (omega (arith, long)) s.spelled in
     let whole : normal_from room place (bytes_of (s ∷ ss) ++ rest)
     ≡ inserted_bytes step.1.missing ++ instead_bytes step.1.instead n (s.bytes ++ more) left =
-    ap (λ (l : List ℕ). normal_from room place l) assoc ∙ first_item room place (s.bytes ++ more)
-    ∙ ap (λ (p : Option Looked). by_looked p room (s.bytes ++ more) normal_from) looks
-    ∙ ap (λ (l : List ℕ). inserted_bytes step.1.missing
-    ++ instead_bytes step.1.instead n (s.bytes ++ more) (normal_from (room - n) step.0 l))
-    (drop_at s.bytes more n refl) in
+    first_left s ss room place rest h o in
     rw (whole, stepped_items place s.given (items_of ss) (one_item s.bytes s.given s.spelled))
     (Leads-trans _ _ rest (inserted step.1.missing) _ (inserted_leads step.1.missing _)
     (Leads-trans _ left rest (insteads step.1.instead s.given) (from step.0 (items_of ss))

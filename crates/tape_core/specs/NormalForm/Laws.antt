@@ -38,3 +38,13 @@ NormalSpells = (xs : List ℕ) (items : List TapeItem) → length xs ≤ image_l
 abbrev pub CopySpells : FileSet → Type 0
 CopySpells set = (k : ℕ) (good : List Bool) (xs : List ℕ) → length xs ≤ image_limit
     → Spells xs (as_read (items set k) good) → Spells (normal_bytes xs) (as_read (items set k) good)
+
+-- Such an image of items that are their own normal form is its own normal form, byte for byte.
+abbrev pub BytesKept : Type 0
+BytesKept = (xs : List ℕ) (items : List TapeItem) → length xs ≤ image_limit → Spells xs items
+    → normal items ≡ items → normal_bytes xs ≡ xs
+
+-- So is one of a copy of a volume of a valid set.
+abbrev pub CopyBytesKept : FileSet → Type 0
+CopyBytesKept set = (k : ℕ) (good : List Bool) (xs : List ℕ) → length xs ≤ image_limit
+    → Spells xs (as_read (items set k) good) → normal_bytes xs ≡ xs

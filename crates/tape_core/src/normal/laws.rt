@@ -3,6 +3,7 @@
 ghost use Rattle.tape_set.specs.{Layout.FileSet, Lawful.IsLawful};
 ghost use Rattle.tape_core.specs.NormalForm.{Ahead.NormalIsAhead, Ahead.BehindIsAhead};
 ghost use Rattle.tape_core.specs.NormalForm.Laws.{NormalKeeps, DataKept, NormalSpells, CopySpells};
+ghost use Rattle.tape_core.specs.NormalForm.Laws.{BytesKept, CopyBytesKept};
 
 /// A copy of a volume of a valid set is its own normal form, however damaged it is, and wherever it
 /// ends.
@@ -40,4 +41,15 @@ pub fn normal_spells()
 #[tactic(auto, using(crate::proofs::NormalForm::Spelled::copy_spells))]
 pub fn copy_spells()
     ensures { (set : FileSet) → IsLawful set → CopySpells set }
+{}
+
+/// An image that encodes items which are their own normal form, up to the end of the medium, gives
+/// the same bytes.
+pub fn bytes_kept()
+    ensures { BytesKept }
+{}
+
+/// So does such an image of a copy of a volume of a valid set.
+pub fn copy_bytes_kept()
+    ensures { (set : FileSet) → IsLawful set → CopyBytesKept set }
 {}
