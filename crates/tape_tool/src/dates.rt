@@ -84,7 +84,7 @@ fn created_on<R: Read + Drop>(
 ) -> Option<Field<6>> {
     let mut device = device;
     let mut image = ImageReader::new(alloc, &mut device).ok()?;
-    // The tape marks since the header labels: one before the data, one after, one after the trailer.
+    // The tape marks since the header labels: one before the data, and one after them.
     let mut marks = 0u8;
     for _ in 0..u64::MAX {
         match image.next() {
