@@ -245,8 +245,8 @@ impl<R: Read + Drop> ReadAhead<R> {
 }
 
 impl<R: Read> ReadAhead<R> {
-    /// Reads the first bytes of an image of which nothing was read, and returns them. They are read
-    /// again by the next reads. If that fails, so does the next read, and there are none.
+    /// Reads the first bytes of an unread image, and returns them. The next reads return them again.
+    /// Returns no bytes if the system refuses; the next read then asks again.
     pub fn front(&mut self) -> &[u8] {
         self.inner.fill_buf().unwrap_or(&[])
     }
