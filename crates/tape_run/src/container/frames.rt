@@ -54,7 +54,7 @@ pub(super) fn whole_len(bytes: &[u8]) -> Option<usize>
     whole_block(bytes, word)
 }
 
-/// Returns the length of the block that the word `word` begins, if the word is behind it too.
+/// Returns the length of the block after the word `word`, if the same word follows the block.
 fn whole_block(bytes: &[u8], word: u32) -> Option<usize>
     ensures is { result ≡ whole_block word (block_len word) bytes.now }
     ensures bound { IfSome result (λ len. len ≤ length bytes.now) }
