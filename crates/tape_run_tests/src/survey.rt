@@ -107,29 +107,6 @@ Set ABC001: 1 of 1 files complete
 All files are complete, and every image was read to its end.
 ";
 
-/// A whole volume, and a second section of its only file.
-const BEHIND: &str = "1.tap                     ok           volume ABC001, 1 section
-2.tap                     ok           volume ABC002, 1 section
-Set ABC001: 1 of 1 files complete
-  Volumes: ABC001
-   1 PAYROLL                        complete
-ABC001 file 1 section 2 is good on ABC002: the file ends before it
-2 images: 2 ok
-";
-
-#[test]
-fn a_section_behind_the_end_of_its_file(rt: HostRuntime) -> Result<(), Fail> {
-    let whole = payroll(rt.alloc())?;
-    let second = second_of_two(rt.alloc())?;
-    survey(
-        &rt,
-        &[Some(whole.bytes.as_slice()), Some(second.bytes.as_slice())],
-        &["1.tap", "2.tap"],
-        false,
-        BEHIND,
-    )
-}
-
 const FIRST: &str = "one.tap                   ok           volume ABC001, 1 section
 Set ABC001: 0 of 1 files complete
   Volumes: ABC001, missing (follows ABC001)

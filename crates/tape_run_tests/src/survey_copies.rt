@@ -1,6 +1,6 @@
-//! Tests of surveys of images with several complete copies of a section.
+//! Tests of surveys of images with several complete copies of a section, or one too many sections.
 use crate::image::{HDR1, Image, payroll};
-use crate::sections::one_section;
+use crate::sections::{one_section, second_of_two};
 use crate::survey::{survey, told};
 use crate::volumes::EOF_ONE;
 use std::alloc::{AllocError, Global};
@@ -71,5 +71,28 @@ fn copies(rt: HostRuntime) -> Result<(), Fail> {
         Wording::Rows,
         false,
         ROWS_OF_THREE,
+    )
+}
+
+/// A whole volume, and a second section of its only file.
+const BEYOND: &str = "1.tap                     ok           volume ABC001, 1 section
+2.tap                     ok           volume ABC002, 1 section
+Set ABC001: 1 of 1 files complete
+  Volumes: ABC001
+   1 PAYROLL                        complete
+ABC001 file 1 section 2 is good on ABC002: the file ends before it
+2 images: 2 ok
+";
+
+#[test]
+fn a_section_behind_the_end_of_its_file(rt: HostRuntime) -> Result<(), Fail> {
+    let whole = payroll(rt.alloc())?;
+    let second = second_of_two(rt.alloc())?;
+    survey(
+        &rt,
+        &[Some(whole.bytes.as_slice()), Some(second.bytes.as_slice())],
+        &["1.tap", "2.tap"],
+        false,
+        BEYOND,
     )
 }
