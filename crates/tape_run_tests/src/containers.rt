@@ -113,7 +113,7 @@ fn spelled(bytes: &mut Vec<u8>, item: &[u8], before: usize) -> Result<(), AllocE
 fn seven(bytes: &mut Vec<u8>, item: &[u8]) -> Result<(), AllocError> {
     let mut mark = 0x80;
     for byte in item {
-        bytes.push(byte % 0x40 + 0x40 + mark)?;
+        bytes.push((byte % 0x40 + 0x40) | mark)?;
         mark = 0;
     }
     if item.is_empty() {
