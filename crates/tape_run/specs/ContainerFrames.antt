@@ -67,7 +67,7 @@ abbrev pub extended_by : ℕ → List ℕ → Bool
 extended_by w xs = (is_record w && is_word_at (record_end (w % 2 ^ 28)) w xs)
     || (is_marker w && goes_on (drop 4 xs))
 
--- the bytes begin with such a record between two equal words, or with a marker that such items follow
+-- the bytes begin with such a record between two equal words, or with a marker before such items
 abbrev pub is_extended : List ℕ → Bool
 is_extended xs =
     if nat_lt (length xs) 4 then false else extended_by (little_number 4 xs) xs

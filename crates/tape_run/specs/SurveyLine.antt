@@ -167,7 +167,8 @@ dispute_text between (Some key) = between ++ (codes "section " ++ (decimal key.s
 abbrev pub seen_text : List ℕ → ImageSurvey → Option SectionKey → List ℕ
 seen_text between s key = glance_text between s.glance
     ++ (course_text between (course_shown s.glance.first s.glance.course) s.stop
-    ++ (stop_text between s.kind s.stop ++ (damages_text between s.damaged ++ dispute_text between key)))
+    ++ (stop_text between s.kind s.stop
+    ++ (damages_text between s.damaged ++ dispute_text between key)))
 
 -- the word for a state, padded to a column
 abbrev pub state_word : ImageState → List ℕ

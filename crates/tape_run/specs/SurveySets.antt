@@ -186,7 +186,7 @@ is_flawless fs = not (any_lost fs) && not (any_misfit fs)
 
 -- Nothing is missing, and everything was read: all images are complete, each file that was found is
 -- complete, each section has a good copy, none follows the end of its file, no two files were found
--- under one number, no good copies differ, no second label is lost, and each block is in its format.
+-- under one number, no good copies differ, no second label is lost, each block is in its format.
 abbrev pub is_all : Found → Bool
 is_all d = d.whole && (found_all d.sections && (all_good d.sections
     && (not (any_differs d.files.notes) && (is_agreed d.copies.conflicts

@@ -20,8 +20,8 @@ Agree x y = (x.1.0.1.blocks ≡ y.1.0.1.blocks) × (digest_of x.1.1 ≡ digest_o
 
 -- These images, on which this was found: each was opened and read to its end; something was found;
 -- each section that was found has a good copy; nothing is missing of any file; no section follows a
--- good one that ends its file; no number has labels of different files; no second label is lost; each block of a good section is in its format; and
--- no two good copies of a section differ.
+-- good one that ends its file; no number has labels of different files; no second label is lost;
+-- each block of a good section is in its format; and no two good copies of a section differ.
 pub record IsSound {L R : Type 0} (gives : Mounting L R) (remaining : R → Option (List ℕ))
     (shelf last : L) (sights : List (Option ImageSurvey)) (d : Found)
     (v : AreViewed gives remaining shelf 0 sights nothing_found last d) : Type 0 where

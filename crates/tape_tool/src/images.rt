@@ -245,7 +245,7 @@ impl<R: Read + Drop> ReadAhead<R> {
 }
 
 impl<R: Read> ReadAhead<R> {
-    /// Reads the first bytes of an unread image, and returns them. The next reads return them again.
+    /// Reads the first bytes of an unread image, and returns them. Later reads return them again.
     /// Returns no bytes if the system refuses; the next read then asks again.
     pub fn front(&mut self) -> &[u8] {
         self.inner.fill_buf().unwrap_or(&[])

@@ -50,8 +50,8 @@ pub struct Normal<R: Progress> {
     inner: Form<R>,
 }
 
-/// The bytes of an image: in normal form or, if the image is of a kind that `tape` does not read, as
-/// they are.
+/// The bytes of an image: in normal form or, if the image is of a kind that `tape` does not read,
+/// as they are.
 #[derive(Drop)]
 enum Form<R: Progress> {
     Normal(NormalImage<Image<R>>),

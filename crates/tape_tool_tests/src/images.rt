@@ -99,7 +99,7 @@ const MERGED: &str = "
     put merge.names word1.tap\\0Aword1.tap\\0A
     put merge_lost.names word1.tap\\0Alost.tap\\0A
     2: merge | merge new1.tap | merge new1.tap word1.tap | merge - word1.tap word1.tap
-    2: merge new1.tap word1.tap => name at least two readings of the tape ('merge' takes OUT before them)
+    2: merge new1.tap word1.tap => two readings of the tape ('merge' takes OUT before them)
     2: compare word1.tap => at least two readings
     missing new1.tap
     file fault 2: merge new1.tap word1.tap lost.tap | merge new1.tap --files-from merge_lost.names

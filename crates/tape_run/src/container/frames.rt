@@ -1,9 +1,11 @@
 //! The items that bytes begin with, in the formats that are close to SIMH's.
-ghost use Rattle.std.specs.Prelude.{◌≡◌, ◌≤◌, ◌<◌, ◌^◌, ◌++◌, length, IfSome, IfNone, drop, ◌∷◌, []};
+ghost use Rattle.std.specs.Prelude.{◌≡◌, ◌≤◌, ◌<◌, ◌^◌, ◌++◌, length, IfSome, IfNone, drop};
+ghost use Rattle.std.specs.Prelude.{◌∷◌, []};
 ghost use Rattle.byteorder.specs.Endian.{little_number};
 ghost use Rattle.tape_image.specs.Word.{block_len};
-ghost use Rattle.tape_run.specs.ContainerFrames.{is_word_at, whole_len, whole_block, begins_block, is_e11};
-ghost use Rattle.tape_run.specs.ContainerFrames.{is_extended, goes_on, is_marker, is_record};
+ghost use Rattle.tape_run.specs.ContainerFrames.{is_word_at, whole_len, whole_block, is_e11};
+ghost use Rattle.tape_run.specs.ContainerFrames.{begins_block, is_extended, goes_on, is_marker};
+ghost use Rattle.tape_run.specs.ContainerFrames.{is_record};
 ghost use Rattle.tape_run.specs.ContainerFrames.{in_lf, begins_text};
 
 use crate::container::marks::from;

@@ -1,9 +1,10 @@
 //! Images that hold lengths in other forms than SIMH's.
 ghost use Rattle.std.specs.Prelude.{◌≡◌, ◌≤◌, ◌<◌, ◌+◌, length};
 ghost use Rattle.byteorder.specs.Endian.{little_number};
-ghost use Rattle.tape_run.specs.ContainerRecords.{is_block_flag, fits_flag, is_header, after_header};
+ghost use Rattle.tape_run.specs.ContainerRecords.{is_block_flag, fits_flag, is_header};
+ghost use Rattle.tape_run.specs.ContainerRecords.{after_header, is_plain};
 ghost use Rattle.tape_run.specs.ContainerRecords.{begins_aws, has_packed, is_digit, is_fake_tape};
-ghost use Rattle.tape_run.specs.ContainerRecords.{is_seven_track, is_p7b, is_big, recorded, is_plain};
+ghost use Rattle.tape_run.specs.ContainerRecords.{is_seven_track, is_p7b, is_big, recorded};
 ghost use Rattle.std.specs.List.{list_all};
 
 use crate::container::Container;
@@ -18,7 +19,7 @@ fn is_block_flag(flag: u8) -> bool
     packing < 3 && matches!(flag - packing, 0xA0 | 0x80 | 0x20 | 0)
 }
 
-/// Returns whether the bytes begin with an AWS or HET header that follows a block of `before` bytes.
+/// Returns whether the bytes begin with an AWS or HET header after a block of `before` bytes.
 fn is_header(bytes: &[u8], before: u16) -> bool
     ensures is { result ≡ is_header before bytes.now }
 {

@@ -4,8 +4,8 @@ ghost use Rattle.tape_run.specs.ContainerText.{container_text, packed_text, imag
 
 use crate::container::Container;
 
-/// Returns what a file of the kind is, and the program that makes a SIMH image of it, if `tape` does
-/// not read it.
+/// Returns what a file of the kind is, and the program that makes a SIMH image of it, if `tape`
+/// does not read it.
 pub fn container_text(kind: Container) -> &'static str
     ensures { result.now ≡ container_text kind }
 {

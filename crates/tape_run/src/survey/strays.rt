@@ -1,4 +1,4 @@
-//! Sections that a complete file does not need: they are damaged, or follow the section that ends it.
+//! Sections that a complete file does not need: damaged ones, and those after the one that ends it.
 ghost use Rattle.std.specs.Prelude.{◌≡◌, ◌++◌, OnOk};
 ghost use Rattle.tape_run.specs.Lacks.{entry_at, good_end};
 ghost use Rattle.tape_run.specs.SurveySets.{follows_end, is_known_end, none_follows};
