@@ -6,7 +6,7 @@ ghost use Rattle.tape_blocks.specs.Numbers.{pack_fault_number};
 use thiserror::Error;
 
 /// The result of offering the rest of a record to a packer.
-#[derive(Clone, Copy, Debug, PartialEq, Eq)]
+#[derive(Clone, Copy, PartialEq, Eq)]
 pub enum Offer {
     /// The whole rest is in the current block, and the record has ended.
     Taken,

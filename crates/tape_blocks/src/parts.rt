@@ -131,7 +131,7 @@ impl Span {
 }
 
 /// A record, or a segment of a record, borrowed from its block.
-#[derive(Clone, Copy, Debug, PartialEq, Eq)]
+#[derive(Clone, Copy, PartialEq, Eq)]
 pub struct Part<'a> {
     /// The position of this part within its record.
     pub span: Span,

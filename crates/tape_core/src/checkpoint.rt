@@ -18,7 +18,7 @@ use tape_set::Position;
 /// Invariant, which anyone who creates a checkpoint proves: its numbers are in range; the form of
 /// the file is known exactly if the position is not the start of the file; a record is unfinished
 /// only in formats S and V, and never at the end of the file.
-#[derive(Clone, Copy, Debug, PartialEq, Eq)]
+#[derive(Clone, Copy, PartialEq, Eq)]
 pub struct Checkpoint {
     /// The number of the file in its set, 1 to 9,999.
     pub file: u16,
@@ -160,7 +160,7 @@ impl Checkpoint {
 
 /// The form that all sections of a file share, as stated in their HDR1 and HDR2. Invariant, which
 /// anyone who creates a value proves: its numbers are in range.
-#[derive(Clone, Copy, Debug, PartialEq, Eq)]
+#[derive(Clone, Copy, PartialEq, Eq)]
 pub struct Known {
     /// The record format.
     pub format: Format,

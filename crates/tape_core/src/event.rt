@@ -9,7 +9,7 @@ use tape_label::{Field, LabelFault};
 use thiserror::Error;
 
 /// The next event from the mounted reel.
-#[derive(Clone, Copy, Debug)]
+#[derive(Clone, Copy)]
 pub enum Event<'a> {
     /// A readable block.
     Block(&'a [u8]),
@@ -106,7 +106,7 @@ impl CoreFault {
 }
 
 /// The expected block, which was checked.
-#[derive(Clone, Copy, Debug)]
+#[derive(Clone, Copy)]
 pub struct Awaited {
     /// The shape of its records, as `ReaderCore::shape` returns it.
     pub shape: Shape,
@@ -119,7 +119,7 @@ pub struct Awaited {
 }
 
 /// The item of the section needed that a reader expects next.
-#[derive(Clone, Copy, Debug)]
+#[derive(Clone, Copy)]
 pub enum Expected {
     /// Its HDR2. The item before was its HDR1.
     Header2,
@@ -137,7 +137,7 @@ pub enum Expected {
 }
 
 /// The fields of an HDR1 that are remembered while its section is read.
-#[derive(Clone, Copy, Debug)]
+#[derive(Clone, Copy)]
 pub(crate) struct Heading {
     /// The number of the file in its set.
     pub sequence: u16,
@@ -149,7 +149,7 @@ pub(crate) struct Heading {
 
 /// The items expected next on the mounted reel. The numbers of HDR1 are remembered until the end of
 /// a section, and for the section needed also the form from its labels.
-#[derive(Clone, Copy, Debug)]
+#[derive(Clone, Copy)]
 pub(crate) enum Phase {
     /// Nothing: no reading is in progress.
     Over,

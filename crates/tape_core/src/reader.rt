@@ -26,7 +26,7 @@ use tape_set::{Position, Want};
 
 /// Reads one file of a set, item by item, from reels that are mounted in any order. Tracks the
 /// position in the file. Does not allocate, and stores no bytes of records.
-#[derive(Debug, Drop)]
+#[derive(Drop)]
 pub struct ReaderCore {
     /// The identifier of the file set.
     set_id: Field<6>,

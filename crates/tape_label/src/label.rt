@@ -12,7 +12,7 @@ use thiserror::Error;
 
 /// The reason why a block is not a valid label, or a text is not a valid field. Positions in a
 /// label are counted from 1.
-#[derive(Clone, Copy, Debug, PartialEq, Eq, Hash, Error)]
+#[derive(Clone, Copy, Debug, PartialEq, Eq, Error)]
 pub enum LabelFault {
     /// The block does not have 80 characters.
     #[error("a label has 80 characters")]
@@ -93,7 +93,7 @@ pub fn is_volume_label(block: &[u8]) -> bool
 }
 
 /// A label with its fields.
-#[derive(Clone, Copy, Debug, PartialEq, Eq, Hash)]
+#[derive(Clone, Copy, Debug, PartialEq, Eq)]
 pub enum Label {
     /// `VOL1`, the volume label.
     Vol1(Vol1),

@@ -107,7 +107,7 @@ pub(crate) fn field_at<const N: usize>(label: &[u8], first: usize) -> Field<N>
 }
 
 /// A volume label, `VOL1` (ECMA-13, 4th edition, "Volume Header Label").
-#[derive(Clone, Copy, Debug, PartialEq, Eq, Hash)]
+#[derive(Clone, Copy, Debug, PartialEq, Eq)]
 pub struct Vol1 {
     /// The volume identifier, at positions 5 to 10.
     pub volume: Field<6>,
@@ -123,7 +123,7 @@ pub struct Vol1 {
 }
 
 /// A first header label, `HDR1` (ECMA-13, 4th edition, "First File Header Label").
-#[derive(Clone, Copy, Debug, PartialEq, Eq, Hash)]
+#[derive(Clone, Copy, Debug, PartialEq, Eq)]
 pub struct Head1 {
     /// The file identifier, at positions 5 to 21.
     pub file_id: Field<17>,
@@ -150,7 +150,7 @@ pub struct Head1 {
 
 /// The record format: how blocks contain records. `F`, `D` and `S` are the formats of ECMA-13 (4th
 /// edition, "Second File Header Label", record format).
-#[derive(Clone, Copy, Debug, PartialEq, Eq, Hash)]
+#[derive(Clone, Copy, Debug, PartialEq, Eq)]
 pub enum Format {
     /// `F`: each record has the record length.
     Fixed,
@@ -184,7 +184,7 @@ impl Format {
 
 /// A second header or trailer label, `HDR2`, `EOF2` or `EOV2` (ECMA-13, 4th edition, "Second File
 /// Header Label").
-#[derive(Clone, Copy, Debug, PartialEq, Eq, Hash)]
+#[derive(Clone, Copy, Debug, PartialEq, Eq)]
 pub struct Head2 {
     /// The record format, at position 5.
     pub format: Format,
@@ -198,7 +198,7 @@ pub struct Head2 {
 }
 
 /// A first trailer label (ECMA-13, 4th edition, end of file and end of volume labels).
-#[derive(Clone, Copy, Debug, PartialEq, Eq, Hash)]
+#[derive(Clone, Copy, Debug, PartialEq, Eq)]
 pub struct Trail1 {
     /// True for `EOF1`, at the end of the file; false for `EOV1`, if the file continues on another
     /// volume.
@@ -211,7 +211,7 @@ pub struct Trail1 {
 }
 
 /// The labels that can be read and written.
-#[derive(Clone, Copy, Debug, PartialEq, Eq, Hash)]
+#[derive(Clone, Copy, Debug, PartialEq, Eq)]
 pub enum Kind {
     /// `VOL1`, the volume label.
     Vol1,

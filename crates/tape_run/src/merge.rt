@@ -25,7 +25,7 @@ use std::io::{Read, Write};
 use tape_image::{ImageWriteFault, ImageWriter};
 
 /// The tape that the readings combine to.
-#[derive(Clone, Copy, Debug, PartialEq, Eq)]
+#[derive(Clone, Copy, PartialEq, Eq)]
 pub struct Merged {
     /// The number of items.
     pub items: u64,
@@ -67,7 +67,7 @@ impl Merged {
 }
 
 /// The reason why readings were not merged to their ends.
-#[derive(Clone, Copy, Debug, PartialEq, Eq)]
+#[derive(Clone, Copy, PartialEq, Eq)]
 pub enum MergeFault {
     /// Two readings have different readable items at the given number, counted from 1: they are not
     /// readings of one tape.

@@ -48,7 +48,7 @@ pub fn number_of_write(fault: WriteFault) -> u8
 }
 
 /// An error that ends the program with status 1, and is reported on one line.
-#[derive(Clone, Copy, Debug, PartialEq, Eq)]
+#[derive(Clone, Copy, PartialEq, Eq)]
 pub enum ToolFault {
     /// The rest of an image could not be read.
     Image(ImageFault),

@@ -34,7 +34,7 @@ use tape_run::EngineFault;
 use tape_set::Want;
 
 /// The end of a run of the program.
-#[derive(Clone, Copy, Debug, PartialEq, Eq)]
+#[derive(Clone, Copy, PartialEq, Eq)]
 pub enum End {
     /// The program did what was asked, or printed help.
     Done,

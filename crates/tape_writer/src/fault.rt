@@ -4,7 +4,7 @@ ghost use Rattle.std.specs.Prelude.{◌≡◌};
 ghost use Rattle.tape_writer.specs.Faults.{IsOfOut};
 
 /// The reason why a call to a `TapeOut` was refused.
-#[derive(Clone, Copy, Debug, PartialEq, Eq)]
+#[derive(Clone, Copy, PartialEq, Eq)]
 pub enum OutFault {
     /// The device failed.
     Device,
@@ -46,7 +46,7 @@ pub enum WriteFault {
 }
 
 /// The reason why a set was not written completely.
-#[derive(Clone, Copy, Debug, PartialEq, Eq)]
+#[derive(Clone, Copy, PartialEq, Eq)]
 pub enum SetFault {
     /// The fault with which the set writer refused a call, or for which a record could not be
     /// passed to it.

@@ -45,7 +45,7 @@ pub enum TapePlace {
 }
 
 /// What is missing on a tape: a label, or digits of one.
-#[derive(Clone, Copy, Debug, PartialEq, Eq)]
+#[derive(Clone, Copy, PartialEq, Eq)]
 pub enum Missing {
     /// None.
     Nothing,
@@ -58,7 +58,7 @@ pub enum Missing {
 }
 
 /// What replaces an item.
-#[derive(Clone, Copy, Debug, PartialEq, Eq)]
+#[derive(Clone, Copy, PartialEq, Eq)]
 pub enum Replacement {
     /// The item itself.
     Same,
@@ -69,7 +69,7 @@ pub enum Replacement {
 }
 
 /// What replaces an item, and which label is missing before it.
-#[derive(Clone, Copy, Debug, PartialEq, Eq)]
+#[derive(Clone, Copy, PartialEq, Eq)]
 pub struct Change {
     /// The label that is missing before the item.
     pub missing: Missing,

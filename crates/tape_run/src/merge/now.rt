@@ -29,7 +29,7 @@ use std::io::{Read, Write};
 use tape_image::{Ending, ImageWriteFault, ImageWriter};
 
 /// The result of merging.
-#[derive(Clone, Copy, Debug, PartialEq, Eq)]
+#[derive(Clone, Copy, PartialEq, Eq)]
 pub enum MergeEnd {
     /// The merged image is complete, as far as its readings show.
     Whole,
@@ -40,7 +40,7 @@ pub enum MergeEnd {
 }
 
 /// The reason why there is no merged image, although no two readings were found to differ.
-#[derive(Clone, Copy, Debug, PartialEq, Eq)]
+#[derive(Clone, Copy, PartialEq, Eq)]
 pub enum MergeStop {
     /// The image with the given number, counted from 0, could not be opened.
     NotOpened(usize),

@@ -11,7 +11,7 @@ use std::io::Read;
 use tape_image::{ImageFault, ImageReader, Item};
 
 /// The result of comparing the item of one reading with the items of the readings before it.
-#[derive(Clone, Copy, Debug, PartialEq, Eq)]
+#[derive(Clone, Copy, PartialEq, Eq)]
 pub enum Verdict {
     /// It is the first item that could be read, or equal to it.
     First,

@@ -20,7 +20,7 @@ use tape_set::Want;
 use tape_stage::{Disk, Salvage, Stage, StageFault};
 
 /// The end of a stage that was shown, after its parts.
-#[derive(Clone, Copy, Debug, PartialEq, Eq)]
+#[derive(Clone, Copy, PartialEq, Eq)]
 pub enum StageEnding {
     /// All frames are intact. Contains the missing part of the file, if any.
     Whole(Option<Want>),

@@ -10,7 +10,7 @@ use std::alloc::{AllocError, Global};
 use std::io::Read;
 
 /// The reason why the next record could not be read.
-#[derive(Clone, Copy, Debug, PartialEq, Eq)]
+#[derive(Clone, Copy, PartialEq, Eq)]
 pub enum InputFault {
     /// The reader failed, or was interrupted.
     ReadFailed,

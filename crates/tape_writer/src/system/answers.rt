@@ -23,7 +23,7 @@ pub fn found(look: io::Result<Metadata>) -> Result<Option<Metadata>, FileFault>
 }
 
 /// The reason why a file is not locked.
-#[derive(Clone, Copy, Debug, PartialEq, Eq)]
+#[derive(Clone, Copy, PartialEq, Eq)]
 pub enum LockFault {
     /// Another run holds the lock.
     InUse,
