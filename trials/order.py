@@ -233,6 +233,24 @@ def links_are_left_alone(t):
     yield run.links == ["OUT"] and run.files["real"] == t.records, "OUT that is a link is written through"
 
 
+def output_that_has_the_lines(t):
+    for words, files in ((["extract", "ABC001", "1"], REELS), (["stage", "s"], {"s": t.stage})):
+        for name in ("/dev/stdout", "/proc/self/fd/1", "notes"):
+            with tempfile.TemporaryDirectory() as folder:
+                notes = Path(folder) / "notes"
+                notes.write_bytes(b"my notes\n")
+                with open(notes, "ab") as out:
+                    path = str(notes) if name == "notes" else name
+                    run = t([*words, path, *(name for name in files if name != "s")], files, out=out)
+                yield run.status == 2 and notes.read_bytes() == b"my notes\n", f"{words[0]} {name}: {run.status} {notes.read_bytes()!r}"
+
+
+def names_of_drafts(t):
+    for words in (["salvage", "ABC001", "1", "S"], ["merge", "M", "two.tap"], ["unpack", "d"], EXTRACT):
+        run = t([*words, ".tape-1.part"], {"two.tap": TWO, ".tape-1.part": ONE})
+        yield run.status == 2 and run.files.get(".tape-1.part") == ONE, f"{words[0]} of an unfinished output: {run.status}"
+
+
 def salvaged_files(t):
     """What `unpack --salvage` does to its two files: those of anybody else stay as they are."""
     words, name = ["unpack", "--salvage", "d", "one.tap"], "d/ABC001.1.PAYROLL"

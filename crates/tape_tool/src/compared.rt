@@ -23,7 +23,7 @@ pub struct Compared {
 }
 
 impl Compared {
-    /// Creates an opener that compares images only if they can be read more than once.
+    /// Creates an opener that compares the images that can be read more than once, if `is_on`.
     pub fn new(alloc: Global, is_on: bool) -> Compared {
         Compared {
             is_on,
@@ -49,7 +49,7 @@ impl Compared {
         ensures cause { IfErr result
             (λ fault. OpeningFails S.PartSink S.refuses fault session.old session.new) }
     {
-        if !self.is_on || !session.is_within() {
+        if !self.is_on || !session.is_within() || !images.is_file(number) {
             return Ok(None);
         }
         let Some(mut image) = mounted(images, number)? else {

@@ -17,7 +17,7 @@ use crate::screen::{Host, Progress};
 use crate::staging::{StageSink, session_in};
 use crate::words::{FORM, form_of, named, out_of, set_id_of, text_of};
 use clap::ArgMatches;
-pub use draft::Draft;
+pub use draft::{Draft, no_draft};
 pub use out::{Output, Way, is_one_name, way_to_out};
 use std::alloc::Global;
 use std::io::{Read, Write};
@@ -145,7 +145,7 @@ fn extract_again<'n, 'a, R: Progress>(
     awaited: &mut Option<Want>,
     site: &mut FaultSite<'a>,
 ) -> Result<End, ToolFault> {
-    let surveyed = are_files(rt.host(), named);
+    let surveyed = named.iter().any(|name| is_file(rt.host(), name));
     let mut wide = false;
     let names = names_to_read(rt, order, named, surveyed, &mut wide, site)?;
     let task = &order.task;
@@ -203,7 +203,7 @@ where
 
 /// Returns the names in the order in which the images are read. If they are surveyed first, those
 /// on which a section of the file begins come first, and `wide` is set if the file may be read in
-/// the wider reading.
+/// the wider reading. An image that can be read only once is not surveyed.
 ///
 /// # Errors
 ///
@@ -221,7 +221,13 @@ fn names_to_read<'n, 'a, R: Progress>(
     if !surveyed {
         return Ok(Vec::from_slice(rt.alloc(), names)?);
     }
-    let met = find_files(rt.alloc(), &mut NormalImages::new(rt, names))?;
+    let mut files = Vec::new(rt.alloc());
+    for name in names {
+        // No file has the empty name, so an image that is not surveyed keeps its number.
+        let tried = if is_file(rt.host(), name) { *name } else { "" };
+        files.push(tried).map_err(|_| OUT_OF_MEMORY)?;
+    }
+    let met = find_files(rt.alloc(), &mut NormalImages::new(rt, files.as_slice()))?;
     for file in met.files.as_slice() {
         if file.set_id != task.set_id || file.file != task.file {
             continue;
@@ -242,7 +248,12 @@ fn names_to_read<'n, 'a, R: Progress>(
 
 /// Returns whether each of these is a plain file, or does not exist: only these can be read twice.
 pub fn are_files<R: Host>(rt: &R, names: &[&str]) -> bool {
-    names.iter().all(|name| fs::metadata(rt, *name).map_or(true, |found| found.is_file()))
+    names.iter().all(|name| is_file(rt, name))
+}
+
+/// Returns whether this is a plain file, or does not exist: only these can be read twice.
+pub fn is_file<R: Host>(rt: &R, name: &str) -> bool {
+    fs::metadata(rt, name).map_or(true, |found| found.is_file())
 }
 
 /// Recovers a file without a stage. If the images are read once, writes the records as they are

@@ -2,7 +2,7 @@
 
 use crate::command_spec::{CommandSpec, Kind, Word};
 use crate::explain::FaultSite;
-use crate::extract::{Draft, Output, is_one_name};
+use crate::extract::{Draft, Output, is_one_name, no_draft};
 use crate::fault::{FileFault, OUT_OF_MEMORY, ToolFault};
 use crate::help;
 use crate::images::{ImageName, Images, Named, names_of};
@@ -138,6 +138,8 @@ pub fn merge<'a, R: Progress>(
         return Ok(merge_files(rt, order, names, io::sink(), &mut Nowhere, no_rows, site));
     };
     *site = FaultSite::New(path);
+    no_draft(names)?;
+    no_draft(&[path, order.log.unwrap_or(path)])?;
     if let Some(log) = order.log
         && is_one_name(rt.host(), log, path)?
     {

@@ -3,6 +3,7 @@
 
 ghost use Rattle.std.specs.Prelude.{⊤, ◌≤◌, length, IfOk};
 
+use crate::extract::is_file;
 use crate::images::{Image, Images};
 use crate::screen::Progress;
 use std::alloc::AllocError;
@@ -164,6 +165,12 @@ impl<'a, R: Progress> NormalImages<'a, R> {
     /// Names no rules from now on, since the images were read before.
     pub fn is_told(&mut self) {
         self.read = self.images.names.len();
+    }
+
+    /// Returns whether image `number` can be read more than once.
+    pub fn is_file(&self, number: usize) -> bool {
+        let name = self.images.names.get(number);
+        name.is_some_and(|name| is_file(self.images.rt.host(), name))
     }
 
     /// Creates the same source, for images that were read before: no rules are named.

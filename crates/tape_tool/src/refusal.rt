@@ -58,8 +58,8 @@ pub fn same_file(one: &Metadata, other: &Metadata) -> bool {
 /// The identity of a file and, for a regular file, of its contents: their length and time.
 #[derive(Clone, Copy, PartialEq, Eq)]
 pub struct FileId {
-    pub device: u64,
-    pub number: u64,
+    device: u64,
+    number: u64,
     length: u64,
     /// The time when the file was last written, in seconds and nanoseconds.
     written: (i64, i64),

@@ -3,7 +3,7 @@
 use crate::command_spec::{CommandSpec, Kind, Word};
 use crate::dates::date_output;
 use crate::explain::FaultSite;
-use crate::extract::Draft;
+use crate::extract::{Draft, no_draft};
 use crate::help;
 use crate::images::{Named, names_of};
 use crate::normal::NormalImages;
@@ -90,6 +90,8 @@ pub fn salvage<'a, R: Progress>(
     let mut text = String::new(rt.alloc());
     let names = names_of(rt.host(), &order.images, &mut text, site)?;
     *site = FaultSite::Out(order.out);
+    no_draft(names.as_slice())?;
+    no_draft(&[order.out])?;
     let (mut draft, out) = Draft::new(rt, order.out)?;
     let images = &mut NormalImages::new(rt, names.as_slice());
     let report = &mut io::writer(rt);

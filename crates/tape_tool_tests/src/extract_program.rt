@@ -100,6 +100,12 @@ const KEPT: &[&[u8]] = &[
     b"\xfd7zXZ\0",
     b"\x28\xb5\x2f\xfd",
     b"PK\x03\x04",
+    b"7z\xbc\xaf\x27\x1c",
+    b"LZIP\x01",
+    b"\x04\x22\x4d\x18",
+    b"Rar!\x1a\x07",
+    b"\x51\0\0\0VOL1ABC001",
+    b"\x50\0\0\0\xe5\xd6\xd3\xf1",
     b"O000000000000001TPCK2",
     b"C-----------------------------------------------\
       ------------------------------------------------\
@@ -114,6 +120,8 @@ const PLAIN: &[&[u8]] = &[
     b"BZ",
     b"B\xfd7zXZ",
     b"PK\x05\x06",
+    b"7z\xbc\xaf\x27\x1d",
+    b"\x51\0\0\0VOL0ABC001",
     b"O00000000000001TPCK2",
 ];
 
@@ -169,7 +177,7 @@ const AGAIN: &str = "
     > COMPLETE 25
     # Labels of different files with one number, and complete copies of a section that differ:
     # nothing is read, and an existing output is unchanged.
-    folder one other changed
+    folder one other changed sub
     fill one.bin 130 1
     fill other.bin 130 2
     0: write one MIX 100000 ONE=one.bin | write other MIX 100000 OTHER=one.bin
@@ -178,6 +186,8 @@ const AGAIN: &str = "
     set fault 1$ extract MIX001 1 mixed.txt one/MIX001.tap other/MIX001.tap --again
     set fault 1$ extract MIX001 1 mixed.txt one/MIX001.tap changed/MIX001.tap --again
     set fault 1$ extract MIX001 1 mixed.txt one/MIX001.tap other/MIX001.tap --again --stage a.stage
+    # The same if one of the names is a directory, which cannot be surveyed.
+    set fault 1$ extract MIX001 1 mixed.txt one/MIX001.tap changed/MIX001.tap sub --again
     has mixed.txt kept
     length a.stage 2381
     # A stage of a copy that lost a block is not continued from copies that have other data there,
@@ -286,6 +296,14 @@ const STAGED: &str = "
     put unmade.stage Contents
     stage fault 1: extract ABC001 1 unmade.txt unmade.tap --stage unmade.stage
     has unmade.stage Contents
+    # A file with the name of an unfinished output, which would be removed, is no argument.
+    worked .tape-1.part
+    2: extract ABC001 1 part.txt .tape-1.part | salvage ABC001 1 part.txt .tape-1.part
+    2: extract ABC001 1 part.txt lost.tap --files-from .tape-1.part
+    2: merge part.tap ./.tape-1.part worked.tap | unpack . .tape-1.part
+    2: extract ABC001 1 .tape-1.part unmade.tap | stage refused.stage .tape-1.part
+    is_worked .tape-1.part
+    missing part.txt part.tap
 ";
 
 #[test]

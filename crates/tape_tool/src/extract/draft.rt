@@ -4,8 +4,9 @@ ghost use Rattle.std.specs.Prelude.{◌≡◌, None};
 ghost use Rattle.tape_tool.specs.Guards.{is_written_in_place};
 
 use crate::fault::{FileFault, OUT_OF_MEMORY, ToolFault};
+use crate::help;
 use crate::program::End;
-use crate::refusal::{FileId, Taking, remove, way_to_take};
+use crate::refusal::{FileId, Refusal, Taking, remove, way_to_take};
 use crate::screen::{Host, Progress};
 use std::fs::{File, OpenOptions, Permissions};
 use std::io::{BufWriter, Error, ErrorKind};
@@ -223,6 +224,21 @@ impl<R: Progress> Place<BufWriter<File>> for Draft<'_, R> {
         };
         self.take().map_err(|_| WriteFailed)
     }
+}
+
+/// Refuses names that drafts have: a file of such a name is removed before anything is read.
+///
+/// # Errors
+///
+/// Returns `Words` if one of the paths ends in `.tape-N.part`, whatever stands for N.
+pub fn no_draft(names: &[&str]) -> Result<(), Refusal> {
+    for path in names {
+        let name = name_in_folder(path).as_bytes();
+        if name.starts_with(b".tape-") && name.ends_with(b".part") {
+            return Err(Refusal::Words(help::NAME_OF_DRAFT));
+        }
+    }
+    Ok(())
 }
 
 /// Creates a file at `path` and locks it as long as the draft is open. Returns `None` if another

@@ -1,7 +1,7 @@
 //! The output of `extract`: whether it may be written, and how, and the file that its records are
 //! written to.
 
-use super::draft::{Draft, HELD};
+use super::draft::{Draft, HELD, no_draft};
 use crate::fault::{FileFault, OUT_OF_MEMORY, ToolFault};
 use crate::help;
 use crate::images::List;
@@ -11,27 +11,30 @@ use crate::screen::{Host, Progress};
 use std::alloc::AllocError;
 use std::fs::{File, Metadata, OpenOptions};
 use std::io::{BufWriter, Error, ErrorKind, Write};
-use std::os::unix::fs::MetadataExt;
 use std::{fs, io};
 use tape_image::{Ending, ImageCause, ImageReader, fill};
+use tape_run::{Container, KIND_BYTES, container_of};
 use tape_writer::system::{folder_of, found, is_unable, name_in_folder};
 
 /// The first bytes of files that might be tapes although they are not images, each with its offset.
 /// The last two are checkpoints in the slots of a stage.
 const FRONTS: &[(usize, &[u8])] = &[
-    // gzip, compress, bzip2, xz, Zstandard, zip.
+    // A volume label in ASCII or EBCDIC, behind a word that may be damaged.
+    (4, b"VOL1"),
+    (4, b"\xe5\xd6\xd3\xf1"),
+    // gzip, compress, bzip2, xz, Zstandard, zip, lz4, lzip, RAR.
     (0, b"\x1f\x8b"),
     (0, b"\x1f\x9d"),
     (0, b"BZh"),
     (0, b"\xfd7zXZ"),
     (0, b"\x28\xb5\x2f\xfd"),
     (0, b"PK\x03\x04"),
+    (0, b"\x04\x22\x4d\x18"),
+    (0, b"LZIP"),
+    (0, b"Rar!"),
     (16, b"TPCK"),
     (144, b"TPCK"),
 ];
-
-/// The number of bytes that `FRONTS` cover.
-const FRONT: usize = 148;
 
 /// The way in which an output is to be written, and the file found under its name before.
 #[derive(Clone, Copy)]
@@ -45,16 +48,20 @@ pub enum Way {
 /// The path by which standard input is found as a file.
 const STANDARD_INPUT: &str = "/dev/stdin";
 
+/// The path by which standard output is found as a file.
+const STANDARD_OUTPUT: &str = "/dev/stdout";
+
 /// Returns how the output `out`, recovered from `stage` and from `images`, of which some may be in
 /// `list`, is to be written. Nothing is created or changed.
 ///
 /// # Errors
 ///
 /// Returns `Words` if the output has no name or is a directory, or if it is the stage (even one
-/// that does not exist yet), the list (even if it is standard input) or one of the images: the same
-/// file, whatever name or link leads to it. Returns `Faulted` with `Exists` if it might be a tape:
-/// it is not empty, and is named `.tap`, begins like an image, or is compressed, an archive or a
-/// stage; with `NotOpened` or `ReadFailed` if that cannot be determined.
+/// that does not exist yet), the list (even if it is standard input), one of the images, or a file
+/// that standard output is written to: the same file, whatever name or link leads to it; or if one
+/// of them has the name of a draft. Returns `Faulted` with `Exists` if it might be a tape: it is
+/// not empty, and is named `.tap`, begins like an image of any kind, or is compressed, an archive
+/// or a stage; with `NotOpened` or `ReadFailed` if that cannot be determined.
 pub fn way_to_out<R: Host>(
     rt: &R,
     out: &str,
@@ -63,13 +70,17 @@ pub fn way_to_out<R: Host>(
     images: &[&str],
 ) -> Result<Way, Refusal> {
     let mut before = None;
+    no_draft(images)?;
+    no_draft(&[out, stage.unwrap_or(out), list_path(list).unwrap_or(out)])?;
     let there = found(fs::metadata(rt, out))?;
     if there.as_ref().is_some_and(|there| there.is_dir()) || name_in_folder(out).is_empty() {
         return Err(Refusal::Words(help::OUT_IS_FOLDER));
     }
     if let Some(there) = there {
-        if let Some(list) = list {
-            let path = list.file.unwrap_or(STANDARD_INPUT);
+        if there.is_file() {
+            differs(rt, &there, STANDARD_OUTPUT, help::OUT_IS_LINES)?;
+        }
+        if let Some(path) = list_path(list) {
             differs(rt, &there, path, help::OUT_IS_LIST)?;
         }
         if let Some(stage) = stage {
@@ -93,6 +104,11 @@ pub fn way_to_out<R: Host>(
         Some(named) if !named.is_file() => Ok(Way::InPlace(before)),
         _ => Ok(Way::Renamed(before)),
     }
+}
+
+/// Returns the path of the list's file.
+fn list_path<'a>(list: Option<List<'a>>) -> Option<&'a str> {
+    Some(list?.file.unwrap_or(STANDARD_INPUT))
 }
 
 /// Returns whether the paths `one` and `other` name the same entry of the same directory.
@@ -124,19 +140,23 @@ fn differs<R: Host>(rt: &R, file: &Metadata, path: &str, why: &'static str) -> R
 }
 
 /// Returns whether the file at `path` might be a tape: its name ends in `.tap`, in upper or lower
-/// case, or it begins as one of `FRONTS` or as an image.
+/// case, or it begins as an image, as a file of another kind that `survey` names, or as one of
+/// `FRONTS`.
 fn may_keep_a_tape<R: Host>(rt: &R, path: &str) -> Result<bool, Refusal> {
     let mut file = open(rt, path)?;
-    let mut front = [0; FRONT];
-    let Ok(count) = fill(&mut file, &mut front) else {
+    let mut front = Vec::from_elem(rt.alloc(), 0u8, KIND_BYTES)?;
+    let Ok(count) = fill(&mut file, front.as_mut_slice()) else {
         return Err(Refusal::from(FileFault::ReadFailed));
     };
-    let (name, front) = (path.as_bytes(), &front[..count]);
+    let (name, front) = (
+        path.as_bytes(),
+        front.as_slice().get(..count).unwrap_or(&[]),
+    );
     let is_named = name[name.len().saturating_sub(4)..].eq_ignore_ascii_case(b".tap");
     let begins_as_kept = FRONTS.iter().any(|(place, bytes)| front
         .get(*place..)
         .is_some_and(|there| there.starts_with(*bytes)));
-    if is_named || begins_as_kept {
+    if is_named || begins_as_kept || container_of(front) != Container::Unknown {
         return Ok(true);
     }
     // An image begins with a complete item, or with an end-of-medium marker.
@@ -248,7 +268,7 @@ impl<R: Progress> OutFile<'_, R> {
     }
 
     /// Opens the file that was found, or creates one, and truncates it. Leaves any other file that
-    /// has appeared since then unchanged.
+    /// has appeared since then unchanged, and a file that was written to since then.
     fn open(&self) -> Result<File, FileFault> {
         let mut options = OpenOptions::new();
         options.write(true).create(self.before.is_none());
@@ -256,7 +276,7 @@ impl<R: Progress> OutFile<'_, R> {
         let file = opened.map_err(|_| FileFault::NotOpened)?;
         let there = file.metadata().map_err(|_| FileFault::NotOpened)?;
         let is_meant = match self.before {
-            Some(before) => before.device == there.dev() && before.number == there.ino(),
+            Some(before) => before == FileId::of(&there),
             // Nothing can be lost if the file is empty, or not a regular one.
             None => !there.is_file() || there.len() == 0,
         };

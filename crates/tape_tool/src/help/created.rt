@@ -167,8 +167,9 @@ An existing OUT or LOG is never overwritten ('tape: file fault 1'), and
 OUT appears only when it is complete. It contains no erase gaps, nothing after
 an end-of-medium marker, and no data of bad blocks, so keep the images.
 
-Exit status: 0 OUT is complete, 1 error, 2 usage error, 3 OUT has a bad item or
-a wrong count or is truncated, or the images differ";
+Exit status: 0 OUT has no bad item and no wrong count, 1 error, 2 usage error,
+3 OUT has one or ends within an item, or the images differ. 'tape survey OUT'
+says whether the volume is complete";
 
 pub const COMPARE_JSON: &str = "Print the lines as JSON, one object per line";
 
@@ -187,6 +188,6 @@ IMAGE lines show how many items each has.
 With --json each line is an object with its parts by their names; 'row' is the
 first word.
 
-Exit status: 0 the images agree and together make a complete image, 1 error,
-2 usage error, 3 they differ, or that image has a bad item or a wrong count or
-is truncated";
+Exit status: 0 the images agree, and the image that they would make has no bad
+item and no wrong count, 1 error, 2 usage error, 3 they differ, or that image
+has one or ends within an item";

@@ -29,13 +29,19 @@ pub const TOO_MANY_IMAGES: &str =
   find . -name '*.tap' | tape extract SET FILE OUT --files-from -";
 
 pub const OUT_IS_DASH: &str = "OUT must be a file, because the progress lines go to standard output:
-write './-' for a file of that name, or /dev/stdout to have both";
+write './-' for a file of that name";
 
 pub const OUT_IS_FOLDER: &str =
     "OUT is empty or a directory: name a file, such as ../out/payroll.txt";
 
 pub const OUT_IS_STAGE: &str =
     "OUT is the stage itself and would be overwritten: choose another name";
+
+pub const OUT_IS_LINES: &str = "OUT is the file that the lines are printed to: choose another name";
+
+pub const NAME_OF_DRAFT: &str =
+    "a file named '.tape-1.part' or the like is an unfinished output, which the next run removes:
+rename it first";
 
 pub const OUT_IS_LIST: &str =
     "OUT is the list of images and would be overwritten: choose another name";

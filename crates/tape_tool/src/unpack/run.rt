@@ -8,6 +8,7 @@ use super::stages::is_front;
 use super::summed::Checksum;
 use crate::dates::set_time;
 use crate::explain::FaultSite;
+use crate::extract::no_draft;
 use crate::fault::{FileFault, OUT_OF_MEMORY, ToolFault};
 use crate::help;
 use crate::images::names_of;
@@ -64,6 +65,7 @@ pub fn unpack<'a, R: Progress>(
     let mut text = String::new(rt.alloc());
     let names = names_of(rt.host(), &order.images, &mut text, site)?;
     let names = names.as_slice();
+    no_draft(names)?;
     let is_listed = order.manifest && !order.list;
     let manifest = manifest_of(rt.host(), folder, is_listed, site)?;
     let out = BufWriter::new(rt.alloc(), io::writer(rt)).map_err(|_| AllocError)?;
