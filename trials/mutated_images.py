@@ -51,15 +51,19 @@ def second(rng, kind, letter):
     return label((kind + letter + "".join(numbers)).ljust(50) + offset)
 
 
-def file_of(rng, set_id, at, has_trailers):
-    """The header labels, the data and the trailer labels of a file."""
+def file_of(rng, set_id, at, has_trailers, blank):
+    """The header labels, the data and the trailer labels of a file.
+
+    Its numbers are replaced by `blank` if that is not empty.
+    """
     letter = rng.choice(FORMATS)
     name = rng.choice([*NAMES, "".join(map(chr, rng.choices(range(256), k=17)))])
     blocks = data_of(rng, letter, rng.choice([0, 1, rng.randint(1, 6)]))
 
     def labels(kind, count):
-        numbers = f"0001{at:04}000100 85103 00000 {count:06}"
-        made = [label(f"{kind}1{name:17}{set_id}{numbers}SYSTEM")]
+        numbers = blank * 2 or f"0001{at:04}"
+        others = f"000100 85103 00000 {count:06}"
+        made = [label(f"{kind}1{name:17}{set_id}{numbers}{others}SYSTEM")]
         if letter != "N" and (kind == "HDR" or has_trailers):
             made.append(second(rng, kind + "2", letter))
         if rng.random() < .3:
@@ -84,8 +88,10 @@ def tape_of(rng, set_id, has_trailers):
         items += [noise(rng, 13, 79, 80, 81, 200) for _ in range(rng.choice([1, 2, 64, 65]))]
     items += coded([label("HDR1" + "0" * 76)]) * (rng.random() < .1)
     count = rng.choice([1, 1, 2, 3, 0])
+    blank = rng.choice(["    ", "0000", "\0\0\0\0", " 0 0", "   7"]) if rng.random() < .2 else ""
     for at in range(1, count + 1):
-        header, blocks, trailer = file_of(rng, set_id, at, has_trailers)
+        numbers = blank if rng.random() < .8 else ""
+        header, blocks, trailer = file_of(rng, set_id, at, has_trailers, numbers)
         items += [*coded(header), *blocks, model.MARK, *coded(trailer)]
     items += [model.MARK] * (1 if count else 2)
     return with_edges(rng, items)

@@ -1,7 +1,7 @@
 """The normal form of tapes, from docs/FORMATS.md. For formats_model.py and normal_model.py."""
 
 import tape_model as model
-from tape_model import kind_of, second_label
+from tape_model import first_label, kind_of, second_label
 
 EBCDIC = bytes(range(256)).decode("cp037").encode("latin-1")
 RULES = {
@@ -9,6 +9,7 @@ RULES = {
     "volume": "no volume label",
     "second": "a file has no HDR2",
     "numbers": "numbers in HDR2 begin with blanks or NULs",
+    "file": "a file has no number in HDR1",
     "before": "something before the first file is ignored",
     "after": "something after the end of the volume is ignored",
 }
@@ -45,6 +46,13 @@ def is_dummy(label):
     return kind_of(label) == "HDR1" and not label[4:].strip(b"0")
 
 
+def numbered(label, file):
+    """An HDR1, EOF1 or EOV1 with the numbers of section 1 of a file where it has none."""
+    numbers = [with_zeros(label[at:at + 4]) for at in (27, 31)]
+    numbers = [each if each != b"0000" else b"%04d" % own for each, own in zip(numbers, (1, file))]
+    return label[:27] + b"".join(numbers) + label[35:]
+
+
 class Normal:
     """The normal form of a tape, item by item; `rules` are those that were applied.
 
@@ -53,6 +61,7 @@ class Normal:
 
     def __init__(self):
         self.place, self.code, self.dropped, self.rules = "start", "ascii", 0, set()
+        self.file, self.is_filled = 0, False
 
     def step(self, item):
         kind, block = item
@@ -79,7 +88,9 @@ class Normal:
             self.place = "labels" if has_volume else "second"
             self.rules |= {"ebcdic"} if code == "ebcdic" else set()
             self.rules |= set() if has_volume else {"volume"}
-            return [*([] if has_volume else [("block", NO_VOLUME)]), ("block", label)]
+            if has_volume:
+                return [("block", label)]
+            return [("block", NO_VOLUME), ("block", self.header(label))]
         if kind == "bad" or (kind == "block" and len(block) >= SHORTEST):
             return self.over()
         return self.drop("before")
@@ -93,7 +104,19 @@ class Normal:
         if kind_of(label) != "HDR1" or is_dummy(label):
             return self.drop("before")
         self.place = "second"
-        return [("block", label)]
+        return [("block", self.header(label))]
+
+    def header(self, label):
+        """An HDR1, with the numbers of the next file if it can be read only then."""
+        better, fields = numbered(label, self.file + 1), first_label(label)
+        self.is_filled = not isinstance(fields, dict) and self.file < 9999 and (
+            not is_dummy(label) and isinstance(first_label(better), dict))
+        if self.is_filled:
+            label, fields = better, first_label(better)
+            self.rules.add("file")
+        if isinstance(fields, dict):
+            self.file = fields["file"]
+        return label
 
     def blank(self, kind, *_):
         self.place = "ended" if kind == "mark" else "over"
@@ -131,7 +154,9 @@ class Normal:
         if kind_of(label) not in ("EOF1", "EOV1"):
             return self.over()
         self.place = "trailers"
-        return [("block", label)]
+        better = numbered(label, self.file)
+        can_read, could_read = [isinstance(first_label(each), dict) for each in (label, better)]
+        return [("block", better if self.is_filled and could_read and not can_read else label)]
 
     def trailers(self, kind, _, label):
         self.place = {"mark": "next", "block": "trailers", "bad": "over"}[kind]
@@ -141,7 +166,7 @@ class Normal:
         if kind != "mark" and kind_of(label) != "HDR1":
             return self.over()
         self.place = "ended" if kind == "mark" else "second"
-        return None if kind == "mark" else [("block", label)]
+        return None if kind == "mark" else [("block", self.header(label))]
 
     def ended(self, kind, block, _):
         if kind == "block" and begins_tape(block)[0]:

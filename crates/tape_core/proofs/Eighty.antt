@@ -3,6 +3,7 @@ use Rattle.std.proofs.Common.{◌≡◌, ◌≢◌, ℕ, List, length, ◌==◌,
 use Rattle.tape_label.specs.{Kinds.kind_at, VolumeLabels.is_volume_label}
 use Rattle.tape_label.specs.WideHead2.{is_further_header}
 use Rattle.tape_core.specs.declared.normal.code.Code.{Code}
+use Rattle.tape_core.specs.declared.normal.numbers.FileSeen.{FileSeen}
 use Rattle.tape_core.specs.declared.normal.code.Code.TheVariants.{Ascii, Ebcdic}
 use Rattle.tape_core.specs.NormalForm.{Codes.in_ascii, Steps.begin_at}
 use Rattle.tape_core.specs.NormalForm.Steps.{second_at, same}
@@ -42,6 +43,6 @@ pub no_beginning : (b : List ℕ) → length b ≢ 80 → begin_at b ≡ None
 no_beginning b n = rw (no_kind_of Ascii b n, no_kind_of Ebcdic b n) refl
 
 -- where a second label is expected, such a block is left as it is
-pub second_over : (code : Code) (b : List ℕ) → length b ≢ 80
-    → second_at code (in_ascii code b) ≡ (Over, same)
-second_over code b n = rw (no_kind_of code b n, not_further_of code b n) refl
+pub second_over : (code : Code) (seen : FileSeen) (b : List ℕ) → length b ≢ 80
+    → second_at code seen (in_ascii code b) ≡ (Over, same)
+second_over code seen b n = rw (no_kind_of code b n, not_further_of code b n) refl

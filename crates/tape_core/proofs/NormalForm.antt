@@ -6,6 +6,7 @@ pub mod AheadRules
 pub mod Ahead
 pub mod Data
 pub mod KindKept
+pub mod Numbers
 pub mod Plain
 pub mod LookedAt
 pub mod Spelled

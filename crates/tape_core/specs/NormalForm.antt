@@ -20,7 +20,8 @@ use Rattle.tape_core.specs.declared.normal.code.Code.TheVariants.{Ascii, Ebcdic}
 use Rattle.tape_core.specs.NormalForm.{Codes.in_ascii, Mended.is_vol1, Mended.is_hdr1}
 use Rattle.tape_core.specs.NormalForm.{Mended.is_hdr2}
 use Rattle.tape_core.specs.NormalForm.Mended.{is_first_trailer, is_dummy, mended}
-use Rattle.tape_core.specs.NormalForm.Mended.{no_volume_label}
+use Rattle.tape_core.specs.NormalForm.Mended.{no_volume_label, headed, trailed}
+use Rattle.tape_core.specs.declared.normal.numbers.FileSeen.{FileSeen}
 
 -- the greatest number of items that are dropped before VOL1, or between VOL1 and HDR1
 abbrev pub most_dropped : ℕ
@@ -41,11 +42,13 @@ abbrev mutual
   of_start n [] = []
   of_start n (block b ∷ xs) =
       if is_vol1 (kind_at b) then block b ∷ of_labels Ascii 0 xs
-      else if is_hdr1 (kind_at b) then block no_volume_label ∷ block b ∷ of_second Ascii xs
+      else if is_hdr1 (kind_at b)
+      then block no_volume_label ∷ block (headed 0 b).0 ∷ of_second Ascii (headed 0 b).1 xs
       else if is_vol1 (kind_at (in_ascii Ebcdic b))
       then block (in_ascii Ebcdic b) ∷ of_labels Ebcdic 0 xs
       else if is_hdr1 (kind_at (in_ascii Ebcdic b))
-      then block no_volume_label ∷ block (in_ascii Ebcdic b) ∷ of_second Ebcdic xs
+      then block no_volume_label ∷ block (headed 0 (in_ascii Ebcdic b)).0
+      ∷ of_second Ebcdic (headed 0 (in_ascii Ebcdic b)).1 xs
       else if is_noise b && nat_lt n most_dropped then of_start (n + 1) xs
       else block b ∷ xs
   of_start n (mark ∷ xs) = if nat_lt n most_dropped then of_start (n + 1) xs else mark ∷ xs
@@ -58,7 +61,7 @@ abbrev mutual
   of_labels code n (block b ∷ xs) =
       if is_volume_label (in_ascii code b) then block (in_ascii code b) ∷ of_labels code n xs
       else if is_hdr1 (kind_at (in_ascii code b)) && not (is_dummy (in_ascii code b))
-      then block (in_ascii code b) ∷ of_second code xs
+      then block (headed 0 (in_ascii code b)).0 ∷ of_second code (headed 0 (in_ascii code b)).1 xs
       else if nat_lt n most_dropped then of_labels code (n + 1) xs
       else block b ∷ xs
   of_labels code n (mark ∷ xs) = mark ∷ of_blank xs
@@ -72,56 +75,58 @@ abbrev mutual
   of_blank (bad ∷ xs) = bad ∷ xs
 
   -- HDR2; if another header label or the mark was read there, the file has none
-  pub of_second : Code → List TapeItem → List TapeItem
-  of_second code [] = []
-  of_second code (block b ∷ xs) =
+  pub of_second : Code → FileSeen → List TapeItem → List TapeItem
+  of_second code seen [] = []
+  of_second code seen (block b ∷ xs) =
       if is_hdr2 (kind_at (in_ascii code b))
-      then block (mended (in_ascii code b)) ∷ of_headers code xs
+      then block (mended (in_ascii code b)) ∷ of_headers code seen xs
       else if is_further_header (in_ascii code b)
-      then block (in_ascii code b) ∷ of_headers code xs
+      then block (in_ascii code b) ∷ of_headers code seen xs
       else block b ∷ xs
-  of_second code (mark ∷ xs) = mark ∷ of_data code xs
-  of_second code (bad ∷ xs) = bad ∷ xs
+  of_second code seen (mark ∷ xs) = mark ∷ of_data code seen xs
+  of_second code seen (bad ∷ xs) = bad ∷ xs
 
   -- further header labels, up to a mark
-  pub of_headers : Code → List TapeItem → List TapeItem
-  of_headers code [] = []
-  of_headers code (block b ∷ xs) = block (in_ascii code b) ∷ of_headers code xs
-  of_headers code (mark ∷ xs) = mark ∷ of_data code xs
-  of_headers code (bad ∷ xs) = bad ∷ xs
+  pub of_headers : Code → FileSeen → List TapeItem → List TapeItem
+  of_headers code seen [] = []
+  of_headers code seen (block b ∷ xs) = block (in_ascii code b) ∷ of_headers code seen xs
+  of_headers code seen (mark ∷ xs) = mark ∷ of_data code seen xs
+  of_headers code seen (bad ∷ xs) = bad ∷ xs
 
   -- data, up to a mark: never changed
-  pub of_data : Code → List TapeItem → List TapeItem
-  of_data code [] = []
-  of_data code (block b ∷ xs) = block b ∷ of_data code xs
-  of_data code (mark ∷ xs) = mark ∷ of_trailer code xs
-  of_data code (bad ∷ xs) = bad ∷ of_data code xs
+  pub of_data : Code → FileSeen → List TapeItem → List TapeItem
+  of_data code seen [] = []
+  of_data code seen (block b ∷ xs) = block b ∷ of_data code seen xs
+  of_data code seen (mark ∷ xs) = mark ∷ of_trailer code seen xs
+  of_data code seen (bad ∷ xs) = bad ∷ of_data code seen xs
 
   -- EOF1 or EOV1
-  pub of_trailer : Code → List TapeItem → List TapeItem
-  of_trailer code [] = []
-  of_trailer code (block b ∷ xs) =
+  pub of_trailer : Code → FileSeen → List TapeItem → List TapeItem
+  of_trailer code seen [] = []
+  of_trailer code seen (block b ∷ xs) =
       if is_first_trailer (kind_at (in_ascii code b))
-      then block (in_ascii code b) ∷ of_trailers code xs
+      then block (trailed seen (in_ascii code b)) ∷ of_trailers code seen xs
       else block b ∷ xs
-  of_trailer code (mark ∷ xs) = mark ∷ xs
-  of_trailer code (bad ∷ xs) = bad ∷ xs
+  of_trailer code seen (mark ∷ xs) = mark ∷ xs
+  of_trailer code seen (bad ∷ xs) = bad ∷ xs
 
   -- further trailer labels, up to a mark
-  pub of_trailers : Code → List TapeItem → List TapeItem
-  of_trailers code [] = []
-  of_trailers code (block b ∷ xs) = block (in_ascii code b) ∷ of_trailers code xs
-  of_trailers code (mark ∷ xs) = mark ∷ of_next code xs
-  of_trailers code (bad ∷ xs) = bad ∷ xs
+  pub of_trailers : Code → FileSeen → List TapeItem → List TapeItem
+  of_trailers code seen [] = []
+  of_trailers code seen (block b ∷ xs) = block (in_ascii code b) ∷ of_trailers code seen xs
+  of_trailers code seen (mark ∷ xs) = mark ∷ of_next code seen xs
+  of_trailers code seen (bad ∷ xs) = bad ∷ xs
 
   -- the HDR1 of the next file, or the second mark
-  pub of_next : Code → List TapeItem → List TapeItem
-  of_next code [] = []
-  of_next code (block b ∷ xs) =
-      if is_hdr1 (kind_at (in_ascii code b)) then block (in_ascii code b) ∷ of_second code xs
+  pub of_next : Code → FileSeen → List TapeItem → List TapeItem
+  of_next code seen [] = []
+  of_next code seen (block b ∷ xs) =
+      if is_hdr1 (kind_at (in_ascii code b))
+      then block (headed seen.sequence (in_ascii code b)).0
+      ∷ of_second code (headed seen.sequence (in_ascii code b)).1 xs
       else block b ∷ xs
-  of_next code (mark ∷ xs) = mark ∷ of_ended xs
-  of_next code (bad ∷ xs) = bad ∷ xs
+  of_next code seen (mark ∷ xs) = mark ∷ of_ended xs
+  of_next code seen (bad ∷ xs) = bad ∷ xs
 
   -- what follows the end of the volume is dropped, up to a label with which a tape begins
   pub of_ended : List TapeItem → List TapeItem

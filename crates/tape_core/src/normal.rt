@@ -9,9 +9,11 @@ pub mod laws;
 mod looking;
 mod machine;
 mod mend;
+mod numbers;
 mod rules;
 
 pub use code::{Code, to_ascii};
 pub use image::NormalImage;
 pub use machine::{Change, Missing, Replacement, TapePlace, step};
+pub use numbers::FileSeen;
 pub use rules::Rules;

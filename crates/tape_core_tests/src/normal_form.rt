@@ -37,6 +37,30 @@ const HDR3: &[u8; 80] =
 const EOF1: &[u8; 80] =
     b"EOF1PAYROLL          ABC00100010001000100 85113 00000 000002SYSTEM              ";
 
+/// Labels without numbers, and the same ones with those of the second file.
+const BLANK1: &[u8; 80] =
+    b"HDR1PAYROLL          ABC001        000100 85113 00000 000000SYSTEM              ";
+
+const SECOND1: &[u8; 80] =
+    b"HDR1PAYROLL          ABC00100010002000100 85113 00000 000000SYSTEM              ";
+
+const ZERO_EOF1: &[u8; 80] =
+    b"EOF1PAYROLL          ABC0010000\0\0\0\0000100 85113 00000 000002SYSTEM              ";
+
+const SECOND_EOF1: &[u8; 80] =
+    b"EOF1PAYROLL          ABC00100010002000100 85113 00000 000002SYSTEM              ";
+
+/// A label with a number that begins with blanks.
+const SHORT1: &[u8; 80] =
+    b"HDR1PAYROLL          ABC0010001  07000100 85113 00000 000000SYSTEM              ";
+
+const SEVENTH1: &[u8; 80] =
+    b"HDR1PAYROLL          ABC00100010007000100 85113 00000 000000SYSTEM              ";
+
+/// A label whose section number cannot be read.
+const NO_SECTION1: &[u8; 80] =
+    b"HDR1PAYROLL          ABC001000X    000100 85113 00000 000000SYSTEM              ";
+
 const DUMMY: &[u8; 80] =
     b"HDR10000000000000000000000000000000000000000000000000000000000000000000000000000";
 
@@ -73,6 +97,11 @@ pub(crate) fn label(letter: u8) -> Option<[u8; 80]> {
         b'T' => *HDR3,
         b'E' => *EOF1,
         b'Z' => *DUMMY,
+        b'N' => *BLANK1,
+        b'F' => *ZERO_EOF1,
+        b'W' => *SHORT1,
+        b'Q' => *NO_SECTION1,
+        b'i' => ebcdic(BLANK1),
         b'v' => ebcdic(VOL1),
         b'h' => ebcdic(HDR1),
         b's' => ebcdic(HDR2),
@@ -86,7 +115,8 @@ pub(crate) fn label(letter: u8) -> Option<[u8; 80]> {
 fn ascii(letter: u8) -> &'static [u8; 80] {
     match letter {
         b'v' => VOL1,
-        b'h' => HDR1,
+        b'h' | b'N' | b'i' => HDR1,
+        b'W' => SEVENTH1,
         b's' | b'P' | b'p' => HDR2,
         b'U' => WIDE2,
         _ => EOF1,
@@ -106,9 +136,15 @@ fn step_of(place: TapePlace, letter: u8) -> (TapePlace, Change) {
     }
 }
 
+/// Returns whether a label is one of the second file.
+fn is_second(text: &[u8; 80]) -> bool {
+    text == SECOND1 || text == SECOND_EOF1
+}
+
 /// Returns what happened to the item of a letter: `=` it is kept, `-` dropped, `A` it became its
 /// label in ASCII, `+` it is kept and `&` it became its label after an inserted volume label, `2`
-/// it is kept and a second label is missing, `0` its numbers were filled.
+/// it is kept and a second label is missing, `0` its numbers were filled, `B` it became a label of
+/// the second file.
 fn shown(change: &Change, letter: u8) -> u8 {
     match (change.missing, change.instead) {
         (Missing::Nothing, Replacement::Same) => b'=',
@@ -116,6 +152,7 @@ fn shown(change: &Change, letter: u8) -> u8 {
         (Missing::VolumeLabel, Replacement::Same) => b'+',
         (Missing::SecondLabel, Replacement::Same) => b'2',
         (Missing::Nothing, Replacement::Label(text)) if text == *ascii(letter) => b'A',
+        (Missing::Nothing, Replacement::Label(text)) if is_second(&text) => b'B',
         (Missing::VolumeLabel, Replacement::Label(text)) if text == *ascii(letter) => b'&',
         (Missing::Digits, Replacement::Label(text)) if text == *ascii(letter) => b'0',
         _ => b'?',
@@ -160,6 +197,17 @@ fn tapes_and_their_normal_forms(rt: HostRuntime) {
         ("VZmmD", "=-==-"),
         ("vhsmDbDmemhsm", "AAA=====A=AA="),
         ("vhsmDDbemhsm", "AAA========="),
+        // labels without numbers
+        ("VNSmDmFmm", "=A====A=="),
+        ("VHSmDmEmNSmDmFmm", "========B====B=="),
+        ("VHSmDmFmm", "========="),
+        ("VWSmDmEmm", "=A======="),
+        ("VQSmD", "====="),
+        ("NSmDmFmm", "&====A=="),
+        ("vismD", "AAA=="),
+        ("VHSmNmEmm", "========="),
+        ("bNSmD", "====="),
+        ("VHSmDmbmNSm", "==========="),
     ];
     for (items, wanted) in tapes {
         becomes(&rt, items, wanted);

@@ -147,6 +147,7 @@ fn rules_are_known(rt: HostRuntime) -> Result<(), AllocError> {
         no_volume_label: true,
         no_second_label: true,
         blank_numbers: false,
+        no_file_numbers: false,
         before: 1,
         after: 2,
     };
@@ -164,5 +165,16 @@ fn rules_are_known(rt: HostRuntime) -> Result<(), AllocError> {
     };
     assert_eq!(rt; rules_of(rt.alloc(), "vhpmDmemm.")?, both);
     assert!(rt; !rules_of(rt.alloc(), "vhsmDmemm.")?.blank_numbers);
+    let numbered = Rules {
+        no_file_numbers: true,
+        ..Rules::NONE
+    };
+    assert_eq!(rt; rules_of(rt.alloc(), "VNSmDmFmm.")?, numbered);
+    assert_eq!(rt; rules_of(rt.alloc(), "VHSmDmFmm.")?, Rules::NONE);
+    let unnamed = Rules {
+        no_volume_label: true,
+        ..numbered
+    };
+    assert_eq!(rt; rules_of(rt.alloc(), "NSmDmFmm.")?, unnamed);
     Ok(())
 }

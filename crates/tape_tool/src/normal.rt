@@ -13,22 +13,24 @@ use tape_core::normal::{NormalImage, Rules};
 use tape_run::{Container, ImageSource, container_of};
 
 /// The rules that may be applied to an image, in the order in which they are named.
-const TEXTS: [&str; 6] = [
+const TEXTS: [&str; 7] = [
     "labels in EBCDIC",
     "no volume label",
     "a file has no HDR2",
     "numbers in HDR2 begin with blanks or NULs",
+    "a file has no number in HDR1",
     "something before the first file is ignored",
     "something after the end of the volume is ignored",
 ];
 
 /// Returns which of the rules of `TEXTS` were applied.
-fn applied(rules: Rules) -> [bool; 6] {
+fn applied(rules: Rules) -> [bool; 7] {
     [
         rules.ebcdic,
         rules.no_volume_label,
         rules.no_second_label,
         rules.blank_numbers,
+        rules.no_file_numbers,
         rules.before > 0,
         rules.after > 0,
     ]

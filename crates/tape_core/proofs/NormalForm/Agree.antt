@@ -1,6 +1,6 @@
 -- The machine's table gives the normal form.
 use Rattle.std.proofs.Common.{◌≡◌, ℕ, List, [], ◌∷◌, ◌++◌, Bool, true, false, cond}
-use Rattle.std.proofs.Common.{length, ◌==◌, refl, sym, ap, ◌∙◌, nat_lt, ◌&&◌, not}
+use Rattle.std.proofs.Common.{length, ◌==◌, refl, sym, ap, ◌∙◌, nat_lt, ◌&&◌, not, append_assoc}
 use Rattle.std.proofs.lemmas.Slice.Eq.{bytes_eq-Decides}
 use Rattle.std.specs.Str.{bytes_eq}
 use Rattle.tape_image.specs.Tape.{TapeItem, block, bad, mark}
@@ -20,11 +20,12 @@ use Rattle.tape_core.specs.declared.normal.machine.Replacement.TheVariants as re
 use Rattle.tape_core.specs.declared.normal.machine.Missing.TheVariants.{SecondLabel, Digits}
 use Rattle.tape_core.specs.NormalForm.{Codes.in_ascii, Mended.is_vol1, Mended.is_hdr1}
 use Rattle.tape_core.specs.NormalForm.{Mended.is_hdr2}
-use Rattle.tape_core.specs.NormalForm.Mended.{is_first_trailer, is_dummy, mended}
+use Rattle.tape_core.specs.NormalForm.Mended.{is_first_trailer, is_dummy, mended, headed, trailed}
+use Rattle.tape_core.specs.declared.normal.numbers.FileSeen.{FileSeen}
 use Rattle.tape_core.specs.NormalForm.{is_noise, most_dropped, of_labels, of_second}
 use Rattle.tape_core.specs.NormalForm.{of_trailers, of_headers}
 use Rattle.tape_core.specs.NormalForm.Steps.{Gives, step_of, from, given, instead, instead_in}
-use Rattle.tape_core.specs.NormalForm.Steps.{translated_with, mended_with}
+use Rattle.tape_core.specs.NormalForm.Steps.{translated_with, mended_with, replaced_with, header_at}
 use Rattle.tape_core.specs.NormalForm.Steps.{inserted, begin_at, ended_at, start_at, labels_at}
 use Rattle.tape_core.specs.NormalForm.Steps.{second_at}
 use Rattle.tape_core.specs.NormalForm.Steps.{any_at, trailer_at, next_at, drop_first}
@@ -53,6 +54,27 @@ second_is code b xs true e =
     ∙ ap (λ v. block v ∷ xs) (sym ((bytes_eq-Decides (mended (in_ascii code b)) _).0 e))
 second_is code b xs false e = rw (e) refl
 
+-- another label in its place
+replaced_is : (adds : Missing) (code : Code) (b better : List ℕ) (xs : List TapeItem) (t : Bool)
+    → bytes_eq better (in_ascii code b) ≡ t
+    → given (replaced_with adds code better (in_ascii code b)) (block b) ++ xs
+    ≡ inserted adds ++ block better ∷ xs
+replaced_is adds code b better xs true e =
+    rw (e) (behind adds code b xs)
+    ∙ ap (λ v. inserted adds ++ block v ∷ xs)
+    (sym ((bytes_eq-Decides better (in_ascii code b)).0 e))
+replaced_is adds code b better xs false e =
+    rw (e) (append_assoc (inserted adds) (block better ∷ []) xs)
+
+header_is : (adds : Missing) (code : Code) (last : ℕ) (b : List ℕ) (xs : List TapeItem)
+    → inserted adds ++ block (headed last (in_ascii code b)).0
+    ∷ of_second code (headed last (in_ascii code b)).1 xs
+    ≡ given (header_at code adds last (in_ascii code b)).1 (block b)
+    ++ of_second code (headed last (in_ascii code b)).1 xs
+header_is adds code last b xs =
+    sym (replaced_is adds code b (headed last (in_ascii code b)).0
+    (of_second code (headed last (in_ascii code b)).1 xs) _ refl)
+
 any_behind : (code : Code) (b : List ℕ) (xs : List TapeItem) (t : Bool) → (length b == 80) ≡ t
     → block (in_ascii code b) ∷ xs ≡ given (any_at code b) (block b) ++ xs
 any_behind code b xs true e = rw (e) (sym (ap (λ v. v ++ xs) (any_own code b e)))
@@ -66,30 +88,35 @@ any_behind Ebcdic b xs false e = rw (e) refl
 -- ---- each place
 
 module _ (b : List ℕ) (xs : List TapeItem) where
-  next_gives : (code : Code) (t : Bool) → is_hdr1 (kind_at (in_ascii code b)) ≡ t
-      → from (Next code) (block b ∷ xs)
-      ≡ given (next_at code (in_ascii code b)).1 (block b)
-      ++ from (next_at code (in_ascii code b)).0 xs
-  next_gives code true e = rw (e) (sym (behind Nothing code b (of_second code xs)))
-  next_gives code false e = rw (e) refl
+  next_gives : (code : Code) (seen : FileSeen) (t : Bool)
+      → is_hdr1 (kind_at (in_ascii code b)) ≡ t
+      → from (Next code seen) (block b ∷ xs)
+      ≡ given (next_at code seen.sequence (in_ascii code b)).1 (block b)
+      ++ from (next_at code seen.sequence (in_ascii code b)).0 xs
+  next_gives code seen true e = rw (e) (header_is Nothing code seen.sequence b xs)
+  next_gives code seen false e = rw (e) refl
 
-  trailer_gives : (code : Code) (t : Bool) → is_first_trailer (kind_at (in_ascii code b)) ≡ t
-      → from (Trailer code) (block b ∷ xs)
-      ≡ given (trailer_at code (in_ascii code b)).1 (block b)
-      ++ from (trailer_at code (in_ascii code b)).0 xs
-  trailer_gives code true e = rw (e) (sym (behind Nothing code b (of_trailers code xs)))
-  trailer_gives code false e = rw (e) refl
+  trailer_gives : (code : Code) (seen : FileSeen) (t : Bool)
+      → is_first_trailer (kind_at (in_ascii code b)) ≡ t
+      → from (Trailer code seen) (block b ∷ xs)
+      ≡ given (trailer_at code seen (in_ascii code b)).1 (block b)
+      ++ from (trailer_at code seen (in_ascii code b)).0 xs
+  trailer_gives code seen true e =
+      rw (e) (sym (replaced_is Nothing code b (trailed seen (in_ascii code b))
+      (of_trailers code seen xs) _ refl))
+  trailer_gives code seen false e = rw (e) refl
 
-  second_gives : (code : Code) (t u : Bool) → is_hdr2 (kind_at (in_ascii code b)) ≡ t
+  second_gives : (code : Code) (seen : FileSeen) (t u : Bool)
+      → is_hdr2 (kind_at (in_ascii code b)) ≡ t
       → is_further_header (in_ascii code b) ≡ u
-      → from (Second code) (block b ∷ xs)
-      ≡ given (second_at code (in_ascii code b)).1 (block b)
-      ++ from (second_at code (in_ascii code b)).0 xs
-  second_gives code true u e f =
-      rw (e) (sym (second_is code b (of_headers code xs) _ refl))
-  second_gives code false true e f =
-      rw (e, f) (sym (behind SecondLabel code b (of_headers code xs)))
-  second_gives code false false e f = rw (e, f) refl
+      → from (Second code seen) (block b ∷ xs)
+      ≡ given (second_at code seen (in_ascii code b)).1 (block b)
+      ++ from (second_at code seen (in_ascii code b)).0 xs
+  second_gives code seen true u e f =
+      rw (e) (sym (second_is code b (of_headers code seen xs) _ refl))
+  second_gives code seen false true e f =
+      rw (e, f) (sym (behind SecondLabel code b (of_headers code seen xs)))
+  second_gives code seen false false e f = rw (e, f) refl
 
   labels_gives : (code : Code) (n : ℕ) (v h t : Bool) → is_volume_label (in_ascii code b) ≡ v
       → (is_hdr1 (kind_at (in_ascii code b)) && not (is_dummy (in_ascii code b))) ≡ h
@@ -100,7 +127,7 @@ module _ (b : List ℕ) (xs : List TapeItem) where
   labels_gives code n true h t e f g =
       rw (e) (sym (behind Nothing code b (of_labels code n xs)))
   labels_gives code n false true t e f g =
-      rw (e, f) (sym (behind Nothing code b (of_second code xs)))
+      rw (e, f) (header_is Nothing code 0 b xs)
   labels_gives code n false false true e f g = rw (e, f, g) refl
   labels_gives code n false false false e f g = rw (e, f, g) refl
 
@@ -110,9 +137,10 @@ module _ (b : List ℕ) (xs : List TapeItem) where
       → from (Start n) (block b ∷ xs)
       ≡ given (start_at n b (begin_at b)).1 (block b) ++ from (start_at n b (begin_at b)).0 xs
   start_gives n true h w g z t a c d e f i = rw (a) refl
-  start_gives n false true w g z t a c d e f i = rw (a, c) refl
+  start_gives n false true w g z t a c d e f i = rw (a, c) (header_is VolumeLabel Ascii 0 b xs)
   start_gives n false false true g z t a c d e f i = rw (a, c, d) refl
-  start_gives n false false false true z t a c d e f i = rw (a, c, d, e) refl
+  start_gives n false false false true z t a c d e f i =
+      rw (a, c, d, e) (header_is VolumeLabel Ebcdic 0 b xs)
   start_gives n false false false false true true a c d e f i = rw (a, c, d, e, f, i) refl
   start_gives n false false false false true false a c d e f i = rw (a, c, d, e, f, i) refl
   start_gives n false false false false false t a c d e f i = rw (a, c, d, e, f) refl
@@ -152,31 +180,31 @@ table_gives (Labels code n) bad xs = refl
 table_gives Blank (block b) xs = refl
 table_gives Blank mark xs = refl
 table_gives Blank bad xs = refl
-table_gives (Second code) (block b) xs =
-    second_gives b xs code (is_hdr2 (kind_at (in_ascii code b)))
+table_gives (Second code seen) (block b) xs =
+    second_gives b xs code seen (is_hdr2 (kind_at (in_ascii code b)))
     (is_further_header (in_ascii code b))
     refl refl
-table_gives (Second code) mark xs = refl
-table_gives (Second code) bad xs = refl
-table_gives (Headers code) (block b) xs =
-    any_behind code b (of_headers code xs) (length b == 80) refl
-table_gives (Headers code) mark xs = refl
-table_gives (Headers code) bad xs = refl
-table_gives (Data code) (block b) xs = refl
-table_gives (Data code) mark xs = refl
-table_gives (Data code) bad xs = refl
-table_gives (Trailer code) (block b) xs =
-    trailer_gives b xs code (is_first_trailer (kind_at (in_ascii code b))) refl
-table_gives (Trailer code) mark xs = refl
-table_gives (Trailer code) bad xs = refl
-table_gives (Trailers code) (block b) xs =
-    any_behind code b (of_trailers code xs) (length b == 80) refl
-table_gives (Trailers code) mark xs = refl
-table_gives (Trailers code) bad xs = refl
-table_gives (Next code) (block b) xs =
-    next_gives b xs code (is_hdr1 (kind_at (in_ascii code b))) refl
-table_gives (Next code) mark xs = refl
-table_gives (Next code) bad xs = refl
+table_gives (Second code seen) mark xs = refl
+table_gives (Second code seen) bad xs = refl
+table_gives (Headers code seen) (block b) xs =
+    any_behind code b (of_headers code seen xs) (length b == 80) refl
+table_gives (Headers code seen) mark xs = refl
+table_gives (Headers code seen) bad xs = refl
+table_gives (Data code seen) (block b) xs = refl
+table_gives (Data code seen) mark xs = refl
+table_gives (Data code seen) bad xs = refl
+table_gives (Trailer code seen) (block b) xs =
+    trailer_gives b xs code seen (is_first_trailer (kind_at (in_ascii code b))) refl
+table_gives (Trailer code seen) mark xs = refl
+table_gives (Trailer code seen) bad xs = refl
+table_gives (Trailers code seen) (block b) xs =
+    any_behind code b (of_trailers code seen xs) (length b == 80) refl
+table_gives (Trailers code seen) mark xs = refl
+table_gives (Trailers code seen) bad xs = refl
+table_gives (Next code seen) (block b) xs =
+    next_gives b xs code seen (is_hdr1 (kind_at (in_ascii code b))) refl
+table_gives (Next code seen) mark xs = refl
+table_gives (Next code seen) bad xs = refl
 table_gives Ended (block b) xs =
     ended_gives b xs (is_vol1 (kind_at b)) (is_hdr1 (kind_at b))
     (is_vol1 (kind_at (in_ascii Ebcdic b))) (is_hdr1 (kind_at (in_ascii Ebcdic b))) refl refl refl

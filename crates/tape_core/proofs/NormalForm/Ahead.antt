@@ -41,33 +41,35 @@ by_phase core w phases.VolumeLabels e (places.Labels Ascii n) o h (block b) =
     labels core w n b (is_volume_label b) refl (kind_at b) refl
 by_phase core w phases.VolumeLabels e (places.Labels Ascii n) o h mark = ends tt
 by_phase core w phases.VolumeLabels e (places.Labels Ascii n) o h bad = ends tt
-by_phase core w (phases.Header2 a c) e (places.Second Ascii) o h (block b) =
-    second core w a c b (kind_at b) refl e
-by_phase core w (phases.Header2 a c) e (places.Second Ascii) o h mark = ends tt
-by_phase core w (phases.Header2 a c) e (places.Second Ascii) o h bad = ends tt
-by_phase core w (phases.Headers a f) e (places.Headers Ascii) o h x = headers core w a f x
-by_phase core w (phases.DataPassed a) e (places.Data Ascii) o h x = data_passed core w a x
-by_phase core w (phases.DataWanted a f n) e (places.Data Ascii) o h x =
-    data_wanted core w a f n x
-by_phase core w (phases.TrailerPassed a) e (places.Trailer Ascii) o h (block b) =
-    trailer_passed core w a b (trail1_at b) refl
-by_phase core w (phases.TrailerPassed a) e (places.Trailer Ascii) o h mark = ends tt
-by_phase core w (phases.TrailerPassed a) e (places.Trailer Ascii) o h bad = ends tt
-by_phase core w (phases.TrailerWanted a f) e (places.Trailer Ascii) o h (block b) =
-    trailer_wanted core w a f b (trail1_at b) refl
-by_phase core w (phases.TrailerWanted a f) e (places.Trailer Ascii) o h mark = ends tt
-by_phase core w (phases.TrailerWanted a f) e (places.Trailer Ascii) o h bad = ends tt
-by_phase core w phases.Trailers e (places.Trailers Ascii) o h (block b) =
-    kept (places.Trailers Ascii) (λ xs. refl)
-    (λ g. stays core w (places.Trailers Ascii) phases.Trailers tt)
-by_phase core w phases.Trailers e (places.Trailers Ascii) o h mark =
-    kept (places.Next Ascii) (λ xs. refl)
-    (λ g. stays core w (places.Next Ascii) phases.NextFile tt)
-by_phase core w phases.Trailers e (places.Trailers Ascii) o h bad = ends tt
-by_phase core w phases.NextFile e (places.Next Ascii) o h (block b) =
-    heads core w (places.Next Ascii) b (next_kept core w b) (head1_at b) refl
-by_phase core w phases.NextFile e (places.Next Ascii) o h mark = ends tt
-by_phase core w phases.NextFile e (places.Next Ascii) o h bad = ends tt
+by_phase core w (phases.Header2 a c) e (places.Second Ascii seen) o h (block b) =
+    second core w seen a c b (kind_at b) refl e
+by_phase core w (phases.Header2 a c) e (places.Second Ascii seen) o h mark = ends tt
+by_phase core w (phases.Header2 a c) e (places.Second Ascii seen) o h bad = ends tt
+by_phase core w (phases.Headers a f) e (places.Headers Ascii seen) o h x =
+    headers core w seen a f x
+by_phase core w (phases.DataPassed a) e (places.Data Ascii seen) o h x =
+    data_passed core w seen a x
+by_phase core w (phases.DataWanted a f n) e (places.Data Ascii seen) o h x =
+    data_wanted core w seen a f n x
+by_phase core w (phases.TrailerPassed a) e (places.Trailer Ascii seen) o h (block b) =
+    trailer_passed core w seen a b (trail1_at b) refl
+by_phase core w (phases.TrailerPassed a) e (places.Trailer Ascii seen) o h mark = ends tt
+by_phase core w (phases.TrailerPassed a) e (places.Trailer Ascii seen) o h bad = ends tt
+by_phase core w (phases.TrailerWanted a f) e (places.Trailer Ascii seen) o h (block b) =
+    trailer_wanted core w seen a f b (trail1_at b) refl
+by_phase core w (phases.TrailerWanted a f) e (places.Trailer Ascii seen) o h mark = ends tt
+by_phase core w (phases.TrailerWanted a f) e (places.Trailer Ascii seen) o h bad = ends tt
+by_phase core w phases.Trailers e (places.Trailers Ascii seen) o h (block b) =
+    kept (places.Trailers Ascii seen) (λ xs. refl)
+    (λ g. stays core w (places.Trailers Ascii seen) phases.Trailers tt)
+by_phase core w phases.Trailers e (places.Trailers Ascii seen) o h mark =
+    kept (places.Next Ascii seen) (λ xs. refl)
+    (λ g. stays core w (places.Next Ascii seen) phases.NextFile tt)
+by_phase core w phases.Trailers e (places.Trailers Ascii seen) o h bad = ends tt
+by_phase core w phases.NextFile e (places.Next Ascii seen) o h (block b) =
+    heads core w (places.Next Ascii seen) b (next_kept core w seen b) (head1_at b) refl
+by_phase core w phases.NextFile e (places.Next Ascii seen) o h mark = ends tt
+by_phase core w phases.NextFile e (places.Next Ascii seen) o h bad = ends tt
 by_phase core w p e places.Over o h x = absurd o
 by_phase core w p e place o h x = absurd h
 
@@ -77,12 +79,12 @@ pub from_nil : (place : TapePlace) → from place [] ≡ []
 from_nil (places.Start n) = refl
 from_nil (places.Labels code n) = refl
 from_nil places.Blank = refl
-from_nil (places.Second code) = refl
-from_nil (places.Headers code) = refl
-from_nil (places.Data code) = refl
-from_nil (places.Trailer code) = refl
-from_nil (places.Trailers code) = refl
-from_nil (places.Next code) = refl
+from_nil (places.Second code seen) = refl
+from_nil (places.Headers code seen) = refl
+from_nil (places.Data code seen) = refl
+from_nil (places.Trailer code seen) = refl
+from_nil (places.Trailers code seen) = refl
+from_nil (places.Next code seen) = refl
 from_nil places.Ended = refl
 from_nil places.Over = refl
 
@@ -105,12 +107,12 @@ not_over places.Over = inl refl
 not_over (places.Start n) = inr tt
 not_over (places.Labels code n) = inr tt
 not_over places.Blank = inr tt
-not_over (places.Second code) = inr tt
-not_over (places.Headers code) = inr tt
-not_over (places.Data code) = inr tt
-not_over (places.Trailer code) = inr tt
-not_over (places.Trailers code) = inr tt
-not_over (places.Next code) = inr tt
+not_over (places.Second code seen) = inr tt
+not_over (places.Headers code seen) = inr tt
+not_over (places.Data code seen) = inr tt
+not_over (places.Trailer code seen) = inr tt
+not_over (places.Trailers code seen) = inr tt
+not_over (places.Next code seen) = inr tt
 not_over places.Ended = inr tt
 
 ahead : (xs : List TapeItem) (place : TapePlace) (core : State) → Stands place core
@@ -135,6 +137,6 @@ normal_is_ahead core items e w =
     (record { waits = w; fits = subst (λ p. Fits p (places.Start 0)) (sym e) tt })
 
 pub behind_is_ahead : BehindIsAhead
-behind_is_ahead core items e w =
-    ahead items (places.Trailers Ascii) core
-    (record { waits = w; fits = subst (λ p. Fits p (places.Trailers Ascii)) (sym e) tt })
+behind_is_ahead core seen items e w =
+    ahead items (places.Trailers Ascii seen) core
+    (record { waits = w; fits = subst (λ p. Fits p (places.Trailers Ascii seen)) (sym e) tt })

@@ -32,14 +32,14 @@ GoesOn answer = ⊥
 abbrev pub Fits : Phase → TapePlace → Type 0
 Fits phases.Volume (places.Start n) = Unit {0}
 Fits phases.VolumeLabels (places.Labels Ascii n) = Unit {0}
-Fits (phases.Header2 h w) (places.Second Ascii) = Unit {0}
-Fits (phases.Headers h f) (places.Headers Ascii) = Unit {0}
-Fits (phases.DataPassed h) (places.Data Ascii) = Unit {0}
-Fits (phases.DataWanted h f n) (places.Data Ascii) = Unit {0}
-Fits (phases.TrailerPassed h) (places.Trailer Ascii) = Unit {0}
-Fits (phases.TrailerWanted h f) (places.Trailer Ascii) = Unit {0}
-Fits phases.Trailers (places.Trailers Ascii) = Unit {0}
-Fits phases.NextFile (places.Next Ascii) = Unit {0}
+Fits (phases.Header2 h w) (places.Second Ascii seen) = Unit {0}
+Fits (phases.Headers h f) (places.Headers Ascii seen) = Unit {0}
+Fits (phases.DataPassed h) (places.Data Ascii seen) = Unit {0}
+Fits (phases.DataWanted h f n) (places.Data Ascii seen) = Unit {0}
+Fits (phases.TrailerPassed h) (places.Trailer Ascii seen) = Unit {0}
+Fits (phases.TrailerWanted h f) (places.Trailer Ascii seen) = Unit {0}
+Fits phases.Trailers (places.Trailers Ascii seen) = Unit {0}
+Fits phases.NextFile (places.Next Ascii seen) = Unit {0}
 Fits phase places.Over = Unit {0}
 Fits phase place = ⊥
 

@@ -35,7 +35,8 @@ use Rattle.tape_core.specs.Table.{at_passed_trailer, at_wanted_trailer, at_end, 
 use Rattle.tape_core.specs.declared.normal.code.Code.TheVariants.{Ascii}
 use Rattle.tape_core.specs.declared.normal.machine.TapePlace.{TapePlace}
 use Rattle.tape_core.specs.declared.normal.machine.TapePlace.TheVariants as places
-use Rattle.tape_core.specs.NormalForm.Mended.{mended}
+use Rattle.tape_core.specs.NormalForm.Mended.{mended, seen_as}
+use Rattle.tape_core.specs.declared.normal.numbers.FileSeen.{FileSeen}
 use Rattle.tape_core.specs.NormalForm.{Steps.from}
 use Rattle.tape_core.proofs.NormalForm.AheadFacts.{Fits, Stands, Fact}
 use Rattle.tape_core.proofs.NormalForm.AheadFacts.{ends, kept, changed}
@@ -74,7 +75,7 @@ module _ (core : State) (w : is_finished core.position ≡ false) where
 
   pub heads : (place : TapePlace) (b : List ℕ)
       → ((h : Head1) → head1_at b ≡ Ok h → (xs : List TapeItem)
-      → from place (block b ∷ xs) ≡ block b ∷ from (places.Second Ascii) xs)
+      → from place (block b ∷ xs) ≡ block b ∷ from (places.Second Ascii (seen_as false h)) xs)
       → (o : Result Head1 LabelFault) → head1_at b ≡ o
       → Fact core place (block b) (at_head1 core o)
   heads place b keep (Err fault) e = ends tt
@@ -93,15 +94,17 @@ module _ (core : State) (w : is_finished core.position ≡ false) where
           (passed core (phases.Header2 (heading_of h) true))))))))
       go true c d f g i = ends tt
       go false true d f g i =
-          kept (places.Second Ascii) (keep h e)
-          (λ g. stays (places.Second Ascii) (phases.Header2 (heading_of h) false) tt)
+          kept (places.Second Ascii (seen_as false h)) (keep h e)
+          (λ g. stays (places.Second Ascii (seen_as false h))
+          (phases.Header2 (heading_of h) false) tt)
       go false false true f g i = ends tt
       go false false false true g i = ends tt
       go false false false false true i = ends tt
       go false false false false false true = ends tt
       go false false false false false false =
-          kept (places.Second Ascii) (keep h e)
-          (λ g. stays (places.Second Ascii) (phases.Header2 (heading_of h) true) tt)
+          kept (places.Second Ascii (seen_as false h)) (keep h e)
+          (λ g. stays (places.Second Ascii (seen_as false h))
+          (phases.Header2 (heading_of h) true) tt)
 
   pub labels : (n : ℕ) (b : List ℕ) (v : Bool) → is_volume_label b ≡ v → (k : Option Kind)
       → kind_at b ≡ k
@@ -114,133 +117,141 @@ module _ (core : State) (w : is_finished core.position ≡ false) where
       heads (places.Labels Ascii n) b (λ h o xs. rw (e, f, o) refl) (head1_at b) refl
   labels n b false e k f = ends tt
 
-  pub second : (heading : Heading) (wanted : Bool) (b : List ℕ) (k : Option Kind) → kind_at b ≡ k
+  pub second : (seen : FileSeen) (heading : Heading) (wanted : Bool) (b : List ℕ)
+      (k : Option Kind) → kind_at b ≡ k
       → core.phase ≡ phases.Header2 heading wanted
-      → Fact core (places.Second Ascii) (block b) (second_label core heading wanted b k)
-  second heading false b (Some kinds.Hdr2) e p =
-      changed (places.Headers Ascii) (block (mended b)) (λ xs. rw (e) refl) refl
+      → Fact core (places.Second Ascii seen) (block b) (second_label core heading wanted b k)
+  second seen heading false b (Some kinds.Hdr2) e p =
+      changed (places.Headers Ascii seen) (block (mended b)) (λ xs. rw (e) refl) refl
       (step_is core (phases.Header2 heading false) w p (block (mended b))
       ∙ ap (λ v. second_label core heading false (mended b) v) (kind_mended b e))
-      (stays (places.Headers Ascii) _ tt)
-  second heading true b (Some kinds.Hdr2) e p = go (head2_at b) refl
+      (stays (places.Headers Ascii seen) _ tt)
+  second seen heading true b (Some kinds.Hdr2) e p = go (head2_at b) refl
     where
       go : (o : Result Head2 LabelFault) → head2_at b ≡ o
-          → Fact core (places.Second Ascii) (block b) (at_head2 core heading o)
+          → Fact core (places.Second Ascii seen) (block b) (at_head2 core heading o)
       go (Err fault) f = ends tt
       go (Ok g) f =
-          pick (places.Second Ascii) (block b) (other_shape core.known (form_at heading g))
+          pick (places.Second Ascii seen) (block b) (other_shape core.known (form_at heading g))
           (useless core reasons.SectionDiffers)
           (passed core (phases.Headers heading (Some (form_at heading g)))) (ends tt)
-          (kept (places.Headers Ascii) (λ xs. rw (e, f) refl)
-          (λ a. stays (places.Headers Ascii) (phases.Headers heading (Some (form_at heading g)))
+          (kept (places.Headers Ascii seen) (λ xs. rw (e, f) refl)
+          (λ a. stays (places.Headers Ascii seen)
+          (phases.Headers heading (Some (form_at heading g)))
           tt))
-  second heading false b k e p = ends tt
-  second heading true b k e p = ends tt
+  second seen heading false b k e p = ends tt
+  second seen heading true b k e p = ends tt
 
-  pub headers : (heading : Heading) (form : Option FileForm) (x : TapeItem)
-      → Fact core (places.Headers Ascii) x (at_item core (phases.Headers heading form) x)
-  headers heading form (block b) =
-      kept (places.Headers Ascii) (λ xs. refl) (λ g. stays (places.Headers Ascii) _ tt)
-  headers heading None mark =
-      kept (places.Data Ascii) (λ xs. refl) (λ g. stays (places.Data Ascii) _ tt)
-  headers heading (Some form) mark =
-      kept (places.Data Ascii) (λ xs. refl) (λ g. stays (places.Data Ascii) _ tt)
-  headers heading form bad = ends tt
+  pub headers : (seen : FileSeen) (heading : Heading) (form : Option FileForm) (x : TapeItem)
+      → Fact core (places.Headers Ascii seen) x (at_item core (phases.Headers heading form) x)
+  headers seen heading form (block b) =
+      kept (places.Headers Ascii seen) (λ xs. refl) (λ g. stays (places.Headers Ascii seen) _ tt)
+  headers seen heading None mark =
+      kept (places.Data Ascii seen) (λ xs. refl) (λ g. stays (places.Data Ascii seen) _ tt)
+  headers seen heading (Some form) mark =
+      kept (places.Data Ascii seen) (λ xs. refl) (λ g. stays (places.Data Ascii seen) _ tt)
+  headers seen heading form bad = ends tt
 
-  pub data_passed : (heading : Heading) (x : TapeItem)
-      → Fact core (places.Data Ascii) x (at_item core (phases.DataPassed heading) x)
-  data_passed heading (block b) =
-      kept (places.Data Ascii) (λ xs. refl) (λ g. stays (places.Data Ascii) _ tt)
-  data_passed heading bad =
-      kept (places.Data Ascii) (λ xs. refl) (λ g. stays (places.Data Ascii) _ tt)
-  data_passed heading mark =
-      kept (places.Trailer Ascii) (λ xs. refl) (λ g. stays (places.Trailer Ascii) _ tt)
+  pub data_passed : (seen : FileSeen) (heading : Heading) (x : TapeItem)
+      → Fact core (places.Data Ascii seen) x (at_item core (phases.DataPassed heading) x)
+  data_passed seen heading (block b) =
+      kept (places.Data Ascii seen) (λ xs. refl) (λ g. stays (places.Data Ascii seen) _ tt)
+  data_passed seen heading bad =
+      kept (places.Data Ascii seen) (λ xs. refl) (λ g. stays (places.Data Ascii seen) _ tt)
+  data_passed seen heading mark =
+      kept (places.Trailer Ascii seen) (λ xs. refl) (λ g. stays (places.Trailer Ascii seen) _ tt)
 
-  pub data_wanted : (heading : Heading) (form : FileForm) (n : ℕ) (x : TapeItem)
-      → Fact core (places.Data Ascii) x (at_item core (phases.DataWanted heading form n) x)
-  data_wanted heading form n (block b) =
+  pub data_wanted : (seen : FileSeen) (heading : Heading) (form : FileForm) (n : ℕ) (x : TapeItem)
+      → Fact core (places.Data Ascii seen) x (at_item core (phases.DataWanted heading form n) x)
+  data_wanted seen heading form n (block b) =
       let fact = judged_fact (judged form.format form.rec_len form.offset
       (begun_before form (part_of core.position) core.begun b) b) in
-      pick (places.Data Ascii) (block b) (nat_lt n (block_of core.position))
+      pick (places.Data Ascii seen) (block b) (nat_lt n (block_of core.position))
       (passed core (phases.DataWanted heading form (n + 1))) (at_awaited core heading form b)
-      (kept (places.Data Ascii) (λ xs. refl)
-      (λ g. stays (places.Data Ascii) (phases.DataWanted heading form (n + 1)) tt))
-      (pick (places.Data Ascii) (block b) (not (nat_lt (block_of core.position) most_blocks))
+      (kept (places.Data Ascii seen) (λ xs. refl)
+      (λ g. stays (places.Data Ascii seen) (phases.DataWanted heading form (n + 1)) tt))
+      (pick (places.Data Ascii seen) (block b) (not (nat_lt (block_of core.position) most_blocks))
       (useless core reasons.SectionDiffers)
       (at_judged core heading form b (judged form.format form.rec_len form.offset
       (begun_before form (part_of core.position) core.begun b) b)) (ends tt) fact)
     where
-      judged_fact : (r : Result Bool BlockFault) → Fact core (places.Data Ascii) (block b)
+      judged_fact : (r : Result Bool BlockFault) → Fact core (places.Data Ascii seen) (block b)
           (at_judged core heading form b r)
       judged_fact (Err fault) = ends tt
       judged_fact (Ok end) =
-          pick (places.Data Ascii) (block b) (other_front form (part_of core.position) core.begun b)
+          pick (places.Data Ascii seen) (block b)
+          (other_front form (part_of core.position) core.begun b)
           (useless core reasons.SectionDiffers) (delivered' core heading form end) (ends tt)
-          (kept (places.Data Ascii) (λ xs. refl)
+          (kept (places.Data Ascii seen) (λ xs. refl)
           (λ g. record { waits = next_waits core.position w; fits = tt }))
-  data_wanted heading form n bad =
-      pick (places.Data Ascii) bad (nat_lt n (block_of core.position))
+  data_wanted seen heading form n bad =
+      pick (places.Data Ascii seen) bad (nat_lt n (block_of core.position))
       (passed core (phases.DataWanted heading form (n + 1))) (useless core reasons.BadItem)
-      (kept (places.Data Ascii) (λ xs. refl)
-      (λ g. stays (places.Data Ascii) (phases.DataWanted heading form (n + 1)) tt)) (ends tt)
-  data_wanted heading form n mark =
-      pick (places.Data Ascii) mark (nat_lt n (block_of core.position))
+      (kept (places.Data Ascii seen) (λ xs. refl)
+      (λ g. stays (places.Data Ascii seen) (phases.DataWanted heading form (n + 1)) tt)) (ends tt)
+  data_wanted seen heading form n mark =
+      pick (places.Data Ascii seen) mark (nat_lt n (block_of core.position))
       (useless core reasons.SectionDiffers) (passed core (phases.TrailerWanted heading form))
       (ends tt)
-      (kept (places.Trailer Ascii) (λ xs. refl)
-      (λ g. stays (places.Trailer Ascii) (phases.TrailerWanted heading form) tt))
+      (kept (places.Trailer Ascii seen) (λ xs. refl)
+      (λ g. stays (places.Trailer Ascii seen) (phases.TrailerWanted heading form) tt))
 
-  pub trailer_kept : (b : List ℕ) (t : Trail1) → trail1_at b ≡ Ok t → (xs : List TapeItem)
-      → from (places.Trailer Ascii) (block b ∷ xs) ≡ block b ∷ from (places.Trailers Ascii) xs
-  trailer_kept b t e xs =
+  pub trailer_kept : (seen : FileSeen) (b : List ℕ) (t : Trail1) → trail1_at b ≡ Ok t
+      → (xs : List TapeItem)
+      → from (places.Trailer Ascii seen) (block b ∷ xs)
+      ≡ block b ∷ from (places.Trailers Ascii seen) xs
+  trailer_kept seen b t e xs =
       let k = (first_trailer b t.eof (trail1_found b t e).kind).0 in
-      rw (k) refl
+      rw (k, e) refl
 
-  pub trailer_passed : (heading : Heading) (b : List ℕ) (o : Result Trail1 LabelFault)
+  pub trailer_passed : (seen : FileSeen) (heading : Heading) (b : List ℕ)
+      (o : Result Trail1 LabelFault)
       → trail1_at b ≡ o
-      → Fact core (places.Trailer Ascii) (block b) (at_passed_trailer core heading o)
-  trailer_passed heading b (Err fault) e = ends tt
-  trailer_passed heading b (Ok t) e =
-      pick (places.Trailer Ascii) (block b) (other_numbers heading t)
+      → Fact core (places.Trailer Ascii seen) (block b) (at_passed_trailer core heading o)
+  trailer_passed seen heading b (Err fault) e = ends tt
+  trailer_passed seen heading b (Ok t) e =
+      pick (places.Trailer Ascii seen) (block b) (other_numbers heading t)
       (useless core reasons.SectionDiffers) (passed core phases.Trailers) (ends tt)
-      (kept (places.Trailers Ascii) (trailer_kept b t e)
-      (λ g. stays (places.Trailers Ascii) phases.Trailers tt))
+      (kept (places.Trailers Ascii seen) (trailer_kept seen b t e)
+      (λ g. stays (places.Trailers Ascii seen) phases.Trailers tt))
 
-  pub trailer_wanted : (heading : Heading) (form : FileForm) (b : List ℕ)
+  pub trailer_wanted : (seen : FileSeen) (heading : Heading) (form : FileForm) (b : List ℕ)
       (o : Result Trail1 LabelFault) → trail1_at b ≡ o
-      → Fact core (places.Trailer Ascii) (block b) (at_wanted_trailer core heading form o)
-  trailer_wanted heading form b (Err fault) e = ends tt
-  trailer_wanted heading form b (Ok t) e =
-      pick (places.Trailer Ascii) (block b) (other_numbers heading t)
+      → Fact core (places.Trailer Ascii seen) (block b) (at_wanted_trailer core heading form o)
+  trailer_wanted seen heading form b (Err fault) e = ends tt
+  trailer_wanted seen heading form b (Ok t) e =
+      pick (places.Trailer Ascii seen) (block b) (other_numbers heading t)
       (useless core reasons.SectionDiffers)
       (cond (not (t.blocks == label_count (block_of core.position)))
       (broken core (reasons.BlockCount t.blocks (block_of core.position)))
       (at_end core form t.eof)) (ends tt)
-      (pick (places.Trailer Ascii) (block b)
+      (pick (places.Trailer Ascii seen) (block b)
       (not (t.blocks == label_count (block_of core.position)))
       (broken core (reasons.BlockCount t.blocks (block_of core.position)))
       (at_end core form t.eof) (ends tt) (end_fact t.eof))
     where
-      end_fact : (eof : Bool) → Fact core (places.Trailer Ascii) (block b) (at_end core form eof)
+      end_fact : (eof : Bool)
+          → Fact core (places.Trailer Ascii seen) (block b) (at_end core form eof)
       end_fact true = go core.begun
         where
-          go : (v : Bool) → Fact core (places.Trailer Ascii) (block b)
+          go : (v : Bool) → Fact core (places.Trailer Ascii seen) (block b)
               (cond v (useless core reasons.SpanLeft)
               (Complete, moved_to core Finished false form phases.Over))
           go true = ends tt
-          go false = kept (places.Trailers Ascii) (trailer_kept b t e) (λ g. absurd g)
+          go false = kept (places.Trailers Ascii seen) (trailer_kept seen b t e) (λ g. absurd g)
       end_fact false = go (not (nat_lt (sect_of core.position) 9999))
         where
-          go : (v : Bool) → Fact core (places.Trailer Ascii) (block b)
+          go : (v : Bool) → Fact core (places.Trailer Ascii seen) (block b)
               (cond v (useless core reasons.SectionDiffers) (
                 SectionDone,
                 moved_to core (next_section core.position) core.begun form phases.Over,
               ))
           go true = ends tt
-          go false = kept (places.Trailers Ascii) (trailer_kept b t e) (λ g. absurd g)
+          go false = kept (places.Trailers Ascii seen) (trailer_kept seen b t e) (λ g. absurd g)
 
-  pub next_kept : (b : List ℕ) (h : Head1) → head1_at b ≡ Ok h → (xs : List TapeItem)
-      → from (places.Next Ascii) (block b ∷ xs) ≡ block b ∷ from (places.Second Ascii) xs
-  next_kept b h e xs =
+  pub next_kept : (seen : FileSeen) (b : List ℕ) (h : Head1) → head1_at b ≡ Ok h
+      → (xs : List TapeItem) → from (places.Next Ascii seen) (block b ∷ xs)
+      ≡ block b ∷ from (places.Second Ascii (seen_as false h)) xs
+  next_kept seen b h e xs =
       let k = kind_again b kinds.Hdr1 (head1_found b h e).kind in
-      rw (k) refl
+      rw (k, e) refl

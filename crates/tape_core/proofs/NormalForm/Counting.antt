@@ -20,11 +20,12 @@ use Rattle.tape_core.specs.declared.normal.machine.Missing.TheVariants.{Nothing,
 use Rattle.tape_core.specs.declared.normal.machine.Missing.TheVariants.{SecondLabel, Digits}
 use Rattle.tape_core.specs.NormalForm.{is_noise, most_dropped, Codes.in_ascii}
 use Rattle.tape_core.specs.NormalForm.Mended.{is_vol1, is_hdr1, is_hdr2, is_first_trailer}
-use Rattle.tape_core.specs.NormalForm.Mended.{is_dummy, mended}
+use Rattle.tape_core.specs.NormalForm.Mended.{is_dummy, mended, headed, trailed}
+use Rattle.tape_core.specs.declared.normal.numbers.FileSeen.{FileSeen}
 use Rattle.tape_core.specs.NormalForm.Steps.{step_of, from, given, inserted, instead, instead_in}
 use Rattle.tape_core.specs.NormalForm.Steps.{begin_in, begin_at, either, start_at, drop_first}
 use Rattle.tape_core.specs.NormalForm.Steps.{drop_block, labels_at, second_at, any_at, trailer_at}
-use Rattle.tape_core.specs.NormalForm.Steps.{next_at, ended_at}
+use Rattle.tape_core.specs.NormalForm.Steps.{next_at, ended_at, replaced_with}
 use Rattle.tape_core.proofs.NormalForm.{Agree.table_gives, Ahead.from_nil}
 
 -- ---- how many items a step gives
@@ -79,7 +80,8 @@ module _ (b : List ℕ) where
   begun_fits code true h f k =
       rw (f) (leaf 1 (Labels code 0) Nothing (instead_in code (in_ascii code b)) refl (omega arith))
   begun_fits code false true f k =
-      rw (f, k) (leaf 1 (Second code) VolumeLabel (instead_in code (in_ascii code b)) refl
+      rw (f, k) (leaf 1 (Second code (headed 0 (in_ascii code b)).1) VolumeLabel
+      (replaced_with VolumeLabel code (headed 0 (in_ascii code b)).0 (in_ascii code b)).instead refl
       (omega arith))
   begun_fits code false false f k = rw (f, k) tt
 
@@ -108,23 +110,27 @@ module _ (b : List ℕ) where
   labels_fit code n true h f k =
       rw (f) (leaf 0 (Labels code n) Nothing (instead_in code (in_ascii code b)) refl (omega arith))
   labels_fit code n false true f k =
-      rw (f, k) (leaf 0 (Second code) Nothing (instead_in code (in_ascii code b)) refl
+      rw (f, k) (leaf 0 (Second code (headed 0 (in_ascii code b)).1) Nothing
+      (replaced_with Nothing code (headed 0 (in_ascii code b)).0 (in_ascii code b)).instead refl
       (omega arith))
   labels_fit code n false false f k = rw (f, k) (drop_block_fits code n _ refl)
 
-  second_fits : (code : Code) (k f m : Bool) → is_hdr2 (kind_at (in_ascii code b)) ≡ k
+  second_fits : (code : Code) (seen : FileSeen) (k f m : Bool)
+      → is_hdr2 (kind_at (in_ascii code b)) ≡ k
       → is_further_header (in_ascii code b) ≡ f
       → bytes_eq (mended (in_ascii code b)) (in_ascii code b) ≡ m
-      → FitsIn 0 (second_at code (in_ascii code b))
-  second_fits code true f true p q r =
-      rw (p, r) (leaf 0 (Headers code) Nothing (instead_in code (in_ascii code b)) refl
+      → FitsIn 0 (second_at code seen (in_ascii code b))
+  second_fits code seen true f true p q r =
+      rw (p, r) (leaf 0 (Headers code seen) Nothing (instead_in code (in_ascii code b)) refl
       (omega arith))
-  second_fits code true f false p q r =
-      rw (p, r) (leaf 0 (Headers code) Digits (Label (mended (in_ascii code b))) refl (omega arith))
-  second_fits code false true m p q r =
-      rw (p, q) (leaf 0 (Headers code) SecondLabel (instead_in code (in_ascii code b)) refl
+  second_fits code seen true f false p q r =
+      rw (p, r) (leaf 0 (Headers code seen) Digits (Label (mended (in_ascii code b))) refl
       (omega arith))
-  second_fits code false false m p q r = rw (p, q) (leaf 0 Over Nothing Same refl (omega arith))
+  second_fits code seen false true m p q r =
+      rw (p, q) (leaf 0 (Headers code seen) SecondLabel (instead_in code (in_ascii code b)) refl
+      (omega arith))
+  second_fits code seen false false m p q r =
+      rw (p, q) (leaf 0 Over Nothing Same refl (omega arith))
 
   any_fits : (next : TapePlace) (code : Code) (t : Bool) → grown next ≡ 0 → (length b == 80) ≡ t
       → FitsIn 0 (next, any_at code b)
@@ -132,17 +138,22 @@ module _ (b : List ℕ) where
       rw (e) (leaf 0 next Nothing (instead_in code (in_ascii code b)) g (omega arith))
   any_fits next code false g e = rw (e) (leaf 0 next Nothing Same g (omega arith))
 
-  trailer_fits : (code : Code) (k : Bool) → is_first_trailer (kind_at (in_ascii code b)) ≡ k
-      → FitsIn 0 (trailer_at code (in_ascii code b))
-  trailer_fits code true p =
-      rw (p) (leaf 0 (Trailers code) Nothing (instead_in code (in_ascii code b)) refl (omega arith))
-  trailer_fits code false p = rw (p) (leaf 0 Over Nothing Same refl (omega arith))
+  trailer_fits : (code : Code) (seen : FileSeen) (k : Bool)
+      → is_first_trailer (kind_at (in_ascii code b)) ≡ k
+      → FitsIn 0 (trailer_at code seen (in_ascii code b))
+  trailer_fits code seen true p =
+      rw (p) (leaf 0 (Trailers code seen) Nothing
+      (replaced_with Nothing code (trailed seen (in_ascii code b)) (in_ascii code b)).instead refl
+      (omega arith))
+  trailer_fits code seen false p = rw (p) (leaf 0 Over Nothing Same refl (omega arith))
 
-  next_fits : (code : Code) (k : Bool) → is_hdr1 (kind_at (in_ascii code b)) ≡ k
-      → FitsIn 0 (next_at code (in_ascii code b))
-  next_fits code true p =
-      rw (p) (leaf 0 (Second code) Nothing (instead_in code (in_ascii code b)) refl (omega arith))
-  next_fits code false p = rw (p) (leaf 0 Over Nothing Same refl (omega arith))
+  next_fits : (code : Code) (last : ℕ) (k : Bool) → is_hdr1 (kind_at (in_ascii code b)) ≡ k
+      → FitsIn 0 (next_at code last (in_ascii code b))
+  next_fits code last true p =
+      rw (p) (leaf 0 (Second code (headed last (in_ascii code b)).1) Nothing
+      (replaced_with Nothing code (headed last (in_ascii code b)).0 (in_ascii code b)).instead refl
+      (omega arith))
+  next_fits code last false p = rw (p) (leaf 0 Over Nothing Same refl (omega arith))
 
 pub step_fits : (place : TapePlace) (x : TapeItem) → FitsIn (grown place) (step_of place x)
 step_fits (Start n) (block b) = start_fits b n (begin_at b) (begin_fits b) _ refl
@@ -154,24 +165,24 @@ step_fits (Labels code n) bad = leaf 0 Over Nothing Same refl (omega arith)
 step_fits Blank (block b) = leaf 0 Over Nothing Same refl (omega arith)
 step_fits Blank mark = leaf 0 Ended Nothing Same refl (omega arith)
 step_fits Blank bad = leaf 0 Over Nothing Same refl (omega arith)
-step_fits (Second code) (block b) = second_fits b code _ _ _ refl refl refl
-step_fits (Second code) mark = leaf 0 (Data code) SecondLabel Same refl (omega arith)
-step_fits (Second code) bad = leaf 0 Over Nothing Same refl (omega arith)
-step_fits (Headers code) (block b) = any_fits b (Headers code) code _ refl refl
-step_fits (Headers code) mark = leaf 0 (Data code) Nothing Same refl (omega arith)
-step_fits (Headers code) bad = leaf 0 Over Nothing Same refl (omega arith)
-step_fits (Data code) (block b) = leaf 0 (Data code) Nothing Same refl (omega arith)
-step_fits (Data code) mark = leaf 0 (Trailer code) Nothing Same refl (omega arith)
-step_fits (Data code) bad = leaf 0 (Data code) Nothing Same refl (omega arith)
-step_fits (Trailer code) (block b) = trailer_fits b code _ refl
-step_fits (Trailer code) mark = leaf 0 Over Nothing Same refl (omega arith)
-step_fits (Trailer code) bad = leaf 0 Over Nothing Same refl (omega arith)
-step_fits (Trailers code) (block b) = any_fits b (Trailers code) code _ refl refl
-step_fits (Trailers code) mark = leaf 0 (Next code) Nothing Same refl (omega arith)
-step_fits (Trailers code) bad = leaf 0 Over Nothing Same refl (omega arith)
-step_fits (Next code) (block b) = next_fits b code _ refl
-step_fits (Next code) mark = leaf 0 Ended Nothing Same refl (omega arith)
-step_fits (Next code) bad = leaf 0 Over Nothing Same refl (omega arith)
+step_fits (Second code seen) (block b) = second_fits b code seen _ _ _ refl refl refl
+step_fits (Second code seen) mark = leaf 0 (Data code seen) SecondLabel Same refl (omega arith)
+step_fits (Second code seen) bad = leaf 0 Over Nothing Same refl (omega arith)
+step_fits (Headers code seen) (block b) = any_fits b (Headers code seen) code _ refl refl
+step_fits (Headers code seen) mark = leaf 0 (Data code seen) Nothing Same refl (omega arith)
+step_fits (Headers code seen) bad = leaf 0 Over Nothing Same refl (omega arith)
+step_fits (Data code seen) (block b) = leaf 0 (Data code seen) Nothing Same refl (omega arith)
+step_fits (Data code seen) mark = leaf 0 (Trailer code seen) Nothing Same refl (omega arith)
+step_fits (Data code seen) bad = leaf 0 (Data code seen) Nothing Same refl (omega arith)
+step_fits (Trailer code seen) (block b) = trailer_fits b code seen _ refl
+step_fits (Trailer code seen) mark = leaf 0 Over Nothing Same refl (omega arith)
+step_fits (Trailer code seen) bad = leaf 0 Over Nothing Same refl (omega arith)
+step_fits (Trailers code seen) (block b) = any_fits b (Trailers code seen) code _ refl refl
+step_fits (Trailers code seen) mark = leaf 0 (Next code seen) Nothing Same refl (omega arith)
+step_fits (Trailers code seen) bad = leaf 0 Over Nothing Same refl (omega arith)
+step_fits (Next code seen) (block b) = next_fits b code seen.sequence _ refl
+step_fits (Next code seen) mark = leaf 0 Ended Nothing Same refl (omega arith)
+step_fits (Next code seen) bad = leaf 0 Over Nothing Same refl (omega arith)
 step_fits Ended (block b) = ended_fits b (begin_at b)
 step_fits Ended mark = leaf 0 Ended Nothing Dropped refl (omega arith)
 step_fits Ended bad = leaf 0 Ended Nothing Dropped refl (omega arith)

@@ -288,11 +288,11 @@ pub data_looked : (room : ℕ) (place : TapePlace) (w : ℕ) (xs : List ℕ)
     → reads_labels place ≡ false → is_over place ≡ false → 4 ≤ length xs → little_number 4 xs ≡ w
     → 0 < w → w ≤ longest_block → block_extent w ≤ room
     → Some (record { size = block_extent w; next = place; change = same }) ≡ looked room place xs
-data_looked room (places.Data code) w xs d o h e some few fits =
+data_looked room (places.Data code seen) w xs d o h e some few fits =
     let mark : (w == mark_word) ≡ false = grind (arith, nat_tests) in
     let gap : (w == gap_word) ≡ false = grind (arith, nat_tests) in
-    let word : looked_word room (places.Data code) w xs
-    ≡ Some (record { size = block_extent w; next = places.Data code; change = same }) =
+    let word : looked_word room (places.Data code seen) w xs
+    ≡ Some (record { size = block_extent w; next = places.Data code seen; change = same }) =
     rw (
       mark,
       gap,
@@ -300,16 +300,16 @@ data_looked room (places.Data code) w xs d o h e some few fits =
       no_less room (block_extent w) fits,
       no_less longest_block w few,
     ) refl in
-    sym (looked_is room (places.Data code) xs w refl h e ∙ word)
+    sym (looked_is room (places.Data code seen) xs w refl h e ∙ word)
 data_looked room places.Over w xs d o h e some few fits = absurd (cc o)
 data_looked room (places.Start n) w xs d o h e some few fits = absurd (cc d)
 data_looked room (places.Labels code n) w xs d o h e some few fits = absurd (cc d)
 data_looked room places.Blank w xs d o h e some few fits = absurd (cc d)
-data_looked room (places.Second code) w xs d o h e some few fits = absurd (cc d)
-data_looked room (places.Headers code) w xs d o h e some few fits = absurd (cc d)
-data_looked room (places.Trailer code) w xs d o h e some few fits = absurd (cc d)
-data_looked room (places.Trailers code) w xs d o h e some few fits = absurd (cc d)
-data_looked room (places.Next code) w xs d o h e some few fits = absurd (cc d)
+data_looked room (places.Second code seen) w xs d o h e some few fits = absurd (cc d)
+data_looked room (places.Headers code seen) w xs d o h e some few fits = absurd (cc d)
+data_looked room (places.Trailer code seen) w xs d o h e some few fits = absurd (cc d)
+data_looked room (places.Trailers code seen) w xs d o h e some few fits = absurd (cc d)
+data_looked room (places.Next code seen) w xs d o h e some few fits = absurd (cc d)
 data_looked room places.Ended w xs d o h e some few fits = absurd (cc d)
 
 -- the word of a block of data is given on

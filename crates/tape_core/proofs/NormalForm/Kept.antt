@@ -60,12 +60,12 @@ label_quiet : (place : TapePlace) → Quiet (step_of place (block no_volume_labe
 label_quiet (Start n) = quiet_start n no_volume_label vol_kind
 label_quiet (Labels code n) = quiet_of (Labels code n) (block no_volume_label) refl
 label_quiet Blank = quiet_of Blank (block no_volume_label) refl
-label_quiet (Second code) = quiet_of (Second code) (block no_volume_label) refl
-label_quiet (Headers code) = quiet_of (Headers code) (block no_volume_label) refl
-label_quiet (Data code) = quiet_of (Data code) (block no_volume_label) refl
-label_quiet (Trailer code) = quiet_of (Trailer code) (block no_volume_label) refl
-label_quiet (Trailers code) = quiet_of (Trailers code) (block no_volume_label) refl
-label_quiet (Next code) = quiet_of (Next code) (block no_volume_label) refl
+label_quiet (Second code seen) = quiet_of (Second code seen) (block no_volume_label) refl
+label_quiet (Headers code seen) = quiet_of (Headers code seen) (block no_volume_label) refl
+label_quiet (Data code seen) = quiet_of (Data code seen) (block no_volume_label) refl
+label_quiet (Trailer code seen) = quiet_of (Trailer code seen) (block no_volume_label) refl
+label_quiet (Trailers code seen) = quiet_of (Trailers code seen) (block no_volume_label) refl
+label_quiet (Next code seen) = quiet_of (Next code seen) (block no_volume_label) refl
 label_quiet Ended = quiet_of Ended (block no_volume_label) refl
 label_quiet Over = quiet_of Over (block no_volume_label) refl
 
@@ -131,12 +131,18 @@ stays place x rest e = go (step_of place x).1.missing refl
         absurd (omega (arith, quiet.past, ap grown s))
     dropped (Labels code n) s t = absurd (omega (arith, ap length t, shorter (Labels code n) rest))
     dropped Blank s t = absurd (omega (arith, ap length t, shorter Blank rest))
-    dropped (Second code) s t = absurd (omega (arith, ap length t, shorter (Second code) rest))
-    dropped (Headers code) s t = absurd (omega (arith, ap length t, shorter (Headers code) rest))
-    dropped (Data code) s t = absurd (omega (arith, ap length t, shorter (Data code) rest))
-    dropped (Trailer code) s t = absurd (omega (arith, ap length t, shorter (Trailer code) rest))
-    dropped (Trailers code) s t = absurd (omega (arith, ap length t, shorter (Trailers code) rest))
-    dropped (Next code) s t = absurd (omega (arith, ap length t, shorter (Next code) rest))
+    dropped (Second code seen) s t =
+        absurd (omega (arith, ap length t, shorter (Second code seen) rest))
+    dropped (Headers code seen) s t =
+        absurd (omega (arith, ap length t, shorter (Headers code seen) rest))
+    dropped (Data code seen) s t =
+        absurd (omega (arith, ap length t, shorter (Data code seen) rest))
+    dropped (Trailer code seen) s t =
+        absurd (omega (arith, ap length t, shorter (Trailer code seen) rest))
+    dropped (Trailers code seen) s t =
+        absurd (omega (arith, ap length t, shorter (Trailers code seen) rest))
+    dropped (Next code seen) s t =
+        absurd (omega (arith, ap length t, shorter (Next code seen) rest))
     dropped Ended s t = absurd (omega (arith, ap length t, shorter Ended rest))
     dropped Over s t = absurd (omega (arith, ap length t, shorter Over rest))
 

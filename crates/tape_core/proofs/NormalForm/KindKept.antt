@@ -11,7 +11,7 @@ use Rattle.tape_label.specs.{Reading.wide_head2_at}
 use Rattle.tape_label.proofs.Apart.{kind_found}
 use Rattle.tape_core.specs.NormalForm.Mended.{filled_number, fill_at, filled, mended, is_ok}
 
-filled_length : (xs : List ℕ) → length (filled_number xs) ≡ length xs
+pub filled_length : (xs : List ℕ) → length (filled_number xs) ≡ length xs
 filled_length [] = refl
 filled_length (c ∷ cs) = go ((c == 0) || (c == 32)) (filled_length cs)
   where

@@ -68,16 +68,16 @@ plain_same place a b h k e =
 -- where no labels are read, every block is left as it is
 data_same : (place : TapePlace) (a b : List ℕ) → reads_labels place ≡ false
     → unlabelled (step_of place (block a)) ≡ step_of place (block b)
-data_same (places.Data code) a b e = refl
+data_same (places.Data code seen) a b e = refl
 data_same places.Over a b e = refl
 data_same (places.Start n) a b e = absurd (cc e)
 data_same (places.Labels code n) a b e = absurd (cc e)
 data_same places.Blank a b e = absurd (cc e)
-data_same (places.Second code) a b e = absurd (cc e)
-data_same (places.Headers code) a b e = absurd (cc e)
-data_same (places.Trailer code) a b e = absurd (cc e)
-data_same (places.Trailers code) a b e = absurd (cc e)
-data_same (places.Next code) a b e = absurd (cc e)
+data_same (places.Second code seen) a b e = absurd (cc e)
+data_same (places.Headers code seen) a b e = absurd (cc e)
+data_same (places.Trailer code seen) a b e = absurd (cc e)
+data_same (places.Trailers code seen) a b e = absurd (cc e)
+data_same (places.Next code seen) a b e = absurd (cc e)
 data_same places.Ended a b e = absurd (cc e)
 
 -- a block that is not a label, by its length

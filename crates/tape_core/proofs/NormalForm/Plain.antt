@@ -18,15 +18,19 @@ use Rattle.tape_core.specs.declared.normal.machine.TapePlace.TheVariants.{Ended,
 use Rattle.tape_core.specs.declared.normal.machine.Replacement.TheVariants.{Same, Dropped, Label}
 use Rattle.tape_core.specs.NormalForm.{Codes.in_ascii, Codes.to_ascii, is_noise, most_dropped}
 use Rattle.tape_core.specs.NormalForm.Mended.{is_vol1, is_hdr1, is_hdr2, is_first_trailer}
-use Rattle.tape_core.specs.NormalForm.Mended.{is_dummy, mended, filled, is_ok}
+use Rattle.tape_core.specs.NormalForm.Mended.{is_dummy, mended, filled, is_ok, headed, trailed}
+use Rattle.tape_core.specs.declared.normal.numbers.FileSeen.{FileSeen}
+use Rattle.tape_core.specs.declared.normal.machine.Missing.{Missing}
+use Rattle.tape_core.specs.declared.normal.machine.Missing.TheVariants.{Nothing, VolumeLabel}
 use Rattle.tape_core.specs.NormalForm.Steps.{step_of, same, dropped, drop_first, drop_block}
 use Rattle.tape_core.specs.NormalForm.Steps.{begin_in, begin_at, either, start_at, instead_in}
 use Rattle.tape_core.specs.NormalForm.Steps.{labels_at, second_at, mended_with, ended_at}
-use Rattle.tape_core.specs.NormalForm.Steps.{trailer_at, next_at}
+use Rattle.tape_core.specs.NormalForm.Steps.{trailer_at, next_at, replaced_with, header_at}
 use Rattle.tape_core.specs.NormalForm.Bytes.{unlabelled, unlabelled_instead}
 use Rattle.tape_core.proofs.Eighty.{not_80, no_kind_of, no_volume_label_of, no_beginning}
 use Rattle.tape_core.proofs.Eighty.{second_over}
-use Rattle.tape_core.proofs.NormalForm.KindKept.{filled_alike}
+use Rattle.tape_core.proofs.NormalForm.{KindKept.filled_alike, Numbers.headed_80}
+use Rattle.tape_core.proofs.NormalForm.{Numbers.trailed_80}
 
 -- ---- blocks that are not labels
 
@@ -35,12 +39,12 @@ abbrev pub plain_of : TapePlace → Bool → TapePlace × Change
 plain_of (Start n) z = cond z (drop_first n) (Over, same)
 plain_of (Labels code n) z = drop_block code n
 plain_of Blank z = (Over, same)
-plain_of (Second code) z = (Over, same)
-plain_of (Headers code) z = (Headers code, same)
-plain_of (Data code) z = (Data code, same)
-plain_of (Trailer code) z = (Over, same)
-plain_of (Trailers code) z = (Trailers code, same)
-plain_of (Next code) z = (Over, same)
+plain_of (Second code seen) z = (Over, same)
+plain_of (Headers code seen) z = (Headers code seen, same)
+plain_of (Data code seen) z = (Data code seen, same)
+plain_of (Trailer code seen) z = (Over, same)
+plain_of (Trailers code seen) z = (Trailers code seen, same)
+plain_of (Next code seen) z = (Over, same)
 plain_of Ended z = (Ended, dropped)
 plain_of Over z = (Over, same)
 
@@ -49,12 +53,12 @@ pub plain_step : (place : TapePlace) (b : List ℕ) → length b ≢ 80
 plain_step (Start n) b h = rw (no_beginning b h) refl
 plain_step (Labels code n) b h = rw (no_volume_label_of code b h, no_kind_of code b h) refl
 plain_step Blank b h = refl
-plain_step (Second code) b h = second_over code b h
-plain_step (Headers code) b h = rw (not_80 b h) refl
-plain_step (Data code) b h = refl
-plain_step (Trailer code) b h = rw (no_kind_of code b h) refl
-plain_step (Trailers code) b h = rw (not_80 b h) refl
-plain_step (Next code) b h = rw (no_kind_of code b h) refl
+plain_step (Second code seen) b h = second_over code seen b h
+plain_step (Headers code seen) b h = rw (not_80 b h) refl
+plain_step (Data code seen) b h = refl
+plain_step (Trailer code seen) b h = rw (no_kind_of code b h) refl
+plain_step (Trailers code seen) b h = rw (not_80 b h) refl
+plain_step (Next code seen) b h = rw (no_kind_of code b h) refl
 plain_step Ended b h = rw (no_beginning b h) refl
 plain_step Over b h = refl
 
@@ -75,12 +79,12 @@ plain_unlabelled (Labels code n) z = go (nat_lt n most_dropped)
     go true = refl
     go false = refl
 plain_unlabelled Blank z = refl
-plain_unlabelled (Second code) z = refl
-plain_unlabelled (Headers code) z = refl
-plain_unlabelled (Data code) z = refl
-plain_unlabelled (Trailer code) z = refl
-plain_unlabelled (Trailers code) z = refl
-plain_unlabelled (Next code) z = refl
+plain_unlabelled (Second code seen) z = refl
+plain_unlabelled (Headers code seen) z = refl
+plain_unlabelled (Data code seen) z = refl
+plain_unlabelled (Trailer code seen) z = refl
+plain_unlabelled (Trailers code seen) z = refl
+plain_unlabelled (Next code seen) z = refl
 plain_unlabelled Ended z = refl
 plain_unlabelled Over z = refl
 
@@ -89,12 +93,12 @@ pub bad_unlabelled : (place : TapePlace) → unlabelled (step_of place bad) ≡ 
 bad_unlabelled (Start n) = refl
 bad_unlabelled (Labels code n) = refl
 bad_unlabelled Blank = refl
-bad_unlabelled (Second code) = refl
-bad_unlabelled (Headers code) = refl
-bad_unlabelled (Data code) = refl
-bad_unlabelled (Trailer code) = refl
-bad_unlabelled (Trailers code) = refl
-bad_unlabelled (Next code) = refl
+bad_unlabelled (Second code seen) = refl
+bad_unlabelled (Headers code seen) = refl
+bad_unlabelled (Data code seen) = refl
+bad_unlabelled (Trailer code seen) = refl
+bad_unlabelled (Trailers code seen) = refl
+bad_unlabelled (Next code seen) = refl
 bad_unlabelled Ended = refl
 bad_unlabelled Over = refl
 
@@ -149,6 +153,21 @@ module _ (b : List ℕ) (e : length b ≡ 80) where
   instead_labelled Ascii = tt
   instead_labelled Ebcdic = text_80 Ebcdic
 
+  replaced_labelled : (adds : Missing) (code : Code) (better : List ℕ) → length better ≡ 80
+      → Labelled (replaced_with adds code better (in_ascii code b)).instead
+  replaced_labelled adds code better h = go (bytes_eq better (in_ascii code b)) refl
+    where
+      go : (t : Bool) → bytes_eq better (in_ascii code b) ≡ t
+          → Labelled (replaced_with adds code better (in_ascii code b)).instead
+      go true f = rw (f) (instead_labelled code)
+      go false f = rw (f) h
+
+  header_labelled : (adds : Missing) (code : Code) (last : ℕ)
+      → Labelled (header_at code adds last (in_ascii code b)).1.instead
+  header_labelled adds code last =
+      replaced_labelled adds code (headed last (in_ascii code b)).0
+      (headed_80 last (in_ascii code b) (text_80 code))
+
   begun_labelled : (code : Code) → AllLabelled (begin_in code (in_ascii code b))
   begun_labelled code =
       go (is_vol1 (kind_at (in_ascii code b))) (is_hdr1 (kind_at (in_ascii code b))) refl refl
@@ -156,7 +175,7 @@ module _ (b : List ℕ) (e : length b ≡ 80) where
       go : (v h : Bool) → is_vol1 (kind_at (in_ascii code b)) ≡ v
           → is_hdr1 (kind_at (in_ascii code b)) ≡ h → AllLabelled (begin_in code (in_ascii code b))
       go true h f k = rw (f) (instead_labelled code)
-      go false true f k = rw (f, k) (instead_labelled code)
+      go false true f k = rw (f, k) (header_labelled VolumeLabel code 0)
       go false false f k = rw (f, k) tt
 
   either_labelled : (x y : Option (TapePlace × Change)) → AllLabelled x → AllLabelled y
@@ -181,7 +200,7 @@ module _ (b : List ℕ) (e : length b ≡ 80) where
       → (is_hdr1 (kind_at (in_ascii code b)) && not (is_dummy (in_ascii code b))) ≡ h
       → Labelled (labels_at code n (in_ascii code b)).1.instead
   labels_labelled code n true h f k = rw (f) (instead_labelled code)
-  labels_labelled code n false true f k = rw (f, k) (instead_labelled code)
+  labels_labelled code n false true f k = rw (f, k) (header_labelled Nothing code 0)
   labels_labelled code n false false f k = rw (f, k) (block_labelled code n)
 
   second_kept : (code : Code) (t : Bool)
@@ -190,34 +209,38 @@ module _ (b : List ℕ) (e : length b ≡ 80) where
   second_kept code true f = rw (f) (instead_labelled code)
   second_kept code false f = rw (f) (mended_80 (in_ascii code b) (text_80 code))
 
-  second_labelled : (code : Code) (k f : Bool) → is_hdr2 (kind_at (in_ascii code b)) ≡ k
+  second_labelled : (code : Code) (seen : FileSeen) (k f : Bool)
+      → is_hdr2 (kind_at (in_ascii code b)) ≡ k
       → is_further_header (in_ascii code b) ≡ f
-      → Labelled (second_at code (in_ascii code b)).1.instead
-  second_labelled code true f p q = rw (p) (second_kept code _ refl)
-  second_labelled code false true p q = rw (p, q) (instead_labelled code)
-  second_labelled code false false p q = rw (p, q) tt
+      → Labelled (second_at code seen (in_ascii code b)).1.instead
+  second_labelled code seen true f p q = rw (p) (second_kept code _ refl)
+  second_labelled code seen false true p q = rw (p, q) (instead_labelled code)
+  second_labelled code seen false false p q = rw (p, q) tt
 
-  trailer_labelled : (code : Code) (k : Bool) → is_first_trailer (kind_at (in_ascii code b)) ≡ k
-      → Labelled (trailer_at code (in_ascii code b)).1.instead
-  trailer_labelled code true p = rw (p) (instead_labelled code)
-  trailer_labelled code false p = rw (p) tt
+  trailer_labelled : (code : Code) (seen : FileSeen) (k : Bool)
+      → is_first_trailer (kind_at (in_ascii code b)) ≡ k
+      → Labelled (trailer_at code seen (in_ascii code b)).1.instead
+  trailer_labelled code seen true p =
+      rw (p) (replaced_labelled Nothing code (trailed seen (in_ascii code b))
+      (trailed_80 seen (in_ascii code b) (text_80 code)))
+  trailer_labelled code seen false p = rw (p) tt
 
-  next_labelled : (code : Code) (k : Bool) → is_hdr1 (kind_at (in_ascii code b)) ≡ k
-      → Labelled (next_at code (in_ascii code b)).1.instead
-  next_labelled code true p = rw (p) (instead_labelled code)
-  next_labelled code false p = rw (p) tt
+  next_labelled : (code : Code) (last : ℕ) (k : Bool) → is_hdr1 (kind_at (in_ascii code b)) ≡ k
+      → Labelled (next_at code last (in_ascii code b)).1.instead
+  next_labelled code last true p = rw (p) (header_labelled Nothing code last)
+  next_labelled code last false p = rw (p) tt
 
   eighty_labelled : (place : TapePlace) → Labelled (step_of place (block b)).1.instead
   eighty_labelled (Start n) = start_labelled n (begin_at b)
       (either_labelled _ _ (begun_labelled Ascii) (begun_labelled Ebcdic))
   eighty_labelled (Labels code n) = labels_labelled code n _ _ refl refl
   eighty_labelled Blank = tt
-  eighty_labelled (Second code) = second_labelled code _ _ refl refl
-  eighty_labelled (Headers code) = rw (is_80) (instead_labelled code)
-  eighty_labelled (Data code) = tt
-  eighty_labelled (Trailer code) = trailer_labelled code _ refl
-  eighty_labelled (Trailers code) = rw (is_80) (instead_labelled code)
-  eighty_labelled (Next code) = next_labelled code _ refl
+  eighty_labelled (Second code seen) = second_labelled code seen _ _ refl refl
+  eighty_labelled (Headers code seen) = rw (is_80) (instead_labelled code)
+  eighty_labelled (Data code seen) = tt
+  eighty_labelled (Trailer code seen) = trailer_labelled code seen _ refl
+  eighty_labelled (Trailers code seen) = rw (is_80) (instead_labelled code)
+  eighty_labelled (Next code seen) = next_labelled code seen.sequence _ refl
   eighty_labelled Ended = ended_labelled (begin_at b)
   eighty_labelled Over = tt
 
@@ -238,11 +261,11 @@ step_labelled place bad =
 step_labelled (Start n) mark = first_labelled n
 step_labelled (Labels code n) mark = tt
 step_labelled Blank mark = tt
-step_labelled (Second code) mark = tt
-step_labelled (Headers code) mark = tt
-step_labelled (Data code) mark = tt
-step_labelled (Trailer code) mark = tt
-step_labelled (Trailers code) mark = tt
-step_labelled (Next code) mark = tt
+step_labelled (Second code seen) mark = tt
+step_labelled (Headers code seen) mark = tt
+step_labelled (Data code seen) mark = tt
+step_labelled (Trailer code seen) mark = tt
+step_labelled (Trailers code seen) mark = tt
+step_labelled (Next code seen) mark = tt
 step_labelled Ended mark = tt
 step_labelled Over mark = tt

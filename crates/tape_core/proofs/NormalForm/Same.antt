@@ -22,8 +22,12 @@ use Rattle.tape_set.specs.Reading.{as_read}
 use Rattle.tape_set.proofs.Everywhere.{every, every_both, every-filter, every_at}
 use Rattle.tape_set.proofs.Numbering.{sections_found}
 use Rattle.tape_set.proofs.Forms.{form_told}
+use Rattle.tape_core.specs.declared.normal.code.Code.{Code}
 use Rattle.tape_core.specs.declared.normal.code.Code.TheVariants.{Ascii}
+use Rattle.tape_core.specs.declared.normal.numbers.FileSeen.{FileSeen}
 use Rattle.tape_core.specs.NormalForm.Mended.{is_first_trailer, is_dummy, is_hdr1, mended}
+use Rattle.tape_core.specs.NormalForm.Mended.{seen_as, trailed}
+use Rattle.tape_core.proofs.NormalForm.Numbers.{trailed_same}
 use Rattle.tape_core.specs.NormalForm.{of_start, of_labels, of_second, of_headers, of_data}
 use Rattle.tape_core.specs.NormalForm.{of_trailer, of_trailers, of_next, normal}
 use Rattle.tape_core.specs.NormalForm.Laws.{NormalKeeps}
@@ -61,6 +65,8 @@ rest_of (x ∷ xs) = block x.section.hdr1 ∷ second_on x.section (rest_of xs)
 -- what is used of a section's labels
 record Labelled (s : Section) : Type 0 where
   pub header : kind_at s.hdr1 ≡ Some kinds.Hdr1
+  pub head : Head1
+  pub read : head1_at s.hdr1 ≡ Ok head
   pub no_label : is_volume_label s.hdr1 ≡ false
   pub no_dummy : is_dummy s.hdr1 ≡ false
   pub second : kind_at s.hdr2 ≡ Some kinds.Hdr2
@@ -72,138 +78,147 @@ record Labelled (s : Section) : Type 0 where
 abbrev Keeps : (List TapeItem → List TapeItem) → List TapeItem → Type 0
 Keeps f k = (good : List Bool) → f (as_read k good) ≡ as_read k good
 
+-- the same where the header label of the file has numbers
+abbrev KeepsIn : (Code → FileSeen → List TapeItem → List TapeItem) → List TapeItem → Type 0
+KeepsIn f k = (seen : FileSeen) → seen.is_filled ≡ false → Keeps (f Ascii seen) k
+
 -- ---- blocks up to a mark
 
-trailers_run : (bs : List (List ℕ)) (k : List TapeItem) → Keeps (of_next Ascii) k
-    → Keeps (of_trailers Ascii) (blocks bs (mark ∷ k))
-trailers_run [] k h [] = refl
-trailers_run [] k h (true ∷ gs) = ap (λ v. mark ∷ v) (h gs)
-trailers_run [] k h (false ∷ gs) = refl
-trailers_run (b ∷ bs) k h [] = refl
-trailers_run (b ∷ bs) k h (true ∷ gs) = ap (λ v. block b ∷ v) (trailers_run bs k h gs)
-trailers_run (b ∷ bs) k h (false ∷ gs) = refl
+trailers_run : (bs : List (List ℕ)) (k : List TapeItem) → KeepsIn of_next k
+    → KeepsIn of_trailers (blocks bs (mark ∷ k))
+trailers_run [] k h seen u [] = refl
+trailers_run [] k h seen u (true ∷ gs) = ap (λ v. mark ∷ v) (h seen u gs)
+trailers_run [] k h seen u (false ∷ gs) = refl
+trailers_run (b ∷ bs) k h seen u [] = refl
+trailers_run (b ∷ bs) k h seen u (true ∷ gs) = ap (λ v. block b ∷ v) (trailers_run bs k h seen u gs)
+trailers_run (b ∷ bs) k h seen u (false ∷ gs) = refl
 
-headers_run : (bs : List (List ℕ)) (k : List TapeItem) → Keeps (of_data Ascii) k
-    → Keeps (of_headers Ascii) (blocks bs (mark ∷ k))
-headers_run [] k h [] = refl
-headers_run [] k h (true ∷ gs) = ap (λ v. mark ∷ v) (h gs)
-headers_run [] k h (false ∷ gs) = refl
-headers_run (b ∷ bs) k h [] = refl
-headers_run (b ∷ bs) k h (true ∷ gs) = ap (λ v. block b ∷ v) (headers_run bs k h gs)
-headers_run (b ∷ bs) k h (false ∷ gs) = refl
+headers_run : (bs : List (List ℕ)) (k : List TapeItem) → KeepsIn of_data k
+    → KeepsIn of_headers (blocks bs (mark ∷ k))
+headers_run [] k h seen u [] = refl
+headers_run [] k h seen u (true ∷ gs) = ap (λ v. mark ∷ v) (h seen u gs)
+headers_run [] k h seen u (false ∷ gs) = refl
+headers_run (b ∷ bs) k h seen u [] = refl
+headers_run (b ∷ bs) k h seen u (true ∷ gs) = ap (λ v. block b ∷ v) (headers_run bs k h seen u gs)
+headers_run (b ∷ bs) k h seen u (false ∷ gs) = refl
 
-data_run : (bs : List (List ℕ)) (k : List TapeItem) → Keeps (of_trailer Ascii) k
-    → Keeps (of_data Ascii) k → Keeps (of_data Ascii) (blocks bs (mark ∷ k))
-data_run [] k h d [] = refl
-data_run [] k h d (true ∷ gs) = ap (λ v. mark ∷ v) (h gs)
-data_run [] k h d (false ∷ gs) = ap (λ v. bad ∷ v) (d gs)
-data_run (b ∷ bs) k h d [] = refl
-data_run (b ∷ bs) k h d (true ∷ gs) = ap (λ v. block b ∷ v) (data_run bs k h d gs)
-data_run (b ∷ bs) k h d (false ∷ gs) = ap (λ v. bad ∷ v) (data_run bs k h d gs)
+data_run : (bs : List (List ℕ)) (k : List TapeItem) → KeepsIn of_trailer k
+    → KeepsIn of_data k → KeepsIn of_data (blocks bs (mark ∷ k))
+data_run [] k h d seen u [] = refl
+data_run [] k h d seen u (true ∷ gs) = ap (λ v. mark ∷ v) (h seen u gs)
+data_run [] k h d seen u (false ∷ gs) = ap (λ v. bad ∷ v) (d seen u gs)
+data_run (b ∷ bs) k h d seen u [] = refl
+data_run (b ∷ bs) k h d seen u (true ∷ gs) = ap (λ v. block b ∷ v) (data_run bs k h d seen u gs)
+data_run (b ∷ bs) k h d seen u (false ∷ gs) = ap (λ v. bad ∷ v) (data_run bs k h d seen u gs)
 
-data_block : (b : List ℕ) (k : List TapeItem) → Keeps (of_data Ascii) k
-    → Keeps (of_data Ascii) (block b ∷ k)
-data_block b k d [] = refl
-data_block b k d (true ∷ gs) = ap (λ v. block b ∷ v) (d gs)
-data_block b k d (false ∷ gs) = ap (λ v. bad ∷ v) (d gs)
+data_block : (b : List ℕ) (k : List TapeItem) → KeepsIn of_data k
+    → KeepsIn of_data (block b ∷ k)
+data_block b k d seen u [] = refl
+data_block b k d seen u (true ∷ gs) = ap (λ v. block b ∷ v) (d seen u gs)
+data_block b k d seen u (false ∷ gs) = ap (λ v. bad ∷ v) (d seen u gs)
 
 -- ---- one section
 
-module _ (s : Section) (l : Labelled s) (k : List TapeItem) (next : Keeps (of_next Ascii) k)
-    (data' : Keeps (of_data Ascii) k) (trail : Keeps (of_trailer Ascii) k) where
-  next_at_trailer : Keeps (of_next Ascii) (trailer_on s k)
-  next_at_trailer [] = refl
-  next_at_trailer (true ∷ gs) = rw (l.no_header) refl
-  next_at_trailer (false ∷ gs) = refl
+module _ (s : Section) (l : Labelled s) (k : List TapeItem) (next : KeepsIn of_next k)
+    (data' : KeepsIn of_data k) (trail : KeepsIn of_trailer k) where
+  next_at_trailer : KeepsIn of_next (trailer_on s k)
+  next_at_trailer seen u [] = refl
+  next_at_trailer seen u (true ∷ gs) = rw (l.no_header) refl
+  next_at_trailer seen u (false ∷ gs) = refl
 
-  trailer_at_trailer : Keeps (of_trailer Ascii) (trailer_on s k)
-  trailer_at_trailer [] = refl
-  trailer_at_trailer (true ∷ gs) =
-      rw (l.trailer) (ap (λ v. block s.trailer ∷ v) (trailers_run s.trailers k next gs))
-  trailer_at_trailer (false ∷ gs) = refl
+  trailer_at_trailer : KeepsIn of_trailer (trailer_on s k)
+  trailer_at_trailer seen u [] = refl
+  trailer_at_trailer seen u (true ∷ gs) =
+      rw (l.trailer, trailed_same seen s.trailer u)
+      (ap (λ v. block s.trailer ∷ v) (trailers_run s.trailers k next seen u gs))
+  trailer_at_trailer seen u (false ∷ gs) = refl
 
-  data_at_trailer : Keeps (of_data Ascii) (trailer_on s k)
+  data_at_trailer : KeepsIn of_data (trailer_on s k)
   data_at_trailer =
       data_block s.trailer (trailers_on s k) (data_run s.trailers k trail data')
 
   trailer_at_data : (bs : List (List ℕ))
-      → Keeps (of_trailer Ascii) (blocks bs (mark ∷ trailer_on s k))
-  trailer_at_data [] [] = refl
-  trailer_at_data [] (true ∷ gs) = refl
-  trailer_at_data [] (false ∷ gs) = refl
-  trailer_at_data (b ∷ bs) [] = refl
-  trailer_at_data (b ∷ bs) (true ∷ gs) = go (is_first_trailer (kind_at b))
+      → KeepsIn of_trailer (blocks bs (mark ∷ trailer_on s k))
+  trailer_at_data [] seen u [] = refl
+  trailer_at_data [] seen u (true ∷ gs) = refl
+  trailer_at_data [] seen u (false ∷ gs) = refl
+  trailer_at_data (b ∷ bs) seen u [] = refl
+  trailer_at_data (b ∷ bs) seen u (true ∷ gs) = go (is_first_trailer (kind_at b))
     where
       go : (t : Bool)
-          → cond t (block b ∷ of_trailers Ascii (as_read (blocks bs (mark ∷ trailer_on s k)) gs))
+          → cond t (block (trailed seen b)
+          ∷ of_trailers Ascii seen (as_read (blocks bs (mark ∷ trailer_on s k)) gs))
           (block b ∷ as_read (blocks bs (mark ∷ trailer_on s k)) gs)
           ≡ block b ∷ as_read (blocks bs (mark ∷ trailer_on s k)) gs
-      go true = ap (λ v. block b ∷ v) (trailers_run bs (trailer_on s k) next_at_trailer gs)
+      go true =
+          rw (trailed_same seen b u)
+          (ap (λ v. block b ∷ v) (trailers_run bs (trailer_on s k) next_at_trailer seen u gs))
       go false = refl
-  trailer_at_data (b ∷ bs) (false ∷ gs) = refl
+  trailer_at_data (b ∷ bs) seen u (false ∷ gs) = refl
 
-  data_at_data : Keeps (of_data Ascii) (data_on s k)
+  data_at_data : KeepsIn of_data (data_on s k)
   data_at_data = data_run (data_of s.blocks) (trailer_on s k) trailer_at_trailer data_at_trailer
 
-  headers_at_headers : Keeps (of_headers Ascii) (headers_on s k)
+  headers_at_headers : KeepsIn of_headers (headers_on s k)
   headers_at_headers = headers_run s.headers (data_on s k) data_at_data
 
-  data_at_headers : Keeps (of_data Ascii) (headers_on s k)
+  data_at_headers : KeepsIn of_data (headers_on s k)
   data_at_headers =
       data_run s.headers (data_on s k) (trailer_at_data (data_of s.blocks)) data_at_data
 
-  data_at_second : Keeps (of_data Ascii) (second_on s k)
+  data_at_second : KeepsIn of_data (second_on s k)
   data_at_second = data_block s.hdr2 (headers_on s k) data_at_headers
 
-  second_at_second : Keeps (of_second Ascii) (second_on s k)
-  second_at_second [] = refl
-  second_at_second (true ∷ gs) =
-      rw (l.second, l.kept) (ap (λ v. block s.hdr2 ∷ v) (headers_at_headers gs))
-  second_at_second (false ∷ gs) = refl
+  second_at_second : KeepsIn of_second (second_on s k)
+  second_at_second seen u [] = refl
+  second_at_second seen u (true ∷ gs) =
+      rw (l.second, l.kept) (ap (λ v. block s.hdr2 ∷ v) (headers_at_headers seen u gs))
+  second_at_second seen u (false ∷ gs) = refl
 
-  next_at_header : Keeps (of_next Ascii) (block s.hdr1 ∷ second_on s k)
-  next_at_header [] = refl
-  next_at_header (true ∷ gs) =
-      rw (l.header) (ap (λ v. block s.hdr1 ∷ v) (second_at_second gs))
-  next_at_header (false ∷ gs) = refl
+  next_at_header : KeepsIn of_next (block s.hdr1 ∷ second_on s k)
+  next_at_header seen u [] = refl
+  next_at_header seen u (true ∷ gs) =
+      rw (l.header, l.read)
+      (ap (λ v. block s.hdr1 ∷ v) (second_at_second (seen_as false l.head) refl gs))
+  next_at_header seen u (false ∷ gs) = refl
 
-  data_at_header : Keeps (of_data Ascii) (block s.hdr1 ∷ second_on s k)
+  data_at_header : KeepsIn of_data (block s.hdr1 ∷ second_on s k)
   data_at_header = data_block s.hdr1 (second_on s k) data_at_second
 
-  trailer_at_header : Keeps (of_trailer Ascii) (block s.hdr1 ∷ second_on s k)
-  trailer_at_header [] = refl
-  trailer_at_header (true ∷ gs) = rw (l.header) refl
-  trailer_at_header (false ∷ gs) = refl
+  trailer_at_header : KeepsIn of_trailer (block s.hdr1 ∷ second_on s k)
+  trailer_at_header seen u [] = refl
+  trailer_at_header seen u (true ∷ gs) = rw (l.header) refl
+  trailer_at_header seen u (false ∷ gs) = refl
 
   labels_at_header : Keeps (of_labels Ascii 0) (block s.hdr1 ∷ second_on s k)
   labels_at_header [] = refl
   labels_at_header (true ∷ gs) =
-      rw (l.no_label, l.header, l.no_dummy)
-      (ap (λ v. block s.hdr1 ∷ v) (second_at_second gs))
+      rw (l.no_label, l.header, l.no_dummy, l.read)
+      (ap (λ v. block s.hdr1 ∷ v) (second_at_second (seen_as false l.head) refl gs))
   labels_at_header (false ∷ gs) = refl
 
 -- ---- all sections of a volume
 
 record AllKept (k : List TapeItem) : Type 0 where
-  pub next : Keeps (of_next Ascii) k
-  pub data' : Keeps (of_data Ascii) k
-  pub trail : Keeps (of_trailer Ascii) k
+  pub next : KeepsIn of_next k
+  pub data' : KeepsIn of_data k
+  pub trail : KeepsIn of_trailer k
   pub labels : Keeps (of_labels Ascii 0) k
 
-last_next : Keeps (of_next Ascii) (mark ∷ [])
-last_next [] = refl
-last_next (true ∷ gs) = refl
-last_next (false ∷ gs) = refl
+last_next : KeepsIn of_next (mark ∷ [])
+last_next seen u [] = refl
+last_next seen u (true ∷ gs) = refl
+last_next seen u (false ∷ gs) = refl
 
-last_data : Keeps (of_data Ascii) (mark ∷ [])
-last_data [] = refl
-last_data (true ∷ gs) = refl
-last_data (false ∷ gs) = refl
+last_data : KeepsIn of_data (mark ∷ [])
+last_data seen u [] = refl
+last_data seen u (true ∷ gs) = refl
+last_data seen u (false ∷ gs) = refl
 
-last_trail : Keeps (of_trailer Ascii) (mark ∷ [])
-last_trail [] = refl
-last_trail (true ∷ gs) = refl
-last_trail (false ∷ gs) = refl
+last_trail : KeepsIn of_trailer (mark ∷ [])
+last_trail seen u [] = refl
+last_trail seen u (true ∷ gs) = refl
+last_trail seen u (false ∷ gs) = refl
 
 last_labels : Keeps (of_labels Ascii 0) (mark ∷ [])
 last_labels [] = refl
@@ -331,6 +346,8 @@ module _ (set : FileSet) (lawful : IsLawful set) where
       let last = first_trailer x.section.trailer is.trailer.0.eof t.kind in
       record {
         header = kind_again x.section.hdr1 kinds.Hdr1 h.kind;
+        head = is.header.0;
+        read = head1_again x.section.hdr1 is.header.0 h;
         no_label = no_volume_label x.section.hdr1 kinds.Hdr1 h.kind (λ e. cc);
         no_dummy = ok_no_dummy x.section.hdr1 is.header.0
             (head1_again x.section.hdr1 is.header.0 h);

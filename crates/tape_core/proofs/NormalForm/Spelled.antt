@@ -84,15 +84,15 @@ one_item bytes items (a_block w content len f e) = inr (item_of w content, e)
 
 pub over_is : (place : TapePlace) → is_over place ≡ true → places.Over ≡ place
 over_is places.Over e = refl
-over_is (places.Data code) e = absurd (cc e)
+over_is (places.Data code seen) e = absurd (cc e)
 over_is (places.Start n) e = absurd (cc e)
 over_is (places.Labels code n) e = absurd (cc e)
 over_is places.Blank e = absurd (cc e)
-over_is (places.Second code) e = absurd (cc e)
-over_is (places.Headers code) e = absurd (cc e)
-over_is (places.Trailer code) e = absurd (cc e)
-over_is (places.Trailers code) e = absurd (cc e)
-over_is (places.Next code) e = absurd (cc e)
+over_is (places.Second code seen) e = absurd (cc e)
+over_is (places.Headers code seen) e = absurd (cc e)
+over_is (places.Trailer code seen) e = absurd (cc e)
+over_is (places.Trailers code seen) e = absurd (cc e)
+over_is (places.Next code seen) e = absurd (cc e)
 over_is places.Ended e = absurd (cc e)
 
 abbrev pub bytes_of : List Spelling → List ℕ

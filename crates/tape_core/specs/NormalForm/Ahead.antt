@@ -7,6 +7,7 @@ use Rattle.tape_core.specs.declared.event.Answer.TheVariants.{Useless}
 use Rattle.tape_core.specs.declared.event.Phase.TheVariants.{Volume, Trailers}
 use Rattle.tape_core.specs.{State.State, Known.is_finished, Table.Outcome, Table.step_of}
 use Rattle.tape_core.specs.declared.normal.code.Code.TheVariants.{Ascii}
+use Rattle.tape_core.specs.declared.normal.numbers.FileSeen.{FileSeen}
 use Rattle.tape_core.specs.NormalForm.{normal, of_trailers}
 
 -- an item that was delivered, and what follows it; nothing follows an answer that ends the reading
@@ -51,5 +52,5 @@ NormalIsAhead =
 -- The same for a reader that begins after a trailer label, as for a later file of a reel.
 abbrev pub BehindIsAhead : Type 0
 BehindIsAhead =
-    (core : State) (items : List TapeItem) → core.phase ≡ Trailers
-    → is_finished core.position ≡ false → IsAhead core items (of_trailers Ascii items)
+    (core : State) (seen : FileSeen) (items : List TapeItem) → core.phase ≡ Trailers
+    → is_finished core.position ≡ false → IsAhead core items (of_trailers Ascii seen items)

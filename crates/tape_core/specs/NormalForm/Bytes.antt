@@ -20,7 +20,7 @@ use Rattle.tape_core.specs.NormalForm.Steps.{step_of, same, inserted}
 
 -- no label is read where data are, or where the tape is left as it is
 abbrev pub reads_labels : TapePlace → Bool
-reads_labels (Data code) = false
+reads_labels (Data code seen) = false
 reads_labels Over = false
 reads_labels place = true
 

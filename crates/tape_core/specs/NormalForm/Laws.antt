@@ -6,6 +6,7 @@ use Rattle.tape_image.specs.{Begins.image_limit, Spelling.Spells}
 use Rattle.tape_set.specs.Layout.{FileSet, items}
 use Rattle.tape_set.specs.Reading.{as_read}
 use Rattle.tape_core.specs.declared.normal.code.Code.{Code}
+use Rattle.tape_core.specs.declared.normal.numbers.FileSeen.{FileSeen}
 use Rattle.tape_core.specs.NormalForm.{normal, of_data, of_trailer, Bytes.normal_bytes}
 
 -- A copy of a volume of a valid set is its own normal form, however damaged it is, and wherever it
@@ -23,10 +24,10 @@ IsNoMark item = Unit {0}
 -- the tape, whatever they are.
 abbrev pub DataKept : Type 0
 DataKept =
-    (code : Code) (data' : List TapeItem) → AllByRecursion IsNoMark data'
-    → (of_data code data' ≡ data')
+    (code : Code) (seen : FileSeen) (data' : List TapeItem) → AllByRecursion IsNoMark data'
+    → (of_data code seen data' ≡ data')
     × ((rest : List TapeItem)
-    → of_data code (data' ++ mark ∷ rest) ≡ data' ++ mark ∷ of_trailer code rest)
+    → of_data code seen (data' ++ mark ∷ rest) ≡ data' ++ mark ∷ of_trailer code seen rest)
 
 -- An image of at most 4,294,967,295 bytes that encodes the items of a tape, up to the end of the
 -- medium, gives one that encodes those of the tape in normal form.

@@ -1,5 +1,5 @@
 -- Labels that are inserted, dropped or changed.
-use Rattle.std.specs.Prelude.{ℕ, ◌-◌, ◌==◌, take, drop, ◌||◌, ◌&&◌, not, Bool}
+use Rattle.std.specs.Prelude.{ℕ, ◌+◌, ◌-◌, ◌==◌, nat_lt, take, drop, ◌||◌, ◌&&◌, not, Bool}
 use Rattle.std.specs.Prelude.{true, false, List, [], ◌∷◌}
 use Rattle.std.specs.Prelude.{◌++◌, replicate, codes, Option, Some, Result, Ok, Err}
 use Rattle.std.specs.Prelude.{if◌then◌else◌}
@@ -8,7 +8,9 @@ use Rattle.tape_label.specs.declared.values.{Kind.Kind}
 use Rattle.tape_label.specs.declared.values.Kind.TheVariants as kinds
 use Rattle.tape_label.specs.declared.label.LabelFault.{LabelFault}
 use Rattle.tape_label.specs.{Positions.positions, Reading.head1_at, Reading.head2_at}
-use Rattle.tape_label.specs.{Reading.wide_head2_at}
+use Rattle.tape_label.specs.{Reading.wide_head2_at, Reading.trail1_at, Digits.digits}
+use Rattle.tape_label.specs.declared.{values.Head1.Head1, values.Trail1.Trail1}
+use Rattle.tape_core.specs.declared.normal.numbers.FileSeen.{FileSeen}
 
 -- ---- kinds
 
@@ -73,3 +75,48 @@ mended label =
     else if is_ok (wide_head2_at label) then label
     else if is_ok (wide_head2_at (filled label)) then filled label
     else label
+
+-- ---- first header and trailer labels that are changed
+
+-- the digits of a number of four digits, or those of n if it is blank, NUL or zero
+abbrev pub number_or : ℕ → List ℕ → List ℕ
+number_or n field =
+    if bytes_eq (filled_number field) (codes "0000") then digits 4 n else filled_number field
+
+-- the label with the number at these positions, or n
+abbrev pub number_at_or : ℕ → ℕ → ℕ → List ℕ → List ℕ
+number_at_or first last n label =
+    take (first - 1) label ++ (number_or n (positions label first last) ++ drop last label)
+
+-- the label of section 1, and of this file, if it has no numbers
+abbrev pub numbered : ℕ → List ℕ → List ℕ
+numbered sequence label = number_at_or 32 35 sequence (number_at_or 28 31 1 label)
+
+-- a file of which the header label was read
+abbrev pub seen_as : Bool → Head1 → FileSeen
+seen_as is_filled head = record { sequence = head.sequence; is_filled = is_filled }
+
+-- a header label that can be read is kept; one that can be read with its numbers filled in is
+-- changed, unless it is that of a volume without files
+abbrev pub headed_by : ℕ → List ℕ → Result Head1 LabelFault → Result Head1 LabelFault
+    → List ℕ × FileSeen
+headed_by last label (Ok head) better = (label, seen_as false head)
+headed_by last label (Err fault) (Ok head) =
+    if nat_lt last 9999 && not (is_dummy label)
+    then (numbered (last + 1) label, seen_as true head)
+    else (label, record { sequence = last; is_filled = false })
+headed_by last label (Err fault) (Err fault') =
+    (label, record { sequence = last; is_filled = false })
+
+-- A header label after a file with this sequence number, or 0 for the first file of the tape. One
+-- without numbers is that of section 1 of the next file.
+abbrev pub headed : ℕ → List ℕ → List ℕ × FileSeen
+headed last label = headed_by last label (head1_at label) (head1_at (numbered (last + 1) label))
+
+-- A trailer label whose header label had no numbers gets the same ones, if it can be read only
+-- then.
+abbrev pub trailed : FileSeen → List ℕ → List ℕ
+trailed seen label =
+    if not (is_ok (trail1_at label)) && (seen.is_filled && (nat_lt seen.sequence 10000
+    && is_ok (trail1_at (numbered seen.sequence label))))
+    then numbered seen.sequence label else label

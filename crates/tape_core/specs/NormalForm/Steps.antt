@@ -25,19 +25,20 @@ use Rattle.tape_core.specs.declared.normal.machine.Replacement.TheVariants.{Same
 use Rattle.tape_core.specs.NormalForm.{of_start, of_labels, of_blank, of_second, of_headers}
 use Rattle.tape_core.specs.NormalForm.{of_data}
 use Rattle.tape_core.specs.NormalForm.{of_trailer, of_trailers, of_next, of_ended}
-use Rattle.tape_core.specs.NormalForm.Mended.{no_volume_label}
+use Rattle.tape_core.specs.NormalForm.Mended.{no_volume_label, headed, trailed}
+use Rattle.tape_core.specs.declared.normal.numbers.FileSeen.{FileSeen}
 
 -- the normal form of the items from this place on
 abbrev pub from : TapePlace → List TapeItem → List TapeItem
 from (Start n) items = of_start n items
 from (Labels code n) items = of_labels code n items
 from Blank items = of_blank items
-from (Second code) items = of_second code items
-from (Headers code) items = of_headers code items
-from (Data code) items = of_data code items
-from (Trailer code) items = of_trailer code items
-from (Trailers code) items = of_trailers code items
-from (Next code) items = of_next code items
+from (Second code seen) items = of_second code seen items
+from (Headers code seen) items = of_headers code seen items
+from (Data code seen) items = of_data code seen items
+from (Trailer code seen) items = of_trailer code seen items
+from (Trailers code seen) items = of_trailers code seen items
+from (Next code seen) items = of_next code seen items
 from Ended items = of_ended items
 from Over items = items
 
@@ -84,11 +85,25 @@ instead_in Ebcdic text = Label text
 abbrev pub translated_with : Missing → Code → List ℕ → Change
 translated_with adds code text = record { missing = adds; instead = instead_in code text }
 
+-- the label, or another in its place, preceded by one that is missing
+abbrev pub replaced_with : Missing → Code → List ℕ → List ℕ → Change
+replaced_with adds code better text =
+    record {
+      missing = adds;
+      instead = if bytes_eq better text then instead_in code text else Label better;
+    }
+
+-- the first header label of the file after this one, preceded by one that is missing
+abbrev pub header_at : Code → Missing → ℕ → List ℕ → TapePlace × Change
+header_at code adds last text =
+    (Second code (headed last text).1, replaced_with adds code (headed last text).0 text)
+
 -- after a label with which a tape begins
 abbrev pub begin_in : Code → List ℕ → Option (TapePlace × Change)
 begin_in code text =
     if is_vol1 (kind_at text) then Some (Labels code 0, translated_with Nothing code text)
-    else if is_hdr1 (kind_at text) then Some (Second code, translated_with VolumeLabel code text)
+    else if is_hdr1 (kind_at text)
+    then Some (header_at code VolumeLabel 0 text)
     else None
 
 -- the first of two that there is
@@ -114,7 +129,7 @@ abbrev pub labels_at : Code → ℕ → List ℕ → TapePlace × Change
 labels_at code n text =
     if is_volume_label text then (Labels code n, translated_with Nothing code text)
     else if is_hdr1 (kind_at text) && not (is_dummy text)
-    then (Second code, translated_with Nothing code text)
+    then header_at code Nothing 0 text
     else drop_block code n
 
 -- a second label whose numbers are filled, if that is needed
@@ -123,26 +138,27 @@ mended_with code text =
     if bytes_eq (mended text) text then translated_with Nothing code text
     else record { missing = Digits; instead = Label (mended text) }
 
-abbrev pub second_at : Code → List ℕ → TapePlace × Change
-second_at code text =
+abbrev pub second_at : Code → FileSeen → List ℕ → TapePlace × Change
+second_at code seen text =
     if is_hdr2 (kind_at text)
-    then (Headers code, mended_with code text)
-    else if is_further_header text then (Headers code, translated_with SecondLabel code text)
+    then (Headers code seen, mended_with code text)
+    else if is_further_header text then (Headers code seen, translated_with SecondLabel code text)
     else (Over, same)
 
 -- any label; a block of another length is not one
 abbrev pub any_at : Code → List ℕ → Change
 any_at code b = if length b == 80 then translated_with Nothing code (in_ascii code b) else same
 
-abbrev pub trailer_at : Code → List ℕ → TapePlace × Change
-trailer_at code text =
-    if is_first_trailer (kind_at text) then (Trailers code, translated_with Nothing code text)
+abbrev pub trailer_at : Code → FileSeen → List ℕ → TapePlace × Change
+trailer_at code seen text =
+    if is_first_trailer (kind_at text)
+    then (Trailers code seen, replaced_with Nothing code (trailed seen text) text)
     else (Over, same)
 
-abbrev pub next_at : Code → List ℕ → TapePlace × Change
-next_at code text =
-    if is_hdr1 (kind_at text) then (Second code, translated_with Nothing code text)
-    else (Over, same)
+-- the header label of the file after this one
+abbrev pub next_at : Code → ℕ → List ℕ → TapePlace × Change
+next_at code last text =
+    if is_hdr1 (kind_at text) then header_at code Nothing last text else (Over, same)
 
 abbrev pub ended_at : Option (TapePlace × Change) → TapePlace × Change
 ended_at (Some begun) = (Over, same)
@@ -158,22 +174,22 @@ step_of (Labels code n) mark = (Blank, same)
 step_of (Labels code n) bad = (Over, same)
 step_of Blank mark = (Ended, same)
 step_of Blank _ = (Over, same)
-step_of (Second code) (block b) = second_at code (in_ascii code b)
-step_of (Second code) mark = (Data code, record { missing = SecondLabel; instead = Same })
-step_of (Second code) bad = (Over, same)
-step_of (Headers code) (block b) = (Headers code, any_at code b)
-step_of (Headers code) mark = (Data code, same)
-step_of (Headers code) bad = (Over, same)
-step_of (Data code) mark = (Trailer code, same)
-step_of (Data code) _ = (Data code, same)
-step_of (Trailer code) (block b) = trailer_at code (in_ascii code b)
-step_of (Trailer code) _ = (Over, same)
-step_of (Trailers code) (block b) = (Trailers code, any_at code b)
-step_of (Trailers code) mark = (Next code, same)
-step_of (Trailers code) bad = (Over, same)
-step_of (Next code) (block b) = next_at code (in_ascii code b)
-step_of (Next code) mark = (Ended, same)
-step_of (Next code) bad = (Over, same)
+step_of (Second code seen) (block b) = second_at code seen (in_ascii code b)
+step_of (Second code seen) mark = (Data code seen, record { missing = SecondLabel; instead = Same })
+step_of (Second code seen) bad = (Over, same)
+step_of (Headers code seen) (block b) = (Headers code seen, any_at code b)
+step_of (Headers code seen) mark = (Data code seen, same)
+step_of (Headers code seen) bad = (Over, same)
+step_of (Data code seen) mark = (Trailer code seen, same)
+step_of (Data code seen) _ = (Data code seen, same)
+step_of (Trailer code seen) (block b) = trailer_at code seen (in_ascii code b)
+step_of (Trailer code seen) _ = (Over, same)
+step_of (Trailers code seen) (block b) = (Trailers code seen, any_at code b)
+step_of (Trailers code seen) mark = (Next code seen, same)
+step_of (Trailers code seen) bad = (Over, same)
+step_of (Next code seen) (block b) = next_at code seen.sequence (in_ascii code b)
+step_of (Next code seen) mark = (Ended, same)
+step_of (Next code seen) bad = (Over, same)
 step_of Ended (block b) = ended_at (begin_at b)
 step_of Ended _ = (Ended, dropped)
 step_of Over _ = (Over, same)

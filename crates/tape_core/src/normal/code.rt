@@ -1,6 +1,6 @@
 //! The codes of the characters in labels.
 
-ghost use Rattle.std.specs.Prelude.{◌≡◌, ◌<◌, ◌≤◌, map, length};
+ghost use Rattle.std.specs.Prelude.{◌≡◌, ◌≢◌, ◌<◌, ◌≤◌, map, length, IfSome, None};
 ghost use Rattle.tape_core.specs.NormalForm.Codes.{ebcdic_table, to_ascii, in_ascii};
 
 /// The code in which the labels of a tape are written.
@@ -49,6 +49,14 @@ fn turn(text: &mut [u8; 80])
         place -= 1;
         text[place] = to_ascii(text[place]);
     }
+}
+
+/// Returns the bytes of a block of 80.
+pub(crate) fn eighty(bytes: &[u8]) -> Option<&[u8; 80]>
+    ensures some { IfSome result (λ label. label.now ≡ bytes.now) }
+    ensures none { result ≡ None → length bytes.now ≢ 80 }
+{
+    bytes.try_into().ok()
 }
 
 /// Returns the characters of a label in ASCII.

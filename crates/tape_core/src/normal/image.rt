@@ -177,7 +177,7 @@ impl<R: Read> NormalImage<R> {
         ensures steps { steps_left self.new < steps_left self.old }
     {
         let Looked { size, next, change } = looked;
-        self.rules.note(self.place, &change);
+        self.rules.note(self.place, next, &change);
         self.room -= size;
         self.place = next;
         if let Missing::VolumeLabel = change.missing {
@@ -305,7 +305,7 @@ impl<R: Read> NormalImage<R> {
                 self.course = Course::Passing(count - read as u64);
                 Ok(Some(read))
             }
-            (Course::Passing(_) | Course::Looking, TapePlace::Data(_)) => {
+            (Course::Passing(_) | Course::Looking, TapePlace::Data(_, _)) => {
                 self.course = Course::Looking;
                 self.give_word(buf)
             }

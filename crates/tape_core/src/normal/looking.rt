@@ -3,7 +3,8 @@
 ghost use Rattle.std.specs.Prelude.{◌≡◌, ◌≤◌, ◌<◌, length, IfSome};
 ghost use Rattle.tape_image.specs.Word.{block_len, block_extent, longest_block};
 ghost use Rattle.tape_core.specs.NormalForm.Bytes.{reads_labels, begins_label, unlabelled};
-ghost use Rattle.tape_core.specs.NormalForm.Bytes.{block_step, looked, looked_label, within};
+ghost use Rattle.tape_core.specs.NormalForm.Bytes.{block_step, looked, looked_label, looked_block};
+ghost use Rattle.tape_core.specs.NormalForm.Bytes.{within};
 
 use crate::normal::held::LABEL;
 use crate::normal::machine::{Change, Replacement, SAME, TapePlace, step};
@@ -31,7 +32,7 @@ pub(crate) struct Looked {
 fn reads_labels(place: TapePlace) -> bool
     ensures { result ≡ reads_labels place }
 {
-    !matches!(place, TapePlace::Data(_) | TapePlace::Over)
+    !matches!(place, TapePlace::Data(_, _) | TapePlace::Over)
 }
 
 /// Returns whether the bytes begin with the word of a label, where labels are read.
@@ -102,6 +103,14 @@ fn block_len(word: u32) -> Option<u64>
     Some(u64::from(len))
 }
 
+/// Looks at the block that a word begins, whose content need not be known.
+fn look_block(room: u64, place: TapePlace, word: u32) -> Option<Looked>
+    ensures { result ≡ looked_block room place word (block_len word) }
+{
+    let len = block_len(word)?;
+    within(room, 8 + len + len % 2, step_block(place, word, len))
+}
+
 /// Returns the number of bytes that a block takes in an image, if `word` begins one that can be
 /// read, and it ends within the limit.
 #[inline(always)]
@@ -136,6 +145,5 @@ pub(crate) fn look(room: u64, place: TapePlace, bytes: &[u8]) -> Option<Looked>
     if begins_label(place, bytes) {
         return look_label(room, place, bytes);
     }
-    let len = block_len(word)?;
-    within(room, 8 + len + len % 2, step_block(place, word, len))
+    look_block(room, place, word)
 }

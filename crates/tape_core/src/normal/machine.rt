@@ -5,17 +5,17 @@ ghost use Rattle.std.specs.Prelude.{true, false};
 ghost use Rattle.tape_image.specs.{Tape.TapeItem, Tape.block, Reader.tape_item};
 ghost use Rattle.tape_core.specs.NormalForm.Codes.{in_ascii as in_ascii'};
 ghost use Rattle.tape_core.specs.NormalForm.Steps.{Gives, inserted_label, step_of, begin_at};
-ghost use Rattle.tape_core.specs.NormalForm.Steps.{begin_in, labels_at};
+ghost use Rattle.tape_core.specs.NormalForm.Steps.{begin_in, labels_at, header_at};
 ghost use Rattle.tape_core.specs.NormalForm.Steps.{any_at, second_at, next_at, trailer_at};
-ghost use Rattle.tape_core.specs.NormalForm.Steps.{translated_with, instead_in};
+ghost use Rattle.tape_core.specs.NormalForm.Steps.{translated_with, instead_in, replaced_with};
 ghost use Rattle.tape_core.specs.NormalForm.Steps.{drop_block, drop_first};
 ghost use Rattle.tape_core.specs.NormalForm.{begins_tape};
-ghost use Rattle.tape_core.specs.NormalForm.Mended.{is_dummy};
 
-use crate::normal::code::{Code, in_ascii};
+use crate::normal::code::{Code, eighty, in_ascii};
 use crate::normal::mend::mended;
+use crate::normal::numbers::{FileSeen, headed, is_dummy, trailed};
 use tape_image::Item;
-use tape_label::{Kind, is_further_header, is_volume_label, kind, read_head1};
+use tape_label::{Kind, is_further_header, is_volume_label, kind};
 
 /// What is expected next on a tape.
 #[derive(Clone, Copy, Debug, PartialEq, Eq)]
@@ -27,17 +27,17 @@ pub enum TapePlace {
     /// The second mark of a volume without files.
     Blank,
     /// The second label of a file.
-    Second(Code),
+    Second(Code, FileSeen),
     /// Further labels of a file, up to a mark.
-    Headers(Code),
+    Headers(Code, FileSeen),
     /// The data of a file, up to a mark.
-    Data(Code),
+    Data(Code, FileSeen),
     /// The first trailer label of a file.
-    Trailer(Code),
+    Trailer(Code, FileSeen),
     /// Further trailer labels, up to a mark.
-    Trailers(Code),
+    Trailers(Code, FileSeen),
     /// The next file, or the second mark.
-    Next(Code),
+    Next(Code, FileSeen),
     /// Nothing: the volume has ended.
     Ended,
     /// Anything: after an unexpected item the rest of the tape is left unchanged.
@@ -80,10 +80,6 @@ pub struct Change {
 /// The greatest number of items that are dropped before the first label, and before the first file.
 const MOST_DROPPED: u8 = 64;
 
-/// The first header label of a volume without files.
-const DUMMY: &[u8; 80] =
-    b"HDR10000000000000000000000000000000000000000000000000000000000000000000000000000";
-
 /// Blocks shorter than this are noise before the first label. The shortest labels have 14 bytes.
 const NOISE: usize = 14;
 
@@ -97,9 +93,8 @@ impl Missing {
         ensures { option_map (λ t. t.now) result ≡ inserted_label self.now }
     {
         match self {
-            Missing::Nothing => None,
             Missing::VolumeLabel => Some(NO_VOLUME_LABEL),
-            Missing::SecondLabel | Missing::Digits => None,
+            Missing::Nothing | Missing::SecondLabel | Missing::Digits => None,
         }
     }
 }
@@ -136,19 +131,27 @@ fn translated(code: Code, label: [u8; 80]) -> Change
     }
 }
 
-/// Returns the bytes of a block of 80.
-fn eighty(bytes: &[u8]) -> Option<&[u8; 80]>
-    ensures some { IfSome result (λ label. label.now ≡ bytes.now) }
-    ensures none { result ≡ None → length bytes.now ≢ 80 }
+/// Returns the change to the label `better`: the item itself if it is that label already.
+fn replaced(code: Code, missing: Missing, better: [u8; 80], label: [u8; 80]) -> Change
+    ensures { result ≡ replaced_with missing code better label }
 {
-    bytes.try_into().ok()
+    let instead = if better == label {
+        instead_in(code, label)
+    } else {
+        Replacement::Label(better)
+    };
+    Change { missing, instead }
 }
 
-/// Returns whether the label is an `HDR1` of zeros alone, as volumes without files have it.
-fn is_dummy(label: &[u8; 80]) -> bool
-    ensures { result ≡ is_dummy label.now }
+/// Takes the first header label of the file after the file `last`.
+fn header(code: Code, missing: Missing, last: u16, label: [u8; 80]) -> (TapePlace, Change)
+    ensures { result ≡ header_at code missing last label }
 {
-    read_head1(label).is_err() && label.as_slice() == DUMMY.as_slice()
+    let (better, seen) = headed(last, &label);
+    (
+        TapePlace::Second(code, seen),
+        replaced(code, missing, better, label),
+    )
 }
 
 /// Takes a block as the first label, in either code.
@@ -167,13 +170,7 @@ fn begin_in(code: Code, label: &[u8; 80]) -> Option<(TapePlace, Change)>
     let text = in_ascii(code, label);
     match kind(&text) {
         Some(Kind::Vol1) => Some((TapePlace::Labels(code, 0), translated(code, text))),
-        Some(Kind::Hdr1) => Some((
-            TapePlace::Second(code),
-            Change {
-                missing: Missing::VolumeLabel,
-                instead: instead_in(code, text),
-            },
-        )),
+        Some(Kind::Hdr1) => Some(header(code, Missing::VolumeLabel, 0, text)),
         _ => None,
     }
 }
@@ -191,7 +188,7 @@ fn label_of_volume(code: Code, dropped: u8, bytes: &[u8]) -> (TapePlace, Change)
         return (TapePlace::Labels(code, dropped), translated(code, text));
     }
     match kind(&text) {
-        Some(Kind::Hdr1) if !is_dummy(&text) => (TapePlace::Second(code), translated(code, text)),
+        Some(Kind::Hdr1) if !is_dummy(&text) => header(code, Missing::Nothing, 0, text),
         _ => drop_block(code, dropped),
     }
 }
@@ -220,8 +217,8 @@ fn drop_first(dropped: u8) -> (TapePlace, Change)
 
 /// Takes a block after an `HDR1`.
 #[tactic(auto, using(crate::proofs::Eighty::second_over))]
-fn second_label(code: Code, bytes: &[u8]) -> (TapePlace, Change)
-    ensures { result ≡ second_at code (in_ascii' code bytes.now) }
+fn second_label(code: Code, seen: FileSeen, bytes: &[u8]) -> (TapePlace, Change)
+    ensures { result ≡ second_at code seen (in_ascii' code bytes.now) }
 {
     let Some(label) = eighty(bytes) else {
         return (TapePlace::Over, SAME);
@@ -230,20 +227,20 @@ fn second_label(code: Code, bytes: &[u8]) -> (TapePlace, Change)
     if let Some(Kind::Hdr2) = kind(&text) {
         let filled = mended(&text);
         if filled == text {
-            return (TapePlace::Headers(code), translated(code, text));
+            return (TapePlace::Headers(code, seen), translated(code, text));
         }
         let change = Change {
             missing: Missing::Digits,
             instead: Replacement::Label(filled),
         };
-        return (TapePlace::Headers(code), change);
+        return (TapePlace::Headers(code, seen), change);
     }
     if is_further_header(&text) {
         let change = Change {
             missing: Missing::SecondLabel,
             instead: instead_in(code, text),
         };
-        return (TapePlace::Headers(code), change);
+        return (TapePlace::Headers(code, seen), change);
     }
     (TapePlace::Over, SAME)
 }
@@ -260,30 +257,33 @@ fn any_label(code: Code, bytes: &[u8]) -> Change
 
 /// Takes a block where the `HDR1` of the next file may be.
 #[tactic(auto, using(crate::proofs::Eighty::no_kind_of))]
-fn next_header(code: Code, bytes: &[u8]) -> (TapePlace, Change)
-    ensures { result ≡ next_at code (in_ascii' code bytes.now) }
+fn next_header(code: Code, last: u16, bytes: &[u8]) -> (TapePlace, Change)
+    ensures { result ≡ next_at code last (in_ascii' code bytes.now) }
 {
     let Some(label) = eighty(bytes) else {
         return (TapePlace::Over, SAME);
     };
     let text = in_ascii(code, label);
     match kind(&text) {
-        Some(Kind::Hdr1) => (TapePlace::Second(code), translated(code, text)),
+        Some(Kind::Hdr1) => header(code, Missing::Nothing, last, text),
         _ => (TapePlace::Over, SAME),
     }
 }
 
 /// Takes a block where the first trailer label is expected.
 #[tactic(auto, using(crate::proofs::Eighty::no_kind_of))]
-fn first_trailer(code: Code, bytes: &[u8]) -> (TapePlace, Change)
-    ensures { result ≡ trailer_at code (in_ascii' code bytes.now) }
+fn first_trailer(code: Code, seen: FileSeen, bytes: &[u8]) -> (TapePlace, Change)
+    ensures { result ≡ trailer_at code seen (in_ascii' code bytes.now) }
 {
     let Some(label) = eighty(bytes) else {
         return (TapePlace::Over, SAME);
     };
     let text = in_ascii(code, label);
     match kind(&text) {
-        Some(Kind::Eof1 | Kind::Eov1) => (TapePlace::Trailers(code), translated(code, text)),
+        Some(Kind::Eof1 | Kind::Eov1) => {
+            let change = replaced(code, Missing::Nothing, trailed(seen, &text), text);
+            (TapePlace::Trailers(code, seen), change)
+        }
         _ => (TapePlace::Over, SAME),
     }
 }
@@ -299,12 +299,12 @@ fn step_at_block(place: TapePlace, bytes: &[u8]) -> (TapePlace, Change)
             None => (TapePlace::Over, SAME),
         },
         TapePlace::Labels(code, dropped) => label_of_volume(code, dropped, bytes),
-        TapePlace::Second(code) => second_label(code, bytes),
-        TapePlace::Headers(code) => (place, any_label(code, bytes)),
-        TapePlace::Data(_) => (place, SAME),
-        TapePlace::Trailer(code) => first_trailer(code, bytes),
-        TapePlace::Trailers(code) => (place, any_label(code, bytes)),
-        TapePlace::Next(code) => next_header(code, bytes),
+        TapePlace::Second(code, seen) => second_label(code, seen, bytes),
+        TapePlace::Headers(code, seen) => (place, any_label(code, bytes)),
+        TapePlace::Data(_, _) => (place, SAME),
+        TapePlace::Trailer(code, seen) => first_trailer(code, seen, bytes),
+        TapePlace::Trailers(code, seen) => (place, any_label(code, bytes)),
+        TapePlace::Next(code, seen) => next_header(code, seen.sequence, bytes),
         TapePlace::Ended => match begin(bytes) {
             Some(_) => (TapePlace::Over, SAME),
             None => (TapePlace::Ended, DROPPED),
@@ -324,26 +324,26 @@ pub fn step(place: TapePlace, item: Item<'_>) -> (TapePlace, Change)
     match item {
         Item::Block(bytes) => step_at_block(place, bytes),
         Item::Bad => match place {
-            TapePlace::Data(_) => (place, SAME),
+            TapePlace::Data(_, _) => (place, SAME),
             TapePlace::Ended => (TapePlace::Ended, DROPPED),
             _ => (TapePlace::Over, SAME),
         },
         Item::Mark => match place {
             TapePlace::Start(dropped) => drop_first(dropped),
             TapePlace::Labels(_, _) => (TapePlace::Blank, SAME),
-            TapePlace::Second(code) => {
+            TapePlace::Second(code, seen) => {
                 let change = Change {
                     missing: Missing::SecondLabel,
                     instead: Replacement::Same,
                 };
-                (TapePlace::Data(code), change)
+                (TapePlace::Data(code, seen), change)
             }
-            TapePlace::Headers(code) => (TapePlace::Data(code), SAME),
-            TapePlace::Data(code) => (TapePlace::Trailer(code), SAME),
-            TapePlace::Trailers(code) => (TapePlace::Next(code), SAME),
-            TapePlace::Next(_) | TapePlace::Blank => (TapePlace::Ended, SAME),
+            TapePlace::Headers(code, seen) => (TapePlace::Data(code, seen), SAME),
+            TapePlace::Data(code, seen) => (TapePlace::Trailer(code, seen), SAME),
+            TapePlace::Trailers(code, seen) => (TapePlace::Next(code, seen), SAME),
+            TapePlace::Next(_, _) | TapePlace::Blank => (TapePlace::Ended, SAME),
             TapePlace::Ended => (TapePlace::Ended, DROPPED),
-            TapePlace::Trailer(_) | TapePlace::Over => (TapePlace::Over, SAME),
+            TapePlace::Trailer(_, _) | TapePlace::Over => (TapePlace::Over, SAME),
         },
     }
 }

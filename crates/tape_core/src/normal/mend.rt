@@ -6,7 +6,7 @@ ghost use Rattle.tape_core.specs.NormalForm.Mended.{mended, filled_number, fill_
 use tape_label::{read_head2, read_wide_head2};
 
 /// Replaces the blanks and NULs that a number begins with by `0`.
-fn fill(number: &mut [u8])
+pub(crate) fn fill(number: &mut [u8])
     ensures { number.new ≡ filled_number number.old }
 {
     if !number.is_empty() && (number[0] == 0 || number[0] == b' ') {

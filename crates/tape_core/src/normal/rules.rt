@@ -14,6 +14,8 @@ pub struct Rules {
     pub no_second_label: bool,
     /// Whether numbers in a second label begin with blanks or NULs.
     pub blank_numbers: bool,
+    /// Whether a first header label has no section or sequence number.
+    pub no_file_numbers: bool,
     /// The number of items before the first file that are left out.
     pub before: u64,
     /// The number of items after the end of the volume that are left out.
@@ -27,12 +29,13 @@ impl Rules {
         no_volume_label: false,
         no_second_label: false,
         blank_numbers: false,
+        no_file_numbers: false,
         before: 0,
         after: 0,
     };
 
-    /// Notes the rules of a change at the place `place`.
-    pub(crate) fn note(&mut self, place: TapePlace, change: &Change) {
+    /// Notes the rules of a change at the place `place`, after which `next` is expected.
+    pub(crate) fn note(&mut self, place: TapePlace, next: TapePlace, change: &Change) {
         match change.missing {
             Missing::Nothing => {}
             Missing::VolumeLabel => self.no_volume_label = true,
@@ -42,8 +45,15 @@ impl Rules {
         match (change.instead, place) {
             (Replacement::Dropped, TapePlace::Ended) => self.after = self.after.saturating_add(1),
             (Replacement::Dropped, _) => self.before = self.before.saturating_add(1),
-            (Replacement::Label(_), TapePlace::Second(Code::Ascii)) | (Replacement::Same, _) => {}
-            (Replacement::Label(_), _) => self.ebcdic = true,
+            (Replacement::Same | Replacement::Label(_), _) => {}
+        }
+        match next {
+            TapePlace::Labels(Code::Ebcdic, _) => self.ebcdic = true,
+            TapePlace::Second(code, seen) => {
+                self.ebcdic = self.ebcdic || code == Code::Ebcdic;
+                self.no_file_numbers = self.no_file_numbers || seen.is_filled;
+            }
+            _ => {}
         }
     }
 }

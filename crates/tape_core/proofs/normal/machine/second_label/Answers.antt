@@ -4,4 +4,4 @@ use Rattle.tape_core.proofs.normal.machine.second_label.Goals as goal
 
 pub returns-in_default : goal.returns-in_default
 returns-in_default c =
-    sym (second_over c.args.code c.args.bytes.now (c.in_default.ensures.none refl))
+    sym (second_over c.args.code c.args.seen c.args.bytes.now (c.in_default.ensures.none refl))
