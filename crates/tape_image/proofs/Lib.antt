@@ -14,4 +14,10 @@ pub mod Callers
 pub mod Pieces
 pub mod WrittenItems
 pub mod Pins
+pub mod Held
+pub mod Formats
+pub mod FormatWords
+pub mod FormatExtended
+pub mod FormatItems
+pub mod Copies
 mod MistakesOfReading

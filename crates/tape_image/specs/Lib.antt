@@ -10,6 +10,10 @@ pub mod Next
 pub mod Calls
 pub mod Written
 pub mod Writer
+-- images of other formats:
+pub mod Format
+pub mod Convert
+pub mod FormatItems
 -- laws about these definitions:
 pub mod Laws
 pub mod Examples
@@ -19,3 +23,4 @@ pub mod Begun
 pub mod Front
 pub mod State
 pub mod Standing
+pub mod FormatState

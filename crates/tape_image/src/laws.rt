@@ -7,6 +7,7 @@ ghost use Rattle.tape_image.specs.Laws.{BeginsIsUnique, BeginsExists, BeginsWith
 ghost use Rattle.tape_image.specs.Laws.{WalkedIsFront, SpelledBegins, BegunSpells};
 ghost use Rattle.tape_image.specs.Calls.{GiveUpToEnd, GiveUpToFault};
 ghost use Rattle.tape_image.specs.Writer.{WrittenSpells, FailedHoldsFront};
+ghost use Rattle.tape_image.specs.FormatItems.{SimhImagesKeepItems};
 ghost use Rattle.tape_image.specs.Examples.{ImagesAreHeld, AnswersAreHeld, TakingIsHeld};
 ghost use Rattle.tape_image.specs.Examples.{LawsAreHeld, WritingIsHeld};
 
@@ -59,6 +60,11 @@ pub fn walked_items_come_first()
 pub fn written_items_are_spelled()
     ensures spells { WrittenSpells }
     ensures front { FailedHoldsFront }
+{}
+
+/// The SIMH image of an image of another format spells the same items.
+pub fn simh_images_keep_items()
+    ensures { SimhImagesKeepItems }
 {}
 
 /// Test cases for the definitions: small images and results.

@@ -3,6 +3,8 @@
 #![tactic(auto)]
 
 mod block;
+mod convert;
+mod format;
 mod item;
 pub mod laws;
 mod put;
@@ -10,6 +12,8 @@ mod reader;
 mod writer;
 
 pub use block::{ImageBuffer, fill};
+pub use convert::{ConvertFault, convert_to};
+pub use format::{ImageFormat, SimhImage};
 pub use item::{Ending, ImageCause, ImageFault, ImageWriteFault, Item};
 pub use put::write_bytes;
 pub use reader::ImageReader;

@@ -11,6 +11,8 @@ mod failing;
 #[cfg(test)]
 mod faults;
 #[cfg(test)]
+mod formats;
+#[cfg(test)]
 mod images;
 #[cfg(test)]
 mod items;

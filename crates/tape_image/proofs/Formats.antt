@@ -1,0 +1,455 @@
+-- The SIMH image of an image of another format, and what is left of it after each step.
+use Rattle.std.proofs.Common.{◌≡◌, ℕ, zero, suc, ◌+◌, ◌/◌, ◌%◌, ◌^◌, ◌≤◌, ◌<◌, Bool, true, false}
+use Rattle.std.proofs.Common.{nat_lt, nat_le, nat_eq, ◌==◌, ◌&&◌, ◌||◌, not, if◌then◌else◌, List, []}
+use Rattle.std.proofs.Common.{◌∷◌, ◌++◌, length, take, drop, Option, Some, None, IfSome, refl, sym}
+use Rattle.std.proofs.Common.{ap, ◌∙◌, arith, option_map, append_assoc, append-nil, length-append}
+use Rattle.std.proofs.Common.{length-drop, min}
+use Rattle.std.specs.List.{starts_with}
+use lib.Seq.{take_all, take-append-le, drop-append-le, drop_at, take_at, take-add, drop-drop}
+use Rattle.std.proofs.lemmas.Bool.Decides.{nat_tests}
+use Rattle.std.proofs.lemmas.List.{length-take}
+use Rattle.std.specs.Io.KnownBytes.{Consumes, Keeps, IsAtEnd, prepend_known}
+use Rattle.byteorder.specs.Endian.{little_number, little_bytes}
+use Rattle.tape_image.proofs.Words.{word-append}
+use Rattle.tape_image.specs.Word.{mark_word, gap_word, end_word, block_len}
+use Rattle.tape_image.specs.declared.format.ImageFormat.{ImageFormat}
+use Rattle.tape_image.specs.declared.format.ImageFormat.TheVariants as formats
+use Rattle.tape_image.specs.declared.format.Course.{Course}
+use Rattle.tape_image.specs.declared.format.Course.TheVariants.{Looking, Passing, Leaving}
+use Rattle.tape_image.specs.declared.format.step.Piece.{Piece}
+use Rattle.tape_image.specs.declared.format.step.Piece.TheVariants as pieces
+use Rattle.tape_image.specs.declared.format.step.Step.{Step}
+use Rattle.tape_image.specs.declared.format.step.Step.TheVariants.{Stop, Give, Leave}
+use Rattle.tape_image.specs.Format.{piece_bytes, passed, left_out, by_step, short, instead}
+use Rattle.tape_image.specs.Format.{word_alone, e11_block, class_step, extended_block}
+use Rattle.tape_image.specs.Format.{aws_block, aws_header, step_of}
+use Rattle.tape_image.specs.Format.{looked, bytes_in, bytes_after}
+use Rattle.tape_image.specs.FormatState.{IsWithin, left_in}
+
+-- ---- an item takes a byte at least, and no more than there are
+
+module _ (front : List ℕ) where
+  -- whichever is done
+  either : (t : Bool) (a b : Step) → (t ≡ true → IsWithin front a) → (t ≡ false → IsWithin front b)
+      → IsWithin front (if t then a else b)
+  either true a b h k = h refl
+  either false a b h k = k refl
+
+  within_short : IsWithin front (short front)
+  within_short = either (length front == 0) _ _ (λ _. tt) (λ _. tt)
+
+  within_word : (w : ℕ) → 4 ≤ length front → IsWithin front (word_alone w)
+  within_word w h = either ((w == mark_word) || (w == gap_word)) (instead (pieces.Word w) 4)
+      (Stop (pieces.Word w)) (λ _. (omega arith, h)) (λ _. tt)
+
+  within_e11 : (w : ℕ) (n : Option ℕ) → 4 ≤ length front → IsWithin front (e11_block w n)
+  within_e11 w None h = within_word w h
+  within_e11 w (Some n) h = (omega arith, h)
+
+  -- one of two sizes
+  within_either : (piece : Piece) (t : Bool) (m n : ℕ) → 1 ≤ m → 1 ≤ n
+      → (t ≡ true → m ≤ length front) → n ≤ length front
+      → IsWithin front (instead piece (if t then m else n))
+  within_either piece true m n a b h k = (a, h refl)
+  within_either piece false m n a b h k = (b, k)
+
+  both_first : (t u : Bool) → (t && u) ≡ true → t ≡ true
+  both_first true u e = refl
+  both_first false u e = absurd (cc e)
+
+  within_class : (w : ℕ) → 4 ≤ length front → IsWithin front (class_step w (drop 4 front))
+  within_class w h =
+      either (w == 0x80000000) _ _
+      (λ _. within_either pieces.Bad
+      (nat_le 4 (length (drop 4 front)) && (little_number 4 (drop 4 front) == w)) 8 4
+      (omega arith) (omega arith)
+      (λ e. eight (both_first (nat_le 4 (length (drop 4 front)))
+      (little_number 4 (drop 4 front) == w) e)) h)
+      (λ _. either (w == 0xFFFEFFFF) _ _
+      (λ _. within_either pieces.Nothing
+      (starts_with nat_eq (drop 4 front) (255 ∷ 255 ∷ [])) 2 4 (omega arith) (omega arith)
+      (λ _. omega (arith, h)) h)
+      (λ _. either ((w == gap_word) || (w == end_word)) _ _ (λ _. within_word w h)
+      (λ _. either ((w / 2 ^ 28 == 0) || (w / 2 ^ 28 == 8)) _ _ (λ _. within_word w h)
+      (λ _. either ((w / 2 ^ 28 == 7) || (w / 2 ^ 28 == 15)) (instead pieces.Nothing 4)
+      (Leave (w % 2 ^ 28 + w % 2 ^ 28 % 2) w) (λ _. (omega arith, h)) (λ _. h)))))
+    where
+      eight : nat_le 4 (length (drop 4 front)) ≡ true → 8 ≤ length front
+      eight e =
+          let size = length-drop 4 front in
+          let four : 4 ≤ length (drop 4 front) = grind (arith, nat_tests) in
+          omega (arith, size, four)
+
+  within_extended : (w : ℕ) (n : Option ℕ) → 4 ≤ length front
+      → IsWithin front (extended_block w n (drop 4 front))
+  within_extended w None h = within_class w h
+  within_extended w (Some n) h = (omega arith, h)
+
+  within_header : (before n previous flags : ℕ) → 6 ≤ length front
+      → IsWithin front (aws_header before n previous flags)
+  within_header before n previous flags h =
+      either ((n == 0) && ((previous == 0) && (flags == 0))) _ _ (λ _. tt)
+      (λ _. either (not (previous == before)) _ _ (λ _. tt)
+      (λ _. either ((flags == 0x40) && (n == 0)) (instead (pieces.Word mark_word) 6) _
+      (λ _. (omega arith, h))
+      (λ _. either ((flags == 0xA0) && nat_lt 0 n) (aws_block n) (Stop (pieces.Word 0x7FFFFFFF))
+      (λ _. (omega arith, h)) (λ _. tt))))
+
+  no_less : (m : ℕ) → nat_lt (length front) m ≡ false → m ≤ length front
+  no_less m e = grind (arith, nat_tests)
+
+  pub within_step : (format : ImageFormat) (before : ℕ) → IsWithin front (step_of format before front)
+  within_step formats.Extended before = either (nat_lt (length front) 4) _ _ (λ _. within_short)
+      (λ e. within_extended (little_number 4 front) (block_len (little_number 4 front))
+      (no_less 4 e))
+  within_step formats.E11 before = either (nat_lt (length front) 4) _ _ (λ _. within_short)
+      (λ e. within_e11 (little_number 4 front) (block_len (little_number 4 front)) (no_less 4 e))
+  within_step formats.Aws before = either (nat_lt (length front) 6) _ _ (λ _. within_short)
+      (λ e. within_header before (little_number 2 front) (little_number 2 (drop 2 front))
+      (little_number 2 (drop 4 front)) (no_less 6 e))
+
+-- ---- enough steps
+
+-- what stands for the first item is the same if the rest is
+by_rest : (st : Step) (xs : List ℕ) (f g : ℕ → List ℕ → List ℕ) → IsWithin (take 8 xs) st
+    → ((b : ℕ) (ys : List ℕ) → length ys < length xs → f b ys ≡ g b ys)
+    → by_step st xs f ≡ by_step st xs g
+by_rest (Stop piece) xs f g h e = refl
+by_rest (Give s) xs f g h e =
+    let p = s.passed in
+    let first = drop s.taken xs in
+    let second = drop p.count first in
+    let size : length (drop p.last second) < length xs =
+    omega (
+      arith,
+      h.0,
+      h.1,
+      length-take 8 xs,
+      length-drop s.taken xs,
+      length-drop p.count first,
+      length-drop p.last second,
+    ) in
+    ap (λ (r : List ℕ). piece_bytes s.front
+    ++ (take p.count first ++ (piece_bytes p.tail ++ (take p.last second ++ r))))
+    (e s.before (drop p.last second) size)
+by_rest (Leave n w) xs f g h e =
+    go (nat_le 4 (length (drop n (drop 4 xs))) && (little_number 4 (drop n (drop 4 xs)) == w))
+  where
+    less : length (drop 4 (drop n (drop 4 xs))) < length xs
+    less = omega (
+      arith,
+      h,
+      length-take 8 xs,
+      length-drop 4 xs,
+      length-drop n (drop 4 xs),
+      length-drop 4 (drop n (drop 4 xs)),
+    )
+
+    go : (t : Bool)
+        → (if t then f 0 (drop 4 (drop n (drop 4 xs))) else little_bytes 4 w)
+        ≡ (if t then g 0 (drop 4 (drop n (drop 4 xs))) else little_bytes 4 w)
+    go true = e 0 (drop 4 (drop n (drop 4 xs))) less
+    go false = refl
+
+-- any number of steps is enough that is greater than the number of bytes
+enough : (s t : ℕ) (format : ImageFormat) (before : ℕ) (xs : List ℕ) → length xs < s
+    → length xs < t → bytes_in s format before xs ≡ bytes_in t format before xs
+enough zero t format before xs h k = absurd (omega (arith, h))
+enough (suc s) zero format before xs h k = absurd (omega (arith, k))
+enough (suc s) (suc t) format before xs h k =
+    by_rest (looked format before xs) xs (bytes_in s format) (bytes_in t format)
+    (within_step (take 8 xs) format before)
+    (λ b ys l. enough s t format b ys (omega (arith, h, l)) (omega (arith, k, l)))
+
+-- the bytes, by the first item
+pub first_item : (format : ImageFormat) (before : ℕ) (xs : List ℕ)
+    → bytes_after format before xs
+    ≡ by_step (looked format before xs) xs (bytes_after format)
+first_item format before xs =
+    by_rest (looked format before xs) xs (bytes_in (length xs) format) (bytes_after format)
+    (within_step (take 8 xs) format before)
+    (λ b ys l. enough (length xs) (suc (length ys)) format b ys l (omega arith))
+
+-- ---- what is held is what is looked at
+
+-- as many bytes as there are, or eight
+take_min : (m : ℕ) (held : List ℕ) → m ≡ min (length held) 8 → take m held ≡ take 8 held
+take_min m held e = go (nat_le 8 (length held)) refl
+  where
+    go : (t : Bool) → nat_le 8 (length held) ≡ t → take m held ≡ take 8 held
+    go true f =
+        let long : 8 ≤ length held = grind (arith, nat_tests) in
+        ap (λ n. take n held) {x = m} {y = 8} (omega (arith, e, long))
+    go false f =
+        let few : length held < 8 = grind (arith, nat_tests) in
+        take_all m held (omega (arith, e, few)) ∙ sym (take_all 8 held (omega (arith, few)))
+
+-- what is held, eight bytes or all that are left, is looked at
+pub seen_is : (a : Option (List ℕ)) (format : ImageFormat) (before : ℕ) (held : List ℕ)
+    (st : Step) (m : ℕ) (whole : Bool) → (whole ≡ true → 8 ≤ length held)
+    → (whole ≡ false → (length held < 8) × IsAtEnd a) → m ≡ min (length held) 8
+    → st ≡ step_of format before (take m held)
+    → IfSome (prepend_known held a) (λ xs. st ≡ looked format before xs)
+seen_is None format before held st m whole h k e f = tt
+seen_is (Some ys) format before held st m true h k e f =
+    f ∙ ap (step_of format before) (take_min m held e ∙ sym (take-append-le 8 held ys (h refl)))
+seen_is (Some ys) format before held st m false h k e f =
+    f ∙ ap (step_of format before) (take_min m held e ∙ ap (take 8) (sym (append-nil held)
+    ∙ ap (λ (r : List ℕ). held ++ r) (sym (k refl).1)))
+
+-- ---- known bytes
+
+-- the same is left if each known list gives the same
+pub maps_same : (a : Option (List ℕ)) (f g : List ℕ → List ℕ) → ((xs : List ℕ) → f xs ≡ g xs)
+    → option_map f a ≡ option_map g a
+maps_same None f g h = refl
+maps_same (Some x) f g h = ap (λ (y : List ℕ). Some y) (h x)
+
+-- the same after some bytes were taken
+taken_by : (a b : Option (List ℕ)) (bs : List ℕ) (f g : List ℕ → List ℕ) → Consumes a b bs
+    → ((ys : List ℕ) → f (bs ++ ys) ≡ g ys) → Keeps (option_map f a) (option_map g b)
+taken_by None b bs f g k h = tt
+taken_by (Some x) None bs f g k h = absurd k
+taken_by (Some x) (Some y) bs f g k h = sym (ap f k ∙ h y)
+
+-- the same after all bytes were taken
+ended_by : (a b : Option (List ℕ)) (bs : List ℕ) (f g : List ℕ → List ℕ) → Consumes a b bs
+    → IsAtEnd b → f bs ≡ g [] → Keeps (option_map f a) (option_map g b)
+ended_by None b bs f g k z h = tt
+ended_by (Some x) None bs f g k z h = absurd k
+ended_by (Some x) (Some y) bs f g k z h =
+    ap g z ∙ sym h ∙ ap f (sym (append-nil bs) ∙ ap (λ (r : List ℕ). bs ++ r) (sym z) ∙ sym k)
+
+-- bytes that were taken are given on
+given_by : (a b : Option (List ℕ)) (bs : List ℕ) (f g : List ℕ → List ℕ) → Consumes a b bs
+    → ((ys : List ℕ) → f (bs ++ ys) ≡ bs ++ g ys) → Consumes (option_map f a) (option_map g b) bs
+given_by None b bs f g k h = tt
+given_by (Some x) None bs f g k h = absurd k
+given_by (Some x) (Some y) bs f g k h = ap f k ∙ h y
+
+pub drop_behind : (count left : ℕ) (bs ys : List ℕ) → length bs + left ≡ count
+    → drop count (bs ++ ys) ≡ drop left ys
+drop_behind count left bs ys e =
+    ap (λ n. drop n (bs ++ ys)) (sym e) ∙ sym (drop-drop left (length bs) (bs ++ ys))
+    ∙ ap (drop left) (drop_at bs ys (length bs) refl)
+
+pub take_behind : (count left : ℕ) (bs ys : List ℕ) → length bs + left ≡ count
+    → take count (bs ++ ys) ≡ bs ++ take left ys
+take_behind count left bs ys e =
+    ap (λ n. take n (bs ++ ys)) (sym e) ∙ take-add (length bs) left (bs ++ ys)
+    ∙ ap (λ (l : List ℕ). l ++ take left (drop (length bs) (bs ++ ys)))
+    (take_at bs ys (length bs) refl)
+    ∙ ap (λ (l : List ℕ). bs ++ take left l) (drop_at bs ys (length bs) refl)
+
+-- ---- steps of an item
+
+-- some of the bytes to be given on were taken
+pass_more : (count left : ℕ) (tail : Piece) (last : ℕ) (bs ys : List ℕ) (f : List ℕ → List ℕ)
+    → length bs + left ≡ count
+    → passed (record { count = count; tail = tail; last = last }) (bs ++ ys) f
+    ≡ bs ++ passed (record { count = left; tail = tail; last = last }) ys f
+pass_more count left tail last bs ys f e =
+    ap (λ (l : List ℕ). take count (bs ++ ys) ++ behind l) (drop_behind count left bs ys e)
+    ∙ ap (λ (l : List ℕ). l ++ behind (drop left ys)) (take_behind count left bs ys e)
+    ∙ append_assoc bs (take left ys) (behind (drop left ys))
+  where
+    behind : List ℕ → List ℕ
+    behind l = piece_bytes tail ++ (take last l ++ f (drop last l))
+
+-- nothing is left to be given on
+end_more : (count : ℕ) (tail : Piece) (last : ℕ) (f : List ℕ → List ℕ)
+    → passed (record { count = count; tail = tail; last = last }) [] f
+    ≡ passed (record { count = 0; tail = tail; last = last }) [] f
+end_more zero tail last f = refl
+end_more (suc n) tail last f = refl
+
+-- some of the bytes to be left out were taken
+leave_more : (count left w : ℕ) (bs ys : List ℕ) (f : List ℕ → List ℕ) → length bs + left ≡ count
+    → left_out count w (bs ++ ys) f ≡ left_out left w ys f
+leave_more count left w bs ys f e =
+    ap (λ (l : List ℕ). if nat_le 4 (length l) && (little_number 4 l == w) then f (drop 4 l)
+    else little_bytes 4 w) (drop_behind count left bs ys e)
+
+-- too few bytes are there to leave out a word
+few_more : (w : ℕ) (xs : List ℕ) (f : List ℕ → List ℕ) → length xs < 4
+    → left_out 0 w xs f ≡ little_bytes 4 w
+few_more w xs f h =
+    let few : nat_le 4 (length xs) ≡ false = grind (arith, nat_tests) in
+    rw (few) refl
+
+no_more : (n w : ℕ) (f : List ℕ → List ℕ) → left_out n w [] f ≡ little_bytes 4 w
+no_more zero w f = refl
+no_more (suc n) w f = refl
+
+-- the bytes end among those to be left out
+leave_end : (count left w : ℕ) (bs : List ℕ) (f : List ℕ → List ℕ) → length bs + left ≡ count
+    → left_out count w bs f ≡ little_bytes 4 w
+leave_end count left w bs f e =
+    ap (λ (l : List ℕ). left_out count w l f) (sym (append-nil bs))
+    ∙ leave_more count left w bs [] f e ∙ no_more left w f
+
+-- the word is there
+word_there : (w : ℕ) (held ys : List ℕ) (f : List ℕ → List ℕ) → 4 ≤ length held
+    → little_number 4 held ≡ w → left_out 0 w (held ++ ys) f ≡ f (drop 4 held ++ ys)
+word_there w held ys f h e =
+    let long : nat_le 4 (length (held ++ ys)) ≡ true =
+    grind (arith, nat_tests, length-append held ys, h) in
+    let same : (little_number 4 (held ++ ys) == w) ≡ true =
+    grind (arith, nat_tests, word-append held ys h, e) in
+    rw (long, same) (ap f (drop-append-le 4 held ys h))
+
+-- another word is there
+word_other : (w : ℕ) (held ys : List ℕ) (f : List ℕ → List ℕ) → 4 ≤ length held
+    → (little_number 4 held == w) ≡ false → left_out 0 w (held ++ ys) f ≡ little_bytes 4 w
+word_other w held ys f h e =
+    let long : nat_le 4 (length (held ++ ys)) ≡ true =
+    grind (arith, nat_tests, length-append held ys, h) in
+    rw (long, word-append held ys h, e) refl
+
+-- ---- what is left after each step
+
+module _ (a b : Option (List ℕ)) (format : ImageFormat) (before : ℕ) where
+  -- the next item was looked at
+  pub looked_keeps : (out : List ℕ) (course : Course) (st : Step) → out ≡ [] → course ≡ Looking
+      → Keeps a b → IfSome b (λ xs. st ≡ looked format before xs)
+      → Keeps (option_map (λ xs. out ++ left_in course format before xs) a)
+      (option_map (λ xs. by_step st xs (bytes_after format)) b)
+  looked_keeps out course st o c k h = rw (o, c) (go a b k h)
+    where
+      go : (a b : Option (List ℕ)) → Keeps a b → IfSome b (λ xs. st ≡ looked format before xs)
+          → Keeps (option_map (λ xs. bytes_after format before xs) a)
+          (option_map (λ xs. by_step st xs (bytes_after format)) b)
+      go None b k h = tt
+      go (Some x) None k h = absurd k
+      go (Some x) (Some y) k h =
+          ap (λ z. by_step z y (bytes_after format)) h ∙ sym (first_item format before y)
+          ∙ ap (λ z. bytes_after format before z) k
+
+  -- some of the bytes to be left out were taken
+  pub leaving_keeps : (out : List ℕ) (course : Course) (count left w : ℕ) (bs : List ℕ)
+      → course ≡ Leaving count w → Consumes a b bs → length bs + left ≡ count
+      → Keeps (option_map (λ xs. out ++ left_in course format before xs) a)
+      (option_map (λ xs. out ++ left_in (Leaving left w) format before xs) b)
+  leaving_keeps out course count left w bs c k e = rw (c) (taken_by a b bs
+      (λ xs. out ++ left_in (Leaving count w) format before xs)
+      (λ xs. out ++ left_in (Leaving left w) format before xs) k
+      (λ ys. ap (λ z. out ++ z) (leave_more count left w bs ys (bytes_after format 0) e)))
+
+  -- the bytes end among those to be left out
+  pub leaving_ends : (out : List ℕ) (course : Course) (count left w : ℕ) (bs : List ℕ)
+      → out ≡ [] → course ≡ Leaving count w → Consumes a b bs → length bs + left ≡ count
+      → IsAtEnd b → Keeps (option_map (λ xs. out ++ left_in course format before xs) a)
+      (option_map (λ xs. little_bytes 4 w) b)
+  leaving_ends out course count left w bs o c k e z = rw (o, c) (ended_by a b bs
+      (λ xs. left_in (Leaving count w) format before xs) (λ xs. little_bytes 4 w) k z
+      (leave_end count left w bs (bytes_after format 0) e))
+
+  -- the word was left out
+  pub word_keeps : (out : List ℕ) (course : Course) (w : ℕ) (held : List ℕ) → out ≡ []
+      → course ≡ Leaving 0 w → Keeps a (prepend_known held b) → 4 ≤ length held
+      → little_number 4 held ≡ w
+      → Keeps (option_map (λ xs. out ++ left_in course format before xs) a)
+      (option_map (λ xs. out ++ left_in Looking format 0 xs) (prepend_known (drop 4 held) b))
+  word_keeps out course w held o c k h e = rw (o, c) (go a b k)
+    where
+      go : (a b : Option (List ℕ)) → Keeps a (prepend_known held b)
+          → Keeps (option_map (λ xs. left_in (Leaving 0 w) format before xs) a)
+          (option_map (λ xs. left_in Looking format 0 xs) (prepend_known (drop 4 held) b))
+      go None b k = tt
+      go (Some x) None k = absurd k
+      go (Some x) (Some y) k =
+          sym (word_there w held y (bytes_after format 0) h e)
+          ∙ ap (λ z. left_out 0 w z (bytes_after format 0)) k
+
+  -- another word is there
+  pub other_ends : (out : List ℕ) (course : Course) (w : ℕ) (held : List ℕ) → out ≡ []
+      → course ≡ Leaving 0 w → Keeps a (prepend_known held b) → 4 ≤ length held
+      → (little_number 4 held == w) ≡ false
+      → Keeps (option_map (λ xs. out ++ left_in course format before xs) a)
+      (option_map (λ xs. little_bytes 4 w) (prepend_known held b))
+  other_ends out course w held o c k h e = rw (o, c) (go a b k)
+    where
+      go : (a b : Option (List ℕ)) → Keeps a (prepend_known held b)
+          → Keeps (option_map (λ xs. left_in (Leaving 0 w) format before xs) a)
+          (option_map (λ xs. little_bytes 4 w) (prepend_known held b))
+      go None b k = tt
+      go (Some x) None k = absurd k
+      go (Some x) (Some y) k =
+          sym (word_other w held y (bytes_after format 0) h e)
+          ∙ ap (λ z. left_out 0 w z (bytes_after format 0)) k
+
+  -- no word is there
+  pub few_ends : (out : List ℕ) (course : Course) (w : ℕ) (held : List ℕ) → out ≡ []
+      → course ≡ Leaving 0 w → Keeps a (prepend_known held b) → length held < 4 → IsAtEnd b
+      → Keeps (option_map (λ xs. out ++ left_in course format before xs) a)
+      (option_map (λ xs. little_bytes 4 w) (prepend_known held b))
+  few_ends out course w held o c k h z = rw (o, c) (go a b k z)
+    where
+      go : (a b : Option (List ℕ)) → Keeps a (prepend_known held b) → IsAtEnd b
+          → Keeps (option_map (λ xs. left_in (Leaving 0 w) format before xs) a)
+          (option_map (λ xs. little_bytes 4 w) (prepend_known held b))
+      go None b k z = tt
+      go (Some x) None k z = absurd k
+      go (Some x) (Some y) k z =
+          let whole : held ++ y ≡ held = ap (λ (r : List ℕ). held ++ r) z ∙ append-nil held in
+          sym (few_more w held (bytes_after format 0) h)
+          ∙ ap (λ l. left_out 0 w l (bytes_after format 0)) (sym whole ∙ k)
+
+  -- some of the bytes to be given on were taken
+  pub passing_gives : (out : List ℕ) (course : Course) (count left last : ℕ) (tail : Piece)
+      (bs : List ℕ) → out ≡ []
+      → course ≡ Passing (record { count = count; tail = tail; last = last }) → Consumes a b bs
+      → length bs + left ≡ count
+      → Consumes (option_map (λ xs. out ++ left_in course format before xs) a)
+      (option_map (λ xs. out ++ left_in (Passing (record {
+        count = left;
+        tail = tail;
+        last = last;
+      })) format before xs) b) bs
+  passing_gives out course count left last tail bs o c k e = rw (o, c) (given_by a b bs
+      (left_in (Passing (record { count = count; tail = tail; last = last })) format before)
+      (left_in (Passing (record { count = left; tail = tail; last = last })) format before) k
+      (λ ys. pass_more count left tail last bs ys (bytes_after format before) e))
+
+  -- there are no more bytes to be given on
+  pub passing_ends : (out : List ℕ) (course : Course) (count last : ℕ) (tail : Piece)
+      → course ≡ Passing (record { count = count; tail = tail; last = last })
+      → Consumes a b [] → IsAtEnd b
+      → Keeps (option_map (λ xs. out ++ left_in course format before xs) a)
+      (option_map (λ xs. out ++ left_in (Passing (record {
+        count = 0;
+        tail = tail;
+        last = last;
+      })) format before xs) b)
+  passing_ends out course count last tail c k z = rw (c) (ended_by a b []
+      (λ xs. out ++ left_in (Passing (record { count = count; tail = tail; last = last }))
+      format before xs)
+      (λ xs. out ++ left_in (Passing (record { count = 0; tail = tail; last = last }))
+      format before xs) k z
+      (ap (λ (l : List ℕ). out ++ l) (end_more count tail last (bytes_after format before))))
+
+-- bytes that are held are given on
+pub out_gives : (a : Option (List ℕ)) (all front rest : List ℕ) (f : List ℕ → List ℕ)
+    → all ≡ front ++ rest
+    → Consumes (option_map (λ xs. all ++ f xs) a) (option_map (λ xs. rest ++ f xs) a) front
+out_gives None all front rest f e = tt
+out_gives (Some x) all front rest f e =
+    ap (λ (r : List ℕ). r ++ f x) e ∙ append_assoc front rest (f x)
+
+-- bytes that are held are dropped
+pub held_drops : (a : Option (List ℕ)) (n : ℕ) (held front : List ℕ) (f : List ℕ → List ℕ)
+    → n ≤ length held
+    → option_map (λ xs. front ++ f xs) (prepend_known (drop n held) a)
+    ≡ option_map (λ xs. front ++ f (drop n xs)) (prepend_known held a)
+held_drops None n held front f h = refl
+held_drops (Some x) n held front f h =
+    ap (λ (l : List ℕ). Some (front ++ f l)) (sym (drop-append-le n held x h))
+
+-- ---- tests
+
+pub some_are : (n : ℕ) → (n == 0) ≡ false → 0 < n
+some_are n e = grind (arith, nat_tests)
+
+pub none_are : (xs : List ℕ) → (length xs == 0) ≡ true → xs ≡ []
+none_are [] e = refl
+none_are (x ∷ xs) e = grind (arith, nat_tests)
