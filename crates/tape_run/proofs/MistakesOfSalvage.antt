@@ -3,7 +3,7 @@ use Rattle.std.proofs.Common.{◌≡◌, ◌<◌, ℕ, ◌&&◌, not, Bool, true
 use Rattle.std.proofs.Common.{Option, Some, None, Result, Ok, Err, ap, sym, ◌∙◌, arith, ◌==◌}
 use Rattle.std.proofs.Common.{if◌then◌else◌, min, ◌||◌}
 use Rattle.std.specs.Str.{bytes_eq}
-use Rattle.tape_run.specs.SalvageLabels.{has_other}
+use Rattle.tape_run.specs.SalvageLabels.{are_other_forms, has_other}
 use Rattle.tape_image.specs.Tape.{TapeItem, block}
 use Rattle.tape_label.specs.declared.values.{Head1.Head1, Trail1.Trail1}
 use Rattle.tape_label.specs.declared.label.LabelFault.{LabelFault}
@@ -81,37 +81,53 @@ labels_taken_as_data r t h u k other e = not_trailers h u k
     else begun_by h (Unnamed one_read)) other) ∙ e)
 
 -- conflict_not_reported: two copies contradict each other, and no line says so
-conflict_not_reported : (several : Bool) (best c : SectionCopy)
-    → are_conflicting several best c ≡ true
-    → conflict_text several (Some best) (c ∷ []) ≡ [] → ⊥
-conflict_not_reported several best c differ e =
+conflict_not_reported : (best c : SectionCopy)
+    → are_conflicting best c ≡ true
+    → conflict_text (Some best) (c ∷ []) ≡ [] → ⊥
+conflict_not_reported best c differ e =
     absurd (cc (sym (ap (λ b. text_if b best c ++ []) differ) ∙ e))
 
 -- conflict_reported_as_complete: two copies of section 1 contradict each other, and the file is
 -- called complete
-conflict_reported_as_complete : (several : Bool) (best c : SectionCopy) (cs : List SectionCopy)
+conflict_reported_as_complete : (best c : SectionCopy) (cs : List SectionCopy)
     (missing any : Bool)
-    → are_conflicting several best c ≡ true → any ≡ has_conflict several (Some best) (c ∷ cs)
+    → are_conflicting best c ≡ true → any ≡ has_conflict (Some best) (c ∷ cs)
     → (not missing && not any) ≡ true → ⊥
-conflict_reported_as_complete several best c cs missing any differ is complete = grind (arith)
+conflict_reported_as_complete best c cs missing any differ is complete = grind (arith)
 
 -- two_weeks_reported_as_complete: the images have copies of section 1 that were created on
--- different days, the file has two sections, and it is called complete
+-- different days, and the file is called complete
 other_dates : (best c : SectionCopy) (blocks : Bool)
     → (c.section.key.sect == best.section.key.sect) ≡ true
     → bytes_eq best.section.created c.section.created ≡ false
-    → (b d : Bool) → ((c.section.key.sect == best.section.key.sect)
-    && (blocks || (true && (b || (not (bytes_eq best.section.created c.section.created) || d)))))
+    → (b d f : Bool) → ((c.section.key.sect == best.section.key.sect)
+    && (blocks || ((b || (not (bytes_eq best.section.created c.section.created) || d)) || f)))
     ≡ true
-other_dates best c blocks same other b d = grind (arith)
+other_dates best c blocks same other b d f = grind (arith)
 
 two_weeks_reported_as_complete : (best c : SectionCopy) (cs : List SectionCopy)
     (missing any : Bool) → (c.section.key.sect == best.section.key.sect) ≡ true
     → bytes_eq best.section.created c.section.created ≡ false
-    → any ≡ has_conflict true (Some best) (c ∷ cs) → (not missing && not any) ≡ true → ⊥
+    → any ≡ has_conflict (Some best) (c ∷ cs) → (not missing && not any) ≡ true → ⊥
 two_weeks_reported_as_complete best c cs missing any same other is complete =
-    conflict_reported_as_complete true best c cs missing any
-    (other_dates best c _ same other _ _) is complete
+    conflict_reported_as_complete best c cs missing any
+    (other_dates best c _ same other _ _ _) is complete
+
+-- two_forms_reported_as_complete: the labels of two copies of section 1 record different forms, and
+-- the file is called complete
+other_forms : (best c : SectionCopy) → (c.section.key.sect == best.section.key.sect) ≡ true
+    → are_other_forms best.section.form c.section.form ≡ true
+    → (a b : Bool) → ((c.section.key.sect == best.section.key.sect)
+    && (a || (b || are_other_forms best.section.form c.section.form))) ≡ true
+other_forms best c same other a b = grind (arith)
+
+two_forms_reported_as_complete : (best c : SectionCopy) (cs : List SectionCopy)
+    (missing any : Bool) → (c.section.key.sect == best.section.key.sect) ≡ true
+    → are_other_forms best.section.form c.section.form ≡ true
+    → any ≡ has_conflict (Some best) (c ∷ cs) → (not missing && not any) ≡ true → ⊥
+two_forms_reported_as_complete best c cs missing any same other is complete =
+    conflict_reported_as_complete best c cs missing any
+    (other_forms best c same other _ _) is complete
 
 -- two_files_reported_as_complete: section 2 has the file identifier of another file than section 1,
 -- and the file is called complete

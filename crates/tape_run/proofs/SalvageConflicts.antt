@@ -5,7 +5,6 @@ use Rattle.std.proofs.Common.{append_assoc, append-nil, arith, zero, drop, ◌-�
 use Rattle.std.proofs.{lemmas.List.take-append-drop, KnownBytes.Appends-trans}
 use Rattle.std.specs.Io.KnownBytes.{Appends}
 use Rattle.tape_run.specs.SalvageConflicts.{are_conflicting, has_conflict, conflict_text}
-use Rattle.tape_run.specs.SalvageConflicts.{has_several}
 use Rattle.tape_run.specs.SalvageLabels.{has_other, labels_text, IsFirst}
 use Rattle.std.specs.Option.{option_or}
 use Rattle.tape_set.specs.Lawful.{FileForm}
@@ -24,24 +23,24 @@ or_assoc : (a b c : Bool) → (a || (b || c)) ≡ ((a || b) || c)
 or_assoc true b c = refl
 or_assoc false b c = refl
 
-conflict_more : (several : Bool) (best c : SectionCopy) (cs : List SectionCopy)
-    → has_conflict several (Some best) (cs ++ c ∷ [])
-    ≡ (has_conflict several (Some best) cs || are_conflicting several best c)
-conflict_more several best c [] = or_none (are_conflicting several best c)
-conflict_more several best c (d ∷ cs) =
-    ap (λ b. are_conflicting several best d || b) (conflict_more several best c cs)
-    ∙ or_assoc (are_conflicting several best d) (has_conflict several (Some best) cs)
-    (are_conflicting several best c)
+conflict_more : (best c : SectionCopy) (cs : List SectionCopy)
+    → has_conflict (Some best) (cs ++ c ∷ [])
+    ≡ (has_conflict (Some best) cs || are_conflicting best c)
+conflict_more best c [] = or_none (are_conflicting best c)
+conflict_more best c (d ∷ cs) =
+    ap (λ b. are_conflicting best d || b) (conflict_more best c cs)
+    ∙ or_assoc (are_conflicting best d) (has_conflict (Some best) cs)
+    (are_conflicting best c)
 
-text_more : (several : Bool) (best c : SectionCopy) (cs : List SectionCopy)
-    → conflict_text several (Some best) (cs ++ c ∷ [])
-    ≡ conflict_text several (Some best) cs ++ text_if (are_conflicting several best c) best c
-text_more several best c [] = append-nil (text_if (are_conflicting several best c) best c)
-text_more several best c (d ∷ cs) =
-    let line = text_if (are_conflicting several best d) best d in
-    ap (λ (t : List ℕ). line ++ t) (text_more several best c cs)
-    ∙ sym (append_assoc line (conflict_text several (Some best) cs)
-    (text_if (are_conflicting several best c) best c))
+text_more : (best c : SectionCopy) (cs : List SectionCopy)
+    → conflict_text (Some best) (cs ++ c ∷ [])
+    ≡ conflict_text (Some best) cs ++ text_if (are_conflicting best c) best c
+text_more best c [] = append-nil (text_if (are_conflicting best c) best c)
+text_more best c (d ∷ cs) =
+    let line = text_if (are_conflicting best d) best d in
+    ap (λ (t : List ℕ). line ++ t) (text_more best c cs)
+    ∙ sym (append_assoc line (conflict_text (Some best) cs)
+    (text_if (are_conflicting best c) best c))
 
 or_turned : (a b c : Bool) → ((a || b) || c) ≡ (b || (a || c))
 or_turned true true c = refl
@@ -50,58 +49,58 @@ or_turned false b c = refl
 
 -- The copies up to a place were compared with the best one; `before` says whether there was a
 -- conflict before.
-pub record ComparedSoFar (several : Bool) (best : SectionCopy) (cs : List SectionCopy)
+pub record ComparedSoFar (best : SectionCopy) (cs : List SectionCopy)
     (before any : Bool) (said says : Option (List ℕ)) : Type 0 where
-  pub found : any ≡ (has_conflict several (Some best) cs || before)
-  pub wrote : Appends said says (conflict_text several (Some best) cs)
+  pub found : any ≡ (has_conflict (Some best) cs || before)
+  pub wrote : Appends said says (conflict_text (Some best) cs)
 
 -- one more copy
-pub compared_more : (several : Bool) (best c : SectionCopy) (cs : List SectionCopy) (place : ℕ)
+pub compared_more : (best c : SectionCopy) (cs : List SectionCopy) (place : ℕ)
     (before any now : Bool) (said w says : Option (List ℕ)) → place < length cs
-    → c ≡ get_or cs place c → ComparedSoFar several best (take place cs) before any said w
-    → now ≡ (are_conflicting several best c || any)
-    → Appends w says (text_if (are_conflicting several best c) best c)
-    → ComparedSoFar several best (take (place + 1) cs) before now said says
-compared_more several best c cs place before any now said w says within is s test wrote =
+    → c ≡ get_or cs place c → ComparedSoFar best (take place cs) before any said w
+    → now ≡ (are_conflicting best c || any)
+    → Appends w says (text_if (are_conflicting best c) best c)
+    → ComparedSoFar best (take (place + 1) cs) before now said says
+compared_more best c cs place before any now said w says within is s test wrote =
     let all = taken_more cs place c c within is in
     let front = take place cs in
-    let b = are_conflicting several best c in
+    let b = are_conflicting best c in
     record {
       found = test ∙ ap (λ a. b || a) s.found
-          ∙ sym (ap (λ l. has_conflict several (Some best) l || before) all
-          ∙ ap (λ d. d || before) (conflict_more several best c front)
-          ∙ or_turned (has_conflict several (Some best) front) b before);
+          ∙ sym (ap (λ l. has_conflict (Some best) l || before) all
+          ∙ ap (λ d. d || before) (conflict_more best c front)
+          ∙ or_turned (has_conflict (Some best) front) b before);
       wrote = subst (Appends said says)
-          (sym (ap (conflict_text several (Some best)) all ∙ text_more several best c front))
+          (sym (ap (conflict_text (Some best)) all ∙ text_more best c front))
           (Appends-trans said w says _ _ s.wrote wrote);
     }
 
-text_join : (several : Bool) (best : SectionCopy) (cs ds : List SectionCopy)
-    → conflict_text several (Some best) (cs ++ ds)
-    ≡ conflict_text several (Some best) cs ++ conflict_text several (Some best) ds
-text_join several best [] ds = refl
-text_join several best (c ∷ cs) ds =
-    let line = text_if (are_conflicting several best c) best c in
-    ap (λ (t : List ℕ). line ++ t) (text_join several best cs ds)
-    ∙ sym (append_assoc line (conflict_text several (Some best) cs)
-    (conflict_text several (Some best) ds))
+text_join : (best : SectionCopy) (cs ds : List SectionCopy)
+    → conflict_text (Some best) (cs ++ ds)
+    ≡ conflict_text (Some best) cs ++ conflict_text (Some best) ds
+text_join best [] ds = refl
+text_join best (c ∷ cs) ds =
+    let line = text_if (are_conflicting best c) best c in
+    ap (λ (t : List ℕ). line ++ t) (text_join best cs ds)
+    ∙ sym (append_assoc line (conflict_text (Some best) cs)
+    (conflict_text (Some best) ds))
 
 -- the line of a copy was not written completely
-pub compared_front : (several : Bool) (best c : SectionCopy) (cs : List SectionCopy) (place : ℕ)
+pub compared_front : (best c : SectionCopy) (cs : List SectionCopy) (place : ℕ)
     (before any : Bool) (said w says : Option (List ℕ)) → place < length cs
-    → c ≡ get_or cs place c → ComparedSoFar several best (take place cs) before any said w
-    → AppendsFront w says (text_if (are_conflicting several best c) best c)
-    → AppendsFront said says (conflict_text several (Some best) cs)
-compared_front several best c cs place before any said w says within is s part =
+    → c ≡ get_or cs place c → ComparedSoFar best (take place cs) before any said w
+    → AppendsFront w says (text_if (are_conflicting best c) best c)
+    → AppendsFront said says (conflict_text (Some best) cs)
+compared_front best c cs place before any said w says within is s part =
     let rest = drop (place + 1) cs in
-    front_then said w says (conflict_text several (Some best) (take place cs))
-    (text_if (are_conflicting several best c) best c) (conflict_text several (Some best) rest)
-    (conflict_text several (Some best) cs) s.wrote part
-    (ap (conflict_text several (Some best)) (sym (take-append-drop (place + 1) cs))
-    ∙ text_join several best (take (place + 1) cs) rest
-    ∙ ap (λ (t : List ℕ). t ++ conflict_text several (Some best) rest)
-    (ap (conflict_text several (Some best)) (taken_more cs place c c within is)
-    ∙ text_more several best c (take place cs)))
+    front_then said w says (conflict_text (Some best) (take place cs))
+    (text_if (are_conflicting best c) best c) (conflict_text (Some best) rest)
+    (conflict_text (Some best) cs) s.wrote part
+    (ap (conflict_text (Some best)) (sym (take-append-drop (place + 1) cs))
+    ∙ text_join best (take (place + 1) cs) rest
+    ∙ ap (λ (t : List ℕ). t ++ conflict_text (Some best) rest)
+    (ap (conflict_text (Some best)) (taken_more cs place c c within is)
+    ∙ text_more best c (take place cs)))
 
 -- ---- all sections
 
@@ -114,13 +113,13 @@ pub record ReportedSoFar (copies : List SectionCopy) (n : ℕ) (first : Option S
 
 -- the lines about the next section
 abbrev pub next_text : List SectionCopy → Option SectionCopy → Option SectionCopy → List ℕ
-next_text copies first best = conflict_text (has_several copies) best copies
+next_text copies first best = conflict_text best copies
     ++ labels_text (form_of_file copies) first best
 
 -- whether the next section has any
 abbrev pub next_any : List SectionCopy → Option SectionCopy → Option SectionCopy → Bool → Bool
 next_any copies first best any = has_other (form_of_file copies) first best
-    || (has_conflict (has_several copies) best copies || any)
+    || (has_conflict best copies || any)
 
 -- one more section
 next_first : (copies : List SectionCopy) (n : ℕ) (earlier first best : Option SectionCopy)
@@ -128,22 +127,19 @@ next_first : (copies : List SectionCopy) (n : ℕ) (earlier first best : Option 
     → first ≡ option_or earlier best → IsFirst copies (suc n) first
 next_first copies n earlier first best before is e = (earlier, best, before, is, e)
 
-pub next_reported : (copies : List SectionCopy) (n : ℕ) (several : Bool)
+pub next_reported : (copies : List SectionCopy) (n : ℕ)
     (known : Option FileForm) (any mid now : Bool) (earlier first best : Option SectionCopy)
     (said w v says : Option (List ℕ))
-    → several ≡ has_several copies → known ≡ form_of_file copies
-    → ReportedSoFar copies n earlier any said w → IsBest (firsts (n + 1) None copies) best
-    → first ≡ option_or earlier best → mid ≡ (has_conflict several best copies || any)
-    → Appends w v (conflict_text several best copies)
+    → known ≡ form_of_file copies → ReportedSoFar copies n earlier any said w → IsBest (firsts (n + 1) None copies) best
+    → first ≡ option_or earlier best → mid ≡ (has_conflict best copies || any)
+    → Appends w v (conflict_text best copies)
     → now ≡ (has_other known first best || mid) → Appends v says (labels_text known first best)
     → ReportedSoFar copies (n + 1) first now said says
-next_reported copies n several known any mid now earlier first best said w v says many form s is e
+next_reported copies n known any mid now earlier first best said w v says form s is e
     found wrote other more =
     let next : suc n ≡ n + 1 = omega arith in
     let line = next_text copies first best in
     let begins = next_first copies n earlier first best s.is_first is e in
-    let first_text : Appends w v (conflict_text (has_several copies) best copies) =
-    subst (λ b. Appends w v (conflict_text b best copies)) many wrote in
     let last_text : Appends v says (labels_text (form_of_file copies) first best) =
     subst (λ k. Appends v says (labels_text k first best)) form more in
     record {
@@ -159,11 +155,11 @@ next_reported copies n several known any mid now earlier first best said w v say
         refl,
         other ∙ ap (λ k. has_other k first best || mid) form
             ∙ ap (λ b. has_other (form_of_file copies) first best || b)
-            (found ∙ ap (λ b. has_conflict b best copies || any) many),
+            found,
       );
       is_first = subst (λ m. IsFirst copies m first) next begins;
       wrote = Appends-trans said w says s.text line s.wrote
-          (Appends-trans w v says _ _ first_text last_text);
+          (Appends-trans w v says _ _ wrote last_text);
     }
 
 -- the lines of further sections follow these
@@ -201,21 +197,19 @@ reported_front copies n last any earlier first best said w says within s is e pa
     (all, some, more, front_then said w says s.text line rest all s.wrote part joined)
 
 -- the lines about the copies of a section were not written completely
-pub copies_front : (copies : List SectionCopy) (several : Bool) (first best : Option SectionCopy)
-    (w says : Option (List ℕ)) → several ≡ has_several copies
-    → AppendsFront w says (conflict_text several best copies)
+pub copies_front : (copies : List SectionCopy) (first best : Option SectionCopy)
+    (w says : Option (List ℕ))
+    → AppendsFront w says (conflict_text best copies)
     → AppendsFront w says (next_text copies first best)
-copies_front copies several first best w says many part = front_more w says _ _
-    (subst (λ b. AppendsFront w says (conflict_text b best copies)) many part)
+copies_front copies first best w says part = front_more w says _ _ part
 
 -- the line about the labels of a section was not written completely
-pub labels_front : (copies : List SectionCopy) (several : Bool) (known : Option FileForm)
+pub labels_front : (copies : List SectionCopy) (known : Option FileForm)
     (first best : Option SectionCopy) (w v says : Option (List ℕ))
-    → several ≡ has_several copies → known ≡ form_of_file copies
-    → Appends w v (conflict_text several best copies)
+    → known ≡ form_of_file copies
+    → Appends w v (conflict_text best copies)
     → AppendsFront v says (labels_text known first best)
     → AppendsFront w says (next_text copies first best)
-labels_front copies several known first best w v says many form wrote part =
-    front_behind w v says _ _
-    (subst (λ b. Appends w v (conflict_text b best copies)) many wrote)
+labels_front copies known first best w v says form wrote part =
+    front_behind w v says _ _ wrote
     (subst (λ k. AppendsFront v says (labels_text k first best)) form part)

@@ -1,11 +1,12 @@
 -- Copies of one section that contradict each other.
-use Rattle.std.specs.Prelude.{◌≡◌, ℕ, zero, suc, ◌+◌, ◌==◌, ◌&&◌, ◌||◌, not, nat_lt, Bool, false}
+use Rattle.std.specs.Prelude.{◌≡◌, ℕ, zero, suc, ◌+◌, ◌==◌, ◌&&◌, ◌||◌, not, Bool, false}
 use Rattle.std.specs.Prelude.{if◌then◌else◌, List, [], ◌∷◌, ◌++◌, Option, Some, None}
 use Rattle.tape_run.specs.declared.salvage.copies.SectionCopy.{SectionCopy}
 use Rattle.tape_run.specs.{SalvageCopies.is_complete, SalvageChoice.firsts, SalvageChoice.IsBest}
 use Rattle.tape_run.specs.{SalvageLine.conflict_line, SalvageTaking.image_number}
-use Rattle.tape_run.specs.SalvageChoice.{form_of_file, last_section}
-use Rattle.tape_run.specs.SalvageLabels.{are_other_labels, has_other, labels_text, IsFirst}
+use Rattle.tape_run.specs.SalvageChoice.{form_of_file}
+use Rattle.tape_run.specs.SalvageLabels.{are_other_labels, are_other_forms, has_other, labels_text}
+use Rattle.tape_run.specs.SalvageLabels.{IsFirst}
 
 -- they have equally many blocks, and their digests are the same
 abbrev pub have_same_blocks : SectionCopy → SectionCopy → Bool
@@ -16,22 +17,19 @@ have_same_blocks best c =
 abbrev pub are_unlike : SectionCopy → SectionCopy → Bool
 are_unlike best c = is_complete best && (is_complete c && not (have_same_blocks best c))
 
--- the file has several sections, so they may be read from different images
-abbrev pub has_several : List SectionCopy → Bool
-has_several copies = nat_lt 1 (last_section copies)
-
 -- Both are copies of one section, but contradict each other: both are complete and have different
--- blocks, or the file has several sections, and their HDR1 differ.
-abbrev pub are_conflicting : Bool → SectionCopy → SectionCopy → Bool
-are_conflicting several best c = (c.section.key.sect == best.section.key.sect)
-    && (are_unlike best c || (several && are_other_labels best c))
+-- blocks, or their HDR1 or their recorded forms differ.
+abbrev pub are_conflicting : SectionCopy → SectionCopy → Bool
+are_conflicting best c = (c.section.key.sect == best.section.key.sect)
+    && (are_unlike best c
+    || (are_other_labels best c || are_other_forms best.section.form c.section.form))
 
 -- whether one of these copies contradicts the best copy of its section
-abbrev pub has_conflict : Bool → Option SectionCopy → List SectionCopy → Bool
-has_conflict several None cs = false
-has_conflict several (Some best) [] = false
-has_conflict several (Some best) (c ∷ cs) =
-    are_conflicting several best c || has_conflict several (Some best) cs
+abbrev pub has_conflict : Option SectionCopy → List SectionCopy → Bool
+has_conflict None cs = false
+has_conflict (Some best) [] = false
+has_conflict (Some best) (c ∷ cs) =
+    are_conflicting best c || has_conflict (Some best) cs
 
 -- the line about a copy that contradicts the best one
 abbrev pub text_if : Bool → SectionCopy → SectionCopy → List ℕ
@@ -39,11 +37,11 @@ text_if is best c = if is
     then conflict_line c.section.key.sect (image_number best.image) (image_number c.image) else []
 
 -- the lines about the copies that contradict the best one
-abbrev pub conflict_text : Bool → Option SectionCopy → List SectionCopy → List ℕ
-conflict_text several None cs = []
-conflict_text several (Some best) [] = []
-conflict_text several (Some best) (c ∷ cs) =
-    text_if (are_conflicting several best c) best c ++ conflict_text several (Some best) cs
+abbrev pub conflict_text : Option SectionCopy → List SectionCopy → List ℕ
+conflict_text None cs = []
+conflict_text (Some best) [] = []
+conflict_text (Some best) (c ∷ cs) =
+    text_if (are_conflicting best c) best c ++ conflict_text (Some best) cs
 
 -- These lines report all copies of the sections 1 to n that contradict the best copy, and all of
 -- these sections whose best copy has not the labels of the file. `any` says whether there are any.
@@ -52,7 +50,7 @@ AreConflicts copies zero text any = (text ≡ []) × (any ≡ false)
 AreConflicts copies (suc n) text any = (front : List ℕ) × (earlier : Bool)
     × (best first : Option SectionCopy) × AreConflicts copies n front earlier
     × IsBest (firsts (n + 1) None copies) best × IsFirst copies (suc n) first
-    × (text ≡ front ++ (conflict_text (has_several copies) best copies
+    × (text ≡ front ++ (conflict_text best copies
     ++ labels_text (form_of_file copies) first best))
     × (any ≡ (has_other (form_of_file copies) first best
-    || (has_conflict (has_several copies) best copies || earlier)))
+    || (has_conflict best copies || earlier)))

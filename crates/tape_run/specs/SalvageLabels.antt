@@ -25,6 +25,12 @@ abbrev pub are_same_forms : FileForm → FileForm → Bool
 are_same_forms f g = (letter f.format == letter g.format)
     && ((f.rec_len == g.rec_len) && (f.offset == g.offset))
 
+-- both are recorded, but blocks of the one contain records in another way than blocks of the other
+abbrev pub are_other_forms : Option FileForm → Option FileForm → Bool
+are_other_forms None other = false
+are_other_forms (Some f) None = false
+are_other_forms (Some f) (Some g) = not (are_same_forms f g)
+
 abbrev pub have_same_form : Option FileForm → Option FileForm → Bool
 have_same_form None None = true
 have_same_form None (Some g) = false

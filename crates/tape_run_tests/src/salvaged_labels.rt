@@ -29,6 +29,9 @@ const FIVE: &str = "HDR2F0002000005                                   00";
 
 const SIX: &str = "HDR2F0002000006                                   00";
 
+/// HDR2 of format F, with records of four characters.
+const FOUR: &str = "HDR2F0002000004                                   00";
+
 /// The first section of a file.
 const FIRST: Section = (
     "HDR1PAYROLL          ABC00100010001000100 85010 00000 000000",
@@ -44,6 +47,14 @@ const HEAD: &str = "HDR1PAYROLL          ABC00100020001000100 85011 00000 000000
 const TRAILER: &str = "EOF1PAYROLL          ABC00100020001000100 85011 00000 000001";
 
 const SECOND: Section = (HEAD, FIVE, b"bbbbb", true, TRAILER);
+
+/// The labels of a file of one section.
+const ONE: &str = "HDR1PAYROLL          ABC00100010001000100 85010 00000 000000";
+
+const END: &str = "EOF1PAYROLL          ABC00100010001000100 85010 00000 000001";
+
+/// A block of four records of five characters, or of five of four.
+const TWENTY: &[u8] = b"aaaaabbbbbcccccddddd";
 
 const ROWS: &[Row] = &[
     (
@@ -99,6 +110,70 @@ const ROWS: &[Row] = &[
         true,
         "SECTION 1 2 1\nSECTION 2 2 1\nCOMPLETE 2\n",
         12,
+    ),
+    // Copies of the only section of a file, with the same data. Their HDR2 record other lengths.
+    (
+        &[(ONE, FIVE, TWENTY, true, END)],
+        &[(ONE, FOUR, TWENTY, true, END)],
+        false,
+        "CONFLICT 1 1 2\nSECTION 1 1 1\nSALVAGED 4\n",
+        24,
+    ),
+    (
+        &[(ONE, FOUR, TWENTY, true, END)],
+        &[(ONE, FIVE, TWENTY, true, END)],
+        false,
+        "CONFLICT 1 1 2\nSECTION 1 1 1\nSALVAGED 5\n",
+        25,
+    ),
+    // The only sections of two files.
+    (
+        &[(ONE, FIVE, b"ccccc", false, END)],
+        &[(
+            "HDR1STOCK            ABC00100010001000100 85017 00000 000000",
+            FIVE,
+            b"bbbbb",
+            true,
+            "EOF1STOCK            ABC00100010001000100 85017 00000 000001",
+        )],
+        false,
+        "CONFLICT 1 2 1\nSECTION 1 2 1\nSALVAGED 1\n",
+        6,
+    ),
+    // The only section of a file, recorded again a week later, and in another generation.
+    (
+        &[(ONE, FIVE, b"ccccc", false, END)],
+        &[(
+            "HDR1PAYROLL          ABC00100010001000100 85017 00000 000000",
+            FIVE,
+            b"bbbbb",
+            true,
+            "EOF1PAYROLL          ABC00100010001000100 85017 00000 000001",
+        )],
+        false,
+        "CONFLICT 1 2 1\nSECTION 1 2 1\nSALVAGED 1\n",
+        6,
+    ),
+    (
+        &[(ONE, FIVE, b"ccccc", false, END)],
+        &[(
+            "HDR1PAYROLL          ABC00100010001000200 85010 00000 000000",
+            FIVE,
+            b"bbbbb",
+            true,
+            "EOF1PAYROLL          ABC00100010001000200 85010 00000 000001",
+        )],
+        false,
+        "CONFLICT 1 2 1\nSECTION 1 2 1\nSALVAGED 1\n",
+        6,
+    ),
+    // The labels agree; one of the copies is not readable.
+    (
+        &[(ONE, FIVE, b"ccccc", false, END)],
+        &[(ONE, FIVE, b"bbbbb", true, END)],
+        true,
+        "SECTION 1 2 1\nCOMPLETE 1\n",
+        6,
     ),
     // No image has the first section.
     (

@@ -5,10 +5,10 @@ ghost use Rattle.std.specs.Io.KnownBytes.{Appends};
 ghost use Rattle.tape_image.specs.Written.{AppendsFront};
 ghost use Rattle.tape_run.specs.SalvageChoice.{last_section};
 ghost use Rattle.tape_run.specs.SalvageConflicts.{AreConflicts, are_conflicting, conflict_text};
-ghost use Rattle.tape_run.specs.SalvageConflicts.{has_conflict, text_if, has_several, are_unlike};
+ghost use Rattle.tape_run.specs.SalvageConflicts.{has_conflict, text_if, are_unlike};
 ghost use Rattle.tape_run.specs.SalvageLabels.{are_of_one_file, are_same_forms, have_same_form};
 ghost use Rattle.tape_run.specs.SalvageLabels.{form_read, is_form_of, has_other, labels_text};
-ghost use Rattle.tape_run.specs.SalvageLabels.{are_other_labels, is_named_copy};
+ghost use Rattle.tape_run.specs.SalvageLabels.{are_other_labels, are_other_forms, is_named_copy};
 
 use crate::fault::WriteFailed;
 use crate::salvage::copies::{SectionCopy, best_copy, form_of_file, last_section};
@@ -35,32 +35,43 @@ fn are_unlike(best: &SectionCopy, copy: &SectionCopy) -> bool
     best.is_complete() && copy.is_complete() && !same_blocks
 }
 
+/// Returns whether the forms of both copies are recorded, and differ.
+fn are_other_forms(one: &Option<Known>, other: &Option<Known>) -> bool
+    ensures { result ≡ are_other_forms one.now other.now }
+{
+    match (one, other) {
+        (Some(one), Some(other)) => !are_same_forms(one, other),
+        _ => false,
+    }
+}
+
 /// Returns whether both are copies of one section, but contradict each other: both are complete and
-/// have different blocks, or the file has `several` sections, and their HDR1 differ.
-fn are_conflicting(several: bool, best: &SectionCopy, copy: &SectionCopy) -> bool
-    ensures { result ≡ are_conflicting several best.now copy.now }
+/// have different blocks, or their HDR1 or their recorded forms differ.
+fn are_conflicting(best: &SectionCopy, copy: &SectionCopy) -> bool
+    ensures { result ≡ are_conflicting best.now copy.now }
 {
     copy.section.key.sect == best.section.key.sect
-        && (are_unlike(best, copy) || (several && are_other_labels(best, copy)))
+        && (are_unlike(best, copy)
+            || are_other_labels(best, copy)
+            || are_other_forms(&best.section.form, &copy.section.form))
 }
 
 /// Reports a copy if it contradicts the best copy of its section. Returns whether it does, or a
 /// copy before it did.
 fn report_copy<P: Write>(
-    several: bool,
     best: &SectionCopy,
     copy: &SectionCopy,
     any: bool,
     report: &mut P,
 ) -> Result<bool, WriteFailed>
     ensures any { IfOk result
-        (λ now. now ≡ (are_conflicting several best.now copy.now || any)) }
+        (λ now. now ≡ (are_conflicting best.now copy.now || any)) }
     ensures text { OnOk result (Appends (P.contents report.old) (P.contents report.new)
-        (text_if (are_conflicting several best.now copy.now) best.now copy.now)) }
+        (text_if (are_conflicting best.now copy.now) best.now copy.now)) }
     ensures front { OnErr result (AppendsFront (P.contents report.old) (P.contents report.new)
-        (text_if (are_conflicting several best.now copy.now) best.now copy.now)) }
+        (text_if (are_conflicting best.now copy.now) best.now copy.now)) }
 {
-    if !are_conflicting(several, best, copy) {
+    if !are_conflicting(best, copy) {
         return Ok(any);
     }
     let sect = copy.section.key.sect;
@@ -73,24 +84,23 @@ fn report_copy<P: Write>(
 /// Reports the copies of a section that contradict its best copy, if it has one. Returns whether
 /// there are any, or `any`.
 fn report_section<P: Write>(
-    several: bool,
     copies: &[SectionCopy],
     best: &Option<SectionCopy>,
     any: bool,
     report: &mut P,
 ) -> Result<bool, WriteFailed>
-    ensures any { IfOk result (λ now. now ≡ (has_conflict several best.now copies.now || any)) }
+    ensures any { IfOk result (λ now. now ≡ (has_conflict best.now copies.now || any)) }
     ensures text { OnOk result (Appends (P.contents report.old) (P.contents report.new)
-        (conflict_text several best.now copies.now)) }
+        (conflict_text best.now copies.now)) }
     ensures front { OnErr result (AppendsFront (P.contents report.old) (P.contents report.new)
-        (conflict_text several best.now copies.now)) }
+        (conflict_text best.now copies.now)) }
 {
     let Some(best) = best else {
         return Ok(any);
     };
     let mut any = any;
     for copy in copies {
-        any = report_copy(several, best, copy, any, report)?;
+        any = report_copy(best, copy, any, report)?;
     }
     Ok(any)
 }
@@ -205,14 +215,13 @@ pub fn report_conflicts<P: Write>(
         × AppendsFront (P.contents report.old) (P.contents report.new) text) }
 {
     let last = last_section(copies);
-    let several = last > 1;
     let known = form_of_file(copies);
     let mut any = false;
     let mut first = None;
     for before in 0..last {
         let best = best_copy(copies, before + 1);
         first = first.or(best);
-        any = report_section(several, copies, &best, any, report)?;
+        any = report_section(copies, &best, any, report)?;
         any = report_labels(&known, &first, &best, any, report)?;
     }
     Ok(any)
