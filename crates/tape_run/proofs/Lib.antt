@@ -61,10 +61,12 @@ pub mod SurveyDigest
 pub mod SurveyCompared
 pub mod SurveyCopies
 pub mod SurveyShown
-pub mod SurveyConflicts
+pub mod SurveyAgreed
+mod SurveyConflicts
 mod SurveyListed
 pub mod SurveySound
 pub mod SurveyDisputes
+mod SurveyDiffers
 mod SurveyAhead
 mod SurveyLooks
 mod SurveyRead

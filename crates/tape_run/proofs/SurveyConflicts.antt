@@ -1,17 +1,17 @@
--- Copies that are reported to differ do differ.
+-- The records about good copies describe copies that were found.
 use Rattle.std.proofs.Common.{◌≡◌, ℕ, ◌+◌, Bool, true, false, List, [], ◌∷◌, ◌++◌, length, Option}
-use Rattle.std.proofs.Common.{Some, None, refl, sym, ap, subst, ◌∙◌, arith, append_assoc}
+use Rattle.std.proofs.Common.{Some, None, refl, sym, ap, subst, ◌∙◌, append_assoc}
 use Rattle.std.proofs.Common.{append-nil, map, ◌==◌, ◌&&◌, if◌then◌else◌, option_map, cond}
-use Rattle.std.proofs.lemmas.Bool.Decides.{nat_tests}
 use Rattle.std.specs.{List.AllByRecursion, Option.option_or}
 use Rattle.indexmap.specs.IndexMap.{insert_entry}
 use Rattle.tape_image.specs.Tape.{TapeItem}
 use Rattle.tape_run.specs.SurveyConflicts.{Placed, placed_on, placed_in, all_placed, IsIn}
-use Rattle.tape_run.specs.SurveyCopies.{Copy, copies_on, Noted, Copied, with_same, with_other}
+use Rattle.tape_blocks.specs.Faults.{bool_eq}
+use Rattle.tape_run.specs.SurveyCopies.{Copy, copies_on, Noted, Copied, with_same, with_agreed}
+use Rattle.tape_run.specs.SurveyCopies.{with_other, with_other_end}
 use Rattle.tape_run.specs.{declared.survey.copies.CopyNote.CopyNote, Checked.Reel, Noted.same_key}
 use Rattle.tape_run.specs.{declared.survey.view.ImageSurvey.ImageSurvey, Reeling.Mounting}
 use Rattle.tape_run.specs.{declared.section.SectionKey.SectionKey, SurveyDigest.digest_of}
-use Rattle.tape_run.specs.SurveyConflicts.{CopiesDiffer}
 use Rattle.tape_run.specs.SurveyCopies.{copy_note, noted_at, with_good, with_copies}
 use Rattle.tape_run.specs.SurveyRead.{Found, nothing_found, IsViewed, AreViewed}
 use Rattle.tape_run.proofs.KeepingPlaces.{one_key}
@@ -41,33 +41,53 @@ of_all P xs x h i = all_at P i.front i.rest x (subst (AllByRecursion P) i.stands
 -- ---- a record about copies describes copies that were found
 
 -- the number of blocks that a copy has
-abbrev count : Placed → ℕ
+abbrev pub count : Placed → ℕ
 count x = x.1.0.1.blocks
 
 -- a copy agrees with a number of blocks and a digest
-abbrev agrees : ℕ → ℕ → Placed → Bool
+abbrev pub agrees : ℕ → ℕ → Placed → Bool
 agrees blocks digest x = (blocks == count x) && (digest == digest_of x.1.1)
 
 -- a copy of this section on this image that does not agree
-record Other (xs : List Placed) (key : SectionKey) (blocks digest image : ℕ) : Type 0 where
+pub record Other (xs : List Placed) (key : SectionKey) (blocks digest image : ℕ) : Type 0 where
   pub copy : Placed
   pub there : IsIn xs copy
   pub of_key : copy.1.0.0 ≡ key
   pub on : copy.0 ≡ image
   pub differs : agrees blocks digest copy ≡ false
 
-record NoteOf (xs : List Placed) (key : SectionKey) (n : CopyNote) : Type 0 where
+-- a copy of this section on this image that ends otherwise
+pub record OtherEnd (xs : List Placed) (key : SectionKey) (eof : Bool) (image : ℕ) : Type 0 where
+  pub copy : Placed
+  pub there : IsIn xs copy
+  pub of_key : copy.1.0.0 ≡ key
+  pub on : copy.0 ≡ image
+  pub differs : bool_eq eof copy.1.0.1.eof ≡ false
+
+pub record NoteOf (xs : List Placed) (key : SectionKey) (n : CopyNote) : Type 0 where
   pub copy : Placed
   pub there : IsIn xs copy
   pub of_key : copy.1.0.0 ≡ key
   pub on : copy.0 ≡ n.image
   pub counted : count copy ≡ n.blocks
   pub digested : digest_of copy.1.1 ≡ n.digest
+  pub ended : copy.1.0.1.eof ≡ n.eof
   pub other : (j : ℕ) → n.other ≡ Some j → Other xs key n.blocks n.digest j
+  pub other_end : (j : ℕ) → n.other_end ≡ Some j → OtherEnd xs key n.eof j
 
 other_more : (xs more : List Placed) (key : SectionKey) (blocks digest j : ℕ)
     → Other xs key blocks digest j → Other (xs ++ more) key blocks digest j
 other_more xs more key blocks digest j o = record {
+  copy = o.copy;
+  there = in_more xs more o.copy o.there;
+  of_key = o.of_key;
+  on = o.on;
+  differs = o.differs;
+}
+
+end_more : (xs more : List Placed) (key : SectionKey) (eof : Bool) (j : ℕ)
+    → OtherEnd xs key eof j → OtherEnd (xs ++ more) key eof j
+end_more xs more key eof j o = record {
   copy = o.copy;
   there = in_more xs more o.copy o.there;
   of_key = o.of_key;
@@ -84,12 +104,14 @@ note_more xs more key n h = record {
   on = h.on;
   counted = h.counted;
   digested = h.digested;
+  ended = h.ended;
   other = λ j e. other_more xs more key n.blocks n.digest j (h.other j e);
+  other_end = λ j e. end_more xs more key n.eof j (h.other_end j e);
 }
 
 -- the first copy
 note_first : (xs : List Placed) (x : Placed)
-    → NoteOf (xs ++ x ∷ []) x.1.0.0 (copy_note None x.0 (count x) (digest_of x.1.1))
+    → NoteOf (xs ++ x ∷ []) x.1.0.0 (copy_note None x.0 x.1.0.1 (digest_of x.1.1))
 note_first xs x = record {
   copy = x;
   there = in_last xs x;
@@ -97,7 +119,9 @@ note_first xs x = record {
   on = refl;
   counted = refl;
   digested = refl;
+  ended = refl;
   other = λ j e. absurd (cc e);
+  other_end = λ j e. absurd (cc e);
 }
 
 -- which of the copies is the other one
@@ -115,19 +139,51 @@ which xs x key blocks digest None j k e h is = record {
 }
 which xs x key blocks digest (Some i) j k e h is = other_more _ (x ∷ []) _ _ _ _ (h j is)
 
--- one copy more
-note_if : (xs : List Placed) (x : Placed) (key : SectionKey) (n : CopyNote) (b : Bool)
-    → agrees n.blocks n.digest x ≡ b → x.1.0.0 ≡ key → NoteOf xs key n
-    → NoteOf (xs ++ x ∷ []) key (if b then with_same n else with_other n x.0)
-note_if xs x key n true e k h = record {
+which_end : (xs : List Placed) (x : Placed) (key : SectionKey) (eof : Bool) (o : Option ℕ) (j : ℕ)
+    → x.1.0.0 ≡ key → bool_eq eof x.1.0.1.eof ≡ false
+    → ((i : ℕ) → o ≡ Some i → OtherEnd xs key eof i) → option_or o (Some x.0) ≡ Some j
+    → OtherEnd (xs ++ x ∷ []) key eof j
+which_end xs x key eof None j k e h is = record {
+  copy = x;
+  there = in_last xs x;
+  of_key = k;
+  on = cc is;
+  differs = e;
+}
+which_end xs x key eof (Some i) j k e h is = end_more _ (x ∷ []) _ _ _ (h j is)
+
+-- one copy more, with the same data blocks
+note_same : (xs : List Placed) (x : Placed) (key : SectionKey) (n : CopyNote) (b : Bool)
+    → bool_eq n.eof x.1.0.1.eof ≡ b → x.1.0.0 ≡ key → NoteOf xs key n
+    → NoteOf (xs ++ x ∷ []) key (if b then with_agreed n else with_other_end n x.0)
+note_same xs x key n true e k h = record {
   copy = h.copy;
   there = in_more xs (x ∷ []) h.copy h.there;
   of_key = h.of_key;
   on = h.on;
   counted = h.counted;
   digested = h.digested;
+  ended = h.ended;
   other = λ j is. other_more xs (x ∷ []) key n.blocks n.digest j (h.other j is);
+  other_end = λ j is. end_more xs (x ∷ []) key n.eof j (h.other_end j is);
 }
+note_same xs x key n false e k h = record {
+  copy = h.copy;
+  there = in_more xs (x ∷ []) h.copy h.there;
+  of_key = h.of_key;
+  on = h.on;
+  counted = h.counted;
+  digested = h.digested;
+  ended = h.ended;
+  other = λ j is. other_more xs (x ∷ []) key n.blocks n.digest j (h.other j is);
+  other_end = λ j is. which_end xs x key n.eof n.other_end j k e h.other_end is;
+}
+
+-- one copy more
+note_if : (xs : List Placed) (x : Placed) (key : SectionKey) (n : CopyNote) (b : Bool)
+    → agrees n.blocks n.digest x ≡ b → x.1.0.0 ≡ key → NoteOf xs key n
+    → NoteOf (xs ++ x ∷ []) key (if b then with_same n x.0 x.1.0.1.eof else with_other n x.0)
+note_if xs x key n true e k h = note_same xs x key n (bool_eq n.eof x.1.0.1.eof) refl k h
 note_if xs x key n false e k h = record {
   copy = h.copy;
   there = in_more xs (x ∷ []) h.copy h.there;
@@ -135,7 +191,9 @@ note_if xs x key n false e k h = record {
   on = h.on;
   counted = h.counted;
   digested = h.digested;
+  ended = h.ended;
   other = λ j is. which xs x key n.blocks n.digest n.other j k e h.other is;
+  other_end = λ j is. end_more xs (x ∷ []) key n.eof j (h.other_end j is);
 }
 
 abbrev AllNoted : List Placed → List Noted → Type 0
@@ -148,15 +206,15 @@ all_more xs more (e ∷ es) (h, hs) = (note_more xs more e.0 e.1 h, all_more xs 
 -- the records after one more copy
 abbrev noted : List Noted → Placed → List Noted
 noted es x = insert_entry same_key es x.1.0.0
-    (copy_note (noted_at es x.1.0.0) x.0 (count x) (digest_of x.1.1))
+    (copy_note (noted_at es x.1.0.0) x.0 x.1.0.1 (digest_of x.1.1))
 
 noted_here : (xs : List Placed) (x : Placed) (e : Noted) (es : List Noted) (b : Bool)
     → same_key x.1.0.0 e.0 ≡ b → AllNoted xs (e ∷ es) → AllNoted (xs ++ x ∷ []) (noted es x)
     → AllNoted (xs ++ x ∷ []) (if b
-    then (e.0, copy_note (cond b (Some e.1) (noted_at es x.1.0.0)) x.0 (count x) (digest_of x.1.1))
+    then (e.0, copy_note (cond b (Some e.1) (noted_at es x.1.0.0)) x.0 x.1.0.1 (digest_of x.1.1))
     ∷ es
     else e ∷ insert_entry same_key es x.1.0.0
-    (copy_note (cond b (Some e.1) (noted_at es x.1.0.0)) x.0 (count x) (digest_of x.1.1)))
+    (copy_note (cond b (Some e.1) (noted_at es x.1.0.0)) x.0 x.1.0.1 (digest_of x.1.1)))
 noted_here xs x e es true is (h, hs) rest = (
   note_if xs x e.0 e.1 (agrees e.1.blocks e.1.digest x) refl (one_key x.1.0.0 e.0 is) h,
   all_more xs (x ∷ []) es hs,
@@ -175,7 +233,7 @@ of_copies : (xs : List Placed) (image : ℕ) (c : Copied) (ys : List Copy) → A
     → AllNoted (xs ++ map (λ y. (image, y)) ys) (with_copies image c ys).notes
 of_copies xs image c [] h = subst (λ l. AllNoted l c.notes) (sym (append-nil xs)) h
 of_copies xs image c (y ∷ ys) h =
-    let next = with_good c image y.0.0 y.0.1.blocks (digest_of y.1) in
+    let next = with_good c image y.0.0 y.0.1 (digest_of y.1) in
     subst (λ l. AllNoted l (with_copies image next ys).notes)
     (append_assoc xs ((image, y) ∷ []) (map (λ z. (image, z)) ys))
     (of_copies (xs ++ (image, y) ∷ []) image next ys (all_noted xs (image, y) c.notes h))
@@ -243,43 +301,15 @@ all_counted gives remaining shelf number (sight ∷ sights) c last d
     (counted_in (option_map remaining image) sight c mid is)
     (all_counted gives remaining next (number + 1) sights mid last d are)
 
--- ---- copies that do not agree are different
+-- ---- together
 
-same_test : (a b m n : ℕ) → a ≡ b → m ≡ n → ((a == b) && (m == n)) ≡ true
-same_test a b m n e f = grind (arith, nat_tests, e, f)
-
-apart : (xs : List Placed) (key : SectionKey) (n : CopyNote) (j : ℕ) → AllCounted xs
-    → (h : NoteOf xs key n) → Other xs key n.blocks n.digest j → CopiesDiffer xs key n.image j
-apart xs key n j counts h o = record {
-  one = h.copy;
-  two = o.copy;
-  one_in = h.there;
-  two_in = o.there;
-  one_key = h.of_key;
-  two_key = o.of_key;
-  one_on = h.on;
-  two_on = o.on;
-  differ = λ same.
-      let long = λ (x : Placed) (i : IsIn xs x).
-      of_all (λ (y : Placed). y.1.0.1.blocks ≡ length y.1.1) xs x counts i in
-      let many : n.blocks ≡ count o.copy =
-      sym h.counted ∙ long h.copy h.there ∙ ap length same ∙ sym (long o.copy o.there) in
-      let one : n.digest ≡ digest_of o.copy.1.1 = sym h.digested ∙ ap digest_of same in
-      let yes : agrees n.blocks n.digest o.copy ≡ true =
-      same_test n.blocks (count o.copy) n.digest (digest_of o.copy.1.1) many one in
-      let no : true ≡ false = sym yes ∙ o.differs in
-      cc no;
-}
-
-pub conflicts_are_real : {L R : Type 0} (gives : Mounting L R) (remaining : R → Option (List ℕ))
+-- each record about copies describes copies that were found
+pub note_is : {L R : Type 0} (gives : Mounting L R) (remaining : R → Option (List ℕ))
     (shelf last : L) (sights : List (Option ImageSurvey)) (d : Found)
     (v : AreViewed gives remaining shelf 0 sights nothing_found last d) (key : SectionKey)
-    (n : CopyNote) (other : ℕ) → IsIn {X = Noted} d.copies.notes (key, n) → n.other ≡ Some other
-    → CopiesDiffer (all_placed gives remaining shelf 0 sights nothing_found last d v) key n.image
-    other
-conflicts_are_real gives remaining shelf last sights d v key n other is e =
+    (n : CopyNote) → IsIn {X = Noted} d.copies.notes (key, n)
+    → NoteOf (all_placed gives remaining shelf 0 sights nothing_found last d v) key n
+note_is gives remaining shelf last sights d v key n is =
     let all = all_placed gives remaining shelf 0 sights nothing_found last d v in
-    let h = of_all (λ (x : Noted). NoteOf all x.0 x.1) d.copies.notes (key, n)
-    (of_images gives remaining [] shelf 0 sights nothing_found last d v tt) is in
-    apart all key n other
-    (all_counted gives remaining shelf 0 sights nothing_found last d v) h (h.other other e)
+    of_all (λ (x : Noted). NoteOf all x.0 x.1) d.copies.notes (key, n)
+    (of_images gives remaining [] shelf 0 sights nothing_found last d v tt) is

@@ -33,11 +33,11 @@ with_copies-append : (image : ℕ) (c : Copied) (xs ys : List Copy)
     → with_copies image c (xs ++ ys) ≡ with_copies image (with_copies image c xs) ys
 with_copies-append image c [] ys = refl
 with_copies-append image c (x ∷ xs) ys =
-    with_copies-append image (with_good c image x.0.0 x.0.1.blocks (digest_of x.1)) xs ys
+    with_copies-append image (with_good c image x.0.0 x.0.1 (digest_of x.1)) xs ys
 
 -- the record of a section that was completed
 told_if : (image : ℕ) (c : Copied) (t : Told) (blocks : List (List ℕ)) (b : Bool)
-    → (if b then with_good c image t.0 t.1.blocks (digest_of blocks) else c)
+    → (if b then with_good c image t.0 t.1 (digest_of blocks) else c)
     ≡ with_copies image c (if b then (t, blocks) ∷ [] else [])
 told_if image c t blocks true = refl
 told_if image c t blocks false = refl

@@ -9,7 +9,7 @@ use Rattle.tape_run.specs.{declared.survey.view.ImageSurvey.ImageSurvey, SurveyD
 use Rattle.tape_run.specs.SurveyConflicts.{Placed, placed_in, all_placed, IsIn, TellsDispute}
 use Rattle.tape_run.specs.SurveyCopies.{with_good, with_copies, disputed_by, disputed, disputed_on}
 use Rattle.tape_run.specs.SurveyRead.{Found, nothing_found, IsViewed, AreViewed}
-use Rattle.tape_run.proofs.SurveySound.{same_nat}
+use Rattle.tape_run.proofs.SurveyAgreed.{same_nat}
 
 -- ---- each copy was recorded
 
@@ -21,7 +21,7 @@ held_copies : (image : ℕ) (c : Copied) (ys : List Copy)
     → (with_copies image c ys).held ≡ c.held ++ map as_held (map (λ y. (image, y)) ys)
 held_copies image c [] = sym (append-nil c.held)
 held_copies image c (y ∷ ys) =
-    held_copies image (with_good c image y.0.0 y.0.1.blocks (digest_of y.1)) ys
+    held_copies image (with_good c image y.0.0 y.0.1 (digest_of y.1)) ys
     ∙ append_assoc c.held ((image, y.0.0) ∷ []) (map as_held (map (λ z. (image, z)) ys))
 
 held_image : (reel : Reel) (sight : Option ImageSurvey) (c d : Found)

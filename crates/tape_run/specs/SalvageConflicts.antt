@@ -1,7 +1,9 @@
 -- Copies of one section that contradict each other.
 use Rattle.std.specs.Prelude.{◌≡◌, ℕ, zero, suc, ◌+◌, ◌==◌, ◌&&◌, ◌||◌, not, Bool, false}
 use Rattle.std.specs.Prelude.{if◌then◌else◌, List, [], ◌∷◌, ◌++◌, Option, Some, None}
+use Rattle.tape_blocks.specs.Faults.{bool_eq}
 use Rattle.tape_run.specs.declared.salvage.copies.SectionCopy.{SectionCopy}
+use Rattle.tape_run.specs.declared.salvage.walk.Closing.{Closing}
 use Rattle.tape_run.specs.{SalvageCopies.is_complete, SalvageChoice.firsts, SalvageChoice.IsBest}
 use Rattle.tape_run.specs.{SalvageLine.conflict_line, SalvageTaking.image_number}
 use Rattle.tape_run.specs.SalvageChoice.{form_of_file}
@@ -13,12 +15,20 @@ abbrev pub have_same_blocks : SectionCopy → SectionCopy → Bool
 have_same_blocks best c =
     (c.section.blocks == best.section.blocks) && (c.section.digest == best.section.digest)
 
--- both are complete copies, but have different blocks
+-- both closed, and the file ends with both of them or with none
+abbrev pub end_alike : Option Closing → Option Closing → Bool
+end_alike None other = false
+end_alike (Some k) None = false
+end_alike (Some k) (Some l) = bool_eq k.eof l.eof
+
+-- both are complete copies, but have different blocks, or the file ends with one of the two and
+-- continues after the other
 abbrev pub are_unlike : SectionCopy → SectionCopy → Bool
-are_unlike best c = is_complete best && (is_complete c && not (have_same_blocks best c))
+are_unlike best c = is_complete best
+    && (is_complete c && not (have_same_blocks best c && end_alike best.closed c.closed))
 
 -- Both are copies of one section, but contradict each other: both are complete and have different
--- blocks, or their HDR1 or their recorded forms differ.
+-- blocks or end otherwise, or their HDR1 or their recorded forms differ.
 abbrev pub are_conflicting : SectionCopy → SectionCopy → Bool
 are_conflicting best c = (c.section.key.sect == best.section.key.sect)
     && (are_unlike best c

@@ -5,7 +5,8 @@ use Rattle.tape_run.specs.{declared.section.SectionKey.SectionKey, declared.surv
 use Rattle.tape_run.specs.{declared.survey.copies.CopyNote.CopyNote, Reeling.Mounting}
 use Rattle.tape_run.specs.{declared.survey.view.ImageSurvey.ImageSurvey, SurveySound.IsSound}
 use Rattle.tape_run.specs.{SurveySets.is_all, SurveyWording.image_text, SurveyWording.summary}
-use Rattle.tape_run.specs.SurveyConflicts.{IsIn, CopiesDiffer, TellsDispute, all_placed}
+use Rattle.tape_run.specs.SurveyConflicts.{IsIn, CopiesDiffer, EndsDiffer, TellsDispute}
+use Rattle.tape_run.specs.SurveyConflicts.{all_placed}
 use Rattle.tape_run.specs.SurveyCopies.{Noted, Held, disputed, disputed_on}
 use Rattle.tape_run.specs.SurveyRead.{Found, nothing_found, AreViewed}
 use Rattle.tape_run.specs.SurveyTally.{no_images, tally_from}
@@ -42,6 +43,10 @@ pub record Surveys {L R : Type 0} (y : Wording) (gives : Mounting L R)
   pub conflicts : (key : SectionKey) (n : CopyNote) (other : ℕ)
       → IsIn {X = Noted} found.copies.notes (key, n) → n.other ≡ Some other
       → CopiesDiffer (all_placed gives remaining shelf 0 sights nothing_found left found viewed) key
+      n.image other
+  pub ends : (key : SectionKey) (n : CopyNote) (other : ℕ)
+      → IsIn {X = Noted} found.copies.notes (key, n) → n.other_end ≡ Some other
+      → EndsDiffer (all_placed gives remaining shelf 0 sights nothing_found left found viewed) key
       n.image other
   -- an image is reported to be in conflict exactly if it has a good copy of a section whose good
   -- copies differ

@@ -7,6 +7,7 @@ use Rattle.tape_run.specs.declared.survey.{copies.CopyNote.CopyNote, Wording.Wor
 use Rattle.tape_run.specs.declared.section.SectionKey.{SectionKey}
 use Rattle.tape_run.specs.declared.survey.Wording.TheVariants.{Words, Rows}
 use Rattle.tape_run.specs.{SurveyCopies.Noted, Quoting.name_text, SurveyLine.trimmed_text}
+use Rattle.tape_run.specs.SurveyCopies.{opponent_of}
 
 -- the name of image number `image`, if it exists
 abbrev pub name_at : List (List ℕ) → ℕ → List ℕ
@@ -28,7 +29,7 @@ verdict_by names note None = codes "good, " ++ (decimal note.copies ++ codes " c
 verdict_by names note (Some other) = conflict_text names note.image other
 
 abbrev pub verdict_text : List (List ℕ) → CopyNote → List ℕ
-verdict_text names note = verdict_by names note note.other
+verdict_text names note = verdict_by names note (opponent_of note)
 
 -- the line of a section
 abbrev pub copy_line : List (List ℕ) → Noted → List ℕ
@@ -44,7 +45,7 @@ abbrev pub copy_row : List (List ℕ) → Noted → List ℕ
 copy_row names (key, note) =
     (codes "COPIES\t" ++ (trimmed_text key.set_id ++ (codes "\t" ++ (decimal key.file
     ++ (codes "\t" ++ (decimal key.sect ++ (codes "\t" ++ (decimal note.copies ++ codes "\t"))))))))
-    ++ name_at names note.image ++ other_cells names note.other
+    ++ name_at names note.image ++ other_cells names (opponent_of note)
 
 -- the text for a section with more
 abbrev pub copy_by : Wording → List (List ℕ) → Noted → List ℕ
@@ -54,7 +55,7 @@ copy_by Rows names x = copy_row names x
 -- the text for a section, unless it has only one good copy
 abbrev pub copy_text : Wording → List (List ℕ) → Noted → List ℕ
 copy_text y names x =
-    if (x.1.copies == 1) && not (is_some x.1.other) then [] else copy_by y names x
+    if (x.1.copies == 1) && not (is_some (opponent_of x.1)) then [] else copy_by y names x
 
 -- the texts for sections
 abbrev pub copies_text : Wording → List (List ℕ) → List Noted → List ℕ

@@ -64,6 +64,19 @@ pub record CopiesDiffer (xs : List Placed) (key : SectionKey) (first other : ℕ
   pub two_on : two.0 ≡ other
   pub differ : one.1.1 ≢ two.1.1
 
+-- Two of these are copies of one section, on two images, and the file ends with one of them and
+-- continues after the other.
+pub record EndsDiffer (xs : List Placed) (key : SectionKey) (first other : ℕ) : Type 0 where
+  pub one : Placed
+  pub two : Placed
+  pub one_in : IsIn xs one
+  pub two_in : IsIn xs two
+  pub one_key : one.1.0.0 ≡ key
+  pub two_key : two.1.0.0 ≡ key
+  pub one_on : one.0 ≡ first
+  pub two_on : two.0 ≡ other
+  pub differ : one.1.0.1.eof ≢ two.1.0.1.eof
+
 -- One of these copies is on this image and is a copy of this section, whose good copies differ; or
 -- none on this image is a copy of such a section.
 abbrev pub TellsDispute : List Placed → List Noted → ℕ → Option SectionKey → Type 0

@@ -1,8 +1,10 @@
--- The good copies of sections, compared by their data blocks.
+-- The good copies of sections, compared by their data blocks and by how they end.
 use Rattle.std.specs.Prelude.{ℕ, ◌+◌, ◌==◌, ◌&&◌, min, Bool, true, false, if◌then◌else◌, List, []}
 use Rattle.std.specs.Prelude.{◌∷◌, ◌++◌, Option, Some, None, is_some, option_map}
 use Rattle.std.specs.{List.flat_map, Map.lookup, Option.option_or}
 use Rattle.indexmap.specs.IndexMap.{insert_entry}
+use Rattle.tape_blocks.specs.Faults.{bool_eq}
+use Rattle.tape_run.specs.declared.section.Entry.{Entry}
 use Rattle.tape_image.specs.Tape.{TapeItem, block, mark}
 use Rattle.tape_run.specs.declared.survey.{copies.CopyNote.CopyNote, files.FileKey.FileKey}
 use Rattle.tape_run.specs.declared.{passing.Phase.Phase, section.SectionKey.SectionKey}
@@ -64,20 +66,43 @@ abbrev pub no_copies : Copied
 no_copies = record { notes = []; conflicts = []; held = [] }
 
 -- the record of a section after one more copy, which agrees with the first one
-abbrev pub with_same : CopyNote → CopyNote
-with_same n = record n { copies = min (n.copies + 1) 4294967295 }
+abbrev pub with_agreed : CopyNote → CopyNote
+with_agreed n = record n { copies = min (n.copies + 1) 4294967295 }
 
--- and after one more copy, on this image, which does not agree
+-- after one more copy, on this image, which has other data blocks
 abbrev pub with_other : CopyNote → ℕ → CopyNote
 with_other n image = record n { other = option_or n.other (Some image) }
 
--- The record of a section after one more good copy, which is on this image and has this number of
--- blocks and this digest: it agrees with the first copy if both are equal.
-abbrev pub copy_note : Option CopyNote → ℕ → ℕ → ℕ → CopyNote
-copy_note None image blocks digest =
-    record { image = image; blocks = blocks; digest = digest; copies = 1; other = None }
-copy_note (Some n) image blocks digest =
-    if (n.blocks == blocks) && (n.digest == digest) then with_same n else with_other n image
+-- and after one more copy, on this image, which has the same data blocks, but ends otherwise: the
+-- file ends with one of the two copies, and continues after the other
+abbrev pub with_other_end : CopyNote → ℕ → CopyNote
+with_other_end n image = record n { other_end = option_or n.other_end (Some image) }
+
+-- after one more copy with the same data blocks, on this image, which ends the file or does not
+abbrev pub with_same : CopyNote → ℕ → Bool → CopyNote
+with_same n image eof = if bool_eq n.eof eof then with_agreed n else with_other_end n image
+
+-- The record of a section after one more good copy, which is on this image, and has this entry and
+-- this digest: it agrees with the first copy if its number of blocks and digest are equal, and it
+-- ends alike.
+abbrev pub copy_note : Option CopyNote → ℕ → Entry → ℕ → CopyNote
+copy_note None image entry digest = record {
+  image = image;
+  blocks = entry.blocks;
+  digest = digest;
+  eof = entry.eof;
+  copies = 1;
+  other = None;
+  other_end = None;
+}
+copy_note (Some n) image entry digest = if (n.blocks == entry.blocks) && (n.digest == digest)
+    then with_same n image entry.eof
+    else with_other n image
+
+-- the image with a copy that contradicts the first one, if there is one: a copy with other data
+-- blocks, or else one that ends otherwise
+abbrev pub opponent_of : CopyNote → Option ℕ
+opponent_of n = option_or n.other n.other_end
 
 -- the record of the good copies of a section
 abbrev pub noted_at : List Noted → SectionKey → Option CopyNote
@@ -89,13 +114,13 @@ with_conflict files key differs =
     if differs then insert_entry same_file files (file_key key.set_id key.file) key.sect
     else files
 
--- after a good copy on this image, with this number of blocks and this digest
-abbrev pub with_good : Copied → ℕ → SectionKey → ℕ → ℕ → Copied
-with_good c image key blocks digest =
-    let note = copy_note (noted_at c.notes key) image blocks digest in
+-- after a good copy on this image, with this entry and this digest
+abbrev pub with_good : Copied → ℕ → SectionKey → Entry → ℕ → Copied
+with_good c image key entry digest =
+    let note = copy_note (noted_at c.notes key) image entry digest in
     record {
       notes = insert_entry same_key c.notes key note;
-      conflicts = with_conflict c.conflicts key (is_some note.other);
+      conflicts = with_conflict c.conflicts key (is_some (opponent_of note));
       held = c.held ++ (image, key) ∷ [];
     }
 
@@ -103,13 +128,13 @@ with_good c image key blocks digest =
 abbrev pub with_told : Copied → ℕ → Option Told → ℕ → Copied
 with_told c image None digest = c
 with_told c image (Some t) digest =
-    if is_good t.1.state then with_good c image t.0 t.1.blocks digest else c
+    if is_good t.1.state then with_good c image t.0 t.1 digest else c
 
 -- after good copies on this image
 abbrev pub with_copies : ℕ → Copied → List Copy → Copied
 with_copies image c [] = c
 with_copies image c (x ∷ xs) =
-    with_copies image (with_good c image x.0.0 x.0.1.blocks (digest_of x.1)) xs
+    with_copies image (with_good c image x.0.0 x.0.1 (digest_of x.1)) xs
 
 -- after the good copies that the items of this image contain
 abbrev pub copied_in : ℕ → Copied → List TapeItem → Copied
@@ -133,7 +158,7 @@ dispute_at c key = lookup (same_file key) c.conflicts
 -- two images with good copies of the section with this record that differ, if any
 abbrev pub opponents_by : Option CopyNote → Option (ℕ × ℕ)
 opponents_by None = None
-opponents_by (Some n) = option_map (λ other. (n.image, other)) n.other
+opponents_by (Some n) = option_map (λ other. (n.image, other)) (opponent_of n)
 
 -- those of this section of a file, if good copies of it differ
 abbrev pub opponents_in : List Noted → FileKey → Option ℕ → Option (ℕ × ℕ)
@@ -147,7 +172,7 @@ opponents_at c key = opponents_in c.notes key (dispute_at c key)
 -- good copies of the section with this record differ
 abbrev pub differs : Option CopyNote → Bool
 differs None = false
-differs (Some n) = is_some n.other
+differs (Some n) = is_some (opponent_of n)
 
 -- a good copy, if good copies of its section differ
 abbrev pub disputed_by : List Noted → Held → List Held

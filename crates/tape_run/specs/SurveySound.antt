@@ -14,9 +14,11 @@ abbrev pub IsWhole : Option ImageSurvey → Type 0
 IsWhole None = ⊥
 IsWhole (Some sight) = is_whole_sight sight ≡ true
 
--- two good copies of one section have the same number of blocks and the same digest
+-- two good copies of one section have the same number of blocks and the same digest, and the file
+-- ends with both of them or with none
 abbrev pub Agree : Placed → Placed → Type 0
 Agree x y = (x.1.0.1.blocks ≡ y.1.0.1.blocks) × (digest_of x.1.1 ≡ digest_of y.1.1)
+    × (x.1.0.1.eof ≡ y.1.0.1.eof)
 
 -- These images, on which this was found: each was opened and read to its end; something was found;
 -- each section that was found has a good copy; nothing is missing of any file; no section follows a

@@ -167,6 +167,21 @@ const ROWS: &[Row] = &[
         "CONFLICT 1 2 1\nSECTION 1 2 1\nSALVAGED 1\n",
         6,
     ),
+    // The file ends with one copy of its only section, and continues after the other.
+    (
+        &[(ONE, FIVE, b"aaaaa", true, END)],
+        &[FIRST],
+        false,
+        "CONFLICT 1 1 2\nSECTION 1 1 1\nSALVAGED 1\n",
+        6,
+    ),
+    (
+        &[FIRST],
+        &[(ONE, FIVE, b"aaaaa", true, END)],
+        false,
+        "CONFLICT 1 1 2\nSECTION 1 1 1\nGAP 2 - - 1\nSALVAGED 1\n",
+        6,
+    ),
     // The labels agree; one of the copies is not readable.
     (
         &[(ONE, FIVE, b"ccccc", false, END)],

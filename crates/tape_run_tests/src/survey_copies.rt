@@ -1,11 +1,11 @@
 //! Tests of surveys of images with several complete copies of a section, or one too many sections.
 use crate::image::{HDR1, Image, payroll};
-use crate::sections::{one_section, second_of_two};
+use crate::sections::{first_of_two, one_section, second_of_two};
 use crate::survey::{survey, told};
 use crate::volumes::EOF_ONE;
 use std::alloc::{AllocError, Global};
 use std::test::Fail;
-use tape_run::Wording;
+use tape_run::{Wording, survey_to};
 
 const AGREED: &str = "one.tap                   ok           volume ABC001, 1 section
 two.tap                   ok           volume ABC001, 1 section
@@ -40,6 +40,18 @@ FILE\tABC001\t1\tPAYROLL\t\tCOMPLETE\t\t\tCONFLICT\t\tF\t800\t80
 COPIES\tABC001\t1\t1\t2\t1.tap\t2.tap\tCONFLICT
 ";
 
+const ENDS_DIFFER: &str =
+    "IMAGE\t1.tap\tCONFLICT\tABC001\tABC001\t\t12\t1\t0\tMARKED\t\tvolume ABC001, \
+         1 section; section 1 of file 1: good copies differ
+IMAGE\t2.tap\tCONFLICT\tABC001\tABC001\t\t12\t1\t0\tMARKED\t\tvolume ABC001, \
+         1 section; section 1 of file 1: good copies differ
+IMAGE\t3.tap\tCONFLICT\tABC001\tABC001\t\t12\t1\t0\tMARKED\t\tvolume ABC001, \
+         1 section; section 1 of file 1: good copies differ
+SECTION\tABC001\t1\t1\tABC001\t3\tGOOD\tEOF
+FILE\tABC001\t1\tPAYROLL\t\tCOMPLETE\t\t\tCONFLICT\t\tF\t800\t80
+COPIES\tABC001\t1\t1\t2\t1.tap\t3.tap\tCONFLICT
+";
+
 /// Returns the example volume with another byte in its first block.
 fn changed(alloc: Global) -> Result<Image, AllocError> {
     let mut image = payroll(alloc)?;
@@ -72,6 +84,44 @@ fn copies(rt: HostRuntime) -> Result<(), Fail> {
         false,
         ROWS_OF_THREE,
     )
+}
+
+/// Copies with the same blocks are in conflict if the file ends with one of them and continues after
+/// the other, in either order and whatever other images there are.
+#[test]
+fn copies_that_end_otherwise(rt: HostRuntime) -> Result<(), Fail> {
+    let alloc = rt.alloc();
+    let (whole, first, second) = (payroll(alloc)?, first_of_two(alloc)?, second_of_two(alloc)?);
+    let [whole, first, second] = [&whole, &first, &second].map(|image| Some(
+        image.bytes.as_slice(),
+    ));
+    survey(
+        &rt,
+        &[whole, first],
+        &["one.tap", "two.tap"],
+        false,
+        DISPUTED,
+    )?;
+    told(
+        &rt,
+        &[whole, whole, first],
+        &["1.tap", "2.tap", "3.tap"],
+        Wording::Rows,
+        false,
+        ENDS_DIFFER,
+    )?;
+    for images in [
+        [whole, first, second],
+        [first, whole, second],
+        [second, first, whole],
+    ] {
+        let mut shelf = Vec::from_slice(alloc, &images)?;
+        let mut report = Vec::new(alloc);
+        let names = ["1.tap", "2.tap", "3.tap"];
+        let all = survey_to(alloc, &mut shelf, &names, Wording::Words, &mut report)?;
+        assert!(rt; !all);
+    }
+    Ok(())
 }
 
 /// A whole volume, and a second section of its only file.

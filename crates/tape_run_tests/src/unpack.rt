@@ -170,6 +170,15 @@ fn copies_in_conflict(rt: HostRuntime) -> Result<(), Fail> {
     let met = find_files(alloc, &mut shelf)?;
     let conflict = met.files.as_slice().first().and_then(|file| file.conflict);
     assert_eq!(rt; conflict, Some((1, 3)));
+    // Two copies with the same blocks, of which one ends the file.
+    let whole = payroll(alloc)?;
+    let whole = Some(whole.bytes.as_slice());
+    for images in [[whole, first, second], [first, whole, second]] {
+        let mut shelf = Vec::from_slice(alloc, &images)?;
+        let met = find_files(alloc, &mut shelf)?;
+        let conflict = met.files.as_slice().first().and_then(|file| file.conflict);
+        assert_eq!(rt; conflict, Some((0, 1)));
+    }
     Ok(())
 }
 

@@ -5,13 +5,14 @@ ghost use Rattle.std.specs.Io.KnownBytes.{Appends};
 ghost use Rattle.tape_image.specs.Written.{AppendsFront};
 ghost use Rattle.tape_run.specs.SalvageChoice.{last_section};
 ghost use Rattle.tape_run.specs.SalvageConflicts.{AreConflicts, are_conflicting, conflict_text};
-ghost use Rattle.tape_run.specs.SalvageConflicts.{has_conflict, text_if, are_unlike};
+ghost use Rattle.tape_run.specs.SalvageConflicts.{has_conflict, text_if, are_unlike, end_alike};
 ghost use Rattle.tape_run.specs.SalvageLabels.{are_of_one_file, are_same_forms, have_same_form};
 ghost use Rattle.tape_run.specs.SalvageLabels.{form_read, is_form_of, has_other, labels_text};
 ghost use Rattle.tape_run.specs.SalvageLabels.{are_other_labels, are_other_forms, is_named_copy};
 
 use crate::fault::WriteFailed;
 use crate::salvage::copies::{SectionCopy, best_copy, form_of_file, last_section};
+use crate::salvage::walk::Closing;
 use crate::text::write_line;
 use std::io::Write;
 use tape_core::Known;
@@ -26,13 +27,25 @@ fn are_other_labels(best: &SectionCopy, copy: &SectionCopy) -> bool
         || best.section.generation.bytes() != copy.section.generation.bytes()
 }
 
-/// Returns whether both copies are complete copies, but have different blocks.
+/// Returns whether both closed, and the file ends with both of them or with none.
+fn end_alike(one: &Option<Closing>, other: &Option<Closing>) -> bool
+    ensures { result ≡ end_alike one.now other.now }
+{
+    match (one, other) {
+        (Some(one), Some(other)) => one.eof == other.eof,
+        _ => false,
+    }
+}
+
+/// Returns whether both copies are complete copies, but have different blocks, or the file ends
+/// with one of the two and continues after the other.
 fn are_unlike(best: &SectionCopy, copy: &SectionCopy) -> bool
     ensures { result ≡ are_unlike best.now copy.now }
 {
     let same_blocks = copy.section.blocks == best.section.blocks
         && copy.section.digest == best.section.digest;
-    best.is_complete() && copy.is_complete() && !same_blocks
+    let alike = same_blocks && end_alike(&best.closed, &copy.closed);
+    best.is_complete() && copy.is_complete() && !alike
 }
 
 /// Returns whether the forms of both copies are recorded, and differ.
@@ -46,7 +59,7 @@ fn are_other_forms(one: &Option<Known>, other: &Option<Known>) -> bool
 }
 
 /// Returns whether both are copies of one section, but contradict each other: both are complete and
-/// have different blocks, or their HDR1 or their recorded forms differ.
+/// have different blocks or end otherwise, or their HDR1 or their recorded forms differ.
 fn are_conflicting(best: &SectionCopy, copy: &SectionCopy) -> bool
     ensures { result ≡ are_conflicting best.now copy.now }
 {

@@ -46,7 +46,7 @@ fn add_verdict(line: &mut Vec<u8>, names: &[&str], note: &CopyNote) -> Result<()
     ensures { OnOk result (line.new.items
         ≡ line.old.items ++ verdict_text (map (λ n. n.now) names.now) note.now) }
 {
-    match note.other {
+    match note.opponent() {
         Some(other) => add_conflict(line, names, note.image, other),
         None => {
             let (alloc, copies) = (*line.allocator(), note.copies);
@@ -89,7 +89,7 @@ fn add_row(
     let front = format!(in alloc; "COPIES\t{set_id}\t{file}\t{sect}\t{copies}\t")?;
     texts.extend_from_slice(front.as_bytes())?;
     add_name(texts, names, note.image)?;
-    let Some(other) = note.other else {
+    let Some(other) = note.opponent() else {
         return texts.extend_from_slice(b"\t\tAGREE\n");
     };
     texts.push(b'\t')?;
@@ -108,7 +108,7 @@ fn add_text(
     ensures { OnOk result (texts.new.items ≡ texts.old.items
         ++ copy_text wording (map (λ n. n.now) names.now) (key.now, note.now)) }
 {
-    if note.copies == 1 && note.other.is_none() {
+    if note.copies == 1 && note.opponent().is_none() {
         return Ok(());
     }
     match wording {

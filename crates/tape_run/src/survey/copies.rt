@@ -1,14 +1,14 @@
-//! The complete copies of sections, compared by their data blocks.
+//! The complete copies of sections, compared by their data blocks and by how they end.
 ghost use Rattle.std.specs.{Result.IsOkUnless, Prelude.◌≡◌, Prelude.OnOk, Prelude.IfOk};
 ghost use Rattle.tape_run.specs.SurveyCopies.{no_copies, copy_note, noted_at, with_told};
 ghost use Rattle.tape_run.specs.SurveyCopies.{dispute_at, differs, disputed, disputed_on};
-ghost use Rattle.tape_run.specs.SurveyCopies.{opponents_at, opponents_by};
+ghost use Rattle.tape_run.specs.SurveyCopies.{opponent_of, with_same, opponents_at, opponents_by};
 ghost use Rattle.tape_run.specs.declared.fault.RunFault.TheVariants as faults;
 
 use super::files::FileKey;
 use crate::fault::RunFault;
 use crate::met::Told;
-use crate::section::SectionKey;
+use crate::section::{Entry, SectionKey};
 use indexmap::IndexMap;
 use std::alloc::{AllocError, Global};
 use std::marker::Model;
@@ -22,10 +22,42 @@ pub struct CopyNote {
     pub blocks: u32,
     /// The digest of its data blocks.
     pub digest: u64,
+    /// Whether the file ends with it.
+    pub eof: bool,
     /// The number of copies that agree with this one, including itself.
     pub copies: u32,
-    /// The number of the image with the first copy that differs from it.
+    /// The number of the image with the first copy that has other data blocks.
     pub other: Option<usize>,
+    /// The number of the image with the first copy that has these data blocks but ends otherwise:
+    /// the file ends with one of the two, and continues after the other.
+    pub other_end: Option<usize>,
+}
+
+impl CopyNote {
+    /// Returns the number of the image with a copy that contradicts the first one, if there is one:
+    /// a copy with other data blocks, or else one that ends otherwise.
+    pub fn opponent(&self) -> Option<usize>
+        ensures { result ≡ opponent_of self.now }
+    {
+        self.other.or(self.other_end)
+    }
+
+    /// Returns the record after one more copy with these data blocks, on image number `image`,
+    /// which ends the file or does not.
+    fn with_same(&self, image: usize, eof: bool) -> CopyNote
+        ensures { result ≡ with_same self.now image eof }
+    {
+        if self.eof == eof {
+            return CopyNote {
+                copies: self.copies.saturating_add(1),
+                ..*self
+            };
+        }
+        CopyNote {
+            other_end: self.other_end.or(Some(image)),
+            ..*self
+        }
+    }
 }
 
 /// The record of the complete copies of each section.
@@ -89,9 +121,9 @@ impl Copies {
             return Ok(());
         }
         self.held.push((image, key))?;
-        let note = self.note_of(image, &key, entry.blocks, digest);
+        let note = self.note_of(image, &key, &entry, digest);
         self.notes.insert(key, note)?;
-        if note.other.is_some() {
+        if note.opponent().is_some() {
             let file = FileKey {
                 set_id: key.set_id,
                 file: key.file,
@@ -102,24 +134,25 @@ impl Copies {
     }
 
     /// Returns the record of section `key` after one more complete copy.
-    fn note_of(&self, image: usize, key: &SectionKey, blocks: u32, digest: u64) -> CopyNote
-        ensures { result ≡ copy_note (noted_at self.now.notes key.now) image blocks digest }
+    fn note_of(&self, image: usize, key: &SectionKey, entry: &Entry, digest: u64) -> CopyNote
+        ensures { result ≡ copy_note (noted_at self.now.notes key.now) image entry.now digest }
     {
         match self.notes.get(key) {
-            Some(note) if note.blocks == blocks && note.digest == digest => CopyNote {
-                copies: note.copies.saturating_add(1),
-                ..*note
-            },
+            Some(note) if note.blocks == entry.blocks && note.digest == digest => {
+                note.with_same(image, entry.eof)
+            }
             Some(note) => CopyNote {
                 other: note.other.or(Some(image)),
                 ..*note
             },
             None => CopyNote {
                 image,
-                blocks,
+                blocks: entry.blocks,
                 digest,
+                eof: entry.eof,
                 copies: 1,
                 other: None,
+                other_end: None,
             },
         }
     }
@@ -148,7 +181,7 @@ impl Copies {
         ensures { result ≡ differs (noted_at self.now.notes key.now) }
     {
         match self.notes.get(key) {
-            Some(note) => note.other.is_some(),
+            Some(note) => note.opponent().is_some(),
             None => false,
         }
     }
@@ -174,7 +207,7 @@ fn opponents_of(note: Option<CopyNote>) -> Option<(usize, usize)>
     ensures { result ≡ opponents_by note }
 {
     let note = note?;
-    match note.other {
+    match note.opponent() {
         Some(other) => Some((note.image, other)),
         None => None,
     }

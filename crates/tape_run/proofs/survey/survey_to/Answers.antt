@@ -3,8 +3,8 @@ use Rattle.std.proofs.lemmas.List.{length-map}
 use Rattle.std.specs.Io.KnownBytes.{Appends}
 use Rattle.tape_image.specs.Written.{AppendsFront}
 use Rattle.tape_run.specs.Survey.{survey_text}
-use Rattle.tape_run.proofs.{SurveyConflicts.conflicts_are_real, SurveySound.all_is_sound}
-use Rattle.tape_run.proofs.{SurveyDisputes.disputes_are_told}
+use Rattle.tape_run.proofs.SurveyDiffers.{conflicts_are_real, ends_are_real}
+use Rattle.tape_run.proofs.{SurveySound.all_is_sound, SurveyDisputes.disputes_are_told}
 use Rattle.tape_run.proofs.survey.survey_to.Goals as goal
 
 pub returns-in-Ok-pass_on-clause-ok : goal.returns-in-Ok-pass_on-clause-ok
@@ -28,6 +28,8 @@ returns-in-Ok-pass_on-clause-ok g c =
           c.read_images.new.images sights found viewed
           (sym c.in-Ok-survey_text.ensures.all ∙ e);
       conflicts = conflicts_are_real g.L.ImageSource.gives g.R.Read.remaining c.args.images.now
+          c.read_images.new.images sights found viewed;
+      ends = ends_are_real g.L.ImageSource.gives g.R.Read.remaining c.args.images.now
           c.read_images.new.images sights found viewed;
       disputes = disputes_are_told g.L.ImageSource.gives g.R.Read.remaining c.args.images.now
           c.read_images.new.images sights found viewed;
