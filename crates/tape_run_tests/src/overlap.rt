@@ -63,3 +63,39 @@ fn other_data_are_found(rt: HostRuntime) -> Result<(), Fail> {
     let front = cut(alloc, 400)?;
     finds(&rt, begun, front.bytes.as_slice(), None)
 }
+
+/// Blocks before an unreadable one are compared with the first ones of the session, and those after
+/// it with its last ones.
+#[test]
+fn other_data_before_an_unreadable_block(rt: HostRuntime) -> Result<(), Fail> {
+    let alloc = rt.alloc();
+    let four = [
+        (0, 10, true),
+        (10, 20, true),
+        (20, 25, true),
+        (25, 30, false),
+    ];
+    let first = volume(alloc, &four)?;
+    let first = first.bytes.as_slice();
+    // The same blocks, the second of them unreadable; another first block; another third block.
+    let rows = [
+        ([(0, 10, true), (10, 20, false), (20, 25, true)], false),
+        ([(5, 15, true), (10, 20, false), (20, 25, true)], true),
+        ([(0, 10, true), (10, 20, false), (25, 30, true)], true),
+    ];
+    for ([one, two, three], differs) in rows {
+        let image = volume(alloc, &[one, two, three, (25, 30, true)])?;
+        finds(&rt, first, image.bytes.as_slice(), Some(differs))?;
+    }
+    // The last block that the session has is unreadable; the block before it is, or is not, another.
+    let begun = cut(alloc, 1884)?;
+    let begun = begun.bytes.as_slice();
+    for (from, differs) in [(0, false), (10, true)] {
+        let image = volume(
+            alloc,
+            &[(from, from + 10, true), (10, 20, false), (20, 25, true)],
+        )?;
+        finds(&rt, begun, image.bytes.as_slice(), Some(differs))?;
+    }
+    Ok(())
+}

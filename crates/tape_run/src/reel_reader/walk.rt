@@ -171,3 +171,58 @@ pub fn skip_to<S: PartWalk>(sink: &mut S, weight: u64) -> Result<bool, SinkFault
     }
     Ok(true)
 }
+
+/// Begins a walk anew after parts of this weight, if it is given. Returns whether leading parts have
+/// exactly this weight.
+fn begins<S: PartWalk>(sink: &mut S, before: Option<u64>) -> Result<bool, SinkFault>
+    ensures kept { (parts : List Portion) → S.holds sink.old parts → S.holds sink.new parts }
+    ensures crash { BringsNoMore S.PartSink sink.old sink.new }
+    ensures calm { OnOk result (S.refusals sink.new ≡ S.refusals sink.old) }
+    ensures cause { IfErr result (λ fault.
+        IsRefused S.refusals S.refuses sink.old fault sink.new) }
+{
+    match before {
+        Some(before) => skip_to(sink, before),
+        None => Ok(true),
+    }
+}
+
+/// Returns whether the next parts of a walk are the first `count` parts of a block, or all of them.
+fn has_some<S: PartWalk>(
+    sink: &mut S,
+    shape: &Shape,
+    block: &[u8],
+    count: Option<u32>,
+) -> Result<bool, SinkFault>
+    ensures kept { (parts : List Portion) → S.holds sink.old parts → S.holds sink.new parts }
+    ensures crash { BringsNoMore S.PartSink sink.old sink.new }
+    ensures calm { OnOk result (S.refusals sink.new ≡ S.refusals sink.old) }
+    ensures cause { IfErr result (λ fault.
+        IsRefused S.refusals S.refuses sink.old fault sink.new) }
+{
+    match count {
+        Some(count) => has_front(sink, shape, block, count),
+        None => has_next(sink, shape, block),
+    }
+}
+
+/// Does the same, with a walk that begins anew after parts of weight `before`, if it is given.
+pub fn has_parts<S: PartWalk>(
+    sink: &mut S,
+    before: Option<u64>,
+    shape: &Shape,
+    block: &[u8],
+    count: Option<u32>,
+) -> Result<bool, SinkFault>
+    ensures kept { (parts : List Portion) → S.holds sink.old parts → S.holds sink.new parts }
+    ensures crash { BringsNoMore S.PartSink sink.old sink.new }
+    ensures calm { OnOk result (S.refusals sink.new ≡ S.refusals sink.old) }
+    ensures cause { IfErr result (λ fault.
+        IsRefused S.refusals S.refuses sink.old fault sink.new) }
+{
+    let found = begins(sink, before)?;
+    if !found {
+        return Ok(false);
+    }
+    has_some(sink, shape, block, count)
+}

@@ -9,7 +9,7 @@ ghost use Rattle.tape_run.specs.Steps.{IsRefused};
 use super::Session;
 use crate::fault::RunFault;
 use crate::reel_reader::event_of;
-use crate::reel_reader::walk::{has_front, has_next, skip_to};
+use crate::reel_reader::walk::{has_parts, skip_to};
 use std::io::Read;
 use tape_blocks::{Parts, Shape, check_block};
 use tape_core::{Answer, Expected, PartWalk, ReaderCore, SinkFault, goes_on_at};
@@ -17,18 +17,23 @@ use tape_image::{ImageBuffer, ImageFault, ImageReader, Item};
 use tape_set::Position;
 
 /// The blocks that an image and a session have of one section: those that the session would skip on
-/// the image, from the one after the last unreadable one on.
+/// the image, up to the first unreadable one, and from the one after the last unreadable one on.
 #[derive(Clone, Copy, PartialEq, Eq)]
 pub struct Overlap {
     /// The number of the block at which the session continues, counted from 0 in the section.
     block: u32,
     /// The number of parts of this block that the session has.
     part: u32,
-    /// The number of the first block of the overlap.
+    /// The number of the first unreadable block, or 0 if none of them is unreadable.
+    front: u32,
+    /// The number of the block after the last unreadable one, or 0 if none is unreadable.
     from: u32,
-    /// The weight of the parts that the blocks have on the image, with the first parts of the block
-    /// at which the session continues; the maximum if the image has an item that is no such block.
+    /// The weight of the parts that the blocks from there on have on the image, with the first parts
+    /// of the block at which the session continues; the maximum if the image has an item that is no
+    /// such block.
     weight: u64,
+    /// The weight of the session's parts before these.
+    before: u64,
     /// The byte offset of the section's data in the image.
     place: u64,
 }
@@ -67,11 +72,24 @@ impl Overlap {
             // The core refuses a mark that comes before a block that was delivered.
             Ok(Some(Item::Mark)) => self.weight = u64::MAX,
             _ => {
+                if self.from == 0 {
+                    self.front = seen;
+                }
                 self.from = seen.saturating_add(1);
                 self.weight = 0;
             }
         }
         is_last
+    }
+
+    /// Returns the weight of the session's parts before those of block `seen`, if the walk over them
+    /// begins anew there, because blocks before it are unreadable.
+    fn start_at(&self, seen: u32) -> Option<u64> {
+        if self.front > 0 && self.from == seen {
+            Some(self.before)
+        } else {
+            None
+        }
     }
 
     /// Compares an item of an image with the next parts of the walk over a sink, before a core
@@ -97,13 +115,10 @@ impl Overlap {
             return Ok(Some(true));
         }
         match told {
-            Ok(Some(Item::Block(bytes))) if self.from <= seen => {
+            Ok(Some(Item::Block(bytes))) if seen < self.front || self.from <= seen => {
                 let content = core.as_read(wide, bytes);
-                let is_same = if is_last {
-                    has_front(sink, &shape, content, self.part)?
-                } else {
-                    has_next(sink, &shape, content)?
-                };
+                let count = if is_last { Some(self.part) } else { None };
+                let is_same = has_parts(sink, self.start_at(seen), &shape, content, count)?;
                 Ok(if is_last || !is_same {
                     Some(is_same)
                 } else {
@@ -249,8 +264,10 @@ impl<S: PartWalk> Session<S> {
         let mut overlap = Overlap {
             block,
             part,
+            front: 0,
             from: 0,
             weight: 0,
+            before: 0,
             place: 0,
         };
         let Ok(buffer) = ImageBuffer::new(self.alloc) else {
@@ -285,6 +302,14 @@ impl<S: PartWalk> Session<S> {
         if sect == 1 && overlap.from == 0 && before > 0 {
             return Ok(true);
         }
+        // Only of section 1 is it known where its first block is among the session's parts.
+        let front = if sect == 1 { overlap.front } else { 0 };
+        let start = if front > 0 { 0 } else { before };
+        let overlap = Overlap {
+            front,
+            before,
+            ..*overlap
+        };
         let Ok(buffer) = ImageBuffer::new(self.alloc) else {
             return Err(RunFault::OutOfMemory);
         };
@@ -292,7 +317,7 @@ impl<S: PartWalk> Session<S> {
         let mut core = self.core_before();
         let wide = self.reel_reader.wide;
         let sink = &mut self.reel_reader.sink;
-        let ends = ends_with(overlap, &mut core, wide, &mut image, sink, before);
+        let ends = ends_with(&overlap, &mut core, wide, &mut image, sink, start);
         image.into_device();
         let is_same = match ends {
             Ok(is_same) => is_same,
