@@ -237,7 +237,7 @@ stops_at_end {S} {L} {R} gs size gives remaining old mid new shelf left leaves s
             (
               left_walked gs back _ old mid new held now
                   (last_then gs old t.mid mid held before now first last) walked has_now,
-              stopped_walked gs remaining back mid new now fault has_now walked,
+              stopped_walked gs remaining back again mid new now fault has_now walked,
             ),
             tells_then said between says _ e.want e.records (seen gs mid now) lines
                 (e.tells now has_now),

@@ -1,6 +1,9 @@
 -- Images opened for a session, perhaps after a walk over its sink.
 use Rattle.std.proofs.Common.{◌≡◌, ◌⊎◌, inl, inr, refl, sym, ap, subst, Bool, ◌∙◌, ℕ, List}
-use Rattle.std.proofs.Common.{Option}
+use Rattle.std.proofs.Common.{Option, Result, IfErr, false}
+use Rattle.std.proofs.lemmas.Result.{IfErr-weaker}
+use Rattle.tape_set.specs.declared.position.Want.{Want}
+use Rattle.tape_run.specs.Extracting.{Stops}
 use Rattle.tape_core.specs.{State.State, declared.sink.PartSink.Ghosts, Weight.IsFront}
 use Rattle.tape_core.specs.declared.sink.SinkFault.{SinkFault}
 use Rattle.tape_run.specs.declared.fault.RunFault.{RunFault}
@@ -96,6 +99,24 @@ pub reading_fails : {S L R : Type 0} (g : Ghosts S) (size : ℕ) (gives : Mounti
 reading_fails g size gives remaining back again old new shelf left said says fault stops fails =
     fails_by g (RefusesAny g (λ x y z. ⊥)) g.refuses_change back back fault old new refl (no_walk g)
     fails
+
+-- an engine that opens images as they are reads, or ends its output
+pub reads_or : {S X : Type 0} (g : Ghosts S) (back : Bool) (fault : EngineFault)
+    (old new : SessionState S) → ExtractFails g (RefusesAny g (λ x y z. ⊥)) back fault old new ⊎ X
+    → ReadingFails g back fault old new ⊎ X
+reads_or g back fault old new (inl e) = inl (fails_by g (RefusesAny g (λ x y z. ⊥))
+    g.refuses_change back back fault old new refl (no_walk g) e)
+reads_or g back fault old new (inr x) = inr x
+
+pub streams : {S L R A : Type 0} (g : Ghosts S) (size : L → ℕ) (gives : Mounting L R)
+    (remaining : R → Option (List ℕ)) (old new : SessionState S) (shelf left : L)
+    (leaves : Type 0 → Option Want → Seen → Type 0) (said says : Option (List ℕ))
+    (X : EngineFault → Type 0) (result : Result A EngineFault)
+    → IfErr result (Stops g size gives remaining false false old new shelf left leaves said says)
+    → IfErr result (λ f. ExtractFails g (RefusesAny g (λ x y z. ⊥)) false f old new ⊎ X f)
+    → IfErr result (λ f. ReadingFails g false f old new ⊎ X f)
+streams g size gives remaining old new shelf left leaves said says X result stops fails =
+    IfErr-weaker result _ _ (λ f e. reads_or g false f old new e) fails
 
 pub any_more : {S : Type 0} (g : Ghosts S) (walk : S → SinkFault → S → Type 0) (a : S)
     (f : SinkFault) (b : S) → RefusesAny g (λ x y z. ⊥) a f b → RefusesAny g walk a f b

@@ -1,13 +1,13 @@
 -- Where a session is after a fault.
 use Rattle.std.proofs.Common.{◌≢◌, ℕ, Bool, List, [], ◌∷◌, Option, Some, None, IfSome, refl, ap}
-use Rattle.std.proofs.Common.{◌∙◌, inr}
+use Rattle.std.proofs.Common.{◌∙◌, inr, ◌≡◌}
 use Rattle.tape_blocks.specs.Block.{Portion}
 use Rattle.tape_image.specs.Reader.{IfKnown}
 use Rattle.tape_set.specs.declared.position.Position.TheVariants.{Finished}
 use Rattle.tape_core.proofs.Crashes.{only_same}
 use Rattle.tape_core.specs.{Place.rest_of, declared.sink.PartSink.Ghosts, Table.mount_of}
 use Rattle.tape_run.specs.{Crash.IsWalked, Given.is_device, Reels.Reads, Seen.Seen, Seen.seen}
-use Rattle.tape_run.specs.Reeling.{Opened, Follows, IsNoted, counts_differ}
+use Rattle.tape_run.specs.Reeling.{Opened, Follows, IsNoted, is_suspect}
 use Rattle.tape_run.specs.{SessionState.SessionState, Steps.Reeled}
 use Rattle.tape_run.specs.Stopping.{IsStopped, NotNoted, ReadsOnly, StopsAt}
 use Rattle.tape_run.specs.{declared.fault.EngineFault.EngineFault, declared.fault.RunFault.RunFault}
@@ -17,10 +17,10 @@ use Rattle.tape_run.proofs.{Notes.front_self, Notes.front_trans, Shown.some_map,
 
 -- a walk over its sink leaves a session unmoved
 pub stopped_walked : {S R : Type 0} (g : Ghosts S) (remaining : R → Option (List ℕ))
-    (back : Bool) (a b : SessionState S) (held : List Portion) (fault : EngineFault)
+    (back spares : Bool) (a b : SessionState S) (held : List Portion) (fault : EngineFault)
     → g.holds a.sink held → IsWalked g a b
-    → IsStopped g remaining back (seen g a held) None fault b
-stopped_walked g remaining back a b held fault has walked = (
+    → IsStopped g remaining back spares (seen g a held) None fault b
+stopped_walked g remaining back spares a b held fault has walked = (
   held,
   (λ live. walked.kept held has),
   record {
@@ -45,9 +45,9 @@ session_walked g a = record {
 
 -- nothing was done
 pub stopped_there : {S R : Type 0} (g : Ghosts S) (remaining : R → Option (List ℕ))
-    (back : Bool) (a : SessionState S) (held : List Portion) (fault : EngineFault)
-    → g.holds a.sink held → IsStopped g remaining back (seen g a held) None fault a
-stopped_there g remaining back a held fault has = (
+    (back spares : Bool) (a : SessionState S) (held : List Portion) (fault : EngineFault)
+    → g.holds a.sink held → IsStopped g remaining back spares (seen g a held) None fault a
+stopped_there g remaining back spares a held fault has = (
   held,
   (λ live. has),
   record {
@@ -60,12 +60,12 @@ stopped_there g remaining back a held fault has = (
 )
 
 -- a reel was read, and the step after it failed
-pub step_stops : {R : Type 0} (remaining : R → Option (List ℕ)) (back : Bool) (image : R)
+pub step_stops : {R : Type 0} (remaining : R → Option (List ℕ)) (back spares : Bool) (image : R)
     (left : Option (List ℕ)) (answer : ReelAnswer) (fault : RunFault) (old mid new : Seen)
     → IfSome (remaining image) (λ bytes. Reeled bytes left (is_device answer.fault) old mid)
-    → NotNoted back (counts_differ answer.answer) fault mid new
-    → StopsAt remaining back old (Some image) (Run fault) new
-step_stops remaining back image left answer fault old mid new r n =
+    → NotNoted back (is_suspect spares answer) fault mid new
+    → StopsAt remaining back spares old (Some image) (Run fault) new
+step_stops remaining back spares image left answer fault old mid new r n =
     some_map (remaining image) _ _ (λ bytes s. inr (left, answer, mid, s, n)) r
 
 -- the turn of an image that was opened
@@ -76,9 +76,10 @@ pub one_turn : {S : Type 0} (g : Ghosts S) (back spares : Bool) (a b c : Session
     o.answer b.core)
     → IfSome o.had (λ bytes. Reeled bytes o.left (is_device o.answer.fault) (seen g a held)
     (seen g b now))
-    → IsNoted back spares (counts_differ o.answer.answer) o.noted (seen g b now) (seen g c last)
+    → IsNoted back spares o.suspect o.noted (seen g b now) (seen g c last)
+    → o.suspect ≡ is_suspect spares o.answer
     → Follows back spares a.core (seen g a held) (Some o ∷ []) c.core (seen g c last)
-one_turn g back spares a b c o held now last waits answers reeled saved = (
+one_turn g back spares a b c o held now last waits answers reeled saved doubt = (
   c.core,
   seen g c last,
   record {
@@ -86,6 +87,7 @@ one_turn g back spares a b c o held now last waits answers reeled saved = (
     behind = b.core;
     answers = answers;
     reeled = noted back spares o.had o (seen g a held) (seen g b now) (seen g c last) reeled saved;
+    doubt = doubt;
     place = refl;
   },
   (refl, refl),

@@ -6,7 +6,7 @@ use Rattle.tape_core.specs.State.{State}
 use Rattle.tape_run.specs.{Given.is_device, Seen.Seen, Runs.Runs, Steps.Reeled}
 use Rattle.tape_run.specs.declared.script.{Step.Step, Step.TheVariants.Reel}
 use Rattle.tape_run.proofs.Headline.{headline, took_so_many}
-use Rattle.tape_run.specs.Reeling.{counts_differ, IsNoted, step_behind, notes_behind, Turn, Follows}
+use Rattle.tape_run.specs.Reeling.{IsNoted, step_behind, notes_behind, Turn, Follows}
 use Rattle.tape_run.specs.Reeling.{steps_of, AreTold, AreSteps, failed_in, left_in}
 
 -- one reel, and the calls after it
@@ -51,7 +51,7 @@ made back spares core old (None ∷ turns) last new bytes (waits, f) told =
     made back spares core old turns last new bytes f told
 made back spares core old (Some o ∷ turns) last new [] f told = absurd told
 made back spares core old (Some o ∷ turns) last new (b ∷ bs) (next, behind, r, f) (had, told) =
-    let doubtful = counts_differ o.answer.answer in
+    let doubtful = o.suspect in
     let (mid, reeled, noted) = subst (λ h. IfSome h (λ bytes. (mid : Seen) × Reeled bytes o.left
     (is_device o.answer.fault) old mid × IsNoted back spares doubtful o.noted mid behind)) had
     r.reeled in

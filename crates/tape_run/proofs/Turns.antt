@@ -5,7 +5,7 @@ use Rattle.std.proofs.{Common.append-nil, Common.true, Common.false, KnownBytes.
 use Rattle.std.specs.Io.KnownBytes.{Appends}
 use Rattle.tape_image.specs.Written.{AppendsFront}
 use Rattle.tape_core.specs.State.{State}
-use Rattle.tape_run.specs.Reeling.{counts_differ, IsNoted, IsKeptFor, Turn, Opened, answer_of}
+use Rattle.tape_run.specs.Reeling.{IsNoted, IsKeptFor, Turn, Opened, answer_of}
 use Rattle.tape_run.specs.{Given.is_device, Seen.Seen, Seen.IsKept, Steps.Reeled}
 use Rattle.tape_run.specs.ReelLine.{reel_line, reel_lines}
 use Rattle.tape_run.specs.Reeling.{Follows, Mounting, AreMounted}
@@ -83,9 +83,9 @@ follows_then back spares a s (Some o ∷ ts) b t us c u (next, mid, r, f) g =
 
 pub noted : (back spares : Bool) (bytes : Option (List ℕ)) (o : Opened) (old mid new : Seen)
     → IfSome bytes (λ b. Reeled b o.left (is_device o.answer.fault) old mid)
-    → IsNoted back spares (counts_differ o.answer.answer) o.noted mid new
+    → IsNoted back spares o.suspect o.noted mid new
     → IfSome bytes (λ b. (m : Seen) × Reeled b o.left (is_device o.answer.fault) old m
-    × IsNoted back spares (counts_differ o.answer.answer) o.noted m new)
+    × IsNoted back spares o.suspect o.noted m new)
 noted back spares None o old mid new r s = tt
 noted back spares (Some b) o old mid new r s = (mid, r, s)
 

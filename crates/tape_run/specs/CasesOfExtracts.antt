@@ -91,10 +91,11 @@ pub record CasesOfTurns : Type 0 where
   pub not_asked : (fault : RunFault) (old new : Seen) → NotNoted false true fault old new → ⊥
   -- so without memory no reel changes the checkpoints; a write fails only after a reel
   pub stopped_in_reel : (bytes : List ℕ) (old new : Seen)
-      → StopsAt (λ (r : Option (List ℕ)). r) false old (Some (Some bytes)) (Run OutOfMemory) new
+      → StopsAt (λ (r : Option (List ℕ)). r) false false old (Some (Some bytes))
+      (Run OutOfMemory) new
       → new.notes ≡ old.notes
   pub stopped_behind : (bytes : List ℕ) (old new : Seen)
-      → StopsAt (λ (r : Option (List ℕ)). r) false old (Some (Some bytes)) WriteFailed new → ⊥
+      → StopsAt (λ (r : Option (List ℕ)). r) false false old (Some (Some bytes)) WriteFailed new → ⊥
   -- as steps: each reel is followed by a save if a checkpoint was made, by nothing if the reel is
   -- suspect, or by the rollback
   pub steps_behind : (step_behind true false true 2 ≡ Save ∷ [])
@@ -103,9 +104,8 @@ pub record CasesOfTurns : Type 0 where
   pub counted : (notes_behind false true 2 ≡ 3) × (notes_behind false false 2 ≡ 2)
       × (notes_behind true false 2 ≡ 2)
   pub steps : (o p : Opened) → steps_of true 2 (None ∷ Some o ∷ Some p ∷ [])
-      ≡ Reel ∷ step_behind true (counts_differ o.answer.answer) o.noted 2
-      ++ (Reel ∷ step_behind true (counts_differ p.answer.answer) p.noted
-      (notes_behind (counts_differ o.answer.answer) o.noted 2) ++ [])
+      ≡ Reel ∷ step_behind true o.suspect o.noted 2
+      ++ (Reel ∷ step_behind true p.suspect p.noted (notes_behind o.suspect o.noted 2) ++ [])
   pub by_its_line : (back : Bool) (o : Opened) (b : List ℕ) (old new : Seen) → o.had ≡ Some b
       → AreSteps back (None ∷ Some o ∷ []) old new
       → (run : HasRun old (steps_of back (length old.notes) (Some o ∷ [])) (b ∷ []) (o.left ∷ [])
@@ -255,7 +255,7 @@ pub record CasesOfOutputs : Type 0 where
       (reel_lines 1 (map answer_of s.turns) ++ last_line s.want s.records)
   -- if no image was open, the sink contains the same parts
   pub stopped_there : (s behind : Listed) (now : Seen) (fault : EngineFault)
-      → IsStopped as_sink (λ (r : Known). r) false now None fault behind
+      → IsStopped as_sink (λ (r : Known). r) false false now None fault behind
       → behind.sink ≡ now.parts
   -- these are turns of the first images
   pub stopped_turns : (session behind : Listed) (shelf left : Readers) (form : Form)

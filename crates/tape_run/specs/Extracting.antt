@@ -163,7 +163,7 @@ pub record Stops {S L R : Type 0} (g : Ghosts S) (size : L → ℕ) (gives : Mou
       × GoesRound back again old.core was rounds turns last now
       × (LeavesSaved g (RefusesSave remaining now image fault (rest_of new.core)) old was.parts now
       new
-      × IsStopped g remaining back now image fault new)
+      × IsStopped g remaining back again now image fault new)
       × TellsEnd (AppendsFront said says
       (reel_lines 1 (map answer_of (turns_of rounds ++ turns)))) want records now
       × leaves (AppendsFront said says

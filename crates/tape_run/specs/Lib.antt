@@ -139,6 +139,7 @@ pub mod CasesOfReels
 pub mod CasesOfCatalogues
 pub mod CasesOfSections
 pub mod CasesOfExtracts
+pub mod CasesOfSuspects
 pub mod CasesOfSaves
 pub mod CasesOfSeen
 pub mod CasesOfRounds

@@ -1,13 +1,15 @@
 -- The work of `extract` on images, one after another.
 use Rattle.std.specs.Prelude.{◌≡◌, ◌≢◌, ◌⊎◌, ℕ, zero, suc, ◌+◌, ◌<◌, ◌≤◌, List, [], ◌∷◌, ◌++◌}
 use Rattle.std.specs.Prelude.{length, map, Option, get_or, set, Some, None, IfSome, ⊤, Bool, true}
-use Rattle.std.specs.{Prelude.false, Io.KnownBytes.Appends}
+use Rattle.std.specs.{Prelude.false, Prelude.◌||◌, Prelude.◌&&◌, Prelude.nat_lt}
+use Rattle.std.specs.Io.KnownBytes.{Appends}
+use Rattle.tape_label.specs.declared.label.LabelFault.TheVariants.{NotEighty, Identifier}
 use Rattle.tape_blocks.specs.Block.{Portion}
 use Rattle.tape_image.specs.Reader.{IfKnown}
 use Rattle.tape_set.specs.declared.position.Position.TheVariants.{Finished}
 use Rattle.tape_core.specs.{State.State, declared.event.Answer.Answer, Place.rest_of, Point.Point}
 use Rattle.tape_core.specs.{declared.event.Answer.TheVariants.Useless, Stands.weight_of}
-use Rattle.tape_core.specs.declared.event.Reason.TheVariants.{BlockCount, Broken}
+use Rattle.tape_core.specs.declared.event.Reason.TheVariants.{BlockCount, Broken, BadLabel}
 use Rattle.tape_core.specs.{declared.sink.PartSink.Ghosts, Table.saved, Table.mount_of}
 use Rattle.tape_run.specs.{declared.reel_reader.ReelAnswer.ReelAnswer, Given.is_device, Reels.Reads}
 use Rattle.tape_run.specs.{Crash.KeepsLast, Crash.IsLast, Steps.Reeled, Steps.Saved, Steps.WentBack}
@@ -17,11 +19,12 @@ use Rattle.tape_run.specs.declared.script.Step.TheVariants.{Reel, Save, Restart}
 use Rattle.tape_run.specs.ReelLine.{reel_lines}
 
 -- An image that was opened: the bytes that its reader had and has left, if these are known, the
--- answer of its reel, and whether a checkpoint was made after it.
+-- answer of its reel, whether the reel is suspect, and whether a checkpoint was made after it.
 pub record Opened : Type 0 where
   pub had : Option (List ℕ)
   pub left : Option (List ℕ)
   pub answer : ReelAnswer
+  pub suspect : Bool
   pub noted : Bool
 
 -- the outcome of an image: it was read, or it was not opened
@@ -76,6 +79,18 @@ counts_differ (Useless (BlockCount label seen)) = true
 counts_differ (Useless Broken) = true
 counts_differ answer = false
 
+-- the reading ended with a block or a tape mark in place of a label that is no such label
+abbrev pub is_no_label : Answer → Bool
+is_no_label (Useless (BadLabel NotEighty)) = true
+is_no_label (Useless (BadLabel Identifier)) = true
+is_no_label answer = false
+
+-- The reel is suspect: its trailer label, or that of a reel before it, gave a different number of
+-- blocks; or the images are read again, and blocks were delivered that no trailer label ends.
+abbrev pub is_suspect : Bool → ReelAnswer → Bool
+is_suspect again o =
+    counts_differ o.answer || (again && (nat_lt 0 o.blocks && is_no_label o.answer))
+
 -- The last checkpoint has the session's position and parts.
 abbrev pub HasNotedHere : Seen → Type 0
 HasNotedHere s = IsLast s (saved s.place (weight_of s.parts)) s.parts
@@ -112,7 +127,8 @@ pub record ReadsAndNotes (back spares : Bool) (core : State) (old : Seen) (o : O
       (λ bytes left. Reads old.wide core.position core (mount_of core) bytes left o.answer behind)
   pub reeled : IfSome o.had (λ bytes. (mid : Seen)
       × Reeled bytes o.left (is_device o.answer.fault) old mid
-      × IsNoted back spares (counts_differ o.answer.answer) o.noted mid new)
+      × IsNoted back spares o.suspect o.noted mid new)
+  pub doubt : o.suspect ≡ is_suspect spares o.answer
   pub place : new.place ≡ rest_of next
 
 -- The images, one after another, took a session from one state to another. An image that was not
@@ -147,8 +163,8 @@ abbrev pub steps_of : Bool → ℕ → List Turn → List Step
 steps_of back notes [] = []
 steps_of back notes (None ∷ turns) = steps_of back notes turns
 steps_of back notes (Some o ∷ turns) =
-    Reel ∷ step_behind back (counts_differ o.answer.answer) o.noted notes
-    ++ steps_of back (notes_behind (counts_differ o.answer.answer) o.noted notes) turns
+    Reel ∷ step_behind back o.suspect o.noted notes
+    ++ steps_of back (notes_behind o.suspect o.noted notes) turns
 
 -- Each reader of an image that was opened knew its bytes, and these are the ones.
 abbrev pub AreTold : List Turn → List (List ℕ) → Type 0

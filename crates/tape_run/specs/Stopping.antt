@@ -6,7 +6,8 @@ use Rattle.tape_core.specs.{Place.rest_of, declared.sink.PartSink.Ghosts}
 use Rattle.tape_core.specs.{State.State, Weight.IsFront, declared.sink.SinkFault.TheVariants.Device}
 use Rattle.tape_image.specs.Written.{AppendsFront}
 use Rattle.tape_run.specs.Reeling.{Turn, answer_of, Mounting, AreFirstTurns, Follows, IsKeptFor}
-use Rattle.tape_run.specs.{Reeling.counts_differ, declared.fault.RunFault.TheVariants.Sink}
+use Rattle.tape_run.specs.Reeling.{counts_differ, is_suspect}
+use Rattle.tape_run.specs.declared.fault.RunFault.TheVariants.{Sink}
 use Rattle.tape_run.specs.{Crash.LeavesSaved, Given.is_device, ReelLine.reel_lines}
 use Rattle.tape_run.specs.{SessionState.SessionState, declared.reel_reader.ReelAnswer.ReelAnswer}
 use Rattle.tape_run.specs.Seen.{Seen, IsKept, IfSeen, IsSeen, IsSeenUnless}
@@ -33,23 +34,23 @@ RefusesSave remaining old image fault place = ⊥
 -- Where a session is after a fault. If no image was open, as after a failed write, it is unmoved.
 -- Otherwise the image, if its bytes are known, was not read to its end; or it was, and then no
 -- checkpoint was made, or the session did not roll back.
-abbrev pub StopsAt : {R : Type 0} → (R → Option (List ℕ)) → Bool → Seen → Option R → EngineFault
-    → Seen → Type 0
-StopsAt remaining back old None fault new = Unmoved old new
-StopsAt remaining back old (Some image) (Run fault) new = IfSome (remaining image)
+abbrev pub StopsAt : {R : Type 0} → (R → Option (List ℕ)) → Bool → Bool → Seen → Option R
+    → EngineFault → Seen → Type 0
+StopsAt remaining back spares old None fault new = Unmoved old new
+StopsAt remaining back spares old (Some image) (Run fault) new = IfSome (remaining image)
     (λ bytes. ReelFails bytes fault old new
     ⊎ ((left : Option (List ℕ)) × (answer : ReelAnswer) × (mid : Seen)
     × Reeled bytes left (is_device answer.fault) old mid
-    × NotNoted back (counts_differ answer.answer) fault mid new))
-StopsAt remaining back old (Some image) WriteFailed new = ⊥
+    × NotNoted back (is_suspect spares answer) fault mid new))
+StopsAt remaining back spares old (Some image) WriteFailed new = ⊥
 
 -- The session is there, with exactly the parts of its sink. Only a rollback in which the sink's
 -- device failed may lose the sink's parts.
-abbrev pub IsStopped : {S R : Type 0} → Ghosts S → (R → Option (List ℕ)) → Bool → Seen → Option R
-    → EngineFault → SessionState S → Type 0
-IsStopped g remaining back old image fault new =
+abbrev pub IsStopped : {S R : Type 0} → Ghosts S → (R → Option (List ℕ)) → Bool → Bool → Seen
+    → Option R → EngineFault → SessionState S → Type 0
+IsStopped g remaining back spares old image fault new =
     IsSeenUnless ((back ≡ true) × (fault ≡ Run (Sink Device))) g new
-    (StopsAt remaining back old image fault)
+    (StopsAt remaining back spares old image fault)
 
 -- The session read on: its sink contains the earlier parts and perhaps more, it has the same file
 -- and checkpoints, and the invariant of sessions is preserved.
@@ -83,4 +84,4 @@ pub record StopsReading {S L R : Type 0} (g : Ghosts S) (size before : ℕ) (giv
       × Follows back spares old.core was turns core now
       × LeavesSaved g (RefusesSave remaining now image fault (rest_of new.core)) old was.parts now
       new
-      × IsStopped g remaining back now image fault new)
+      × IsStopped g remaining back spares now image fault new)

@@ -29,7 +29,7 @@ use front::{write_front, write_rest};
 use images::read_rounds;
 pub use line::{ReelLine, ReportLine, last_line};
 pub use located::{Mounted, extract_located};
-pub use now::{Place, extract_streaming};
+pub use now::{Place, extract_streaming, extract_watched};
 pub use opening::{AsTheyAre, Opener};
 pub use out_sink::OutSink;
 use std::io::{Read, Write};
@@ -91,11 +91,11 @@ pub fn extract_to<S: PartWalk, R: Read + Drop, L: ImageSource<R>, W: Write, P: W
     end_file(session, form, out, report)
 }
 
-/// Does the same as `extract_to`, but reads the images again, from the first one, after each pass
-/// that recovered something but not the whole file. So the order of the images does not matter, and
-/// damaged copies complete each other. The lines are numbered continuously over all passes.
-///
-/// After a reel the session is saved only if its position differs from that of its last checkpoint.
+/// Does the same as `extract_to`, but if `again` is true it reads the images again, from the first
+/// one, after each pass that recovered something but not the whole file. So the order of the images
+/// does not matter, and damaged copies complete each other. The lines are numbered continuously
+/// over all passes. Then after a reel the session is saved only if its position differs from that
+/// of its last checkpoint.
 ///
 /// Each image is opened by `opener`, again in each pass. A source that yields an image only once
 /// yields none then, and it is reported as not opened.
@@ -114,18 +114,19 @@ pub fn extract_in_passes<
     session: &mut Session<S>,
     images: &mut L,
     opener: &mut M,
+    again: bool,
     form: Form,
     out: &mut W,
     report: &mut P,
 ) -> Result<Option<Want>, EngineFault>
     ensures ok { IfOk result (Extracts S.PartSink L.size L.gives R.remaining
-        (goes_back session.old.notes) true session.old session.new images.old images.new
+        (goes_back session.old.notes) again session.old session.new images.old images.new
         (IsWritten form (W.contents out.old) (W.contents out.new))
         (P.contents report.old) (P.contents report.new)) }
     // While something of the file is missing, `out` is not touched at all.
     ensures untouched { IfOk result (λ want. want ≢ None → out.new ≡ out.old) }
     ensures err { IfErr result (Stops S.PartSink L.size L.gives R.remaining
-        (goes_back session.old.notes) true session.old session.new images.old images.new
+        (goes_back session.old.notes) again session.old session.new images.old images.new
         (LeavesOutput form W.contents out.old out.new)
         (P.contents report.old) (P.contents report.new)) }
     // The sink refused a call, or memory ran out, or a write failed; a session without a checkpoint
@@ -136,7 +137,7 @@ pub fn extract_in_passes<
     ensures calm { OnOk result (IsCalm S.PartSink session.old session.new) }
 {
     let back = has_note(session);
-    read_rounds(session, images, opener, back, true, report)?;
+    read_rounds(session, images, opener, back, again, report)?;
     end_file(session, form, out, report)
 }
 

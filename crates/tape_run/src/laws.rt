@@ -12,6 +12,7 @@ ghost use Rattle.tape_run.specs.WholeSet.{WholeSetLacksNothing, WholeSetIsFound}
 ghost use Rattle.tape_run.specs.CasesOfReels.{CasesOfAnswers, CasesOfTable, CasesOfLeads};
 ghost use Rattle.tape_run.specs.{CasesOfSaves.CasesOfSaved, CasesOfRounds.CasesOfRounds};
 ghost use Rattle.tape_run.specs.CasesOfExtracts.{CasesOfTurns, CasesOfOutputs, CasesOfCauses};
+ghost use Rattle.tape_run.specs.CasesOfSuspects.{CasesOfSuspects};
 ghost use Rattle.tape_run.specs.{CasesOfSeen.CasesOfSeen, Runs.OnlyRefusalsStop, Lacks.LackIsFirst};
 ghost use Rattle.tape_run.specs.{CasesOfRuns.CasesOfStops, OneEntry.OneEntryASection};
 ghost use Rattle.tape_run.specs.{CasesOfSurveys.CasesOfSurveys, CasesOfUnpacking.CasesOfUnpacking};
@@ -105,6 +106,11 @@ pub fn cases()
     ensures rounds { CasesOfRounds }
     ensures run_laws { CasesOfRunLaws }
     ensures catalogue_laws { CasesOfCatalogueLaws }
+{}
+
+/// Examples of suspect reels, and of others.
+pub fn suspect_reels()
+    ensures { CasesOfSuspects }
 {}
 
 /// The reader of a later file of the set skips the items that the reader of one file read up to the

@@ -39,7 +39,8 @@ pub use check::check_to;
 pub use container::{Container, KIND_BYTES, container_of, container_text};
 pub use extract::{
     AsTheyAre, Mounted, Opener, OutSink, Place, ReelLine, ReportLine, extract_in_passes,
-    extract_located, extract_streaming, extract_to, last_line, write_file, write_part,
+    extract_located, extract_streaming, extract_to, extract_watched, last_line, write_file,
+    write_part,
 };
 pub use fault::{EngineFault, ListFault, RunFault, Stopped, WriteFailed};
 pub use laws::{only_refusals_stop, stands_across_crashes, stood_comes_back};

@@ -15,19 +15,21 @@ use crate::program::{End, extract_end};
 use crate::refusal::Refusal;
 use crate::screen::{Host, Progress};
 use crate::staging::{StageSink, session_in};
+use crate::warned::Warned;
 use crate::words::{FORM, form_of, named, out_of, set_id_of, text_of};
 use clap::ArgMatches;
 pub use draft::{Draft, no_draft};
 pub use out::{Output, Way, is_one_name, way_to_out};
 use std::alloc::Global;
-use std::io::{Read, Write};
+use std::fs::File;
+use std::io::{BufWriter, Read, Write};
 use std::{fs, io};
 use tape_blocks::Form;
 use tape_core::{MemorySink, PartWalk, SinkFault};
 use tape_label::Field;
 use tape_run::{
     AsTheyAre, EngineFault, ImageSource, Opener, OutSink, RunFault, Session, extract_in_passes,
-    extract_streaming, extract_to, find_files,
+    extract_watched, find_files,
 };
 use tape_set::Want;
 
@@ -122,7 +124,12 @@ pub fn extract<'a, R: Progress>(
     } else {
         let images = &mut Images::new(rt, named);
         images.reels = reels;
-        recover(rt, task, images, &mut AsTheyAre, way, awaited, site)?
+        let is_on = are_files(rt.host(), named);
+        let (kept, streamed) = (
+            &mut Warned::new(rt.alloc(), task, is_on),
+            &mut Warned::new(rt.alloc(), task, is_on),
+        );
+        recover(rt, task, images, (kept, streamed), way, awaited, site)?
     };
     if end == End::Done && !order.now {
         date_output(rt, task.out, named, task.set_id, task.file);
@@ -155,17 +162,18 @@ fn extract_again<'n, 'a, R: Progress>(
     if surveyed {
         images.is_told();
     }
-    let opener = &mut Compared::new(rt.alloc(), surveyed);
-    recover(rt, task, images, opener, way, awaited, site)
+    let openers = (&mut Compared::new(rt.alloc(), surveyed), &mut AsTheyAre);
+    recover(rt, task, images, openers, way, awaited, site)
 }
 
-/// Recovers the file `task` from images. If something is missing, `awaited` says what is expected
-/// next. On error, `site` says where it occurred.
-fn recover<'a, R, I, L, M>(
+/// Recovers the file `task` from images. They are opened by the first of `openers` or, if the
+/// records are written as they are read, by the second. If something is missing, `awaited` says
+/// what is expected next. On error, `site` says where it occurred.
+fn recover<'a, R, I, L, M, N>(
     rt: &R,
     task: &Task<'a>,
     images: &mut L,
-    opener: &mut M,
+    openers: (&mut M, &mut N),
     way: Way,
     awaited: &mut Option<Want>,
     site: &mut FaultSite<'a>,
@@ -175,9 +183,11 @@ where
     I: Read + Drop,
     L: ImageSource<I>,
     M: Opener<MemorySink, I, L> + Opener<StageSink, I, L>,
+    N: Opener<OutSink<BufWriter<File>>, I, L>,
 {
+    let (opener, streamer) = openers;
     let Some(path) = task.stage else {
-        return extract_now(rt, task, images, opener, way, awaited);
+        return extract_now(rt, task, images, (opener, streamer), way, awaited);
     };
     *site = FaultSite::Stage(path);
     let mut session = session_in(rt.host(), path, task.set_id, task.file)?;
@@ -260,11 +270,11 @@ pub fn is_file<R: Host>(rt: &R, name: &str) -> bool {
 /// read, unless the output is written in place; otherwise holds its data in memory. If the images
 /// are read repeatedly, the data of a suspect reel can be dropped again: the session has a
 /// checkpoint at its start. If something is missing, `awaited` says what is expected next.
-fn extract_now<R, I, L, M>(
+fn extract_now<R, I, L, M, N>(
     rt: &R,
     task: &Task<'_>,
     images: &mut L,
-    opener: &mut M,
+    openers: (&mut M, &mut N),
     way: Way,
     awaited: &mut Option<Want>,
 ) -> Result<End, ToolFault>
@@ -273,7 +283,9 @@ where
     I: Read + Drop,
     L: ImageSource<I>,
     M: Opener<MemorySink, I, L>,
+    N: Opener<OutSink<BufWriter<File>>, I, L>,
 {
+    let (opener, streamer) = openers;
     let report = &mut io::writer(rt);
     let sink = MemorySink::new(rt.alloc());
     let Ok(mut session) = Session::new(rt.alloc(), task.set_id, task.file, sink) else {
@@ -293,7 +305,8 @@ where
             let Ok(mut session) = Session::new(rt.alloc(), task.set_id, task.file, sink) else {
                 return Ok(draft.ended(End::WrongWords));
             };
-            let answer = extract_streaming(&mut session, images, task.form, &mut draft, report);
+            let session = &mut session;
+            let answer = extract_watched(session, images, streamer, task.form, &mut draft, report);
             *awaited = session.want();
             drop(session);
             Ok(draft.ended(end_as_written(answer)))
@@ -334,10 +347,7 @@ where
     P: Write,
 {
     let mut output = output;
-    let answer = if task.again {
-        extract_in_passes(session, images, opener, task.form, &mut output, report)
-    } else {
-        extract_to(session, images, task.form, &mut output, report)
-    };
+    let (again, form) = (task.again, task.form);
+    let answer = extract_in_passes(session, images, opener, again, form, &mut output, report);
     output.ended(extract_end(answer))
 }

@@ -28,6 +28,7 @@ mod shown;
 mod stage;
 mod staging;
 mod unpack;
+mod warned;
 mod words;
 mod write;
 

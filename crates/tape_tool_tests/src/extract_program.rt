@@ -214,6 +214,39 @@ fn images_are_read_again(rt: HostRuntime) -> Result<(), Fail> {
     follow_in(&rt, "again", AGAIN)
 }
 
+const WARNED: &str = "
+    # Without --again an image with other data is read all the same, and a warning names it. The
+    # copies are in blocks of 400; `whole.tap` has all five of them.
+    lost_damaged other.tap 3
+    damaged whole.tap 9
+    3$ extract ABC001 1 staged.txt other.tap --stage warned.stage
+    > REEL 1 BAD ITEM
+    > AWAITS 1 1 2
+    0: extract ABC001 1 staged.txt whole.tap --stage warned.stage => tape: warning: image 1 differs
+    | REEL 1 COMPLETE
+    length staged.txt 2025
+    0: extract ABC001 1 warned.txt other.tap whole.tap => tape: warning: image 2 differs
+    | REEL 2 COMPLETE
+    # Over copies with the same data, damaged or not, there is no warning.
+    damaged second.tap 1
+    damaged third.tap 2
+    $ extract ABC001 1 copies.txt second.tap third.tap whole.tap
+    > REEL 1 BAD ITEM
+    > REEL 2 BAD ITEM
+    > REEL 3 COMPLETE
+    > COMPLETE 25
+    3: extract ABC001 1 saved.txt second.tap --stage copies.stage
+    $ extract ABC001 1 saved.txt third.tap whole.tap --stage copies.stage
+    > REEL 1 BAD ITEM
+    > REEL 2 COMPLETE
+    > COMPLETE 25
+";
+
+#[test]
+fn images_that_differ_are_named(rt: HostRuntime) -> Result<(), Fail> {
+    follow_in(&rt, "warned", WARNED)
+}
+
 const STAGED: &str = "
     damaged monday.tap 3
     damaged tuesday.tap 1

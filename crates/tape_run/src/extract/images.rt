@@ -7,6 +7,7 @@ ghost use Rattle.tape_core.specs.Place.{rest_of};
 ghost use Rattle.tape_run.specs.{Causes.ReadingFails, Causes.IsCalm, Crash.LeavesStep, Seen.IfSeen};
 ghost use Rattle.tape_run.specs.Causes.{ExtractFails, RefusesAny};
 ghost use Rattle.tape_run.specs.Reeling.{Takes, TakesAll, counts_differ, IsKeptFor, Mounting, Took};
+ghost use Rattle.tape_run.specs.Reeling.{is_suspect, is_no_label};
 ghost use Rattle.tape_run.specs.Stopping.{IsStopped, RefusesSave, StopsReading};
 ghost use Rattle.tape_run.specs.Rounds.{TakesRounds, StopsInRound};
 
@@ -19,6 +20,7 @@ use crate::text::write_line;
 use std::alloc::AllocError;
 use std::io::{Read, Write};
 use tape_core::{Answer, PartSink, Reason};
+use tape_label::LabelFault;
 use tape_set::Want;
 
 /// A source of images, each of which is opened by its number.
@@ -158,7 +160,7 @@ fn read_image<S: PartSink, R: Read + Drop>(
         → LeavesStep S.PartSink back (RefusesSave R.remaining old image (EngineFault.Run fault)
         (rest_of session.new.core)) session.old old.parts session.new)) }
     ensures stops { IfErr result (λ fault. IfSeen S.PartSink session.old (λ old. IsKeptFor back old
-        → IsStopped S.PartSink R.remaining back old image (EngineFault.Run fault)
+        → IsStopped S.PartSink R.remaining back spares old image (EngineFault.Run fault)
         session.new)) }
     ensures cause { IfErr result (λ fault.
         ReadingFails S.PartSink back (EngineFault.Run fault) session.old session.new) }
@@ -168,7 +170,7 @@ fn read_image<S: PartSink, R: Read + Drop>(
         return Ok(None);
     };
     let answer = session.reel(&mut device)?;
-    if counts_differ(&answer) {
+    if is_suspect(spares, &answer) {
         if back {
             let last = session.notes().saturating_sub(1);
             session.restart(last)?;
@@ -188,4 +190,24 @@ fn counts_differ(answer: &ReelAnswer) -> bool
         answer.answer,
         Answer::Useless(Reason::BlockCount { .. } | Reason::Broken)
     )
+}
+
+/// Returns whether the reading ended with a block or a tape mark in place of a label that is no
+/// such label.
+fn is_no_label(answer: &ReelAnswer) -> bool
+    ensures { result ≡ is_no_label answer.now.answer }
+{
+    matches!(
+        answer.answer,
+        Answer::Useless(Reason::BadLabel(LabelFault::NotEighty | LabelFault::Identifier))
+    )
+}
+
+/// Returns whether the reel is suspect: the number of blocks in its trailer label, or in that of a
+/// reel before it, is wrong; or the images are read `again`, and it gave blocks that no trailer
+/// label ends.
+fn is_suspect(again: bool, answer: &ReelAnswer) -> bool
+    ensures { result ≡ is_suspect again answer.now }
+{
+    counts_differ(answer) || (again && answer.blocks > 0 && is_no_label(answer))
 }

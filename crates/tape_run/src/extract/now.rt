@@ -4,11 +4,12 @@ ghost use Rattle.std.specs.Prelude.{◌≡◌, ◌≢◌, ◌⊎◌, ℕ, List, 
 ghost use Rattle.std.specs.Prelude.{false};
 ghost use Rattle.tape_set.specs.declared.position.Position.TheVariants.{Finished};
 ghost use Rattle.tape_run.specs.{Causes.ReadingFails, Causes.EndingFails, OutSinks.TellsAlways};
+ghost use Rattle.tape_run.specs.Causes.{ExtractFails, RefusesAny};
 ghost use Rattle.tape_run.specs.Extracting.{Extracts, Stops, IsPut, LeavesName};
 
 use crate::extract::end_report;
 use crate::extract::images::{ImageSource, read_rounds};
-use crate::extract::opening::AsTheyAre;
+use crate::extract::opening::{AsTheyAre, Opener};
 use crate::extract::out_sink::OutSink;
 use crate::fault::{EngineFault, WriteFailed};
 use crate::session::Session;
@@ -72,8 +73,50 @@ pub fn extract_streaming<W: Write + Drop, R: Read + Drop, L: ImageSource<R>, O: 
         ⊎ ((session.new.core.position ≡ Finished)
         × EndingFails session.new.sink.begun session.new.sink.form form fault)) }
 {
+    extract_watched(session, images, &mut AsTheyAre, form, out, report)
+}
+
+/// Does the same as `extract_streaming`, with images that `opener` opens.
+///
+/// # Errors
+///
+/// The errors of `extract_streaming`, and those of the opener.
+pub fn extract_watched<
+    W: Write + Drop,
+    R: Read + Drop,
+    L: ImageSource<R>,
+    M: Opener<OutSink<W>, R, L>,
+    O: Place<W>,
+    P: Write,
+>(
+    session: &mut Session<OutSink<W>>,
+    images: &mut L,
+    opener: &mut M,
+    form: Form,
+    out: &mut O,
+    report: &mut P,
+) -> Result<Option<Want>, EngineFault>
+    // The session never rolls back, because written records cannot be dropped.
+    ensures ok { IfOk result (Extracts ⟦<OutSink<W> as PartSink>⟧ L.size L.gives R.remaining
+        false false session.old session.new images.old images.new
+        (IsPut form (TellsAlways W.contents) (O.stands out.new))
+        (P.contents report.old) (P.contents report.new)) }
+    // While something of the file is missing, the output's name is not touched at all.
+    ensures untouched { IfOk result (λ want. want ≢ None → out.new ≡ out.old) }
+    ensures err { IfErr result (Stops ⟦<OutSink<W> as PartSink>⟧ L.size L.gives R.remaining
+        false false session.old session.new images.old images.new
+        (LeavesName form (TellsAlways W.contents) O.stands out.old out.new)
+        (P.contents report.old) (P.contents report.new)) }
+    // While the images were read the sink refused a call, or memory ran out; or the file is
+    // complete, and its output could not be ended; or a write failed.
+    ensures cause { IfErr result (λ fault.
+        ExtractFails ⟦<OutSink<W> as PartSink>⟧ (RefusesAny ⟦<OutSink<W> as PartSink>⟧ M.refuses)
+        false fault session.old session.new
+        ⊎ ((session.new.core.position ≡ Finished)
+        × EndingFails session.new.sink.begun session.new.sink.form form fault)) }
+{
     // What was written remains: this session does not roll back.
-    read_rounds(session, images, &mut AsTheyAre, false, false, report)?;
+    read_rounds(session, images, opener, false, false, report)?;
     if let Some(want) = session.want() {
         end_report(report, Some(want), 0)?;
         return Ok(Some(want));

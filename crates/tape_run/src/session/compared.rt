@@ -1,5 +1,7 @@
 //! Compares an image with the data that a session has.
 
+mod paired;
+
 ghost use Rattle.std.specs.Prelude.{◌≡◌, List, OnOk, IfErr};
 ghost use Rattle.tape_image.specs.Reader.{going};
 ghost use Rattle.tape_blocks.specs.Block.{Portion};
@@ -12,7 +14,7 @@ use crate::reel_reader::event_of;
 use crate::reel_reader::walk::{has_parts, skip_to};
 use std::io::Read;
 use tape_blocks::{Parts, Shape, check_block};
-use tape_core::{Answer, Expected, PartWalk, ReaderCore, SinkFault, goes_on_at};
+use tape_core::{Answer, Expected, PartSink, PartWalk, ReaderCore, SinkFault, goes_on_at};
 use tape_image::{ImageBuffer, ImageFault, ImageReader, Item};
 use tape_set::Position;
 
@@ -235,20 +237,13 @@ fn ends_with<S: PartWalk, R: Read>(
     agrees(overlap, core, wide, image, sink)
 }
 
-impl<S: PartWalk> Session<S> {
+impl<S: PartSink> Session<S> {
     /// Returns whether a part of the section that the session needs was delivered.
     pub fn is_within(&self) -> bool {
         match self.reel_reader.core.position() {
             Position::Awaits { block, part, .. } => block > 0 || part > 0,
             Position::Finished => false,
         }
-    }
-
-    /// Returns a core at the session's position, at the start of a reel.
-    fn core_before(&self) -> ReaderCore {
-        let mut core = ReaderCore::at(&self.reel_reader.core.save(0));
-        core.mount();
-        core
     }
 
     /// Returns what an image has of the section that the session needs, as far as the session has
@@ -279,7 +274,9 @@ impl<S: PartWalk> Session<S> {
         image.into_device();
         Ok(if is_read { Some(overlap) } else { None })
     }
+}
 
+impl<S: PartWalk> Session<S> {
     /// Returns whether the overlap with an image has other parts on the image, which is read once
     /// more, than the session has.
     ///

@@ -174,7 +174,8 @@ impl<R: Progress, P: Write> Run<'_, R, P> {
         let images = &mut NormalImages::again(rt, names.as_slice());
         let opener = &mut Compared::new(rt.alloc(), true);
         let (session, last) = (&mut session, &mut LastLine::new());
-        let answer = extract_in_passes(session, images, opener, task.form, &mut existing, last);
+        let form = task.form;
+        let answer = extract_in_passes(session, images, opener, true, form, &mut existing, last);
         Ok(extract_end(answer))
     }
 }

@@ -104,7 +104,7 @@ impl<'n, R: Progress, P: Write> Run<'n, R, P> {
         let mut output = SummedOutput::new(draft, out, sum.is_wanted);
         let opener = &mut Compared::new(rt.alloc(), true);
         let (session, form) = (&mut session, task.form);
-        let answer = extract_in_passes(session, images, opener, form, &mut output, last);
+        let answer = extract_in_passes(session, images, opener, true, form, &mut output, last);
         let mut place = output.place;
         sum.found = place.found.take();
         let end = place.draft.ended(extract_end(answer));

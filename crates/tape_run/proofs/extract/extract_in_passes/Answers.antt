@@ -1,4 +1,4 @@
-use Rattle.std.proofs.Common.{refl, inl, true}
+use Rattle.std.proofs.Common.{refl, inl}
 use Rattle.std.proofs.lemmas.Result.{IfErr-weaker}
 use Rattle.tape_run.proofs.{Opening.fails_by, Opening.any_walk, Ended.told_err}
 use Rattle.tape_run.proofs.Reporting.{if_ok_both}
@@ -10,7 +10,7 @@ pub returns-in_err-read_rounds-clause-err : goal.returns-in_err-read_rounds-clau
 returns-in_err-read_rounds-clause-err g c =
     told_err _ _ _ c.from_residual.ensures.1 (stops_reading g.S.PartSink g.L.ImageSource.size _ _
     c.args.session.now c.read_rounds.new.session _ _ _ _ _ c.has_note-back.result
-    (goes_back c.args.session.now.notes) true _
+    (goes_back c.args.session.now.notes) c.args.again _
     c.has_note-back.ensures c.in_err-read_rounds.ensures.err
     (λ less now few. inl (refl, inl few)))
 
@@ -27,14 +27,14 @@ returns-clause-ok g c =
     if_ok_both c.end_file.result _ _ _ c.end_file.ensures.ok c.end_file.ensures.calm (λ want e calm.
     extracted g.S.PartSink g.L.ImageSource.size _ _ c.args.session.now c.read_rounds.new.session
     c.end_file.new.session _ _ _ _ _ _ want c.has_note-back.result
-    (goes_back c.args.session.now.notes) true c.has_note-back.ensures
+    (goes_back c.args.session.now.notes) c.args.again c.has_note-back.ensures
     c.in_ok-read_rounds.ensures.ok e c.end_file.ensures.same calm)
 
 pub returns-clause-err : goal.returns-clause-err
 returns-clause-err g c =
     IfErr-weaker c.end_file.result _ _ (λ fault e. stops_at_end g.S.PartSink g.L.ImageSource.size _
     _ c.args.session.now c.read_rounds.new.session c.end_file.new.session _ _ _ _ _ _
-    c.has_note-back.result (goes_back c.args.session.now.notes) true fault c.has_note-back.ensures
-    c.in_ok-read_rounds.ensures.ok c.end_file.ensures.same e
+    c.has_note-back.result (goes_back c.args.session.now.notes) c.args.again fault
+    c.has_note-back.ensures c.in_ok-read_rounds.ensures.ok c.end_file.ensures.same e
     (λ less more want now f. leaves_more less more want _ _ _ _ f))
     c.end_file.ensures.err

@@ -81,8 +81,8 @@ returns-in_err-write_line-clause-err g c =
                 (last_then g.S.PartSink c.args.session.now c.open.new.session
                 c.read_image.new.session held now next lasts last)
                 (same_left g.S.PartSink c.args.back _ c.read_image.new.session next),
-            stopped_there g.S.PartSink g.R.Read.remaining c.args.back c.read_image.new.session next
-                _ has_next,
+            stopped_there g.S.PartSink g.R.Read.remaining c.args.back c.args.spares
+                c.read_image.new.session next _ has_next,
           );
     })
 
@@ -112,8 +112,8 @@ returns-in_err-image-clause-err g c =
             follows,
             left_walked g.S.PartSink c.args.back _ c.args.session.now c.loop-number.session
                 c.open.new.session held now lasts c.in_err-image.ensures.same has,
-            stopped_walked g.S.PartSink g.R.Read.remaining c.args.back c.loop-number.session
-                c.open.new.session now _ has c.in_err-image.ensures.same,
+            stopped_walked g.S.PartSink g.R.Read.remaining c.args.back c.args.spares
+                c.loop-number.session c.open.new.session now _ has c.in_err-image.ensures.same,
           );
     })
 
