@@ -290,8 +290,8 @@ def may_change_nothing(trial, kind, error, answer):
         return "no number is free, so no file can get that of a standard stream"
     if kind in "ot" and error == errno.EACCES and DRAFT.fullmatch(Path(path).name):
         return "the directory takes no new file, so the output is written in place"
-    if kind in "ort" and reads_again(trial) and (path.endswith(".tap") or kind == "r"):
-        return "an image is read again"
+    if kind in "ort" and trial.words[0] in ("extract", "unpack") and (path.endswith(".tap") or kind == "r"):
+        return "an image is looked at, or read again for its labels or for a comparison"
     if kind == "t" and path in (trial.result, f"./{trial.result}") and trial.result not in trial.files:
         return "a name that nothing had is taken by a link, which looks for itself"
     if kind == "t" and trial.words[0] == "unpack" and path.endswith((".salvaged", ".gaps")):

@@ -12,7 +12,8 @@ part of its data. Some of these copies are truncated or have unreadable blocks, 
 
 Each shelf is read by `survey`, by `extract --again` in one call and with a stage over several calls, by `unpack`
 with some of the images and then others, and by `salvage`. Prints each wrong result, and exits with 1 if there is
-one.
+one. Plain `extract` reads it too, with a stage and without: it takes what it gets, so its wrong files are only counted,
+with those of which no warning was given; but over a shelf that breaks no premise it may not warn.
 """
 import random
 import subprocess
@@ -92,7 +93,7 @@ def shelf(draw, breaks):
 
 def main():
     options = arguments(__doc__, ("--shelves", 5000, "how many"), ("--seed", 1, "of the first shelf"))
-    results, completes = Results(), 0
+    results, completes, wrong, unwarned = Results(), 0, 0, 0
     for number in range(options.seed, options.seed + options.shelves):
         draw, breaks = random.Random(number), number % 2 == 0
         sets, images = shelf(draw, breaks)
@@ -133,10 +134,16 @@ def main():
             for path in sorted((folder / "u").iterdir()):
                 if path.name.startswith("ABC001.1.") and path.suffix not in (".stage", ".salvaged", ".gaps"):
                     completes += whole(f"u/{path.name}", ("unpack", some, names), True)
+            for stage in ((), ("--stage", "plain.stage")):
+                status, out = call("extract", "ABC001", "1", "plain", *draw.sample(names, len(names)), *stage)
+                if status == 0 and (folder / "plain").read_bytes() not in right:
+                    wrong += 1
+                    unwarned += "warning" not in out
             words = ("salvage", "ABC001", "1", "salvaged", *draw.sample(names, len(names)))
             status, out = call(*words)
             completes += whole("salvaged", words, status == 0)
     print(f"{completes} files were reported complete")
+    print(f"plain extract: {wrong} wrong files, {unwarned} of them without a warning")
     return results.end()
 
 

@@ -9,7 +9,7 @@ directory `u`:
 
     ## TITLE          begins a scene
     N ARGUMENTS       a call, and its exit status
-    > LINE            a line of its output;  ! TEXT  a text on standard error
+    > LINE            a line of its output;  ! TEXT  a text on standard error;  ~ TEXT  it is not there
     = FILE RECORDS    FILE has exactly these records;  - FILE  there is no such file
     ? FILE RECORDS    it has these records, or there is no such file
     not yet REASON    the program is still wrong in this scene, and why
@@ -110,15 +110,15 @@ IMAGES = {
     "no2": image("CARDS", FOUR).replace(second_label("HDR2", 800), b"").replace(second_label("EOF2", 800), b""),
 }
 
-WARNING = "extract without --again prints no warning if a reel differs from the data recovered before it"
+DIFFERS = "tape: warning: image {} differs from the data recovered before it"
 SCENES = f"""
 ## unpack: a lost mark, then a good copy alone
 3 unpack u lost.tap
-> FILE ABC001 1 AWAITS 1 1 2 u/ABC001.1.CARDS.stage
+> FILE ABC001 1 AWAITS 1 1 0 u/ABC001.1.CARDS.stage
 0 unpack u good.tap
 > FILE ABC001 1 COMPLETE 3 u/ABC001.1.CARDS
-> FILE ABC001 1 STAGE KEPT u/ABC001.1.CARDS.stage
 = u/ABC001.1.CARDS cards
+- u/ABC001.1.CARDS.stage
 ## unpack: a lost mark, then a good copy with it
 3 unpack u lost.tap
 3 unpack u lost.tap good.tap
@@ -266,6 +266,14 @@ SCENES = f"""
 = out forty
 0 extract ABC001 1 out2 third-bad.tap first-bad.tap count.tap --again --stage st
 = out2 forty
+## extract --again: no trailer label ends the blocks of a copy
+3 extract ABC001 1 out lost2.tap --again --stage st
+> REEL 1 BAD LABEL 2
+> AWAITS 1 1 0
+0 extract ABC001 1 out good.tap --again --stage st
+= out cards
+3 extract ABC001 1 out2 lost2.tap --again
+> AWAITS 1 1 0
 ## extract --again: a stage of blocks of 400, then blocks of 800
 3 extract ABC001 1 out x.tap --again --stage st
 3 extract ABC001 1 out y.tap --again --stage st
@@ -296,24 +304,33 @@ SCENES = f"""
 ! tape: set fault 1
 - out
 ## extract: a lost mark, then a good copy
-not yet {WARNING}
 0 extract ABC001 1 out lost.tap good.tap
 > REEL 1 BAD LABEL 2
 > REEL 2 COMPLETE
-! warning
+! {DIFFERS.format(2)}
 ## extract: two sets of one identifier
-not yet {WARNING}
 0 extract ABC001 1 out w1.tap w2.tap
-! warning
+! {DIFFERS.format(2)}
 ## extract: a stage of a copy with a doubled block
-not yet {WARNING}
 3 extract ABC001 1 out dup.tap --stage st
 0 extract ABC001 1 out y.tap --stage st
-! warning
-## extract: a trailer label of another file
-not yet {WARNING}
+! {DIFFERS.format(1)}
+## extract: a trailer label of another file, which valid sets may have
 0 extract ABC001 1 out over.tap --stage st
-! warning
+~ warning
+## extract: no trailer label ends the blocks of a copy
+3 extract ABC001 1 out lost2.tap --stage st
+> REEL 1 BAD LABEL 2
+> AWAITS 1 1 5
+3 extract ABC001 1 out good.tap --stage st
+> REEL 1 SECTION DIFFERS
+## extract: no warning over copies
+3 extract ABC001 1 out first-bad.tap third-bad.tap --stage st
+~ warning
+0 extract ABC001 1 out last-bad.tap y.tap --stage st
+~ warning
+0 extract ABC001 1 out2 third-bad.tap first-bad.tap last-bad.tap y.tap
+~ warning
 ## salvage: the sections of two files under one number
 3 salvage ABC001 1 out p1.tap p2.tap
 > LABELS DIFFER 2 2 1
@@ -365,6 +382,8 @@ def wrong_in(program, lines):
                 is_right, found = rest in done.stdout.decode().splitlines(), f"printed {done.stdout.decode()!r}"
             elif what == "!":
                 is_right, found = rest in done.stderr.decode(), f"errors {done.stderr.decode()!r}"
+            elif what == "~":
+                is_right, found = rest not in done.stderr.decode(), f"errors {done.stderr.decode()!r}"
             else:
                 path, *name = rest.split()
                 content = (folder / path).read_bytes() if (folder / path).exists() else None

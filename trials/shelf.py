@@ -46,7 +46,7 @@ class Trial(Results):
 # The set of the reel without HDR2: its file, the state and the volumes that `survey` prints, and the report of `unpack`.
 RT11 = "RT11A"
 RT11_ROW = ["RT.DAT", "1985-04-10", "CUT", "1", RT11, "", "1:CUT;", "", "", ""]
-RT11_AWAITS = "AWAITS 1 1 1 out/RT11A_.1.RT.DAT.stage"
+RT11_AWAITS = "AWAITS 1 1 0 out/RT11A_.1.RT.DAT.stage"
 
 
 def notices(names):
