@@ -183,3 +183,5 @@ mod MergedOrders
 mod MergedFar
 pub mod WideSections
 pub mod WideSoFar
+pub mod OnwardSoFar
+pub mod OnwardFinds

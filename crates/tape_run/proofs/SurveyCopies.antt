@@ -7,7 +7,7 @@ use Rattle.tape_run.specs.SurveyCopies.{Copied, with_good, with_told, with_copie
 use Rattle.tape_run.specs.{declared.passing.Phase.Phase, Noted.is_good, SurveyCopies.digest_in}
 use Rattle.tape_run.specs.declared.passing.Phase.TheVariants.{Volume, Data}
 use Rattle.tape_run.specs.SurveyDigest.{digest_of, digest_with}
-use Rattle.tape_run.specs.{Passing.Told, WidePassing.step, WidePassing.phase_after}
+use Rattle.tape_run.specs.{Passing.Told, Onward.step, Onward.phase_after}
 use Rattle.tape_run.proofs.SurveyDigest.{digest_all-append}
 
 -- the data blocks of the section that is being read, after these items

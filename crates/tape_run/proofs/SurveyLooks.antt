@@ -19,21 +19,23 @@ use Rattle.tape_run.specs.{declared.section.ImageStop.ImageStop, Added.StopsBehi
 use Rattle.tape_run.specs.declared.section.SectionLine.{SectionLine}
 use Rattle.tape_run.specs.declared.section.ImageStop.TheVariants.{Fault}
 use Rattle.tape_run.specs.Passing.{Told, in_list, under_way}
-use Rattle.tape_run.specs.WidePassing.{step, phase_after, told_from, met_in}
+use Rattle.tape_run.specs.Onward.{step, phase_after, told_from, met_in}
+use Rattle.tape_run.specs.WidePassing as Wide
 use Rattle.tape_run.specs.SurveyCopies.{Copied, with_told, digest_in}
 use Rattle.tape_run.specs.SurveyGlance.{damage_in, damages_in}
 use Rattle.tape_run.specs.SurveyLocations.{Located, with_location, locate_all, located_in}
-use Rattle.tape_run.proofs.WideSoFar.{SoFar, starts, one_more, all_noted}
-use Rattle.tape_run.proofs.{KeepingPlaces.noted_all-append, WideSoFar.told_from-append}
+use Rattle.tape_run.proofs.OnwardSoFar.{SoFar, starts, one_more, all_noted}
+use Rattle.tape_run.proofs.{KeepingPlaces.noted_all-append, OnwardSoFar.told_from-append}
 use Rattle.tape_run.proofs.NotedSoFar.{by_ending}
 use Rattle.tape_run.proofs.SurveyCopies.{CopiedSoFar, copied_none, copied_more}
 
 -- one more item was examined
 pub look_all-append : (g : ImageSummary) (p : Phase) (xs : List TapeItem) (x : TapeItem)
     → look_all g p (xs ++ x ∷ [])
-    ≡ look_to (look_all g p xs) (phase_after p xs) x (step (phase_after p xs) x).0
+    ≡ look_to (look_all g p xs) (phase_after p xs) x (Wide.step (phase_after p xs) x).0
 look_all-append g p [] x = refl
-look_all-append g p (y ∷ ys) x = look_all-append (look_to g p y (step p y).0) (step p y).0 ys x
+look_all-append g p (y ∷ ys) x =
+    look_all-append (look_to g p y (Wide.step p y).0) (step p y).0 ys x
 
 -- and the header label that it is was recorded
 pub with_all-append : (image : ℕ) (files : Labelled) (p : Phase) (xs : List TapeItem) (x : TapeItem)
@@ -115,21 +117,23 @@ labels_noted image old mid then new p x head form told noted is formed found fit
 
 pub looks_more : (all left next : Option (List ℕ)) (p q image : ℕ) (item : TapeItem)
     (sections : List Told) (files : Labelled) (located : List Located) (known : Copied)
-    (phase after : Phase) (g h : ImageSummary) (digest then : ℕ) (mid told : List Told)
+    (phase ordered after : Phase) (g h : ImageSummary) (digest then : ℕ) (mid told : List Told)
     (named filed : Labelled) (there locations : List Located) (found copies : Copied)
     (here : Option Told) (listed damaged : List SectionLine)
     → LookedSoFar all left p image sections files located known phase g digest mid named there found
     listed
-    → IfKnown left next (TakesItem p item q) → after ≡ (step phase item).0
+    → IfKnown left next (TakesItem p item q) → ordered ≡ (Wide.step phase item).0
+    → after ≡ (step phase item).0
     → told ≡ noted_all mid (in_list (step phase item).1) → filed ≡ with_label image named phase item
     → locations ≡ with_location mid there image (head_in phase item)
     → here ≡ (step phase item).1 → copies ≡ with_told found image here digest
     → damaged ≡ listed ++ damages_in (in_list here)
-    → then ≡ digest_in digest phase item → h ≡ look_to g phase item after
+    → then ≡ digest_in digest phase item → h ≡ look_to g phase item ordered
     → LookedSoFar all next q image sections files located known after h then told filed locations
     copies damaged
-looks_more all left next p q image item sections files located known phase after g h digest then mid
-    told named filed there locations found copies here listed damaged s takes goes notes names
+looks_more all left next p q image item sections files located known phase ordered after g h digest
+    then mid told named filed there locations found copies here listed damaged s takes in_order goes
+    notes names
     places
     is adds lists digests looks =
     let items = s.so_far.items in
@@ -139,7 +143,7 @@ looks_more all left next p q image item sections files located known phase after
       so_far = one_more all left next p q s.count item sections phase after mid told s.so_far takes
           goes notes;
       counted = rw (looks, s.counted);
-      glance = rw (looks, goes, stands, s.glance, look_all-append blank_glance Volume items item);
+      glance = rw (looks, in_order, stands, s.glance, look_all-append blank_glance Volume items item);
       named = rw (names, stands, s.named, with_all-append image files Volume items item);
       places = rw (
         places,

@@ -7,32 +7,31 @@ use Rattle.tape_run.specs.SurveyGlance.{blank_glance, look_to, look_all, glance_
 use Rattle.tape_run.specs.declared.survey.course.ExpectedItem.{ExpectedItem}
 use Rattle.tape_run.specs.declared.survey.course.LabelOrder.{LabelOrder}
 use Rattle.tape_run.specs.declared.survey.glance.ImageSummary.{ImageSummary}
-use Rattle.tape_run.specs.{declared.passing.Phase.Phase, WidePassing.step}
-use Rattle.tape_run.specs.WidePassing.{phase_after}
+use Rattle.tape_run.specs.{declared.passing.Phase.Phase, Onward.step, Onward.phase_after}
+use Rattle.tape_run.specs.WidePassing as Wide
 use Rattle.tape_run.specs.declared.passing.Phase.TheVariants.{Volume, Labels, Second, Next, Over}
 use Rattle.tape_run.specs.declared.survey.course.LabelOrder.TheVariants.{Leaves}
 use Rattle.tape_run.specs.SurveyGlance.{behind_mark, behind, course_with}
 use Rattle.tape_run.specs.SurveyLaws.{course_of, has_left, IsFirstAstray, LeavesThere}
-use Rattle.tape_run.proofs.{WideSoFar.phase_after-append, SurveyLooks.look_all-append}
+use Rattle.tape_run.proofs.{OnwardSoFar.phase_after-append, SurveyLooks.look_all-append}
 
 -- the summary counts the items
 counts : (g : ImageSummary) (p : Phase) (xs : List TapeItem)
     → (look_all g p xs).items ≡ g.items + length xs
 counts g p [] = omega arith
 counts g p (x ∷ xs) =
-    let next = (step p x).0 in
-    let rest = counts (look_to g p x next) next xs in
+    let rest = counts (look_to g p x (Wide.step p x).0) (step p x).0 xs in
     omega (arith, rest)
 
 -- once items have left the order, that is final
-stays : (g : ImageSummary) (p : Phase) (xs : List TapeItem) (n : ℕ) (w : ExpectedItem) → g.course
+pub stays : (g : ImageSummary) (p : Phase) (xs : List TapeItem) (n : ℕ) (w : ExpectedItem) → g.course
     ≡ Leaves n w
     → (look_all g p xs).course ≡ Leaves n w
 stays g p [] n w e = e
 stays g p (x ∷ xs) n w e =
-    let next = (step p x).0 in
-    stays (look_to g p x next) next xs n w
-    (ap (λ (c : LabelOrder). course_with c (g.items + 1) p x next) e)
+    let ordered = (Wide.step p x).0 in
+    stays (look_to g p x ordered) (step p x).0 xs n w
+    (ap (λ (c : LabelOrder). course_with c (g.items + 1) p x ordered) e)
 
 -- the number reported for an item that breaks the order is its own
 number_left : (number : ℕ) (p next : Phase) (n : ℕ) (w : ExpectedItem)
@@ -67,7 +66,7 @@ its_number Ended number p x next n w still e = cc e
 its_number (Leaves m v) number p x next n w still e = absurd (cc still)
 
 -- the summary of items that left the order says where
-where_left : (c : LabelOrder) → has_left c ≡ true → (n : ℕ) × (w : ExpectedItem) × (c ≡ Leaves n w)
+pub where_left : (c : LabelOrder) → has_left c ≡ true → (n : ℕ) × (w : ExpectedItem) × (c ≡ Leaves n w)
 where_left Follows e = absurd (cc e)
 where_left Blank e = absurd (cc e)
 where_left Ended e = absurd (cc e)
@@ -102,12 +101,12 @@ leaves_at before xs x n w true is still e more =
     let same : Leaves m v ≡ Leaves n w =
     sym (stays (glance_of mid) (phase_after Volume mid) xs m v there)
     ∙ ap (λ (g : ImageSummary). g.course) (sym (from_there before xs x)) ∙ e in
-    let here : course_with (course_of before) ((glance_of before).items + 1) p x (step p x).0
+    let here : course_with (course_of before) ((glance_of before).items + 1) p x (Wide.step p x).0
     ≡ Leaves m v =
     ap (λ (g : ImageSummary). g.course) (sym (look_all-append blank_glance Volume before x))
     ∙ there in
-    let number = its_number (course_of before) ((glance_of before).items + 1) p x (step p x).0 m v
-    still here in
+    let number = its_number (course_of before) ((glance_of before).items + 1) p x (Wide.step p x).0
+    m v still here in
     let one : m ≡ n = ap (λ (c : LabelOrder). number_of c 0) same in
     record {
       before = before;

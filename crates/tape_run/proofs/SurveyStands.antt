@@ -92,6 +92,8 @@ pub record Marked (items : List TapeItem) : Type 0 where
 -- the structure of the items in a phase, for a label order
 abbrev pub At : Phase → LabelOrder → List TapeItem → Type 0
 At p (Leaves n w) items = ⊤
+At p Blank items = Marked items
+At p Ended items = IsVolumeInOrder items
 At Volume Follows items = items ≡ []
 At (Labels v) Follows items = IsBegun items []
 At (Second met) Follows items = Head items met (λ b. block b ∷ [])
@@ -100,9 +102,7 @@ At (Data met) Follows items = Fills items met []
 At (Trailer met) Follows items = Fills items met (mark ∷ [])
 At (Trailers v) Follows items = Closes items
 At (Next v) Follows items = Follow items
-At Over Blank items = Marked items
-At Over Ended items = IsVolumeInOrder items
-At _ _ items = ⊥
+At Over Follows items = ⊥
 
 -- ---- lists
 

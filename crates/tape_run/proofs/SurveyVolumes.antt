@@ -1,5 +1,6 @@
 -- If a summary says that a volume ended, the items are a volume.
 use Rattle.std.proofs.Common.{◌≡◌, ℕ, ◌+◌, Bool, true, false, List, [], ◌∷◌, ◌++◌, Result, Ok, Err}
+use Rattle.std.proofs.Common.{Option}
 use Rattle.std.proofs.Common.{refl, sym, ap, subst, ◌∙◌, append_assoc, append-nil, arith, ◌≢◌, map}
 use Rattle.std.proofs.{Common.flat_map, lemmas.Bool.Decides.nat_tests}
 use Rattle.tape_image.specs.Tape.{TapeItem, block, bad, mark}
@@ -13,8 +14,11 @@ use Rattle.tape_run.specs.declared.survey.glance.ImageSummary.{ImageSummary}
 use Rattle.tape_run.specs.declared.passing.Phase.{Phase}
 use Rattle.tape_run.specs.declared.passing.Phase.TheVariants.{Trailer, Trailers, Next, Over}
 use Rattle.tape_run.specs.declared.survey.course.LabelOrder.TheVariants.{Follows, Blank, Ended}
+use Rattle.tape_run.specs.declared.survey.course.LabelOrder.TheVariants.{Leaves}
 use Rattle.tape_run.specs.Passing.{volume_with, header_with, told_with, closes}
-use Rattle.tape_run.specs.{WidePassing.step, WideShown.AreHeaders}
+use Rattle.tape_run.specs.{Onward.step, Onward.goes_on, WideShown.AreHeaders}
+use Rattle.tape_run.specs.WidePassing as Wide
+use Rattle.tape_run.specs.Passing.{Told}
 use Rattle.tape_label.specs.WideHead2.{is_further_header}
 use Rattle.tape_run.specs.SurveyGlance.{blank_glance, look_to, look_all, left_by, course_with}
 use Rattle.tape_run.specs.SurveyLaws.{IsVolumeInOrder, EndedIsVolume}
@@ -232,7 +236,7 @@ no_mark_bad e = absurd (cc e)
 
 -- one more item, while the items are in order
 follows_on : (p : Phase) (items : List TapeItem) (x : TapeItem) (number : ℕ) → At p Follows items
-    → At (step p x).0 (course_with Follows number p x (step p x).0) (items ++ x ∷ [])
+    → At (Wide.step p x).0 (course_with Follows number p x (Wide.step p x).0) (items ++ x ∷ [])
 follows_on Volume items (block b) number e =
     subst (λ (r : List TapeItem). At (volume_with (vol1_at b))
     (left_by number Volume (volume_with (vol1_at b))) (r ++ block b ∷ [])) (sym e)
@@ -258,33 +262,56 @@ follows_on Over items x number h = absurd h
 follows_on _ items x number h = tt
 
 -- for any label order
-goes_on : (p : Phase) (c : LabelOrder) (items : List TapeItem) (x : TapeItem) (number : ℕ)
-    → At p c items → At (step p x).0 (course_with c number p x (step p x).0) (items ++ x ∷ [])
-goes_on p Follows items x number h = follows_on p items x number h
-goes_on Over Blank items mark number h = blank_ends items h
-goes_on Over Blank items x number h = tt
-goes_on p Blank items x number h = absurd h
-goes_on p c items x number h = tt
+any_order : (p : Phase) (c : LabelOrder) (items : List TapeItem) (x : TapeItem) (number : ℕ)
+    → At p c items
+    → At (Wide.step p x).0 (course_with c number p x (Wide.step p x).0) (items ++ x ∷ [])
+any_order p Follows items x number h = follows_on p items x number h
+any_order p Blank items mark number h = blank_ends items h
+any_order p Blank items bad number h = tt
+any_order p Blank items (block b) number h = tt
+any_order p Ended items x number h = tt
+any_order p (Leaves n w) items x number h = tt
+
+-- past an item that breaks the order the structure is not stated
+not_followed : (p : Phase) (c : LabelOrder) (items : List TapeItem) → At Over c items → At p c items
+not_followed p Follows items h = absurd h
+not_followed p Blank items h = h
+not_followed p Ended items h = h
+not_followed p (Leaves n w) items h = tt
+
+still_at : (p : Phase) (x : TapeItem) (q : Phase) (told : Option Told) (c : LabelOrder)
+    (items : List TapeItem) → At q c items → At (goes_on p x (q, told)).0 c items
+still_at p x Over told c items h = not_followed (goes_on p x (Over, told)).0 c items h
+still_at p x Volume told c items h = h
+still_at p x (Labels v) told c items h = h
+still_at p x (Second met) told c items h = h
+still_at p x (Headers met) told c items h = h
+still_at p x (Data met) told c items h = h
+still_at p x (Trailer met) told c items h = h
+still_at p x (Trailers v) told c items h = h
+still_at p x (Next v) told c items h = h
+
+one_more : (p : Phase) (c : LabelOrder) (items : List TapeItem) (x : TapeItem) (number : ℕ)
+    → At p c items
+    → At (step p x).0 (course_with c number p x (Wide.step p x).0) (items ++ x ∷ [])
+one_more p c items x number h =
+    let ordered = Wide.step p x in
+    still_at p x ordered.0 ordered.1 (course_with c number p x ordered.0) (items ++ x ∷ [])
+    (any_order p c items x number h)
 
 all_stand : (g : ImageSummary) (p : Phase) (before rest : List TapeItem) → At p g.course before
     → (q : Phase) × At q (look_all g p rest).course (before ++ rest)
 all_stand g p before [] h =
     (p, subst (λ (r : List TapeItem). At p g.course r) (sym (append-nil before)) h)
 all_stand g p before (x ∷ xs) h =
-    let next = (step p x).0 in
-    let rest = all_stand (look_to g p x next) next (before ++ x ∷ []) xs
-    (goes_on p g.course before x (g.items + 1) h) in (
+    let rest = all_stand (look_to g p x (Wide.step p x).0) (step p x).0 (before ++ x ∷ []) xs
+    (one_more p g.course before x (g.items + 1) h) in (
       rest.0,
       subst (λ (r : List TapeItem). At rest.0 (look_all g p (x ∷ xs)).course r)
           (append_assoc before (x ∷ []) xs) rest.1,
     )
 
--- if the label order is Ended, the items are a volume
-ended_at : (p : Phase) (items : List TapeItem) → At p Ended items → IsVolumeInOrder items
-ended_at Over items h = h
-ended_at _ items h = absurd h
-
 pub ended_is_volume : EndedIsVolume
 ended_is_volume items e =
     let (q, at) = all_stand blank_glance Volume [] items refl in
-    ended_at q items (subst (λ (c : LabelOrder). At q c items) e at)
+    subst (λ (c : LabelOrder). At q c items) e at

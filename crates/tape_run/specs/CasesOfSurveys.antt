@@ -11,7 +11,7 @@ use Rattle.tape_run.specs.{declared.survey.course.ExpectedItem.ExpectedItem, Sur
 use Rattle.tape_run.specs.{Noted.noted_all, Survey.survey_text, Survey.Surveys, Survey.SurveysFront}
 use Rattle.tape_run.specs.{declared.survey.dates.Date.Date, declared.survey.Wording.Wording}
 use Rattle.tape_run.specs.{declared.survey.view.ImageSurvey.ImageSurvey, SurveyTally.is_whole_sight}
-use Rattle.tape_run.specs.{WidePassing.met_in, SurveyConflicts.TellsDispute}
+use Rattle.tape_run.specs.{Onward.met_in, SurveyConflicts.TellsDispute}
 use Rattle.tape_run.specs.SurveyConflicts.{all_placed}
 use Rattle.tape_run.specs.declared.survey.course.LabelOrder.TheVariants.{Blank, Ended, Leaves}
 use Rattle.tape_run.specs.{CasesOfExtracts.Known, CasesOfExtracts.Readers, SurveySets.is_all}

@@ -148,4 +148,5 @@ pub mod CasesOfSurveys
 pub mod CasesOfUnpacking
 pub mod CasesOfSalvage
 pub mod WidePassing
+pub mod Onward
 pub mod WideShown

@@ -9,7 +9,7 @@ use Rattle.tape_image.specs.Tape.{TapeItem, block, mark}
 use Rattle.tape_run.specs.declared.survey.{copies.CopyNote.CopyNote, files.FileKey.FileKey}
 use Rattle.tape_run.specs.declared.{passing.Phase.Phase, section.SectionKey.SectionKey}
 use Rattle.tape_run.specs.declared.passing.Phase.TheVariants.{Volume, Second, Headers, Data}
-use Rattle.tape_run.specs.{Noted.same_key, Noted.is_good, Passing.Told, WidePassing.step}
+use Rattle.tape_run.specs.{Noted.same_key, Noted.is_good, Passing.Told, Onward.step}
 use Rattle.tape_run.specs.{SurveyDigest.digest_of, SurveyDigest.digest_with, SurveyFiles.same_file}
 use Rattle.tape_run.specs.{SurveyFiles.file_key, Lacks.key_at}
 

@@ -15,7 +15,7 @@ use Rattle.tape_run.specs.{declared.survey.files.FileKey.FileKey, declared.passi
 use Rattle.tape_run.specs.declared.survey.{files.FileNote.FileNote, files.FirstHead.FirstHead}
 use Rattle.tape_run.specs.declared.survey.forms.FirstForm.{FirstForm}
 use Rattle.tape_label.specs.Formats.{letter}
-use Rattle.tape_run.specs.{WidePassing.step, Noted.same_key, Noted.is_good, Lacks.key_at}
+use Rattle.tape_run.specs.{Onward.step, Noted.same_key, Noted.is_good, Lacks.key_at}
 use Rattle.tape_run.specs.{Passing.Told, SurveyFits.no_fit, SurveyFits.fit_in}
 use Rattle.tape_run.specs.{SurveyFits.misfit_of, declared.survey.fits.Fit.Fit}
 use Rattle.tape_run.specs.declared.survey.fits.{Misfit.Misfit, Flaw.Flaw}

@@ -19,7 +19,9 @@ use Rattle.tape_run.specs.declared.survey.glance.First.TheVariants as firsts
 use Rattle.tape_run.specs.declared.survey.course.ExpectedItem.TheVariants as wanted
 use Rattle.tape_run.specs.declared.survey.course.LabelOrder.TheVariants.{Follows, Blank, Ended}
 use Rattle.tape_run.specs.declared.survey.course.LabelOrder.TheVariants.{Leaves}
-use Rattle.tape_run.specs.{Lacks.line_of, Noted.is_good, Passing.Told, WidePassing.step}
+use Rattle.tape_run.specs.{Lacks.line_of, Noted.is_good, Passing.Told, Onward.step}
+use Rattle.tape_run.specs.{Onward.stray_by}
+use Rattle.tape_run.specs.WidePassing as Wide
 
 -- 80 bytes that begin VOL1 in EBCDIC
 unfoldable pub is_ebcdic : List ℕ → Bool
@@ -51,9 +53,13 @@ abbrev pub head_by : Result Head1 LabelFault → Option Head1
 head_by (Ok head) = Some head
 head_by (Err _) = None
 
--- the item as a header label, if it is one and a section may begin there
+-- the item as a header label, if it is one and a section begins there, also if it breaks the order
+-- of the volume
 abbrev pub head_in : Phase → TapeItem → Option Head1
+head_in phases.Volume (block b) = head_by (head1_at b)
 head_in (phases.Labels v) (block b) = head_by (head1_at b)
+head_in (phases.Second met) (block b) = head_by (head1_at b)
+head_in (phases.Trailer met) (block b) = head_by (head1_at b)
 head_in (phases.Next v) (block b) = head_by (head1_at b)
 head_in _ _ = None
 
@@ -64,10 +70,17 @@ trailer_head met (Ok trail) =
     if closes met trail then Some (record trail.head { set_id = met.key.set_id }) else None
 trailer_head met (Err fault) = None
 
+-- the trailer label of the section that is being read or, after a mark, of one whose header label
+-- was not read
+abbrev pub trailer_in : Phase → Result Trail1 LabelFault → Option Head1
+trailer_in (phases.Trailer met) read = trailer_head met read
+trailer_in (phases.Next v) read = stray_by read
+trailer_in _ read = None
+
 -- the label of a section: its HDR1, or its trailer label
 abbrev pub label_in : Phase → TapeItem → Option Head1
-label_in (phases.Trailer met) (block b) = trailer_head met (trail1_at b)
-label_in p x = head_in p x
+label_in p (block b) = option_or (head_in p (block b)) (trailer_in p (trail1_at b))
+label_in p _ = None
 
 -- the file, if its block in place of a second label is an HDR2 that cannot be read as one
 abbrev pub unread_by : ℕ → Option Kind → Result Head2 LabelFault → Option ℕ
@@ -150,7 +163,8 @@ blank_glance = record {
   course = Follows;
 }
 
--- the summary after one more item, with the phases before and after it
+-- The summary after one more item, with the phase before it, and the phase after it in the order of
+-- a volume.
 abbrev pub look_to : ImageSummary → Phase → TapeItem → Phase → ImageSummary
 look_to g p x next = record {
   items = g.items + 1;
@@ -167,7 +181,7 @@ look_to g p x next = record {
 -- the summary after these items, in this phase
 abbrev pub look_all : ImageSummary → Phase → List TapeItem → ImageSummary
 look_all g p [] = g
-look_all g p (x ∷ xs) = let next = (step p x).0 in look_all (look_to g p x next) next xs
+look_all g p (x ∷ xs) = look_all (look_to g p x (Wide.step p x).0) (step p x).0 xs
 
 -- the summary of an image
 abbrev pub glance_of : List TapeItem → ImageSummary

@@ -13,6 +13,9 @@ use Rattle.tape_run.specs.declared.survey.volumes.VolumeItem.TheVariants.{Named,
 use Rattle.tape_run.specs.{Lacks.SetFiles, Lacks.entry_at, Lacks.key_at, SurveyChain.is_last}
 use Rattle.tape_run.specs.{SurveyChain.volumes_from, SurveyChain.volumes_of, SurveyConflicts.IsIn}
 use Rattle.tape_run.specs.{SurveyGaps.is_found, SurveyGlance.glance_of, SurveyRead.Found}
+use Rattle.tape_run.specs.{Passing.Told, WidePassing.AreNoAbsence, Onward.met_in}
+use Rattle.tape_run.specs.Passing as Strict
+use Rattle.tape_run.specs.declared.passing.Phase.TheVariants.{Volume}
 use Rattle.tape_run.specs.WideShown.{AreHeaders}
 
 -- ---- the order of a volume
@@ -88,6 +91,17 @@ LeavesThere = (items : List TapeItem) (n : ℕ) (w : ExpectedItem) → course_of
 -- If a summary says that the volume ended, the items are a volume, and nothing follows it.
 abbrev pub EndedIsVolume : Type 0
 EndedIsVolume = (items : List TapeItem) → course_of items ≡ Ended → IsVolumeInOrder items
+
+-- ---- what `check` finds
+
+-- If no HDR1 is followed by a tape mark or by a header label other than HDR2, a survey finds each
+-- section that `check` finds, in the same order, before all others; and no others if no item breaks
+-- the order of a volume.
+pub record FindsWhatCheckFinds : Type 0 where
+  pub each : (items : List TapeItem) → AreNoAbsence Volume items
+      → (more : List Told) × (met_in items ≡ Strict.met_in items ++ more)
+  pub all : (items : List TapeItem) → AreNoAbsence Volume items
+      → has_left (course_of items) ≡ false → met_in items ≡ Strict.met_in items
 
 -- ---- volumes
 

@@ -114,12 +114,17 @@ abbrev pub is_told : ExpectedItem → Bool
 is_told wanted.Volume = false
 is_told _ = true
 
+-- the text for what follows that item: sections are found there too, unless the volume has ended
+abbrev pub rest_text : ExpectedItem → List ℕ
+rest_text wanted.End = codes "the rest is ignored"
+rest_text _ = codes "counting continues"
+
 -- the text about the item that breaks the label order
 abbrev pub left_text : List ℕ → ℕ → ExpectedItem → List ℕ
 left_text between n w =
     if is_told w
     then between ++ (codes "item " ++ (decimal n ++ (codes " " ++ (wanted_text w
-    ++ codes ": the rest is ignored"))))
+    ++ (codes ": " ++ rest_text w)))))
     else []
 
 -- the items end before the volume does

@@ -7,7 +7,7 @@ use Rattle.tape_label.specs.declared.values.Head1.{Head1}
 use Rattle.tape_run.specs.{declared.passing.Phase.Phase, declared.passing.Phase.TheVariants.Volume}
 use Rattle.tape_run.specs.{declared.section.SectionKey.SectionKey, Noted.same_key, Noted.noted_all}
 use Rattle.tape_run.specs.{Lacks.good_end, Lacks.entry_at, Lacks.key_at, SurveyGlance.head_in}
-use Rattle.tape_run.specs.{Passing.Told, Passing.in_list, WidePassing.step}
+use Rattle.tape_run.specs.{Passing.Told, Passing.in_list, Onward.step}
 
 -- a section, and the number of an image on which it begins
 abbrev pub Located : Type 0

@@ -7,7 +7,7 @@ use Rattle.tape_image.specs.{Tape.TapeItem, Reader.IfKnown}
 use Rattle.tape_run.specs.{declared.survey.view.ImageSurvey.ImageSurvey, SurveyTally.is_whole_sight}
 use Rattle.tape_run.specs.{Added.StopsBehind, SurveyGlance.glance_of, SurveyGlance.damages_in}
 use Rattle.tape_run.specs.{Checked.Reel, Noted.noted_all, Reeling.Mounting}
-use Rattle.tape_run.specs.{Passing.Told, WidePassing.met_in, SurveyFiles.Labelled}
+use Rattle.tape_run.specs.{Passing.Told, Onward.met_in, SurveyFiles.Labelled}
 use Rattle.tape_run.specs.SurveyFiles.{filed_in}
 use Rattle.tape_run.specs.SurveyFiles.{no_labels}
 use Rattle.tape_run.specs.SurveyCopies.{Copied, no_copies, copied_in}

@@ -1,12 +1,12 @@
 -- Reading a reel with every section skipped, in the wider reading: a section may have no HDR2.
-use Rattle.std.specs.Prelude.{◌≡◌, ℕ, List, [], ◌∷◌, ◌++◌, Option, None, if◌then◌else◌, Bool, false}
+use Rattle.std.specs.Prelude.{◌≡◌, ℕ, List, [], ◌∷◌, Option, None, if◌then◌else◌, Bool, false}
 use Rattle.std.specs.Prelude.{⊤}
 use Rattle.tape_image.specs.Tape.{TapeItem, block, mark}
 use Rattle.tape_label.specs.{Kinds.kind_at, WideHead2.is_further_header}
 use Rattle.tape_run.specs.declared.passing.Phase.{Phase}
-use Rattle.tape_run.specs.declared.passing.Phase.TheVariants.{Volume, Second, Headers, Data}
+use Rattle.tape_run.specs.declared.passing.Phase.TheVariants.{Second, Headers, Data}
 use Rattle.tape_run.specs.declared.met.Met.{Met}
-use Rattle.tape_run.specs.Passing.{Told, in_list, under_way, second_with}
+use Rattle.tape_run.specs.Passing.{Told, second_with}
 use Rattle.tape_run.specs.Passing as Strict
 
 -- after a block where a section's second label is expected, which is a further header label or not
@@ -20,21 +20,7 @@ step (Second met) mark = (Data met, None)
 step (Second met) (block b) = second_if met b (is_further_header b)
 step p x = Strict.step p x
 
--- the phase after these items
-abbrev pub phase_after : Phase → List TapeItem → Phase
-phase_after p [] = p
-phase_after p (x ∷ xs) = phase_after (step p x).0 xs
-
--- the sections that these items contain, in order
-abbrev pub told_from : Phase → List TapeItem → List Told
-told_from p [] = []
-told_from p (x ∷ xs) = in_list (step p x).1 ++ told_from (step p x).0 xs
-
--- the sections that the items of an image contain, in the order in which they were found
-abbrev pub met_in : List TapeItem → List Told
-met_in items = told_from Volume items ++ in_list (under_way (phase_after Volume items))
-
--- ---- the same without the wider reading
+-- ---- where the wider reading makes a difference
 
 -- in this phase the item does not show that a section has no HDR2
 abbrev pub IsNoAbsence : Phase → TapeItem → Type 0
@@ -46,8 +32,3 @@ IsNoAbsence p x = ⊤
 abbrev pub AreNoAbsence : Phase → List TapeItem → Type 0
 AreNoAbsence p [] = ⊤
 AreNoAbsence p (x ∷ xs) = IsNoAbsence p x × AreNoAbsence (Strict.step p x).0 xs
-
--- If no section is without HDR2, the sections are those that `check` finds.
-abbrev pub FindsTheSame : Type 0
-FindsTheSame = (items : List TapeItem) → AreNoAbsence Volume items
-    → met_in items ≡ Strict.met_in items

@@ -4,7 +4,7 @@ ghost use Rattle.std.specs.Prelude.{◌≡◌, ◌<◌};
 ghost use Rattle.tape_set.specs.Lawful.{most_blocks};
 
 use crate::section::{Entry, SectionKey, SectionState};
-use tape_label::{Field, Trail1};
+use tape_label::{Field, Head1, Trail1};
 use tape_set::label_count;
 
 /// A section whose labels were found, with its data so far.
@@ -20,7 +20,23 @@ pub(crate) struct Met {
 pub(crate) type Told = (SectionKey, Entry);
 
 impl Met {
-    ghost use Rattle.tape_run.specs.Passing.{cut, closes, told, with_block};
+    ghost use Rattle.tape_run.specs.Passing.{cut, closes, told, with_block, met_by};
+
+    /// Creates a section of which only the label `head` was read.
+    pub(crate) fn new(volume: Field<6>, head: &Head1) -> Met
+        ensures { result ≡ met_by volume head.now }
+    {
+        Met {
+            volume,
+            key: SectionKey {
+                set_id: head.set_id,
+                file: head.sequence,
+                sect: head.sect,
+            },
+            blocks: 0,
+            bad: false,
+        }
+    }
 
     /// Counts one more data block.
     pub(crate) fn with_block(self, bad: bool) -> Met

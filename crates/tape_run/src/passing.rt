@@ -7,7 +7,6 @@ ghost use Rattle.tape_run.specs.Passing.{under_way, blocks_of, header_phase, ste
 ghost use Rattle.tape_run.specs.WidePassing as Wide;
 
 use crate::met::{Met, Told};
-use crate::section::SectionKey;
 use tape_image::Item;
 use tape_label::{
     Field, Kind, is_further_header, is_volume_label, kind, read_head1, read_trail1, read_vol1,
@@ -41,16 +40,7 @@ fn header_phase(volume: Field<6>, block: &[u8]) -> Phase
     ensures { result ≡ header_phase volume block.now }
 {
     match read_head1(block) {
-        Ok(head) => Phase::Second(Met {
-            volume,
-            key: SectionKey {
-                set_id: head.set_id,
-                file: head.sequence,
-                sect: head.sect,
-            },
-            blocks: 0,
-            bad: false,
-        }),
+        Ok(head) => Phase::Second(Met::new(volume, &head)),
         Err(_) => Phase::Over,
     }
 }

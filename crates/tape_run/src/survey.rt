@@ -19,6 +19,7 @@ pub(crate) mod gaps;
 pub(crate) mod glance;
 mod line;
 pub(crate) mod locations;
+mod onward;
 mod problems;
 mod rows;
 mod sets;

@@ -3,7 +3,7 @@
 
 ghost use Rattle.tape_run.specs.{SurveyConflicts.CopiesAreShown, SurveyDigest.TellsWordsApart};
 ghost use Rattle.tape_run.specs.SurveyLaws.{LeavesThere, EndedIsVolume, VolumesAreListed};
-ghost use Rattle.tape_run.specs.WidePassing.{FindsTheSame};
+ghost use Rattle.tape_run.specs.SurveyLaws.{FindsWhatCheckFinds};
 
 /// If an item is reported to break the order of a volume, the items before it are in that order,
 /// and together with it they are not.
@@ -41,8 +41,8 @@ pub fn volumes_are_listed()
 {}
 
 /// If no HDR1 on an image is followed by a tape mark or by a header label other than HDR2, a survey
-/// finds the sections that `check` finds.
-#[tactic(auto, using(crate::proofs::WideSoFar::finds_the_same))]
+/// finds the sections that `check` finds, and no others if no item breaks the order of a volume.
+#[tactic(auto, using(crate::proofs::OnwardFinds::finds_what_check_finds))]
 pub fn finds_what_check_finds()
-    ensures { FindsTheSame }
+    ensures { FindsWhatCheckFinds }
 {}

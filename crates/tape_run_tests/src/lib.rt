@@ -71,6 +71,8 @@ mod survey_fits;
 #[cfg(test)]
 mod survey_mixed;
 #[cfg(test)]
+mod survey_onward;
+#[cfg(test)]
 mod survey_rows;
 #[cfg(test)]
 mod survey_wide;

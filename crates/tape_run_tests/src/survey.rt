@@ -147,9 +147,14 @@ const SHORT: &str = "one.tap                   unsupported  no labels; its first
 const EBCDIC: &str =
     "one.tap                   unsupported  labels in EBCDIC\n1 image: 0 ok, 1 unsupported\n";
 
-const NOISE: &str = "one.tap                   damaged      does not begin with a label
+const NOISE: &str = "one.tap                   damaged      does not begin with a label, 1 section
     1 unreadable block
     a VOL1 at item 2
+    section 1 of file 1 is truncated, blocks found: 0
+Set ABC001: 0 of 1 files complete
+  Volumes: (none)
+   1 PAYROLL                        incomplete
+        section 1 is truncated on (none): no good copy
 1 image: 0 ok, 1 damaged
 ";
 
@@ -178,14 +183,18 @@ fn no_labelled_volumes(rt: HostRuntime) -> Result<(), Fail> {
     )
 }
 
-const NO_SECOND: &str = "one.tap                   damaged      volume ABC001, 1 section
-    item 3 is not HDR2: the rest is ignored
+const NO_SECOND: &str = "one.tap                   damaged      volume ABC001, 2 sections
+    item 3 is not HDR2: counting continues
+    section 1 of file 1 is truncated, blocks found: 0
+Set ABC001: 1 of 1 files complete
+  Volumes: ABC001
+   1 PAYROLL                        complete
 1 image: 0 ok, 1 damaged
 ";
 
 const UNREAD: &str = "one.tap                   damaged      volume ABC001, 1 section
     1 unreadable block
-    item 9 is neither HDR1 nor a tape mark: the rest is ignored
+    item 9 is neither HDR1 nor a tape mark: counting continues
 Set ABC001: 1 of 1 files complete
   Volumes: ABC001
    1 PAYROLL                        complete
@@ -278,7 +287,7 @@ fn damaged_and_mixed(rt: HostRuntime) -> Result<(), Fail> {
 }
 
 const PROBLEMS: &str = "two.tap                   damaged      volume ABC001, 1 section
-    item 7 is not EOF1 or EOV1 of its section: the rest is ignored
+    item 7 is not EOF1 or EOV1 of its section: counting continues
     section 2 of file 1 is truncated, blocks found: 1
 five.tap                  ok           volume ABC001, 1 section
 Set ABC001: 0 of 1 files complete

@@ -19,7 +19,7 @@ fn line_of(alloc: Global, file: &SetFile) -> Result<Vec<u8>, AllocError> {
 
 /// Fails unless the files on `images` have the lines `lines`; `whole` says whether all images were
 /// read completely.
-fn found<H: Abort + AllocGlobal>(
+pub fn found<H: Abort + AllocGlobal>(
     rt: &H,
     images: &[Option<&[u8]>],
     whole: bool,

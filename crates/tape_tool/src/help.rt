@@ -203,7 +203,7 @@ what was found on it.
       section 2 of file 1 has unreadable blocks, blocks found: 9
       section 1 of file 2 is truncated, blocks found: 13
   hdr.tap                   damaged      volume ABC003, 1 section
-      item 11 is neither HDR1 nor a tape mark: the rest is ignored
+      item 11 is neither HDR1 nor a tape mark: counting continues
   fmt.tap                   unsupported  volume VMS001, 1 section
       file 1 has an unsupported record format
   new.tap                   blank        volume NEW001

@@ -2,6 +2,7 @@
 ghost use Rattle.std.specs.Prelude.{◌≡◌, IfOk, string_bytes};
 ghost use Rattle.tape_run.specs.SurveyLine.{first_text, system_text, files_text, bad_text};
 ghost use Rattle.tape_run.specs.SurveyLine.{late_text, unread_text, wanted_text, course_text};
+ghost use Rattle.tape_run.specs.SurveyLine.{rest_text};
 ghost use Rattle.tape_run.specs.SurveyLine.{course_shown, left_text, is_told, kind_text};
 ghost use Rattle.tape_run.specs.SurveyLine.{fault_text, stop_text, glance_text, seen_text};
 ghost use Rattle.tape_run.specs.SurveyTally.{is_no_image};
@@ -144,8 +145,8 @@ fn left_text(
     ensures { IfOk result (λ text. string_bytes text ≡ left_text between.now number wanted) }
 {
     if is_told(wanted) {
-        let is_not = wanted_text(wanted);
-        format!(in alloc; "{between}item {number} {is_not}: the rest is ignored")
+        let (is_not, rest) = (wanted_text(wanted), rest_text(wanted));
+        format!(in alloc; "{between}item {number} {is_not}: {rest}")
     } else {
         Ok(String::new(alloc))
     }
@@ -174,6 +175,17 @@ fn wanted_text(wanted: ExpectedItem) -> &'static str
         ExpectedItem::Next => "is neither HDR1 nor a tape mark",
         ExpectedItem::SecondMark => "is not a second tape mark",
         ExpectedItem::End => "follows the end of the volume",
+    }
+}
+
+/// Returns what is done with the items that follow: sections are found there too, unless the volume
+/// has ended.
+fn rest_text(wanted: ExpectedItem) -> &'static str
+    ensures { result.now ≡ rest_text wanted }
+{
+    match wanted {
+        ExpectedItem::End => "the rest is ignored",
+        _ => "counting continues",
     }
 }
 

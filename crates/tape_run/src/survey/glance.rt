@@ -3,8 +3,10 @@ ghost use Rattle.std.specs.Result.{IsOkUnless};
 ghost use Rattle.std.specs.Prelude.{◌≡◌, ◌<◌, ◌≤◌, ◌++◌, OnOk};
 ghost use Rattle.tape_image.specs.{Reader.tape_item, Begins.image_limit};
 ghost use Rattle.tape_run.specs.SurveyGlance.{blank_glance, first_of, is_vol1, head_in, label_in};
+ghost use Rattle.tape_run.specs.SurveyGlance.{trailer_in};
 ghost use Rattle.tape_run.specs.SurveyGlance.{unread_in, one_if, damages_in, look_to};
 ghost use Rattle.tape_run.specs.Passing.{in_list};
+ghost use Rattle.tape_label.specs.Reading.{trail1_at};
 ghost use Rattle.tape_run.specs.declared.fault.RunFault.TheVariants as faults;
 
 use super::course::{LabelOrder, course_with};
@@ -99,33 +101,49 @@ fn is_vol1(item: Item<'_>) -> bool
     }
 }
 
-/// Returns the header label that an item is, if a section may begin there.
+/// Returns the header label that an item is, if a section begins there.
 pub(crate) fn head_in(phase: &Phase, item: Item<'_>) -> Option<Head1>
     ensures { result ≡ head_in phase.now (tape_item item.entry) }
 {
-    match (phase, item) {
-        (Phase::Labels(_) | Phase::Next(_), Item::Block(bytes)) => match read_head1(bytes) {
-            Ok(head) => Some(head),
-            Err(_) => None,
-        },
+    let Item::Block(bytes) = item else {
+        return None;
+    };
+    match phase {
+        Phase::Volume | Phase::Labels(_) | Phase::Second(_) | Phase::Trailer(_) | Phase::Next(_) =>
+            match read_head1(bytes) {
+                Ok(head) => Some(head),
+                Err(_) => None,
+            },
+        _ => None,
+    }
+}
+
+/// Returns the trailer label that a block is: of the section that is being read, with the set of
+/// its header, or, after a mark, of one whose header label was not read.
+fn trailer_in(phase: &Phase, bytes: &[u8]) -> Option<Head1>
+    ensures { result ≡ trailer_in phase.now (trail1_at bytes.now) }
+{
+    let Ok(trail) = read_trail1(bytes) else {
+        return None;
+    };
+    match phase {
+        Phase::Trailer(met) if met.closes(&trail) => Some(Head1 {
+            set_id: met.key.set_id,
+            ..trail.head
+        }),
+        Phase::Next(_) => Some(trail.head),
         _ => None,
     }
 }
 
 /// Returns the label of a section that an item is, with the fields of a first header label: its
-/// HDR1, or its trailer label, with the set of its header.
+/// HDR1, or its trailer label.
 pub(crate) fn label_in(phase: &Phase, item: Item<'_>) -> Option<Head1>
     ensures { result ≡ label_in phase.now (tape_item item.entry) }
 {
-    let (Phase::Trailer(met), Item::Block(bytes)) = (phase, item) else {
-        return head_in(phase, item);
-    };
-    match read_trail1(bytes) {
-        Ok(trail) if met.closes(&trail) => Some(Head1 {
-            set_id: met.key.set_id,
-            ..trail.head
-        }),
-        _ => None,
+    match item {
+        Item::Block(bytes) => head_in(phase, item).or(trailer_in(phase, bytes)),
+        Item::Bad | Item::Mark => None,
     }
 }
 
@@ -169,7 +187,8 @@ pub(crate) fn note_damage(
     Ok(())
 }
 
-/// Returns the summary after one more item, with the phases before and after it.
+/// Returns the summary after one more item, with the phase before it, and the phase after it in the
+/// order of a volume.
 pub(crate) fn look(
     glance: &ImageSummary,
     phase: &Phase,

@@ -15,6 +15,7 @@ use super::forms::{form_in, note_form};
 use super::front::read_front;
 use super::glance::{ImageSummary, blank_glance, head_in, label_in, look, note_damage};
 use super::locations::{Locations, note_location};
+use super::onward::goes_on;
 use crate::catalogue::stop_at;
 use crate::container::{Container, container_of};
 use crate::extract::images::ImageSource;
@@ -213,13 +214,14 @@ fn view_items<R: Read>(
                 note_met(files, number, label_in(&phase, item))?;
                 note_form(files, number, form_in(&phase, item))?;
                 note_location(locations, sections, number, head_in(&phase, item))?;
-                let (behind, told) = wide_step(phase, item);
+                let ordered = wide_step(phase, item);
+                let (behind, told) = goes_on(&phase, item, ordered);
                 note_fit(files, &phase, item, told)?;
                 copies.note(number, told, digest)?;
                 note_damage(&mut damaged, &told)?;
                 note_told(sections, told)?;
                 digest = digest_in(digest, &phase, item);
-                glance = look(&glance, &phase, item, &behind);
+                glance = look(&glance, &phase, item, &ordered.0);
                 phase = behind;
                 continue 'items;
             }

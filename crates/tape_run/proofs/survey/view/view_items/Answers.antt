@@ -6,10 +6,10 @@ use Rattle.tape_label.specs.declared.values.Head1.{Head1}
 use Rattle.tape_run.specs.{declared.passing.Phase.Phase, Added.stop_at, SurveyGlance.damages_in}
 use Rattle.tape_run.specs.declared.survey.glance.ImageSummary.{ImageSummary}
 use Rattle.tape_run.specs.Passing.{Told, blocks_of, in_list}
-use Rattle.tape_run.specs.Noted.{noted_all}
+use Rattle.tape_run.specs.{Noted.noted_all, Onward.goes_on}
 use Rattle.tape_run.specs.SurveyLocations.{with_location}
 use Rattle.tape_run.proofs.SurveyLooks.{looks_start, looks_more, labels_noted, viewed_end}
-use Rattle.tape_run.proofs.{WideSoFar.one_block, SurveyLooks.viewed_fault}
+use Rattle.tape_run.proofs.{OnwardSoFar.one_block, SurveyLooks.viewed_fault}
 use Rattle.tape_run.proofs.survey.view.view_items.Goals as goal
 use Rattle.tape_run.proofs.survey.view.view_items.Goals.{in-Ok-None+in-Some, in-Err}
 
@@ -33,8 +33,9 @@ items-preserved g c =
     let item = tape_item c.in-Ok-Some.item in
     let step = gave c.items.image _ next c.in-Ok-Some.item c.next.follows.holds-at-none
     c.items.invariant.on (c.in-Ok-Some.is ∙ ap Ok c.in-Ok-Some.field-0-is) in
-    let phase = ap (λ (r : Phase × Option Told). r.0) c.wide_step.ensures in
-    let told = ap (λ (r : Phase × Option Told). r.1) c.wide_step.ensures in
+    let steps = c.goes_on.ensures ∙ ap (goes_on c.items.phase item) c.wide_step-ordered.ensures in
+    let phase = ap (λ (r : Phase × Option Told). r.0) steps in
+    let told = ap (λ (r : Phase × Option Told). r.1) steps in
     let looks = c.look-glance.ensures.exact in
     let count : c.look-glance.result.items ≡ c.items.glance.items + 1 =
     ap (λ (h : ImageSummary). h.items) looks in
@@ -53,8 +54,9 @@ items-preserved g c =
       );
       same_device = c.next.follows.holds-at-none.same_device ∙ c.items.invariant.same_device;
       looked = looks_more _ c.items.image.left next.left c.items.image.place next.place _ item _ _ _
-          _ c.items.phase _ c.items.glance _ c.items.digest _ _ _ _ _ _ _ c.items.copies _ _ _ _
-          c.items.invariant.looked step.takes phase
+          _ c.items.phase _ _ c.items.glance _ c.items.digest _ _ _ _ _ _ _ c.items.copies _ _ _ _
+          c.items.invariant.looked step.takes
+          (ap (λ (r : Phase × Option Told). r.0) c.wide_step-ordered.ensures) phase
           (c.in_ok-note_told-in-Ok-Some.ensures.ok ∙ ap (λ (o : Option Told).
           noted_all c.items.sections.entries (in_list o)) told)
           (labels_noted _ _ _ _ _ c.items.phase item _ _ _ c.in_ok-note_met-in-Ok-Some.ensures.ok
