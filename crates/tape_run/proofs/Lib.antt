@@ -77,6 +77,7 @@ mod ExamplesOfUnpacking
 mod ExamplesOfSalvage
 mod UnpackedFiles
 mod ReadingOrder
+mod Origins
 mod UnpackedFits
 mod UnpackedNames
 pub mod Patterns

@@ -81,6 +81,7 @@ pub mod SurveyLaws
 -- Files unpacked: definitions to trust, in reading order.
 pub mod Unpacking
 pub mod ReadingOrder
+pub mod Origins
 pub mod UnpackLine
 pub mod UnpackChoice
 pub mod UnpackTally

@@ -95,7 +95,8 @@ pub record ViewsAll {L R : Type 0} (size : L → ℕ) (gives : Mounting L R)
   pub viewed : AreViewed gives remaining shelf 0 sights nothing_found left found
 
 -- These are the files of all sets that were found on them; also recorded are what each image is,
--- whether every image was read completely, and the image on which each section begins.
+-- whether every image was read completely, the image on which each section begins, the sections,
+-- and the labels of the files.
 pub record FilesOn {L R : Type 0} (size : L → ℕ) (gives : Mounting L R)
     (remaining : R → Option (List ℕ)) (shelf left : L) (met : FoundFiles) : Type 0 where
   pub found : Found
@@ -103,6 +104,8 @@ pub record FilesOn {L R : Type 0} (size : L → ℕ) (gives : Mounting L R)
   pub files : met.files ≡ files_of found
   pub whole : met.whole ≡ found.whole
   pub locations : met.locations.entries ≡ found.locations
+  pub sections : met.sections.entries ≡ found.sections
+  pub notes : met.notes.entries ≡ found.files.notes
 
 -- ---- names
 

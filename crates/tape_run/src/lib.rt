@@ -59,12 +59,16 @@ pub use section::{Entry, ImageLine, ImageStop, Lack, SectionKey, SectionLine, Se
 pub use session::Session;
 pub use session::compared::Overlap;
 pub use survey::dates::{Date, date_of};
+pub use survey::files::{FileKey, FileNote};
+pub use survey::glance::First;
 pub use survey::locations::Locations;
+pub use survey::view::ImageSurvey;
 pub use survey::{Wording, survey_to};
-pub use text::{flush, write_text};
+pub use text::{flush, printed, write_text};
 pub use unpack::choice::{FileChoice, is_of_set, means};
 pub use unpack::line::{Notice, UnpackOutcome, file_line, notice_line, unpack_outcome_text};
 pub use unpack::name::file_name;
+pub use unpack::origin::{BlockRun, OpenedImage, position_of, runs_of};
 pub use unpack::tally::{Tally, report_file, report_numbers, total_line};
 pub use unpack::{FoundFiles, SetFile, find_files, is_passed, is_read, set_of, volume_of};
 pub use whole::{read_file, resume_and_run};

@@ -17,7 +17,7 @@ use indexmap::IndexMap;
 use tape_image::Item;
 
 /// The entry of each section.
-pub(crate) type Sections = IndexMap<SectionKey, Entry>;
+pub type Sections = IndexMap<SectionKey, Entry>;
 
 impl SectionState {
     /// Returns whether the section is complete.

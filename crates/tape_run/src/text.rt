@@ -20,7 +20,7 @@ pub use tape_label::put;
 pub type Text = ArrayVec<u8, 1024>;
 
 /// Returns the byte, or a question mark for one outside the printable range.
-pub(crate) fn printed(byte: u8) -> u8
+pub fn printed(byte: u8) -> u8
     ensures { result ≡ printed byte }
 {
     if (b' '..=b'~').contains(&byte) {

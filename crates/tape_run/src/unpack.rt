@@ -4,6 +4,7 @@ pub mod choice;
 pub mod line;
 pub mod name;
 mod order;
+pub mod origin;
 pub mod tally;
 
 ghost use Rattle.std.specs.Prelude.{◌≡◌, ◌++◌, ◌∷◌, [], Some, IfOk, OnOk};
@@ -16,7 +17,8 @@ use crate::extract::images::ImageSource;
 use crate::fault::RunFault;
 use crate::lacks::lack_of;
 use crate::report::sets_of;
-use crate::survey::files::{FileKey, FileNote, reads_wide};
+use crate::sections::Sections;
+use crate::survey::files::{FileKey, FileNote, FileNotes, reads_wide};
 use crate::survey::fits::{Flaw, flaw_of};
 use crate::survey::glance::First;
 use crate::survey::locations::Locations;
@@ -62,6 +64,10 @@ pub struct FoundFiles {
     pub whole: bool,
     /// For each section the number of an image on which it begins.
     pub locations: Locations,
+    /// The sections that were found, each with its best state.
+    pub sections: Sections,
+    /// The labels of each file.
+    pub notes: FileNotes,
 }
 
 /// Finds the files of all sets on the images: exactly those that `survey` reports.
@@ -90,11 +96,15 @@ pub fn find_files<R: Read + Drop, L: ImageSource<R>>(
     let Ok(files) = files_of(alloc, &findings) else {
         return Err(RunFault::OutOfMemory);
     };
+    let (locations, sections) = (findings.locations, findings.sections);
+    let labels = findings.files;
     Ok(FoundFiles {
         files: Sequence::of_vec(files),
         images: Sequence::of_vec(sights),
         whole,
-        locations: findings.locations,
+        locations,
+        sections,
+        notes: labels.notes,
     })
 }
 

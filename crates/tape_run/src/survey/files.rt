@@ -51,7 +51,7 @@ pub struct FirstHead {
 }
 
 /// The record of each file.
-pub(crate) type FileNotes = IndexMap<FileKey, FileNote>;
+pub type FileNotes = IndexMap<FileKey, FileNote>;
 
 /// The first label of each section.
 type FirstHeads = IndexMap<SectionKey, FirstHead>;
