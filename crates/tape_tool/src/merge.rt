@@ -138,8 +138,8 @@ pub fn merge<'a, R: Progress>(
         return Ok(merge_files(rt, order, names, io::sink(), &mut Nowhere, no_rows, site));
     };
     *site = FaultSite::New(path);
-    no_draft(names)?;
-    no_draft(&[path, order.log.unwrap_or(path)])?;
+    no_draft(names, order.images.list)?;
+    no_draft(&[path, order.log.unwrap_or(path)], None)?;
     if let Some(log) = order.log
         && is_one_name(rt.host(), log, path)?
     {

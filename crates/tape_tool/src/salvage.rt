@@ -90,8 +90,8 @@ pub fn salvage<'a, R: Progress>(
     let mut text = String::new(rt.alloc());
     let names = names_of(rt.host(), &order.images, &mut text, site)?;
     *site = FaultSite::Out(order.out);
-    no_draft(names.as_slice())?;
-    no_draft(&[order.out])?;
+    no_draft(names.as_slice(), order.images.list)?;
+    no_draft(&[order.out], None)?;
     let (mut draft, out) = Draft::new(rt, order.out)?;
     let images = &mut NormalImages::new(rt, names.as_slice());
     let report = &mut io::writer(rt);

@@ -333,6 +333,7 @@ const STAGED: &str = "
     worked .tape-1.part
     2: extract ABC001 1 part.txt .tape-1.part | salvage ABC001 1 part.txt .tape-1.part
     2: extract ABC001 1 part.txt lost.tap --files-from .tape-1.part
+    2: salvage ABC001 1 part.txt --files-from .tape-1.part | unpack . --files-from .tape-1.part
     2: merge part.tap ./.tape-1.part worked.tap | unpack . .tape-1.part
     2: extract ABC001 1 .tape-1.part unmade.tap | stage refused.stage .tape-1.part
     is_worked .tape-1.part

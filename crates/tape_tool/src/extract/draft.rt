@@ -5,6 +5,7 @@ ghost use Rattle.tape_tool.specs.Guards.{is_written_in_place};
 
 use crate::fault::{FileFault, OUT_OF_MEMORY, ToolFault};
 use crate::help;
+use crate::images::List;
 use crate::program::End;
 use crate::refusal::{FileId, Refusal, Taking, remove, way_to_take};
 use crate::screen::{Host, Progress};
@@ -230,15 +231,20 @@ impl<R: Progress> Place<BufWriter<File>> for Draft<'_, R> {
 ///
 /// # Errors
 ///
-/// Returns `Words` if one of the paths ends in `.tape-N.part`, whatever stands for N.
-pub fn no_draft(names: &[&str]) -> Result<(), Refusal> {
-    for path in names {
-        let name = name_in_folder(path).as_bytes();
-        if name.starts_with(b".tape-") && name.ends_with(b".part") {
-            return Err(Refusal::Words(help::NAME_OF_DRAFT));
-        }
+/// Returns `Words` if one of the paths, or that of the list, ends in `.tape-N.part`, whatever
+/// stands for N.
+pub fn no_draft(paths: &[&str], list: Option<List<'_>>) -> Result<(), Refusal> {
+    let list = list.and_then(|list| list.file).unwrap_or("");
+    if paths.iter().any(|path| has_draft_name(path)) || has_draft_name(list) {
+        return Err(Refusal::Words(help::NAME_OF_DRAFT));
     }
     Ok(())
+}
+
+/// Returns whether the name at the end of the path is one that drafts have.
+fn has_draft_name(path: &str) -> bool {
+    let name = name_in_folder(path);
+    name.starts_with(".tape-") && name.ends_with(".part")
 }
 
 /// Creates a file at `path` and locks it as long as the draft is open. Returns `None` if another

@@ -70,8 +70,8 @@ pub fn way_to_out<R: Host>(
     images: &[&str],
 ) -> Result<Way, Refusal> {
     let mut before = None;
-    no_draft(images)?;
-    no_draft(&[out, stage.unwrap_or(out), list_path(list).unwrap_or(out)])?;
+    no_draft(images, list)?;
+    no_draft(&[out, stage.unwrap_or(out)], None)?;
     let there = found(fs::metadata(rt, out))?;
     if there.as_ref().is_some_and(|there| there.is_dir()) || name_in_folder(out).is_empty() {
         return Err(Refusal::Words(help::OUT_IS_FOLDER));
@@ -80,7 +80,8 @@ pub fn way_to_out<R: Host>(
         if there.is_file() {
             differs(rt, &there, STANDARD_OUTPUT, help::OUT_IS_LINES)?;
         }
-        if let Some(path) = list_path(list) {
+        if let Some(list) = list {
+            let path = list.file.unwrap_or(STANDARD_INPUT);
             differs(rt, &there, path, help::OUT_IS_LIST)?;
         }
         if let Some(stage) = stage {
@@ -104,11 +105,6 @@ pub fn way_to_out<R: Host>(
         Some(named) if !named.is_file() => Ok(Way::InPlace(before)),
         _ => Ok(Way::Renamed(before)),
     }
-}
-
-/// Returns the path of the list's file.
-fn list_path<'a>(list: Option<List<'a>>) -> Option<&'a str> {
-    Some(list?.file.unwrap_or(STANDARD_INPUT))
 }
 
 /// Returns whether the paths `one` and `other` name the same entry of the same directory.

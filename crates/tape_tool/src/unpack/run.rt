@@ -65,7 +65,7 @@ pub fn unpack<'a, R: Progress>(
     let mut text = String::new(rt.alloc());
     let names = names_of(rt.host(), &order.images, &mut text, site)?;
     let names = names.as_slice();
-    no_draft(names)?;
+    no_draft(names, order.images.list)?;
     let is_listed = order.manifest && !order.list;
     let manifest = manifest_of(rt.host(), folder, is_listed, site)?;
     let out = BufWriter::new(rt.alloc(), io::writer(rt)).map_err(|_| AllocError)?;
