@@ -118,13 +118,17 @@ class Trial(Results):
             name = self.found.names.get((set_id, file))
             path = f"{form}/{path_of(set_id, file, name or b'')}"
             line = "NOT FOUND" if name is None else "CONFLICT"
+            records = model.joined(reader.parts) if reader and reader.done else None
+            if reader and not reader.done:
+                records = self.salvaged(file, path, form)
             if reader:
-                line = f"{self.found.last_line(reader)} {path}" + ("" if reader.done else ".stage")
-            want.append(f"FILE {printed(set_id)} {file} {line}")
-            if reader and reader.done:
-                files[path] = b"".join(each + ENDS[form] for each in model.joined(reader.parts))
+                line = f"{self.found.last_line(reader)} {path}.stage"
+            if records is not None:
+                line = f"COMPLETE {len(records)} {path}"
+                files[path] = b"".join(each + ENDS[form] for each in records)
             elif reader and form == "raw":
                 self.check_stage(path, file, reader)
+            want.append(f"FILE {printed(set_id)} {file} {line}")
         unread = [name for name, each in zip(self.names, self.found.volumes) if not each.is_read]
         want += [f"INCOMPLETE IMAGE {name}" for name in unread]
         self.same(one_by_one(done.stdout.splitlines()[:-1]), want, "unpack")
@@ -135,6 +139,22 @@ class Trial(Results):
         self.same(done.returncode, 0 if is_all else 3, "unpack: status")
         if done.returncode == 0 and not self.tape.is_silent:
             self.check_written(form, made)
+
+    def salvaged(self, file, path, form):
+        """The records of a file that the model does not complete, if `unpack` does, as `salvage`
+        would: those that were written, unless the damage cannot be noticed."""
+        if not (self.folder / path).exists():
+            return None
+        self.told["salvaged"] += 1
+        data, records = (self.folder / path).read_bytes(), self.tape.files[file - 1].records
+        if not self.tape.is_silent:
+            return records
+        # Bytes may be wrong, but not the lengths of the records.
+        found, at = [], 0
+        for record in records:
+            found.append(data[at:at + len(record)])
+            at += len(record) + len(ENDS[form])
+        return found
 
     def check_written(self, form, made):
         """Apart from the model: status 0 means that the files are those that were written."""

@@ -197,12 +197,16 @@ SCENES = f"""
 >             HDR2 is lost on each image: the record format is unknown
 3 unpack u nohead2.tap --list
 > FILE ABC001 1 LACKS 1 u/ABC001.1.CARDS.stage
-3 unpack u nohead2.tap
-- u/ABC001.1.CARDS
+0 unpack u nohead2.tap
+> FILE ABC001 1 COMPLETE 40 u/ABC001.1.CARDS
+= u/ABC001.1.CARDS forty
+0 unpack u nohead2.tap
+> FILE ABC001 1 EXISTS u/ABC001.1.CARDS
 3 extract ABC001 1 out nohead2.tap --again
 - out
 0 salvage ABC001 1 out2 nohead2.tap
 = out2 forty
+## a lost HDR2: another image has it
 0 unpack u nohead2.tap y.tap
 = u/ABC001.1.CARDS forty
 ## a lost HDR2 and EOF2: another image has them

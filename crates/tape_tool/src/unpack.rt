@@ -1,5 +1,7 @@
 //! `unpack`: recovers every file of every set on images into a directory.
+mod completion;
 mod existing;
+mod labels;
 mod manifest;
 mod recovery;
 pub mod report;

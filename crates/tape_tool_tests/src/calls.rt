@@ -24,7 +24,8 @@
 //!   the example file on two, `first_damaged FILE BLOCK` the first one with an unreadable block,
 //!   `records FILE` its records, and `second_file FILE` a volume without the first file of its set.
 //!   `ebcdic FILE`, `booted FILE`, `marked FILE` and `unnamed FILE` create the example image as
-//!   other systems write it: see `example`.
+//!   other systems write it: see `example`. `spoil FILE ITEM` makes an item of an image unreadable,
+//!   and `omit FILE ITEM` takes it out; items are counted from 0.
 //! - `has FILE TEXT`, `at FILE OFFSET TEXT`, `length FILE COUNT`, `is_worked FILE`,
 //!   `missing FILE ..` and `allowed FILE MODE` check the contents of a file, the bytes at an
 //!   offset, the length, that it is the example image or does not exist, and its permissions.
@@ -32,7 +33,7 @@
 //!   that this was in this century.
 
 use crate::fake_system::{Odd, called};
-use crate::image::{example, payroll};
+use crate::image::{damage, example, payroll};
 use std::alloc::{AllocError, Global};
 use std::fs::{OpenOptions, Permissions};
 use std::io::ErrorKind;
@@ -261,6 +262,11 @@ fn take(rt: &HostRuntime, word: &str, rest: &str) -> Result<bool, Fail> {
         | "booted"
         | "marked"
         | "unnamed" => { put(rt, path, example(alloc, word, number)?.as_slice()) }
+        "spoil" | "omit" => {
+            let bytes = fs::read(rt, path)?;
+            let bytes = damage(alloc, bytes.as_slice(), number, word == "omit")?;
+            put(rt, path, bytes.as_slice())
+        }
         "records" => put(rt, path, payroll(alloc)?.as_slice()),
         "has" => holds(rt, path, bytes_of(alloc, text)?.as_slice()),
         "at" => has_text(rt, path, text),

@@ -114,6 +114,31 @@ pub fn example(alloc: Global, name: &str, bad: usize) -> Result<Vec<u8>, AllocEr
     Ok(image)
 }
 
+/// Returns an image without item `number`, counted from 0, or with an unreadable item in its place.
+pub fn damage(
+    alloc: Global,
+    image: &[u8],
+    number: usize,
+    is_lost: bool,
+) -> Result<Vec<u8>, AllocError> {
+    let mut damaged = Vec::new(alloc);
+    let mut rest = image;
+    for at in 0..image.len() {
+        let [low, high, ..] = rest else { break };
+        let count = usize::from(*low) + 256 * usize::from(*high);
+        // A mark is one word, and a block is between two. Their lengths are even here.
+        let length = if count == 0 { 4 } else { count + 8 };
+        let (item, others) = rest.split_at(length.min(rest.len()));
+        if at != number {
+            damaged.extend_from_slice(item)?;
+        } else if !is_lost {
+            push_block(&mut damaged, b"??", 0x80)?;
+        }
+        rest = others;
+    }
+    Ok(damaged)
+}
+
 /// Returns the 25 records of the example volume. Record i consists of i in four digits and 76
 /// spaces.
 pub fn payroll(alloc: Global) -> Result<Vec<u8>, AllocError> {

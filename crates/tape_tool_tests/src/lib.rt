@@ -4,6 +4,8 @@
 #[cfg(test)]
 mod calls;
 #[cfg(test)]
+mod completion;
+#[cfg(test)]
 mod explain;
 #[cfg(test)]
 mod extract_program;

@@ -191,6 +191,11 @@ impl<'a, R: Progress> Draft<'a, R> {
         }
     }
 
+    /// Returns the path of the draft until it gets the output's name.
+    pub fn path(&self) -> &str {
+        self.path.as_str()
+    }
+
     /// Returns whether the draft got the output's name.
     pub fn has_taken(&self) -> bool {
         !self.is_draft

@@ -74,7 +74,7 @@ impl Write for Existing<'_> {
 
 /// What a complete file is given to if it is only compared.
 #[derive(Drop)]
-struct Comparison;
+pub struct Comparison;
 
 impl Place<Existing<'_>> for Comparison {
     ghost stands = { λ _. None };
@@ -132,7 +132,7 @@ impl<R: Progress, P: Write> Run<'_, R, P> {
         }
         if end == End::Incomplete {
             let existing = Existing::open(rt.host(), out, differs)?;
-            end = self.compare_in_passes(task, existing)?;
+            end = self.compare_in_passes(file, task, existing)?;
         }
         match end {
             _ if differs.get() => Ok(UnpackOutcome::Different),
@@ -156,8 +156,14 @@ impl<R: Progress, P: Write> Run<'_, R, P> {
         Ok(())
     }
 
-    /// Recovers a file in passes, its data in memory, and compares its records.
-    fn compare_in_passes(&self, task: &Task<'_>, existing: Existing<'_>) -> Result<End, ToolFault> {
+    /// Recovers a file in passes, its data in memory, and compares its records. If it stays
+    /// incomplete, and no image had other data, recovers it as `salvage` does.
+    fn compare_in_passes(
+        &self,
+        file: &SetFile,
+        task: &Task<'_>,
+        existing: Existing<'_>,
+    ) -> Result<End, ToolFault> {
         let rt = self.rt;
         let mut existing = existing;
         let sink = MemorySink::new(rt.alloc());
@@ -176,7 +182,11 @@ impl<R: Progress, P: Write> Run<'_, R, P> {
         let (session, last) = (&mut session, &mut LastLine::new());
         let form = task.form;
         let answer = extract_in_passes(session, images, opener, true, form, &mut existing, last);
-        Ok(extract_end(answer))
+        let end = extract_end(answer);
+        if end == End::Incomplete && opener.differing.is_empty() {
+            return self.compare_salvaged(file, task.out);
+        }
+        Ok(end)
     }
 }
 

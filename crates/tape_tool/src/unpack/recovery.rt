@@ -1,5 +1,6 @@
 //! The recovery of one file from the images.
 
+use super::completion::salvage_whole;
 use super::report::LastLine;
 use super::run::Run;
 use super::summed::{Checksum, Summed, SummedDraft, SummedOutput};
@@ -23,8 +24,9 @@ use tape_writer::system::found;
 impl<'n, R: Progress, P: Write> Run<'n, R, P> {
     /// Recovers a file. If all its sections are intact, reads the images that have them once, and
     /// nothing from its stage, which may have data of other copies. Any other file, or one that is
-    /// still incomplete then, is recovered on its stage, in passes. `last` remembers the last line
-    /// of either, and `sum` the checksum of a complete file.
+    /// still incomplete then, is recovered on its stage, in passes; if that does not complete it,
+    /// and no image had other data, as `salvage` does. `last` remembers the last line of either,
+    /// and `sum` the checksum of a complete file.
     pub fn recover(
         &mut self,
         file: &SetFile,
@@ -54,7 +56,12 @@ impl<'n, R: Progress, P: Write> Run<'n, R, P> {
                 return end;
             }
         }
-        self.recover_in_passes(&task, stage, sum, last)
+        let end = self.recover_in_passes(&task, stage, sum, last)?;
+        if end == End::Incomplete && self.differing.is_empty() {
+            let names = self.names_of_set(file.set_id)?;
+            return salvage_whole(self.rt, &task, file, names.as_slice(), sum, last);
+        }
+        Ok(end)
     }
 
     /// Returns the names of the images that may have missing parts of a file, in the order in which

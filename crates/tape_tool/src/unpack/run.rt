@@ -1,6 +1,7 @@
 //! Recovers files from images into a directory.
 
 use super::UnpackOrder;
+use super::completion::salvage_task;
 use super::manifest::{Manifest, verify};
 use super::report::{Ended, LastLine, after_word};
 use super::salvaged::Salvaged;
@@ -22,8 +23,8 @@ use std::io::{BufWriter, Write};
 use std::{fs, io};
 use tape_label::Field;
 use tape_run::{
-    Content, FileChoice, FoundFiles, Mounted, SalvageTask, SetFile, Tally, UnpackOutcome,
-    file_line, file_name, find_files, flush, is_of_set, report_numbers, set_of, write_text,
+    FileChoice, FoundFiles, Mounted, SetFile, Tally, UnpackOutcome, file_line, file_name,
+    find_files, flush, is_of_set, report_numbers, write_text,
 };
 use tape_writer::system::found;
 
@@ -279,18 +280,8 @@ impl<R: Progress, P: Write> Run<'_, R, P> {
     fn salvage_file(&mut self, file: &SetFile, out: &str, end: End) -> Ended {
         let rt = self.rt;
         let salvaged = Salvaged::of(rt.alloc(), out)?;
-        let mut names = Vec::new(rt.alloc());
-        for (name, image) in self.names.iter().zip(self.met.images.as_slice()) {
-            if set_of(image).is_none_or(|set_id| set_id == file.set_id) {
-                names.push(*name).map_err(|_| OUT_OF_MEMORY)?;
-            }
-        }
-        let task = SalvageTask {
-            set_id: file.set_id,
-            file: file.file,
-            content: Content::Records,
-            form: self.order.form,
-        };
+        let names = self.names_of_set(file.set_id)?;
+        let task = salvage_task(file, self.order.form);
         let path = salvaged.records.as_str();
         let mut last = LastLine::new();
         let outcome = match salvaged.write(rt, &task, names.as_slice(), &mut last) {

@@ -1,0 +1,137 @@
+//! Tests of files that `unpack` recovers although labels of them are unreadable or lost.
+//!
+//! The items of the example image: 0 is VOL1, 1 HDR1, 2 HDR2, 3 a tape mark, 4 to 6 blocks, 7 a
+//! mark, 8 EOF1, 9 EOF2, 10 and 11 marks. The first mark ends at byte 268. The file has 25 records
+//! of 80 bytes, so 2,025 bytes as lines.
+use crate::calls::follow_in;
+use std::test::Fail;
+
+const COMPLETED: &str = "
+    # HDR2 is lost with no error, but EOF2 gives the format. Nothing else is missing.
+    folder lost
+    worked lost.tap
+    omit lost.tap 2
+    $ unpack lost lost.tap
+    > FILE ABC001 1 COMPLETE 25 lost/ABC001.1.PAYROLL
+    > TOTAL 1 complete 0 existing 0 incomplete 0 in conflict 0 not found 0 failed
+    !   image 1: a file has no HDR2
+    length lost/ABC001.1.PAYROLL 2025
+    at lost/ABC001.1.PAYROLL 0 0001 \\20
+    at lost/ABC001.1.PAYROLL 1944 0025 \\20
+    missing lost/ABC001.1.PAYROLL.stage lost/.tape-1.part
+    # HDR2 is unreadable, and a truncated copy names the file. The status is that of the images.
+    folder out
+    worked hdr2.tap
+    spoil hdr2.tap 2
+    front head.tap 268
+    3$ unpack out hdr2.tap head.tap
+    > FILE ABC001 1 COMPLETE 25 out/ABC001.1.PAYROLL
+    > INCOMPLETE IMAGE hdr2.tap
+    > INCOMPLETE IMAGE head.tap
+    > TOTAL 1 complete 0 existing 0 incomplete 0 in conflict 0 not found 0 failed
+    length out/ABC001.1.PAYROLL 2025
+    at out/ABC001.1.PAYROLL 1944 0025 \\20
+    missing out/ABC001.1.PAYROLL.stage out/.tape-1.part
+    # An existing file is compared in the same way, and not changed.
+    3$ unpack out hdr2.tap head.tap
+    > FILE ABC001 1 EXISTS out/ABC001.1.PAYROLL
+    > INCOMPLETE IMAGE hdr2.tap
+    > INCOMPLETE IMAGE head.tap
+    > TOTAL 0 complete 1 existing 0 incomplete 0 in conflict 0 not found 0 failed
+    cut out/ABC001.1.PAYROLL 2026
+    3: unpack out hdr2.tap head.tap
+    | FILE ABC001 1 NOT COMPARED out/ABC001.1.PAYROLL
+    length out/ABC001.1.PAYROLL 2026
+    cut out/ABC001.1.PAYROLL 2024
+    3: unpack out hdr2.tap head.tap
+    | FILE ABC001 1 NOT COMPARED out/ABC001.1.PAYROLL
+    length out/ABC001.1.PAYROLL 2024
+    missing out/ABC001.1.PAYROLL.stage
+    # The stage of an earlier run, which has the first block, its salvaged records, and a checksum.
+    folder raw
+    worked begun.tap
+    spoil begun.tap 5
+    3: unpack raw begun.tap --salvage --form raw
+    length raw/ABC001.1.PAYROLL.salvaged 1200
+    3: unpack raw hdr2.tap head.tap --form raw --manifest
+    | FILE ABC001 1 COMPLETE 25 raw/ABC001.1.PAYROLL
+    length raw/ABC001.1.PAYROLL 2000
+    length raw/MANIFEST.sha256 83
+    0: unpack raw --verify
+    missing raw/ABC001.1.PAYROLL.stage raw/ABC001.1.PAYROLL.salvaged raw/ABC001.1.PAYROLL.gaps
+";
+
+#[test]
+fn damaged_labels_do_not_matter(rt: HostRuntime) -> Result<(), Fail> {
+    follow_in(&rt, "completed", COMPLETED)
+}
+
+const LEFT: &str = "
+    # HDR2 is lost, and a block is unreadable or lost, a mark lost, or a trailer label unreadable.
+    folder out
+    worked block.tap
+    spoil block.tap 5
+    omit block.tap 2
+    3$ unpack out block.tap
+    > FILE ABC001 1 AWAITS 1 1 0 out/ABC001.1.PAYROLL.stage
+    > TOTAL 0 complete 0 existing 1 incomplete 0 in conflict 0 not found 0 failed
+    !   image 1: a file has no HDR2
+    missing out/ABC001.1.PAYROLL out/.tape-1.part
+    folder others
+    worked count.tap
+    omit count.tap 5
+    omit count.tap 2
+    worked before.tap
+    omit before.tap 3
+    omit before.tap 2
+    worked after.tap
+    omit after.tap 7
+    omit after.tap 2
+    worked eof1.tap
+    spoil eof1.tap 8
+    omit eof1.tap 2
+    3: unpack others count.tap | unpack others before.tap | unpack others after.tap
+    missing others/ABC001.1.PAYROLL others/.tape-1.part
+    3: unpack others eof1.tap
+    missing others/ABC001.1.PAYROLL others/.tape-1.part
+    # One copy has no HDR2, and the other one unreadable second labels: the format is unknown.
+    folder form
+    worked form.tap
+    spoil form.tap 2
+    spoil form.tap 9
+    worked none.tap
+    omit none.tap 2
+    cut none.tap 180
+    3: unpack form form.tap none.tap
+    | FILE ABC001 1 AWAITS 1 1 0 form/ABC001.1.PAYROLL.stage
+    missing form/ABC001.1.PAYROLL form/.tape-1.part
+    # A stage with other data: of a copy that lost its second block and is damaged after it.
+    folder staged
+    worked hdr2.tap
+    spoil hdr2.tap 2
+    front head.tap 268
+    lost_damaged older.tap 3
+    3: unpack staged older.tap
+    length staged/ABC001.1.PAYROLL.stage 1106
+    3: unpack staged hdr2.tap head.tap
+    | FILE ABC001 1 AWAITS 1 1 2 staged/ABC001.1.PAYROLL.stage
+    missing staged/ABC001.1.PAYROLL staged/.tape-1.part
+    length staged/ABC001.1.PAYROLL.stage 1106
+    # The only complete file with this number is another one, whose volume label is unreadable.
+    folder other
+    put other.txt ANOTHER\\0AFILE\\0A
+    0: write other ABC 100000 OTHER=other.txt
+    spoil other/ABC001.tap 0
+    damaged one.tap 0
+    $ salvage ABC001 1 other/salvaged one.tap other/ABC001.tap
+    > SECTION 1 2 1
+    > COMPLETE 2
+    3: unpack other one.tap other/ABC001.tap
+    | FILE ABC001 1 AWAITS 1 1 0 other/ABC001.1.PAYROLL.stage
+    missing other/ABC001.1.PAYROLL other/ABC001.1.OTHER other/.tape-1.part
+";
+
+#[test]
+fn nothing_else_is_completed(rt: HostRuntime) -> Result<(), Fail> {
+    follow_in(&rt, "not_completed", LEFT)
+}
