@@ -157,8 +157,9 @@ pub const AFTER_UNPACK: &str =
 'tape survey' reports them. Then it recovers each file as 'tape extract --again'
 does. A file that is incomplete leaves a stage in DIR, and the next run
 continues from it, with other images too; but if each section is complete on one
-of the images, the file is read from these alone. Images are opened more than
-once, so a pipe such as '<(zcat NAME)' does not work.
+of the images, the file is read from these alone. A file that is incomplete only
+because a label is lost or unreadable is recovered as 'tape salvage' does.
+Images are opened more than once: a pipe such as '<(zcat NAME)' does not work.
 
 One line per file:
   FILE ABC001 1 COMPLETE 25 ../out/ABC001.1.PAYROLL
@@ -278,8 +279,7 @@ no copies differ, and otherwise SALVAGED and their number. OUT is written in
 both cases. Keep the lines with it: OUT itself does not show where something is
 missing.
 
-Images are opened more than once, so a pipe such as '<(zcat NAME)' does not
-work.
+Images are opened more than once: a pipe such as '<(zcat NAME)' does not work.
 
 Exit status: 0 nothing is missing and no copies differ, 1 error, 2 usage error,
 3 something is missing, or copies differ";
