@@ -34,7 +34,7 @@ MEMORY = {"IMAGE": 6, "WRITE": 10, "RUN": 4, "STAGE": 4}
 
 # The lists of explanations of file faults: the file.
 FILES = {"FILE_OF_IMAGE": "an image to be read", "FILE_OF_LIST": "a list of images",
-         "FILE_OF_OUT": "OUT of `extract`, `stage` or `salvage`", "FILE_OF_NEW": "OUT of `merge`",
+         "FILE_OF_OUT": "OUT of `extract`, `stage` or `salvage`", "FILE_OF_NEW": "OUT of `merge` or `convert`",
          "FILE_OF_LOG": "LOG of `merge`",
          "FILE_OF_STAGE": "a stage", "FILE_OF_FOLDER": "DIR of `unpack`, or a file in it",
          "FILE_OF_MANIFEST": "`MANIFEST.sha256` of `unpack`",

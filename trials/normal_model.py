@@ -34,6 +34,7 @@ from pathlib import Path
 import normal_form
 import tape_model as model
 from common import Results
+from containers import simh_image
 from mutated_images import image_of
 from survey_model import Survey, one_by_one, path_of, printed
 
@@ -64,7 +65,8 @@ class Trial(Results):
         names = [f"{each}.tap" for each in seeds]
         for name, data in zip(names, images):
             (self.folder / name).write_bytes(data)
-        forms = [normal_form.normal_form(data) for data in images]
+        # Some mutated images are taken for images of another format.
+        forms = [normal_form.normal_form(simh_image(data)) for data in images]
         survey = Survey([data for data, _ in forms])
         applied = [(at, rule) for at, (_, rules) in enumerate(forms, 1) for rule in rules]
         notices = [f"  image {at}: {normal_form.RULES[rule]}" for at, rule in applied]

@@ -18,12 +18,12 @@ packed_text _ = codes "a tar archive: 'tar -xf' unpacks it"
 abbrev pub image_text : Container → List ℕ
 image_text kinds.Simh = codes "a SIMH image"
 image_text kinds.Extended =
-    codes "a SIMH image of the extended format, which tape does not read"
-image_text kinds.E11 = codes "an E11 image: 'mtcvtodd' of the SIMH tools adds the pad bytes"
+    codes "a SIMH image of the extended format: 'tape convert' makes a plain one of it"
+image_text kinds.E11 = codes "an E11 image: 'tape convert' makes a SIMH image of it"
 image_text kinds.TextCopy = codes "a SIMH image with CR LF for LF: copy it again, not as text"
-image_text kinds.Aws = codes "an AWS image: 'aws2tap' makes a SIMH image of it"
+image_text kinds.Aws = codes "an AWS image: 'tape convert' makes a SIMH image of it"
 image_text kinds.Het =
-    codes "a HET image: 'hetupd -d' makes an AWS image, 'aws2tap' a SIMH image"
+    codes "a HET image: 'hetupd -d' makes an AWS image, 'tape convert' a SIMH image"
 image_text kinds.FakeTape = codes "a FakeTape image, which tape does not read"
 image_text kinds.Tpc = codes "a TPC image: 'tpc2mt' of the SIMH tools makes a SIMH image of it"
 image_text kinds.TwoByteWords =

@@ -4,6 +4,7 @@ ghost use Rattle.tape_tool.specs.Words.{IsMistake};
 
 use crate::check::{CHECK, SURVEY, SurveyForm, survey_form};
 use crate::command_spec::{CommandSpec, check_numbers, command_of, mistake, wrong_value};
+use crate::convert::{CONVERT, ConvertOrder, convert_order};
 use crate::extract::{EXTRACT, ExtractOrder, extract_order};
 use crate::help;
 use crate::images::Named;
@@ -64,6 +65,8 @@ pub enum Order<'a> {
     Stage(StageOrder<'a>),
     /// `merge`, or `compare` without an output.
     Merge(MergeOrder<'a>),
+    /// `convert`.
+    Convert(ConvertOrder<'a>),
 }
 
 /// Returns the request in the arguments `words`, the first of which is the program's name.
@@ -130,7 +133,8 @@ fn command<'a>(alloc: Global) -> Result<Command<'a>, AllocError> {
     let bare = command_of(alloc, TAPE)?.version("0.1.0");
     let mut tape = bare.subcommand_required(true).arg(explain)?.arg(silent)?;
     let commands = [
-        LIST, SHOW, CHECK, SURVEY, COMPARE, MERGE, EXTRACT, UNPACK, SALVAGE, STAGE, INIT, WRITE,
+        LIST, SHOW, CHECK, SURVEY, COMPARE, MERGE, CONVERT, EXTRACT, UNPACK, SALVAGE, STAGE, INIT,
+        WRITE,
     ];
     for spec in &commands {
         tape = tape.subcommand(command_of(alloc, *spec)?)?;
@@ -172,6 +176,7 @@ fn spec_of(name: &str) -> &'static CommandSpec {
         "write" => WRITE,
         "merge" => MERGE,
         "compare" => COMPARE,
+        "convert" => CONVERT,
         _ => TAPE,
     }
 }
@@ -198,6 +203,7 @@ fn order_of<'a>(alloc: Global, name: &str, words: &ArgMatches<'a>) -> Result<Ord
         "write" => Order::Write(write_order(alloc, words)?),
         "merge" => Order::Merge(merge_order(alloc, words)?),
         "compare" => Order::Merge(compare_order(alloc, words)?),
+        "convert" => Order::Convert(convert_order(words)?),
         _ => return Err(Refusal::Words(help::NO_COMMAND)),
     })
 }

@@ -4,8 +4,9 @@ use crate::command_spec::{CommandSpec, Kind, Word};
 use crate::explain::FaultSite;
 use crate::extract::{Draft, Output, is_one_name, no_draft};
 use crate::fault::{FileFault, OUT_OF_MEMORY, ToolFault};
+use crate::forms::AnyImages;
 use crate::help;
-use crate::images::{ImageName, Images, Named, names_of};
+use crate::images::{ImageName, Named, names_of};
 use crate::json_rows::{Column, JsonRows, RowKind, RowTable, Shape, Span};
 use crate::program::End;
 use crate::refusal::Refusal;
@@ -192,7 +193,7 @@ fn merge_files<'a, R: Progress, W: Write + Drop, O: Place<W>, G: Write>(
     rows: &mut G,
     site: &mut FaultSite<'a>,
 ) -> End {
-    let (images, report) = (&mut Images::new(rt, names), &mut io::writer(rt));
+    let (images, report) = (&mut AnyImages::new(rt, names), &mut io::writer(rt));
     let alloc = rt.alloc();
     let merged = if order.json {
         let report = &mut JsonRows::new(alloc, MERGE_ROWS, report);

@@ -3,6 +3,7 @@
 
 ghost use Rattle.std.specs.Prelude.{⊤, ◌≤◌, length, IfOk};
 
+use crate::convert::{format_of, is_simh};
 use crate::extract::is_file;
 use crate::images::{Image, Images};
 use crate::screen::Progress;
@@ -10,7 +11,8 @@ use std::alloc::AllocError;
 use std::io;
 use std::io::Read;
 use tape_core::normal::{NormalImage, Rules};
-use tape_run::{Container, ImageSource, container_of};
+use tape_image::SimhImage;
+use tape_run::{ImageSource, container_of};
 
 /// The rules that may be applied to an image, in the order in which they are named.
 const TEXTS: [&str; 7] = [
@@ -58,19 +60,19 @@ pub struct Normal<R: Progress> {
 #[derive(Drop)]
 enum Form<R: Progress> {
     Normal(NormalImage<Image<R>>),
+    /// The normal form of the SIMH image of an image of another format.
+    Converted(NormalImage<SimhImage<Image<R>>>),
     Other(Image<R>),
 }
 
 impl<R: Progress> Form<R> {
     /// Chooses the form by the first bytes of the image, which is unread.
     fn new(mut image: Image<R>) -> Form<R> {
-        match container_of(image.front()) {
-            Container::Unknown
-            | Container::Simh
-            | Container::Extended
-            | Container::E11
-            | Container::TextCopy => Form::Normal(NormalImage::new(image)),
-            _ => Form::Other(image),
+        let kind = container_of(image.front());
+        match format_of(kind) {
+            Some(format) => Form::Converted(NormalImage::new(SimhImage::new(image, format))),
+            None if is_simh(kind) => Form::Normal(NormalImage::new(image)),
+            None => Form::Other(image),
         }
     }
 
@@ -78,6 +80,7 @@ impl<R: Progress> Form<R> {
     fn rules(&self) -> Rules {
         match self {
             Form::Normal(image) => image.rules(),
+            Form::Converted(image) => image.rules(),
             Form::Other(_) => Rules::NONE,
         }
     }
@@ -88,6 +91,7 @@ impl<R: Progress> Read for Form<R> {
     fn read(&mut self, buf: &mut [u8]) -> io::Result<usize> {
         match self {
             Form::Normal(image) => image.read(buf),
+            Form::Converted(image) => image.read(buf),
             Form::Other(image) => image.read(buf),
         }
     }

@@ -9,6 +9,7 @@ use crate::build_note::print_note;
 use crate::check::check;
 use crate::command_line::{Order, call_of, error_in};
 use crate::command_spec::CommandSpec;
+use crate::convert::convert_image;
 use crate::explain::{Explanation, FaultSite, explain_missing, kind_of, reason_of};
 use crate::extract::extract;
 use crate::fault::{FaultLine, FileFault, OUT_OF_MEMORY, ToolFault};
@@ -292,6 +293,7 @@ fn perform<'a, R: Progress>(
         Order::Salvage(order) => salvage(rt, order, &mut site),
         Order::Stage(order) => stage(rt, order, &mut site),
         Order::Merge(order) => merge(rt, order, &mut site),
+        Order::Convert(order) => convert_image(rt, *order, &mut site),
     };
     let end = match done {
         Ok(end) => end,

@@ -29,7 +29,7 @@ const SITES: &str = "
     ~   It is a zip archive: 'unzip' unpacks it.
     put told.aws P\\00\\00\\00\\A0\\00VOL1
     1: list told.aws --explain =>   This does not look like a .tap image.
-    ~   It is an AWS image: 'aws2tap' makes a SIMH image of it.
+    ~   It is an AWS image: 'tape convert' makes a SIMH image of it.
     put told.het P\\00\\00\\00\\A1\\00VOL1
     1: list told.het --explain =>   This does not look like a .tap image.
     ~   It is a HET image:

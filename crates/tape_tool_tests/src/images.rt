@@ -114,6 +114,44 @@ fn readings_are_merged(rt: HostRuntime) -> Result<(), Fail> {
     follow_in(&rt, "merged", MERGED)
 }
 
+const CONVERTED: &str = "
+    # Images of other formats, and their SIMH images.
+    put odd.e11 \\03\\00\\00\\00odd\\03\\00\\00\\00\\00\\00\\00\\00
+    put one.aws \\04\\00\\00\\00\\A0\\00VOL1\\00\\00\\04\\00\\40\\00
+    put told.simh \\01\\00\\00\\E0x\\00\\01\\00\\00\\E0\\00\\00\\00\\00
+    0: convert odd.tap odd.e11 | convert one.tap one.aws | convert told.tap told.simh
+    has odd.tap \\03\\00\\00\\00odd\\00\\03\\00\\00\\00\\00\\00\\00\\00
+    has one.tap \\04\\00\\00\\00VOL1\\04\\00\\00\\00\\00\\00\\00\\00
+    has told.tap \\00\\00\\00\\00
+    missing .tape-1.part
+    # A SIMH image is copied, and an existing file is never changed.
+    worked simh.tap
+    0: convert same.tap simh.tap
+    is_worked same.tap
+    file fault 1: convert odd.tap one.aws | convert simh.tap odd.e11 | convert odd.e11 odd.e11
+    is_worked simh.tap
+    # A damaged image, and a file of another kind.
+    front cut.tap 2000
+    put packed.gz \\1F\\8B\\08\\00\\00\\00
+    image fault 1 at 1884: convert none.tap cut.tap
+    image fault 3 at 0: convert none.tap packed.gz
+    file fault 2: convert none.tap lost.tap | convert missing/none.tap one.aws
+    2: convert | convert - one.aws | convert none.tap one.aws odd.e11 | convert none.tap -
+    missing none.tap .tape-1.part
+    # What is recognised can be overruled.
+    image fault 2 at 0: convert none.tap odd.e11 --format simh
+    0: convert again.tap odd.e11 --format e11
+    has again.tap \\03\\00\\00\\00odd\\00\\03\\00\\00\\00\\00\\00\\00\\00
+    # Lists read SIMH images alone; a survey reads all of these.
+    image fault 2 at 0: list odd.e11
+    image fault 1 at 0: list one.aws
+";
+
+#[test]
+fn images_are_converted(rt: HostRuntime) -> Result<(), Fail> {
+    follow_in(&rt, "converted", CONVERTED)
+}
+
 const WRITTEN: &str = "
     0: init . ABC 2
     # A label, two tape marks and the end-of-medium marker.

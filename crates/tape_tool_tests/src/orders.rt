@@ -68,6 +68,8 @@ const REQUESTS: &str = "
     merge out a.tap b.tap => merge out log=none a.tap b.tap
     merge out --log kept a --files-from l => merge out log=kept a lines of l
     compare a.tap b.tap => compare json=false a.tap b.tap
+    convert a.tap b.aws => convert a.tap image=b.aws None
+    convert a.tap --format e11 => convert a.tap image=none Some(E11)
     compare --json a.tap b.tap => compare json=true a.tap b.tap
 ";
 
@@ -144,6 +146,10 @@ fn text_of(alloc: Global, order: &Order<'_>) -> Result<String, AllocError> {
                 Some(out) => format!(in alloc; "merge {out} log={log}{images}"),
                 None => format!(in alloc; "compare json={}{images}", order.json),
             }
+        }
+        Order::Convert(order) => {
+            let image = order.image.unwrap_or("none");
+            format!(in alloc; "convert {} image={image} {:?}", order.out, order.format)
         }
         _ => recovery_text(alloc, order),
     }

@@ -48,11 +48,13 @@ fn image_text(kind: Container) -> &'static str
 {
     match kind {
         Container::Simh => "a SIMH image",
-        Container::Extended => "a SIMH image of the extended format, which tape does not read",
-        Container::E11 => "an E11 image: 'mtcvtodd' of the SIMH tools adds the pad bytes",
+        Container::Extended =>
+            "a SIMH image of the extended format: 'tape convert' makes a plain one of it",
+        Container::E11 => "an E11 image: 'tape convert' makes a SIMH image of it",
         Container::TextCopy => "a SIMH image with CR LF for LF: copy it again, not as text",
-        Container::Aws => "an AWS image: 'aws2tap' makes a SIMH image of it",
-        Container::Het => "a HET image: 'hetupd -d' makes an AWS image, 'aws2tap' a SIMH image",
+        Container::Aws => "an AWS image: 'tape convert' makes a SIMH image of it",
+        Container::Het =>
+            "a HET image: 'hetupd -d' makes an AWS image, 'tape convert' a SIMH image",
         Container::FakeTape => "a FakeTape image, which tape does not read",
         Container::Tpc => "a TPC image: 'tpc2mt' of the SIMH tools makes a SIMH image of it",
         Container::TwoByteWords => "an image with lengths of two bytes, which tape does not read",

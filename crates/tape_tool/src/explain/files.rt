@@ -56,7 +56,7 @@ pub const FILE_OF_OUT: &str = "
 pub const FILE_OF_NEW: &str = "
 #1  OUT already exists, or another program created it meanwhile. It was not
   changed, and no image was created. Choose a new name.
-  With 'merge' OUT comes before the images: OUT IMAGE..
+  With 'merge' and 'convert' OUT comes before IMAGE.
 #2  OUT could not be created. Nothing was read.
   Does its directory exist, and may you write there?
 #4  Writing to OUT or standard output failed: the disk is full, or a pipe was

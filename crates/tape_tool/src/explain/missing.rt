@@ -293,6 +293,7 @@ fn general_text(order: &Order<'_>) -> &'static str {
             "The images differ (DIFFER), or the image that they form has unreadable items,
   wrong block counts (COUNT) or no end (CUT): the lines say which.",
         // They do not end so.
-        Order::List(_) | Order::Show(_) | Order::Init(_) | Order::Write(_) => NEVER,
+        Order::List(_) | Order::Show(_) | Order::Init(_) | Order::Write(_) | Order::Convert(_) =>
+            NEVER,
     }
 }

@@ -191,3 +191,39 @@ first word.
 Exit status: 0 the images agree, and the image that they would make has no bad
 item and no wrong count, 1 error, 2 usage error, 3 they differ, or that image
 has one or ends within an item";
+
+// `convert`.
+pub const ABOUT_CONVERT: &str = "Make a SIMH image of an image of another format";
+
+pub const IMAGE_TO_CONVERT: &str = "Image to convert [default: standard input]";
+
+pub const FORMAT_TO_CONVERT: &str = "Format of IMAGE, if it is not recognised: aws, e11 or
+simh";
+
+pub const ONE_TO_CONVERT: &str = "convert takes one IMAGE after OUT";
+
+pub const AFTER_CONVERT: &str = "Examples:
+  tape convert reel.tap reel.aws
+  gunzip -c reel.e11.gz | tape convert reel.tap
+
+The format is recognised by the first 36,864 bytes of IMAGE, unless --format
+says it:
+  AWS      a header before each block
+  E11      SIMH without pad bytes after blocks of odd length
+  SIMH, extended format
+           descriptions, private records and markers are left out, and a bad
+           record of length 0 becomes an unreadable block
+  SIMH     copied up to the end of the medium
+An image of another format is refused, as 'tape list' refuses it: with --explain
+it is named, and the program that converts it.
+
+OUT has the items of IMAGE, and all bytes of its blocks, also of unreadable
+ones. If IMAGE is damaged, the byte offset of the fault is that in the SIMH
+image, and there is no OUT.
+  CONVERTED 1284
+           the number of items of OUT
+
+An existing OUT is never overwritten ('tape: file fault 1'), and OUT appears
+only when it is complete.
+
+Exit status: 0 OUT is complete, 1 error, 2 usage error";
