@@ -59,10 +59,11 @@ def file_of(rng, set_id, at, has_trailers, blank):
     letter = rng.choice(FORMATS)
     name = rng.choice([*NAMES, "".join(map(chr, rng.choices(range(256), k=17)))])
     blocks = data_of(rng, letter, rng.choice([0, 1, rng.randint(1, 6)]))
+    no_count = rng.choice([" " * 6, "\0" * 6, "     2", "  0   "]) if rng.random() < .1 else ""
 
     def labels(kind, count):
         numbers = blank * 2 or f"0001{at:04}"
-        others = f"000100 85103 00000 {count:06}"
+        others = f"000100 85103 00000 {no_count or f'{count:06}'}"
         made = [label(f"{kind}1{name:17}{set_id}{numbers}{others}SYSTEM")]
         if letter != "N" and (kind == "HDR" or has_trailers):
             made.append(second(rng, kind + "2", letter))

@@ -10,6 +10,7 @@ RULES = {
     "second": "a file has no HDR2",
     "numbers": "numbers in HDR2 begin with blanks or NULs",
     "file": "a file has no number in HDR1",
+    "count": "a file has no block count",
     "before": "something before the first file is ignored",
     "after": "something after the end of the volume is ignored",
 }
@@ -61,7 +62,7 @@ class Normal:
 
     def __init__(self):
         self.place, self.code, self.dropped, self.rules = "start", "ascii", 0, set()
-        self.file, self.is_filled = 0, False
+        self.file, self.is_filled, self.blocks = 0, False, None
 
     def step(self, item):
         kind, block = item
@@ -108,6 +109,7 @@ class Normal:
 
     def header(self, label):
         """An HDR1, with the numbers of the next file if it can be read only then."""
+        self.blocks = 0
         better, fields = numbered(label, self.file + 1), first_label(label)
         self.is_filled = not isinstance(fields, dict) and self.file < 9999 and (
             not is_dummy(label) and isinstance(first_label(better), dict))
@@ -149,14 +151,30 @@ class Normal:
 
     def data(self, kind, *_):
         self.place = "trailer" if kind == "mark" else "data"
+        if kind == "bad" or self.blocks is None:
+            self.blocks = None
+        elif kind == "block":
+            self.blocks += 1
 
     def trailer(self, _, __, label):
         if kind_of(label) not in ("EOF1", "EOV1"):
             return self.over()
         self.place = "trailers"
-        better = numbered(label, self.file)
-        can_read, could_read = [isinstance(first_label(each), dict) for each in (label, better)]
-        return [("block", better if self.is_filled and could_read and not can_read else label)]
+        return [("block", self.trailing(label))]
+
+    def trailing(self, label):
+        """An EOF1 or EOV1, with the numbers of its HDR1 and a block count if it can be read only
+        then."""
+        better = numbered(label, self.file) if self.is_filled else label
+        count = with_zeros(label[54:60])
+        if count == b"000000" and self.blocks is not None:
+            count = b"%06d" % (self.blocks % 10**6)
+        better = better if self.blocks is None else better[:54] + count + better[60:]
+        if isinstance(first_label(label), dict) or not isinstance(first_label(better), dict):
+            return label
+        if better[54:60] != label[54:60]:
+            self.rules.add("count")
+        return better
 
     def trailers(self, kind, _, label):
         self.place = {"mark": "next", "block": "trailers", "bad": "over"}[kind]

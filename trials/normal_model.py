@@ -4,9 +4,9 @@
     trials/normal_model.py PROGRAM IMAGES [SEED] [--plant FAULT]
 
 Each image is drawn (mutated_images.py) from its own seed: a labelled tape with the peculiarities of
-other systems (labels in EBCDIC, no HDR2 or one with blanks, no numbers in HDR1, marks, noise and
-boot blocks before the first file, no VOL1, a dummy HDR1, remains after the end, a second volume
-label, labels in data, thousands of marks), and up to four mutations of its items or bytes.
+other systems (labels in EBCDIC, no HDR2 or one with blanks, no numbers in HDR1 or counts, marks,
+noise and boot blocks before the first file, no VOL1, a dummy HDR1, remains after the end, a second
+volume label, labels in data, thousands of marks), and up to four mutations of its items or bytes.
 
 The images are read in batches of 200 by `survey --tsv` and `unpack`, which must end with status 0
 or 3. The model (tape_model.py, normal_form.py, read_model.py, survey_model.py), written from
@@ -18,8 +18,8 @@ or `unpack --salvage` (20 images of a batch) writes must be in its image, byte f
 
 Prints each wrong result with the seed of its image or batch (PROGRAM 200 SEED repeats a batch), and
 counts; exit status 1 if there is one. --plant replaces a part of the model by a wrong one, for
-which there must be wrong results: FAULT is map, noise, further, dummy, file or data. With
-TMPDIR=/dev/shm it takes a third of the time.
+which there must be wrong results: FAULT is map, noise, further, dummy, file, count or data.
+With TMPDIR=/dev/shm it takes a third of the time.
 """
 
 import argparse
@@ -199,6 +199,8 @@ def plant(fault):
     elif fault == "file":  # each file without a number is the first
         numbered = normal_form.numbered
         normal_form.numbered = lambda label, file: numbered(label, 1)
+    elif fault == "count":  # unreadable blocks are passed over
+        normal.data = lambda self, kind, *_: data(self, kind) if kind != "bad" else None
     elif fault == "data":  # blocks of 80 bytes in data are mapped
         normal.data = lambda self, kind, block, label: data(self, kind) or (
             [("block", label)] if kind == "block" else None)

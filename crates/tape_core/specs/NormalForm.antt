@@ -20,7 +20,7 @@ use Rattle.tape_core.specs.declared.normal.code.Code.TheVariants.{Ascii, Ebcdic}
 use Rattle.tape_core.specs.NormalForm.{Codes.in_ascii, Mended.is_vol1, Mended.is_hdr1}
 use Rattle.tape_core.specs.NormalForm.{Mended.is_hdr2}
 use Rattle.tape_core.specs.NormalForm.Mended.{is_first_trailer, is_dummy, mended}
-use Rattle.tape_core.specs.NormalForm.Mended.{no_volume_label, headed, trailed}
+use Rattle.tape_core.specs.NormalForm.Mended.{no_volume_label, headed, trailed, counted, uncounted}
 use Rattle.tape_core.specs.declared.normal.numbers.FileSeen.{FileSeen}
 
 -- the greatest number of items that are dropped before VOL1, or between VOL1 and HDR1
@@ -96,16 +96,17 @@ abbrev mutual
   -- data, up to a mark: never changed
   pub of_data : Code → FileSeen → List TapeItem → List TapeItem
   of_data code seen [] = []
-  of_data code seen (block b ∷ xs) = block b ∷ of_data code seen xs
+  of_data code seen (block b ∷ xs) = block b ∷ of_data code (counted seen) xs
   of_data code seen (mark ∷ xs) = mark ∷ of_trailer code seen xs
-  of_data code seen (bad ∷ xs) = bad ∷ of_data code seen xs
+  of_data code seen (bad ∷ xs) = bad ∷ of_data code (uncounted seen) xs
 
   -- EOF1 or EOV1
   pub of_trailer : Code → FileSeen → List TapeItem → List TapeItem
   of_trailer code seen [] = []
   of_trailer code seen (block b ∷ xs) =
       if is_first_trailer (kind_at (in_ascii code b))
-      then block (trailed seen (in_ascii code b)) ∷ of_trailers code seen xs
+      then block (trailed seen (in_ascii code b)).0
+      ∷ of_trailers code (trailed seen (in_ascii code b)).1 xs
       else block b ∷ xs
   of_trailer code seen (mark ∷ xs) = mark ∷ xs
   of_trailer code seen (bad ∷ xs) = bad ∷ xs

@@ -50,6 +50,13 @@ const ZERO_EOF1: &[u8; 80] =
 const SECOND_EOF1: &[u8; 80] =
     b"EOF1PAYROLL          ABC00100010002000100 85113 00000 000002SYSTEM              ";
 
+/// A trailer label without a block count, and those of one block and of two.
+const UNCOUNTED: &[u8; 80] =
+    b"EOF1PAYROLL          ABC00100010001000100 85113 00000       SYSTEM              ";
+
+const COUNTED: &[u8; 80] =
+    b"EOF1PAYROLL          ABC00100010001000100 85113 00000 000001SYSTEM              ";
+
 /// A label with a number that begins with blanks.
 const SHORT1: &[u8; 80] =
     b"HDR1PAYROLL          ABC0010001  07000100 85113 00000 000000SYSTEM              ";
@@ -100,6 +107,8 @@ pub(crate) fn label(letter: u8) -> Option<[u8; 80]> {
         b'N' => *BLANK1,
         b'F' => *ZERO_EOF1,
         b'W' => *SHORT1,
+        b'K' => *UNCOUNTED,
+        b'k' => ebcdic(UNCOUNTED),
         b'Q' => *NO_SECTION1,
         b'i' => ebcdic(BLANK1),
         b'v' => ebcdic(VOL1),
@@ -117,6 +126,7 @@ fn ascii(letter: u8) -> &'static [u8; 80] {
         b'v' => VOL1,
         b'h' | b'N' | b'i' => HDR1,
         b'W' => SEVENTH1,
+        b'K' | b'k' => COUNTED,
         b's' | b'P' | b'p' => HDR2,
         b'U' => WIDE2,
         _ => EOF1,
@@ -144,7 +154,7 @@ fn is_second(text: &[u8; 80]) -> bool {
 /// Returns what happened to the item of a letter: `=` it is kept, `-` dropped, `A` it became its
 /// label in ASCII, `+` it is kept and `&` it became its label after an inserted volume label, `2`
 /// it is kept and a second label is missing, `0` its numbers were filled, `B` it became a label of
-/// the second file.
+/// the second file, `C` it became a trailer label that counts two blocks.
 fn shown(change: &Change, letter: u8) -> u8 {
     match (change.missing, change.instead) {
         (Missing::Nothing, Replacement::Same) => b'=',
@@ -153,6 +163,7 @@ fn shown(change: &Change, letter: u8) -> u8 {
         (Missing::SecondLabel, Replacement::Same) => b'2',
         (Missing::Nothing, Replacement::Label(text)) if text == *ascii(letter) => b'A',
         (Missing::Nothing, Replacement::Label(text)) if is_second(&text) => b'B',
+        (Missing::Nothing, Replacement::Label(text)) if text == *EOF1 => b'C',
         (Missing::VolumeLabel, Replacement::Label(text)) if text == *ascii(letter) => b'&',
         (Missing::Digits, Replacement::Label(text)) if text == *ascii(letter) => b'0',
         _ => b'?',
@@ -208,6 +219,14 @@ fn tapes_and_their_normal_forms(rt: HostRuntime) {
         ("VHSmNmEmm", "========="),
         ("bNSmD", "====="),
         ("VHSmDmbmNSm", "==========="),
+        // labels without a count
+        ("VHSmDmKmm", "======A=="),
+        ("vhsmDmkmm", "AAA===A=="),
+        ("VHSmDDmKmm", "=======C=="),
+        ("VHSmDbmKmm", "=========="),
+        ("VHSmDbmEmm", "=========="),
+        ("VHSmKmKmm", "======A=="),
+        ("VHSmDmEmHSmDmKmm", "=============A=="),
     ];
     for (items, wanted) in tapes {
         becomes(&rt, items, wanted);

@@ -148,6 +148,7 @@ fn rules_are_known(rt: HostRuntime) -> Result<(), AllocError> {
         no_second_label: true,
         blank_numbers: false,
         no_file_numbers: false,
+        no_block_count: false,
         before: 1,
         after: 2,
     };
@@ -171,6 +172,12 @@ fn rules_are_known(rt: HostRuntime) -> Result<(), AllocError> {
     };
     assert_eq!(rt; rules_of(rt.alloc(), "VNSmDmFmm.")?, numbered);
     assert_eq!(rt; rules_of(rt.alloc(), "VHSmDmFmm.")?, Rules::NONE);
+    let uncounted = Rules {
+        no_block_count: true,
+        ..Rules::NONE
+    };
+    assert_eq!(rt; rules_of(rt.alloc(), "VHSmDmKmm.")?, uncounted);
+    assert_eq!(rt; rules_of(rt.alloc(), "VHSmDbmKmm.")?, Rules::NONE);
     let unnamed = Rules {
         no_volume_label: true,
         ..numbered

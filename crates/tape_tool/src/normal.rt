@@ -15,24 +15,26 @@ use tape_image::SimhImage;
 use tape_run::{ImageSource, container_of};
 
 /// The rules that may be applied to an image, in the order in which they are named.
-const TEXTS: [&str; 7] = [
+const TEXTS: [&str; 8] = [
     "labels in EBCDIC",
     "no volume label",
     "a file has no HDR2",
     "numbers in HDR2 begin with blanks or NULs",
     "a file has no number in HDR1",
+    "a file has no block count",
     "something before the first file is ignored",
     "something after the end of the volume is ignored",
 ];
 
 /// Returns which of the rules of `TEXTS` were applied.
-fn applied(rules: Rules) -> [bool; 7] {
+fn applied(rules: Rules) -> [bool; 8] {
     [
         rules.ebcdic,
         rules.no_volume_label,
         rules.no_second_label,
         rules.blank_numbers,
         rules.no_file_numbers,
+        rules.no_block_count,
         rules.before > 0,
         rules.after > 0,
     ]

@@ -1,5 +1,5 @@
 -- The machine's table gives the normal form.
-use Rattle.std.proofs.Common.{◌≡◌, ℕ, List, [], ◌∷◌, ◌++◌, Bool, true, false, cond}
+use Rattle.std.proofs.Common.{◌≡◌, ℕ, List, [], ◌∷◌, ◌++◌, Bool, true, false}
 use Rattle.std.proofs.Common.{length, ◌==◌, refl, sym, ap, ◌∙◌, nat_lt, ◌&&◌, not, append_assoc}
 use Rattle.std.proofs.lemmas.Slice.Eq.{bytes_eq-Decides}
 use Rattle.std.specs.Str.{bytes_eq}
@@ -14,9 +14,7 @@ use Rattle.tape_core.specs.declared.normal.machine.TapePlace.TheVariants.{Second
 use Rattle.tape_core.specs.declared.normal.machine.TapePlace.TheVariants.{Headers, Data, Trailer}
 use Rattle.tape_core.specs.declared.normal.machine.TapePlace.TheVariants.{Trailers}
 use Rattle.tape_core.specs.declared.normal.machine.TapePlace.TheVariants.{Next, Ended, Over}
-use Rattle.tape_core.specs.declared.normal.machine.Replacement.TheVariants as replacements
 use Rattle.tape_core.specs.declared.normal.machine.Missing.TheVariants.{Nothing, VolumeLabel}
-use Rattle.tape_core.specs.declared.normal.machine.Replacement.TheVariants as replacements
 use Rattle.tape_core.specs.declared.normal.machine.Missing.TheVariants.{SecondLabel, Digits}
 use Rattle.tape_core.specs.NormalForm.{Codes.in_ascii, Mended.is_vol1, Mended.is_hdr1}
 use Rattle.tape_core.specs.NormalForm.{Mended.is_hdr2}
@@ -102,8 +100,8 @@ module _ (b : List ℕ) (xs : List TapeItem) where
       ≡ given (trailer_at code seen (in_ascii code b)).1 (block b)
       ++ from (trailer_at code seen (in_ascii code b)).0 xs
   trailer_gives code seen true e =
-      rw (e) (sym (replaced_is Nothing code b (trailed seen (in_ascii code b))
-      (of_trailers code seen xs) _ refl))
+      rw (e) (sym (replaced_is Nothing code b (trailed seen (in_ascii code b)).0
+      (of_trailers code (trailed seen (in_ascii code b)).1 xs) _ refl))
   trailer_gives code seen false e = rw (e) refl
 
   second_gives : (code : Code) (seen : FileSeen) (t u : Bool)

@@ -11,7 +11,8 @@ use Rattle.tape_label.specs.declared.values.Kind.TheVariants as kinds
 use Rattle.tape_label.specs.{Kinds.kind_at, VolumeLabels.is_volume_label}
 use Rattle.tape_label.specs.Reading.{head1_at, head2_at, trail1_at}
 use Rattle.tape_label.proofs.{First.head1_found, First.trail1_found, Apart.kind_again}
-use Rattle.tape_core.proofs.NormalForm.{Same.first_trailer, KindKept.kind_mended}
+use Rattle.tape_core.proofs.NormalForm.{Same.first_trailer, Same.ok_no_dummy, KindKept.kind_mended}
+use Rattle.tape_core.proofs.NormalForm.Numbers.{headed_ok, trailed_ok}
 use Rattle.tape_set.specs.declared.position.Position.{Position}
 use Rattle.tape_set.specs.declared.position.Position.TheVariants.{Awaits, Finished}
 use Rattle.tape_set.specs.Position.{next_block, next_section, block_of, sect_of, part_of}
@@ -35,7 +36,7 @@ use Rattle.tape_core.specs.Table.{at_passed_trailer, at_wanted_trailer, at_end, 
 use Rattle.tape_core.specs.declared.normal.code.Code.TheVariants.{Ascii}
 use Rattle.tape_core.specs.declared.normal.machine.TapePlace.{TapePlace}
 use Rattle.tape_core.specs.declared.normal.machine.TapePlace.TheVariants as places
-use Rattle.tape_core.specs.NormalForm.Mended.{mended, seen_as}
+use Rattle.tape_core.specs.NormalForm.Mended.{mended, seen_as, counted, uncounted}
 use Rattle.tape_core.specs.declared.normal.numbers.FileSeen.{FileSeen}
 use Rattle.tape_core.specs.NormalForm.{Steps.from}
 use Rattle.tape_core.proofs.NormalForm.AheadFacts.{Fits, Stands, Fact}
@@ -114,7 +115,8 @@ module _ (core : State) (w : is_finished core.position ≡ false) where
       kept (places.Labels Ascii n) (λ xs. rw (e) refl)
       (λ g. stays (places.Labels Ascii n) phases.VolumeLabels tt)
   labels n b false e (Some kinds.Hdr1) f =
-      heads (places.Labels Ascii n) b (λ h o xs. rw (e, f, o) refl) (head1_at b) refl
+      heads (places.Labels Ascii n) b
+      (λ h o xs. rw (e, f, headed_ok 0 b h o, ok_no_dummy b h o) refl) (head1_at b) refl
   labels n b false e k f = ends tt
 
   pub second : (seen : FileSeen) (heading : Heading) (wanted : Bool) (b : List ℕ)
@@ -155,9 +157,11 @@ module _ (core : State) (w : is_finished core.position ≡ false) where
   pub data_passed : (seen : FileSeen) (heading : Heading) (x : TapeItem)
       → Fact core (places.Data Ascii seen) x (at_item core (phases.DataPassed heading) x)
   data_passed seen heading (block b) =
-      kept (places.Data Ascii seen) (λ xs. refl) (λ g. stays (places.Data Ascii seen) _ tt)
+      kept (places.Data Ascii (counted seen)) (λ xs. refl)
+      (λ g. stays (places.Data Ascii (counted seen)) _ tt)
   data_passed seen heading bad =
-      kept (places.Data Ascii seen) (λ xs. refl) (λ g. stays (places.Data Ascii seen) _ tt)
+      kept (places.Data Ascii (uncounted seen)) (λ xs. refl)
+      (λ g. stays (places.Data Ascii (uncounted seen)) _ tt)
   data_passed seen heading mark =
       kept (places.Trailer Ascii seen) (λ xs. refl) (λ g. stays (places.Trailer Ascii seen) _ tt)
 
@@ -168,8 +172,8 @@ module _ (core : State) (w : is_finished core.position ≡ false) where
       (begun_before form (part_of core.position) core.begun b) b) in
       pick (places.Data Ascii seen) (block b) (nat_lt n (block_of core.position))
       (passed core (phases.DataWanted heading form (n + 1))) (at_awaited core heading form b)
-      (kept (places.Data Ascii seen) (λ xs. refl)
-      (λ g. stays (places.Data Ascii seen) (phases.DataWanted heading form (n + 1)) tt))
+      (kept (places.Data Ascii (counted seen)) (λ xs. refl)
+      (λ g. stays (places.Data Ascii (counted seen)) (phases.DataWanted heading form (n + 1)) tt))
       (pick (places.Data Ascii seen) (block b) (not (nat_lt (block_of core.position) most_blocks))
       (useless core reasons.SectionDiffers)
       (at_judged core heading form b (judged form.format form.rec_len form.offset
@@ -182,13 +186,14 @@ module _ (core : State) (w : is_finished core.position ≡ false) where
           pick (places.Data Ascii seen) (block b)
           (other_front form (part_of core.position) core.begun b)
           (useless core reasons.SectionDiffers) (delivered' core heading form end) (ends tt)
-          (kept (places.Data Ascii seen) (λ xs. refl)
+          (kept (places.Data Ascii (counted seen)) (λ xs. refl)
           (λ g. record { waits = next_waits core.position w; fits = tt }))
   data_wanted seen heading form n bad =
       pick (places.Data Ascii seen) bad (nat_lt n (block_of core.position))
       (passed core (phases.DataWanted heading form (n + 1))) (useless core reasons.BadItem)
-      (kept (places.Data Ascii seen) (λ xs. refl)
-      (λ g. stays (places.Data Ascii seen) (phases.DataWanted heading form (n + 1)) tt)) (ends tt)
+      (kept (places.Data Ascii (uncounted seen)) (λ xs. refl)
+      (λ g. stays (places.Data Ascii (uncounted seen)) (phases.DataWanted heading form (n + 1)) tt))
+      (ends tt)
   data_wanted seen heading form n mark =
       pick (places.Data Ascii seen) mark (nat_lt n (block_of core.position))
       (useless core reasons.SectionDiffers) (passed core (phases.TrailerWanted heading form))
@@ -202,7 +207,7 @@ module _ (core : State) (w : is_finished core.position ≡ false) where
       ≡ block b ∷ from (places.Trailers Ascii seen) xs
   trailer_kept seen b t e xs =
       let k = (first_trailer b t.eof (trail1_found b t e).kind).0 in
-      rw (k, e) refl
+      rw (k, trailed_ok seen b t e) refl
 
   pub trailer_passed : (seen : FileSeen) (heading : Heading) (b : List ℕ)
       (o : Result Trail1 LabelFault)
@@ -254,4 +259,4 @@ module _ (core : State) (w : is_finished core.position ≡ false) where
       ≡ block b ∷ from (places.Second Ascii (seen_as false h)) xs
   next_kept seen b h e xs =
       let k = kind_again b kinds.Hdr1 (head1_found b h e).kind in
-      rw (k, e) refl
+      rw (k, headed_ok seen.sequence b h e) refl

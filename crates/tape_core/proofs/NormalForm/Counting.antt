@@ -1,7 +1,7 @@
 -- How many items the normal form of a tape has.
-use Rattle.std.proofs.Common.{◌≡◌, ℕ, zero, suc, ◌+◌, ◌≤◌, Bool, true, false, nat_lt, ◌&&◌, not}
+use Rattle.std.proofs.Common.{◌≡◌, ℕ, ◌+◌, ◌≤◌, Bool, true, false, nat_lt, ◌&&◌, not}
 use Rattle.std.proofs.Common.{◌==◌}
-use Rattle.std.proofs.Common.{List, [], ◌∷◌, ◌++◌, length, Option, Some, None, refl, arith}
+use Rattle.std.proofs.Common.{List, [], ◌∷◌, length, Option, Some, None, refl, arith}
 use Rattle.std.proofs.Common.{length-append}
 use Rattle.std.specs.Str.{bytes_eq}
 use Rattle.tape_image.specs.Tape.{TapeItem, block, bad, mark}
@@ -20,7 +20,8 @@ use Rattle.tape_core.specs.declared.normal.machine.Missing.TheVariants.{Nothing,
 use Rattle.tape_core.specs.declared.normal.machine.Missing.TheVariants.{SecondLabel, Digits}
 use Rattle.tape_core.specs.NormalForm.{is_noise, most_dropped, Codes.in_ascii}
 use Rattle.tape_core.specs.NormalForm.Mended.{is_vol1, is_hdr1, is_hdr2, is_first_trailer}
-use Rattle.tape_core.specs.NormalForm.Mended.{is_dummy, mended, headed, trailed}
+use Rattle.tape_core.specs.NormalForm.Mended.{is_dummy, mended, headed, trailed, counted}
+use Rattle.tape_core.specs.NormalForm.Mended.{uncounted}
 use Rattle.tape_core.specs.declared.normal.numbers.FileSeen.{FileSeen}
 use Rattle.tape_core.specs.NormalForm.Steps.{step_of, from, given, inserted, instead, instead_in}
 use Rattle.tape_core.specs.NormalForm.Steps.{begin_in, begin_at, either, start_at, drop_first}
@@ -142,8 +143,8 @@ module _ (b : List ℕ) where
       → is_first_trailer (kind_at (in_ascii code b)) ≡ k
       → FitsIn 0 (trailer_at code seen (in_ascii code b))
   trailer_fits code seen true p =
-      rw (p) (leaf 0 (Trailers code seen) Nothing
-      (replaced_with Nothing code (trailed seen (in_ascii code b)) (in_ascii code b)).instead refl
+      rw (p) (leaf 0 (Trailers code (trailed seen (in_ascii code b)).1) Nothing
+      (replaced_with Nothing code (trailed seen (in_ascii code b)).0 (in_ascii code b)).instead refl
       (omega arith))
   trailer_fits code seen false p = rw (p) (leaf 0 Over Nothing Same refl (omega arith))
 
@@ -171,9 +172,10 @@ step_fits (Second code seen) bad = leaf 0 Over Nothing Same refl (omega arith)
 step_fits (Headers code seen) (block b) = any_fits b (Headers code seen) code _ refl refl
 step_fits (Headers code seen) mark = leaf 0 (Data code seen) Nothing Same refl (omega arith)
 step_fits (Headers code seen) bad = leaf 0 Over Nothing Same refl (omega arith)
-step_fits (Data code seen) (block b) = leaf 0 (Data code seen) Nothing Same refl (omega arith)
+step_fits (Data code seen) (block b) =
+    leaf 0 (Data code (counted seen)) Nothing Same refl (omega arith)
 step_fits (Data code seen) mark = leaf 0 (Trailer code seen) Nothing Same refl (omega arith)
-step_fits (Data code seen) bad = leaf 0 (Data code seen) Nothing Same refl (omega arith)
+step_fits (Data code seen) bad = leaf 0 (Data code (uncounted seen)) Nothing Same refl (omega arith)
 step_fits (Trailer code seen) (block b) = trailer_fits b code seen _ refl
 step_fits (Trailer code seen) mark = leaf 0 Over Nothing Same refl (omega arith)
 step_fits (Trailer code seen) bad = leaf 0 Over Nothing Same refl (omega arith)

@@ -13,6 +13,7 @@ use Rattle.tape_image.proofs.Words.{word-append}
 use Rattle.tape_image.specs.Word.{mark_word, gap_word, longest_block, block_extent}
 use Rattle.tape_image.specs.Tape.{block}
 use Rattle.tape_core.specs.NormalForm.Steps.{step_of, same}
+use Rattle.tape_core.specs.NormalForm.Steps.{counted_at}
 use Rattle.tape_core.specs.NormalForm.Bytes.{unlabelled, block_step}
 use Rattle.tape_core.specs.declared.normal.machine.{TapePlace.TapePlace}
 use Rattle.tape_core.specs.declared.normal.machine.TapePlace.TheVariants.{Over}
@@ -287,12 +288,17 @@ module _ (a b : Option (List ℕ)) (room : ℕ) (place : TapePlace) where
 pub data_looked : (room : ℕ) (place : TapePlace) (w : ℕ) (xs : List ℕ)
     → reads_labels place ≡ false → is_over place ≡ false → 4 ≤ length xs → little_number 4 xs ≡ w
     → 0 < w → w ≤ longest_block → block_extent w ≤ room
-    → Some (record { size = block_extent w; next = place; change = same }) ≡ looked room place xs
+    → Some (record { size = block_extent w; next = counted_at place; change = same })
+    ≡ looked room place xs
 data_looked room (places.Data code seen) w xs d o h e some few fits =
     let mark : (w == mark_word) ≡ false = grind (arith, nat_tests) in
     let gap : (w == gap_word) ≡ false = grind (arith, nat_tests) in
     let word : looked_word room (places.Data code seen) w xs
-    ≡ Some (record { size = block_extent w; next = places.Data code seen; change = same }) =
+    ≡ Some (record {
+      size = block_extent w;
+      next = counted_at (places.Data code seen);
+      change = same;
+    }) =
     rw (
       mark,
       gap,
@@ -320,21 +326,21 @@ pub word_gives : (a b : Option (List ℕ)) (held : List ℕ) (room : ℕ) (place
     → Consumes
     (option_map (λ xs. ins ++ (lab ++ left_in course room place xs)) (prepend_known held a))
     (option_map (λ xs. ins ++ (lab ++ left_in (Passing (block_extent w - 4))
-    (room - block_extent w) place xs)) (prepend_known held b)) bs
+    (room - block_extent w) (counted_at place) xs)) (prepend_known held b)) bs
 word_gives a b held room place ins lab course w bs h i l c d o k four e some few fits =
     rw (h, prepend_known-nil a, prepend_known-nil b, i, l, c) (given_by a b bs
     (normal_from room place)
-    (left_in (Passing (block_extent w - 4)) (room - block_extent w) place) k more)
+    (left_in (Passing (block_extent w - 4)) (room - block_extent w) (counted_at place)) k more)
   where
     more : (ys : List ℕ) → normal_from room place (bs ++ ys)
-        ≡ bs ++ left_in (Passing (block_extent w - 4)) (room - block_extent w) place ys
+        ≡ bs ++ left_in (Passing (block_extent w - 4)) (room - block_extent w) (counted_at place) ys
     more ys =
         item_left room place (bs ++ ys)
-        (Some (record { size = block_extent w; next = place; change = same }))
+        (Some (record { size = block_extent w; next = counted_at place; change = same }))
         (data_looked room place w (bs ++ ys) d o (omega (arith, four, length-append bs ys))
         (word-append bs ys (omega (arith, four)) ∙ e) some few fits)
         ∙ pass_more (block_extent w) (block_extent w - 4) bs ys
-        (normal_from (room - block_extent w) place) (omega (arith, four))
+        (normal_from (room - block_extent w) (counted_at place)) (omega (arith, four))
 
 -- the inserted label is given on
 pub inserted_gives : (a : Option (List ℕ)) (all front rest : List ℕ) (f : List ℕ → List ℕ)

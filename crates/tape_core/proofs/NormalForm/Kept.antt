@@ -1,12 +1,12 @@
 -- An image of items that are their own normal form keeps its bytes.
-use Rattle.std.proofs.Common.{◌≡◌, ℕ, zero, suc, ◌+◌, ◌-◌, ◌*◌, ◌≤◌, ◌%◌, ◌⊎◌, inl, inr, Bool, true}
+use Rattle.std.proofs.Common.{◌≡◌, ℕ, ◌+◌, ◌-◌, ◌*◌, ◌≤◌, ◌%◌, ◌⊎◌, inl, inr, Bool, true}
 use Rattle.std.proofs.Common.{false, nat_le, List, [], ◌∷◌, ◌++◌, length, take, Some, refl, sym}
 use Rattle.std.proofs.Common.{ap, subst, ◌∙◌, arith, append_assoc, length-append, replicate}
 use lib.Seq.{take_at}
-use Rattle.byteorder.specs.{Endian.little_number, Endian.little_bytes}
+use Rattle.byteorder.specs.{Endian.little_bytes}
 use Rattle.std.proofs.lemmas.Bool.Decides.{nat_tests}
-use Rattle.tape_image.specs.Tape.{TapeItem, block, bad, mark}
-use Rattle.tape_image.specs.Spelling.{IsSpelling, Spelling, Spells, EndsHere, item_of}
+use Rattle.tape_image.specs.Tape.{TapeItem, block, bad}
+use Rattle.tape_image.specs.Spelling.{IsSpelling, Spelling, EndsHere, item_of}
 use Rattle.tape_image.specs.Spelling.{a_mark, a_gap, a_block}
 use Rattle.tape_image.specs.declared.item.Ending.{Ending}
 use Rattle.tape_image.specs.Word.{IsWord, longest_block}
@@ -24,7 +24,7 @@ use Rattle.tape_core.specs.declared.normal.machine.Replacement.TheVariants.{Same
 use Rattle.tape_core.specs.declared.normal.machine.Missing.TheVariants.{Nothing, VolumeLabel}
 use Rattle.tape_core.specs.declared.normal.machine.Missing.TheVariants.{SecondLabel, Digits}
 use Rattle.tape_core.specs.NormalForm.{normal, Mended.no_volume_label}
-use Rattle.tape_core.specs.NormalForm.Steps.{step_of, from, given, inserted, instead}
+use Rattle.tape_core.specs.NormalForm.Steps.{step_of, from, inserted, instead}
 use Rattle.tape_core.specs.NormalForm.Bytes.{normal_from, normal_bytes, inserted_bytes, is_over}
 use Rattle.tape_core.specs.NormalForm.Bytes.{instead_bytes, skipped}
 use Rattle.tape_core.specs.NormalForm.Laws.{BytesKept, CopyBytesKept}
@@ -33,7 +33,7 @@ use Rattle.tape_core.proofs.NormalForm.LookedAt.{stepped, len_is}
 use Rattle.tape_core.proofs.NormalForm.{Enough.no_less, Plain.step_labelled, Plain.Labelled}
 use Rattle.tape_core.proofs.NormalForm.Spelled.{bytes_of, items_of, end_left, first_left, one_item}
 use Rattle.tape_core.proofs.NormalForm.Spelled.{over_is}
-use Rattle.tape_core.proofs.NormalForm.Counting.{grown, added, kept, step_fits, step_size, shorter}
+use Rattle.tape_core.proofs.NormalForm.Counting.{grown, added, step_fits, step_size, shorter}
 
 -- ---- the label that is inserted
 

@@ -19,6 +19,7 @@ use Rattle.tape_core.specs.declared.normal.machine.Replacement.TheVariants.{Same
 use Rattle.tape_core.specs.NormalForm.{Codes.in_ascii, Codes.to_ascii, is_noise, most_dropped}
 use Rattle.tape_core.specs.NormalForm.Mended.{is_vol1, is_hdr1, is_hdr2, is_first_trailer}
 use Rattle.tape_core.specs.NormalForm.Mended.{is_dummy, mended, filled, is_ok, headed, trailed}
+use Rattle.tape_core.specs.NormalForm.Mended.{counted}
 use Rattle.tape_core.specs.declared.normal.numbers.FileSeen.{FileSeen}
 use Rattle.tape_core.specs.declared.normal.machine.Missing.{Missing}
 use Rattle.tape_core.specs.declared.normal.machine.Missing.TheVariants.{Nothing, VolumeLabel}
@@ -41,7 +42,7 @@ plain_of (Labels code n) z = drop_block code n
 plain_of Blank z = (Over, same)
 plain_of (Second code seen) z = (Over, same)
 plain_of (Headers code seen) z = (Headers code seen, same)
-plain_of (Data code seen) z = (Data code seen, same)
+plain_of (Data code seen) z = (Data code (counted seen), same)
 plain_of (Trailer code seen) z = (Over, same)
 plain_of (Trailers code seen) z = (Trailers code seen, same)
 plain_of (Next code seen) z = (Over, same)
@@ -221,7 +222,7 @@ module _ (b : List ℕ) (e : length b ≡ 80) where
       → is_first_trailer (kind_at (in_ascii code b)) ≡ k
       → Labelled (trailer_at code seen (in_ascii code b)).1.instead
   trailer_labelled code seen true p =
-      rw (p) (replaced_labelled Nothing code (trailed seen (in_ascii code b))
+      rw (p) (replaced_labelled Nothing code (trailed seen (in_ascii code b)).0
       (trailed_80 seen (in_ascii code b) (text_80 code)))
   trailer_labelled code seen false p = rw (p) tt
 

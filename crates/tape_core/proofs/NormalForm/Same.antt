@@ -11,6 +11,8 @@ use Rattle.tape_label.specs.{Kinds.kind_at, Kinds.trailer, VolumeLabels.is_volum
 use Rattle.tape_label.specs.{Reading.head1_at, Reading.head2_at, Head1.IsHead1, Head2.IsHead2}
 use Rattle.tape_label.specs.{Trail1.IsTrail1, Kinds.HasKind}
 use Rattle.tape_label.proofs.{Apart.kind_again, First.head1_again, Second.head2_again}
+use Rattle.tape_label.proofs.{First.trail1_again}
+use Rattle.tape_label.specs.{declared.values.Trail1.Trail1, Reading.trail1_at}
 use Rattle.tape_label.proofs.VolumeLabels.{volume_label_again, no_volume_label}
 use Rattle.tape_blocks.specs.Tight.{Filled}
 use Rattle.tape_set.specs.Layout.{FileSet, Section, Placed, Volume, nth, sections, on, section_of}
@@ -26,8 +28,8 @@ use Rattle.tape_core.specs.declared.normal.code.Code.{Code}
 use Rattle.tape_core.specs.declared.normal.code.Code.TheVariants.{Ascii}
 use Rattle.tape_core.specs.declared.normal.numbers.FileSeen.{FileSeen}
 use Rattle.tape_core.specs.NormalForm.Mended.{is_first_trailer, is_dummy, is_hdr1, mended}
-use Rattle.tape_core.specs.NormalForm.Mended.{seen_as, trailed}
-use Rattle.tape_core.proofs.NormalForm.Numbers.{trailed_same}
+use Rattle.tape_core.specs.NormalForm.Mended.{seen_as, trailed, counted, uncounted, one_more}
+use Rattle.tape_core.proofs.NormalForm.Numbers.{headed_ok, trailed_ok, trailed_same}
 use Rattle.tape_core.specs.NormalForm.{of_start, of_labels, of_second, of_headers, of_data}
 use Rattle.tape_core.specs.NormalForm.{of_trailer, of_trailers, of_next, normal}
 use Rattle.tape_core.specs.NormalForm.Laws.{NormalKeeps}
@@ -72,6 +74,8 @@ record Labelled (s : Section) : Type 0 where
   pub second : kind_at s.hdr2 ≡ Some kinds.Hdr2
   pub kept : mended s.hdr2 ≡ s.hdr2
   pub trailer : is_first_trailer (kind_at s.trailer) ≡ true
+  pub last : Trail1
+  pub ended : trail1_at s.trailer ≡ Ok last
   pub no_header : is_hdr1 (kind_at s.trailer) ≡ false
 
 -- a copy of these items, however damaged, is kept by this part of the normal form
@@ -81,6 +85,11 @@ Keeps f k = (good : List Bool) → f (as_read k good) ≡ as_read k good
 -- the same where the header label of the file has numbers
 abbrev KeepsIn : (Code → FileSeen → List TapeItem → List TapeItem) → List TapeItem → Type 0
 KeepsIn f k = (seen : FileSeen) → seen.is_filled ≡ false → Keeps (f Ascii seen) k
+
+-- the same after an item among the data that cannot be read
+abbrev KeepsAfter : (Code → FileSeen → List TapeItem → List TapeItem) → List TapeItem → Type 0
+KeepsAfter f k =
+    (seen : FileSeen) → seen.is_filled ≡ false → seen.blocks ≡ None → Keeps (f Ascii seen) k
 
 -- ---- blocks up to a mark
 
@@ -102,25 +111,40 @@ headers_run (b ∷ bs) k h seen u [] = refl
 headers_run (b ∷ bs) k h seen u (true ∷ gs) = ap (λ v. block b ∷ v) (headers_run bs k h seen u gs)
 headers_run (b ∷ bs) k h seen u (false ∷ gs) = refl
 
-data_run : (bs : List (List ℕ)) (k : List TapeItem) → KeepsIn of_trailer k
-    → KeepsIn of_data k → KeepsIn of_data (blocks bs (mark ∷ k))
-data_run [] k h d seen u [] = refl
-data_run [] k h d seen u (true ∷ gs) = ap (λ v. mark ∷ v) (h seen u gs)
-data_run [] k h d seen u (false ∷ gs) = ap (λ v. bad ∷ v) (d seen u gs)
-data_run (b ∷ bs) k h d seen u [] = refl
-data_run (b ∷ bs) k h d seen u (true ∷ gs) = ap (λ v. block b ∷ v) (data_run bs k h d seen u gs)
-data_run (b ∷ bs) k h d seen u (false ∷ gs) = ap (λ v. bad ∷ v) (data_run bs k h d seen u gs)
+data_run : (bs : List (List ℕ)) (k : List TapeItem) → KeepsAfter of_trailer k
+    → KeepsAfter of_data k → KeepsAfter of_data (blocks bs (mark ∷ k))
+data_run [] k h d seen u n [] = refl
+data_run [] k h d seen u n (true ∷ gs) = ap (λ v. mark ∷ v) (h seen u n gs)
+data_run [] k h d seen u n (false ∷ gs) = ap (λ v. bad ∷ v) (d (uncounted seen) u refl gs)
+data_run (b ∷ bs) k h d seen u n [] = refl
+data_run (b ∷ bs) k h d seen u n (true ∷ gs) =
+    ap (λ v. block b ∷ v) (data_run bs k h d (counted seen) u (ap one_more n) gs)
+data_run (b ∷ bs) k h d seen u n (false ∷ gs) =
+    ap (λ v. bad ∷ v) (data_run bs k h d (uncounted seen) u refl gs)
 
-data_block : (b : List ℕ) (k : List TapeItem) → KeepsIn of_data k
-    → KeepsIn of_data (block b ∷ k)
-data_block b k d seen u [] = refl
-data_block b k d seen u (true ∷ gs) = ap (λ v. block b ∷ v) (d seen u gs)
-data_block b k d seen u (false ∷ gs) = ap (λ v. bad ∷ v) (d seen u gs)
+-- the data of a section, as long as all items can be read
+data_read : (bs : List (List ℕ)) (k : List TapeItem) → KeepsIn of_trailer k
+    → KeepsAfter of_trailer k → KeepsAfter of_data k → KeepsIn of_data (blocks bs (mark ∷ k))
+data_read [] k h a d seen u [] = refl
+data_read [] k h a d seen u (true ∷ gs) = ap (λ v. mark ∷ v) (h seen u gs)
+data_read [] k h a d seen u (false ∷ gs) = ap (λ v. bad ∷ v) (d (uncounted seen) u refl gs)
+data_read (b ∷ bs) k h a d seen u [] = refl
+data_read (b ∷ bs) k h a d seen u (true ∷ gs) =
+    ap (λ v. block b ∷ v) (data_read bs k h a d (counted seen) u gs)
+data_read (b ∷ bs) k h a d seen u (false ∷ gs) =
+    ap (λ v. bad ∷ v) (data_run bs k a d (uncounted seen) u refl gs)
+
+data_block : (b : List ℕ) (k : List TapeItem) → KeepsAfter of_data k
+    → KeepsAfter of_data (block b ∷ k)
+data_block b k d seen u n [] = refl
+data_block b k d seen u n (true ∷ gs) =
+    ap (λ v. block b ∷ v) (d (counted seen) u (ap one_more n) gs)
+data_block b k d seen u n (false ∷ gs) = ap (λ v. bad ∷ v) (d (uncounted seen) u refl gs)
 
 -- ---- one section
 
 module _ (s : Section) (l : Labelled s) (k : List TapeItem) (next : KeepsIn of_next k)
-    (data' : KeepsIn of_data k) (trail : KeepsIn of_trailer k) where
+    (data' : KeepsAfter of_data k) (trail : KeepsAfter of_trailer k) where
   next_at_trailer : KeepsIn of_next (trailer_on s k)
   next_at_trailer seen u [] = refl
   next_at_trailer seen u (true ∷ gs) = rw (l.no_header) refl
@@ -129,44 +153,51 @@ module _ (s : Section) (l : Labelled s) (k : List TapeItem) (next : KeepsIn of_n
   trailer_at_trailer : KeepsIn of_trailer (trailer_on s k)
   trailer_at_trailer seen u [] = refl
   trailer_at_trailer seen u (true ∷ gs) =
-      rw (l.trailer, trailed_same seen s.trailer u)
+      rw (l.trailer, trailed_ok seen s.trailer l.last l.ended)
       (ap (λ v. block s.trailer ∷ v) (trailers_run s.trailers k next seen u gs))
   trailer_at_trailer seen u (false ∷ gs) = refl
 
-  data_at_trailer : KeepsIn of_data (trailer_on s k)
+  trailer_after : KeepsAfter of_trailer (trailer_on s k)
+  trailer_after seen u n = trailer_at_trailer seen u
+
+  data_at_trailer : KeepsAfter of_data (trailer_on s k)
   data_at_trailer =
       data_block s.trailer (trailers_on s k) (data_run s.trailers k trail data')
 
   trailer_at_data : (bs : List (List ℕ))
-      → KeepsIn of_trailer (blocks bs (mark ∷ trailer_on s k))
-  trailer_at_data [] seen u [] = refl
-  trailer_at_data [] seen u (true ∷ gs) = refl
-  trailer_at_data [] seen u (false ∷ gs) = refl
-  trailer_at_data (b ∷ bs) seen u [] = refl
-  trailer_at_data (b ∷ bs) seen u (true ∷ gs) = go (is_first_trailer (kind_at b))
+      → KeepsAfter of_trailer (blocks bs (mark ∷ trailer_on s k))
+  trailer_at_data [] seen u n [] = refl
+  trailer_at_data [] seen u n (true ∷ gs) = refl
+  trailer_at_data [] seen u n (false ∷ gs) = refl
+  trailer_at_data (b ∷ bs) seen u n [] = refl
+  trailer_at_data (b ∷ bs) seen u n (true ∷ gs) = go (is_first_trailer (kind_at b))
     where
       go : (t : Bool)
-          → cond t (block (trailed seen b)
-          ∷ of_trailers Ascii seen (as_read (blocks bs (mark ∷ trailer_on s k)) gs))
+          → cond t (block (trailed seen b).0
+          ∷ of_trailers Ascii (trailed seen b).1 (as_read (blocks bs (mark ∷ trailer_on s k)) gs))
           (block b ∷ as_read (blocks bs (mark ∷ trailer_on s k)) gs)
           ≡ block b ∷ as_read (blocks bs (mark ∷ trailer_on s k)) gs
       go true =
-          rw (trailed_same seen b u)
+          rw (trailed_same seen b u n)
           (ap (λ v. block b ∷ v) (trailers_run bs (trailer_on s k) next_at_trailer seen u gs))
       go false = refl
-  trailer_at_data (b ∷ bs) seen u (false ∷ gs) = refl
+  trailer_at_data (b ∷ bs) seen u n (false ∷ gs) = refl
 
   data_at_data : KeepsIn of_data (data_on s k)
-  data_at_data = data_run (data_of s.blocks) (trailer_on s k) trailer_at_trailer data_at_trailer
+  data_at_data =
+      data_read (data_of s.blocks) (trailer_on s k) trailer_at_trailer trailer_after data_at_trailer
+
+  data_after : KeepsAfter of_data (data_on s k)
+  data_after seen u n = data_at_data seen u
 
   headers_at_headers : KeepsIn of_headers (headers_on s k)
   headers_at_headers = headers_run s.headers (data_on s k) data_at_data
 
-  data_at_headers : KeepsIn of_data (headers_on s k)
+  data_at_headers : KeepsAfter of_data (headers_on s k)
   data_at_headers =
-      data_run s.headers (data_on s k) (trailer_at_data (data_of s.blocks)) data_at_data
+      data_run s.headers (data_on s k) (trailer_at_data (data_of s.blocks)) data_after
 
-  data_at_second : KeepsIn of_data (second_on s k)
+  data_at_second : KeepsAfter of_data (second_on s k)
   data_at_second = data_block s.hdr2 (headers_on s k) data_at_headers
 
   second_at_second : KeepsIn of_second (second_on s k)
@@ -178,22 +209,22 @@ module _ (s : Section) (l : Labelled s) (k : List TapeItem) (next : KeepsIn of_n
   next_at_header : KeepsIn of_next (block s.hdr1 ∷ second_on s k)
   next_at_header seen u [] = refl
   next_at_header seen u (true ∷ gs) =
-      rw (l.header, l.read)
+      rw (l.header, headed_ok seen.sequence s.hdr1 l.head l.read)
       (ap (λ v. block s.hdr1 ∷ v) (second_at_second (seen_as false l.head) refl gs))
   next_at_header seen u (false ∷ gs) = refl
 
-  data_at_header : KeepsIn of_data (block s.hdr1 ∷ second_on s k)
+  data_at_header : KeepsAfter of_data (block s.hdr1 ∷ second_on s k)
   data_at_header = data_block s.hdr1 (second_on s k) data_at_second
 
-  trailer_at_header : KeepsIn of_trailer (block s.hdr1 ∷ second_on s k)
-  trailer_at_header seen u [] = refl
-  trailer_at_header seen u (true ∷ gs) = rw (l.header) refl
-  trailer_at_header seen u (false ∷ gs) = refl
+  trailer_at_header : KeepsAfter of_trailer (block s.hdr1 ∷ second_on s k)
+  trailer_at_header seen u n [] = refl
+  trailer_at_header seen u n (true ∷ gs) = rw (l.header) refl
+  trailer_at_header seen u n (false ∷ gs) = refl
 
   labels_at_header : Keeps (of_labels Ascii 0) (block s.hdr1 ∷ second_on s k)
   labels_at_header [] = refl
   labels_at_header (true ∷ gs) =
-      rw (l.no_label, l.header, l.no_dummy, l.read)
+      rw (l.no_label, l.header, l.no_dummy, headed_ok 0 s.hdr1 l.head l.read)
       (ap (λ v. block s.hdr1 ∷ v) (second_at_second (seen_as false l.head) refl gs))
   labels_at_header (false ∷ gs) = refl
 
@@ -201,8 +232,8 @@ module _ (s : Section) (l : Labelled s) (k : List TapeItem) (next : KeepsIn of_n
 
 record AllKept (k : List TapeItem) : Type 0 where
   pub next : KeepsIn of_next k
-  pub data' : KeepsIn of_data k
-  pub trail : KeepsIn of_trailer k
+  pub data' : KeepsAfter of_data k
+  pub trail : KeepsAfter of_trailer k
   pub labels : Keeps (of_labels Ascii 0) k
 
 last_next : KeepsIn of_next (mark ∷ [])
@@ -210,15 +241,15 @@ last_next seen u [] = refl
 last_next seen u (true ∷ gs) = refl
 last_next seen u (false ∷ gs) = refl
 
-last_data : KeepsIn of_data (mark ∷ [])
-last_data seen u [] = refl
-last_data seen u (true ∷ gs) = refl
-last_data seen u (false ∷ gs) = refl
+last_data : KeepsAfter of_data (mark ∷ [])
+last_data seen u n [] = refl
+last_data seen u n (true ∷ gs) = refl
+last_data seen u n (false ∷ gs) = refl
 
-last_trail : KeepsIn of_trailer (mark ∷ [])
-last_trail seen u [] = refl
-last_trail seen u (true ∷ gs) = refl
-last_trail seen u (false ∷ gs) = refl
+last_trail : KeepsAfter of_trailer (mark ∷ [])
+last_trail seen u n [] = refl
+last_trail seen u n (true ∷ gs) = refl
+last_trail seen u n (false ∷ gs) = refl
 
 last_labels : Keeps (of_labels Ascii 0) (mark ∷ [])
 last_labels [] = refl
@@ -321,7 +352,7 @@ volume_is v k xs =
 ok_kept : (b : List ℕ) (h : Head2) → head2_at b ≡ Ok h → mended b ≡ b
 ok_kept b h e = rw (e) refl
 
-ok_no_dummy : (b : List ℕ) (h : Head1) → head1_at b ≡ Ok h → is_dummy b ≡ false
+pub ok_no_dummy : (b : List ℕ) (h : Head1) → head1_at b ≡ Ok h → is_dummy b ≡ false
 ok_no_dummy b h e = rw (e) refl
 
 pub first_trailer : (b : List ℕ) (eof : Bool) → HasKind b (trailer eof)
@@ -355,6 +386,8 @@ module _ (set : FileSet) (lawful : IsLawful set) where
         kept = ok_kept x.section.hdr2 form.1.second
             (head2_again x.section.hdr2 kinds.Hdr2 form.1.second g);
         trailer = last.0;
+        last = is.trailer.0;
+        ended = trail1_again x.section.trailer is.trailer.0 t;
         no_header = last.1;
       }
 

@@ -1,13 +1,14 @@
 -- Laws about the normal form. Each is the contract of a function of the module `laws`.
-use Rattle.std.specs.Prelude.{◌≡◌, ◌≤◌, ℕ, Bool, List, ◌∷◌, ◌++◌, length}
+use Rattle.std.specs.Prelude.{◌≡◌, ◌≤◌, ℕ, Bool, List, [], ◌∷◌, ◌++◌, length}
 use Rattle.std.specs.List.{AllByRecursion}
-use Rattle.tape_image.specs.Tape.{TapeItem, mark}
+use Rattle.tape_image.specs.Tape.{TapeItem, block, mark}
 use Rattle.tape_image.specs.{Begins.image_limit, Spelling.Spells}
 use Rattle.tape_set.specs.Layout.{FileSet, items}
 use Rattle.tape_set.specs.Reading.{as_read}
 use Rattle.tape_core.specs.declared.normal.code.Code.{Code}
 use Rattle.tape_core.specs.declared.normal.numbers.FileSeen.{FileSeen}
 use Rattle.tape_core.specs.NormalForm.{normal, of_data, of_trailer, Bytes.normal_bytes}
+use Rattle.tape_core.specs.NormalForm.Mended.{counted, uncounted}
 
 -- A copy of a volume of a valid set is its own normal form, however damaged it is, and wherever it
 -- ends.
@@ -20,6 +21,12 @@ abbrev pub IsNoMark : TapeItem → Type 0
 IsNoMark mark = ⊥
 IsNoMark item = Unit {0}
 
+-- what is seen of a file after these items of data
+abbrev pub seen_behind : FileSeen → List TapeItem → FileSeen
+seen_behind seen [] = seen
+seen_behind seen (block b ∷ xs) = seen_behind (counted seen) xs
+seen_behind seen (x ∷ xs) = seen_behind (uncounted seen) xs
+
 -- The data of a file are the same in the normal form, up to the mark after them or to the end of
 -- the tape, whatever they are.
 abbrev pub DataKept : Type 0
@@ -27,7 +34,8 @@ DataKept =
     (code : Code) (seen : FileSeen) (data' : List TapeItem) → AllByRecursion IsNoMark data'
     → (of_data code seen data' ≡ data')
     × ((rest : List TapeItem)
-    → of_data code seen (data' ++ mark ∷ rest) ≡ data' ++ mark ∷ of_trailer code seen rest)
+    → of_data code seen (data' ++ mark ∷ rest)
+    ≡ data' ++ mark ∷ of_trailer code (seen_behind seen data') rest)
 
 -- An image of at most 4,294,967,295 bytes that encodes the items of a tape, up to the end of the
 -- medium, gives one that encodes those of the tape in normal form.

@@ -1,7 +1,7 @@
 -- Labels that are inserted, dropped or changed.
 use Rattle.std.specs.Prelude.{ℕ, ◌+◌, ◌-◌, ◌==◌, nat_lt, take, drop, ◌||◌, ◌&&◌, not, Bool}
 use Rattle.std.specs.Prelude.{true, false, List, [], ◌∷◌}
-use Rattle.std.specs.Prelude.{◌++◌, replicate, codes, Option, Some, Result, Ok, Err}
+use Rattle.std.specs.Prelude.{◌++◌, replicate, codes, Option, Some, None, Result, Ok, Err}
 use Rattle.std.specs.Prelude.{if◌then◌else◌}
 use Rattle.std.specs.Str.{bytes_eq}
 use Rattle.tape_label.specs.declared.values.{Kind.Kind}
@@ -10,6 +10,7 @@ use Rattle.tape_label.specs.declared.label.LabelFault.{LabelFault}
 use Rattle.tape_label.specs.{Positions.positions, Reading.head1_at, Reading.head2_at}
 use Rattle.tape_label.specs.{Reading.wide_head2_at, Reading.trail1_at, Digits.digits}
 use Rattle.tape_label.specs.declared.{values.Head1.Head1, values.Trail1.Trail1}
+use Rattle.tape_set.specs.Lawful.{label_count}
 use Rattle.tape_core.specs.declared.normal.numbers.FileSeen.{FileSeen}
 
 -- ---- kinds
@@ -92,9 +93,18 @@ number_at_or first last n label =
 abbrev pub numbered : ℕ → List ℕ → List ℕ
 numbered sequence label = number_at_or 32 35 sequence (number_at_or 28 31 1 label)
 
+-- what is seen of a file before its data
+abbrev pub seen_of : ℕ → Bool → FileSeen
+seen_of sequence is_filled = record {
+  sequence = sequence;
+  is_filled = is_filled;
+  blocks = Some 0;
+  has_no_count = false;
+}
+
 -- a file of which the header label was read
 abbrev pub seen_as : Bool → Head1 → FileSeen
-seen_as is_filled head = record { sequence = head.sequence; is_filled = is_filled }
+seen_as is_filled head = seen_of head.sequence is_filled
 
 -- a header label that can be read is kept; one that can be read with its numbers filled in is
 -- changed, unless it is that of a volume without files
@@ -104,19 +114,86 @@ headed_by last label (Ok head) better = (label, seen_as false head)
 headed_by last label (Err fault) (Ok head) =
     if nat_lt last 9999 && not (is_dummy label)
     then (numbered (last + 1) label, seen_as true head)
-    else (label, record { sequence = last; is_filled = false })
-headed_by last label (Err fault) (Err fault') =
-    (label, record { sequence = last; is_filled = false })
+    else (label, seen_of last false)
+headed_by last label (Err fault) (Err fault') = (label, seen_of last false)
 
 -- A header label after a file with this sequence number, or 0 for the first file of the tape. One
 -- without numbers is that of section 1 of the next file.
-abbrev pub headed : ℕ → List ℕ → List ℕ × FileSeen
+unfoldable pub headed : ℕ → List ℕ → List ℕ × FileSeen
 headed last label = headed_by last label (head1_at label) (head1_at (numbered (last + 1) label))
 
--- A trailer label whose header label had no numbers gets the same ones, if it can be read only
--- then.
-abbrev pub trailed : FileSeen → List ℕ → List ℕ
-trailed seen label =
-    if not (is_ok (trail1_at label)) && (seen.is_filled && (nat_lt seen.sequence 10000
-    && is_ok (trail1_at (numbered seen.sequence label))))
-    then numbered seen.sequence label else label
+-- ---- what is seen of a file
+
+-- one block more: no image has so many that they cannot be counted
+abbrev pub one_more : Option ℕ → Option ℕ
+one_more None = None
+one_more (Some n) = if nat_lt n 4294967295 then Some (n + 1) else None
+
+-- a block of data was read
+abbrev pub counted : FileSeen → FileSeen
+counted seen = record {
+  sequence = seen.sequence;
+  is_filled = seen.is_filled;
+  blocks = one_more seen.blocks;
+  has_no_count = seen.has_no_count;
+}
+
+-- an item among the data could not be read: it may have been a tape mark
+abbrev pub uncounted : FileSeen → FileSeen
+uncounted seen = record {
+  sequence = seen.sequence;
+  is_filled = seen.is_filled;
+  blocks = None;
+  has_no_count = seen.has_no_count;
+}
+
+-- the blocks were counted instead of the trailer label
+abbrev pub without_count : Bool → FileSeen → FileSeen
+without_count is seen = record {
+  sequence = seen.sequence;
+  is_filled = seen.is_filled;
+  blocks = seen.blocks;
+  has_no_count = is;
+}
+
+-- ---- first trailer labels that are changed
+
+-- a block count, or n if it is blank, NUL or zero
+abbrev pub count_or : ℕ → List ℕ → List ℕ
+count_or n field =
+    if bytes_eq (filled_number field) (codes "000000") then digits 6 n else filled_number field
+
+-- the label with the block count at these positions, or n
+abbrev pub count_at_or : ℕ → ℕ → ℕ → List ℕ → List ℕ
+count_at_or first last n label =
+    take (first - 1) label ++ (count_or n (positions label first last) ++ drop last label)
+
+-- the label with the count of the blocks that were read, if it has none
+abbrev pub with_count : Option ℕ → List ℕ → List ℕ
+with_count None label = label
+with_count (Some n) label = count_at_or 55 60 (label_count n) label
+
+-- the label with the numbers of the header label, if those were filled in
+abbrev pub with_numbers : FileSeen → List ℕ → List ℕ
+with_numbers seen label =
+    if seen.is_filled && nat_lt seen.sequence 10000 then numbered seen.sequence label else label
+
+-- whether the block count of a label was replaced
+abbrev pub is_recounted : List ℕ → List ℕ → Bool
+is_recounted better label = not (bytes_eq (positions better 55 60) (positions label 55 60))
+
+abbrev pub completed : FileSeen → List ℕ → List ℕ
+completed seen label = with_count seen.blocks (with_numbers seen label)
+
+abbrev pub trailed_by : FileSeen → List ℕ → Result Trail1 LabelFault → Result Trail1 LabelFault
+    → List ℕ × FileSeen
+trailed_by seen label (Ok t) better = (label, seen)
+trailed_by seen label (Err fault) (Ok t) =
+    (completed seen label, without_count (is_recounted (completed seen label) label) seen)
+trailed_by seen label (Err fault) (Err fault') = (label, seen)
+
+-- A trailer label that can be read is kept. One that can be read only with the numbers of its
+-- header label, if those were filled in, or with the count of the blocks read, gets them. The
+-- blocks are not counted after an item that cannot be read.
+unfoldable pub trailed : FileSeen → List ℕ → List ℕ × FileSeen
+trailed seen label = trailed_by seen label (trail1_at label) (trail1_at (completed seen label))

@@ -25,7 +25,7 @@ use Rattle.tape_core.specs.declared.normal.machine.Replacement.TheVariants.{Same
 use Rattle.tape_core.specs.NormalForm.{of_start, of_labels, of_blank, of_second, of_headers}
 use Rattle.tape_core.specs.NormalForm.{of_data}
 use Rattle.tape_core.specs.NormalForm.{of_trailer, of_trailers, of_next, of_ended}
-use Rattle.tape_core.specs.NormalForm.Mended.{no_volume_label, headed, trailed}
+use Rattle.tape_core.specs.NormalForm.Mended.{no_volume_label, headed, trailed, counted, uncounted}
 use Rattle.tape_core.specs.declared.normal.numbers.FileSeen.{FileSeen}
 
 -- the normal form of the items from this place on
@@ -152,7 +152,10 @@ any_at code b = if length b == 80 then translated_with Nothing code (in_ascii co
 abbrev pub trailer_at : Code → FileSeen → List ℕ → TapePlace × Change
 trailer_at code seen text =
     if is_first_trailer (kind_at text)
-    then (Trailers code seen, replaced_with Nothing code (trailed seen text) text)
+    then (
+      Trailers code (trailed seen text).1,
+      replaced_with Nothing code (trailed seen text).0 text,
+    )
     else (Over, same)
 
 -- the header label of the file after this one
@@ -163,6 +166,11 @@ next_at code last text =
 abbrev pub ended_at : Option (TapePlace × Change) → TapePlace × Change
 ended_at (Some begun) = (Over, same)
 ended_at None = (Ended, dropped)
+
+-- the place after a block of data
+abbrev pub counted_at : TapePlace → TapePlace
+counted_at (Data code seen) = Data code (counted seen)
+counted_at place = place
 
 -- what comes after an item, and what replaces it
 abbrev pub step_of : TapePlace → TapeItem → TapePlace × Change
@@ -181,7 +189,8 @@ step_of (Headers code seen) (block b) = (Headers code seen, any_at code b)
 step_of (Headers code seen) mark = (Data code seen, same)
 step_of (Headers code seen) bad = (Over, same)
 step_of (Data code seen) mark = (Trailer code seen, same)
-step_of (Data code seen) _ = (Data code seen, same)
+step_of (Data code seen) (block b) = (Data code (counted seen), same)
+step_of (Data code seen) bad = (Data code (uncounted seen), same)
 step_of (Trailer code seen) (block b) = trailer_at code seen (in_ascii code b)
 step_of (Trailer code seen) _ = (Over, same)
 step_of (Trailers code seen) (block b) = (Trailers code seen, any_at code b)

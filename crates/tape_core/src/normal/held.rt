@@ -19,6 +19,18 @@ const EMPTY: &[u8; LABEL] = &[
     0, 0, 0, 0, 0, 0, 0, 0, 0, 0, 0, 0, 0, 0, 0, 0, 0, 0, 0, 0, 0, 80, 0, 0, 0,
 ];
 
+/// Copies bytes to the start of `buf`, as many as it has room for, and returns their number and the
+/// bytes after them.
+pub(crate) fn copy_front(bytes: &'static [u8], buf: &mut [u8]) -> (usize, &'static [u8])
+    ensures bound { result.0 ≤ length buf.new }
+    ensures bytes { bytes.now ≡ take result.0 buf.new ++ result.1.now }
+    ensures some { 0 < length bytes.now → 0 < length buf.new → 0 < result.0 }
+{
+    let count = bytes.len().min(buf.len());
+    buf[..count].copy_from_slice(&bytes[..count]);
+    (count, &bytes[count..])
+}
+
 /// Up to 88 bytes.
 #[derive(Drop)]
 pub(crate) struct Held {

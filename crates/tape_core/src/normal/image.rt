@@ -7,10 +7,10 @@ ghost use Rattle.std.specs.{Io.ReadsAtMost, Io.KnownBytes.ReadConsumes};
 ghost use Rattle.std.specs.Io.KnownBytes.{Keeps, IsAtEnd, prepend_known};
 ghost use Rattle.tape_core.specs.NormalForm.Bytes.{looked, reads_labels};
 ghost use Rattle.tape_core.specs.NormalForm.Bytes.{normal_bytes, normal_from, by_looked, is_over};
-ghost use Rattle.tape_core.specs.NormalForm.Bytes.{IsHeld, IsShort};
+ghost use Rattle.tape_core.specs.NormalForm.{Bytes.IsHeld, Bytes.IsShort, Steps.counted_at};
 ghost use Rattle.tape_core.specs.NormalForm.Image.{normal_remaining, steps_left, GivesOn};
 
-use crate::normal::held::{Held, LABEL};
+use crate::normal::held::{Held, LABEL, copy_front};
 use crate::normal::looking::{Looked, begins_label, block_size, look};
 use crate::normal::machine::{Missing, Replacement, TapePlace};
 use crate::normal::rules::Rules;
@@ -36,16 +36,14 @@ const VOLUME_LABEL: &[u8; 88] = b"P\0\0\0VOL1                                   
 /// The greatest byte offset at which an item may end.
 const IMAGE_LIMIT: u64 = 4_294_967_295;
 
-/// Copies bytes to the start of `buf`, as many as it has room for, and returns their number and the
-/// bytes after them.
-fn copy_front(bytes: &'static [u8], buf: &mut [u8]) -> (usize, &'static [u8])
-    ensures bound { result.0 ≤ length buf.new }
-    ensures bytes { bytes.now ≡ take result.0 buf.new ++ result.1.now }
-    ensures some { 0 < length bytes.now → 0 < length buf.new → 0 < result.0 }
+/// Returns the place after a block of data.
+fn counted(place: TapePlace) -> TapePlace
+    ensures { result ≡ counted_at place }
 {
-    let count = bytes.len().min(buf.len());
-    buf[..count].copy_from_slice(&bytes[..count]);
-    (count, &bytes[count..])
+    match place {
+        TapePlace::Data(code, seen) => TapePlace::Data(code, seen.counted()),
+        place => place,
+    }
 }
 
 /// A device, and the bytes that were read from it and have not been taken.
@@ -242,7 +240,9 @@ impl<R: Read> NormalImage<R> {
         let read = self.input.device.read(&mut buf[..4])?;
         if read == 4 {
             if let Some(size) = block_size(self.room, LittleEndian::read_u32(buf)) {
+                let place = counted(self.place);
                 self.room -= size;
+                self.place = place;
                 self.course = Course::Passing(size - 4);
                 return Ok(Some(4));
             }

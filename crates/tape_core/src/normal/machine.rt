@@ -9,7 +9,6 @@ ghost use Rattle.tape_core.specs.NormalForm.Steps.{begin_in, labels_at, header_a
 ghost use Rattle.tape_core.specs.NormalForm.Steps.{any_at, second_at, next_at, trailer_at};
 ghost use Rattle.tape_core.specs.NormalForm.Steps.{translated_with, instead_in, replaced_with};
 ghost use Rattle.tape_core.specs.NormalForm.Steps.{drop_block, drop_first};
-ghost use Rattle.tape_core.specs.NormalForm.{begins_tape};
 
 use crate::normal::code::{Code, eighty, in_ascii};
 use crate::normal::mend::mended;
@@ -281,7 +280,8 @@ fn first_trailer(code: Code, seen: FileSeen, bytes: &[u8]) -> (TapePlace, Change
     let text = in_ascii(code, label);
     match kind(&text) {
         Some(Kind::Eof1 | Kind::Eov1) => {
-            let change = replaced(code, Missing::Nothing, trailed(seen, &text), text);
+            let (better, seen) = trailed(seen, &text);
+            let change = replaced(code, Missing::Nothing, better, text);
             (TapePlace::Trailers(code, seen), change)
         }
         _ => (TapePlace::Over, SAME),
@@ -301,7 +301,7 @@ fn step_at_block(place: TapePlace, bytes: &[u8]) -> (TapePlace, Change)
         TapePlace::Labels(code, dropped) => label_of_volume(code, dropped, bytes),
         TapePlace::Second(code, seen) => second_label(code, seen, bytes),
         TapePlace::Headers(code, seen) => (place, any_label(code, bytes)),
-        TapePlace::Data(_, _) => (place, SAME),
+        TapePlace::Data(code, seen) => (TapePlace::Data(code, seen.counted()), SAME),
         TapePlace::Trailer(code, seen) => first_trailer(code, seen, bytes),
         TapePlace::Trailers(code, seen) => (place, any_label(code, bytes)),
         TapePlace::Next(code, seen) => next_header(code, seen.sequence, bytes),
@@ -324,7 +324,7 @@ pub fn step(place: TapePlace, item: Item<'_>) -> (TapePlace, Change)
     match item {
         Item::Block(bytes) => step_at_block(place, bytes),
         Item::Bad => match place {
-            TapePlace::Data(_, _) => (place, SAME),
+            TapePlace::Data(code, seen) => (TapePlace::Data(code, seen.uncounted()), SAME),
             TapePlace::Ended => (TapePlace::Ended, DROPPED),
             _ => (TapePlace::Over, SAME),
         },

@@ -1,11 +1,15 @@
-//! Fills in the numbers of header and trailer labels that have none.
+//! Fills in the numbers of header and trailer labels that have none, and block counts.
 
 ghost use Rattle.std.specs.Prelude.{◌≡◌, ◌≤◌, ◌<◌, ◌+◌, length};
 ghost use Rattle.tape_core.specs.NormalForm.Mended.{is_dummy, number_or, number_at_or, numbered};
-ghost use Rattle.tape_core.specs.NormalForm.Mended.{headed, trailed};
+ghost use Rattle.tape_core.specs.NormalForm.Mended.{headed, trailed, seen_of, counted, uncounted};
+ghost use Rattle.tape_core.specs.NormalForm.Mended.{one_more, count_or, count_at_or, with_count};
+ghost use Rattle.tape_core.specs.NormalForm.Mended.{with_numbers, completed, without_count};
+ghost use Rattle.tape_core.specs.NormalForm.Mended.{is_recounted};
 
 use crate::normal::mend::fill;
 use tape_label::{digits_of, read_head1, read_trail1};
+use tape_set::label_count;
 
 /// The first header label of a volume without files.
 const DUMMY: &[u8; 80] =
@@ -19,6 +23,64 @@ pub struct FileSeen {
     pub sequence: u16,
     /// Whether numbers in its header label were filled in.
     pub is_filled: bool,
+    /// The number of blocks of data read so far, unless an item among them could not be read.
+    pub blocks: Option<u32>,
+    /// Whether the block count of its trailer label was filled in.
+    pub has_no_count: bool,
+}
+
+impl FileSeen {
+    /// Creates what is known after a first header label.
+    fn new(sequence: u16, is_filled: bool) -> FileSeen
+        ensures { result ≡ seen_of sequence is_filled }
+    {
+        FileSeen {
+            sequence,
+            is_filled,
+            blocks: Some(0),
+            has_no_count: false,
+        }
+    }
+
+    /// Counts a block of data.
+    pub(crate) fn counted(self) -> FileSeen
+        ensures { result ≡ counted self }
+    {
+        FileSeen {
+            blocks: one_more(self.blocks),
+            ..self
+        }
+    }
+
+    /// Sets whether the block count was filled in.
+    fn without_count(self, is: bool) -> FileSeen
+        ensures { result ≡ without_count is self }
+    {
+        FileSeen {
+            has_no_count: is,
+            ..self
+        }
+    }
+
+    /// Counts no more, since an item among the data could not be read.
+    pub(crate) fn uncounted(self) -> FileSeen
+        ensures { result ≡ uncounted self }
+    {
+        FileSeen {
+            blocks: None,
+            ..self
+        }
+    }
+}
+
+/// Returns a number of blocks plus one.
+fn one_more(blocks: Option<u32>) -> Option<u32>
+    ensures { result ≡ one_more blocks }
+{
+    match blocks {
+        Some(count) if count < u32::MAX => Some(count + 1),
+        _ => None,
+    }
 }
 
 /// Returns whether the label is an `HDR1` of zeros alone, as volumes without files have it.
@@ -61,49 +123,105 @@ fn numbered(sequence: u16, label: &[u8; 80]) -> [u8; 80]
     text
 }
 
+/// Fills a block count with zeros on the left, or with `number` if it is blank or zero.
+fn count_or(field: &mut [u8], number: u32)
+    requires length { length field.old ≡ 6 }
+    requires small { number < 1000000 }
+    ensures { field.new ≡ count_or number field.old }
+{
+    fill(field);
+    if &*field == b"000000".as_slice() {
+        field.copy_from_slice(&digits_of::<6>(u64::from(number)));
+    }
+}
+
+/// The same for the block count at the position `first`, counted from 1.
+fn count_at_or(text: &mut [u8; 80], first: usize, number: u32)
+    requires first { 1 ≤ first }
+    requires last { first ≤ 75 }
+    requires small { number < 1000000 }
+    ensures { text.new ≡ count_at_or first (first + 5) number text.old }
+{
+    count_or(&mut text[first - 1..first + 5], number);
+}
+
+/// Returns a first trailer label with the block count `number` if it has none.
+fn with_number(number: u32, label: &[u8; 80]) -> [u8; 80]
+    requires { number < 1000000 }
+    ensures { result ≡ count_at_or 55 60 number label.now }
+{
+    let mut text = *label;
+    count_at_or(&mut text, 55, number);
+    text
+}
+
+/// Returns a first trailer label with the count of the blocks that were read if it has none.
+fn with_count(blocks: Option<u32>, label: &[u8; 80]) -> [u8; 80]
+    ensures { result ≡ with_count blocks label.now }
+{
+    match blocks {
+        Some(blocks) => with_number(label_count(blocks), label),
+        None => *label,
+    }
+}
+
+/// Returns a first trailer label with the numbers of its header label, if those were filled in.
+fn with_numbers(seen: FileSeen, label: &[u8; 80]) -> [u8; 80]
+    ensures { result ≡ with_numbers seen label.now }
+{
+    if seen.is_filled && seen.sequence < 10_000 {
+        return numbered(seen.sequence, label);
+    }
+    *label
+}
+
+/// Returns a first trailer label with its numbers and its block count filled in.
+fn completed(seen: FileSeen, label: &[u8; 80]) -> [u8; 80]
+    ensures { result ≡ completed seen label.now }
+{
+    with_count(seen.blocks, &with_numbers(seen, label))
+}
+
+/// Returns whether the block count of a label was replaced.
+fn is_recounted(better: &[u8; 80], label: &[u8; 80]) -> bool
+    ensures { result ≡ is_recounted better.now label.now }
+{
+    better[54..60] != label[54..60]
+}
+
 /// Returns a first header label after the file `last` (0 if it is the first), and what was read of
 /// its file. A label that can be read stays as it is. One that can be read only with numbers filled
 /// in becomes that of section 1 of the next file, unless it is that of a volume without files.
+#[tactic(auto, unfolding(crate::specs::NormalForm::Mended::headed))]
 pub(crate) fn headed(last: u16, label: &[u8; 80]) -> ([u8; 80], FileSeen)
     ensures { result ≡ headed last label.now }
 {
     if let Ok(head) = read_head1(label) {
-        return (
-            *label,
-            FileSeen {
-                sequence: head.sequence,
-                is_filled: false,
-            },
-        );
+        return (*label, FileSeen::new(head.sequence, false));
     }
     if last < 9_999 && !is_dummy(label) {
         let text = numbered(last + 1, label);
         if let Ok(head) = read_head1(&text) {
-            let seen = FileSeen {
-                sequence: head.sequence,
-                is_filled: true,
-            };
-            return (text, seen);
+            return (text, FileSeen::new(head.sequence, true));
         }
     }
-    let seen = FileSeen {
-        sequence: last,
-        is_filled: false,
-    };
-    (*label, seen)
+    (*label, FileSeen::new(last, false))
 }
 
-/// Returns a first trailer label of the file. If numbers in its header label were filled in, and
-/// the trailer label can be read only with numbers filled in, it gets the same ones.
-pub(crate) fn trailed(seen: FileSeen, label: &[u8; 80]) -> [u8; 80]
+/// Returns a first trailer label, and what was read of its file. A label that can be read stays as
+/// it is. One that can be read only with the numbers of the header label, if those were filled in,
+/// or with the count of the blocks that were read gets them.
+#[tactic(auto, unfolding(crate::specs::NormalForm::Mended::trailed))]
+pub(crate) fn trailed(seen: FileSeen, label: &[u8; 80]) -> ([u8; 80], FileSeen)
     ensures { result ≡ trailed seen label.now }
 {
-    if read_trail1(label).is_ok() || !seen.is_filled || seen.sequence >= 10_000 {
-        return *label;
+    if let Ok(_) = read_trail1(label) {
+        return (*label, seen);
     }
-    let text = numbered(seen.sequence, label);
-    if read_trail1(&text).is_ok() {
-        return text;
+    let text = completed(seen, label);
+    if let Ok(_) = read_trail1(&text) {
+        let is_recounted = is_recounted(&text, label);
+        return (text, seen.without_count(is_recounted));
     }
-    *label
+    (*label, seen)
 }

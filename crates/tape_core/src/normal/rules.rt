@@ -16,6 +16,8 @@ pub struct Rules {
     pub blank_numbers: bool,
     /// Whether a first header label has no section or sequence number.
     pub no_file_numbers: bool,
+    /// Whether a first trailer label has no block count.
+    pub no_block_count: bool,
     /// The number of items before the first file that are left out.
     pub before: u64,
     /// The number of items after the end of the volume that are left out.
@@ -30,6 +32,7 @@ impl Rules {
         no_second_label: false,
         blank_numbers: false,
         no_file_numbers: false,
+        no_block_count: false,
         before: 0,
         after: 0,
     };
@@ -52,6 +55,9 @@ impl Rules {
             TapePlace::Second(code, seen) => {
                 self.ebcdic = self.ebcdic || code == Code::Ebcdic;
                 self.no_file_numbers = self.no_file_numbers || seen.is_filled;
+            }
+            TapePlace::Trailers(_, seen) => {
+                self.no_block_count = self.no_block_count || seen.has_no_count;
             }
             _ => {}
         }

@@ -1,4 +1,4 @@
-use Rattle.std.proofs.Common.{◌≡◌, ◌==◌, ◌≤◌, ℕ, List, ◌++◌, length, take, drop, sym, ap, ◌∙◌}
+use Rattle.std.proofs.Common.{◌≡◌, ◌==◌, ℕ, List, ◌++◌, length, take, drop, sym, ap, ◌∙◌}
 use Rattle.std.proofs.Common.{arith, length-append}
 use lib.Seq.{take_at, take_all}
 use Rattle.std.proofs.lemmas.List.{length-take}
@@ -24,7 +24,7 @@ returns-in-Some g c =
     let all : c.in_ok-read.read ≡ 4 = omega (arith, c.if-read-eq4.true) in
     let whole : take 4 part ≡ part = take_all 4 part (omega (arith, four)) in
     let taken = rw (all, whole) at c.in_ok-read.ensures.bytes.0 in
-    rw (front, c.in-Some.ensures.size) (
+    rw (front, c.in-Some.ensures.size, c.counted-place.ensures) (
       omega (arith, four, length-append part rest),
       word_gives _ _ now.input.held now.room now.place now.inserted.now now.label now.course w part
           held c.requires.inserted c.requires.label c.requires.on c.requires.data c.requires.there
