@@ -26,7 +26,7 @@ pub enum ConvertFault {
 /// # Errors
 ///
 /// Returns `ReadFailed` if the device fails, and `WriteFailed` if `out` fails, is interrupted or
-/// takes no bytes. A front of the SIMH image was written then.
+/// takes no bytes. The beginning of the SIMH image was written.
 pub fn convert_to<R: Read + Drop, W: Write>(
     device: R,
     format: ImageFormat,
@@ -46,7 +46,7 @@ pub fn convert_to<R: Read + Drop, W: Write>(
 /// # Errors
 ///
 /// Returns `ReadFailed` if the device fails, and `WriteFailed` if `out` fails, is interrupted or
-/// takes no bytes. A front of the bytes was written then.
+/// takes no bytes. The beginning of the bytes was written.
 fn copy<R: Read, W: Write>(device: &mut R, out: &mut W) -> Result<(), ConvertFault>
     ensures ok { IfOk result (λ _. CopiesAll (R.remaining device.old)
         (W.contents out.old) (W.contents out.new)) }

@@ -203,7 +203,7 @@ impl<R: Read> SimhImage<R> {
         self.course = Course::Over;
     }
 
-    /// Gives on the bytes of an item, or takes the next step if there are none.
+    /// Passes on bytes of an item, or takes the next step if none are left.
     fn pass(&mut self, passed: Passed, buf: &mut [u8]) -> io::Result<Option<usize>>
         requires on { self.old.course ≡ Course.Passing passed }
         requires out { self.old.out ≡ [] }

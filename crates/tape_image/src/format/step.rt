@@ -50,7 +50,7 @@ pub(crate) enum Step {
     Stop(Piece),
     /// Bytes are given for the item.
     Give(Given),
-    /// The word, so many bytes after it, and the word behind them are left out.
+    /// The word, this number of bytes, and the same word again are left out.
     Leave(u64, u32),
 }
 
@@ -67,7 +67,7 @@ const HALF_GAP: u32 = 0xFFFE_FFFF;
 /// The word of a bad block of which nothing is known.
 const BAD_ALONE: u32 = 0x8000_0000;
 
-/// The word that stands for a header that is none.
+/// The word that is given for bytes that are not a header.
 const NO_HEADER: u32 = 0x7FFF_FFFF;
 
 /// Returns what is done with the item that the bytes `front` begin with, all that there are or the
