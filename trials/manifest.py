@@ -1,22 +1,27 @@
 #!/usr/bin/env python3
-"""Lists of checksums: `unpack --manifest` and `--verify`, judged by `sha256sum` and by Python.
+"""Lists of checksums and records: `unpack --manifest` and `--verify`, judged by `sha256sum` and by Python.
 Run manually; CI does not run it.
 
     ./manifest.py [--program PATH] [--names N] [--kills N] [--seed N]
 
+- N damaged images with odd names and identifiers are unpacked, some of them a day. The blocks that MANIFEST.jsonl
+  names, read from its images by this script, are those of each file; its sums and sizes are those of files and
+  images, its identifiers those of the labels, and its keys those of docs/JSON.md. If Python's jsonschema is
+  installed, each line must have the form that docs/json.schema.json describes.
 - Files with N odd identifiers are unpacked in two runs: the list has a line for each complete file and no
   other, `sha256sum -c --strict` accepts it, and `--verify` agrees.
 - `sha256sum` lists files with N odd names, of which some are changed or removed then: `--verify` finds the
   same files as `sha256sum -c`, and `--manifest` keeps each line, byte for byte.
-- Runs that extend a list are killed at N random instants, and with each system call refused in turn, by
-  calls.c. Then the list is the earlier one, or has all its lines, and a right line for each further file. A
-  run with status 0 has a complete list, and so has the next run.
+- Runs that extend a list and a record are killed at N random instants, and with each system call refused in turn,
+  by calls.c. Then each is the earlier one, or has all its lines, and a right line for each further file. A run with
+  status 0 has complete ones, and so has the next run.
 
 Prints a line for each wrong result, and how many there were. Exit status 1 if one was wrong.
 """
 
 import errno
 import hashlib
+import json
 import os
 import random
 import re
@@ -26,9 +31,11 @@ import time
 
 from common import Results, arguments, files_in, folder_with, library
 from fail import ERRORS, KINDS
+from json_rows import keys_in, validator
 from make_worked_image import block, label, mark, second_label, volume_label, word
 
 MANIFEST = "MANIFEST.sha256"
+RECORD = "MANIFEST.jsonl"
 LINE = re.compile(rb"([0-9a-f]{64})  ([^\n\\]+)\n")
 
 
@@ -39,12 +46,18 @@ def first_label(kind, identifier, number, blocks):
     return rest[:8] + identifier.ljust(17)[:17] + rest[25:]
 
 
-def volume(files):
-    """A volume with these files, given as identifiers and blocks of 800 bytes."""
+def bad_block(data):
+    """An unreadable block."""
+    return word(len(data) | 0x80000000) + data + word(len(data) | 0x80000000)
+
+
+def volume(files, bad=()):
+    """A volume with these files, given as identifiers and blocks of 800 bytes, some of which, by number of file and
+    block, are unreadable."""
     pieces = [volume_label("ABC001")]
     for number, (identifier, blocks) in enumerate(files, 1):
         pieces += [first_label("HDR1", identifier, number, 0), second_label("HDR2"), mark()]
-        pieces += [block(data) for data in blocks]
+        pieces += [bad_block(data) if (number, place) in bad else block(data) for place, data in enumerate(blocks)]
         pieces += [mark(), first_label("EOF1", identifier, number, len(blocks)), second_label("EOF2"), mark()]
     return b"".join([*pieces, mark(), word(0xFFFFFFFF)])
 
@@ -75,6 +88,100 @@ def agrees(folder):
     return subprocess.run(words, cwd=folder, capture_output=True, check=False).returncode == 0
 
 
+def blocks_in(image):
+    """The blocks of each file of an image as `volume` makes them, and None for those that are unreadable."""
+    groups, place = [[]], 0
+    while (length := int.from_bytes(image[place:place + 4], "little")) != 0xFFFFFFFF:
+        size = length & 0xFFFFFF
+        if length == 0:
+            groups.append([])
+        else:
+            groups[-1].append(None if length >> 31 else image[place + 4:place + 4 + size])
+        place += 8 + size if length else 4
+    return dict(enumerate(groups[1::3], 1))
+
+
+def printed(field):
+    """A field of a label as lines show it, or None if it is blank."""
+    return "".join(chr(byte) if 32 <= byte < 127 else "?" for byte in field).rstrip(" ") or None
+
+
+def rows_in(text):
+    """The lines of a record, and for each file or stage its line and those of its blocks, the last ones last."""
+    rows, groups = [json.loads(line) for line in text.decode().splitlines()], []
+    for row in rows:
+        if row["row"] in ("FILE", "AWAITS"):
+            groups.append((row, []))
+        elif row["row"] == "BLOCKS":
+            groups[-1][1].append(row)
+    return rows, groups
+
+
+def recorded_blocks(groups, at, images):
+    """The blocks of the file or stage of group `at`: those of the images, or those that the stage had before."""
+    row, runs = groups[at]
+    number, found = row["file"], []
+    for run in runs:
+        assert run["name"] == row["name"] and (run["section"], run["block"], run["part"]) == (1, len(found), 0), run
+        end = run["end_block"]
+        if run["image"] is None:
+            stage = row["name"].removesuffix(".stage") + ".stage"
+            before = next(at for at in range(at - 1, -1, -1) if groups[at][0]["name"] == stage)
+            found += recorded_blocks(groups, before, images)[:end]
+            assert len(found) == end or end is None, run
+        else:
+            found += blocks_in(images[run["image"]])[number][len(found):end]
+        assert None not in found, run
+    return found
+
+
+def record_odd_names(options, results):
+    """Damaged copies of one volume of odd names, in images with odd names, some of which are there on each day."""
+    choice = options.random
+    identifiers = [odd_bytes(choice, 17) for _ in range(30)]
+    files = [(name, [choice.randbytes(800) for _ in range(choice.randint(0, 6))]) for name in identifiers]
+    images = {}
+    while len(images) < options.names // 25:
+        name = odd_bytes(choice, 60).decode("utf-8", "replace").replace("/", "_")
+        bad = {(file, choice.randrange(6)) for file in range(1, 31) if choice.random() < 0.7}
+        images["t" + name] = volume(files, bad)
+    with folder_with(images) as folder:
+        (folder / "d").mkdir()
+        before = b""
+        for day in range(12):
+            named = choice.sample(sorted(images), choice.randint(1, 3)) if day < 11 else sorted(images)
+            words = ["--salvage"] if choice.random() < 0.2 else []
+            done = run(options, folder, "unpack", "d", *named, "--manifest", "--form", "raw", *words)
+            results.expect(done.returncode in (0, 3), f"record: {done.returncode} {done.stderr!r}")
+            text = (folder / "d" / RECORD).read_bytes()
+            results.expect(text.startswith(before), "record: a line is lost")
+            before = text
+        rows, groups = rows_in(before)
+        keys, is_valid = keys_in("The record of unpack"), validator("record")
+        for row in rows:
+            results.expect(list(row) == ["row", *keys[row["row"]]] and is_valid(row), f"record: form of {row}")
+            if row["row"] == "IMAGE":
+                image = images[row["image"]]
+                results.expect((row["size"], row["sha256"]) == (len(image), digest(image)), f"record: {row}")
+        left = files_in(folder / "d")
+        for at, (row, _) in enumerate(groups):
+            name, blocks = files[row["file"] - 1]
+            results.expect((row["set"], row["identifier"]) == ("ABC001", printed(name)), f"record: {row}")
+            try:
+                found = recorded_blocks(groups, at, images)
+            except (AssertionError, StopIteration) as error:
+                results.expect(False, f"record: {row} {error}")
+                continue
+            if row["row"] == "FILE":
+                content = left[row["name"]]
+                results.expect(b"".join(found) == content == b"".join(blocks), f"record: blocks of {row}")
+                results.expect((row["size"], row["sha256"]) == (len(content), digest(content)), f"record: {row}")
+            else:
+                results.expect(found == blocks[:row["block"]], f"record: blocks of {row}")
+        complete = {row["name"] for row, _ in groups if row["row"] == "FILE"}
+        results.expect(complete == set(listed(left[MANIFEST])), "record: files")
+
+
 def unpack_odd_names(options, results):
     choice = options.random
     names = [odd_bytes(choice, 17) for _ in range(options.names)]
@@ -86,7 +193,12 @@ def unpack_odd_names(options, results):
             done = run(options, folder, "unpack", "d", "one.tap", "--manifest", *words)
             results.expect(done.returncode == 0, f"names: {done.returncode} {done.stderr!r}")
         left = files_in(folder / "d")
-        text = left.pop(MANIFEST)
+        text, (rows, groups) = left.pop(MANIFEST), rows_in(left.pop(RECORD))
+        told = [(row["name"], row["identifier"], row["sha256"]) for row, _ in groups]
+        wanted = {name: digest(content) for name, content in left.items()}
+        results.expect({name: sum for name, _, sum in told} == wanted and len(told) == len(wanted), "names: the record")
+        results.expect([name for _, name, _ in told] == [printed(name) for name, _ in files], "names: identifiers")
+        results.expect(len(rows) == 2 * len(files) + 1, "names: lines of the record")
         results.expect(listed(text) == {name: digest(content) for name, content in left.items()}, "names: the list")
         results.expect(len(left) == len(files), f"names: {len(left)} of {len(files)} files")
         wanted = sorted(digest(b"".join(blocks)) for _, blocks in files)
@@ -100,7 +212,7 @@ def unpack_odd_names(options, results):
 def read_lists_of_others(options, results):
     choice = options.random
     names = {odd_bytes(choice, 40).decode("utf-8", "replace").replace("/", "_") for _ in range(options.names)}
-    names = sorted(names - {".", "..", MANIFEST})
+    names = sorted(names - {".", "..", "-", MANIFEST})  # sha256sum reads standard input for "-"
     with folder_with({"one.tap": volume([(b"ONE", [b"x" * 800])])}) as folder:
         place = folder / "d"
         place.mkdir()
@@ -132,6 +244,7 @@ def read_lists_of_others(options, results):
 
 
 OLD = {"ABC001.1.ONE": b"x" * 1600, "odd name": b"mine"}
+MINE = b'{"row":"MINE"}\n'
 
 
 def begun(count, blocks):
@@ -139,7 +252,7 @@ def begun(count, blocks):
     files = [(b"ONE", [b"x" * 800] * 2)]
     files += [(b"FILE%d" % number, [b"%06d" % number + b" " * 794] * blocks) for number in range(2, count + 1)]
     text = "".join(f"{digest(content)}  {name}\n" for name, content in OLD.items()).encode()
-    return {"one.tap": volume(files), f"d/{MANIFEST}": text} | {f"d/{name}": content for name, content in OLD.items()}
+    return {"one.tap": volume(files), f"d/{MANIFEST}": text, f"d/{RECORD}": MINE} | {f"d/{name}": content for name, content in OLD.items()}
 
 
 WORDS = ["unpack", "d", "one.tap", "--manifest", "--form", "raw"]
@@ -148,16 +261,19 @@ WORDS = ["unpack", "d", "one.tap", "--manifest", "--form", "raw"]
 def what_is_wrong(folder, old, is_whole):
     """Why the list of a directory is wrong, or None."""
     left = files_in(folder / "d")
-    text = left.pop(MANIFEST, b"")
+    text, record = left.pop(MANIFEST, b""), left.pop(RECORD, b"")
     if not text.startswith(old):
         return "an earlier line is lost"
+    recorded = {row["name"]: row["sha256"] for row, _ in rows_in(record)[1] if row["row"] == "FILE"}
+    if not record.startswith(MINE) or any(name not in left or digest(left[name]) != sum for name, sum in recorded.items()):
+        return "the record is wrong"
     sums = listed(text)
     if sums is None:
         return "a line is none"
     if any(name not in left or digest(left[name]) != sum for name, sum in sums.items()):
         return "a line is wrong"
     kept = {name for name in left if not name.startswith(".tape-") and not name.endswith(".stage")}
-    if is_whole and sums.keys() != kept:
+    if is_whole and (sums.keys() != kept or recorded.keys() | {"odd name"} != kept):
         return "a file has no line"
     return None
 
@@ -209,6 +325,8 @@ def main():
     options = arguments(__doc__, ("--names", 1000, "odd names"), ("--kills", 100, "runs that are killed"), ("--seed", 1, "of the choices"))
     options.random = random.Random(options.seed)
     results = Results()
+    for _ in range(25):
+        record_odd_names(options, results)
     unpack_odd_names(options, results)
     read_lists_of_others(options, results)
     stop_at_random(options, results)

@@ -21,14 +21,34 @@ const MARK: &str = "\nbuild of tape: ";
 ///
 /// Returns the error of standard output.
 pub fn print_note<R: Progress>(rt: &R) -> io::Result<()> {
-    let mut note = [0; LEN];
-    if read_note(rt.host(), &mut note).is_ok()
-        && let Ok(text) = str::from_utf8(&note)
-        && let Some(line) = text.strip_prefix(MARK)
-    {
-        rt.println(line.trim_end())?;
+    match Note::read(rt.host()).line() {
+        Some(line) => rt.println(line),
+        None => Ok(()),
     }
-    Ok(())
+}
+
+/// The note of the program that runs.
+#[derive(Drop)]
+pub struct Note {
+    bytes: [u8; LEN],
+}
+
+impl Note {
+    /// Reads the note. It has no line if the program's file ends without a note, or cannot be read.
+    pub fn read<R: Host>(rt: &R) -> Note {
+        let mut bytes = [0; LEN];
+        if read_end(rt, &mut bytes).is_err() {
+            bytes = [0; LEN];
+        }
+        Note { bytes }
+    }
+
+    /// Returns its line: whether the program was proved, from which commit, and with which
+    /// toolchain.
+    pub fn line(&self) -> Option<&str> {
+        let text = str::from_utf8(self.bytes.as_slice()).ok()?;
+        Some(text.strip_prefix(MARK)?.trim_end())
+    }
 }
 
 /// Reads the last bytes of the program's file.
@@ -36,8 +56,8 @@ pub fn print_note<R: Progress>(rt: &R) -> io::Result<()> {
 /// # Errors
 ///
 /// Returns the system's error, for example if `/proc` is not mounted.
-fn read_note<R: Host>(rt: &R, note: &mut [u8; LEN]) -> io::Result<()> {
+fn read_end<R: Host>(rt: &R, bytes: &mut [u8; LEN]) -> io::Result<()> {
     let mut program = File::open(rt, "/proc/self/exe")?;
     program.seek(SeekFrom::End(-128))?;
-    program.read_exact(note)
+    program.read_exact(bytes)
 }

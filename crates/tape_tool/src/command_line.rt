@@ -23,6 +23,9 @@ use clap::error::ErrorKind;
 use clap::{Arg, ArgAction, ArgMatches, Command, Error};
 use std::alloc::{AllocError, Global};
 
+/// The version of the program.
+pub const VERSION: &str = "0.1.0";
+
 /// The program. The usage line shows the name that users know, whatever the file is called.
 const TAPE: &CommandSpec = &CommandSpec {
     name: "tape",
@@ -130,7 +133,7 @@ fn command<'a>(alloc: Global) -> Result<Command<'a>, AllocError> {
         .action(ArgAction::SetTrue)
         .global(true)
         .help(help::NO_EXPLAIN);
-    let bare = command_of(alloc, TAPE)?.version("0.1.0");
+    let bare = command_of(alloc, TAPE)?.version(VERSION);
     let mut tape = bare.subcommand_required(true).arg(explain)?.arg(silent)?;
     let commands = [
         LIST, SHOW, CHECK, SURVEY, COMPARE, MERGE, CONVERT, EXTRACT, UNPACK, SALVAGE, STAGE, INIT,

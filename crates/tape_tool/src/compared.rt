@@ -10,7 +10,7 @@ use crate::screen::Progress;
 use std::alloc::Global;
 use std::io::Read;
 use tape_core::PartWalk;
-use tape_run::{ImageSource, Opener, RunFault, Session};
+use tape_run::{ImageSource, OpenedImage, Opener, RunFault, Session, position_of};
 
 /// Opens images in normal form. If an image has other data of the section needed than the session,
 /// the image is read as if it ended with a tape mark before these data.
@@ -20,6 +20,10 @@ pub struct Compared {
     is_on: bool,
     /// The numbers of the images that had other data.
     pub differing: Vec<usize>,
+    /// Whether it is recorded which images were opened.
+    pub is_recorded: bool,
+    /// The images that were opened, in order, if that is recorded.
+    pub openings: Vec<OpenedImage>,
 }
 
 impl Compared {
@@ -28,7 +32,19 @@ impl Compared {
         Compared {
             is_on,
             differing: Vec::new(alloc),
+            is_recorded: false,
+            openings: Vec::new(alloc),
         }
+    }
+
+    /// Records that an image is opened, if openings are to be recorded.
+    fn record(&mut self, opening: OpenedImage) -> Result<(), RunFault>
+        ensures { IsOkUnless result faults.OutOfMemory }
+    {
+        if self.is_recorded && self.openings.push(opening).is_err() {
+            return Err(RunFault::OutOfMemory);
+        }
+        Ok(())
     }
 
     /// Returns the byte offset at which image `number` has other data of the section needed than
@@ -95,6 +111,8 @@ impl<S: PartWalk, R: Progress> Opener<S, Normal<R>, NormalImages<'_, R>> for Com
         images: &mut NormalImages<'_, R>,
         number: usize,
     ) -> Result<Option<Normal<R>>, RunFault> {
+        let (image, at) = (number, position_of(session.want()));
+        self.record(OpenedImage { image, at })?;
         // Only the image that is read is named on standard error.
         let reels = images.images.reels.take();
         let seam = self.seam(session, images, number);

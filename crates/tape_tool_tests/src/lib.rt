@@ -26,6 +26,8 @@ mod normal_form;
 #[cfg(test)]
 mod orders;
 #[cfg(test)]
+mod record_program;
+#[cfg(test)]
 mod seen;
 #[cfg(test)]
 mod show_program;

@@ -84,13 +84,14 @@ pub const FILE_OF_FOLDER: &str = "
   try again.";
 
 pub const FILE_OF_MANIFEST: &str = "
-#1  MANIFEST.sha256 in DIR is not a list as tape writes it, or was changed by
-  another program. It was left as it is: rename it, and try again. Files that
-  were reported are kept.
-#2  MANIFEST.sha256 in DIR could not be opened or created. With --verify: there
-  is none; 'tape unpack --manifest' writes it. Files reported earlier are kept.
-#3  MANIFEST.sha256 in DIR could not be read, or is not a list as tape writes it.
-  'sha256sum -c' may read it. Nothing was recovered.
-#4  MANIFEST.sha256 could not be written: the disk is full or failing. An older
-  list is unchanged, and files reported earlier are kept. Free some space and
-  try again: the list is then completed.";
+#1  MANIFEST.sha256 or MANIFEST.jsonl in DIR is not a list as tape writes it,
+  or was changed by another program. It was left as it is: rename it, and try
+  again. Files that were reported are kept.
+#2  MANIFEST.sha256 or MANIFEST.jsonl in DIR could not be opened or created.
+  With --verify: there is no MANIFEST.sha256; 'tape unpack --manifest' writes
+  it. Files reported earlier are kept.
+#3  MANIFEST.sha256 or MANIFEST.jsonl in DIR could not be read, or is not a
+  list as tape writes it. Nothing was recovered. 'sha256sum -c' may read it.
+#4  MANIFEST.sha256 or MANIFEST.jsonl could not be written: the disk is full or
+  failing. An older list is unchanged, and reported files are kept. Free some
+  space and try again: the list is then completed.";

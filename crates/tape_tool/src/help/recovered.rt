@@ -137,7 +137,8 @@ pub const SALVAGE_FILES: &str = "Write what is readable of each incomplete file 
 NAME.salvaged, and where it has gaps as NAME.gaps";
 
 pub const MANIFEST: &str = "List the SHA-256 checksum of each complete file in
-MANIFEST.sha256, as 'sha256sum' does";
+MANIFEST.sha256, as 'sha256sum' does, and in
+MANIFEST.jsonl also which images its blocks came from";
 
 pub const VERIFY: &str = "Check the files of DIR against MANIFEST.sha256, and
 recover nothing: takes DIR alone";
@@ -213,9 +214,11 @@ unless somebody changed them.
 
 With --manifest, MANIFEST.sha256 in DIR gets a line for each complete file: its
 SHA-256, as it was written, and its name. A file that EXISTS gets one unless it
-has it. Lines of other files stay. --verify reads the files again,
-as 'sha256sum -c MANIFEST.sha256' does in DIR, and prints a line for each that
-does not agree, and the number of files by outcome:
+has it. Lines of other files stay. MANIFEST.jsonl has lines of JSON about these
+files, also incomplete ones: their labels, and which images and blocks they were
+made of. Later runs add lines. --verify reads the files again, as
+'sha256sum -c MANIFEST.sha256' does in DIR, and prints a line for each that does
+not agree, and the number of files by outcome:
   DIFFERS ABC001.1.PAYROLL     its contents were changed
   MISSING ABC001.2.LEDGER      there is no file of this name
   NOT READ ABC001.3.TAXES      it cannot be read, or is not a regular file

@@ -8,7 +8,7 @@ use super::labels::are_of_one_file;
 use super::report::LastLine;
 use super::run::Run;
 use super::stages::is_front;
-use super::summed::{Checksum, Summed, SummedDraft};
+use super::summed::{Listed, Summed, SummedDraft};
 use crate::extract::{Draft, Task};
 use crate::fault::{OUT_OF_MEMORY, ToolFault};
 use crate::normal::NormalImages;
@@ -81,20 +81,20 @@ impl<'n, R: Progress, P: Write> Run<'n, R, P> {
 /// Recovers an incomplete file as `salvage` does, from the images named `names`. It gets its name
 /// only if `salvage` would call it complete, its labels are those of one file, and it begins with
 /// all that its stage has. Otherwise nothing is changed. If it is complete, `last` remembers the
-/// last line, and `sum` the checksum.
+/// last line, and `listed` the checksum, but not where its blocks came from.
 pub fn salvage_whole<'a, R: Progress>(
     rt: &'a R,
     task: &Task<'a>,
     file: &SetFile,
     names: &'a [&'a str],
-    sum: &mut Checksum,
+    listed: &mut Listed,
     last: &mut LastLine,
 ) -> Result<End, ToolFault> {
     let (draft, records) = Draft::over(rt, task.out, None)?;
     let mut place = SummedDraft { draft, found: None };
     let (mut kept, mut told) = (Kept(None), LastLine::new());
     let images = &mut NormalImages::again(rt, names);
-    let records = Summed::new(records, sum.is_wanted);
+    let records = Summed::new(records, listed.is_wanted);
     let salvage = salvage_task(file, task.form);
     let done = match salvage_to(rt.alloc(), &salvage, images, records, &mut kept, &mut told) {
         Ok(true) => is_certain(rt, task, file, names, place.draft.path()),
@@ -107,7 +107,8 @@ pub fn salvage_whole<'a, R: Progress>(
     };
     let end = place.draft.ended(end);
     if end == End::Done {
-        sum.found = place.found.take();
+        listed.sum = place.found.take();
+        listed.runs = Vec::new(rt.alloc());
         *last = told;
     }
     Ok(end)

@@ -4,6 +4,7 @@ ghost use Rattle.std.specs.Prelude.{None};
 
 use super::report::{Ended, LastLine};
 use super::run::Run;
+use super::summed::sum_of;
 use crate::compared::Compared;
 use crate::extract::{Task, end_as_written};
 use crate::fault::{FileFault, OUT_OF_MEMORY, ToolFault};
@@ -18,7 +19,7 @@ use std::io::{Error, ErrorKind, Read, Write};
 use std::{fs, io};
 use tape_core::MemorySink;
 use tape_run::{
-    Locations, Mounted, OutSink, Place, Session, SetFile, UnpackOutcome, WriteFailed,
+    BlockRun, Locations, Mounted, OutSink, Place, Session, SetFile, UnpackOutcome, WriteFailed,
     extract_in_passes, extract_located,
 };
 use tape_writer::system::found;
@@ -87,9 +88,10 @@ impl Place<Existing<'_>> for Comparison {
 
 impl<R: Progress, P: Write> Run<'_, R, P> {
     /// Compares the file at `out`, which exists, with that on the images, and prints the outcome.
-    /// Only a plain file is compared. Nothing is written.
+    /// Only a plain file is compared. Nothing of it is written.
     pub fn compare_file(&mut self, file: &SetFile, out: &str) -> Ended {
-        let outcome = match self.compared(file, out) {
+        let mut runs = Vec::new(self.rt.alloc());
+        let outcome = match self.compared(file, out, &mut runs) {
             Ok(outcome) => outcome,
             Err(OUT_OF_MEMORY) => return Err(OUT_OF_MEMORY),
             Err(fault) => return self.tell_failed(file, out, fault),
@@ -103,8 +105,14 @@ impl<R: Progress, P: Write> Run<'_, R, P> {
     }
 
     /// Returns how the file at `out` compares with that on the images. The images are read as for
-    /// a file that does not exist, but nothing is saved in a stage, and none is read.
-    fn compared(&mut self, file: &SetFile, out: &str) -> Result<UnpackOutcome, ToolFault> {
+    /// a file that does not exist, but nothing is saved in a stage, and none is read. `runs` gets
+    /// where the blocks of the images came from.
+    fn compared(
+        &mut self,
+        file: &SetFile,
+        out: &str,
+        runs: &mut Vec<BlockRun>,
+    ) -> Result<UnpackOutcome, ToolFault> {
         let rt = self.rt;
         if !fs::symlink_metadata(rt.host(), out).is_ok_and(|there| there.is_file()) {
             return Ok(UnpackOutcome::NotCompared);
@@ -125,6 +133,7 @@ impl<R: Progress, P: Write> Run<'_, R, P> {
             let images = &mut NormalImages::again(rt, self.names);
             let (mounted, locations) = (&mut self.mounted, &self.met.locations);
             end = compare_whole(rt, task, images, mounted, locations, existing);
+            *runs = self.met.section_runs(rt.alloc(), file)?;
             if end != End::Done && end != End::Incomplete {
                 // Nothing is proved about an image at which a fault occurred.
                 self.mounted = None;
@@ -132,12 +141,12 @@ impl<R: Progress, P: Write> Run<'_, R, P> {
         }
         if end == End::Incomplete {
             let existing = Existing::open(rt.host(), out, differs)?;
-            end = self.compare_in_passes(file, task, existing)?;
+            end = self.compare_in_passes(file, task, existing, runs)?;
         }
         match end {
             _ if differs.get() => Ok(UnpackOutcome::Different),
             End::Done => {
-                self.list_existing(out)?;
+                self.list_existing(file, out, runs.as_slice())?;
                 Ok(UnpackOutcome::Exists)
             }
             End::Faulted(fault) if fault != CANNOT_READ => Err(fault),
@@ -145,24 +154,44 @@ impl<R: Progress, P: Write> Run<'_, R, P> {
         }
     }
 
-    /// Adds an existing file to the list of checksums, if that is to be extended.
-    fn list_existing(&mut self, out: &str) -> Result<(), ToolFault> {
-        let host = self.rt.host();
-        if let Some(manifest) = &mut self.manifest
-            && let Some(there) = found(fs::symlink_metadata(host, out))?
-        {
-            manifest.add_existing(host, out, &there)?;
+    /// Adds an existing file to the list of checksums and to the record, if these are to be
+    /// extended and do not contain it. Its blocks came from `runs`.
+    fn list_existing(
+        &mut self,
+        file: &SetFile,
+        out: &str,
+        runs: &[BlockRun],
+    ) -> Result<(), ToolFault> {
+        let (host, alloc) = (self.rt.host(), self.rt.alloc());
+        let Some(manifest) = &mut self.manifest else {
+            return Ok(());
+        };
+        let (is_unlisted, is_unrecorded) = manifest.is_new(alloc, out)?;
+        let there = found(fs::symlink_metadata(host, out))?;
+        match there {
+            Some(there) if there.is_file() && (is_unlisted || is_unrecorded) => {
+                let sum = sum_of(&mut open(host, out)?, there.len())?;
+                if is_unlisted {
+                    manifest.add(alloc, out, sum)?;
+                }
+                if is_unrecorded {
+                    self.record_file(file, out, sum, runs)?;
+                }
+                Ok(())
+            }
+            _ => Ok(()),
         }
-        Ok(())
     }
 
     /// Recovers a file in passes, its data in memory, and compares its records. If it stays
-    /// incomplete, and no image had other data, recovers it as `salvage` does.
+    /// incomplete, and no image had other data, recovers it as `salvage` does. `runs` gets where
+    /// its blocks came from, unless it was recovered so.
     fn compare_in_passes(
         &self,
         file: &SetFile,
         task: &Task<'_>,
         existing: Existing<'_>,
+        runs: &mut Vec<BlockRun>,
     ) -> Result<End, ToolFault> {
         let rt = self.rt;
         let mut existing = existing;
@@ -179,13 +208,16 @@ impl<R: Progress, P: Write> Run<'_, R, P> {
         let names = self.names_for(task.set_id, session.want())?;
         let images = &mut NormalImages::again(rt, names.as_slice());
         let opener = &mut Compared::new(rt.alloc(), true);
+        opener.is_recorded = self.manifest.is_some();
         let (session, last) = (&mut session, &mut LastLine::new());
         let form = task.form;
         let answer = extract_in_passes(session, images, opener, true, form, &mut existing, last);
         let end = extract_end(answer);
         if end == End::Incomplete && opener.differing.is_empty() {
+            *runs = Vec::new(rt.alloc());
             return self.compare_salvaged(file, task.out);
         }
+        *runs = self.runs_in_passes(names.as_slice(), opener, session.want())?;
         Ok(end)
     }
 }

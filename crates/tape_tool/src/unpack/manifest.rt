@@ -1,5 +1,7 @@
-//! `MANIFEST.sha256`, the list of the checksums of the files that were recovered into a directory.
+//! `MANIFEST.sha256`, the list of the checksums of the files that were recovered into a directory,
+//! and what it has in common with the record of them.
 
+use super::record::Record;
 use super::summed::sum_of;
 use super::sums::Sums;
 use crate::explain::FaultSite;
@@ -9,7 +11,7 @@ use crate::program::{End, end_of};
 use crate::refusal::{FileId, Refusal, open};
 use crate::screen::{Host, Progress};
 use std::alloc::{AllocError, Global};
-use std::fs::{File, Metadata};
+use std::fs::File;
 use std::io::{BufWriter, ErrorKind, Read, Write};
 use std::{fs, io};
 use tape_run::{Place, flush, name_text, write_text};
@@ -18,9 +20,10 @@ use tape_writer::system::{found, name_in_folder};
 /// The name of the list.
 pub const MANIFEST: &str = "MANIFEST.sha256";
 
-/// The list of a directory, which a run of `unpack` extends.
+/// The list and the record of a directory, which a run of `unpack` extends.
 #[derive(Drop)]
 pub struct Manifest {
+    pub record: Record,
     path: String,
     /// The file that had the list before the run.
     before: Option<FileId>,
@@ -30,12 +33,12 @@ pub struct Manifest {
 }
 
 impl Manifest {
-    /// Reads the list of the directory `folder`, if there is one.
+    /// Reads the list and the record of the directory `folder`, if there are any.
     ///
     /// # Errors
     ///
-    /// Returns `Exists` if another file has its name, or one that is not such a list; otherwise the
-    /// fault of reading it.
+    /// Returns `Exists` if another file has the name of one, or one that is not such a list or
+    /// record; otherwise the fault of reading it.
     pub fn open<R: Host>(rt: &R, folder: &str) -> Result<Manifest, ToolFault> {
         let path = path_in(rt.alloc(), folder, MANIFEST)?;
         let (mut before, mut sums) = (None, Sums::new(rt.alloc()));
@@ -50,6 +53,7 @@ impl Manifest {
             sums = read.ok_or(ToolFault::File(FileFault::Exists))?;
         }
         Ok(Manifest {
+            record: Record::open(rt, folder)?,
             path,
             before,
             sums,
@@ -64,63 +68,73 @@ impl Manifest {
         self.sums.add(name, sum)
     }
 
-    /// Adds the file at `path`, which existed before the run, unless the list has a file of this
-    /// name, or it is not a regular file.
-    ///
-    /// # Errors
-    ///
-    /// Returns `NotOpened` or `ReadFailed` if it cannot be read, or `OUT_OF_MEMORY`.
-    pub fn add_existing<R: Host>(
-        &mut self,
-        rt: &R,
-        path: &str,
-        there: &Metadata,
-    ) -> Result<(), ToolFault> {
-        if !there.is_file() || self.sums.has(name_in_folder(path).as_bytes()) {
-            return Ok(());
-        }
-        let sum = sum_of(&mut open(rt, path)?, there.len())?;
-        Ok(self.add(rt.alloc(), path, sum)?)
+    /// Returns whether the file at `path` is missing in the list, and in the record.
+    pub fn is_new(&self, alloc: Global, path: &str) -> Result<(bool, bool), AllocError> {
+        let name = name_in_folder(path);
+        let is_recorded = self.record.has_file(alloc, name)?;
+        Ok((!self.sums.has(name.as_bytes()), !is_recorded))
     }
 
-    /// Writes the list, if the run added a file. It replaces the list that was read, if that is
-    /// unchanged.
+    /// Writes the list if the run added a file, and the record if it added a line. Each replaces
+    /// the file that was read, if that is unchanged. If one fails, the other is still written.
     ///
     /// # Errors
     ///
     /// Returns `Exists` if it is not; otherwise the fault of creating or writing a file.
     pub fn write<R: Progress>(&self, rt: &R) -> Result<(), ToolFault> {
-        if !self.is_extended {
-            return Ok(());
+        let recorded = self.record.write(rt);
+        if self.is_extended {
+            let text = self.sums.text(rt.alloc())?;
+            place_text(rt, self.path.as_str(), self.before, text.as_slice())?;
         }
-        let text = self.sums.text(rt.alloc())?;
-        let (mut draft, mut out) = Draft::over(rt, self.path.as_str(), self.before)?;
-        let placed = match write_text(&mut out, text.as_slice()) {
-            Ok(()) => draft.place(out),
-            Err(fault) => Err(fault),
-        };
-        let end = end_of(placed.map_err(|fault| ToolFault::from(fault)));
-        match draft.ended(end) {
-            End::Faulted(fault) => Err(fault),
-            _ => Ok(()),
-        }
+        recorded
+    }
+}
+
+/// Writes `text` to a new file, which then gets the name `path`. It replaces `before`.
+///
+/// # Errors
+///
+/// Returns `Exists` if another file has the name now; otherwise the fault of creating or writing a
+/// file.
+pub fn place_text<R: Progress>(
+    rt: &R,
+    path: &str,
+    before: Option<FileId>,
+    text: &[u8],
+) -> Result<(), ToolFault> {
+    let (mut draft, mut out) = Draft::over(rt, path, before)?;
+    let placed = match write_text(&mut out, text) {
+        Ok(()) => draft.place(out),
+        Err(fault) => Err(fault),
+    };
+    let end = end_of(placed.map_err(|fault| ToolFault::from(fault)));
+    match draft.ended(end) {
+        End::Faulted(fault) => Err(fault),
+        _ => Ok(()),
     }
 }
 
 /// Returns the path of the file `name` in a directory.
-fn path_in(alloc: Global, folder: &str, name: &str) -> Result<String, AllocError> {
+pub fn path_in(alloc: Global, folder: &str, name: &str) -> Result<String, AllocError> {
     let end = if folder.ends_with('/') { "" } else { "/" };
     format!(in alloc; "{folder}{end}{name}")
 }
 
-/// Reads a list, if the file at `path` is one.
-fn read_sums<R: Host>(rt: &R, path: &str) -> Result<Option<Sums>, ToolFault> {
+/// Returns the text of the file at `path`.
+pub fn read_text<R: Host>(rt: &R, path: &str) -> Result<Vec<u8>, ToolFault> {
     let mut text = Vec::new(rt.alloc());
     match open(rt, path)?.read_to_end(&mut text) {
-        Ok(_) => Ok(Sums::of(rt.alloc(), text.as_slice())?),
+        Ok(_) => Ok(text),
         Err(error) if error.kind() == ErrorKind::OutOfMemory => Err(OUT_OF_MEMORY),
         Err(_) => Err(ToolFault::File(FileFault::ReadFailed)),
     }
+}
+
+/// Reads a list, if the file at `path` is one.
+fn read_sums<R: Host>(rt: &R, path: &str) -> Result<Option<Sums>, ToolFault> {
+    let text = read_text(rt, path)?;
+    Ok(Sums::of(rt.alloc(), text.as_slice())?)
 }
 
 /// What was found out about a file in a list.

@@ -3,7 +3,7 @@
 use super::completion::salvage_whole;
 use super::report::LastLine;
 use super::run::Run;
-use super::summed::{Checksum, Summed, SummedDraft, SummedOutput};
+use super::summed::{Listed, Summed, SummedDraft, SummedOutput};
 use crate::compared::Compared;
 use crate::extract::{Draft, Task, end_as_written};
 use crate::fault::{FileFault, OUT_OF_MEMORY, ToolFault};
@@ -11,12 +11,13 @@ use crate::normal::{Normal, NormalImages};
 use crate::program::{End, end_of, extract_end};
 use crate::screen::Progress;
 use crate::staging::session_in;
+use std::alloc::AllocError;
 use std::fs;
 use std::io::Write;
 use tape_label::Field;
 use tape_run::{
-    Locations, Mounted, OutSink, Session, SetFile, extract_in_passes, extract_located, is_passed,
-    last_line, write_text,
+    BlockRun, Locations, Mounted, OutSink, Session, SetFile, extract_in_passes, extract_located,
+    is_passed, last_line, position_of, runs_of, write_text,
 };
 use tape_set::Want;
 use tape_writer::system::found;
@@ -26,13 +27,13 @@ impl<'n, R: Progress, P: Write> Run<'n, R, P> {
     /// nothing from its stage, which may have data of other copies. Any other file, or one that is
     /// still incomplete then, is recovered on its stage, in passes; if that does not complete it,
     /// and no image had other data, as `salvage` does. `last` remembers the last line of either,
-    /// and `sum` the checksum of a complete file.
+    /// and `listed` what the lists say of the file.
     pub fn recover(
         &mut self,
         file: &SetFile,
         out: &str,
         stage: &str,
-        sum: &mut Checksum,
+        listed: &mut Listed,
         last: &mut LastLine,
     ) -> Result<End, ToolFault> {
         let task = Task {
@@ -47,19 +48,21 @@ impl<'n, R: Progress, P: Write> Run<'n, R, P> {
         if file.lacks.is_none() {
             let images = &mut NormalImages::again(self.rt, self.names);
             let (mounted, locations) = (&mut self.mounted, &self.met.locations);
-            let end = extract_whole(self.rt, &task, images, mounted, locations, sum, last);
+            let end = extract_whole(self.rt, &task, images, mounted, locations, listed, last);
+            if end == Ok(End::Done) {
+                listed.runs = self.met.section_runs(self.rt.alloc(), file)?;
+                return end;
+            }
             if end != Ok(End::Incomplete) {
-                if end != Ok(End::Done) {
-                    // Nothing is proved about an image at which a fault occurred.
-                    self.mounted = None;
-                }
+                // Nothing is proved about an image at which a fault occurred.
+                self.mounted = None;
                 return end;
             }
         }
-        let end = self.recover_in_passes(&task, stage, sum, last)?;
+        let end = self.recover_in_passes(&task, stage, listed, last)?;
         if end == End::Incomplete && self.differing.is_empty() {
             let names = self.names_of_set(file.set_id)?;
-            return salvage_whole(self.rt, &task, file, names.as_slice(), sum, last);
+            return salvage_whole(self.rt, &task, file, names.as_slice(), listed, last);
         }
         Ok(end)
     }
@@ -93,7 +96,7 @@ impl<'n, R: Progress, P: Write> Run<'n, R, P> {
         &mut self,
         task: &Task<'_>,
         path: &str,
-        sum: &mut Checksum,
+        listed: &mut Listed,
         last: &mut LastLine,
     ) -> Result<End, ToolFault> {
         let rt = self.rt;
@@ -108,28 +111,60 @@ impl<'n, R: Progress, P: Write> Run<'n, R, P> {
         let names = self.names_for(task.set_id, session.want())?;
         let images = &mut NormalImages::again(rt, names.as_slice());
         let (draft, out) = Draft::over(rt, task.out, None)?;
-        let mut output = SummedOutput::new(draft, out, sum.is_wanted);
+        let mut output = SummedOutput::new(draft, out, listed.is_wanted);
         let opener = &mut Compared::new(rt.alloc(), true);
+        opener.is_recorded = listed.is_wanted;
         let (session, form) = (&mut session, task.form);
         let answer = extract_in_passes(session, images, opener, true, form, &mut output, last);
         let mut place = output.place;
-        sum.found = place.found.take();
+        listed.sum = place.found.take();
+        listed.want = session.want();
         let end = place.draft.ended(extract_end(answer));
+        self.note_passes(names.as_slice(), opener, listed)?;
+        Ok(end)
+    }
+
+    /// Remembers which images had other data of a file, and in `listed` from which ones its blocks
+    /// came. It was recovered from those named `names`, which `opener` opened.
+    fn note_passes(
+        &mut self,
+        names: &[&str],
+        opener: &Compared,
+        listed: &mut Listed,
+    ) -> Result<(), AllocError> {
         for number in opener.differing.as_slice() {
-            if let Some(name) = names.as_slice().get(*number)
-                && let Some(place) = place_of(self.names, *name)
-            {
-                self.differing.push(place).map_err(|_| OUT_OF_MEMORY)?;
+            if let Some(place) = place_of(self.names, names, *number) {
+                self.differing.push(place)?;
             }
         }
-        Ok(end)
+        listed.runs = self.runs_in_passes(names, opener, listed.want)?;
+        Ok(())
+    }
+
+    /// Returns where the blocks of a file came from that was recovered from the images named
+    /// `names`, which `opener` opened, up to the part `want`.
+    pub fn runs_in_passes(
+        &self,
+        names: &[&str],
+        opener: &Compared,
+        want: Option<Want>,
+    ) -> Result<Vec<BlockRun>, AllocError> {
+        let openings = opener.openings.as_slice();
+        let mut runs = runs_of(self.rt.alloc(), openings, position_of(want))?;
+        for run in &mut runs {
+            if let Some(number) = run.image {
+                run.image = place_of(self.names, names, number);
+            }
+        }
+        Ok(runs)
     }
 }
 
-/// Returns the place of a name among these names.
-fn place_of(names: &[&str], name: &str) -> Option<usize> {
+/// Returns the place among all these names of the one with number `number` among some of them.
+fn place_of(names: &[&str], some: &[&str], number: usize) -> Option<usize> {
+    let name = some.get(number)?;
     for (place, other) in names.iter().enumerate() {
-        if *other == name {
+        if *other == *name {
             return Some(place);
         }
     }
@@ -137,7 +172,7 @@ fn place_of(names: &[&str], name: &str) -> Option<usize> {
 }
 
 /// Recovers a file from the images that contain its sections, and prints the last line if it is
-/// complete. The last image stays open, so that the next file can continue there. `sum` gets the
+/// complete. The last image stays open, so that the next file can continue there. `listed` gets the
 /// checksum of a complete file.
 fn extract_whole<'a, R: Progress, P: Write>(
     rt: &'a R,
@@ -145,12 +180,12 @@ fn extract_whole<'a, R: Progress, P: Write>(
     images: &mut NormalImages<'_, R>,
     mounted: &mut Option<Mounted<Normal<R>>>,
     locations: &Locations,
-    sum: &mut Checksum,
+    listed: &mut Listed,
     report: &mut P,
 ) -> Result<End, ToolFault> {
     let (draft, out) = Draft::over(rt, task.out, None)?;
     let mut place = SummedDraft { draft, found: None };
-    let sink = OutSink::new(Summed::new(out, sum.is_wanted), task.form);
+    let sink = OutSink::new(Summed::new(out, listed.is_wanted), task.form);
     let Ok(mut session) = Session::new(rt.alloc(), task.set_id, task.file, sink) else {
         return Ok(place.draft.ended(End::WrongWords));
     };
@@ -160,7 +195,7 @@ fn extract_whole<'a, R: Progress, P: Write>(
     let form = task.form;
     let answer = extract_located(&mut session, images, mounted, locations, form, &mut place);
     drop(session);
-    sum.found = place.found.take();
+    listed.sum = place.found.take();
     let end = match answer {
         Ok(Some(records)) => {
             let told = write_text(report, last_line(None, records).as_bytes());

@@ -6,7 +6,7 @@ use super::manifest::{Manifest, verify};
 use super::report::{Ended, LastLine, after_word};
 use super::salvaged::Salvaged;
 use super::stages::is_front;
-use super::summed::Checksum;
+use super::summed::Listed;
 use crate::dates::set_time;
 use crate::explain::FaultSite;
 use crate::extract::no_draft;
@@ -48,7 +48,7 @@ pub struct Run<'n, R: Progress, P> {
     /// The lines of the report, and how many files they were about.
     pub out: P,
     pub tally: Tally,
-    /// The list of checksums, if it is to be extended.
+    /// The list of checksums and the record, if they are to be extended.
     pub manifest: Option<Manifest>,
 }
 
@@ -100,8 +100,8 @@ pub fn unpack<'a, R: Progress>(
     })
 }
 
-/// Checks that the directory for the files exists, and reads its list of checksums if that is to
-/// be extended. On error, `site` says where it occurred.
+/// Checks that the directory for the files exists, and reads its lists if they are to be extended.
+/// On error, `site` says where it occurred.
 fn manifest_of<'a, R: Host>(
     rt: &R,
     folder: &'a str,
@@ -224,8 +224,9 @@ impl<R: Progress, P: Write> Run<'_, R, P> {
         Ok(end)
     }
 
-    /// Writes the list of checksums if it is to be extended.
-    fn write_manifest(&self) -> Result<(), ToolFault> {
+    /// Writes the list of checksums and the record, if they are to be extended.
+    fn write_manifest(&mut self) -> Result<(), ToolFault> {
+        self.record_images()?;
         match &self.manifest {
             Some(manifest) => manifest.write(self.rt),
             None => Ok(()),
@@ -255,22 +256,21 @@ impl<R: Progress, P: Write> Run<'_, R, P> {
         stage: &str,
         last: &mut LastLine,
     ) -> Result<End, ToolFault> {
-        let mut sum = Checksum {
-            is_wanted: self.manifest.is_some(),
-            found: None,
-        };
-        let end = self.recover(file, out, stage, &mut sum, last)?;
+        let mut listed = Listed::new(self.rt.alloc(), self.manifest.is_some());
+        let end = self.recover(file, out, stage, &mut listed, last)?;
         if let End::Faulted(fault) = end {
             return Err(fault);
         }
         if end == End::Done {
-            if let (Some(manifest), Some(sum)) = (&mut self.manifest, sum.found) {
-                manifest.add(self.rt.alloc(), out, sum)?;
+            if let Some(sum) = listed.sum {
+                self.list_file(file, out, sum, listed.runs.as_slice())?;
             }
             if !self.order.now {
                 set_time(self.rt.host(), out, &file.created);
             }
             Salvaged::of(self.rt.alloc(), out)?.remove(self.rt)?;
+        } else {
+            self.record_awaited(file, stage, &listed)?;
         }
         Ok(end)
     }
@@ -289,7 +289,10 @@ impl<R: Progress, P: Write> Run<'_, R, P> {
             Err(OUT_OF_MEMORY) => return Err(OUT_OF_MEMORY),
             Err(fault) => return self.tell_failed(file, path, fault),
             Ok(()) if last.text().starts_with(b"COMPLETE") => UnpackOutcome::Complete,
-            Ok(()) => UnpackOutcome::Salvaged,
+            Ok(()) => {
+                self.record_salvaged(file, path, salvaged.report.as_str())?;
+                UnpackOutcome::Salvaged
+            }
         };
         if outcome == UnpackOutcome::Exists {
             last = LastLine::new();

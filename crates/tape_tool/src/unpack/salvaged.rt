@@ -29,7 +29,7 @@ const SUMS: usize = 135;
 #[derive(Drop)]
 pub struct Salvaged {
     pub records: String,
-    report: String,
+    pub report: String,
 }
 
 /// A new file, with the checksum of its bytes and with its last line.

@@ -6,21 +6,39 @@ use crate::extract::Draft;
 use crate::fault::FileFault;
 use crate::screen::Progress;
 use sha2::{Digest, Sha256};
+use std::alloc::Global;
 use std::fs::File;
 use std::io;
 use std::io::{BufWriter, Read, Write};
-use tape_run::{Place, WriteFailed};
+use tape_run::{BlockRun, Place, WriteFailed};
+use tape_set::Want;
 
 /// The number of bytes that are read at a time.
 const PIECE: usize = 4_096;
 
-/// The checksum of a file that is to be written.
+/// What the lists of a directory say of a file that is to be written.
 #[derive(Drop)]
-pub struct Checksum {
-    /// Whether it is computed.
+pub struct Listed {
+    /// Whether it is needed.
     pub is_wanted: bool,
     /// The checksum, once the file has its name.
-    pub found: Option<[u8; 32]>,
+    pub sum: Option<[u8; 32]>,
+    /// Where its blocks came from, in order.
+    pub runs: Vec<BlockRun>,
+    /// The first part of the file that is missing, after a recovery on its stage.
+    pub want: Option<Want>,
+}
+
+impl Listed {
+    /// Creates what is known of a file before it is read.
+    pub fn new(alloc: Global, is_wanted: bool) -> Listed {
+        Listed {
+            is_wanted,
+            sum: None,
+            runs: Vec::new(alloc),
+            want: None,
+        }
+    }
 }
 
 /// A new file that computes the checksum of its bytes on request.

@@ -1,0 +1,317 @@
+//! The lines of `MANIFEST.jsonl`: files, where their blocks came from, and images.
+
+ghost use Rattle.std.specs.Prelude.{◌≡◌, [], IfOk, OnOk};
+ghost use Rattle.tape_tool.specs.JsonLine.{IsJsonLine};
+
+use crate::command_line::VERSION;
+use crate::json_lines::{JsonCell, add_member};
+use arrayvec::ArrayString;
+use json::Writer;
+use std::alloc::{AllocError, Global};
+use std::fmt::Write;
+use tape_label::{Field, Format, Head1, Head2, Vol1};
+use tape_run::{BlockRun, FileNote, SetFile, date_of, printed};
+use tape_set::{Position, Want};
+
+/// How a file was written.
+#[derive(Clone, Copy)]
+pub struct WrittenFile {
+    /// The form of its records.
+    pub form: &'static str,
+    pub size: u64,
+    pub sum: [u8; 32],
+}
+
+/// Begins a line, with its word.
+fn begun(alloc: Global, word: &str) -> Result<Writer, AllocError>
+    ensures { IfOk result (λ writer. writer.before ≡ []) }
+{
+    let mut writer = Writer::new(Vec::with_capacity(alloc, 256)?);
+    writer.begin_object()?;
+    add_member(&mut writer, "row", JsonCell::Text(word))?;
+    Ok(writer)
+}
+
+/// Ends a line.
+fn ended(writer: Writer) -> Result<Vec<u8>, AllocError>
+    ensures { writer.before ≡ [] → IfOk result (λ line. IsJsonLine line.items) }
+{
+    let mut writer = writer;
+    writer.end_object()?;
+    let mut line = writer.into_inner();
+    line.push(b'\n')?;
+    Ok(line)
+}
+
+/// Writes a text without the spaces at its end, or null if nothing is left.
+fn add_text(writer: &mut Writer, key: &str, text: &str) -> Result<(), AllocError>
+    ensures { OnOk result (writer.new.before ≡ writer.old.before) }
+{
+    let text = text.trim_end();
+    let value = if text.is_empty() {
+        JsonCell::Null
+    } else {
+        JsonCell::Text(text)
+    };
+    add_member(writer, key, value)
+}
+
+/// Writes a field of a label, with a question mark for each byte that is not printable.
+fn add_field(writer: &mut Writer, key: &str, bytes: &[u8]) -> Result<(), AllocError>
+    ensures { OnOk result (writer.new.before ≡ writer.old.before) }
+{
+    let mut text = ArrayString::<32>::new();
+    for byte in bytes {
+        let _ = text.try_push(char::from(printed(*byte)));
+    }
+    add_text(writer, key, text.as_str())
+}
+
+/// Writes the day in the six characters of a label, or null if they are not a day.
+fn add_day(writer: &mut Writer, key: &str, field: &Field<6>) -> Result<(), AllocError>
+    ensures { OnOk result (writer.new.before ≡ writer.old.before) }
+{
+    let mut text = ArrayString::<32>::new();
+    if let Some(date) = date_of(field) {
+        let _ = write!(text, "{date}");
+    }
+    add_text(writer, key, text.as_str())
+}
+
+/// Writes a number, or null if it is unknown.
+fn add_number(writer: &mut Writer, key: &str, number: Option<u64>) -> Result<(), AllocError>
+    ensures { OnOk result (writer.new.before ≡ writer.old.before) }
+{
+    let value = match number {
+        Some(number) => JsonCell::Number(number),
+        None => JsonCell::Null,
+    };
+    add_member(writer, key, value)
+}
+
+/// Writes a size and a checksum.
+fn add_sum(alloc: Global, writer: &mut Writer, size: u64, sum: &[u8; 32]) -> Result<(), AllocError>
+    ensures { OnOk result (writer.new.before ≡ writer.old.before) }
+{
+    let digits = hex::encode(alloc, sum.as_slice())?;
+    add_number(writer, "size", Some(size))?;
+    add_text(writer, "sha256", digits.as_str())
+}
+
+/// Writes nulls for a size and a checksum that are unknown.
+fn add_unread(writer: &mut Writer) -> Result<(), AllocError>
+    ensures { OnOk result (writer.new.before ≡ writer.old.before) }
+{
+    add_member(writer, "size", JsonCell::Null)?;
+    add_member(writer, "sha256", JsonCell::Null)
+}
+
+/// Returns the letter of a record format.
+fn letter_of(format: Format) -> &'static str {
+    match format {
+        Format::Fixed => "F",
+        Format::Counted => "D",
+        Format::Spanned => "S",
+        Format::Undefined => "U",
+        Format::Variable => "V",
+    }
+}
+
+/// Writes the fields of a first label of a file.
+fn add_head(writer: &mut Writer, head: &Head1) -> Result<(), AllocError>
+    ensures { OnOk result (writer.new.before ≡ writer.old.before) }
+{
+    add_field(writer, "set", head.set_id.bytes())?;
+    add_number(writer, "file", Some(u64::from(head.sequence)))?;
+    add_field(writer, "identifier", head.file_id.bytes())?;
+    add_field(writer, "generation", head.generation.bytes())?;
+    add_field(writer, "version", head.gen_version.bytes())?;
+    add_day(writer, "created", &head.created)?;
+    add_day(writer, "expires", &head.expires)?;
+    add_field(writer, "access", &[head.access])?;
+    add_field(writer, "system", head.implementation.bytes())
+}
+
+/// Writes the fields of a second label of a file, or nulls if it has none.
+fn add_form(writer: &mut Writer, form: Option<Head2>) -> Result<(), AllocError>
+    ensures { OnOk result (writer.new.before ≡ writer.old.before) }
+{
+    let (letter, block, record) = match form {
+        Some(form) => (
+            letter_of(form.format),
+            Some(u64::from(form.block_len)),
+            Some(u64::from(form.rec_len)),
+        ),
+        None => ("", None, None),
+    };
+    add_text(writer, "format", letter)?;
+    add_number(writer, "block", block)?;
+    add_number(writer, "record", record)
+}
+
+/// Writes the program's version, and how it was built, if that is known.
+fn add_program(writer: &mut Writer, build: Option<&str>) -> Result<(), AllocError>
+    ensures { OnOk result (writer.new.before ≡ writer.old.before) }
+{
+    add_text(writer, "program", VERSION)?;
+    let Some(build) = build else {
+        add_member(writer, "proved", JsonCell::Null)?;
+        return add_member(writer, "build", JsonCell::Null);
+    };
+    let is_proved = build.starts_with("proved:");
+    add_member(writer, "proved", JsonCell::Flag(is_proved))?;
+    add_text(writer, "build", build)
+}
+
+/// Returns the line of a complete file named `name`, with these labels. `build` says how the
+/// program was built, if that is known.
+pub fn recorded_file(
+    alloc: Global,
+    name: &str,
+    written: WrittenFile,
+    build: Option<&str>,
+    note: &FileNote,
+) -> Result<Vec<u8>, AllocError>
+    ensures { IfOk result (λ line. IsJsonLine line.items) }
+{
+    let mut writer = begun(alloc, "FILE")?;
+    add_member(&mut writer, "name", JsonCell::Text(name))?;
+    add_head(&mut writer, &note.head)?;
+    add_form(&mut writer, note.form)?;
+    add_text(&mut writer, "form", written.form)?;
+    add_sum(alloc, &mut writer, written.size, &written.sum)?;
+    add_program(&mut writer, build)?;
+    ended(writer)
+}
+
+/// Writes the name of a file in the directory, and which file of a set it is.
+fn add_names(writer: &mut Writer, name: &str, file: &SetFile) -> Result<(), AllocError>
+    ensures { OnOk result (writer.new.before ≡ writer.old.before) }
+{
+    add_member(writer, "name", JsonCell::Text(name))?;
+    add_field(writer, "set", file.set_id.bytes())?;
+    add_number(writer, "file", Some(u64::from(file.file)))?;
+    add_field(writer, "identifier", file.file_id.bytes())
+}
+
+/// Writes the section, the block and the part of a position, under these keys, or nulls at the end
+/// of a file.
+fn add_position(
+    writer: &mut Writer,
+    sect_key: &str,
+    block_key: &str,
+    part_key: &str,
+    position: Position,
+) -> Result<(), AllocError>
+    ensures { OnOk result (writer.new.before ≡ writer.old.before) }
+{
+    let (sect, block, part) = match position {
+        Position::Awaits { sect, block, part } => (
+            Some(u64::from(sect)),
+            Some(u64::from(block)),
+            Some(u64::from(part)),
+        ),
+        Position::Finished => (None, None, None),
+    };
+    add_number(writer, sect_key, sect)?;
+    add_number(writer, block_key, block)?;
+    add_number(writer, part_key, part)
+}
+
+/// Returns the line of an incomplete file, whose stage has this name, and of its first missing
+/// part.
+pub fn awaited_file(
+    alloc: Global,
+    name: &str,
+    file: &SetFile,
+    want: Want,
+) -> Result<Vec<u8>, AllocError>
+    ensures { IfOk result (λ line. IsJsonLine line.items) }
+{
+    let Want {
+        sect,
+        block,
+        part,
+        ..
+    } = want;
+    let position = Position::Awaits { sect, block, part };
+    let mut writer = begun(alloc, "AWAITS")?;
+    add_names(&mut writer, name, file)?;
+    add_position(&mut writer, "section", "block", "part", position)?;
+    ended(writer)
+}
+
+/// Returns the line of the salvaged records of a file, which have this name. Their gaps are in the
+/// file named `gaps`.
+pub fn salvaged_file(
+    alloc: Global,
+    name: &str,
+    file: &SetFile,
+    form: &str,
+    gaps: &str,
+) -> Result<Vec<u8>, AllocError>
+    ensures { IfOk result (λ line. IsJsonLine line.items) }
+{
+    let mut writer = begun(alloc, "SALVAGED")?;
+    add_names(&mut writer, name, file)?;
+    add_text(&mut writer, "form", form)?;
+    add_member(&mut writer, "gaps", JsonCell::Text(gaps))?;
+    ended(writer)
+}
+
+/// Returns the line of blocks of the file named `name`, which came from the image at `image`.
+pub fn recorded_blocks(
+    alloc: Global,
+    name: &str,
+    run: BlockRun,
+    image: Option<&str>,
+) -> Result<Vec<u8>, AllocError>
+    ensures { IfOk result (λ line. IsJsonLine line.items) }
+{
+    let mut writer = begun(alloc, "BLOCKS")?;
+    add_member(&mut writer, "name", JsonCell::Text(name))?;
+    add_position(&mut writer, "section", "block", "part", run.from)?;
+    add_position(&mut writer, "end_section", "end_block", "end_part", run.end)?;
+    match image {
+        Some(image) => add_member(&mut writer, "image", JsonCell::Text(image))?,
+        None => add_member(&mut writer, "image", JsonCell::Null)?,
+    }
+    ended(writer)
+}
+
+/// Writes the fields of a volume label.
+fn add_volume(writer: &mut Writer, label: Option<Vol1>) -> Result<(), AllocError>
+    ensures { OnOk result (writer.new.before ≡ writer.old.before) }
+{
+    let Some(label) = label else {
+        add_member(writer, "volume", JsonCell::Null)?;
+        add_member(writer, "owner", JsonCell::Null)?;
+        return add_member(writer, "system", JsonCell::Null);
+    };
+    add_field(writer, "volume", label.volume.bytes())?;
+    add_field(writer, "owner", label.owner.bytes())?;
+    add_field(writer, "system", label.implementation.bytes())
+}
+
+/// Returns the line of the image named `name`: its size and its checksum, unless it could not be
+/// read, and the fields of its volume label, if it has one.
+pub fn recorded_image(
+    alloc: Global,
+    name: &str,
+    read: Option<(u64, [u8; 32])>,
+    label: Option<Vol1>,
+) -> Result<Vec<u8>, AllocError>
+    ensures { IfOk result (λ line. IsJsonLine line.items) }
+{
+    let mut writer = begun(alloc, "IMAGE")?;
+    add_member(&mut writer, "image", JsonCell::Text(name))?;
+    match read {
+        Some(read) => {
+            let sum = read.1;
+            add_sum(alloc, &mut writer, read.0, &sum)?;
+        }
+        None => add_unread(&mut writer)?,
+    }
+    add_volume(&mut writer, label)?;
+    ended(writer)
+}
