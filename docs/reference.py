@@ -37,7 +37,7 @@ FILES = {"FILE_OF_IMAGE": "an image to be read", "FILE_OF_LIST": "a list of imag
          "FILE_OF_OUT": "OUT of `extract`, `stage` or `salvage`", "FILE_OF_NEW": "OUT of `merge` or `convert`",
          "FILE_OF_LOG": "LOG of `merge`",
          "FILE_OF_STAGE": "a stage", "FILE_OF_FOLDER": "DIR of `unpack`, or a file in it",
-         "FILE_OF_MANIFEST": "`MANIFEST.sha256` of `unpack`",
+         "FILE_OF_MANIFEST": "a list of `unpack` in DIR",
          "FILE_OF_VOLUME": "an image of `init`", "FILE_OF_INPUT": "an input of `write`",
          "FILE_OF_IMAGES": "an image of `write`", "FILE_OF_LINES": "standard output"}
 

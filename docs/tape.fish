@@ -96,7 +96,7 @@ complete -c tape -n '__tape_in unpack' -l file -x -d 'Only files with this numbe
 complete -c tape -n '__tape_in unpack' -l list -d 'Print what would be done, and create nothing'
 complete -c tape -n '__tape_in unpack' -l salvage -d 'Write what is readable of each incomplete file as NAME.salvaged, and where it has gaps as NAME.gaps'
 complete -c tape -n '__tape_in unpack' -l now -d 'Keep the present as the time of the files, instead of noon (UTC) of the creation date in their labels'
-complete -c tape -n '__tape_in unpack' -l manifest -d 'List the SHA-256 checksum of each complete file in MANIFEST.sha256, as '\''sha256sum'\'' does'
+complete -c tape -n '__tape_in unpack' -l manifest -d 'List the SHA-256 checksum of each complete file in MANIFEST.sha256, as '\''sha256sum'\'' does, and in MANIFEST.jsonl also which images its blocks came from'
 complete -c tape -n '__tape_in unpack' -l verify -d 'Check the files of DIR against MANIFEST.sha256, and recover nothing: takes DIR alone'
 complete -c tape -n '__tape_at unpack 1' -a '(__fish_complete_directories (commandline -ct))'
 complete -c tape -n '__tape_at unpack 2 +' -F
