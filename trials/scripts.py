@@ -324,10 +324,16 @@ def try_bag(trial, salvage):
                 others[set_id, str(file.number)] = reels
                 continue
             known = first_whole(file.number, reels)
-            images = ",".join(str(names.index(reel.name) + 1) for reel in known) if known else "not recorded"
+            row = [path, set_id, str(file.number), "COMPLETE", str(file.text.count(b"\n"))]
+            *told, images = complete.pop(path, [""])
+            trial.expect(told == row, f"bag: wanted {row}")
+            taken = [names[int(image) - 1] for image in images.split(",") if image]
+            if known:
+                trial.expect(taken == [reel.name for reel in known], f"bag: {path}, {taken}")
+            else:
+                # Some section is whole on no reel, so two or more gave its blocks.
+                trial.expect(len(taken) > 1 and set(taken) <= {reel.name for reel in reels}, f"bag: {path}, {taken}")
             counts[known is None] += 1
-            row = [path, set_id, str(file.number), "COMPLETE", str(file.text.count(b"\n")), images]
-            trial.expect(complete.pop(path, None) == row, f"bag: wanted {row}")
             trial.expect((bag / path).read_bytes() == file.text, f"bag: {path} differs")
     trial.expect(not complete, f"bag: {complete}")
     payload = set(files_in(bag / "data"))
