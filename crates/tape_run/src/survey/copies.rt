@@ -1,5 +1,6 @@
 //! The complete copies of sections, compared by their data blocks and by how they end.
 ghost use Rattle.std.specs.{Result.IsOkUnless, Prelude.◌≡◌, Prelude.OnOk, Prelude.IfOk};
+ghost use Rattle.std.specs.Prelude.{Some};
 ghost use Rattle.tape_run.specs.SurveyCopies.{no_copies, copy_note, noted_at, with_told};
 ghost use Rattle.tape_run.specs.SurveyCopies.{dispute_at, differs, disputed, disputed_on};
 ghost use Rattle.tape_run.specs.SurveyCopies.{opponent_of, with_same, opponents_at, opponents_by};
@@ -55,6 +56,19 @@ impl CopyNote {
         }
         CopyNote {
             other_end: self.other_end.or(Some(image)),
+            ..*self
+        }
+    }
+
+    /// Returns the record after one more copy, on image number `image`.
+    fn with_copy(&self, image: usize, entry: &Entry, digest: u64) -> CopyNote
+        ensures { result ≡ copy_note (Some self.now) image entry.now digest }
+    {
+        if self.blocks == entry.blocks && self.digest == digest {
+            return self.with_same(image, entry.eof);
+        }
+        CopyNote {
+            other: self.other.or(Some(image)),
             ..*self
         }
     }
@@ -138,13 +152,7 @@ impl Copies {
         ensures { result ≡ copy_note (noted_at self.now.notes key.now) image entry.now digest }
     {
         match self.notes.get(key) {
-            Some(note) if note.blocks == entry.blocks && note.digest == digest => {
-                note.with_same(image, entry.eof)
-            }
-            Some(note) => CopyNote {
-                other: note.other.or(Some(image)),
-                ..*note
-            },
+            Some(note) => note.with_copy(image, entry, digest),
             None => CopyNote {
                 image,
                 blocks: entry.blocks,
