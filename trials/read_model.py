@@ -9,28 +9,61 @@ TRAILERS, NUMBERS = ("EOF1", "EOV1"), ("section", "file")
 
 
 class Volume:
-    """What is found on an image in normal form, as long as it is in the order of a volume.
+    """What is found on an image in normal form, also after items out of the order of a volume.
 
-    Each place of a volume is a method. It returns the next place, or None.
+    Each place of a volume is a method. It returns the next place, or None for an item out of order.
     """
 
     def __init__(self, data):
         self.items, self.stop = model.items_of(data)
         self.place, self.sections, self.first_labels, self.closing = "volume", [], [], []
         self.identifier = self.owner = self.system = self.set = b""
-        self.has_wrong_second = False
+        self.has_wrong_second = self.is_astray = False
+        self.named = []  # each HDR1, and each trailer label without one
         for self.at, (kind, block) in enumerate(self.items):
-            self.place = getattr(self, self.place)(kind, block or b"") or "over"
+            place = getattr(self, self.place)(kind, block or b"")
+            if place is None:
+                self.is_astray = True
+                place = self.past(self.place, kind, block or b"")
+            self.place = place
 
     @property
     def is_read(self):
         """Whether it is a volume up to its end, with nothing after it."""
-        is_ended = self.place == "ended" and not self.stop.startswith("FAULT")
+        is_ended = self.place == "ended" and not self.is_astray and not self.stop.startswith("FAULT")
         return is_ended and not self.has_wrong_second
 
     @property
     def is_whole(self):
         return self.is_read and all(each["state"] == "GOOD" for each in self.sections)
+
+    def past(self, place, kind, block):
+        """The place after an item out of order."""
+        self.identifier = self.identifier or b"(none)"
+        if place in ("ended", "over"):
+            return "over"
+        if kind == "mark":
+            return "next"
+        if kind == "bad" and place in ("second", "headers"):
+            self.open["is_spoilt"] = True
+            if place == "second":
+                self.open["shape"] = False  # neither read nor absent
+            return "headers"
+        if kind == "block" and place == "second":
+            self.sections.append(self.open | {"volume": self.identifier, "shape": False})
+            if model.kind_of(block) == "HDR1" and self.next(kind, block):
+                self.open["is_spoilt"] = True
+                return "second"
+        elif kind == "block" and model.kind_of(block) == "HDR1":
+            return self.next(kind, block) or "labels"
+        elif model.kind_of(block) in TRAILERS and place in ("labels", "next", "blank"):
+            fields = model.first_label(block)
+            if not isinstance(fields, int):
+                self.named.append(fields)
+                self.sections.append(fields | {
+                    "volume": self.identifier, "blocks": [], "state": "CUT", "eof": False,
+                    "shape": False, "has_second_trailer": False, "from": self.at})
+        return "labels"
 
     def volume(self, kind, block):
         if kind != "block" or model.kind_of(block) != "VOL1":
@@ -55,6 +88,7 @@ class Volume:
         if not self.first_labels:
             self.set, self.system = fields["set"], block[60:73]
         self.first_labels.append(fields)
+        self.named.append(fields)
         self.open = fields | {"blocks": [], "state": "CUT", "eof": False, "shape": None,
                               "has_second_trailer": False, "from": self.at}
         return "second"
@@ -85,7 +119,7 @@ class Volume:
         if isinstance(fields, int) or any(fields[key] != section[key] for key in NUMBERS):
             return None
         is_right = fields["count"] == len(section["blocks"]) % 1000000
-        is_bad = None in section["blocks"]
+        is_bad = None in section["blocks"] or "is_spoilt" in section
         section["eof"] = model.kind_of(block) == "EOF1"
         section["state"] = "COUNT" if not is_right else "BAD" if is_bad else "GOOD"
         self.closing.append((section, fields))

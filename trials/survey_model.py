@@ -69,8 +69,9 @@ class Survey:
                 self.sections[key] = each
         for each in volume.first_labels:
             self.begin[each["set"], each["file"], each["section"]].append(at)
+        for each in volume.named:
             self.names.setdefault((each["set"], each["file"]), each["name"])
-        for head, each in [*zip(volume.first_labels, volume.first_labels), *volume.closing]:
+        for head, each in [*zip(volume.named, volume.named), *volume.closing]:
             self.heads[head["set"], head["file"]].append(each)
 
     def section_rows(self):
@@ -150,7 +151,9 @@ class Survey:
             image, at = section["at"], at + 1
             is_ahead = self.open[:2] == (set_id, image) and self.open[2] <= section["from"]
             answer = reader.reel(self.volumes[image], self.open[2] if is_ahead else None)
-            self.open = set_id, image, reader.end
+            # an image stays open only after a section that was read to its end
+            is_open = reader.done or answer == "SECTION DONE"
+            self.open = (set_id, image, reader.end) if is_open else ()
         return reader if reader.done else self.again(set_id, file, False)[0]
 
     def last_line(self, reader):

@@ -1,7 +1,7 @@
 -- A survey finds the sections that `check` finds, and those past items that break the order of a
 -- volume.
-use Rattle.std.proofs.Common.{◌≡◌, ◌≢◌, ℕ, ◌+◌, Bool, true, false, List, [], ◌∷◌, ◌++◌, Option, Some}
-use Rattle.std.proofs.Common.{None, Result, Ok, Err, refl, sym, ap, subst, ◌∙◌, append_assoc, append-nil}
+use Rattle.std.proofs.Common.{◌≡◌, ℕ, ◌+◌, Bool, true, false, List, [], ◌∷◌, ◌++◌, Option, None}
+use Rattle.std.proofs.Common.{Result, Ok, Err, refl, sym, ap, ◌∙◌, append_assoc, append-nil}
 use Rattle.tape_image.specs.Tape.{TapeItem, block, bad, mark}
 use Rattle.tape_label.specs.{declared.label.LabelFault.LabelFault, declared.values.Trail1.Trail1}
 use Rattle.tape_label.specs.{Reading.trail1_at, Kinds.kind_at, WideHead2.is_further_header}
@@ -77,14 +77,16 @@ told_first (Trailer met) bad told e =
     ([], ap (λ (r : Phase × Option Told). in_list r.1) e ∙ sym (append-nil (in_list told)))
 told_first (Trailer met) mark told e =
     ([], ap (λ (r : Phase × Option Told). in_list r.1) e ∙ sym (append-nil (in_list told)))
-told_first (Second met) (block b) told e = none_first told (in_list (told_past (Second met) (block b)))
+told_first (Second met) (block b) told e =
+    none_first told (in_list (told_past (Second met) (block b)))
     (sym (ap (λ (r : Phase × Option Told). r.1) e) ∙ second_none met b (is_further_header b))
 told_first (Second met) bad told e = none_first told [] (is_none e)
 told_first (Second met) mark told e = none_first told [] (is_none e)
 told_first Volume (block b) told e = none_first told [] (is_none e)
 told_first Volume bad told e = none_first told [] (is_none e)
 told_first Volume mark told e = none_first told [] (is_none e)
-told_first (Labels v) (block b) told e = none_first told [] (is_none e)
+told_first (Labels v) (block b) told e =
+    none_first told (in_list (told_past (Labels v) (block b))) (is_none e)
 told_first (Labels v) bad told e = none_first told [] (is_none e)
 told_first (Labels v) mark told e = none_first told [] (is_none e)
 told_first (Headers met) (block b) told e =
@@ -111,7 +113,8 @@ told_first Over mark told e = none_first told [] (is_none e)
 
 -- the sections after an item that leads to this
 abbrev behind : Phase × Option Told → List TapeItem → List Told
-behind after xs = (in_list after.1 ++ told_from after.0 xs) ++ in_list (under_way (phase_after after.0 xs))
+behind after xs = (in_list after.1 ++ told_from after.0 xs)
+    ++ in_list (under_way (phase_after after.0 xs))
 
 abbrev in_order : Phase × Option Told → List TapeItem → List Told
 in_order after xs = (in_list after.1 ++ In.told_from after.0 xs)
@@ -121,7 +124,8 @@ abbrev Leads : List Told → List Told → Type 0
 Leads all first = (more : List Told) × (all ≡ first ++ more)
 
 -- an item that does not break the order
-leads_on : (q : Phase) (told : Option Told) (xs : List TapeItem) → Leads (onward q xs) (ordered q xs)
+leads_on : (q : Phase) (told : Option Told) (xs : List TapeItem)
+    → Leads (onward q xs) (ordered q xs)
     → Leads (behind (q, told) xs) (in_order (q, told) xs)
 leads_on q told xs (more, same) = (
   more,
@@ -225,8 +229,8 @@ same_on after other xs e rest =
 one_same : (g : ImageSummary) (p : Phase) (x : TapeItem) (xs : List TapeItem)
     → (look_to g p x (Wide.step p x).0).course ≡ left_by (g.items + 1) p (Wide.step p x).0
     → has_left (look_all g p (x ∷ xs)).course ≡ false
-    → ((h : ImageSummary) (r : Phase) → h.course ≡ Follows → has_left (look_all h r xs).course ≡ false
-    → onward r xs ≡ ordered r xs)
+    → ((h : ImageSummary) (r : Phase) → h.course ≡ Follows
+    → has_left (look_all h r xs).course ≡ false → onward r xs ≡ ordered r xs)
     → onward p (x ∷ xs) ≡ ordered p (x ∷ xs)
 one_same g p x xs is still rest =
     let q = (Wide.step p x).0 in

@@ -84,7 +84,8 @@ all_noted all left p count old phase mid new s notes = grind (arith, noted_all-a
 
 -- ---- the number of blocks
 
-past_label : (p : Phase) (r : Result Head1 LabelFault) → blocks_of (past_block p r) ≤ blocks_of p + 1
+past_label : (p : Phase) (r : Result Head1 LabelFault)
+    → blocks_of (past_block p r) ≤ blocks_of p + 1
 past_label Over r = omega arith
 past_label Volume (Ok head) = omega arith
 past_label Volume (Err f) = omega arith

@@ -143,7 +143,8 @@ looks_more all left next p q image item sections files located known phase order
       so_far = one_more all left next p q s.count item sections phase after mid told s.so_far takes
           goes notes;
       counted = rw (looks, s.counted);
-      glance = rw (looks, in_order, stands, s.glance, look_all-append blank_glance Volume items item);
+      glance =
+          rw (looks, in_order, stands, s.glance, look_all-append blank_glance Volume items item);
       named = rw (names, stands, s.named, with_all-append image files Volume items item);
       places = rw (
         places,

@@ -24,8 +24,8 @@ counts g p (x ∷ xs) =
     omega (arith, rest)
 
 -- once items have left the order, that is final
-pub stays : (g : ImageSummary) (p : Phase) (xs : List TapeItem) (n : ℕ) (w : ExpectedItem) → g.course
-    ≡ Leaves n w
+pub stays : (g : ImageSummary) (p : Phase) (xs : List TapeItem) (n : ℕ) (w : ExpectedItem)
+    → g.course ≡ Leaves n w
     → (look_all g p xs).course ≡ Leaves n w
 stays g p [] n w e = e
 stays g p (x ∷ xs) n w e =
@@ -66,7 +66,8 @@ its_number Ended number p x next n w still e = cc e
 its_number (Leaves m v) number p x next n w still e = absurd (cc still)
 
 -- the summary of items that left the order says where
-pub where_left : (c : LabelOrder) → has_left c ≡ true → (n : ℕ) × (w : ExpectedItem) × (c ≡ Leaves n w)
+pub where_left : (c : LabelOrder) → has_left c ≡ true
+    → (n : ℕ) × (w : ExpectedItem) × (c ≡ Leaves n w)
 where_left Follows e = absurd (cc e)
 where_left Blank e = absurd (cc e)
 where_left Ended e = absurd (cc e)

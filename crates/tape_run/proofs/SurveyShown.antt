@@ -1,6 +1,7 @@
 -- The good copies that are compared are shown by the items, with their data blocks.
 use Rattle.std.proofs.Common.{◌≡◌, ℕ, Bool, true, false, List, [], ◌∷◌, ◌++◌, Option, Some, None}
-use Rattle.std.proofs.Common.{Result, Ok, Err, refl, sym, ap, subst, ◌∙◌, append_assoc, ◌||◌, inl, inr}
+use Rattle.std.proofs.Common.{Result, Ok, Err, refl, sym, ap, subst, ◌∙◌, append_assoc, ◌||◌}
+use Rattle.std.proofs.Common.{inl, inr}
 use Rattle.std.proofs.{Common.if◌then◌else◌, lemmas.Bool.or_parts}
 use Rattle.std.specs.{Prelude.⊤, List.AllByRecursion}
 use Rattle.tape_image.specs.Tape.{TapeItem, block, bad, mark}
@@ -50,7 +51,16 @@ past_label items Volume b blocks (Err f) e named = named
 past_label items (Labels v) b blocks (Ok head) e named = (named, headed items v b head e)
 past_label items (Labels v) b blocks (Err f) e named = named
 past_label items (Second met) b blocks (Ok head) e named =
-    (named, headed items met.volume b head e)
+    let h = headed items met.volume b head e in (
+      named,
+      record {
+        before = h.before;
+        hdr1 = h.hdr1;
+        head = h.head;
+        stands = h.stands;
+        none = h.none;
+      },
+    )
 past_label items (Second met) b blocks (Err f) e named = named
 past_label items (Headers met) b blocks (Ok head) e named =
     (named, headed items met.volume b head e)
@@ -100,7 +110,9 @@ past_told items (Second met) (block b) blocks = λ good. absurd (cc good)
 past_told items (Second met) bad blocks = tt
 past_told items (Second met) mark blocks = tt
 past_told items Volume x blocks = tt
-past_told items (Labels v) x blocks = tt
+past_told items (Labels v) (block b) blocks = stray_bad items v (trail1_at b) blocks
+past_told items (Labels v) bad blocks = tt
+past_told items (Labels v) mark blocks = tt
 past_told items (Next v) (block b) blocks = stray_bad items v (trail1_at b) blocks
 past_told items (Next v) bad blocks = tt
 past_told items (Next v) mark blocks = tt

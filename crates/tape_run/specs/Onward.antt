@@ -28,7 +28,7 @@ volume_in (Trailers v) = v
 volume_in (Next v) = v
 volume_in _ = no_volume
 
--- an item among the section's labels is unreadable
+-- an item among the section's labels is unreadable, or not reliable
 abbrev pub spoilt : Met → Met
 spoilt met = record met { bad = true }
 
@@ -45,9 +45,11 @@ past_mark (Next v) = Over
 past_mark Over = Over
 past_mark p = Next (volume_in p)
 
--- after a block that breaks the order: a section begins there if it is a header label
+-- after a block that breaks the order: a section begins there if it is a header label; one in place
+-- of HDR2 is not reliable
 abbrev pub past_block : Phase → Result Head1 LabelFault → Phase
 past_block Over read = Over
+past_block (Second met) (Ok head) = Second (spoilt (met_by met.volume head))
 past_block p (Ok head) = Second (met_by (volume_in p) head)
 past_block p (Err _) = Labels (volume_in p)
 
@@ -66,11 +68,11 @@ stray_by (Err _) = None
 abbrev pub stray_in : List ℕ → Result Trail1 LabelFault → Option Told
 stray_in v read = option_map (λ head. cut (met_by v head)) (stray_by read)
 
--- the section that an item that breaks the order cuts off, or whose trailer label it is: such a
--- label follows a mark
+-- the section that an item that breaks the order truncates, or whose trailer label it is
 abbrev pub told_past : Phase → TapeItem → Option Told
 told_past (Trailer met) x = Some (cut met)
 told_past (Second met) (block b) = Some (cut met)
+told_past (Labels v) (block b) = stray_in v (trail1_at b)
 told_past (Next v) (block b) = stray_in v (trail1_at b)
 told_past _ _ = None
 
@@ -79,7 +81,7 @@ abbrev pub goes_on : Phase → TapeItem → Phase × Option Told → Phase × Op
 goes_on p x (Over, told) = (past p x, told_past p x)
 goes_on p x after = after
 
--- the phase after an item, and the section that it completes or cuts off, if any
+-- the phase after an item, and the section that it completes or truncates, if any
 abbrev pub step : Phase → TapeItem → Phase × Option Told
 step p x = goes_on p x (Wide.step p x)
 

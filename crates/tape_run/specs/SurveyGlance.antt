@@ -70,10 +70,10 @@ trailer_head met (Ok trail) =
     if closes met trail then Some (record trail.head { set_id = met.key.set_id }) else None
 trailer_head met (Err fault) = None
 
--- the trailer label of the section that is being read or, after a mark, of one whose header label
--- was not read
+-- the trailer label of the section that is being read, or of one whose header label was not read
 abbrev pub trailer_in : Phase → Result Trail1 LabelFault → Option Head1
 trailer_in (phases.Trailer met) read = trailer_head met read
+trailer_in (phases.Labels v) read = stray_by read
 trailer_in (phases.Next v) read = stray_by read
 trailer_in _ read = None
 

@@ -108,7 +108,7 @@ unfoldable pub flaw_line : Option Flaw → List ℕ
 flaw_line None = []
 flaw_line (Some Lost) =
     codes "            HDR2 is lost on each image: the record format is unknown\n"
-flaw_line (Some Unsupported) = codes "            the record format in HDR2 is not supported\n"
+flaw_line (Some Unsupported) = codes "            no HDR2 with a supported record format was read\n"
 flaw_line (Some (Misfits misfit)) = (codes "        section " ++ (decimal misfit.sect
     ++ codes " is not readable: ")) ++ (codes "block " ++ (decimal misfit.block
     ++ codes " is not in the format that HDR2 states\n"))

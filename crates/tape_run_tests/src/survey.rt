@@ -186,9 +186,11 @@ fn no_labelled_volumes(rt: HostRuntime) -> Result<(), Fail> {
 const NO_SECOND: &str = "one.tap                   damaged      volume ABC001, 2 sections
     item 3 is not HDR2: counting continues
     section 1 of file 1 is truncated, blocks found: 0
-Set ABC001: 1 of 1 files complete
+    section 1 of file 1 has unreadable blocks, blocks found: 1
+Set ABC001: 0 of 1 files complete
   Volumes: ABC001
-   1 PAYROLL                        complete
+   1 PAYROLL                        incomplete, blocks (no HDR2)
+        section 1 is truncated on ABC001: no good copy
 1 image: 0 ok, 1 damaged
 ";
 
@@ -222,7 +224,7 @@ const UNSUPPORTED: &str = "one.tap                   unsupported  volume ABC001,
 Set ABC001: 0 of 1 files complete
   Volumes: ABC001
    1 PAYROLL                        incomplete
-            the record format in HDR2 is not supported
+            no HDR2 with a supported record format was read
 1 image: 0 ok, 1 unsupported
 ";
 

@@ -119,7 +119,7 @@ pub(crate) fn head_in(phase: &Phase, item: Item<'_>) -> Option<Head1>
 }
 
 /// Returns the trailer label that a block is: of the section that is being read, with the set of
-/// its header, or, after a mark, of one whose header label was not read.
+/// its header, or of one whose header label was not read.
 fn trailer_in(phase: &Phase, bytes: &[u8]) -> Option<Head1>
     ensures { result ≡ trailer_in phase.now (trail1_at bytes.now) }
 {
@@ -131,7 +131,7 @@ fn trailer_in(phase: &Phase, bytes: &[u8]) -> Option<Head1>
             set_id: met.key.set_id,
             ..trail.head
         }),
-        Phase::Next(_) => Some(trail.head),
+        Phase::Labels(_) | Phase::Next(_) => Some(trail.head),
         _ => None,
     }
 }

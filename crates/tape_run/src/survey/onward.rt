@@ -51,12 +51,16 @@ fn past_mark(phase: Phase) -> Phase
 }
 
 /// Returns what is expected after a block that breaks the order: a section begins there if it is a
-/// header label.
+/// header label; one in place of HDR2 is not reliable.
 fn past_block(phase: Phase, read: Result<Head1, LabelFault>) -> Phase
     ensures { result ≡ past_block phase read }
 {
     match (phase, read) {
         (Phase::Over, _) => Phase::Over,
+        (Phase::Second(met), Ok(head)) => Phase::Second(Met {
+            bad: true,
+            ..Met::new(met.volume, &head)
+        }),
         (_, Ok(head)) => Phase::Second(Met::new(volume_in(phase), &head)),
         (_, Err(_)) => Phase::Labels(volume_in(phase)),
     }
@@ -84,14 +88,15 @@ fn stray_in(volume: Field<6>, bytes: &[u8]) -> Option<Told>
     }
 }
 
-/// Returns the section that an item that breaks the order truncates, or whose trailer label it is:
-/// such a label follows a mark.
+/// Returns the section that an item that breaks the order truncates, or whose trailer label it is.
 fn told_past(phase: &Phase, item: Item<'_>) -> Option<Told>
     ensures { result ≡ told_past phase.now (tape_item item.entry) }
 {
     match (phase, item) {
         (Phase::Trailer(met), _) | (Phase::Second(met), Item::Block(_)) => Some(met.cut()),
-        (Phase::Next(volume), Item::Block(bytes)) => stray_in(*volume, bytes),
+        (Phase::Labels(volume) | Phase::Next(volume), Item::Block(bytes)) => {
+            stray_in(*volume, bytes)
+        }
         _ => None,
     }
 }

@@ -246,7 +246,7 @@ fn flaw_line(alloc: Global, flaw: Option<Flaw>) -> Result<String, AllocError>
             "            HDR2 is lost on each image: the record format is unknown\n"
         ),
         Some(Flaw::Unsupported) => format!(in alloc;
-            "            the record format in HDR2 is not supported\n"
+            "            no HDR2 with a supported record format was read\n"
         ),
         Some(Flaw::Misfits(misfit)) => {
             let (sect, block) = (misfit.sect, misfit.block);
