@@ -51,8 +51,11 @@ fn add(image: &mut Image, item: usize, bad: bool) -> Result<(), AllocError> {
     if item == 1 {
         return image.label(VOL1);
     }
-    let labels = &LABELS[(item - 2) / 8];
-    match (item - 2) % 8 {
+    let place = item.saturating_sub(2);
+    let Some(labels) = LABELS.get(place / 8) else {
+        return Ok(());
+    };
+    match place % 8 {
         0 => image.label(labels[0]),
         1 => image.label(labels[1]),
         3 => image.block(&[b'.'; 80]),
@@ -78,12 +81,10 @@ fn volume(alloc: Global, hit: usize, damage: Damage) -> Result<Image, AllocError
 
 /// Returns whether `text` is part of `bytes`.
 fn is_in(bytes: &[u8], text: &[u8]) -> bool {
-    let mut rest = bytes;
-    while rest.len() >= text.len() {
-        if rest.starts_with(text) {
+    for start in 0..bytes.len() {
+        if bytes[start..].starts_with(text) {
             return true;
         }
-        rest = &rest[1..];
     }
     false
 }
