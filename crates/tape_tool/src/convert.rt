@@ -153,8 +153,8 @@ enum Stop {
     Out,
 }
 
-/// Writes the SIMH image of an unread image of a format, or of one that is recognised. An image of a kind that is not read is refused with
-/// the fault that it has as a SIMH image.
+/// Writes the SIMH image of an unread image of a format, or of one that is recognised. An image of
+/// a kind that is not read is refused with the fault that it has as a SIMH image.
 fn copied<R: Progress, W: Write>(
     alloc: Global,
     image: Image<R>,

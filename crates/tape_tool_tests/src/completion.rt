@@ -117,15 +117,17 @@ const LEFT: &str = "
     | FILE ABC001 1 AWAITS 1 1 2 staged/ABC001.1.PAYROLL.stage
     missing staged/ABC001.1.PAYROLL staged/.tape-1.part
     length staged/ABC001.1.PAYROLL.stage 1106
-    # The only complete file with this number is another one, whose volume label is unreadable.
+    # The only complete file with this number is another one, whose volume label is unreadable. The
+    # first image has labels of this one.
     folder other
     put other.txt ANOTHER\\0AFILE\\0A
     0: write other ABC 100000 OTHER=other.txt
     spoil other/ABC001.tap 0
     damaged one.tap 0
-    $ salvage ABC001 1 other/salvaged one.tap other/ABC001.tap
+    3$ salvage ABC001 1 other/salvaged one.tap other/ABC001.tap
+    > CONFLICT 1 2 1
     > SECTION 1 2 1
-    > COMPLETE 2
+    > SALVAGED 2
     3: unpack other one.tap other/ABC001.tap
     | FILE ABC001 1 AWAITS 1 1 0 other/ABC001.1.PAYROLL.stage
     missing other/ABC001.1.PAYROLL other/ABC001.1.OTHER other/.tape-1.part

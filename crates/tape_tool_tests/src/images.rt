@@ -134,7 +134,7 @@ const CONVERTED: &str = "
     front cut.tap 2000
     put packed.gz \\1F\\8B\\08\\00\\00\\00
     image fault 1 at 1884: convert none.tap cut.tap
-    image fault 3 at 0: convert none.tap packed.gz
+    image fault 1 at 0: convert none.tap packed.gz
     file fault 2: convert none.tap lost.tap | convert missing/none.tap one.aws
     2: convert | convert - one.aws | convert none.tap one.aws odd.e11 | convert none.tap -
     missing none.tap .tape-1.part

@@ -236,8 +236,8 @@ impl<R: Progress> Place<BufWriter<File>> for Draft<'_, R> {
 ///
 /// # Errors
 ///
-/// Returns `Words` if one of the paths, or that of the list, ends in `.tape-N.part`, whatever
-/// stands for N.
+/// Returns `Words` if one of the paths, or that of the list, ends in a name that begins with
+/// `.tape-` and ends with `.part`.
 pub fn no_draft(paths: &[&str], list: Option<List<'_>>) -> Result<(), Refusal> {
     let list = list.and_then(|list| list.file).unwrap_or("");
     if paths.iter().any(|path| has_draft_name(path)) || has_draft_name(list) {
