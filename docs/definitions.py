@@ -2,14 +2,15 @@
 """Writes the list of definitions in docs/DEFINITIONS.md from the definitions themselves.
 
 READ names the definitions that have to be believed for the headline, in reading order. The list has
-the arguments of the main ones and the comments above them in crates/NAME/specs/. The rest of the
-page is written by hand and stays.
+their files in crates/NAME/specs/ and the names of the main ones; the comments are in the files. The
+rest of the page is written by hand and stays.
 
     docs/definitions.py           writes the list
     docs/definitions.py --check   says if the list is out of date, with status 1
+    docs/definitions.py CALL      prints which files to read for the statement of another call (MORE)
 
-Both also report names of READ, of the text written by hand, and of files in three tables, that do
-not exist (status 1).
+The first two also report names of READ, of MORE, of the text written by hand, and of files in two
+lists, that do not exist (status 1).
 """
 import collections
 import os
@@ -19,25 +20,21 @@ import sys
 TOP = os.path.dirname(os.path.dirname(os.path.abspath(__file__)))
 PAGE = os.path.join(TOP, "docs", "DEFINITIONS.md")
 PLACE = re.compile(r"(<!-- written by docs/definitions.py -->\n).*?(<!-- end -->\n)", re.S)
-DEFINED = re.compile(r"(?:(?:abbrev|unfoldable) )?pub (record |data )?([^\s:]+)(.*)")
-
-Definition = collections.namedtuple("Definition", "name words comment")
+DEFINED = re.compile(r"(?:(?:abbrev|unfoldable) )?pub (record |data )?([^\s:]+)")
 
 # Definitions of the standard library that the page names.
 OF_STD = {"Appends", "Keeps", "Consumes", "IsAtEnd"}
 
-# Pages with tables of files in specs/, and a text above each table.
-TABLES = [("DEFINITIONS.md", "\n## What else to read"), ("DEFINITIONS.md", "By crate, these files"),
-          ("ARCHITECTURE.md", "## Where to change what")]
+# Pages with lists of files in specs/, and a text above each list.
+LISTS = [("DEFINITIONS.md", "By crate, these files"), ("ARCHITECTURE.md", "## Where to change what")]
 
-# Of a file all definitions count, and these have their comments on the page.
+# Of a file all definitions count, and these are named on the page.
 Main = collections.namedtuple("Main", "names")
 
-# Of a file these count, without their comments.
+# Of a file these count.
 Names = collections.namedtuple("Names", "names")
 
-# What to read, in order: a heading, and files of a crate, each with the names that count and have
-# their comments on the page.
+# What to read, in order: a heading, and files of a crate, each with the names that count or are main.
 READ = [
     ("What items bytes begin with", "tape_image", {
         "Tape": Main(["TapeItem"]), "Word": Main(["block_len"]),
@@ -77,82 +74,110 @@ READ = [
         "Lead": Main(["Lead", "lead", "LeadsBy", "StopsBy"])}),
 ]
 
+# What to read for another statement than the headline: its calls, and files of crates/NAME/specs/.
+MORE = {
+    "run":
+        "SessionState, the rest of Seen and of Headline, Back; of `tape_core` State, Point, Known, "
+        "Place, Stands and Follows up to `IsAt`; for `runs`, `faults`, `cause` and `crash` also "
+        "Steps, Reels, Runs, Causes and Crash of `tape_run`, and Crash of `tape_core`",
+    "Stage":
+        "of `tape_stage` Disk, Moments, Body, Parts, Staged, Stages: some 270 lines without Disk; "
+        "Crash of `tape_core`; `longest_block` (Packing) of `tape_blocks`; for the texts of "
+        "checkpoints also Fields and Reading, and Point, Known and Range of `tape_core`; for refusals "
+        "Faults, Found and Salvaged",
+    "extract_to, extract_in_passes, extract_streaming, extract_watched":
+        "those of `run`, with all its clauses; of `tape_image` Step; of `tape_run` ReelLine, "
+        "RecordText, OutSinks, Reeling, Stopping, Rounds, Extracting",
+    "extract_located":
+        "those of `extract_streaming`; of `tape_core` Behind; of `tape_run` `same_key` (Noted), "
+        "`key_at` (Lacks), `Located` (SurveyLocations), ExtractingLocated",
+    "write_set":
+        "of `tape_set` Sizes and Tight, of `tape_label` Written, of `tape_blocks` Packing and Tight, "
+        "of `tape_image` Writer and Written; of `tape_writer` Tapes, Images, Labels, Told, Records, "
+        "ToldFiles, WriteSet",
+    "refusals":
+        "of `tape_writer` Refusals, WriteFaults, Faults, State, Draft, Inside, Front, LeftOf, Fields, "
+        "Characters and Widths of `tape_label`, and Run and `AreRecordsOf` (Records) of `tape_blocks`",
+    "list_to, list_places_to":
+        "of `tape_image` Step; of `tape_run` Identifier, ListLine, Listing, Listed; for "
+        "`list_places_to` also Placed",
+    "tape_items, tape_label, tape_list, tape_survey":
+        "of `tape_c` Items, Fields, Lists, Surveyed, Ends; of `tape_image` Step; of `tape_label` "
+        "Reading, Labels; what `list_to` and `survey_to` need",
+    "open_session":
+        "those of the stage, for refusals too; Text of `tape_stage`, and Written of `tape_label`; of "
+        "`tape_core` State, Place, Stands and Follows up to `IsAt`; of `tape_run` SessionState, Seen, "
+        "`IsNew` and `IsStart` (Headline), `IsResumed` (CrashRuns); of `tape_tool` Staging",
+    "show_stage":
+        "those of the stage except Disk and Stages, for refusals too; OnlyReading of `tape_stage`; of "
+        "`tape_run` Identifier, RecordText, ReelLine; of `tape_tool` StageReport",
+    "check_to":
+        "of `tape_image` Step; of `tape_label` Vol1; of `tape_run` Identifier, Shown, Noted, Added, "
+        "Passing, Lacks, CheckLine, Reeling, Checked; for `whole_sets_are_told` WholeSet and "
+        "WholeReels",
+    "survey_to, survey_laws":
+        "those of `check_to`; of `tape_run` WidePassing, Onward, WideShown, Quoting, SurveyGaps, "
+        "SurveyGlance, SurveyFiles, SurveyDigest, SurveyCopies, SurveyTally, SurveyRead, SurveyLine, "
+        "SurveyLocations, Dates, SurveyProblems, SurveyChain, SurveySets, SurveyRows, SurveyCompared, "
+        "SurveyWording, SurveyConflicts, SurveySound, Survey, SurveyLaws",
+    "find_files":
+        "of `tape_image` Step; of `tape_run` Noted, Added, Passing, Lacks, `Mounting` (Reeling), "
+        "`Reel` (Checked), SurveyGlance, SurveyFiles, SurveyDigest, SurveyCopies, SurveyTally, "
+        "SurveyRead, SurveyLocations, Unpacking; for the other calls of `unpack` also ReadingOrder, "
+        "UnpackLine, UnpackChoice, UnpackTally, UnpackLaws",
+    "merge_items, merge_to, merge_now":
+        "of `tape_image` Reader, Step, Calls, Writer, Written; of `tape_run` Passing, Merging, "
+        "MergeSteps, MergeCalls, MergedImages, MergeLines, MergeLog, `TakesAs` (MergeLaws); for "
+        "`merge_now` also `stop_at` (Added), `stop_text` (CheckLine), Quoting, Reeling, MergeNow",
+    "merge_laws":
+        "of `tape_image` Reader, Step, Calls; of `tape_run` Merging, `HasRead` (MergeSteps), "
+        "MergeLaws, MergedCopies",
+    "salvage_to":
+        "of `tape_image` Step; of `tape_blocks` `longest_block` (Packing); of `tape_core` Known and "
+        "Range; of `tape_run` `same_key` (Noted), `StopsBehind` (Added), Checked, RecordText, "
+        "Reeling, SurveyDigest, SalvageWalk, SalvageCopies, SalvageRecords, SalvageLine, "
+        "SalvageBlocks, SalvageImage, SalvageEnds, SalvageChoice, SalvageTaking, SalvageConflicts, "
+        "Salvaging",
+    "salvage_laws":
+        "those of `salvage_to`; of `tape_run` `IsNoDevice` (WholeSet), SalvageGaps, SalvageClosed, "
+        "SalvagedSets, SalvageWhole, SalvageSections, SalvageFile, SalvageReadings, SalvageSets, "
+        "SalvageDamaged, SalvageUnnamed, SalvageDamagedSets",
+}
+
 
 def read(*path):
     with open(os.path.join(TOP, *path), encoding="utf-8") as file:
         return file.read()
 
 
-def comment_above(lines, at):
-    """The comment that ends on the line before this one, in one line."""
-    first = at
-    while lines[first - 1].startswith("--"):
-        first -= 1
-    return " ".join(line.lstrip("-").strip() for line in lines[first:at])
-
-
-def parameters(lines, at):
-    """The named parameters of a record, without those that are found by themselves."""
-    head = lines[at]
-    while " where" not in head and at + 1 < len(lines):
-        at += 1
-        head += " " + lines[at].strip()
-    head = re.sub(r"\{[^}]*\}", "", head.split(" : Type")[0])
-    return [word for group in re.findall(r"\(([^:()]*) :", head) for word in group.split()]
-
-
-def arguments(lines, at, name):
-    """The arguments of a function with one equation that names them all; the value of a number."""
-    equations = [line for line in lines[at + 1:] if line.startswith(name + " ")]
-    if len(equations) != 1:
-        return []
-    value = re.fullmatch(r"\S+ = (\d+)", equations[0])
-    if value:
-        return [f"= {int(value[1]):,}"]
-    words = equations[0].split(" =")[0].split()[1:]
-    return words if all(re.fullmatch(r"[a-z]\w*", word) for word in words) else []
-
-
 def definitions(crate, file):
-    """The public definitions of a file, in order."""
-    lines = read("crates", crate, "specs", file + ".antt").split("\n")
-    for at, line in enumerate(lines):
+    """The names of the public definitions of a file."""
+    for line in read("crates", crate, "specs", file + ".antt").split("\n"):
         found = DEFINED.match(line)
         if found and not line.startswith(("pub mod", "pub use")):
-            name = found[2]
-            words = parameters(lines, at) if found[1] else arguments(lines, at, name)
-            yield Definition(name.strip("◌"), words, comment_above(lines, at))
+            yield found[2].strip("◌")
 
 
 def listed(crate, file, names):
-    """Which definitions of a file count, its entries, and the names that it does not define."""
-    found = list(definitions(crate, file))
-    main, bare = isinstance(names, Main), isinstance(names, Names)
-    named = names.names if main or bare else names
-    counted = [each for each in found if main or each.name in named]
-    shown = [each for each in counted if each.comment and each.name in named and not bare]
-    out = [f"  - `{' '.join([each.name, *each.words])}`: {each.comment.rstrip('.')}"
-           for each in shown]
-    rest = [f"`{each.name}`" for each in counted if each not in shown]
-    only = "" if main else ", only " + ", ".join(rest if bare else ["these", *rest])
-    return only, out, sorted(set(named) - {each.name for each in found})
+    """What the page says of a file, and the names that it does not define."""
+    main = isinstance(names, Main)
+    named = names.names if main or isinstance(names, Names) else names
+    shown = ", ".join(f"`{name}`" for name in named)
+    text = (f": {shown}" if main else f", only {shown}") if shown else ""
+    return text, sorted(set(named) - set(definitions(crate, file)))
 
 
 def the_list():
     """The generated part of the page, and what READ names in vain."""
     out, missing = [], []
     for number, (heading, crate, files) in enumerate(READ, 1):
-        out += [f"### {number}. {heading}", ""]
+        out += [f"{number}. {heading}, in `{crate}/specs/`"]
         for file, names in files.items():
-            only, entries, unknown = listed(crate, file, names)
-            head = f"- `{crate}/specs/{file}`{only}"
-            if len(entries) == 1:
-                out.append(f"{head}: {entries[0].removeprefix('  - ')}")
-            else:
-                out += [head, *entries]
+            shown, unknown = listed(crate, file, names)
+            out.append(f"   - {file}{shown}")
             missing += [f"definitions.py: {file} of {crate} does not define {name}"
                         for name in unknown]
-        out.append("")
+    out.append("")
     return "\n".join(out), missing
 
 
@@ -180,21 +205,38 @@ def unknown_words(text):
     return sorted(words - known_names() - OF_STD)
 
 
-def unknown_files(page, above):
-    """Names in the table below a text, outside code, that are not names of files in specs/."""
-    table = read("docs", page).partition(above)[2].partition("--|\n")[2].partition("\n\n")[0]
+def unknown_files(place, text):
+    """Names in a text, outside code, that look like files in specs/ and are not."""
     walk = os.walk(os.path.join(TOP, "crates"))
     files = {it for at, _, names in walk if at.endswith("/specs") for it in names}
-    words = set(re.findall(r"\b[A-Z][a-z]\w*", re.sub(r"`[^`]*`", "", table)))
-    return [f"{page}: no {it}.antt" for it in sorted(words) if f"{it}.antt" not in files]
+    words = set(re.findall(r"\b[A-Z][a-z]\w*", re.sub(r"`[^`]*`", "", text)))
+    return [f"{place}: no {it}.antt" for it in sorted(words) if f"{it}.antt" not in files]
+
+
+def items(page, above):
+    """The items of the list below a text of a page."""
+    return read("docs", page).partition(above)[2].partition("\n- ")[2].partition("\n\n")[0]
+
+
+def print_more(call):
+    """Prints what to read for a call; status 1 if MORE has no such call."""
+    found = [(calls, files) for calls, files in MORE.items() if call in calls.split(", ")]
+    for calls, files in found:
+        print(f"{calls}: {files}")
+    if not found:
+        print("one of", *", ".join(MORE).split(", "))
+    return 0 if found else 1
 
 
 def main():
+    if sys.argv[1:] and sys.argv[1:] != ["--check"]:
+        return print_more(sys.argv[1])
     old = read("docs", "DEFINITIONS.md")
     text, wrong = the_list()
     new = PLACE.sub(lambda it: it[1] + "\n" + text + it[2], old)
     wrong += [f"DEFINITIONS.md: `{word}` is not defined" for word in unknown_words(old)]
-    wrong += [line for page, above in TABLES for line in unknown_files(page, above)]
+    wrong += [line for page, above in LISTS for line in unknown_files(page, items(page, above))]
+    wrong += [line for text in MORE.values() for line in unknown_files("MORE", text)]
     if sys.argv[1:] == ["--check"]:
         wrong += ["DEFINITIONS.md is out of date: run docs/definitions.py"] * (new != old)
     elif new != old:

@@ -1,13 +1,14 @@
 #!/usr/bin/env python3
-"""Writes the tables of docs/REFERENCE.md from the program's help and the texts of --explain.
+"""Writes the lists of arguments and errors in docs/REFERENCE.md from the program's help and the texts of --explain.
 
     docs/reference.py [--program PATH]            writes them
     docs/reference.py [--program PATH] --check    reports if they are out of date, or if an explanation is too
                                                   long, with status 1
 
-A table is between '<!-- usage of COMMAND -->' or '<!-- errors -->' and '<!-- end -->'. The rest of the page is
-written by hand and stays. Usage and arguments come from the program, as in docs/man.py; errors come from
-explain.rt and explain/files.rt.
+A list is between '<!-- usage of COMMAND -->' or '<!-- errors -->' and '<!-- end -->'. The rest of the page is
+written by hand and stays. Usage and arguments come from the program, as in docs/man.py; an argument that an
+earlier command has in the same words is left out. Errors come from explain.rt and explain/files.rt: of each the
+first sentence that is no advice (ADVICE), and that the page does not say of all errors (SAID).
 """
 import os
 import re
@@ -33,22 +34,36 @@ SINGLE = {"NO_IMAGE": ("`image fault 1`, `2` or `3` `at 0`", ""),
 MEMORY = {"IMAGE": 6, "WRITE": 10, "RUN": 4, "STAGE": 4}
 
 # The lists of explanations of file faults: the file.
-FILES = {"FILE_OF_IMAGE": "an image to be read", "FILE_OF_LIST": "a list of images",
-         "FILE_OF_OUT": "OUT of `extract`, `stage` or `salvage`", "FILE_OF_NEW": "OUT of `merge` or `convert`",
-         "FILE_OF_LOG": "LOG of `merge`",
-         "FILE_OF_STAGE": "a stage", "FILE_OF_FOLDER": "DIR of `unpack`, or a file in it",
+FILES = {"FILE_OF_IMAGE": "an image", "FILE_OF_LIST": "a list of images",
+         "FILE_OF_OUT": "OUT", "FILE_OF_NEW": "OUT of `merge` or `convert`", "FILE_OF_LOG": "LOG of `merge`",
+         "FILE_OF_STAGE": "a stage", "FILE_OF_FOLDER": "DIR of `unpack`",
          "FILE_OF_MANIFEST": "a list of `unpack` in DIR",
          "FILE_OF_VOLUME": "an image of `init`", "FILE_OF_INPUT": "an input of `write`",
          "FILE_OF_IMAGES": "an image of `write`", "FILE_OF_LINES": "standard output"}
 
 
-# The options that the section 'Lists of images' describes for all commands.
+# The options, and the beginning of an argument's description, that 'Lists of images' has for all commands.
 COMMON = ("--files-from LIST", "--null")
+IMAGES = "SIMH .tap images, in any order (at most 256; see --files-from)"
+
+# How a sentence begins that says what to do, or what FORMATS.md has; so does a question.
+ADVICE = re.compile(r"(?:A file of at most|Allowed|Check|Choose|Close|Copy|Free|Give|If the disk|Increase|Leave|Look"
+                    r"|Name|Remove|Shorten|Use|Wait|With 'extract' OUT|With 'merge' OUT|With the default|'tape|'sha256sum)\b")
+
+# Sentences that the sections of the commands, or the text above the list, have for all their errors.
+SAID = {"Nothing was listed.", "All items before that block were listed.", "All items before that were listed.",
+        "All items before that, if any, were listed.", "Data saved in the stage earlier is safe.",
+        "Data saved in a stage is safe.", "Data saved earlier is safe.", "Files reported earlier are kept.",
+        "Files that were reported are kept.", "Files reported earlier, and the stages, are kept.",
+        "It was not changed.", "It was not changed, and no image was created.", "Nothing was written.",
+        "Created images were removed; remove blank ones that were begun.",
+        "Images created before it, if any, are complete.", "Nothing was read.", "No image was read.",
+        "With --verify: there is no MANIFEST.sha256; 'tape unpack --manifest' writes it."}
 
 
-def cell(text):
-    """Text in one cell of a table."""
-    return " ".join(text.split()).replace("|", "\\|")
+def line(text):
+    """Text in one line."""
+    return " ".join(text.split())
 
 
 def read(*path):
@@ -62,12 +77,11 @@ def unescaped(text):
     return re.sub(r"\\(.)", lambda it: "\n" if it[1] == "n" else it[1], text)
 
 
-def usage(command):
-    """The usage of a command, and a table of its arguments, without those of COMMON."""
-    rows = [f"| `{cell(word.call)}` | {cell(word.described)} |" for word in command.arguments + command.options
-            if word.call not in COMMON]
-    return "\n".join([command.about + ".", "", "    " + command.usage, "",
-                      "| Argument | Meaning |", "|---|---|", *rows]) + "\n"
+def usage(command, before):
+    """The usage of a command, and a list of its arguments, without those of COMMON, IMAGES and `before`."""
+    rows = [f"- `{word.call}`: {line(word.described)}" for word in command.arguments + command.options
+            if word.call not in COMMON and not line(word.described).startswith(IMAGES)]
+    return "\n".join(["    " + command.usage, "", *(it for it in rows if it not in before)]) + "\n", rows
 
 
 def explanations():
@@ -97,8 +111,22 @@ def misfits():
             yield text
 
 
+# What the numbers of file faults mean for every file, as the text above the list says.
+PLAIN = re.compile(r"[A-Z][\w. -]*?(?:, or a file in it,)? could not be (?:opened|created|opened or created|read"
+                   r"|written|written completely)(?:: the disk is full or failing)?\.|The \w+ already exists\."
+                   r"|Writing to \w+ or standard output failed: the disk is full, or a pipe was closed\.")
+
+
+def facts(text):
+    """The first sentence of an explanation that is no advice, and that the page does not say of all errors."""
+    text = re.sub(r": is [^.?]*\?|(?:;|, and) it was (?:left as it is|not changed)\.", ".", " ".join(text.split()))
+    sentences = re.split(r"(?<=[.?])\s+(?=[A-Z'])", text)
+    said = (PLAIN.sub("", it).strip() for it in sentences)
+    return next((it for it in said if it and not (it.endswith("?") or ADVICE.match(it) or it in SAID)), "")
+
+
 def errors():
-    """A table of all errors."""
+    """A list of all errors."""
     single, lists = explanations()
     unknown = set(lists) - set(KINDS) - set(FILES)
     if unknown:
@@ -107,20 +135,26 @@ def errors():
     for name, error in KINDS.items():
         rows += [(f"`{error.format(number)}`", "", text)
                  for number, text in sorted(lists[name].items())]
+    rows = [(error, file, facts(text)) for error, file, text in rows]
     for name, file in FILES.items():
-        rows += [(f"`file fault {number}`", file, text) for number, text in sorted(lists[name].items())]
+        rows += [(f"`file fault {number}`", file, facts(text))
+                 for number, text in sorted(lists[name].items())]
     alike = {}
     for error, file, text in rows:
-        alike.setdefault((file, text), []).append(error)
-    return "\n".join(["| Error | Of | Explanation |", "|---|---|---|",
-                      *(f"| {', '.join(same)} | {file} | {cell(text)} |" for (file, text), same in alike.items())]) + "\n"
+        if text:
+            alike.setdefault((file, text), []).append(error)
+    return "\n".join(f"- {', '.join(same)}{file and f', {file}'}: {line(text)}"
+                     for (file, text), same in alike.items()) + "\n"
 
 
 def page(program):
-    """The page with its tables."""
-    usages = {command.name: usage(command) for command in program.commands}
+    """The page with its lists."""
     text = read(PAGE)
     found = [it[3] for it in BLOCK.finditer(text) if it[3]]
+    usages, before = {}, set()
+    for command in sorted(program.commands, key=lambda it: found.index(it.name) if it.name in found else len(found)):
+        usages[command.name], rows = usage(command, before)
+        before.update(rows)
     if sorted(found) != sorted(usages):
         sys.exit(f"docs/REFERENCE.md has usages of {' '.join(found)}; the commands are {' '.join(usages)}")
     return BLOCK.sub(lambda it: it[1] + (usages[it[3]] if it[3] else errors()) + it[4], text)

@@ -39,9 +39,9 @@ GIVEN = ['"odd.tap', "'", '"', "\\", "\\\\", "\\u0041", "\\\\u0041", "\\u", "\\n
 
 
 def keys_in(heading):
-    """The keys of each kind of rows, as a table of docs/JSON.md lists them."""
+    """The keys of each kind of rows, as docs/JSON.md lists them."""
     section = PAGE.split(f"\n## {heading}\n")[1].split("\n## ")[0]
-    rows = re.findall(r"^\| ((?:`[A-Z0-9]+`(?:, )?)+) \| (.*?) \|", section, re.M)
+    rows = re.findall(r"^- ((?:`[A-Z0-9]+`(?:, )?)+): ((?:`\w+`(?:, )?)*)", section, re.M)
     return {word: re.findall(r"`(\w+)`", keys) for words, keys in rows for word in re.findall(r"\w+", words)}
 
 
