@@ -2,8 +2,8 @@
 ghost use Rattle.std.specs.Prelude.{IfOk, IfSome};
 ghost use Rattle.tape_tool.specs.Writing.{IsDay};
 
-use crate::extract::are_files;
 use crate::normal::NormalImages;
+use crate::refusal::are_files;
 use crate::screen::{Host, Progress};
 use std::alloc::{AllocError, Global};
 use std::fs;

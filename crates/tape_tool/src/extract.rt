@@ -12,8 +12,8 @@ use crate::help;
 use crate::images::{Images, Named, in_reading_order, names_of};
 use crate::normal::NormalImages;
 use crate::program::{End, extract_end};
-use crate::refusal::Refusal;
-use crate::screen::{Host, Progress};
+use crate::refusal::{Refusal, are_files, is_file};
+use crate::screen::Progress;
 use crate::staging::{StageSink, session_in};
 use crate::warned::Warned;
 use crate::words::{FORM, form_of, named, out_of, set_id_of, text_of};
@@ -22,8 +22,8 @@ pub use draft::{Draft, no_draft};
 pub use out::{Output, Way, is_one_name, way_to_out};
 use std::alloc::Global;
 use std::fs::File;
+use std::io;
 use std::io::{BufWriter, Read, Write};
-use std::{fs, io};
 use tape_blocks::Form;
 use tape_core::{MemorySink, PartWalk, SinkFault};
 use tape_label::Field;
@@ -254,16 +254,6 @@ fn names_to_read<'n, 'a, R: Progress>(
         }
     }
     Ok(in_reading_order(rt.alloc(), names, &met, (task.set_id, task.file))?)
-}
-
-/// Returns whether each of these is a plain file, or does not exist: only these can be read twice.
-pub fn are_files<R: Host>(rt: &R, names: &[&str]) -> bool {
-    names.iter().all(|name| is_file(rt, name))
-}
-
-/// Returns whether this is a plain file, or does not exist: only these can be read twice.
-pub fn is_file<R: Host>(rt: &R, name: &str) -> bool {
-    fs::metadata(rt, name).map_or(true, |found| found.is_file())
 }
 
 /// Recovers a file without a stage. If the images are read once, writes the records as they are

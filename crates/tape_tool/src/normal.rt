@@ -4,8 +4,8 @@
 ghost use Rattle.std.specs.Prelude.{⊤, ◌≤◌, length, IfOk};
 
 use crate::convert::{format_of, is_simh};
-use crate::extract::is_file;
 use crate::images::{Image, Images};
+use crate::refusal::is_file;
 use crate::screen::Progress;
 use std::alloc::AllocError;
 use std::io;

@@ -55,6 +55,16 @@ pub fn same_file(one: &Metadata, other: &Metadata) -> bool {
     one.ino() != 0 && one.dev() == other.dev() && one.ino() == other.ino()
 }
 
+/// Returns whether each of these is a plain file, or does not exist: only these can be read twice.
+pub fn are_files<R: Host>(rt: &R, names: &[&str]) -> bool {
+    names.iter().all(|name| is_file(rt, name))
+}
+
+/// Returns whether this is a plain file, or does not exist: only these can be read twice.
+pub fn is_file<R: Host>(rt: &R, name: &str) -> bool {
+    fs::metadata(rt, name).map_or(true, |found| found.is_file())
+}
+
 /// The identity of a file and, for a regular file, of its contents: their length and time.
 #[derive(Clone, Copy, PartialEq, Eq)]
 pub struct FileId {

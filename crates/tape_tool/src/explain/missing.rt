@@ -1,9 +1,9 @@
 //! What is missing when a command ends with exit status 3, and where to look for it.
 use super::{FaultSite, NEVER};
 use crate::command_line::Order;
-use crate::extract::are_files;
 use crate::images::{Images, names_of};
 use crate::normal::NormalImages;
+use crate::refusal::are_files;
 use crate::screen::Progress;
 use crate::shown::Shown;
 use crate::unpack::UnpackOrder;

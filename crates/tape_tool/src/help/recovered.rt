@@ -261,8 +261,8 @@ read the record format or the volume has no HDR2.
 The lines give a section (counted from 1), its blocks (from 0) and the number
 of records written so far:
   IMAGE 2 NOT OPENED    the second image could not be opened
-  CONFLICT 1 1 3        the first and the third image have complete copies of
-                        section 1 that differ; the first one is used
+  CONFLICT 1 1 3        the first and the third image have copies of section 1
+                        that contradict each other; the first one is used
   SECTION 1 2 40        section 1 is read from the second image, which has 40
                         data blocks of it, unreadable ones included
   GAP 1 5 7 120         blocks 5 to 7 of section 1 are missing, after record
