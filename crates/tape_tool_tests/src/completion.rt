@@ -129,7 +129,7 @@ const LEFT: &str = "
     > SECTION 1 2 1
     > SALVAGED 2
     3: unpack other one.tap other/ABC001.tap
-    | FILE ABC001 1 AWAITS 1 1 0 other/ABC001.1.PAYROLL.stage
+    | FILE ABC001 1 CONFLICT
     missing other/ABC001.1.PAYROLL other/ABC001.1.OTHER other/.tape-1.part
 ";
 

@@ -143,8 +143,7 @@ const CONVERTED: &str = "
     0: convert again.tap odd.e11 --format e11
     has again.tap \\03\\00\\00\\00odd\\00\\03\\00\\00\\00\\00\\00\\00\\00
     # Lists read SIMH images alone; a survey reads all of these.
-    image fault 2 at 0: list odd.e11
-    image fault 1 at 0: list one.aws
+    image fault 2 at 0: list odd.e11 | list one.aws
 ";
 
 #[test]
