@@ -1,7 +1,7 @@
 # Completion of tape(1) for bash. Made by docs/completions.py from the program's help.
 _tape() {
     local cur=${COMP_WORDS[COMP_CWORD]} prev=${COMP_WORDS[COMP_CWORD-1]} start=1
-    local commands='list show check survey compare merge extract unpack salvage stage init write'
+    local commands='list show check survey compare merge convert extract unpack salvage stage init write'
     # Options of the program may precede the command.
     while [ "$start" -lt "$COMP_CWORD" ] && [[ ${COMP_WORDS[start]} == -* ]]; do
         start=$((start + 1))
@@ -20,6 +20,7 @@ _tape() {
         merge:--files-from | extract:--files-from | unpack:--files-from | \
         salvage:--files-from) kind='file' ;;
     merge:--log | extract:--stage) kind='other' ;;
+    convert:--format) kind='auto aws e11 simh' ;;
     extract:--form | unpack:--form | stage:--form | write:--form) kind='lines raw' ;;
     unpack:--set | unpack:--file | write:--block | write:--record | \
         write:--offset | write:--date) kind='text' ;;
@@ -34,6 +35,7 @@ _tape() {
         survey) word='--files-from --null --tsv --json' ;;
         compare) word='--files-from --null --json' ;;
         merge) word='--log --files-from --null' ;;
+        convert) word='--format' ;;
         extract) word='--files-from --null --form --stage --again --now' ;;
         unpack) word='--files-from --null --form --set --file --list --salvage --now --manifest --verify' ;;
         salvage) word='--files-from --null --form --now' ;;
@@ -63,10 +65,10 @@ _tape() {
     show:1) kind='image' ;;
     show:2 | extract:1 | extract:2 | salvage:1 | salvage:2 | init:2 | init:3 \
         | write:2 | write:3) kind='text' ;;
-    merge:1 | extract:3 | salvage:3 | stage:1) kind='other' ;;
+    merge:1 | convert:1 | extract:3 | salvage:3 | stage:1) kind='other' ;;
     unpack:1 | init:1 | write:1) kind='directory' ;;
-    list:* | check:* | survey:* | compare:* | merge:* | extract:* | unpack:* \
-        | salvage:*) kind='image' ;;
+    list:* | check:* | survey:* | compare:* | merge:* | convert:* | \
+        extract:* | unpack:* | salvage:*) kind='image' ;;
     show:*) kind='text' ;;
     stage:*) kind='other' ;;
     write:*) kind='file' ;;

@@ -49,6 +49,7 @@ complete -c tape -n '__tape_at "" 1' -a check -d 'Report which file sections are
 complete -c tape -n '__tape_at "" 1' -a survey -d 'Describe each image, and report what is complete and what is missing'
 complete -c tape -n '__tape_at "" 1' -a compare -d 'Report whether images can be readings of the same tape'
 complete -c tape -n '__tape_at "" 1' -a merge -d 'Make one good image from several readings of a tape'
+complete -c tape -n '__tape_at "" 1' -a convert -d 'Make a SIMH image of an image of another format'
 complete -c tape -n '__tape_at "" 1' -a extract -d 'Recover one file from the images of its set'
 complete -c tape -n '__tape_at "" 1' -a unpack -d 'Recover every file on the images into a directory'
 complete -c tape -n '__tape_at "" 1' -a salvage -d 'Recover what is readable of a file that no image has completely'
@@ -56,7 +57,7 @@ complete -c tape -n '__tape_at "" 1' -a stage -d 'Show what a stage contains, an
 complete -c tape -n '__tape_at "" 1' -a init -d 'Create blank labelled volumes'
 complete -c tape -n '__tape_at "" 1' -a write -d 'Write files to labelled volumes'
 complete -c tape -n '__tape_at "" 1' -a help -d 'Print the help of a command'
-complete -c tape -n '__tape_at help 1' -a 'list show check survey compare merge extract unpack salvage stage init write'
+complete -c tape -n '__tape_at help 1' -a 'list show check survey compare merge convert extract unpack salvage stage init write'
 complete -c tape -n '__tape_in list' -l offsets -d 'Print the byte offset and size of each item before its line'
 complete -c tape -n '__tape_in list' -l json -d 'Print JSON: a line for each item, with its offset and size'
 complete -c tape -n '__tape_at list 1 +' -F
@@ -80,6 +81,9 @@ complete -c tape -n '__tape_in merge' -l files-from -r -F -d 'More names, one pe
 complete -c tape -n '__tape_in merge' -l null -d 'Names in LIST end with NUL, as of '\''find -print0'\'''
 complete -c tape -n '__tape_at merge 1' -a '(__tape_other)'
 complete -c tape -n '__tape_at merge 2 +' -F
+complete -c tape -n '__tape_in convert' -l format -x -a 'auto aws e11 simh' -d 'Format of IMAGE, if it is not recognised: aws, e11 or simh'
+complete -c tape -n '__tape_at convert 1' -a '(__tape_other)'
+complete -c tape -n '__tape_at convert 2 +' -F
 complete -c tape -n '__tape_in extract' -l files-from -r -F -d 'More names, one per line ('\''-'\'': standard input)'
 complete -c tape -n '__tape_in extract' -l null -d 'Names in LIST end with NUL, as of '\''find -print0'\'''
 complete -c tape -n '__tape_in extract' -l form -x -a 'lines raw' -d 'lines: end each record with a line feed; raw: do not'
