@@ -350,7 +350,8 @@ SCENES = f"""
 ## salvage: copies of one section in other blocks, and of two sets
 0 salvage ABC001 1 out x.tap y.tap
 = out forty
-0 salvage ABC001 1 out2 w1.tap w2.tap
+3 salvage ABC001 1 out2 w1.tap w2.tap
+> CONFLICT 1 2 1
 = out2 week2
 ## salvage: a trailer label of another file
 3 salvage ABC001 1 out over.tap
