@@ -103,7 +103,8 @@ class Trial(Results):
     def image_row(self, volume, is_in_conflict):
         """The columns of an image after its name, up to the owner."""
         state = "CONFLICT" if is_in_conflict else "WHOLE" if volume.is_whole else "PARTIAL"
-        texts = [volume.identifier, volume.set, volume.system, volume.owner]
+        identifier = b"" if volume.identifier == b"(none)" else volume.identifier
+        texts = [identifier, volume.set, volume.system, volume.owner]
         texts = [printed(each).rstrip() for each in texts]
         bad = sum(kind == "bad" for kind, _ in volume.items)
         counts = [len(volume.items), len(volume.first_labels), bad]
