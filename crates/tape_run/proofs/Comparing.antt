@@ -230,12 +230,15 @@ take_all (p ∷ seen) rest (suc n) e = ap (λ z. p ∷ z) (take_all seen rest n 
 pub front_all : (before now : List Portion → Type 0) (parts rest : List Portion) (count more : ℕ)
     → ComparedFront before now parts rest count more → more ≤ 0
     → (ahead : List Portion) → before ahead
-    → (left : List Portion) × (ahead ≡ take count parts ++ left) × now left
+    → (left : List Portion) × (count ≤ length parts) × (ahead ≡ take count parts ++ left)
+    × now left
 front_all before now parts rest count more (c, n) none ahead was =
     let (left, e, at) = c.walked ahead was in
     let first : take count parts ≡ c.seen = ap (λ z. take count z) c.split
     ∙ take_all c.seen rest count (omega (arith, n, none)) in
-    (left, e ∙ ap (λ z. z ++ left) (sym first), at)
+    let all : length parts ≡ length c.seen + length rest = ap length c.split
+    ∙ length-append c.seen rest in
+    (left, omega (arith, all, n, none), e ∙ ap (λ z. z ++ left) (sym first), at)
 
 take_more : (seen others : List Portion) (p : Portion) (n : ℕ) → length seen < n
     → (some : List Portion) × (take n (seen ++ p ∷ others) ≡ seen ++ p ∷ some)
@@ -269,15 +272,22 @@ front_short before mid parts rest count more (c, n) some is left few was =
 pub front_yes : (r : Result Bool SinkFault) (before now : List Portion → Type 0) (shape : Shape)
     (block : List ℕ) (count : ℕ) (rest parts : List Portion) → Reads shape block parts
     → rest ≡ parts → IfOk r (λ yes. OnTrue yes ((ahead : List Portion) → before ahead
-    → (left : List Portion) × (ahead ≡ take count rest ++ left) × now left))
-    → IfOk r (λ yes. OnTrue yes ((ahead : List Portion) → before ahead
-    → (parts left : List Portion) × Reads shape block parts × (ahead ≡ take count parts ++ left)
+    → (left : List Portion) × (count ≤ length rest) × (ahead ≡ take count rest ++ left)
     × now left))
+    → IfOk r (λ yes. OnTrue yes ((ahead : List Portion) → before ahead
+    → (parts left : List Portion) × Reads shape block parts × (count ≤ length parts)
+    × (ahead ≡ take count parts ++ left) × now left))
 front_yes (Err fault) before now shape block count rest parts reads is h = h
 front_yes (Ok false) before now shape block count rest parts reads is h = h
 front_yes (Ok true) before now shape block count rest parts reads is h = λ ahead was.
-    let (left, e, at) = h ahead was in
-    (parts, left, reads, e ∙ ap (λ z. take count z ++ left) is, at)
+    let (left, few, e, at) = h ahead was in (
+      parts,
+      left,
+      reads,
+      subst (λ z. count ≤ length z) is few,
+      e ∙ ap (λ z. take count z ++ left) is,
+      at,
+    )
 
 pub front_no : (r : Result Bool SinkFault) (before : List Portion → Type 0) (shape : Shape)
     (block : List ℕ) (count : ℕ) (rest : List Portion)

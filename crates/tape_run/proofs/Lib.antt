@@ -46,6 +46,9 @@ pub mod Listing
 pub mod Fronts
 pub mod Completes
 pub mod Comparing
+pub mod ComparedBlocks
+pub mod ComparedItems
+pub mod ComparedSinks
 pub mod WorkedReels
 pub mod WorkedHistory
 mod WorkedDays

@@ -57,7 +57,6 @@ pub use salvage::{Content, SalvageTask, salvage_to};
 pub use script::{Step, run};
 pub use section::{Entry, ImageLine, ImageStop, Lack, SectionKey, SectionLine, SectionState};
 pub use session::Session;
-pub use session::compared::Overlap;
 pub use survey::dates::{Date, date_of};
 pub use survey::files::{FileKey, FileNote};
 pub use survey::glance::First;

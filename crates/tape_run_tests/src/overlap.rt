@@ -1,5 +1,6 @@
 //! Tests of images that are compared with the data of a session.
 use crate::image::{payroll, set_id};
+use crate::rounds::Kept;
 use crate::taken_back::{lost, volume};
 use crate::volumes::cut;
 use std::alloc::Global;
@@ -8,22 +9,20 @@ use std::test::Fail;
 use tape_core::MemorySink;
 use tape_run::{RunFault, Session};
 
-/// Reads `first` by a session for the example file, and returns whether `image` then has other data
-/// than the session; `None` if they have no section in common.
-fn found(alloc: Global, first: &[u8], image: &[u8]) -> Result<Option<bool>, RunFault> {
+/// The offset of the data in the images: after three labels of 88 bytes and a mark.
+const DATA: u64 = 268;
+
+/// Reads `first` by a session for the example file, and returns the offset at which `image` then
+/// has other data than the session.
+fn found(alloc: Global, first: &[u8], image: &[u8]) -> Result<Option<u64>, RunFault> {
     let sink = MemorySink::new(alloc);
     let Ok(mut session) = Session::new(alloc, set_id(), 1, sink) else {
         return Err(RunFault::OtherFile);
     };
-    let (mut first, mut once, mut again) = (first, image, image);
+    let mut first = first;
     session.reel(&mut first)?;
-    if !session.is_within() {
-        return Ok(None);
-    }
-    match session.overlap(&mut once)? {
-        Some(overlap) => Ok(Some(session.differs(&mut again, &overlap)?)),
-        None => Ok(None),
-    }
+    let mut images = Kept { reels: &[image] };
+    session.seam(&mut images, 0)
 }
 
 /// Fails unless this is found of the images.
@@ -31,10 +30,10 @@ fn finds<H: Abort + AllocGlobal>(
     rt: &H,
     first: &[u8],
     image: &[u8],
-    expected: Option<bool>,
+    differs: bool,
 ) -> Result<(), Fail> {
     let found = found(rt.alloc(), first, image)?;
-    assert!(rt; found == expected);
+    assert!(rt; found == if differs { Some(DATA) } else { None });
     Ok(())
 }
 
@@ -49,19 +48,19 @@ fn other_data_are_found(rt: HostRuntime) -> Result<(), Fail> {
     let no_second = volume(alloc, &[(0, 10, true), (10, 20, false), (20, 25, true)])?;
     let (whole, begun) = (payroll(alloc)?, cut(alloc, 1076)?);
     let (whole, begun) = (whole.bytes.as_slice(), begun.bytes.as_slice());
-    finds(&rt, skipped, whole, Some(true))?;
-    finds(&rt, skipped, no_first.bytes.as_slice(), Some(true))?;
+    finds(&rt, skipped, whole, true)?;
+    finds(&rt, skipped, no_first.bytes.as_slice(), true)?;
     // What stands in the place of an unreadable block is not known.
-    finds(&rt, skipped, no_second.bytes.as_slice(), Some(false))?;
-    finds(&rt, skipped, skipped, Some(false))?;
-    finds(&rt, begun, whole, Some(false))?;
-    finds(&rt, begun, no_first.bytes.as_slice(), Some(false))?;
-    finds(&rt, begun, lost(alloc)?.bytes.as_slice(), Some(false))?;
+    finds(&rt, skipped, no_second.bytes.as_slice(), false)?;
+    finds(&rt, skipped, skipped, false)?;
+    finds(&rt, begun, whole, false)?;
+    finds(&rt, begun, no_first.bytes.as_slice(), false)?;
+    finds(&rt, begun, lost(alloc)?.bytes.as_slice(), false)?;
     // The session has nothing yet, or all of the file; or the image ends before its data.
-    finds(&rt, no_first.bytes.as_slice(), whole, None)?;
-    finds(&rt, whole, skipped, None)?;
+    finds(&rt, no_first.bytes.as_slice(), whole, false)?;
+    finds(&rt, whole, skipped, false)?;
     let front = cut(alloc, 400)?;
-    finds(&rt, begun, front.bytes.as_slice(), None)
+    finds(&rt, begun, front.bytes.as_slice(), false)
 }
 
 /// Blocks before an unreadable one are compared with the first ones of the session, and those after
@@ -85,7 +84,7 @@ fn other_data_before_an_unreadable_block(rt: HostRuntime) -> Result<(), Fail> {
     ];
     for ([one, two, three], differs) in rows {
         let image = volume(alloc, &[one, two, three, (25, 30, true)])?;
-        finds(&rt, first, image.bytes.as_slice(), Some(differs))?;
+        finds(&rt, first, image.bytes.as_slice(), differs)?;
     }
     // The last block that the session has is unreadable; the block before it is, or is not, another.
     let begun = cut(alloc, 1884)?;
@@ -95,7 +94,7 @@ fn other_data_before_an_unreadable_block(rt: HostRuntime) -> Result<(), Fail> {
             alloc,
             &[(from, from + 10, true), (10, 20, false), (20, 25, true)],
         )?;
-        finds(&rt, begun, image.bytes.as_slice(), Some(differs))?;
+        finds(&rt, begun, image.bytes.as_slice(), differs)?;
     }
     Ok(())
 }

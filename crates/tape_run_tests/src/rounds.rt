@@ -13,8 +13,8 @@ use tape_run::{AsTheyAre, ImageSource, Session, extract_in_passes};
 
 /// A source of reels, each of which is returned as often as it is mounted.
 #[derive(Drop)]
-struct Kept<'a> {
-    reels: &'a [&'a [u8]],
+pub struct Kept<'a> {
+    pub reels: &'a [&'a [u8]],
 }
 
 impl<'a> ImageSource<&'a [u8]> for Kept<'a> {

@@ -16,7 +16,7 @@ use tape_run::{ImageSource, OpenedImage, Opener, RunFault, Session, position_of}
 /// the image is read as if it ended with a tape mark before these data.
 #[derive(Drop)]
 pub struct Compared {
-    /// Whether images are compared: each is then opened up to two times more.
+    /// Whether images are compared: each is then opened up to three times more.
     is_on: bool,
     /// The numbers of the images that had other data.
     pub differing: Vec<usize>,
@@ -68,24 +68,13 @@ impl Compared {
         if !self.is_on || !session.is_within() || !images.is_file(number) {
             return Ok(None);
         }
-        let Some(mut image) = mounted(images, number)? else {
+        let Some(place) = session.seam(images, number)? else {
             return Ok(None);
         };
-        let overlap = match session.overlap(&mut image) {
-            Ok(Some(overlap)) => overlap,
-            Ok(None) => return Ok(None),
-            Err(_) => return Err(RunFault::OutOfMemory),
-        };
-        let Some(mut image) = mounted(images, number)? else {
-            return Ok(None);
-        };
-        if !session.differs(&mut image, &overlap)? {
-            return Ok(None);
-        }
         if !self.differing.contains(&number) && self.differing.push(number).is_err() {
             return Err(RunFault::OutOfMemory);
         }
-        Ok(Some(overlap.place()))
+        Ok(Some(place))
     }
 }
 

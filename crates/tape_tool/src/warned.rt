@@ -100,19 +100,16 @@ impl<'a> Warned<'a> {
         images: &mut Images<'_, R>,
         number: usize,
     ) -> bool {
-        let Some(mut image) = mounted(images, number) else {
-            return false;
-        };
-        let Ok(Some(overlap)) = session.overlap(&mut image) else {
-            return false;
-        };
         let Some(mut saved) = saved_in(images.rt.host(), path, self.set_id, self.file) else {
             return false;
         };
-        let Some(mut image) = mounted(images, number) else {
+        if saved.want() != session.want() {
             return false;
-        };
-        saved.want() == session.want() && saved.differs(&mut image, &overlap) == Ok(true)
+        }
+        let reels = images.reels.take();
+        let seam = saved.seam(images, number);
+        images.reels = reels;
+        matches!(seam, Ok(Some(_)))
     }
 
     /// Returns whether an image differs from those from which the session has its blocks. These are

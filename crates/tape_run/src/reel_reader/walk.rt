@@ -93,8 +93,8 @@ pub fn has_front<S: PartWalk>(
 ) -> Result<bool, SinkFault>
     ensures yes { IfOk result (λ yes. OnTrue yes ((ahead : List Portion)
         → S.ahead sink.old ahead → (parts left : List Portion)
-        × Reads shape.now block.now parts × (ahead ≡ take count parts ++ left)
-        × S.ahead sink.new left)) }
+        × Reads shape.now block.now parts × (count ≤ length parts)
+        × (ahead ≡ take count parts ++ left) × S.ahead sink.new left)) }
     ensures no { IfOk result (λ yes. OnFalse yes ((parts left : List Portion)
         → Reads shape.now block.now parts → count ≤ length parts
         → S.ahead sink.old (take count parts ++ left) → ⊥)) }
@@ -114,7 +114,7 @@ pub fn has_front<S: PartWalk>(
 /// Returns whether the next parts of a walk are the first `count` of these.
 fn returns_front<S: PartWalk>(sink: &mut S, parts: Parts<'_>, count: u32) -> Result<bool, SinkFault>
     ensures yes { IfOk result (λ yes. OnTrue yes ((ahead : List Portion)
-        → S.ahead sink.old ahead → (left : List Portion)
+        → S.ahead sink.old ahead → (left : List Portion) × (count ≤ length (parts_left parts.entry))
         × (ahead ≡ take count (parts_left parts.entry) ++ left) × S.ahead sink.new left)) }
     ensures no { IfOk result (λ yes. OnFalse yes ((left : List Portion)
         → count ≤ length (parts_left parts.entry)
@@ -172,57 +172,20 @@ pub fn skip_to<S: PartWalk>(sink: &mut S, weight: u64) -> Result<bool, SinkFault
     Ok(true)
 }
 
-/// Begins a walk anew after parts of this weight, if it is given. Returns whether leading parts have
-/// exactly this weight.
-fn begins<S: PartWalk>(sink: &mut S, before: Option<u64>) -> Result<bool, SinkFault>
+/// Returns whether a walk has returned all parts.
+pub fn is_over<S: PartWalk>(sink: &mut S) -> Result<bool, SinkFault>
+    ensures yes { IfOk result (λ yes. OnTrue yes ((ahead : List Portion)
+        → S.ahead sink.old ahead → ahead ≡ [])) }
+    ensures no { IfOk result (λ yes. OnFalse yes (S.ahead sink.old [] → ⊥)) }
     ensures kept { (parts : List Portion) → S.holds sink.old parts → S.holds sink.new parts }
     ensures crash { BringsNoMore S.PartSink sink.old sink.new }
     ensures calm { OnOk result (S.refusals sink.new ≡ S.refusals sink.old) }
     ensures cause { IfErr result (λ fault.
         IsRefused S.refusals S.refuses sink.old fault sink.new) }
 {
-    match before {
-        Some(before) => skip_to(sink, before),
-        None => Ok(true),
+    match sink.next_part() {
+        Ok(Some(_)) => Ok(false),
+        Ok(None) => Ok(true),
+        Err(fault) => Err(fault),
     }
-}
-
-/// Returns whether the next parts of a walk are the first `count` parts of a block, or all of them.
-fn has_some<S: PartWalk>(
-    sink: &mut S,
-    shape: &Shape,
-    block: &[u8],
-    count: Option<u32>,
-) -> Result<bool, SinkFault>
-    ensures kept { (parts : List Portion) → S.holds sink.old parts → S.holds sink.new parts }
-    ensures crash { BringsNoMore S.PartSink sink.old sink.new }
-    ensures calm { OnOk result (S.refusals sink.new ≡ S.refusals sink.old) }
-    ensures cause { IfErr result (λ fault.
-        IsRefused S.refusals S.refuses sink.old fault sink.new) }
-{
-    match count {
-        Some(count) => has_front(sink, shape, block, count),
-        None => has_next(sink, shape, block),
-    }
-}
-
-/// Does the same, with a walk that begins anew after parts of weight `before`, if it is given.
-pub fn has_parts<S: PartWalk>(
-    sink: &mut S,
-    before: Option<u64>,
-    shape: &Shape,
-    block: &[u8],
-    count: Option<u32>,
-) -> Result<bool, SinkFault>
-    ensures kept { (parts : List Portion) → S.holds sink.old parts → S.holds sink.new parts }
-    ensures crash { BringsNoMore S.PartSink sink.old sink.new }
-    ensures calm { OnOk result (S.refusals sink.new ≡ S.refusals sink.old) }
-    ensures cause { IfErr result (λ fault.
-        IsRefused S.refusals S.refuses sink.old fault sink.new) }
-{
-    let found = begins(sink, before)?;
-    if !found {
-        return Ok(false);
-    }
-    has_some(sink, shape, block, count)
 }

@@ -1,241 +1,26 @@
 //! Compares an image with the data that a session has.
 
+mod overlap;
 mod paired;
 
-ghost use Rattle.std.specs.Prelude.{◌≡◌, List, OnOk, IfErr};
-ghost use Rattle.tape_image.specs.Reader.{going};
+ghost use Rattle.std.specs.Prelude.{◌≡◌, ◌≢◌, ◌++◌, ◌⊎◌, [], ℕ, List, OnOk, IfOk, IfErr};
+ghost use Rattle.std.specs.{Bool.OnTrue, Bool.OnFalse, Result.IsOkUnless};
+ghost use Rattle.tape_image.specs.Reader.{IfKnown};
 ghost use Rattle.tape_blocks.specs.Block.{Portion};
-ghost use Rattle.tape_run.specs.{Causes.OpeningFails, Crash.IsWalked, Crash.BringsNoMore};
-ghost use Rattle.tape_run.specs.Steps.{IsRefused};
+ghost use Rattle.tape_core.specs.Stands.{weight_of};
+ghost use Rattle.tape_run.specs.{Causes.OpeningFails, Crash.IsWalked};
+ghost use Rattle.tape_run.specs.Comparing.{IsSame, IsSameFront, FindsAll, up_to, core_before};
+ghost use Rattle.tape_run.specs.declared.fault.RunFault.TheVariants as faults;
+ghost use Rattle.tape_set.specs.declared.position.Position.TheVariants.{Awaits};
 
 use super::Session;
+use crate::extract::images::ImageSource;
 use crate::fault::RunFault;
-use crate::reel_reader::event_of;
-use crate::reel_reader::walk::{has_parts, skip_to};
+use overlap::{Found, Overlap, compare_after, measure};
 use std::io::Read;
-use tape_blocks::{Parts, Shape, check_block};
-use tape_core::{Answer, Expected, PartSink, PartWalk, ReaderCore, SinkFault, goes_on_at};
-use tape_image::{ImageBuffer, ImageFault, ImageReader, Item};
+use tape_core::{PartSink, PartWalk};
+use tape_image::{ImageBuffer, ImageReader};
 use tape_set::Position;
-
-/// The blocks that an image and a session have of one section: those that the session would skip on
-/// the image, up to the first unreadable one, and from the one after the last unreadable one on.
-#[derive(Clone, Copy, PartialEq, Eq)]
-pub struct Overlap {
-    /// The number of the block at which the session continues, counted from 0 in the section.
-    block: u32,
-    /// The number of parts of this block that the session has.
-    part: u32,
-    /// The number of the first unreadable block, or 0 if none of them is unreadable.
-    front: u32,
-    /// The number of the block after the last unreadable one, or 0 if none is unreadable.
-    from: u32,
-    /// The weight of the parts that the blocks from there on have on the image, with the first parts
-    /// of the block at which the session continues; the maximum if the image has an item that is no
-    /// such block.
-    weight: u64,
-    /// The weight of the session's parts before these.
-    before: u64,
-    /// The byte offset of the section's data in the image.
-    place: u64,
-}
-
-impl Overlap {
-    /// Returns the byte offset of the section's data in the image.
-    pub fn place(&self) -> u64 {
-        self.place
-    }
-
-    /// Adds an item of an image, at a byte offset, before a core takes it. Returns whether nothing
-    /// more is compared.
-    fn add(
-        &mut self,
-        core: &ReaderCore,
-        wide: bool,
-        told: Result<Option<Item<'_>>, ImageFault>,
-        place: u64,
-    ) -> bool {
-        let Expected::Data { seen, shape } = core.expected() else {
-            return false;
-        };
-        if seen == 0 {
-            self.place = place;
-        }
-        let is_last = self.block <= seen;
-        if is_last && self.part == 0 {
-            return true;
-        }
-        let count = if is_last { Some(self.part) } else { None };
-        match told {
-            Ok(Some(Item::Block(bytes))) => {
-                let weight = weight_in(&shape, core.as_read(wide, bytes), count);
-                self.weight = self.weight.saturating_add(weight);
-            }
-            // The core refuses a mark that comes before a block that was delivered.
-            Ok(Some(Item::Mark)) => self.weight = u64::MAX,
-            _ => {
-                if self.from == 0 {
-                    self.front = seen;
-                }
-                self.from = seen.saturating_add(1);
-                self.weight = 0;
-            }
-        }
-        is_last
-    }
-
-    /// Returns the weight of the session's parts before those of block `seen`, if the walk over them
-    /// begins anew there, because blocks before it are unreadable.
-    fn start_at(&self, seen: u32) -> Option<u64> {
-        if self.front > 0 && self.from == seen {
-            Some(self.before)
-        } else {
-            None
-        }
-    }
-
-    /// Compares an item of an image with the next parts of the walk over a sink, before a core
-    /// takes it. Returns whether they are the same if nothing more is compared.
-    fn compare<S: PartWalk>(
-        &self,
-        core: &ReaderCore,
-        wide: bool,
-        told: Result<Option<Item<'_>>, ImageFault>,
-        sink: &mut S,
-    ) -> Result<Option<bool>, SinkFault>
-        ensures kept { (parts : List Portion) → S.holds sink.old parts → S.holds sink.new parts }
-        ensures crash { BringsNoMore S.PartSink sink.old sink.new }
-        ensures calm { OnOk result (S.refusals sink.new ≡ S.refusals sink.old) }
-        ensures cause { IfErr result (λ fault.
-            IsRefused S.refusals S.refuses sink.old fault sink.new) }
-    {
-        let Expected::Data { seen, shape } = core.expected() else {
-            return Ok(None);
-        };
-        let is_last = self.block <= seen;
-        if is_last && self.part == 0 {
-            return Ok(Some(true));
-        }
-        match told {
-            Ok(Some(Item::Block(bytes))) if seen < self.front || self.from <= seen => {
-                let content = core.as_read(wide, bytes);
-                let count = if is_last { Some(self.part) } else { None };
-                let is_same = has_parts(sink, self.start_at(seen), &shape, content, count)?;
-                Ok(if is_last || !is_same {
-                    Some(is_same)
-                } else {
-                    None
-                })
-            }
-            _ => Ok(None),
-        }
-    }
-}
-
-/// Returns the weight of the first `count` parts of a block, or of all of them; the maximum if the
-/// block has no parts in this shape.
-fn weight_in(shape: &Shape, block: &[u8], count: Option<u32>) -> u64 {
-    let begun = goes_on_at(shape.format, shape.offset, block);
-    if check_block(shape, begun, block).is_err() {
-        return u64::MAX;
-    }
-    let mut weight = 0u64;
-    let mut seen = 0u32;
-    'parts: for part in Parts::new(shape, block) {
-        if count == Some(seen) {
-            break 'parts;
-        }
-        weight = weight
-            .saturating_add(5)
-            .saturating_add(part.bytes.len() as u64);
-        seen = seen.saturating_add(1);
-    }
-    weight
-}
-
-/// Reads an unread image by a core up to the end of the overlap, which was empty. Returns false if
-/// the reading ends before that.
-fn measure<R: Read>(
-    overlap: &mut Overlap,
-    core: &mut ReaderCore,
-    wide: bool,
-    image: &mut ImageReader<'_, R>,
-) -> bool
-    requires going { image.old.status ≡ going }
-    requires first { image.old.place ≡ 0 }
-    ensures same_device { image.new.device ≡ image.old.device }
-{
-    'items: loop {
-        let place = image.place();
-        let told = image.next();
-        if overlap.add(core, wide, told, place) {
-            return true;
-        }
-        let (event, _) = event_of(told);
-        match core.step_by(wide, event) {
-            Answer::Passed => continue 'items,
-            _ => return false,
-        }
-    }
-}
-
-/// Reads an unread image by a core up to the end of the overlap. Returns whether its parts are the
-/// next ones of the walk over a sink, as far as the image is read.
-fn agrees<S: PartWalk, R: Read>(
-    overlap: &Overlap,
-    core: &mut ReaderCore,
-    wide: bool,
-    image: &mut ImageReader<'_, R>,
-    sink: &mut S,
-) -> Result<bool, SinkFault>
-    requires going { image.old.status ≡ going }
-    requires first { image.old.place ≡ 0 }
-    ensures same_device { image.new.device ≡ image.old.device }
-    ensures kept { (parts : List Portion) → S.holds sink.old parts → S.holds sink.new parts }
-    ensures crash { BringsNoMore S.PartSink sink.old sink.new }
-    ensures calm { OnOk result (S.refusals sink.new ≡ S.refusals sink.old) }
-    ensures cause { IfErr result (λ fault.
-        IsRefused S.refusals S.refuses sink.old fault sink.new) }
-{
-    'items: loop {
-        let told = image.next();
-        match overlap.compare(core, wide, told, sink) {
-            Ok(Some(is_same)) => return Ok(is_same),
-            Ok(None) => {}
-            Err(fault) => return Err(fault),
-        }
-        let (event, _) = event_of(told);
-        match core.step_by(wide, event) {
-            Answer::Passed => continue 'items,
-            _ => return Ok(true),
-        }
-    }
-}
-
-/// Does the same as `agrees`, with a walk that begins after the first parts, of weight `before`.
-fn ends_with<S: PartWalk, R: Read>(
-    overlap: &Overlap,
-    core: &mut ReaderCore,
-    wide: bool,
-    image: &mut ImageReader<'_, R>,
-    sink: &mut S,
-    before: u64,
-) -> Result<bool, SinkFault>
-    requires going { image.old.status ≡ going }
-    requires first { image.old.place ≡ 0 }
-    ensures same_device { image.new.device ≡ image.old.device }
-    ensures kept { (parts : List Portion) → S.holds sink.old parts → S.holds sink.new parts }
-    ensures crash { BringsNoMore S.PartSink sink.old sink.new }
-    ensures calm { OnOk result (S.refusals sink.new ≡ S.refusals sink.old) }
-    ensures cause { IfErr result (λ fault.
-        IsRefused S.refusals S.refuses sink.old fault sink.new) }
-{
-    let found = skip_to(sink, before)?;
-    if !found {
-        return Ok(false);
-    }
-    agrees(overlap, core, wide, image, sink)
-}
 
 impl<S: PartSink> Session<S> {
     /// Returns whether a part of the section that the session needs was delivered.
@@ -252,19 +37,13 @@ impl<S: PartSink> Session<S> {
     /// # Errors
     ///
     /// Returns `OutOfMemory` if the image reader's buffer was refused.
-    pub fn overlap<R: Read>(&self, device: &mut R) -> Result<Option<Overlap>, RunFault> {
+    fn overlap<R: Read>(&self, device: &mut R) -> Result<Option<Overlap>, RunFault>
+        ensures fault { IsOkUnless result faults.OutOfMemory }
+    {
         let Position::Awaits { block, part, .. } = self.reel_reader.core.position() else {
             return Ok(None);
         };
-        let mut overlap = Overlap {
-            block,
-            part,
-            front: 0,
-            from: 0,
-            weight: 0,
-            before: 0,
-            place: 0,
-        };
+        let mut overlap = Overlap::up_to(block, part);
         let Ok(buffer) = ImageBuffer::new(self.alloc) else {
             return Err(RunFault::OutOfMemory);
         };
@@ -276,7 +55,88 @@ impl<S: PartSink> Session<S> {
     }
 }
 
+/// Opens an image.
+fn mounted<R: Read, L: ImageSource<R>>(images: &mut L, number: usize) -> Result<Option<R>, RunFault>
+    ensures fault { IsOkUnless result faults.OutOfMemory }
+{
+    match images.mount(number) {
+        Ok(image) => Ok(image),
+        Err(_) => Err(RunFault::OutOfMemory),
+    }
+}
+
 impl<S: PartWalk> Session<S> {
+    /// Returns the byte offset in image `number` of the data of the section that the session needs,
+    /// if they are other data than the session has. The image is opened up to three times: once if
+    /// it has all that the session has of section 1.
+    ///
+    /// # Errors
+    ///
+    /// Returns `OutOfMemory`, or `Sink` with the fault of the walk over the sink's parts.
+    pub fn seam<R: Read + Drop, L: ImageSource<R>>(
+        &mut self,
+        images: &mut L,
+        number: usize,
+    ) -> Result<Option<u64>, RunFault>
+        ensures same { IsWalked S.PartSink self.old self.new }
+        ensures calm { OnOk result (S.refusals self.new.sink ≡ S.refusals self.old.sink) }
+        ensures cause { IfErr result
+            (λ fault. OpeningFails S.PartSink S.refuses fault self.old self.new) }
+    {
+        let Some(mut image) = mounted(images, number)? else {
+            return Ok(None);
+        };
+        let found = self.compare(&mut image)?;
+        if found == Found::Same {
+            return Ok(None);
+        }
+        let Some(mut image) = mounted(images, number)? else {
+            return Ok(None);
+        };
+        let Some(overlap) = self.overlap(&mut image)? else {
+            return Ok(None);
+        };
+        if found == Found::Other {
+            return Ok(Some(overlap.place));
+        }
+        let Some(mut image) = mounted(images, number)? else {
+            return Ok(None);
+        };
+        let differs = self.differs(&mut image, &overlap)?;
+        Ok(if differs { Some(overlap.place) } else { None })
+    }
+
+    /// Compares the blocks that an unread image has of section 1 with the session's parts, if that
+    /// is the section that the session needs.
+    ///
+    /// # Errors
+    ///
+    /// Returns `OutOfMemory` if the image reader's buffer was refused, and `Sink` with the fault of
+    /// the walk over the sink's parts.
+    fn compare<R: Read>(&mut self, device: &mut R) -> Result<Found, RunFault>
+        // What is found of all of the session's parts.
+        ensures found { IfOk result (λ found. (number part : ℕ)
+            → self.old.core.position ≡ Awaits 1 number part → (held : List Portion)
+            → S.holds self.old.sink held
+            → IfKnown (R.remaining device.old) (R.remaining device.new) (λ bytes left.
+            FindsAll self.old.wide (up_to number part) (core_before self.old.core) bytes found
+            held)) }
+        ensures first { IfOk result (λ found. found ≢ Found.Unknown
+            → (number part : ℕ) × (self.old.core.position ≡ Awaits 1 number part)) }
+        ensures walked { IsWalked S.PartSink self.old self.new }
+        ensures calm { OnOk result (S.refusals self.new.sink ≡ S.refusals self.old.sink) }
+        ensures cause { IfErr result
+            (λ fault. OpeningFails S.PartSink S.refuses fault self.old self.new) }
+    {
+        let Position::Awaits { sect, block, part } = self.reel_reader.core.position() else {
+            return Ok(Found::Unknown);
+        };
+        if sect != 1 {
+            return Ok(Found::Unknown);
+        }
+        self.compare_from(device, &Overlap::up_to(block, part), 0)
+    }
+
     /// Returns whether the overlap with an image has other parts on the image, which is read once
     /// more, than the session has.
     ///
@@ -284,29 +144,61 @@ impl<S: PartWalk> Session<S> {
     ///
     /// Returns `OutOfMemory` if the image reader's buffer was refused, and `Sink` with the fault of
     /// the walk over the sink's parts.
-    pub fn differs<R: Read>(&mut self, device: &mut R, overlap: &Overlap) -> Result<bool, RunFault>
-        ensures same { IsWalked S.PartSink self.old self.new }
+    fn differs<R: Read>(&mut self, device: &mut R, overlap: &Overlap) -> Result<bool, RunFault>
+        // If the answer is false, the session's last parts have the overlap's weight, and they are
+        // those of its blocks, as far as these can be read.
+        ensures same { IfOk result (λ differs. OnFalse differs ((held : List Portion)
+            → S.holds self.old.sink held → (front last : List Portion) × (held ≡ front ++ last)
+            × (weight_of last ≡ overlap.now.weight)
+            × IfKnown (R.remaining device.old) (R.remaining device.new) (λ bytes left.
+            IsSame self.old.wide overlap.now (core_before self.old.core) bytes last []
+            ⊎ IsSameFront self.old.wide overlap.now (core_before self.old.core) bytes last))) }
+        // If it is true, the session has no last parts of this weight, or a block has others.
+        ensures other { IfOk result (λ differs. OnTrue differs ((front last : List Portion)
+            → S.holds self.old.sink (front ++ last) → weight_of last ≡ overlap.now.weight
+            → IfKnown (R.remaining device.old) (R.remaining device.new) (λ bytes left.
+            FindsAll self.old.wide overlap.now (core_before self.old.core) bytes Found.Other
+            last))) }
+        ensures walked { IsWalked S.PartSink self.old self.new }
         ensures calm { OnOk result (S.refusals self.new.sink ≡ S.refusals self.old.sink) }
         ensures cause { IfErr result
             (λ fault. OpeningFails S.PartSink S.refuses fault self.old self.new) }
     {
-        let Position::Awaits { sect, .. } = self.reel_reader.core.position() else {
-            return Ok(false);
-        };
-        let Some(before) = self.reel_reader.sink.weight().checked_sub(overlap.weight) else {
-            return Ok(true);
-        };
-        if sect == 1 && overlap.from == 0 && before > 0 {
+        let weight = self.reel_reader.sink.weight();
+        if weight < overlap.weight {
             return Ok(true);
         }
-        // Only of section 1 is it known where its first block is among the session's parts.
-        let front = if sect == 1 { overlap.front } else { 0 };
-        let start = if front > 0 { 0 } else { before };
-        let overlap = Overlap {
-            front,
-            before,
-            ..*overlap
-        };
+        match self.compare_from(device, overlap, weight - overlap.weight)? {
+            Found::Other => Ok(true),
+            _ => Ok(false),
+        }
+    }
+
+    /// Compares the blocks of the overlap with an image, which is read once more, with the
+    /// session's parts after those of weight `before`.
+    ///
+    /// # Errors
+    ///
+    /// Returns `OutOfMemory` if the image reader's buffer was refused, and `Sink` with the fault of
+    /// the walk over the sink's parts.
+    fn compare_from<R: Read>(
+        &mut self,
+        device: &mut R,
+        overlap: &Overlap,
+        before: u64,
+    ) -> Result<Found, RunFault>
+        ensures found { IfOk result (λ found. (front last : List Portion)
+            → S.holds self.old.sink (front ++ last) → weight_of front ≡ before
+            → IfKnown (R.remaining device.old) (R.remaining device.new) (λ bytes left.
+            FindsAll self.old.wide overlap.now (core_before self.old.core) bytes found last)) }
+        ensures there { IfOk result (λ found. found ≢ Found.Other → (parts : List Portion)
+            → S.holds self.old.sink parts → (front last : List Portion) × (parts ≡ front ++ last)
+            × (weight_of front ≡ before)) }
+        ensures walked { IsWalked S.PartSink self.old self.new }
+        ensures calm { OnOk result (S.refusals self.new.sink ≡ S.refusals self.old.sink) }
+        ensures cause { IfErr result
+            (λ fault. OpeningFails S.PartSink S.refuses fault self.old self.new) }
+    {
         let Ok(buffer) = ImageBuffer::new(self.alloc) else {
             return Err(RunFault::OutOfMemory);
         };
@@ -314,12 +206,11 @@ impl<S: PartWalk> Session<S> {
         let mut core = self.core_before();
         let wide = self.reel_reader.wide;
         let sink = &mut self.reel_reader.sink;
-        let ends = ends_with(&overlap, &mut core, wide, &mut image, sink, start);
+        let found = compare_after(overlap, &mut core, wide, &mut image, sink, before);
         image.into_device();
-        let is_same = match ends {
-            Ok(is_same) => is_same,
-            Err(cause) => return Err(RunFault::Sink(cause)),
-        };
-        Ok(!is_same)
+        match found {
+            Ok(found) => Ok(found),
+            Err(cause) => Err(RunFault::Sink(cause)),
+        }
     }
 }

@@ -1,6 +1,7 @@
 //! The blocks that an image and a session have of one section, by their digests.
 
 ghost use Rattle.std.specs.Prelude.{◌≡◌};
+ghost use Rattle.tape_run.specs.Comparing.{core_before};
 ghost use Rattle.std.specs.Result.{IsOkUnless};
 ghost use Rattle.tape_image.specs.Reader.{going};
 ghost use Rattle.tape_run.specs.declared.fault.RunFault.TheVariants as faults;
@@ -56,7 +57,9 @@ fn add_digests<R: Read>(
 
 impl<S: PartSink> Session<S> {
     /// Returns a core at the session's position, at the start of a reel.
-    pub(crate) fn core_before(&self) -> ReaderCore {
+    pub(crate) fn core_before(&self) -> ReaderCore
+        ensures { result ≡ core_before self.now.core }
+    {
         let mut core = ReaderCore::at(&self.reel_reader.core.save(0));
         core.mount();
         core

@@ -1,14 +1,12 @@
 use Rattle.std.proofs.Common.{◌≡◌, ◌-◌, ◌≤◌}
 use Rattle.tape_image.specs.{Begins.image_limit, Reader.going}
-use Rattle.tape_run.proofs.Walked.{Walked}
-use Rattle.tape_run.proofs.session.compared.agrees.Given as goal
+use Rattle.tape_run.proofs.session.compared.overlap.measure.Given as goal
 
 abbrev pub invariant-items : goal.invariant-items
 invariant-items g l = record {
   on : l.image.status ≡ going;
   limit : l.image.place ≤ image_limit;
   same_device : l.image.device ≡ l.fn.image.device;
-  walked : Walked g.S.PartSink l.fn.sink l.sink;
 }
 
 abbrev pub decreases-items : goal.decreases-items

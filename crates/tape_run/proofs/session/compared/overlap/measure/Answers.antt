@@ -1,7 +1,7 @@
 use Rattle.std.proofs.Common.{◌∙◌, sym, refl, inl, arith}
 use Rattle.tape_image.proofs.Callers.{from_going}
 use Rattle.tape_run.proofs.Reels.{item_came, item_given}
-use Rattle.tape_run.proofs.session.compared.measure.Goals as goal
+use Rattle.tape_run.proofs.session.compared.overlap.measure.Goals as goal
 
 pub items-init : goal.items-init
 items-init g c = record {
