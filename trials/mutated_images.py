@@ -51,10 +51,10 @@ def second(rng, kind, letter):
     return label((kind + letter + "".join(numbers)).ljust(50) + offset)
 
 
-def file_of(rng, set_id, at, has_trailers, blank):
+def file_of(rng, set_id, at, has_trailers, blank, counts):
     """The header labels, the data and the trailer labels of a file.
 
-    Its numbers are replaced by `blank` if that is not empty.
+    Its numbers are replaced by `blank` if that is not empty; unless `counts` its count is 0.
     """
     letter = rng.choice(FORMATS)
     name = rng.choice([*NAMES, "".join(map(chr, rng.choices(range(256), k=17)))])
@@ -70,7 +70,7 @@ def file_of(rng, set_id, at, has_trailers, blank):
         if rng.random() < .3:
             made.append(label(rng.choice([kind + "3", "UHL1" if kind == "HDR" else "UTL1"])))
         return [*made, model.MARK]
-    count = len(blocks) if rng.random() < .95 else 0
+    count = len(blocks) if counts and rng.random() < .95 else 0
     return labels("HDR", 0), blocks, labels("EOF" if rng.random() < .9 else "EOV", count)
 
 
@@ -79,7 +79,7 @@ def tape_of(rng, set_id, has_trailers):
     if rng.random() < .05:
         data = [noise(rng, 14, 80, 512) for _ in range(4)]
         return [model.MARK] * rng.randint(0, 2) + data + [model.MARK] * 2
-    is_ebcdic = rng.random() < .4
+    is_ebcdic, counts = rng.random() < .4, rng.random() < .9
 
     def coded(items):
         return [(kind, to_ebcdic(block) if block and is_ebcdic else block) for kind, block in items]
@@ -92,7 +92,7 @@ def tape_of(rng, set_id, has_trailers):
     blank = rng.choice(["    ", "0000", "\0\0\0\0", " 0 0", "   7"]) if rng.random() < .2 else ""
     for at in range(1, count + 1):
         numbers = blank if rng.random() < .8 else ""
-        header, blocks, trailer = file_of(rng, set_id, at, has_trailers, numbers)
+        header, blocks, trailer = file_of(rng, set_id, at, has_trailers, numbers, counts)
         items += [*coded(header), *blocks, model.MARK, *coded(trailer)]
     items += [model.MARK] * (1 if count else 2)
     return with_edges(rng, items)

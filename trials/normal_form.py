@@ -62,7 +62,7 @@ class Normal:
 
     def __init__(self):
         self.place, self.code, self.dropped, self.rules = "start", "ascii", 0, set()
-        self.file, self.is_filled, self.blocks = 0, False, None
+        self.file, self.is_filled, self.blocks, self.counts = 0, False, None, False
 
     def step(self, item):
         kind, block = item
@@ -164,13 +164,17 @@ class Normal:
 
     def trailing(self, label):
         """An EOF1 or EOV1, with the numbers of its HDR1 and a block count if it can be read only
-        then."""
+        then, or with a block count if it counts none, as no label before it does."""
+        fields = first_label(label)
+        if isinstance(fields, dict) and (fields["count"] or self.counts or self.blocks is None):
+            self.counts |= fields["count"] > 0
+            return label
         better = numbered(label, self.file) if self.is_filled else label
         count = with_zeros(label[54:60])
         if count == b"000000" and self.blocks is not None:
             count = b"%06d" % (self.blocks % 10**6)
         better = better if self.blocks is None else better[:54] + count + better[60:]
-        if isinstance(first_label(label), dict) or not isinstance(first_label(better), dict):
+        if not isinstance(first_label(better), dict):
             return label
         if better[54:60] != label[54:60]:
             self.rules.add("count")

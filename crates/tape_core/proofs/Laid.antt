@@ -12,7 +12,7 @@ range_is xs from to le =
     let whole : from + (to - from) ≡ to = omega (arith, le) in
     sym (drop-take from (to - from) xs) ∙ ap (λ k. drop from (take k xs)) whole
 
-range_same : (xs ys : List ℕ) (from to : ℕ) → from ≤ to → take to xs ≡ take to ys
+pub range_same : (xs ys : List ℕ) (from to : ℕ) → from ≤ to → take to xs ≡ take to ys
     → slice_range xs from to ≡ slice_range ys from to
 range_same xs ys from to le same =
     range_is xs from to le ∙ ap (drop from) same ∙ sym (range_is ys from to le)

@@ -20,7 +20,8 @@ use Rattle.tape_core.specs.declared.normal.code.Code.TheVariants.{Ascii, Ebcdic}
 use Rattle.tape_core.specs.NormalForm.{Codes.in_ascii, Mended.is_vol1, Mended.is_hdr1}
 use Rattle.tape_core.specs.NormalForm.{Mended.is_hdr2}
 use Rattle.tape_core.specs.NormalForm.Mended.{is_first_trailer, is_dummy, mended}
-use Rattle.tape_core.specs.NormalForm.Mended.{no_volume_label, headed, trailed, counted, uncounted}
+use Rattle.tape_core.specs.NormalForm.Mended.{no_volume_label, no_file, headed, trailed}
+use Rattle.tape_core.specs.NormalForm.Mended.{counted, uncounted}
 use Rattle.tape_core.specs.declared.normal.numbers.FileSeen.{FileSeen}
 
 -- the greatest number of items that are dropped before VOL1, or between VOL1 and HDR1
@@ -43,12 +44,12 @@ abbrev mutual
   of_start n (block b ∷ xs) =
       if is_vol1 (kind_at b) then block b ∷ of_labels Ascii 0 xs
       else if is_hdr1 (kind_at b)
-      then block no_volume_label ∷ block (headed 0 b).0 ∷ of_second Ascii (headed 0 b).1 xs
+      then block no_volume_label ∷ block (headed no_file b).0 ∷ of_second Ascii (headed no_file b).1 xs
       else if is_vol1 (kind_at (in_ascii Ebcdic b))
       then block (in_ascii Ebcdic b) ∷ of_labels Ebcdic 0 xs
       else if is_hdr1 (kind_at (in_ascii Ebcdic b))
-      then block no_volume_label ∷ block (headed 0 (in_ascii Ebcdic b)).0
-      ∷ of_second Ebcdic (headed 0 (in_ascii Ebcdic b)).1 xs
+      then block no_volume_label ∷ block (headed no_file (in_ascii Ebcdic b)).0
+      ∷ of_second Ebcdic (headed no_file (in_ascii Ebcdic b)).1 xs
       else if is_noise b && nat_lt n most_dropped then of_start (n + 1) xs
       else block b ∷ xs
   of_start n (mark ∷ xs) = if nat_lt n most_dropped then of_start (n + 1) xs else mark ∷ xs
@@ -61,7 +62,7 @@ abbrev mutual
   of_labels code n (block b ∷ xs) =
       if is_volume_label (in_ascii code b) then block (in_ascii code b) ∷ of_labels code n xs
       else if is_hdr1 (kind_at (in_ascii code b)) && not (is_dummy (in_ascii code b))
-      then block (headed 0 (in_ascii code b)).0 ∷ of_second code (headed 0 (in_ascii code b)).1 xs
+      then block (headed no_file (in_ascii code b)).0 ∷ of_second code (headed no_file (in_ascii code b)).1 xs
       else if nat_lt n most_dropped then of_labels code (n + 1) xs
       else block b ∷ xs
   of_labels code n (mark ∷ xs) = mark ∷ of_blank xs
@@ -123,8 +124,8 @@ abbrev mutual
   of_next code seen [] = []
   of_next code seen (block b ∷ xs) =
       if is_hdr1 (kind_at (in_ascii code b))
-      then block (headed seen.sequence (in_ascii code b)).0
-      ∷ of_second code (headed seen.sequence (in_ascii code b)).1 xs
+      then block (headed seen (in_ascii code b)).0
+      ∷ of_second code (headed seen (in_ascii code b)).1 xs
       else block b ∷ xs
   of_next code seen (mark ∷ xs) = mark ∷ of_ended xs
   of_next code seen (bad ∷ xs) = bad ∷ xs

@@ -57,6 +57,10 @@ const UNCOUNTED: &[u8; 80] =
 const COUNTED: &[u8; 80] =
     b"EOF1PAYROLL          ABC00100010001000100 85113 00000 000001SYSTEM              ";
 
+/// A trailer label that counts no blocks.
+const NO_BLOCKS: &[u8; 80] =
+    b"EOF1PAYROLL          ABC00100010001000100 85113 00000 000000SYSTEM              ";
+
 /// A label with a number that begins with blanks.
 const SHORT1: &[u8; 80] =
     b"HDR1PAYROLL          ABC0010001  07000100 85113 00000 000000SYSTEM              ";
@@ -109,6 +113,8 @@ pub(crate) fn label(letter: u8) -> Option<[u8; 80]> {
         b'W' => *SHORT1,
         b'K' => *UNCOUNTED,
         b'k' => ebcdic(UNCOUNTED),
+        b'J' => *NO_BLOCKS,
+        b'j' => ebcdic(NO_BLOCKS),
         b'Q' => *NO_SECTION1,
         b'i' => ebcdic(BLANK1),
         b'v' => ebcdic(VOL1),
@@ -126,7 +132,7 @@ fn ascii(letter: u8) -> &'static [u8; 80] {
         b'v' => VOL1,
         b'h' | b'N' | b'i' => HDR1,
         b'W' => SEVENTH1,
-        b'K' | b'k' => COUNTED,
+        b'K' | b'k' | b'J' | b'j' => COUNTED,
         b's' | b'P' | b'p' => HDR2,
         b'U' => WIDE2,
         _ => EOF1,
@@ -227,6 +233,15 @@ fn tapes_and_their_normal_forms(rt: HostRuntime) {
         ("VHSmDbmEmm", "=========="),
         ("VHSmKmKmm", "======A=="),
         ("VHSmDmEmHSmDmKmm", "=============A=="),
+        // labels that count no blocks
+        ("VHSmDmJmm", "======A=="),
+        ("vhsmDmjmm", "AAA===A=="),
+        ("VHSmDDmJmm", "=======C=="),
+        ("VHSmDmJmHSmDmJmm", "======A======A=="),
+        ("VHSmmJmm", "========"),
+        ("VHSmDbmJmm", "=========="),
+        ("VHSmDmEmHSmDmJmm", "================"),
+        ("VHSmJmJmm", "======A=="),
     ];
     for (items, wanted) in tapes {
         becomes(&rt, items, wanted);

@@ -178,6 +178,8 @@ fn rules_are_known(rt: HostRuntime) -> Result<(), AllocError> {
     };
     assert_eq!(rt; rules_of(rt.alloc(), "VHSmDmKmm.")?, uncounted);
     assert_eq!(rt; rules_of(rt.alloc(), "VHSmDbmKmm.")?, Rules::NONE);
+    assert_eq!(rt; rules_of(rt.alloc(), "VHSmDmJmm.")?, uncounted);
+    assert_eq!(rt; rules_of(rt.alloc(), "VHSmmJmm.")?, Rules::NONE);
     let unnamed = Rules {
         no_volume_label: true,
         ..numbered

@@ -19,6 +19,7 @@ use Rattle.tape_core.specs.declared.normal.machine.Missing.TheVariants.{SecondLa
 use Rattle.tape_core.specs.NormalForm.{Codes.in_ascii, Mended.is_vol1, Mended.is_hdr1}
 use Rattle.tape_core.specs.NormalForm.{Mended.is_hdr2}
 use Rattle.tape_core.specs.NormalForm.Mended.{is_first_trailer, is_dummy, mended, headed, trailed}
+use Rattle.tape_core.specs.NormalForm.Mended.{no_file}
 use Rattle.tape_core.specs.declared.normal.numbers.FileSeen.{FileSeen}
 use Rattle.tape_core.specs.NormalForm.{is_noise, most_dropped, of_labels, of_second}
 use Rattle.tape_core.specs.NormalForm.{of_trailers, of_headers}
@@ -64,14 +65,14 @@ replaced_is adds code b better xs true e =
 replaced_is adds code b better xs false e =
     rw (e) (append_assoc (inserted adds) (block better ∷ []) xs)
 
-header_is : (adds : Missing) (code : Code) (last : ℕ) (b : List ℕ) (xs : List TapeItem)
-    → inserted adds ++ block (headed last (in_ascii code b)).0
-    ∷ of_second code (headed last (in_ascii code b)).1 xs
-    ≡ given (header_at code adds last (in_ascii code b)).1 (block b)
-    ++ of_second code (headed last (in_ascii code b)).1 xs
-header_is adds code last b xs =
-    sym (replaced_is adds code b (headed last (in_ascii code b)).0
-    (of_second code (headed last (in_ascii code b)).1 xs) _ refl)
+header_is : (adds : Missing) (code : Code) (before : FileSeen) (b : List ℕ) (xs : List TapeItem)
+    → inserted adds ++ block (headed before (in_ascii code b)).0
+    ∷ of_second code (headed before (in_ascii code b)).1 xs
+    ≡ given (header_at code adds before (in_ascii code b)).1 (block b)
+    ++ of_second code (headed before (in_ascii code b)).1 xs
+header_is adds code before b xs =
+    sym (replaced_is adds code b (headed before (in_ascii code b)).0
+    (of_second code (headed before (in_ascii code b)).1 xs) _ refl)
 
 any_behind : (code : Code) (b : List ℕ) (xs : List TapeItem) (t : Bool) → (length b == 80) ≡ t
     → block (in_ascii code b) ∷ xs ≡ given (any_at code b) (block b) ++ xs
@@ -89,9 +90,9 @@ module _ (b : List ℕ) (xs : List TapeItem) where
   next_gives : (code : Code) (seen : FileSeen) (t : Bool)
       → is_hdr1 (kind_at (in_ascii code b)) ≡ t
       → from (Next code seen) (block b ∷ xs)
-      ≡ given (next_at code seen.sequence (in_ascii code b)).1 (block b)
-      ++ from (next_at code seen.sequence (in_ascii code b)).0 xs
-  next_gives code seen true e = rw (e) (header_is Nothing code seen.sequence b xs)
+      ≡ given (next_at code seen (in_ascii code b)).1 (block b)
+      ++ from (next_at code seen (in_ascii code b)).0 xs
+  next_gives code seen true e = rw (e) (header_is Nothing code seen b xs)
   next_gives code seen false e = rw (e) refl
 
   trailer_gives : (code : Code) (seen : FileSeen) (t : Bool)
@@ -125,7 +126,7 @@ module _ (b : List ℕ) (xs : List TapeItem) where
   labels_gives code n true h t e f g =
       rw (e) (sym (behind Nothing code b (of_labels code n xs)))
   labels_gives code n false true t e f g =
-      rw (e, f) (header_is Nothing code 0 b xs)
+      rw (e, f) (header_is Nothing code no_file b xs)
   labels_gives code n false false true e f g = rw (e, f, g) refl
   labels_gives code n false false false e f g = rw (e, f, g) refl
 
@@ -135,10 +136,10 @@ module _ (b : List ℕ) (xs : List TapeItem) where
       → from (Start n) (block b ∷ xs)
       ≡ given (start_at n b (begin_at b)).1 (block b) ++ from (start_at n b (begin_at b)).0 xs
   start_gives n true h w g z t a c d e f i = rw (a) refl
-  start_gives n false true w g z t a c d e f i = rw (a, c) (header_is VolumeLabel Ascii 0 b xs)
+  start_gives n false true w g z t a c d e f i = rw (a, c) (header_is VolumeLabel Ascii no_file b xs)
   start_gives n false false true g z t a c d e f i = rw (a, c, d) refl
   start_gives n false false false true z t a c d e f i =
-      rw (a, c, d, e) (header_is VolumeLabel Ebcdic 0 b xs)
+      rw (a, c, d, e) (header_is VolumeLabel Ebcdic no_file b xs)
   start_gives n false false false false true true a c d e f i = rw (a, c, d, e, f, i) refl
   start_gives n false false false false true false a c d e f i = rw (a, c, d, e, f, i) refl
   start_gives n false false false false false t a c d e f i = rw (a, c, d, e, f) refl

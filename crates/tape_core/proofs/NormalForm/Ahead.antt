@@ -32,7 +32,7 @@ IsNotOver places.Over = ⊥
 IsNotOver place = Unit {0}
 
 by_phase : (core : State) (w : is_finished core.position ≡ false) (p : Phase) → core.phase ≡ p
-    → (place : TapePlace) → IsNotOver place → Fits p place → (x : TapeItem)
+    → (place : TapePlace) → IsNotOver place → Fits core.position p place → (x : TapeItem)
     → Fact core place x (at_item core p x)
 by_phase core w phases.Volume e (places.Start n) o h (block b) = volume core w n b (kind_at b) refl
 by_phase core w phases.Volume e (places.Start n) o h mark = ends tt
@@ -42,21 +42,21 @@ by_phase core w phases.VolumeLabels e (places.Labels Ascii n) o h (block b) =
 by_phase core w phases.VolumeLabels e (places.Labels Ascii n) o h mark = ends tt
 by_phase core w phases.VolumeLabels e (places.Labels Ascii n) o h bad = ends tt
 by_phase core w (phases.Header2 a c) e (places.Second Ascii seen) o h (block b) =
-    second core w seen a c b (kind_at b) refl e
+    second core w seen h a c b (kind_at b) refl e
 by_phase core w (phases.Header2 a c) e (places.Second Ascii seen) o h mark = ends tt
 by_phase core w (phases.Header2 a c) e (places.Second Ascii seen) o h bad = ends tt
 by_phase core w (phases.Headers a f) e (places.Headers Ascii seen) o h x =
-    headers core w seen a f x
+    headers core w seen h a f x
 by_phase core w (phases.DataPassed a) e (places.Data Ascii seen) o h x =
     data_passed core w seen a x
 by_phase core w (phases.DataWanted a f n) e (places.Data Ascii seen) o h x =
-    data_wanted core w seen a f n x
+    data_wanted core w seen a f n h x
 by_phase core w (phases.TrailerPassed a) e (places.Trailer Ascii seen) o h (block b) =
-    trailer_passed core w seen a b (trail1_at b) refl
+    trailer_passed core w seen a e b (trail1_at b) refl
 by_phase core w (phases.TrailerPassed a) e (places.Trailer Ascii seen) o h mark = ends tt
 by_phase core w (phases.TrailerPassed a) e (places.Trailer Ascii seen) o h bad = ends tt
 by_phase core w (phases.TrailerWanted a f) e (places.Trailer Ascii seen) o h (block b) =
-    trailer_wanted core w seen a f b (trail1_at b) refl
+    trailer_wanted core w seen h a f b (trail1_at b) refl
 by_phase core w (phases.TrailerWanted a f) e (places.Trailer Ascii seen) o h mark = ends tt
 by_phase core w (phases.TrailerWanted a f) e (places.Trailer Ascii seen) o h bad = ends tt
 by_phase core w phases.Trailers e (places.Trailers Ascii seen) o h (block b) =
@@ -67,7 +67,7 @@ by_phase core w phases.Trailers e (places.Trailers Ascii seen) o h mark =
     (λ g. stays core w (places.Next Ascii seen) phases.NextFile tt)
 by_phase core w phases.Trailers e (places.Trailers Ascii seen) o h bad = ends tt
 by_phase core w phases.NextFile e (places.Next Ascii seen) o h (block b) =
-    heads core w (places.Next Ascii seen) b (next_kept core w seen b) (head1_at b) refl
+    heads core w (places.Next Ascii seen) seen b (next_kept core w seen b) (head1_at b) refl
 by_phase core w phases.NextFile e (places.Next Ascii seen) o h mark = ends tt
 by_phase core w phases.NextFile e (places.Next Ascii seen) o h bad = ends tt
 by_phase core w p e places.Over o h x = absurd o
@@ -134,9 +134,12 @@ ahead (x ∷ xs) place core s = go (not_over place) (λ next mid t. ahead xs nex
 pub normal_is_ahead : NormalIsAhead
 normal_is_ahead core items e w =
     ahead items (places.Start 0) core
-    (record { waits = w; fits = subst (λ p. Fits p (places.Start 0)) (sym e) tt })
+    (record { waits = w; fits = subst (λ p. Fits core.position p (places.Start 0)) (sym e) tt })
 
 pub behind_is_ahead : BehindIsAhead
 behind_is_ahead core seen items e w =
     ahead items (places.Trailers Ascii seen) core
-    (record { waits = w; fits = subst (λ p. Fits p (places.Trailers Ascii seen)) (sym e) tt })
+    (record {
+      waits = w;
+      fits = subst (λ p. Fits core.position p (places.Trailers Ascii seen)) (sym e) tt;
+    })

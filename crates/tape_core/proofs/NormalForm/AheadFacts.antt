@@ -1,5 +1,5 @@
 -- What follows for two readings of a tape from a fact about one step.
-use Rattle.std.proofs.Common.{◌≡◌, List, [], ◌∷◌, ◌++◌, false, Option}
+use Rattle.std.proofs.Common.{◌≡◌, ℕ, ◌≤◌, List, [], ◌∷◌, ◌++◌, false, Option}
 use Rattle.std.proofs.Common.{Some, None}
 use Rattle.std.proofs.Common.{refl, sym, ap, ◌∙◌}
 use Rattle.std.proofs.{Common.append-nil}
@@ -8,6 +8,8 @@ use Rattle.tape_core.specs.declared.event.{Answer.Answer, Phase.Phase}
 use Rattle.tape_core.specs.declared.event.Answer.TheVariants.{Passed, Deliver, SectionDone}
 use Rattle.tape_core.specs.declared.event.Answer.TheVariants.{Complete, Useless}
 use Rattle.tape_core.specs.declared.event.Phase.TheVariants as phases
+use Rattle.tape_set.specs.{declared.position.Position.Position, Position.block_of}
+use Rattle.tape_core.specs.declared.normal.numbers.FileSeen.{FileSeen}
 use Rattle.tape_core.specs.{State.State, Known.is_finished}
 use Rattle.tape_core.specs.Table.{Outcome, step_of}
 use Rattle.tape_core.specs.declared.normal.code.Code.TheVariants.{Ascii}
@@ -29,24 +31,28 @@ GoesOn answer = ⊥
 
 -- ---- the reader's phases and the places of the normal form
 
-abbrev pub Fits : Phase → TapePlace → Type 0
-Fits phases.Volume (places.Start n) = Unit {0}
-Fits phases.VolumeLabels (places.Labels Ascii n) = Unit {0}
-Fits (phases.Header2 h w) (places.Second Ascii seen) = Unit {0}
-Fits (phases.Headers h f) (places.Headers Ascii seen) = Unit {0}
-Fits (phases.DataPassed h) (places.Data Ascii seen) = Unit {0}
-Fits (phases.DataWanted h f n) (places.Data Ascii seen) = Unit {0}
-Fits (phases.TrailerPassed h) (places.Trailer Ascii seen) = Unit {0}
-Fits (phases.TrailerWanted h f) (places.Trailer Ascii seen) = Unit {0}
-Fits phases.Trailers (places.Trailers Ascii seen) = Unit {0}
-Fits phases.NextFile (places.Next Ascii seen) = Unit {0}
-Fits phase places.Over = Unit {0}
-Fits phase place = ⊥
+-- the number of blocks read, if it is known, is n
+abbrev pub Counts : ℕ → FileSeen → Type 0
+Counts n seen = (m : ℕ) → seen.blocks ≡ Some m → m ≡ n
+
+abbrev pub Fits : Position → Phase → TapePlace → Type 0
+Fits p phases.Volume (places.Start n) = Unit {0}
+Fits p phases.VolumeLabels (places.Labels Ascii n) = Unit {0}
+Fits p (phases.Header2 h w) (places.Second Ascii seen) = Counts 0 seen
+Fits p (phases.Headers h f) (places.Headers Ascii seen) = Counts 0 seen
+Fits p (phases.DataPassed h) (places.Data Ascii seen) = Unit {0}
+Fits p (phases.DataWanted h f n) (places.Data Ascii seen) = (n ≤ block_of p) × Counts n seen
+Fits p (phases.TrailerPassed h) (places.Trailer Ascii seen) = Unit {0}
+Fits p (phases.TrailerWanted h f) (places.Trailer Ascii seen) = Counts (block_of p) seen
+Fits p phases.Trailers (places.Trailers Ascii seen) = Unit {0}
+Fits p phases.NextFile (places.Next Ascii seen) = Unit {0}
+Fits p phase places.Over = Unit {0}
+Fits p phase place = ⊥
 
 -- the reader still needs something, and is at this place
 pub record Stands (place : TapePlace) (core : State) : Type 0 where
   pub waits : is_finished core.position ≡ false
-  pub fits : Fits core.phase place
+  pub fits : Fits core.position core.phase place
 
 -- What an outcome for an item means: it ends the reading and completes nothing; or the item is
 -- kept, and the reader is at the next place if the reading goes on; or another label that is passed

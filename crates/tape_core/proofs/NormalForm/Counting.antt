@@ -21,7 +21,7 @@ use Rattle.tape_core.specs.declared.normal.machine.Missing.TheVariants.{SecondLa
 use Rattle.tape_core.specs.NormalForm.{is_noise, most_dropped, Codes.in_ascii}
 use Rattle.tape_core.specs.NormalForm.Mended.{is_vol1, is_hdr1, is_hdr2, is_first_trailer}
 use Rattle.tape_core.specs.NormalForm.Mended.{is_dummy, mended, headed, trailed, counted}
-use Rattle.tape_core.specs.NormalForm.Mended.{uncounted}
+use Rattle.tape_core.specs.NormalForm.Mended.{uncounted, no_file}
 use Rattle.tape_core.specs.declared.normal.numbers.FileSeen.{FileSeen}
 use Rattle.tape_core.specs.NormalForm.Steps.{step_of, from, given, inserted, instead, instead_in}
 use Rattle.tape_core.specs.NormalForm.Steps.{begin_in, begin_at, either, start_at, drop_first}
@@ -81,8 +81,8 @@ module _ (b : List ℕ) where
   begun_fits code true h f k =
       rw (f) (leaf 1 (Labels code 0) Nothing (instead_in code (in_ascii code b)) refl (omega arith))
   begun_fits code false true f k =
-      rw (f, k) (leaf 1 (Second code (headed 0 (in_ascii code b)).1) VolumeLabel
-      (replaced_with VolumeLabel code (headed 0 (in_ascii code b)).0 (in_ascii code b)).instead refl
+      rw (f, k) (leaf 1 (Second code (headed no_file (in_ascii code b)).1) VolumeLabel
+      (replaced_with VolumeLabel code (headed no_file (in_ascii code b)).0 (in_ascii code b)).instead refl
       (omega arith))
   begun_fits code false false f k = rw (f, k) tt
 
@@ -111,8 +111,8 @@ module _ (b : List ℕ) where
   labels_fit code n true h f k =
       rw (f) (leaf 0 (Labels code n) Nothing (instead_in code (in_ascii code b)) refl (omega arith))
   labels_fit code n false true f k =
-      rw (f, k) (leaf 0 (Second code (headed 0 (in_ascii code b)).1) Nothing
-      (replaced_with Nothing code (headed 0 (in_ascii code b)).0 (in_ascii code b)).instead refl
+      rw (f, k) (leaf 0 (Second code (headed no_file (in_ascii code b)).1) Nothing
+      (replaced_with Nothing code (headed no_file (in_ascii code b)).0 (in_ascii code b)).instead refl
       (omega arith))
   labels_fit code n false false f k = rw (f, k) (drop_block_fits code n _ refl)
 
@@ -148,7 +148,7 @@ module _ (b : List ℕ) where
       (omega arith))
   trailer_fits code seen false p = rw (p) (leaf 0 Over Nothing Same refl (omega arith))
 
-  next_fits : (code : Code) (last : ℕ) (k : Bool) → is_hdr1 (kind_at (in_ascii code b)) ≡ k
+  next_fits : (code : Code) (last : FileSeen) (k : Bool) → is_hdr1 (kind_at (in_ascii code b)) ≡ k
       → FitsIn 0 (next_at code last (in_ascii code b))
   next_fits code last true p =
       rw (p) (leaf 0 (Second code (headed last (in_ascii code b)).1) Nothing
@@ -182,7 +182,7 @@ step_fits (Trailer code seen) bad = leaf 0 Over Nothing Same refl (omega arith)
 step_fits (Trailers code seen) (block b) = any_fits b (Trailers code seen) code _ refl refl
 step_fits (Trailers code seen) mark = leaf 0 (Next code seen) Nothing Same refl (omega arith)
 step_fits (Trailers code seen) bad = leaf 0 Over Nothing Same refl (omega arith)
-step_fits (Next code seen) (block b) = next_fits b code seen.sequence _ refl
+step_fits (Next code seen) (block b) = next_fits b code seen _ refl
 step_fits (Next code seen) mark = leaf 0 Ended Nothing Same refl (omega arith)
 step_fits (Next code seen) bad = leaf 0 Over Nothing Same refl (omega arith)
 step_fits Ended (block b) = ended_fits b (begin_at b)

@@ -19,7 +19,7 @@ use Rattle.tape_core.specs.declared.normal.machine.Replacement.TheVariants.{Same
 use Rattle.tape_core.specs.NormalForm.{Codes.in_ascii, Codes.to_ascii, is_noise, most_dropped}
 use Rattle.tape_core.specs.NormalForm.Mended.{is_vol1, is_hdr1, is_hdr2, is_first_trailer}
 use Rattle.tape_core.specs.NormalForm.Mended.{is_dummy, mended, filled, is_ok, headed, trailed}
-use Rattle.tape_core.specs.NormalForm.Mended.{counted}
+use Rattle.tape_core.specs.NormalForm.Mended.{counted, no_file}
 use Rattle.tape_core.specs.declared.normal.numbers.FileSeen.{FileSeen}
 use Rattle.tape_core.specs.declared.normal.machine.Missing.{Missing}
 use Rattle.tape_core.specs.declared.normal.machine.Missing.TheVariants.{Nothing, VolumeLabel}
@@ -163,7 +163,7 @@ module _ (b : List ℕ) (e : length b ≡ 80) where
       go true f = rw (f) (instead_labelled code)
       go false f = rw (f) h
 
-  header_labelled : (adds : Missing) (code : Code) (last : ℕ)
+  header_labelled : (adds : Missing) (code : Code) (last : FileSeen)
       → Labelled (header_at code adds last (in_ascii code b)).1.instead
   header_labelled adds code last =
       replaced_labelled adds code (headed last (in_ascii code b)).0
@@ -176,7 +176,7 @@ module _ (b : List ℕ) (e : length b ≡ 80) where
       go : (v h : Bool) → is_vol1 (kind_at (in_ascii code b)) ≡ v
           → is_hdr1 (kind_at (in_ascii code b)) ≡ h → AllLabelled (begin_in code (in_ascii code b))
       go true h f k = rw (f) (instead_labelled code)
-      go false true f k = rw (f, k) (header_labelled VolumeLabel code 0)
+      go false true f k = rw (f, k) (header_labelled VolumeLabel code no_file)
       go false false f k = rw (f, k) tt
 
   either_labelled : (x y : Option (TapePlace × Change)) → AllLabelled x → AllLabelled y
@@ -201,7 +201,7 @@ module _ (b : List ℕ) (e : length b ≡ 80) where
       → (is_hdr1 (kind_at (in_ascii code b)) && not (is_dummy (in_ascii code b))) ≡ h
       → Labelled (labels_at code n (in_ascii code b)).1.instead
   labels_labelled code n true h f k = rw (f) (instead_labelled code)
-  labels_labelled code n false true f k = rw (f, k) (header_labelled Nothing code 0)
+  labels_labelled code n false true f k = rw (f, k) (header_labelled Nothing code no_file)
   labels_labelled code n false false f k = rw (f, k) (block_labelled code n)
 
   second_kept : (code : Code) (t : Bool)
@@ -226,7 +226,7 @@ module _ (b : List ℕ) (e : length b ≡ 80) where
       (trailed_80 seen (in_ascii code b) (text_80 code)))
   trailer_labelled code seen false p = rw (p) tt
 
-  next_labelled : (code : Code) (last : ℕ) (k : Bool) → is_hdr1 (kind_at (in_ascii code b)) ≡ k
+  next_labelled : (code : Code) (last : FileSeen) (k : Bool) → is_hdr1 (kind_at (in_ascii code b)) ≡ k
       → Labelled (next_at code last (in_ascii code b)).1.instead
   next_labelled code last true p = rw (p) (header_labelled Nothing code last)
   next_labelled code last false p = rw (p) tt
@@ -241,7 +241,7 @@ module _ (b : List ℕ) (e : length b ≡ 80) where
   eighty_labelled (Data code seen) = tt
   eighty_labelled (Trailer code seen) = trailer_labelled code seen _ refl
   eighty_labelled (Trailers code seen) = rw (is_80) (instead_labelled code)
-  eighty_labelled (Next code seen) = next_labelled code seen.sequence _ refl
+  eighty_labelled (Next code seen) = next_labelled code seen _ refl
   eighty_labelled Ended = ended_labelled (begin_at b)
   eighty_labelled Over = tt
 

@@ -2,7 +2,8 @@
 use Rattle.std.proofs.Common.{length, zero, suc}
 use Rattle.std.proofs.Common.{◌≡◌, ℕ, List, [], ◌∷◌, ◌++◌, map, Bool, true, false, cond, Option}
 use Rattle.std.proofs.Common.{Some, None}
-use Rattle.std.proofs.Common.{Ok, refl, sym, ap, ◌∙◌, subst, append_assoc, ◌==◌}
+use Rattle.std.proofs.Common.{Ok, refl, sym, ap, ◌∙◌, subst, append_assoc, ◌==◌, ◌+◌, ◌≤◌, ◌<◌}
+use Rattle.std.proofs.{Common.arith, lemmas.List.length-map}
 use Rattle.std.specs.{List.AllByRecursion}
 use Rattle.tape_image.specs.Tape.{TapeItem, block, bad, mark}
 use Rattle.tape_label.specs.declared.values.Kind.TheVariants as kinds
@@ -19,7 +20,8 @@ use Rattle.tape_set.specs.Layout.{FileSet, Section, Placed, Volume, nth, section
 use Rattle.tape_set.specs.Layout.{Entry, item_of, a_label, a_data_block, a_mark, all_entries}
 use Rattle.tape_set.specs.Layout.{header_group, data_group, trailer_group, volume_group, entries_on}
 use Rattle.tape_set.specs.Layout.{section_entries}
-use Rattle.tape_set.specs.Lawful.{IsLawful, IsSection, IsVolume, IsVolumeLabel}
+use Rattle.tape_set.specs.Lawful.{IsLawful, IsSection, IsVolume, IsVolumeLabel, label_count}
+use Rattle.tape_set.specs.Lawful.{most_blocks}
 use Rattle.tape_set.specs.Reading.{as_read}
 use Rattle.tape_set.proofs.Everywhere.{every, every_both, every-filter, every_at}
 use Rattle.tape_set.proofs.Numbering.{sections_found}
@@ -28,8 +30,11 @@ use Rattle.tape_core.specs.declared.normal.code.Code.{Code}
 use Rattle.tape_core.specs.declared.normal.code.Code.TheVariants.{Ascii}
 use Rattle.tape_core.specs.declared.normal.numbers.FileSeen.{FileSeen}
 use Rattle.tape_core.specs.NormalForm.Mended.{is_first_trailer, is_dummy, is_hdr1, mended}
-use Rattle.tape_core.specs.NormalForm.Mended.{seen_as, trailed, counted, uncounted, one_more}
+use Rattle.tape_core.specs.NormalForm.Mended.{seen_as, trailed, counted, uncounted, one_more, told}
+use Rattle.tape_core.specs.NormalForm.Mended.{is_uncounted, no_file}
 use Rattle.tape_core.proofs.NormalForm.Numbers.{headed_ok, trailed_ok, trailed_same}
+use Rattle.tape_core.proofs.NormalForm.Numbers.{same_uncounted, none_uncounted}
+use Rattle.tape_core.proofs.NormalForm.Enough.{is_less}
 use Rattle.tape_core.specs.NormalForm.{of_start, of_labels, of_second, of_headers, of_data}
 use Rattle.tape_core.specs.NormalForm.{of_trailer, of_trailers, of_next, normal}
 use Rattle.tape_core.specs.NormalForm.Laws.{NormalKeeps}
@@ -76,6 +81,8 @@ record Labelled (s : Section) : Type 0 where
   pub trailer : is_first_trailer (kind_at s.trailer) ≡ true
   pub last : Trail1
   pub ended : trail1_at s.trailer ≡ Ok last
+  pub count : last.blocks ≡ label_count (length s.blocks)
+  pub few : length s.blocks ≤ most_blocks
   pub no_header : is_hdr1 (kind_at s.trailer) ≡ false
 
 -- a copy of these items, however damaged, is kept by this part of the normal form
@@ -85,6 +92,11 @@ Keeps f k = (good : List Bool) → f (as_read k good) ≡ as_read k good
 -- the same where the header label of the file has numbers
 abbrev KeepsIn : (Code → FileSeen → List TapeItem → List TapeItem) → List TapeItem → Type 0
 KeepsIn f k = (seen : FileSeen) → seen.is_filled ≡ false → Keeps (f Ascii seen) k
+
+-- the same after so many blocks of data
+abbrev KeepsAt : ℕ → (Code → FileSeen → List TapeItem → List TapeItem) → List TapeItem → Type 0
+KeepsAt n f k =
+    (seen : FileSeen) → seen.is_filled ≡ false → seen.blocks ≡ Some n → Keeps (f Ascii seen) k
 
 -- the same after an item among the data that cannot be read
 abbrev KeepsAfter : (Code → FileSeen → List TapeItem → List TapeItem) → List TapeItem → Type 0
@@ -102,14 +114,15 @@ trailers_run (b ∷ bs) k h seen u [] = refl
 trailers_run (b ∷ bs) k h seen u (true ∷ gs) = ap (λ v. block b ∷ v) (trailers_run bs k h seen u gs)
 trailers_run (b ∷ bs) k h seen u (false ∷ gs) = refl
 
-headers_run : (bs : List (List ℕ)) (k : List TapeItem) → KeepsIn of_data k
-    → KeepsIn of_headers (blocks bs (mark ∷ k))
-headers_run [] k h seen u [] = refl
-headers_run [] k h seen u (true ∷ gs) = ap (λ v. mark ∷ v) (h seen u gs)
-headers_run [] k h seen u (false ∷ gs) = refl
-headers_run (b ∷ bs) k h seen u [] = refl
-headers_run (b ∷ bs) k h seen u (true ∷ gs) = ap (λ v. block b ∷ v) (headers_run bs k h seen u gs)
-headers_run (b ∷ bs) k h seen u (false ∷ gs) = refl
+headers_run : (bs : List (List ℕ)) (k : List TapeItem) → KeepsAt 0 of_data k
+    → KeepsAt 0 of_headers (blocks bs (mark ∷ k))
+headers_run [] k h seen u n [] = refl
+headers_run [] k h seen u n (true ∷ gs) = ap (λ v. mark ∷ v) (h seen u n gs)
+headers_run [] k h seen u n (false ∷ gs) = refl
+headers_run (b ∷ bs) k h seen u n [] = refl
+headers_run (b ∷ bs) k h seen u n (true ∷ gs) =
+    ap (λ v. block b ∷ v) (headers_run bs k h seen u n gs)
+headers_run (b ∷ bs) k h seen u n (false ∷ gs) = refl
 
 data_run : (bs : List (List ℕ)) (k : List TapeItem) → KeepsAfter of_trailer k
     → KeepsAfter of_data k → KeepsAfter of_data (blocks bs (mark ∷ k))
@@ -122,16 +135,24 @@ data_run (b ∷ bs) k h d seen u n (true ∷ gs) =
 data_run (b ∷ bs) k h d seen u n (false ∷ gs) =
     ap (λ v. bad ∷ v) (data_run bs k h d (uncounted seen) u refl gs)
 
+one_counted : (m : ℕ) (o : Option ℕ) → o ≡ Some m → m < most_blocks → one_more o ≡ Some (m + 1)
+one_counted m o e h = rw (e, is_less m 4294967295 h) refl
+
 -- the data of a section, as long as all items can be read
-data_read : (bs : List (List ℕ)) (k : List TapeItem) → KeepsIn of_trailer k
-    → KeepsAfter of_trailer k → KeepsAfter of_data k → KeepsIn of_data (blocks bs (mark ∷ k))
-data_read [] k h a d seen u [] = refl
-data_read [] k h a d seen u (true ∷ gs) = ap (λ v. mark ∷ v) (h seen u gs)
-data_read [] k h a d seen u (false ∷ gs) = ap (λ v. bad ∷ v) (d (uncounted seen) u refl gs)
-data_read (b ∷ bs) k h a d seen u [] = refl
-data_read (b ∷ bs) k h a d seen u (true ∷ gs) =
-    ap (λ v. block b ∷ v) (data_read bs k h a d (counted seen) u gs)
-data_read (b ∷ bs) k h a d seen u (false ∷ gs) =
+data_read : (bs : List (List ℕ)) (k : List TapeItem) (m all : ℕ) → m + length bs ≡ all
+    → all ≤ most_blocks → KeepsAt all of_trailer k → KeepsAfter of_trailer k → KeepsAfter of_data k
+    → KeepsAt m of_data (blocks bs (mark ∷ k))
+data_read [] k m all e few h a d seen u n [] = refl
+data_read [] k m all e few h a d seen u n (true ∷ gs) =
+    let same : m ≡ all = omega (arith, e) in
+    ap (λ v. mark ∷ v) (h seen u (n ∙ ap (λ v. Some v) same) gs)
+data_read [] k m all e few h a d seen u n (false ∷ gs) =
+    ap (λ v. bad ∷ v) (d (uncounted seen) u refl gs)
+data_read (b ∷ bs) k m all e few h a d seen u n [] = refl
+data_read (b ∷ bs) k m all e few h a d seen u n (true ∷ gs) =
+    ap (λ v. block b ∷ v) (data_read bs k (m + 1) all (omega (arith, e)) few h a d
+    (counted seen) u (one_counted m seen.blocks n (omega (arith, e, few))) gs)
+data_read (b ∷ bs) k m all e few h a d seen u n (false ∷ gs) =
     ap (λ v. bad ∷ v) (data_run bs k a d (uncounted seen) u refl gs)
 
 data_block : (b : List ℕ) (k : List TapeItem) → KeepsAfter of_data k
@@ -150,15 +171,21 @@ module _ (s : Section) (l : Labelled s) (k : List TapeItem) (next : KeepsIn of_n
   next_at_trailer seen u (true ∷ gs) = rw (l.no_header) refl
   next_at_trailer seen u (false ∷ gs) = refl
 
-  trailer_at_trailer : KeepsIn of_trailer (trailer_on s k)
-  trailer_at_trailer seen u [] = refl
-  trailer_at_trailer seen u (true ∷ gs) =
-      rw (l.trailer, trailed_ok seen s.trailer l.last l.ended)
-      (ap (λ v. block s.trailer ∷ v) (trailers_run s.trailers k next seen u gs))
-  trailer_at_trailer seen u (false ∷ gs) = refl
+  trailer_read : (seen : FileSeen) → seen.is_filled ≡ false
+      → is_uncounted seen l.last.blocks ≡ false → Keeps (of_trailer Ascii seen) (trailer_on s k)
+  trailer_read seen u c [] = refl
+  trailer_read seen u c (true ∷ gs) =
+      rw (l.trailer, trailed_ok seen s.trailer l.last l.ended c)
+      (ap (λ v. block s.trailer ∷ v)
+      (trailers_run s.trailers k next (told l.last.blocks seen) u gs))
+  trailer_read seen u c (false ∷ gs) = refl
+
+  trailer_at_trailer : KeepsAt (length s.blocks) of_trailer (trailer_on s k)
+  trailer_at_trailer seen u n =
+      trailer_read seen u (same_uncounted seen l.last.blocks (length s.blocks) n l.count)
 
   trailer_after : KeepsAfter of_trailer (trailer_on s k)
-  trailer_after seen u n = trailer_at_trailer seen u
+  trailer_after seen u n = trailer_read seen u (none_uncounted seen l.last.blocks n)
 
   data_at_trailer : KeepsAfter of_data (trailer_on s k)
   data_at_trailer =
@@ -178,19 +205,25 @@ module _ (s : Section) (l : Labelled s) (k : List TapeItem) (next : KeepsIn of_n
           (block b ∷ as_read (blocks bs (mark ∷ trailer_on s k)) gs)
           ≡ block b ∷ as_read (blocks bs (mark ∷ trailer_on s k)) gs
       go true =
-          rw (trailed_same seen b u n)
-          (ap (λ v. block b ∷ v) (trailers_run bs (trailer_on s k) next_at_trailer seen u gs))
+          let is = trailed_same seen b u n in
+          rw (is.label) (ap (λ v. block b ∷ v)
+          (trailers_run bs (trailer_on s k) next_at_trailer (trailed seen b).1 is.filled gs))
       go false = refl
   trailer_at_data (b ∷ bs) seen u n (false ∷ gs) = refl
 
-  data_at_data : KeepsIn of_data (data_on s k)
+  data_count : length (data_of s.blocks) ≡ length s.blocks
+  data_count = length-map s.blocks (λ f. f.bytes)
+
+  data_at_data : KeepsAt 0 of_data (data_on s k)
   data_at_data =
-      data_read (data_of s.blocks) (trailer_on s k) trailer_at_trailer trailer_after data_at_trailer
+      data_read (data_of s.blocks) (trailer_on s k) 0 (length s.blocks) (omega (arith, data_count))
+      l.few trailer_at_trailer trailer_after data_at_trailer
 
   data_after : KeepsAfter of_data (data_on s k)
-  data_after seen u n = data_at_data seen u
+  data_after =
+      data_run (data_of s.blocks) (trailer_on s k) trailer_after data_at_trailer
 
-  headers_at_headers : KeepsIn of_headers (headers_on s k)
+  headers_at_headers : KeepsAt 0 of_headers (headers_on s k)
   headers_at_headers = headers_run s.headers (data_on s k) data_at_data
 
   data_at_headers : KeepsAfter of_data (headers_on s k)
@@ -200,17 +233,17 @@ module _ (s : Section) (l : Labelled s) (k : List TapeItem) (next : KeepsIn of_n
   data_at_second : KeepsAfter of_data (second_on s k)
   data_at_second = data_block s.hdr2 (headers_on s k) data_at_headers
 
-  second_at_second : KeepsIn of_second (second_on s k)
-  second_at_second seen u [] = refl
-  second_at_second seen u (true ∷ gs) =
-      rw (l.second, l.kept) (ap (λ v. block s.hdr2 ∷ v) (headers_at_headers seen u gs))
-  second_at_second seen u (false ∷ gs) = refl
+  second_at_second : KeepsAt 0 of_second (second_on s k)
+  second_at_second seen u n [] = refl
+  second_at_second seen u n (true ∷ gs) =
+      rw (l.second, l.kept) (ap (λ v. block s.hdr2 ∷ v) (headers_at_headers seen u n gs))
+  second_at_second seen u n (false ∷ gs) = refl
 
   next_at_header : KeepsIn of_next (block s.hdr1 ∷ second_on s k)
   next_at_header seen u [] = refl
   next_at_header seen u (true ∷ gs) =
-      rw (l.header, headed_ok seen.sequence s.hdr1 l.head l.read)
-      (ap (λ v. block s.hdr1 ∷ v) (second_at_second (seen_as false l.head) refl gs))
+      rw (l.header, headed_ok seen s.hdr1 l.head l.read)
+      (ap (λ v. block s.hdr1 ∷ v) (second_at_second (seen_as seen false l.head) refl refl gs))
   next_at_header seen u (false ∷ gs) = refl
 
   data_at_header : KeepsAfter of_data (block s.hdr1 ∷ second_on s k)
@@ -224,8 +257,8 @@ module _ (s : Section) (l : Labelled s) (k : List TapeItem) (next : KeepsIn of_n
   labels_at_header : Keeps (of_labels Ascii 0) (block s.hdr1 ∷ second_on s k)
   labels_at_header [] = refl
   labels_at_header (true ∷ gs) =
-      rw (l.no_label, l.header, l.no_dummy, headed_ok 0 s.hdr1 l.head l.read)
-      (ap (λ v. block s.hdr1 ∷ v) (second_at_second (seen_as false l.head) refl gs))
+      rw (l.no_label, l.header, l.no_dummy, headed_ok no_file s.hdr1 l.head l.read)
+      (ap (λ v. block s.hdr1 ∷ v) (second_at_second (seen_as no_file false l.head) refl refl gs))
   labels_at_header (false ∷ gs) = refl
 
 -- ---- all sections of a volume
@@ -388,6 +421,8 @@ module _ (set : FileSet) (lawful : IsLawful set) where
         trailer = last.0;
         last = is.trailer.0;
         ended = trail1_again x.section.trailer is.trailer.0 t;
+        count = is.trailer.1.count;
+        few = is.few;
         no_header = last.1;
       }
 

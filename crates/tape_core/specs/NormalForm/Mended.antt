@@ -93,34 +93,46 @@ number_at_or first last n label =
 abbrev pub numbered : ℕ → List ℕ → List ℕ
 numbered sequence label = number_at_or 32 35 sequence (number_at_or 28 31 1 label)
 
--- what is seen of a file before its data
-abbrev pub seen_of : ℕ → Bool → FileSeen
-seen_of sequence is_filled = record {
+-- what is seen before the first file
+abbrev pub no_file : FileSeen
+no_file = record {
+  sequence = 0;
+  is_filled = false;
+  blocks = None;
+  has_no_count = false;
+  counts = false;
+}
+
+-- what is seen of a file before its data, and of the tape before it
+abbrev pub seen_of : FileSeen → ℕ → Bool → FileSeen
+seen_of before sequence is_filled = record {
   sequence = sequence;
   is_filled = is_filled;
   blocks = Some 0;
   has_no_count = false;
+  counts = before.counts;
 }
 
 -- a file of which the header label was read
-abbrev pub seen_as : Bool → Head1 → FileSeen
-seen_as is_filled head = seen_of head.sequence is_filled
+abbrev pub seen_as : FileSeen → Bool → Head1 → FileSeen
+seen_as before is_filled head = seen_of before head.sequence is_filled
 
 -- a header label that can be read is kept; one that can be read with its numbers filled in is
 -- changed, unless it is that of a volume without files
-abbrev pub headed_by : ℕ → List ℕ → Result Head1 LabelFault → Result Head1 LabelFault
+abbrev pub headed_by : FileSeen → List ℕ → Result Head1 LabelFault → Result Head1 LabelFault
     → List ℕ × FileSeen
-headed_by last label (Ok head) better = (label, seen_as false head)
-headed_by last label (Err fault) (Ok head) =
-    if nat_lt last 9999 && not (is_dummy label)
-    then (numbered (last + 1) label, seen_as true head)
-    else (label, seen_of last false)
-headed_by last label (Err fault) (Err fault') = (label, seen_of last false)
+headed_by before label (Ok head) better = (label, seen_as before false head)
+headed_by before label (Err fault) (Ok head) =
+    if nat_lt before.sequence 9999 && not (is_dummy label)
+    then (numbered (before.sequence + 1) label, seen_as before true head)
+    else (label, seen_of before before.sequence false)
+headed_by before label (Err fault) (Err fault') = (label, seen_of before before.sequence false)
 
--- A header label after a file with this sequence number, or 0 for the first file of the tape. One
--- without numbers is that of section 1 of the next file.
-unfoldable pub headed : ℕ → List ℕ → List ℕ × FileSeen
-headed last label = headed_by last label (head1_at label) (head1_at (numbered (last + 1) label))
+-- A header label after the file before it on the tape. One without numbers is that of section 1 of
+-- the next file.
+unfoldable pub headed : FileSeen → List ℕ → List ℕ × FileSeen
+headed before label =
+    headed_by before label (head1_at label) (head1_at (numbered (before.sequence + 1) label))
 
 -- ---- what is seen of a file
 
@@ -136,6 +148,7 @@ counted seen = record {
   is_filled = seen.is_filled;
   blocks = one_more seen.blocks;
   has_no_count = seen.has_no_count;
+  counts = seen.counts;
 }
 
 -- an item among the data could not be read: it may have been a tape mark
@@ -145,6 +158,7 @@ uncounted seen = record {
   is_filled = seen.is_filled;
   blocks = None;
   has_no_count = seen.has_no_count;
+  counts = seen.counts;
 }
 
 -- the blocks were counted instead of the trailer label
@@ -154,6 +168,17 @@ without_count is seen = record {
   is_filled = seen.is_filled;
   blocks = seen.blocks;
   has_no_count = is;
+  counts = seen.counts;
+}
+
+-- a trailer label with this block count was read
+abbrev pub told : ℕ → FileSeen → FileSeen
+told blocks seen = record {
+  sequence = seen.sequence;
+  is_filled = seen.is_filled;
+  blocks = seen.blocks;
+  has_no_count = seen.has_no_count;
+  counts = seen.counts || not (blocks == 0);
 }
 
 -- ---- first trailer labels that are changed
@@ -185,15 +210,32 @@ is_recounted better label = not (bytes_eq (positions better 55 60) (positions la
 abbrev pub completed : FileSeen → List ℕ → List ℕ
 completed seen label = with_count seen.blocks (with_numbers seen label)
 
+-- whether the number of blocks read is known, and a label would not state it as 0
+abbrev pub is_some_count : Option ℕ → Bool
+is_some_count None = false
+is_some_count (Some n) = not (label_count n == 0)
+
+-- whether a label states that there are no blocks, though some were read, on a tape of which no
+-- label before it counts blocks
+abbrev pub is_uncounted : FileSeen → ℕ → Bool
+is_uncounted seen blocks = not seen.counts && ((blocks == 0) && is_some_count seen.blocks)
+
+-- a label that can be read, with this block count
+abbrev pub recounted : FileSeen → ℕ → List ℕ → List ℕ × FileSeen
+recounted seen blocks label =
+    if is_uncounted seen blocks then (with_count seen.blocks label, without_count true seen)
+    else (label, told blocks seen)
+
 abbrev pub trailed_by : FileSeen → List ℕ → Result Trail1 LabelFault → Result Trail1 LabelFault
     → List ℕ × FileSeen
-trailed_by seen label (Ok t) better = (label, seen)
+trailed_by seen label (Ok t) better = recounted seen t.blocks label
 trailed_by seen label (Err fault) (Ok t) =
     (completed seen label, without_count (is_recounted (completed seen label) label) seen)
 trailed_by seen label (Err fault) (Err fault') = (label, seen)
 
--- A trailer label that can be read is kept. One that can be read only with the numbers of its
--- header label, if those were filled in, or with the count of the blocks read, gets them. The
--- blocks are not counted after an item that cannot be read.
+-- A trailer label that can be read is kept, unless it counts no blocks on a tape that counts none.
+-- Such a label gets the number of the blocks read; one that can be read only with that number, or
+-- with the numbers of its header label, if those were filled in, gets them. The blocks are not
+-- counted after an item that cannot be read.
 unfoldable pub trailed : FileSeen → List ℕ → List ℕ × FileSeen
 trailed seen label = trailed_by seen label (trail1_at label) (trail1_at (completed seen label))

@@ -25,7 +25,8 @@ use Rattle.tape_core.specs.declared.normal.machine.Replacement.TheVariants.{Same
 use Rattle.tape_core.specs.NormalForm.{of_start, of_labels, of_blank, of_second, of_headers}
 use Rattle.tape_core.specs.NormalForm.{of_data}
 use Rattle.tape_core.specs.NormalForm.{of_trailer, of_trailers, of_next, of_ended}
-use Rattle.tape_core.specs.NormalForm.Mended.{no_volume_label, headed, trailed, counted, uncounted}
+use Rattle.tape_core.specs.NormalForm.Mended.{no_volume_label, no_file, headed, trailed}
+use Rattle.tape_core.specs.NormalForm.Mended.{counted, uncounted}
 use Rattle.tape_core.specs.declared.normal.numbers.FileSeen.{FileSeen}
 
 -- the normal form of the items from this place on
@@ -94,16 +95,16 @@ replaced_with adds code better text =
     }
 
 -- the first header label of the file after this one, preceded by one that is missing
-abbrev pub header_at : Code → Missing → ℕ → List ℕ → TapePlace × Change
-header_at code adds last text =
-    (Second code (headed last text).1, replaced_with adds code (headed last text).0 text)
+abbrev pub header_at : Code → Missing → FileSeen → List ℕ → TapePlace × Change
+header_at code adds before text =
+    (Second code (headed before text).1, replaced_with adds code (headed before text).0 text)
 
 -- after a label with which a tape begins
 abbrev pub begin_in : Code → List ℕ → Option (TapePlace × Change)
 begin_in code text =
     if is_vol1 (kind_at text) then Some (Labels code 0, translated_with Nothing code text)
     else if is_hdr1 (kind_at text)
-    then Some (header_at code VolumeLabel 0 text)
+    then Some (header_at code VolumeLabel no_file text)
     else None
 
 -- the first of two that there is
@@ -129,7 +130,7 @@ abbrev pub labels_at : Code → ℕ → List ℕ → TapePlace × Change
 labels_at code n text =
     if is_volume_label text then (Labels code n, translated_with Nothing code text)
     else if is_hdr1 (kind_at text) && not (is_dummy text)
-    then header_at code Nothing 0 text
+    then header_at code Nothing no_file text
     else drop_block code n
 
 -- a second label whose numbers are filled, if that is needed
@@ -159,9 +160,9 @@ trailer_at code seen text =
     else (Over, same)
 
 -- the header label of the file after this one
-abbrev pub next_at : Code → ℕ → List ℕ → TapePlace × Change
-next_at code last text =
-    if is_hdr1 (kind_at text) then header_at code Nothing last text else (Over, same)
+abbrev pub next_at : Code → FileSeen → List ℕ → TapePlace × Change
+next_at code before text =
+    if is_hdr1 (kind_at text) then header_at code Nothing before text else (Over, same)
 
 abbrev pub ended_at : Option (TapePlace × Change) → TapePlace × Change
 ended_at (Some begun) = (Over, same)
@@ -196,7 +197,7 @@ step_of (Trailer code seen) _ = (Over, same)
 step_of (Trailers code seen) (block b) = (Trailers code seen, any_at code b)
 step_of (Trailers code seen) mark = (Next code seen, same)
 step_of (Trailers code seen) bad = (Over, same)
-step_of (Next code seen) (block b) = next_at code seen.sequence (in_ascii code b)
+step_of (Next code seen) (block b) = next_at code seen (in_ascii code b)
 step_of (Next code seen) mark = (Ended, same)
 step_of (Next code seen) bad = (Over, same)
 step_of Ended (block b) = ended_at (begin_at b)

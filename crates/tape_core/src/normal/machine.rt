@@ -12,7 +12,7 @@ ghost use Rattle.tape_core.specs.NormalForm.Steps.{drop_block, drop_first};
 
 use crate::normal::code::{Code, eighty, in_ascii};
 use crate::normal::mend::mended;
-use crate::normal::numbers::{FileSeen, headed, is_dummy, trailed};
+use crate::normal::numbers::{FileSeen, NO_FILE, headed, is_dummy, trailed};
 use tape_image::Item;
 use tape_label::{Kind, is_further_header, is_volume_label, kind};
 
@@ -142,11 +142,11 @@ fn replaced(code: Code, missing: Missing, better: [u8; 80], label: [u8; 80]) -> 
     Change { missing, instead }
 }
 
-/// Takes the first header label of the file after the file `last`.
-fn header(code: Code, missing: Missing, last: u16, label: [u8; 80]) -> (TapePlace, Change)
-    ensures { result ≡ header_at code missing last label }
+/// Takes the first header label of the file after `before`.
+fn header(code: Code, missing: Missing, before: FileSeen, label: [u8; 80]) -> (TapePlace, Change)
+    ensures { result ≡ header_at code missing before label }
 {
-    let (better, seen) = headed(last, &label);
+    let (better, seen) = headed(before, &label);
     (
         TapePlace::Second(code, seen),
         replaced(code, missing, better, label),
@@ -169,7 +169,7 @@ fn begin_in(code: Code, label: &[u8; 80]) -> Option<(TapePlace, Change)>
     let text = in_ascii(code, label);
     match kind(&text) {
         Some(Kind::Vol1) => Some((TapePlace::Labels(code, 0), translated(code, text))),
-        Some(Kind::Hdr1) => Some(header(code, Missing::VolumeLabel, 0, text)),
+        Some(Kind::Hdr1) => Some(header(code, Missing::VolumeLabel, NO_FILE, text)),
         _ => None,
     }
 }
@@ -187,7 +187,7 @@ fn label_of_volume(code: Code, dropped: u8, bytes: &[u8]) -> (TapePlace, Change)
         return (TapePlace::Labels(code, dropped), translated(code, text));
     }
     match kind(&text) {
-        Some(Kind::Hdr1) if !is_dummy(&text) => header(code, Missing::Nothing, 0, text),
+        Some(Kind::Hdr1) if !is_dummy(&text) => header(code, Missing::Nothing, NO_FILE, text),
         _ => drop_block(code, dropped),
     }
 }
@@ -256,15 +256,15 @@ fn any_label(code: Code, bytes: &[u8]) -> Change
 
 /// Takes a block where the `HDR1` of the next file may be.
 #[tactic(auto, using(crate::proofs::Eighty::no_kind_of))]
-fn next_header(code: Code, last: u16, bytes: &[u8]) -> (TapePlace, Change)
-    ensures { result ≡ next_at code last (in_ascii' code bytes.now) }
+fn next_header(code: Code, before: FileSeen, bytes: &[u8]) -> (TapePlace, Change)
+    ensures { result ≡ next_at code before (in_ascii' code bytes.now) }
 {
     let Some(label) = eighty(bytes) else {
         return (TapePlace::Over, SAME);
     };
     let text = in_ascii(code, label);
     match kind(&text) {
-        Some(Kind::Hdr1) => header(code, Missing::Nothing, last, text),
+        Some(Kind::Hdr1) => header(code, Missing::Nothing, before, text),
         _ => (TapePlace::Over, SAME),
     }
 }
@@ -304,7 +304,7 @@ fn step_at_block(place: TapePlace, bytes: &[u8]) -> (TapePlace, Change)
         TapePlace::Data(code, seen) => (TapePlace::Data(code, seen.counted()), SAME),
         TapePlace::Trailer(code, seen) => first_trailer(code, seen, bytes),
         TapePlace::Trailers(code, seen) => (place, any_label(code, bytes)),
-        TapePlace::Next(code, seen) => next_header(code, seen.sequence, bytes),
+        TapePlace::Next(code, seen) => next_header(code, seen, bytes),
         TapePlace::Ended => match begin(bytes) {
             Some(_) => (TapePlace::Over, SAME),
             None => (TapePlace::Ended, DROPPED),

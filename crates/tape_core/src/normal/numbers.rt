@@ -5,7 +5,8 @@ ghost use Rattle.tape_core.specs.NormalForm.Mended.{is_dummy, number_or, number_
 ghost use Rattle.tape_core.specs.NormalForm.Mended.{headed, trailed, seen_of, counted, uncounted};
 ghost use Rattle.tape_core.specs.NormalForm.Mended.{one_more, count_or, count_at_or, with_count};
 ghost use Rattle.tape_core.specs.NormalForm.Mended.{with_numbers, completed, without_count};
-ghost use Rattle.tape_core.specs.NormalForm.Mended.{is_recounted};
+ghost use Rattle.tape_core.specs.NormalForm.Mended.{is_recounted, is_some_count, is_uncounted};
+ghost use Rattle.tape_core.specs.NormalForm.Mended.{told, recounted};
 
 use crate::normal::mend::fill;
 use tape_label::{digits_of, read_head1, read_trail1};
@@ -27,18 +28,30 @@ pub struct FileSeen {
     pub blocks: Option<u32>,
     /// Whether the block count of its trailer label was filled in.
     pub has_no_count: bool,
+    /// Whether a trailer label that was read on this tape has a block count other than 0.
+    pub counts: bool,
 }
 
+/// What is known before the first file.
+pub(crate) const NO_FILE: FileSeen = FileSeen {
+    sequence: 0,
+    is_filled: false,
+    blocks: None,
+    has_no_count: false,
+    counts: false,
+};
+
 impl FileSeen {
-    /// Creates what is known after a first header label.
-    fn new(sequence: u16, is_filled: bool) -> FileSeen
-        ensures { result ≡ seen_of sequence is_filled }
+    /// Returns what is known after the first header label of the next file.
+    fn next(self, sequence: u16, is_filled: bool) -> FileSeen
+        ensures { result ≡ seen_of self sequence is_filled }
     {
         FileSeen {
             sequence,
             is_filled,
             blocks: Some(0),
             has_no_count: false,
+            counts: self.counts,
         }
     }
 
@@ -62,6 +75,24 @@ impl FileSeen {
         }
     }
 
+    /// Notes the block count of a trailer label.
+    fn told(self, blocks: u32) -> FileSeen
+        ensures { result ≡ told blocks self }
+    {
+        FileSeen {
+            counts: self.counts || blocks != 0,
+            ..self
+        }
+    }
+
+    /// Returns whether a label with this block count states that there are no blocks, though some
+    /// were read, on a tape of which no label before it counts blocks.
+    fn is_uncounted(self, blocks: u32) -> bool
+        ensures { result ≡ is_uncounted self blocks }
+    {
+        !self.counts && blocks == 0 && is_some_count(self.blocks)
+    }
+
     /// Counts no more, since an item among the data could not be read.
     pub(crate) fn uncounted(self) -> FileSeen
         ensures { result ≡ uncounted self }
@@ -80,6 +111,16 @@ fn one_more(blocks: Option<u32>) -> Option<u32>
     match blocks {
         Some(count) if count < u32::MAX => Some(count + 1),
         _ => None,
+    }
+}
+
+/// Returns whether the number of blocks is known, and a label would not state it as 0.
+fn is_some_count(blocks: Option<u32>) -> bool
+    ensures { result ≡ is_some_count blocks }
+{
+    match blocks {
+        Some(count) => label_count(count) != 0,
+        None => false,
     }
 }
 
@@ -189,34 +230,47 @@ fn is_recounted(better: &[u8; 80], label: &[u8; 80]) -> bool
     better[54..60] != label[54..60]
 }
 
-/// Returns a first header label after the file `last` (0 if it is the first), and what was read of
-/// its file. A label that can be read stays as it is. One that can be read only with numbers filled
-/// in becomes that of section 1 of the next file, unless it is that of a volume without files.
+/// Returns a first header label after the file `before`, and what was read of its file. A label that
+/// can be read stays as it is. One that can be read only with numbers filled in becomes that of
+/// section 1 of the next file, unless it is that of a volume without files.
 #[tactic(auto, unfolding(crate::specs::NormalForm::Mended::headed))]
-pub(crate) fn headed(last: u16, label: &[u8; 80]) -> ([u8; 80], FileSeen)
-    ensures { result ≡ headed last label.now }
+pub(crate) fn headed(before: FileSeen, label: &[u8; 80]) -> ([u8; 80], FileSeen)
+    ensures { result ≡ headed before label.now }
 {
     if let Ok(head) = read_head1(label) {
-        return (*label, FileSeen::new(head.sequence, false));
+        return (*label, before.next(head.sequence, false));
     }
-    if last < 9_999 && !is_dummy(label) {
-        let text = numbered(last + 1, label);
+    if before.sequence < 9_999 && !is_dummy(label) {
+        let text = numbered(before.sequence + 1, label);
         if let Ok(head) = read_head1(&text) {
-            return (text, FileSeen::new(head.sequence, true));
+            return (text, before.next(head.sequence, true));
         }
     }
-    (*label, FileSeen::new(last, false))
+    (*label, before.next(before.sequence, false))
+}
+
+/// Returns a first trailer label that can be read, with the block count `blocks`, and what was read
+/// of its file. It gets the count of the blocks that were read if it counts none, as no label
+/// before it does.
+fn recounted(seen: FileSeen, blocks: u32, label: &[u8; 80]) -> ([u8; 80], FileSeen)
+    ensures { result ≡ recounted seen blocks label.now }
+{
+    if seen.is_uncounted(blocks) {
+        return (with_count(seen.blocks, label), seen.without_count(true));
+    }
+    (*label, seen.told(blocks))
 }
 
 /// Returns a first trailer label, and what was read of its file. A label that can be read stays as
-/// it is. One that can be read only with the numbers of the header label, if those were filled in,
-/// or with the count of the blocks that were read gets them.
+/// it is, unless it counts no blocks on a tape that counts none. One that can be read only with the
+/// numbers of the header label, if those were filled in, or with the count of the blocks that were
+/// read gets them.
 #[tactic(auto, unfolding(crate::specs::NormalForm::Mended::trailed))]
 pub(crate) fn trailed(seen: FileSeen, label: &[u8; 80]) -> ([u8; 80], FileSeen)
     ensures { result ≡ trailed seen label.now }
 {
-    if let Ok(_) = read_trail1(label) {
-        return (*label, seen);
+    if let Ok(trail) = read_trail1(label) {
+        return recounted(seen, trail.blocks, label);
     }
     let text = completed(seen, label);
     if let Ok(_) = read_trail1(&text) {
