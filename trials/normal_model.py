@@ -9,12 +9,12 @@ noise and boot blocks before the first file, no VOL1, a dummy HDR1, remains afte
 volume label, labels in data, thousands of marks), and up to four mutations of its items or bytes.
 
 The images are read in batches of 200 by `survey --tsv` and `unpack`, which must end with status 0
-or 3. The model (tape_model.py, normal_form.py, read_model.py, survey_model.py), written from
-docs/FORMATS.md and docs/REFERENCE.md, determines the normal form of each image. The lines about
-rules that were applied must be those of the model, and so must the rows for images and sections,
-the report of `unpack`, and the bytes of its files. Apart from the model, each record that `unpack`
-or `unpack --salvage` (20 images of a batch) writes must be in its image, byte for byte. `show
---raw` must write the bytes of the items of one image of each batch.
+or 3. The model (tape_model.py, normal_form.py, read_model.py, survey_model.py,
+salvage_model.py), written from docs/FORMATS.md and docs/REFERENCE.md, determines the normal form of
+each image. The lines about rules that were applied must be those of the model, and so must the rows
+for images and sections, the report of `unpack`, and the bytes of its files. Apart from the model,
+each record that `unpack` or `unpack --salvage` (20 images of a batch) writes must be in its image,
+byte for byte. `show --raw` must write the bytes of the items of one image of each batch.
 
 Prints each wrong result with the seed of its image or batch (PROGRAM 200 SEED repeats a batch), and
 counts; exit status 1 if there is one. --plant replaces a part of the model by a wrong one, for
@@ -140,6 +140,7 @@ class Trial(Results):
         line = "CONFLICT" if (set_id, file) in survey.names else "NOT FOUND"
         if line == "CONFLICT" and not survey.in_conflict(set_id, file):
             reader = survey.unpacked(set_id, file)
+            self.told["salvaged"] += not reader.done and survey.salvaged(reader)
             line = f"{survey.last_line(reader)} {path}" + ("" if reader.done else ".stage")
             records = model.joined(reader.parts) if reader.done else None
         self.told[line.split()[0].lower()] += 1

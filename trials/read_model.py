@@ -154,14 +154,17 @@ class Reader:
     def reel(self, volume, begin=None):
         """The answer of a reel, also from the item after a trailer label on.
 
-        After a wrong count the parts of the reel are discarded.
+        The parts of a suspect reel are discarded: after a wrong count, or if no label ends its
+        blocks.
         """
         before = self.section, self.block, self.known, len(self.parts)
+        self.delivered = 0
         self.phase = "trailers" if begin else "volume"
         for self.end, (kind, block) in enumerate(volume.items[begin:], (begin or 0) + 1):
             is_wrong = kind == "bad" and self.phase != "data"
             answer = "BAD ITEM" if is_wrong else getattr(self, self.phase)(kind, block or b"")
-            if answer and answer.startswith("BLOCK COUNT"):
+            is_unended = answer in ("BAD LABEL 1", "BAD LABEL 2") and self.delivered
+            if answer and (answer.startswith("BLOCK COUNT") or is_unended):
                 self.section, self.block, self.known = before[:3]
                 del self.parts[before[3]:]
             if answer:
@@ -230,6 +233,7 @@ class Reader:
         if fault:
             return f"BAD BLOCK {fault[0]} {fault[1]}"
         self.parts += parts
+        self.delivered += 1
         self.seen += 1
         self.block, self.known = self.seen, self.form
         return None

@@ -7,6 +7,7 @@ from collections import Counter, defaultdict
 
 import tape_model as model
 from read_model import Reader, Volume
+from salvage_model import Salvage
 
 CAPITALS = b"ABCDEFGHIJKLMNOPQRSTUVWXYZ0123456789"
 ESCAPED = b'%"*/:<>?\\|'
@@ -155,6 +156,22 @@ class Survey:
             is_open = reader.done or answer == "SECTION DONE"
             self.open = (set_id, image, reader.end) if is_open else ()
         return reader if reader.done else self.again(set_id, file, False)[0]
+
+    def salvaged(self, reader):
+        """Whether `salvage` completes what a reader read of a file; the reader then has all of it.
+
+        The labels of the file must be those of one file.
+        """
+        key = reader.set, reader.file
+        others = self.of_set[b""] if reader.set else []
+        images = [self.volumes[at].items for at in [*self.of_set[reader.set], *others]]
+        salvage = Salvage(images, *key)
+        parts, names = salvage.parts(), {each["name"] for each in self.heads[key]}
+        is_one = len(names) == 1 and salvage.has_one_form() and not self.in_conflict(*key)
+        if parts is None or not is_one or parts[:len(reader.parts)] != reader.parts:
+            return False
+        reader.parts, reader.done = parts, True
+        return True
 
     def last_line(self, reader):
         if reader.done:
