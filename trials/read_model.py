@@ -98,6 +98,8 @@ class Volume:
             shape = model.second_label(block, True)
             self.has_wrong_second |= isinstance(shape, int)
             self.open["shape"] = shape
+            if isinstance(shape, tuple):
+                self.open["form"] = shape, model.number(block, 6, 10) or 0
             return "headers"
         is_absent = kind == "mark" or model.is_further_header(block)
         return self.headers(kind, block) if is_absent else None

@@ -107,7 +107,9 @@ class Survey:
         good = [each for each in self.found[set_id, file] if each["state"] == "GOOD"]
         days = {(each["section"], each["day"], each["gen"]) for each in heads}
         data = {(each["section"], tuple(each["blocks"])) for each in good}
-        counts = [Counter(section for section, *_ in each) for each in (days, data)]
+        forms = {(each["section"], each["form"]) for each in self.found[set_id, file]
+                 if "form" in each}
+        counts = [Counter(section for section, *_ in each) for each in (days, data, forms)]
         is_other = len({each["name"] for each in heads}) > 1
         return is_other or any(count > 1 for each in counts for count in each.values())
 
