@@ -150,7 +150,7 @@ end_spelled xs e = rw (e) (record {
   ended = (omega arith, refl);
 })
 
-first_four : (rest : List ℕ) → 4 ≤ length rest → little_number 4 rest ≡ end_word
+pub first_four : (rest : List ℕ) → 4 ≤ length rest → little_number 4 rest ≡ end_word
     → IsWord (take 4 rest) end_word
 first_four rest long e =
     let four : length (take 4 rest) ≡ 4 = omega (arith, length-take 4 rest, long) in

@@ -19,5 +19,8 @@ pub mod Formats
 pub mod FormatWords
 pub mod FormatExtended
 pub mod FormatItems
+pub mod FormatOne
+pub mod FormatsAgree
+pub mod FormatAws
 pub mod Copies
 mod MistakesOfReading

@@ -16,6 +16,7 @@ pub mod Convert
 pub mod FormatItems
 -- laws about these definitions:
 pub mod Laws
+pub mod FormatLaws
 pub mod Examples
 -- definitions about private code, proved to agree with the definitions above:
 pub mod Device

@@ -8,6 +8,9 @@ ghost use Rattle.tape_image.specs.Laws.{WalkedIsFront, SpelledBegins, BegunSpell
 ghost use Rattle.tape_image.specs.Calls.{GiveUpToEnd, GiveUpToFault};
 ghost use Rattle.tape_image.specs.Writer.{WrittenSpells, FailedHoldsFront};
 ghost use Rattle.tape_image.specs.FormatItems.{SimhImagesKeepItems};
+ghost use Rattle.tape_image.specs.FormatLaws.{ItemsAreUnique, EncodingsAreUnique};
+ghost use Rattle.tape_image.specs.FormatLaws.{NoEncodingBeginsAnother, SimhIsExtended};
+ghost use Rattle.tape_image.specs.FormatLaws.{E11AndSimhAgree, E11AndSimhAreApart, EvenE11IsSimh};
 ghost use Rattle.tape_image.specs.Examples.{ImagesAreHeld, AnswersAreHeld, TakingIsHeld};
 ghost use Rattle.tape_image.specs.Examples.{LawsAreHeld, WritingIsHeld};
 
@@ -65,6 +68,23 @@ pub fn written_items_are_spelled()
 /// The SIMH image of an image of another format spells the same items.
 pub fn simh_images_keep_items()
     ensures { SimhImagesKeepItems }
+{}
+
+/// Over each format the items of an image are a function of its bytes: at each place the bytes begin
+/// with at most one encoding, and no encoding is a proper prefix of another.
+pub fn each_format_has_one_list_of_items()
+    ensures items { ItemsAreUnique }
+    ensures unique { EncodingsAreUnique }
+    ensures prefix { NoEncodingBeginsAnother }
+{}
+
+/// Bytes that are an image in several of SIMH's format, the extended one and E11's have the same
+/// items in each. An E11 image without blocks of odd length is a SIMH image.
+pub fn simh_formats_agree()
+    ensures extended { SimhIsExtended }
+    ensures apart { E11AndSimhAreApart }
+    ensures agree { E11AndSimhAgree }
+    ensures even { EvenE11IsSimh }
 {}
 
 /// Test cases for the definitions: small images and results.
