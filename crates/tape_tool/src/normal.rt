@@ -3,10 +3,13 @@
 
 ghost use Rattle.std.specs.Prelude.{⊤, ◌≤◌, length, IfOk};
 
+mod followed;
+
 use crate::convert::{format_of, is_simh};
 use crate::images::{Image, Images};
 use crate::refusal::is_file;
 use crate::screen::Progress;
+use followed::Followed;
 use std::alloc::AllocError;
 use std::io;
 use std::io::Read;
@@ -49,6 +52,9 @@ pub struct Normal<R: Progress> {
     image: usize,
     /// Whether the image is read for the first time.
     is_first: bool,
+    /// The first bytes, which may be read before the items in them. A fault among these items ends
+    /// the image for all who read it, so rules that are applied behind it are not named.
+    front: Option<Followed>,
     /// The rules that were named.
     named: Rules,
     /// The bytes before a tape mark with which the image ends, and those left of the mark, if it is
@@ -122,11 +128,29 @@ impl<R: Progress> Normal<R> {
         Ok(count)
     }
 
+    /// Follows the next of the first bytes, which a call read into `buf`.
+    #[cold]
+    fn follow(&mut self, buf: &[u8], read: &io::Result<usize>) {
+        let (Some(front), Ok(count)) = (self.front, read) else {
+            return;
+        };
+        let mut front = front;
+        front.read(buf.get(..*count).unwrap_or(&[]));
+        self.front = if front.is_done() && !front.is_over() {
+            None
+        } else {
+            Some(front)
+        };
+    }
+
     /// Names the rules that were applied since the last call.
     #[cold]
     fn name_rules(&mut self, rules: Rules) {
         let before = applied(self.named);
         self.named = rules;
+        if self.front.is_some_and(|front| front.is_over()) {
+            return;
+        }
         let image = self.image;
         for ((now, before), text) in applied(rules).iter().zip(before.iter()).zip(TEXTS.iter()) {
             if *now && !*before {
@@ -146,6 +170,9 @@ impl<R: Progress> Read for Normal<R> {
         let rules = self.inner.rules();
         if self.is_first && rules != self.named {
             self.name_rules(rules);
+        }
+        if self.front.is_some() {
+            self.follow(buf, &read);
         }
         read
     }
@@ -211,6 +238,7 @@ impl<'a, R: Progress> ImageSource<Normal<R>> for NormalImages<'a, R> {
             rt,
             image: number.saturating_add(1),
             is_first,
+            front: is_first.then_some(Followed::START),
             named: Rules::NONE,
             seam: None,
             inner: Form::new(image),
