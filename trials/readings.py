@@ -2,7 +2,8 @@
 """Tries readings that random cases do not reach: trials/readings.py PROGRAM [NAME...]
 
     many      256 readings, which together have one good copy of each item; and 257, which are refused
-    pipes     readings through pipes, which give few bytes at a time
+    pipes     readings through pipes, which give few bytes at a time; `unpack` and `salvage`
+              refuse them, and open none
     names     names with spaces, line feeds and other bytes, from arguments and from a list
     same      one image named several times
     large     readings of 4 GB, the longest image, and of one block more, through pipes
@@ -133,6 +134,9 @@ def pipes(program, folder):
             thread.join()
         if data is not None:
             os.remove(out)
+    # Nobody writes to the pipe now, so opening it would block.
+    for words in (['unpack', folder], ['salvage', 'ABC001', '1', os.path.join(folder, 'out')]):
+        expect(f'pipes: {words[0]}', run(program, *words, names[0])[1], 2)
 
 
 def names(program, folder):

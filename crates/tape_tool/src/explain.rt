@@ -259,8 +259,8 @@ const CONFLICT: &str = "These images have labels of different files with this SE
 const NO_IMAGE: &str = "This does not look like a .tap image. Nothing was listed.";
 
 /// What follows `NO_IMAGE` if the kind of the file is unknown.
-const UNKNOWN_KIND: &str =
-    "Is it compressed, cut off, or of a different kind? 'file NAME' may tell.";
+const UNKNOWN_KIND: &str = "Is it compressed, cut off, or of a different kind? 'file NAME' may tell.
+  tape reads no compressed images, but 'gunzip -c NAME | tape ..' works.";
 
 const A_FOLDER: &str = "This is a directory, not an image. Nothing was listed.
   Name an image in it.";

@@ -169,6 +169,9 @@ pub const TOO_MANY_TO_SURVEY: &str =
     "survey takes up to 256 IMAGEs, and any number of names from a list:
   find . -name '*.tap' -print0 | tape survey --files-from - --null";
 
+pub const IMAGE_IS_PIPE: &str = "images are opened more than once, so none can be a pipe:
+write it to a file, and name that";
+
 pub const INPUT_TWICE: &str = "standard input can be read only once: '-' is named twice.
 A file of this name is './-'";
 

@@ -4,13 +4,14 @@
 ghost use Rattle.std.specs.Prelude.{◌≡◌, ◌⊎◌, None, Some, Ok, Err, IfErr, IsOk};
 
 use crate::fault::{FileFault, OUT_OF_MEMORY, ToolFault};
+use crate::help;
 use crate::screen::{Host, Progress};
 use crate::shown::Shown;
 use std::alloc::AllocError;
 use std::fs;
 use std::fs::{File, Metadata};
 use std::io::ErrorKind;
-use std::os::unix::fs::MetadataExt;
+use std::os::unix::fs::{FileTypeExt, MetadataExt};
 
 /// The reason why a command is not started.
 #[derive(Clone, Copy)]
@@ -63,6 +64,21 @@ pub fn are_files<R: Host>(rt: &R, names: &[&str]) -> bool {
 /// Returns whether this is a plain file, or does not exist: only these can be read twice.
 pub fn is_file<R: Host>(rt: &R, name: &str) -> bool {
     fs::metadata(rt, name).map_or(true, |found| found.is_file())
+}
+
+/// Refuses images that are opened more than once and are pipes: at the second opening a pipe gives
+/// nothing, or waits for ever.
+///
+/// # Errors
+///
+/// Returns `Words` if one of them is a pipe.
+pub fn no_pipes<R: Host>(rt: &R, names: &[&str]) -> Result<(), Refusal> {
+    for name in names {
+        if fs::metadata(rt, name).is_ok_and(|found| found.file_type().is_fifo()) {
+            return Err(Refusal::Words(help::IMAGE_IS_PIPE));
+        }
+    }
+    Ok(())
 }
 
 /// The identity of a file and, for a regular file, of its contents: their length and time.

@@ -8,7 +8,7 @@ use crate::help;
 use crate::images::{Named, names_of};
 use crate::normal::NormalImages;
 use crate::program::{End, check_end};
-use crate::refusal::Refusal;
+use crate::refusal::{Refusal, no_pipes};
 use crate::screen::Progress;
 use crate::words::{form_of, named, out_of, set_id_of, text_of};
 use clap::ArgMatches;
@@ -92,6 +92,7 @@ pub fn salvage<'a, R: Progress>(
     *site = FaultSite::Out(order.out);
     no_draft(names.as_slice(), order.images.list)?;
     no_draft(&[order.out], None)?;
+    no_pipes(rt.host(), names.as_slice())?;
     let (mut draft, out) = Draft::new(rt, order.out)?;
     let images = &mut NormalImages::new(rt, names.as_slice());
     let report = &mut io::writer(rt);

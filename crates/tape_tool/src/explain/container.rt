@@ -1,10 +1,13 @@
 //! The kind of a file that may not be a SIMH image, by its first bytes.
+use crate::convert::{format_of, is_simh};
+use crate::screen::Progress;
+use crate::shown::Shown;
 use std::alloc::Global;
 use std::fs;
 use std::fs::File;
 use std::io::Read;
 use std::rt::Runtime;
-use tape_run::{Container, KIND_BYTES, container_of};
+use tape_run::{Container, KIND_BYTES, container_of, container_text};
 
 /// Reads the first bytes of the file at `path`, and returns its kind. Returns `None` if the path
 /// names no file that can be read twice.
@@ -16,4 +19,15 @@ pub fn kind_of<R: Runtime>(rt: &R, alloc: Global, path: &str) -> Option<Containe
     let mut file = File::open(rt, path).ok()?;
     let count = file.read(front.as_mut_slice()).ok()?;
     Some(container_of(front.as_slice().get(..count)?))
+}
+
+/// Names on standard error the images of kinds that are not read, such as compressed ones, and the
+/// programs that make SIMH images of them.
+pub fn name_unread<R: Progress>(rt: &R, names: &[&str]) {
+    for name in names {
+        let kind = kind_of(rt.host(), rt.alloc(), *name).unwrap_or(Container::Unknown);
+        if !is_simh(kind) && format_of(kind).is_none() {
+            let _ = rt.eprint(format_args!("  {}: {}\n", Shown(*name), container_text(kind)));
+        }
+    }
 }

@@ -1,4 +1,5 @@
 //! What is missing when a command ends with exit status 3, and where to look for it.
+use super::container::name_unread;
 use super::{FaultSite, NEVER};
 use crate::command_line::Order;
 use crate::images::{Images, names_of};
@@ -25,9 +26,9 @@ pub fn explain_missing<R: Progress>(rt: &R, order: &Order<'_>, awaited: Option<W
     };
 }
 
-/// Returns the explanation by what the images of the command contain, which are read again. Returns
-/// `None` if a command has none, if they cannot be read twice, or if they do not show what is
-/// missing.
+/// Returns the explanation by what the images of the command contain, which are read again. Those of
+/// kinds that are not read are named first. Returns `None` if a command has no images, if they
+/// cannot be read twice, or if they do not show what is missing.
 fn text_by_images<R: Progress>(rt: &R, order: &Order<'_>, awaited: Option<Want>) -> Option<String> {
     let named = match order {
         Order::Extract(order) => &order.images,
@@ -42,6 +43,7 @@ fn text_by_images<R: Progress>(rt: &R, order: &Order<'_>, awaited: Option<Want>)
     let mut site = FaultSite::Unknown;
     let names = names_of(rt.host(), named, &mut list, &mut site).ok()?;
     let names = names.as_slice();
+    name_unread(rt, names);
     if !are_files(rt.host(), names) {
         return None;
     }

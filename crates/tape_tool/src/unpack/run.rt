@@ -15,7 +15,7 @@ use crate::help;
 use crate::images::names_of;
 use crate::normal::{Normal, NormalImages};
 use crate::program::{End, check_end};
-use crate::refusal::{Refusal, remove};
+use crate::refusal::{Refusal, no_pipes, remove};
 use crate::screen::{Host, Progress};
 use crate::words::set_id_of;
 use std::alloc::AllocError;
@@ -67,6 +67,7 @@ pub fn unpack<'a, R: Progress>(
     let names = names_of(rt.host(), &order.images, &mut text, site)?;
     let names = names.as_slice();
     no_draft(names, order.images.list)?;
+    no_pipes(rt.host(), names)?;
     let is_listed = order.manifest && !order.list;
     let manifest = manifest_of(rt.host(), folder, is_listed, site)?;
     let out = BufWriter::new(rt.alloc(), io::writer(rt)).map_err(|_| AllocError)?;
