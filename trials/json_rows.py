@@ -8,11 +8,13 @@ characters, and characters of one to four bytes, and copies of some of them, whi
 `survey --json`, `list --json` and `compare --json` print must be an object of the keys of docs/JSON.md, in their
 order. Its values must be the cells of the same row of `survey --tsv`, `list --offsets` and `compare`, and the names
 and identifiers those that were written. So must those of N damaged copies of the worked image, except for the
-identifiers. If Python's jsonschema is installed, each object must have the form that docs/json.schema.json describes.
+identifiers. Python's csv reads the same cells from the TSV, as docs/REFERENCE.md says. `show --raw` returns the labels
+of each image, and `show` their identifiers. If Python's jsonschema is installed, each object must have the form that docs/json.schema.json describes.
 
 Prints each wrong result, what is not installed, and the counts. Exit status 1 if something was wrong.
 """
 
+import csv
 import json
 import os
 import random
@@ -139,6 +141,23 @@ class Trial(Results):
         want = dict(zip(keys, (value_in(cell, key) for key, cell in zip(keys, cells))))
         self.expect(len(keys) == len(cells) and list(row.items()) == list(want.items()), f"{line!r}: {row}, not {want}")
 
+    def read_by_csv(self, lines):
+        """Python's csv finds the cells of these lines of the TSV."""
+        read = csv.reader(lines, delimiter="\t", quoting=csv.QUOTE_NONE, strict=True)
+        for line, row in zip(lines, read, strict=True):
+            self.expect(row == line.split("\t"), f"csv reads {row}, not {line!r}")
+
+    def show(self, name, reel):
+        """`show` returns the first two labels, and prints their identifiers."""
+        labels = [text[4:84] for text in (reel.image()[:88], reel.image()[88:176])]
+        for number, text in enumerate(labels, 1):
+            out, err, status = self.run("show", "--raw", "./" + name, str(number))
+            self.expect((out, err, status) == (text, b"", 0), f"show --raw {name!r} {number}: {status} {err} {out}")
+        out, err, status = self.run("show", "./" + name, "1", "2")
+        seen = "".join("\\\\" if byte == 92 else chr(byte) if 32 <= byte < 127 else f"\\x{byte:02X}" for byte in reel.file)
+        line = f'   5-21  file identifier         "{seen}"\n'
+        self.expect(line in out.decode() and (err, status) == (b"", 0), f"show {name!r}: {status} {err} {out}")
+
     def damaged(self, chance):
         whole, before = image(), None
         for number in range(self.options.damaged):
@@ -159,6 +178,7 @@ class Trial(Results):
         text = "".join(name + "\0" for name in names).encode()
         rows, lines = self.pair(("survey", "--json", "--files-from", "-", "--null"),
                                 ("survey", "--tsv", "--files-from", "-", "--null"), text)
+        self.read_by_csv(lines)
         for row, line in zip(rows, lines):
             word, *cells = line.split("\t")
             self.same(row, ["row", *keys[word]], [word, *cells], line)
@@ -230,6 +250,7 @@ def main():
         trial.damaged(chance)
         for name, reel in shelf.items():
             trial.list(name, reel)
+            trial.show(name, reel)
         copies = {}
         for name in names[::7]:
             data = shelf[name].block
