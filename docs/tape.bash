@@ -21,7 +21,8 @@ _tape() {
         salvage:--files-from) kind='file' ;;
     merge:--log | extract:--stage) kind='other' ;;
     convert:--format) kind='auto aws e11 simh' ;;
-    extract:--form | unpack:--form | stage:--form | write:--form) kind='lines raw' ;;
+    extract:--form | stage:--form | write:--form) kind='lines raw' ;;
+    unpack:--form) kind='lines raw auto' ;;
     unpack:--set | unpack:--file | write:--block | write:--record | \
         write:--offset | write:--date) kind='text' ;;
     salvage:--form) kind='lines raw blocks' ;;

@@ -14,3 +14,4 @@ pub mod CasesOfWriting
 pub mod Words
 pub mod CasesOfWords
 pub mod Sums
+pub mod TextForm

@@ -1,8 +1,10 @@
 //! `unpack`: recovers every file of every set on images into a directory.
+mod chosen;
 mod completion;
 mod existing;
 mod labels;
 mod manifest;
+mod offsets;
 mod record;
 mod recorded;
 mod recovery;
@@ -10,6 +12,7 @@ pub mod report;
 mod rows;
 mod run;
 mod salvaged;
+mod sources;
 mod stages;
 mod summed;
 mod sums;
@@ -18,7 +21,7 @@ use crate::command_spec::{CommandSpec, Kind, Word};
 use crate::help;
 use crate::images::Named;
 use crate::refusal::Refusal;
-use crate::words::{FORM, folder_of, form_of, named, set_id_of};
+use crate::words::{folder_of, form_of, named, set_id_of};
 use clap::ArgMatches;
 pub use run::unpack;
 use std::alloc::Global;
@@ -31,8 +34,8 @@ pub struct UnpackOrder<'a> {
     pub folder: &'a str,
     /// The images, in the order in which they are named.
     pub images: Named<'a>,
-    /// The form in which records are written.
-    pub form: Form,
+    /// The form in which records are written, or `None` if each file gets the one for its records.
+    pub form: Option<Form>,
     /// Only files of this set.
     pub set: Option<&'a str>,
     /// Only files that one of these numbers and names means, if there are any.
@@ -45,9 +48,12 @@ pub struct UnpackOrder<'a> {
     pub now: bool,
     /// Whether the checksums of the files are listed.
     pub manifest: bool,
-    /// Whether nothing is recovered, and the files are checked against their list.
+    /// Whether nothing is recovered, and the files are checked against their list, and against the
+    /// images if some are named.
     pub verify: bool,
 }
+
+const FORMS_OF_FILES: &[&str] = &["lines", "raw", "auto"];
 
 pub const UNPACK: &CommandSpec = &CommandSpec {
     name: "unpack",
@@ -56,7 +62,11 @@ pub const UNPACK: &CommandSpec = &CommandSpec {
     words: &[
         Word("DIR", Kind::Text, help::FOLDER_OF_FILES),
         Word("IMAGE", Kind::Images, help::SHELF),
-        FORM,
+        Word(
+            "form",
+            Kind::NameOption("FORM", FORMS_OF_FILES, &["lines"]),
+            help::FORM_OF_FILES,
+        ),
         Word("set", Kind::TextOption("SET"), help::SET_TO_UNPACK),
         Word("file", Kind::TextOptions("N|NAME"), help::FILES_TO_UNPACK),
         Word("list", Kind::Flag, help::LIST_ONLY),
@@ -81,7 +91,7 @@ pub fn unpack_order<'a>(
     let order = UnpackOrder {
         folder,
         images: named(alloc, matches, help::TOO_MANY_TO_UNPACK)?,
-        form: form_of(matches),
+        form: form_of_files(matches),
         set,
         files: Vec::from_slice(alloc, matches.get_strs("file").unwrap_or(&[]))?,
         list: matches.get_flag("list"),
@@ -90,16 +100,28 @@ pub fn unpack_order<'a>(
         manifest: matches.get_flag("manifest"),
         verify: matches.get_flag("verify"),
     };
-    if order.verify && !is_alone(&order) {
+    if order.verify && !verifies(&order) {
         return Err(Refusal::Words(help::VERIFY_ALONE));
     }
     Ok(order)
 }
 
-/// Returns whether no images and no other options are named.
-fn is_alone(order: &UnpackOrder<'_>) -> bool {
-    let has_images = !order.images.words.is_empty() || order.images.list.is_some();
+/// Returns the form that was requested for all files, if one was.
+fn form_of_files(matches: &ArgMatches<'_>) -> Option<Form> {
+    match matches.get_str("form") {
+        Some("auto") => None,
+        _ => Some(form_of(matches)),
+    }
+}
+
+/// Returns whether the options of a request to verify do not exclude each other.
+fn verifies(order: &UnpackOrder<'_>) -> bool {
     let has_choice = order.set.is_some() || !order.files.is_empty();
     let has_flag = order.list || order.salvage || order.now || order.manifest;
-    !(has_images || has_choice || has_flag)
+    !has_flag && (has_images(order) || !has_choice)
+}
+
+/// Returns whether images are named, or a list of them.
+fn has_images(order: &UnpackOrder<'_>) -> bool {
+    !order.images.words.is_empty() || order.images.list.is_some()
 }

@@ -35,3 +35,5 @@ mod show_program;
 mod staging;
 #[cfg(test)]
 mod unpack_program;
+#[cfg(test)]
+mod verify_program;

@@ -104,9 +104,10 @@ const LISTED: &str = "
     file fault 4: unpack --verify listed
     * full
     2: unpack --verify | unpack --verify ''
-    2: unpack --verify listed listed1.tap => takes DIR and nothing else
-    2: unpack --verify listed --list | unpack --verify listed --set ABC001
-    2: unpack --verify listed --manifest | unpack --verify listed --files-from lost
+    2: unpack --verify listed --set ABC001 => --verify recovers nothing
+    2: unpack --verify listed --file 1 | unpack --verify listed listed1.tap --list
+    2: unpack --verify listed --manifest | unpack --verify listed listed1.tap --salvage
+    file fault 2: unpack --verify listed --files-from lost
 ";
 
 #[test]

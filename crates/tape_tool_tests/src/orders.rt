@@ -39,6 +39,8 @@ const REQUESTS: &str = "
     => unpack dir Lines list=false salvage=false now=false set=none a.tap b.tap
     unpack dir a --form raw --set ABC001 --file 3 --file P* --list
     => unpack dir Raw list=true salvage=false now=false set=ABC001 file=3 file=P* a
+    unpack dir a --form auto
+    => unpack dir auto list=false salvage=false now=false set=none a
     unpack dir --salvage --now --files-from l
     => unpack dir Lines list=false salvage=true now=true set=none lines of l
     salvage ABC001 2 out a.tap => salvage ABC001 2 out blocks=false Lines now=false a.tap
@@ -172,17 +174,22 @@ fn recovery_text(alloc: Global, order: &Order<'_>) -> Result<String, AllocError>
                 Images(&order.images)
             )
         }
-        Order::Unpack(order) => format!(in alloc;
-            "unpack {} {:?} list={} salvage={} now={} set={}{}{}",
-            order.folder,
-            order.form,
-            order.list,
-            order.salvage,
-            order.now,
-            order.set.unwrap_or("none"),
-            Texts(" file=", order.files.as_slice()),
-            Images(&order.images)
-        ),
+        Order::Unpack(order) => {
+            let form = match order.form {
+                Some(form) => format!(in alloc; "{form:?}")?,
+                None => String::from_str(alloc, "auto")?,
+            };
+            format!(in alloc;
+                "unpack {} {form} list={} salvage={} now={} set={}{}{}",
+                order.folder,
+                order.list,
+                order.salvage,
+                order.now,
+                order.set.unwrap_or("none"),
+                Texts(" file=", order.files.as_slice()),
+                Images(&order.images)
+            )
+        }
         Order::Salvage(order) => {
             let is_blocks = matches!(order.task.content, Content::Blocks);
             format!(in alloc;

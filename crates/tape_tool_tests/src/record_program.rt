@@ -16,7 +16,8 @@ const RECORDED: &str = "
         \"sha256\":\"0ea04722dfc11a313781113712bafecee4beb63c00c2448f7cc86ff88949bdcb\",\
         \"program\":\"0.1.0\",\"proved\":null,\"build\":null}\\0A\
         {\"row\":\"BLOCKS\",\"name\":\"ABC001.1.PAYROLL\",\"section\":1,\"block\":0,\"part\":0,\
-        \"end_section\":null,\"end_block\":null,\"end_part\":null,\"image\":\"rec1.tap\"}\\0A\
+        \"end_section\":null,\"end_block\":null,\"end_part\":null,\"image\":\"rec1.tap\",\
+        \"offset\":268}\\0A\
         {\"row\":\"IMAGE\",\"image\":\"rec1.tap\",\"size\":2484,\
         \"sha256\":\"a19dd54a4de4513fbb4290d5b84043b9bf51e609fe53ab3baf4028e1f000b005\",\
         \"volume\":\"ABC001\",\"owner\":null,\"system\":null}\\0A
@@ -35,9 +36,11 @@ const RECORDED: &str = "
         \"sha256\":\"9ca721bb0fceb366d3809a5da8042c523cf671155b6366a74de5b02d2f163684\",\
         \"program\":\"0.1.0\",\"proved\":null,\"build\":null}\\0A\
         {\"row\":\"BLOCKS\",\"name\":\"ABC001.1.PAYROLL\",\"section\":1,\"block\":0,\"part\":0,\
-        \"end_section\":1,\"end_block\":2,\"end_part\":0,\"image\":\"rec3.tap\"}\\0A\
+        \"end_section\":1,\"end_block\":2,\"end_part\":0,\"image\":\"rec3.tap\",\
+        \"offset\":268}\\0A\
         {\"row\":\"BLOCKS\",\"name\":\"ABC001.1.PAYROLL\",\"section\":1,\"block\":2,\"part\":0,\
-        \"end_section\":null,\"end_block\":null,\"end_part\":null,\"image\":\"rec2.tap\"}\\0A\
+        \"end_section\":null,\"end_block\":null,\"end_part\":null,\"image\":\"rec2.tap\",\
+        \"offset\":1084}\\0A\
         {\"row\":\"IMAGE\",\"image\":\"rec2.tap\",\"size\":2500,\
         \"sha256\":\"cb9687188964db738855ba386d62b001b7e858a9efc7e8285157f5e847509627\",\
         \"volume\":\"ABC001\",\"owner\":null,\"system\":null}\\0A\
@@ -52,27 +55,30 @@ const RECORDED: &str = "
         \"identifier\":\"PAYROLL\",\"section\":1,\"block\":1,\"part\":0}\\0A\
         {\"row\":\"BLOCKS\",\"name\":\"ABC001.1.PAYROLL.stage\",\"section\":1,\"block\":0,\
         \"part\":0,\
-        \"end_section\":1,\"end_block\":1,\"end_part\":0,\"image\":\"rec2.tap\"}\\0A\
+        \"end_section\":1,\"end_block\":1,\"end_part\":0,\"image\":\"rec2.tap\",\
+        \"offset\":268}\\0A\
         {\"row\":\"IMAGE\",\"image\":\"rec2.tap\",\"size\":2500,\
         \"sha256\":\"cb9687188964db738855ba386d62b001b7e858a9efc7e8285157f5e847509627\",\
         \"volume\":\"ABC001\",\"owner\":null,\"system\":null}\\0A
     3: unpack days rec3.tap --manifest
-    length days/MANIFEST.jsonl 1010
-    at days/MANIFEST.jsonl 437 \
+    length days/MANIFEST.jsonl 1050
+    at days/MANIFEST.jsonl 450 \
         {\"row\":\"AWAITS\",\"name\":\"ABC001.1.PAYROLL.stage\",\"set\":\"ABC001\",\"file\":1,\
         \"identifier\":\"PAYROLL\",\"section\":1,\"block\":2,\"part\":0}\\0A\
         {\"row\":\"BLOCKS\",\"name\":\"ABC001.1.PAYROLL.stage\",\"section\":1,\"block\":0,\
         \"part\":0,\
-        \"end_section\":1,\"end_block\":1,\"end_part\":0,\"image\":null}\\0A\
+        \"end_section\":1,\"end_block\":1,\"end_part\":0,\"image\":null,\
+        \"offset\":null}\\0A\
         {\"row\":\"BLOCKS\",\"name\":\"ABC001.1.PAYROLL.stage\",\"section\":1,\"block\":1,\
         \"part\":0,\
-        \"end_section\":1,\"end_block\":2,\"end_part\":0,\"image\":\"rec3.tap\"}\\0A\
+        \"end_section\":1,\"end_block\":2,\"end_part\":0,\"image\":\"rec3.tap\",\
+        \"offset\":676}\\0A\
         {\"row\":\"IMAGE\",\"image\":\"rec3.tap\",\"size\":2500,\
         \"sha256\":\"daf61a346b32d5f3b5ed4c59a4513114b6388172932a914eab267ae0bd4839a2\",\
         \"volume\":\"ABC001\",\"owner\":null,\"system\":null}\\0A
     0: unpack days rec2.tap --manifest --form raw
-    length days/MANIFEST.jsonl 1649
-    at days/MANIFEST.jsonl 1010 \
+    length days/MANIFEST.jsonl 1717
+    at days/MANIFEST.jsonl 1050 \
         {\"row\":\"FILE\",\"name\":\"ABC001.1.PAYROLL\",\"set\":\"ABC001\",\"file\":1,\
         \"identifier\":\"PAYROLL\",\"generation\":\"0001\",\"version\":\"00\",\"created\":null,\
         \"expires\":null,\"access\":null,\"system\":null,\"format\":\"F\",\"block\":400,\
@@ -81,12 +87,14 @@ const RECORDED: &str = "
         \"sha256\":\"9ca721bb0fceb366d3809a5da8042c523cf671155b6366a74de5b02d2f163684\",\
         \"program\":\"0.1.0\",\"proved\":null,\"build\":null}\\0A\
         {\"row\":\"BLOCKS\",\"name\":\"ABC001.1.PAYROLL\",\"section\":1,\"block\":0,\"part\":0,\
-        \"end_section\":1,\"end_block\":2,\"end_part\":0,\"image\":null}\\0A\
+        \"end_section\":1,\"end_block\":2,\"end_part\":0,\"image\":null,\
+        \"offset\":null}\\0A\
         {\"row\":\"BLOCKS\",\"name\":\"ABC001.1.PAYROLL\",\"section\":1,\"block\":2,\"part\":0,\
-        \"end_section\":null,\"end_block\":null,\"end_part\":null,\"image\":\"rec2.tap\"}\\0A
+        \"end_section\":null,\"end_block\":null,\"end_part\":null,\"image\":\"rec2.tap\",\
+        \"offset\":1084}\\0A
     # A file that exists and is recorded is not recorded again, and otherwise as if it was joined.
     0: unpack days rec2.tap rec3.tap --manifest --form raw
-    length days/MANIFEST.jsonl 1649
+    length days/MANIFEST.jsonl 1717
     remove days/MANIFEST.jsonl
     0: unpack days rec2.tap rec3.tap --manifest --form raw
     has days/MANIFEST.jsonl \
@@ -98,9 +106,11 @@ const RECORDED: &str = "
         \"sha256\":\"9ca721bb0fceb366d3809a5da8042c523cf671155b6366a74de5b02d2f163684\",\
         \"program\":\"0.1.0\",\"proved\":null,\"build\":null}\\0A\
         {\"row\":\"BLOCKS\",\"name\":\"ABC001.1.PAYROLL\",\"section\":1,\"block\":0,\"part\":0,\
-        \"end_section\":1,\"end_block\":2,\"end_part\":0,\"image\":\"rec3.tap\"}\\0A\
+        \"end_section\":1,\"end_block\":2,\"end_part\":0,\"image\":\"rec3.tap\",\
+        \"offset\":268}\\0A\
         {\"row\":\"BLOCKS\",\"name\":\"ABC001.1.PAYROLL\",\"section\":1,\"block\":2,\"part\":0,\
-        \"end_section\":null,\"end_block\":null,\"end_part\":null,\"image\":\"rec2.tap\"}\\0A\
+        \"end_section\":null,\"end_block\":null,\"end_part\":null,\"image\":\"rec2.tap\",\
+        \"offset\":1084}\\0A\
         {\"row\":\"IMAGE\",\"image\":\"rec2.tap\",\"size\":2500,\
         \"sha256\":\"cb9687188964db738855ba386d62b001b7e858a9efc7e8285157f5e847509627\",\
         \"volume\":\"ABC001\",\"owner\":null,\"system\":null}\\0A\
@@ -110,8 +120,8 @@ const RECORDED: &str = "
     # Salvaged records.
     folder salvaged
     3: unpack salvaged rec2.tap --manifest --salvage --form raw
-    length salvaged/MANIFEST.jsonl 582
-    at salvaged/MANIFEST.jsonl 269 \
+    length salvaged/MANIFEST.jsonl 595
+    at salvaged/MANIFEST.jsonl 282 \
         {\"row\":\"SALVAGED\",\"name\":\"ABC001.1.PAYROLL.salvaged\",\"set\":\"ABC001\",\"file\":1,\
         \"identifier\":\"PAYROLL\",\"form\":\"raw\",\"gaps\":\"ABC001.1.PAYROLL.gaps\"}\\0A
 ";
@@ -150,7 +160,7 @@ const KEPT: &str = "
     missing held1/.tape-1.part
     0: unpack held1 held.tap --manifest
     at held1/MANIFEST.jsonl 0 {\"row\":\"MINE\"}\\0A{\"row\":\"FILE\",\"name\":\"ABC001.1.PAYROLL\",
-    length held1/MANIFEST.jsonl 694
+    length held1/MANIFEST.jsonl 707
     # With --list, and without --manifest, nothing is recorded.
     folder held3
     0: unpack held3 held.tap --manifest --list | unpack held3 held.tap

@@ -125,6 +125,10 @@ pub const FOLDER_OF_FILES: &str = "Existing directory for the files and their st
 
 pub const SET_TO_UNPACK: &str = "Only files of this set";
 
+pub const FORM_OF_FILES: &str = "lines: end each record with a line feed;
+raw: do not; auto: lines for a file whose bytes are
+all text, raw for any other";
+
 pub const FILES_TO_UNPACK: &str = "Only files with this number or name; '*' in a name
 represents any characters. May be repeated";
 
@@ -140,11 +144,13 @@ pub const MANIFEST: &str = "List the SHA-256 checksum of each complete file in
 MANIFEST.sha256, as 'sha256sum' does, and in
 MANIFEST.jsonl also which images its blocks came from";
 
-pub const VERIFY: &str = "Check the files of DIR against MANIFEST.sha256, and
-recover nothing: takes DIR alone";
+pub const VERIFY: &str = "Check the files of DIR against MANIFEST.sha256 and, if
+IMAGEs are named, against these; recover nothing";
 
 // `unpack`: errors in arguments.
-pub const VERIFY_ALONE: &str = "--verify takes DIR and nothing else: it reads no images";
+pub const VERIFY_ALONE: &str =
+    "--verify recovers nothing: it takes DIR, --form and IMAGEs, and with IMAGEs
+also --set and --file";
 
 pub const TOO_MANY_TO_UNPACK: &str =
     "unpack takes up to 256 IMAGEs, and any number of names from a list:
@@ -193,6 +199,9 @@ One line per file:
 With --list, READY or LACKS and a section replaces COMPLETE and AWAITS: whether
 each section of the file is complete on some image, and its blocks are in the
 format that HDR2 states. EXISTS then says only that a file of this name exists.
+With --form auto the form follows READY and the number of records: 'lines' if
+each byte of the records is printable ASCII, a tab or a form feed, otherwise
+'raw'.
 
 Further lines:
   NO SET ABC002            no file was found that --set or --file means
@@ -224,14 +233,21 @@ not agree, and the number of files by outcome:
   NOT READ ABC001.3.TAXES      it cannot be read, or is not a regular file
   TOTAL 21 agree 1 differ 1 missing 1 not read
 
+With IMAGEs, --verify looks for each image of MANIFEST.jsonl among them, by its
+size and SHA-256, and prints a line for each that it does not find:
+  IMAGE DIFFERS a.tap          its contents were changed
+  IMAGE MISSING b.tap          it was not named
+  IMAGE NOT READ c.tap         it cannot be read, or MANIFEST.jsonl has no sum
+Then the files are compared with those on the images, and nothing is recovered.
+
 Exit status: 0 all chosen files complete and all images read, 1 error, 2 usage
 error, 3 a file is incomplete, in conflict or not found, an image was not read
 to its end, or no file was found. With --verify: 0 all files of the list agree,
-3 a file does not, or the list is empty
+and each file on the IMAGEs EXISTS; 3 one does not, or the list is empty
 
 Examples:
   mkdir ../out; tape unpack ../out *.tap
-  tape unpack ../out *.tap --manifest; tape unpack --verify ../out
+  tape unpack ../out *.tap --manifest; tape unpack --verify ../out *.tap
   find . -name '*.tap' -print0 | tape unpack ../out --files-from - --null
   tape unpack ../out *.tap --set ABC001 --file 2 --file 'PAY*' --list";
 

@@ -14,11 +14,14 @@ use crate::fault::{OUT_OF_MEMORY, ToolFault};
 use crate::normal::NormalImages;
 use crate::program::{End, end_of};
 use crate::screen::Progress;
+use std::alloc::Global;
 use std::cell::Cell;
+use std::io;
 use std::io::Write;
 use tape_blocks::Form;
 use tape_label::Field;
-use tape_run::{Content, Place, SalvageTask, SetFile, WriteFailed, salvage_to, set_of};
+use tape_run::{BlockRun, Content, Place, SalvageTask, SetFile, WriteFailed, salvage_to, set_of};
+use tape_set::Position;
 
 /// A slot that keeps a file without giving it a name.
 #[derive(Drop)]
@@ -29,6 +32,79 @@ impl Place<Summed> for Kept {
 
     fn place(&mut self, out: Summed) -> Result<(), WriteFailed> {
         self.0 = Some(out);
+        Ok(())
+    }
+}
+
+/// A report of `salvage`: its last line, and the images from which sections are read.
+#[derive(Drop)]
+struct SectionLines {
+    last: LastLine,
+    /// The number of each section, and that of its image, counted from 0.
+    sections: Vec<(u16, usize)>,
+    /// Whether there was no memory for all of them.
+    is_short: bool,
+}
+
+impl SectionLines {
+    /// Creates a report without lines.
+    fn new(alloc: Global) -> SectionLines {
+        SectionLines {
+            last: LastLine::new(),
+            sections: Vec::new(alloc),
+            is_short: false,
+        }
+    }
+
+    /// Returns where the blocks of a complete file came from, of which each section is read from
+    /// one image.
+    fn runs(&self, alloc: Global) -> Result<Vec<BlockRun>, ToolFault> {
+        let mut runs = Vec::new(alloc);
+        let sections = self.sections.as_slice();
+        for (number, (sect, image)) in sections.iter().enumerate() {
+            let next = sections.get(number.saturating_add(1));
+            let end = next.map_or(Position::Finished, |next| start_of(next.0));
+            let (image, from) = (Some(*image), start_of(*sect));
+            if self.is_short || runs.push(BlockRun { image, from, end }).is_err() {
+                return Err(OUT_OF_MEMORY);
+            }
+        }
+        Ok(runs)
+    }
+}
+
+/// Returns the position before the first block of a section.
+fn start_of(sect: u16) -> Position {
+    let (block, part) = (0, 0);
+    Position::Awaits { sect, block, part }
+}
+
+/// Returns the section and the image of a line `SECTION`.
+fn section_in(line: &[u8]) -> Option<(u16, usize)> {
+    let mut words = str::from_utf8(line)
+        .ok()?
+        .strip_prefix("SECTION ")?
+        .split(' ');
+    let sect = words.next()?.parse::<u16>().ok()?;
+    let image = words.next()?.parse::<usize>().ok()?;
+    Some((sect, image.checked_sub(1)?))
+}
+
+impl Write for SectionLines {
+    fn write(&mut self, buf: &[u8]) -> io::Result<usize> {
+        for byte in buf {
+            self.last.write_all(&[*byte])?;
+            if *byte == b'\n'
+                && let Some(section) = section_in(self.last.text())
+                && self.sections.push(section).is_err()
+            {
+                self.is_short = true;
+            }
+        }
+        Ok(buf.len())
+    }
+
+    fn flush(&mut self) -> io::Result<()> {
         Ok(())
     }
 }
@@ -57,17 +133,27 @@ impl<'n, R: Progress, P: Write> Run<'n, R, P> {
 
     /// Returns how a comparison ends of the file at `out` with an incomplete file that is recovered
     /// as `salvage` does: as that of equal files only if it is complete, its labels are those of
-    /// one file, and both have the same records.
-    pub fn compare_salvaged(&self, file: &SetFile, out: &str) -> Result<End, ToolFault> {
+    /// one file, and both have the same records. `runs` then gets where its blocks came from.
+    pub fn compare_salvaged(
+        &self,
+        file: &SetFile,
+        out: &str,
+        runs: &mut Vec<BlockRun>,
+    ) -> Result<End, ToolFault> {
         let rt = self.rt;
         let names = self.names_of_set(file.set_id)?;
         let names = names.as_slice();
         let differs = &Cell::new(false);
         let existing = Existing::open(rt.host(), out, differs)?;
         let images = &mut NormalImages::again(rt, names);
-        let (task, told) = (salvage_task(file, self.order.form), &mut LastLine::new());
+        let (task, told) = (
+            salvage_task(file, self.form()),
+            &mut SectionLines::new(rt.alloc()),
+        );
         match salvage_to(rt.alloc(), &task, images, existing, &mut Comparison, told) {
             Ok(true) => {
+                *runs = told.runs(rt.alloc())?;
+                self.renumber(names, runs);
                 let images = &mut NormalImages::again(rt, names);
                 let same = are_of_one_file(rt.alloc(), images, file)?;
                 Ok(if same { End::Done } else { End::Incomplete })
@@ -81,7 +167,7 @@ impl<'n, R: Progress, P: Write> Run<'n, R, P> {
 /// Recovers an incomplete file as `salvage` does, from the images named `names`. It gets its name
 /// only if `salvage` would call it complete, its labels are those of one file, and it begins with
 /// all that its stage has. Otherwise nothing is changed. If it is complete, `last` remembers the
-/// last line, and `listed` the checksum, but not where its blocks came from.
+/// last line, and `listed` the checksum and from which of these images its blocks came.
 pub fn salvage_whole<'a, R: Progress>(
     rt: &'a R,
     task: &Task<'a>,
@@ -92,7 +178,7 @@ pub fn salvage_whole<'a, R: Progress>(
 ) -> Result<End, ToolFault> {
     let (draft, records) = Draft::over(rt, task.out, None)?;
     let mut place = SummedDraft { draft, found: None };
-    let (mut kept, mut told) = (Kept(None), LastLine::new());
+    let (mut kept, mut told) = (Kept(None), SectionLines::new(rt.alloc()));
     let images = &mut NormalImages::again(rt, names);
     let records = Summed::new(records, listed.is_wanted);
     let salvage = salvage_task(file, task.form);
@@ -108,8 +194,8 @@ pub fn salvage_whole<'a, R: Progress>(
     let end = place.draft.ended(end);
     if end == End::Done {
         listed.sum = place.found.take();
-        listed.runs = Vec::new(rt.alloc());
-        *last = told;
+        listed.runs = told.runs(rt.alloc())?;
+        *last = told.last;
     }
     Ok(end)
 }
@@ -136,7 +222,7 @@ fn is_certain<R: Progress>(
 ) -> Result<bool, ToolFault> {
     if !task
         .stage
-        .is_some_and(|stage| is_front(rt.host(), stage, path, task.form))
+        .is_some_and(|stage| is_front(rt.host(), file, stage, path, task.form))
     {
         return Ok(false);
     }

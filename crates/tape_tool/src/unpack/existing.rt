@@ -2,6 +2,7 @@
 
 ghost use Rattle.std.specs.Prelude.{None};
 
+use super::chosen::extract_in_form;
 use super::report::{Ended, LastLine};
 use super::run::Run;
 use super::summed::sum_of;
@@ -20,7 +21,7 @@ use std::{fs, io};
 use tape_core::MemorySink;
 use tape_run::{
     BlockRun, Locations, Mounted, OutSink, Place, Session, SetFile, UnpackOutcome, WriteFailed,
-    extract_in_passes, extract_located,
+    extract_located,
 };
 use tape_writer::system::found;
 
@@ -88,8 +89,9 @@ impl Place<Existing<'_>> for Comparison {
 
 impl<R: Progress, P: Write> Run<'_, R, P> {
     /// Compares the file at `out`, which exists, with that on the images, and prints the outcome.
-    /// Only a plain file is compared. Nothing of it is written.
-    pub fn compare_file(&mut self, file: &SetFile, out: &str) -> Ended {
+    /// Only a plain file is compared. Nothing of it is written. If it is complete, what a run that
+    /// was killed left next to it is removed, unless files are verified.
+    pub fn compare_file(&mut self, file: &SetFile, out: &str, stage: &str) -> Ended {
         let mut runs = Vec::new(self.rt.alloc());
         let outcome = match self.compared(file, out, &mut runs) {
             Ok(outcome) => outcome,
@@ -97,6 +99,9 @@ impl<R: Progress, P: Write> Run<'_, R, P> {
             Err(fault) => return self.tell_failed(file, out, fault),
         };
         self.tell(file, outcome, b"", out)?;
+        if outcome == UnpackOutcome::Exists && !self.order.verify {
+            self.remove_remains(file, out, stage)?;
+        }
         Ok(if outcome == UnpackOutcome::Exists {
             End::Done
         } else {
@@ -117,18 +122,19 @@ impl<R: Progress, P: Write> Run<'_, R, P> {
         if !fs::symlink_metadata(rt.host(), out).is_ok_and(|there| there.is_file()) {
             return Ok(UnpackOutcome::NotCompared);
         }
+        self.choose_whole(file)?;
         let differs = &Cell::new(false);
         let task = &Task {
             set_id: file.set_id,
             file: file.file,
             out,
-            form: self.order.form,
+            form: self.form(),
             stage: None,
             again: true,
             wide: file.wide,
         };
         let mut end = End::Incomplete;
-        if file.lacks.is_none() {
+        if file.lacks.is_none() && self.form.is_some() {
             let existing = Existing::open(rt.host(), out, differs)?;
             let images = &mut NormalImages::again(rt, self.names);
             let (mounted, locations) = (&mut self.mounted, &self.met.locations);
@@ -185,9 +191,9 @@ impl<R: Progress, P: Write> Run<'_, R, P> {
 
     /// Recovers a file in passes, its data in memory, and compares its records. If it stays
     /// incomplete, and no image had other data, recovers it as `salvage` does. `runs` gets where
-    /// its blocks came from, unless it was recovered so.
+    /// its blocks came from.
     fn compare_in_passes(
-        &self,
+        &mut self,
         file: &SetFile,
         task: &Task<'_>,
         existing: Existing<'_>,
@@ -210,12 +216,13 @@ impl<R: Progress, P: Write> Run<'_, R, P> {
         let opener = &mut Compared::new(rt.alloc(), true);
         opener.is_recorded = self.manifest.is_some();
         let (session, last) = (&mut session, &mut LastLine::new());
-        let form = task.form;
-        let answer = extract_in_passes(session, images, opener, true, form, &mut existing, last);
+        let form = &mut self.form;
+        let answer = extract_in_form(session, images, opener, form, &mut existing, last);
         let end = extract_end(answer);
         if end == End::Incomplete && opener.differing.is_empty() {
-            *runs = Vec::new(rt.alloc());
-            return self.compare_salvaged(file, task.out);
+            let names = self.names_of_set(file.set_id)?;
+            self.choose_salvaged(file, names.as_slice())?;
+            return self.compare_salvaged(file, task.out, runs);
         }
         *runs = self.runs_in_passes(names.as_slice(), opener, session.want())?;
         Ok(end)

@@ -2,6 +2,7 @@
 ghost use Rattle.std.specs.Prelude.{◌≡◌, ◌++◌, [], IfOk, IfSome, OnOk};
 
 use super::manifest::{path_in, place_text, read_text};
+use super::offsets::{Starts, block_offset, starts_in};
 use crate::build_note::Note;
 use crate::fault::{FileFault, ToolFault};
 use crate::refusal::FileId;
@@ -9,10 +10,11 @@ use crate::screen::{Host, Progress};
 use indexmap::IndexMap;
 use std::alloc::{AllocError, Global};
 use std::fs;
+use tape_run::SectionKey;
 use tape_writer::system::found;
 
 /// The name of the record.
-const RECORD: &str = "MANIFEST.jsonl";
+pub const RECORD: &str = "MANIFEST.jsonl";
 
 /// The beginning of each line.
 const ROW: &[u8] = b"{\"row\":\"";
@@ -105,8 +107,9 @@ pub struct Record {
     lines: RecordLines,
     /// How the program was built.
     pub note: Note,
-    /// The numbers of the images from which blocks came, counted from 0.
-    used: Vec<usize>,
+    /// The images from which blocks came, by their numbers, counted from 0, and where the data of
+    /// their sections begin.
+    used: IndexMap<usize, Starts>,
 }
 
 impl Record {
@@ -123,7 +126,7 @@ impl Record {
             len: 0,
             lines: RecordLines::new(rt.alloc()),
             note: Note::read(rt),
-            used: Vec::new(rt.alloc()),
+            used: IndexMap::new(rt.alloc()),
         };
         record.read(rt)?;
         Ok(record)
@@ -166,17 +169,29 @@ impl Record {
         self.lines.add(line)
     }
 
-    /// Remembers that blocks came from image `number`.
-    pub fn note_use(&mut self, number: usize) -> Result<(), AllocError> {
-        if !self.used.contains(&number) {
-            self.used.push(number)?;
+    /// Remembers that blocks came from image `number`, at `path`, and returns the byte offset there
+    /// of this block of a section, if it is found.
+    pub fn note_use<R: Host>(
+        &mut self,
+        rt: &R,
+        number: usize,
+        path: &str,
+        (key, block): (SectionKey, u32),
+    ) -> Result<Option<u64>, AllocError> {
+        if !self.used.contains_key(&number) {
+            let starts = starts_in(rt, path)?;
+            self.used.insert(number, starts).map_err(|_| AllocError)?;
         }
-        Ok(())
+        let starts = self.used.get(&number);
+        match starts.and_then(|starts| starts.get(&key)).copied() {
+            Some(Some(start)) => block_offset(rt, path, start, block),
+            _ => Ok(None),
+        }
     }
 
     /// Returns whether blocks came from image `number`.
     pub fn is_used(&self, number: usize) -> bool {
-        self.used.contains(&number)
+        self.used.contains_key(&number)
     }
 
     /// Writes the record, if the run added a line. It replaces the record that was read, if that is

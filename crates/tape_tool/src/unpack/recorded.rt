@@ -10,20 +10,12 @@ use crate::refusal::open;
 use crate::screen::{Host, Progress};
 use std::fs;
 use std::io::Write;
-use tape_blocks::Form;
 use tape_label::Vol1;
-use tape_run::{BlockRun, FileKey, First, ImageSurvey, SetFile};
+use tape_run::{BlockRun, FileKey, First, ImageSurvey, SectionKey, SetFile};
+use tape_set::Position;
 use tape_writer::system::{found, name_in_folder};
 
 impl<R: Progress, P: Write> Run<'_, R, P> {
-    /// Returns the name of the form in which records are written.
-    fn form_name(&self) -> &'static str {
-        match self.order.form {
-            Form::Lines => "lines",
-            Form::Raw => "raw",
-        }
-    }
-
     /// Adds a line to the record, if that is to be extended.
     fn record(&mut self, line: &[u8]) -> Result<(), ToolFault> {
         if let Some(manifest) = &mut self.manifest {
@@ -84,7 +76,7 @@ impl<R: Progress, P: Write> Run<'_, R, P> {
         };
         let line = recorded_file(self.rt.alloc(), name, written, build, note)?;
         self.record(line.as_slice())?;
-        self.record_runs(path, runs)
+        self.record_runs(file, path, runs)
     }
 
     /// Adds an incomplete file with its stage, unless the record has it and the run added nothing.
@@ -103,7 +95,7 @@ impl<R: Progress, P: Write> Run<'_, R, P> {
             return Ok(());
         }
         self.record(line.as_slice())?;
-        self.record_runs(stage, listed.runs.as_slice())
+        self.record_runs(file, stage, listed.runs.as_slice())
     }
 
     /// Adds the salvaged records of a file, at `path`, with their gaps at `gaps`, unless the record
@@ -122,16 +114,30 @@ impl<R: Progress, P: Write> Run<'_, R, P> {
         Ok(())
     }
 
-    /// Adds where the blocks of the file at `path` came from.
-    fn record_runs(&mut self, path: &str, runs: &[BlockRun]) -> Result<(), ToolFault> {
-        let (alloc, names) = (self.rt.alloc(), self.names);
+    /// Adds where the blocks of a file came from, which is recorded with the name of `path`.
+    fn record_runs(
+        &mut self,
+        file: &SetFile,
+        path: &str,
+        runs: &[BlockRun],
+    ) -> Result<(), ToolFault> {
+        let (rt, names) = (self.rt, self.names);
         for run in runs {
             let image = run.image.and_then(|number| names.get(number)).copied();
-            let line = recorded_blocks(alloc, name_in_folder(path), *run, image)?;
+            let offset = match (
+                &mut self.manifest,
+                run.image,
+                image,
+                block_at(file, run.from),
+            ) {
+                (Some(manifest), Some(number), Some(image), Some(at)) => {
+                    manifest.record.note_use(rt.host(), number, image, at)?
+                }
+                _ => None,
+            };
+            let from = image.map(|image| (image, offset));
+            let line = recorded_blocks(rt.alloc(), name_in_folder(path), *run, from)?;
             self.record(line.as_slice())?;
-            if let (Some(manifest), Some(number)) = (&mut self.manifest, run.image) {
-                manifest.record.note_use(number)?;
-            }
         }
         Ok(())
     }
@@ -164,6 +170,15 @@ impl<R: Progress, P: Write> Run<'_, R, P> {
     }
 }
 
+/// Returns the section and the block at this position of a file, or `None` at its end.
+fn block_at(file: &SetFile, position: Position) -> Option<(SectionKey, u32)> {
+    let Position::Awaits { sect, block, .. } = position else {
+        return None;
+    };
+    let (set_id, file) = (file.set_id, file.file);
+    Some((SectionKey { set_id, file, sect }, block))
+}
+
 /// Returns the volume label with which an image begins, if it does.
 fn label_of(image: &ImageSurvey) -> Option<Vol1> {
     match image.glance.first {
@@ -173,7 +188,7 @@ fn label_of(image: &ImageSurvey) -> Option<Vol1> {
 }
 
 /// Returns the size and the checksum of the file at `path`, if it can be read.
-fn read_sum<R: Host>(rt: &R, path: &str) -> Option<(u64, [u8; 32])> {
+pub fn read_sum<R: Host>(rt: &R, path: &str) -> Option<(u64, [u8; 32])> {
     let mut file = open(rt, path).ok()?;
     let size = file.metadata().ok()?.len();
     match sum_of(&mut file, size) {

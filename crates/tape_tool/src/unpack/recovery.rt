@@ -1,5 +1,6 @@
 //! The recovery of one file from the images.
 
+use super::chosen::extract_in_form;
 use super::completion::salvage_whole;
 use super::report::LastLine;
 use super::run::Run;
@@ -16,8 +17,8 @@ use std::fs;
 use std::io::Write;
 use tape_label::Field;
 use tape_run::{
-    BlockRun, Locations, Mounted, OutSink, Session, SetFile, extract_in_passes, extract_located,
-    is_passed, last_line, position_of, runs_of, write_text,
+    BlockRun, Locations, Mounted, OutSink, Session, SetFile, extract_located, is_passed, last_line,
+    position_of, runs_of, write_text,
 };
 use tape_set::Want;
 use tape_writer::system::found;
@@ -36,16 +37,17 @@ impl<'n, R: Progress, P: Write> Run<'n, R, P> {
         listed: &mut Listed,
         last: &mut LastLine,
     ) -> Result<End, ToolFault> {
+        self.choose_whole(file)?;
         let task = Task {
             set_id: file.set_id,
             file: file.file,
             out,
-            form: self.order.form,
+            form: self.form(),
             stage: Some(stage),
             again: true,
             wide: file.wide,
         };
-        if file.lacks.is_none() {
+        if file.lacks.is_none() && self.form.is_some() {
             let images = &mut NormalImages::again(self.rt, self.names);
             let (mounted, locations) = (&mut self.mounted, &self.met.locations);
             let end = extract_whole(self.rt, &task, images, mounted, locations, listed, last);
@@ -62,7 +64,16 @@ impl<'n, R: Progress, P: Write> Run<'n, R, P> {
         let end = self.recover_in_passes(&task, stage, listed, last)?;
         if end == End::Incomplete && self.differing.is_empty() {
             let names = self.names_of_set(file.set_id)?;
-            return salvage_whole(self.rt, &task, file, names.as_slice(), listed, last);
+            self.choose_salvaged(file, names.as_slice())?;
+            let task = Task {
+                form: self.form(),
+                ..task
+            };
+            let end = salvage_whole(self.rt, &task, file, names.as_slice(), listed, last)?;
+            if end == End::Done {
+                self.renumber(names.as_slice(), &mut listed.runs);
+            }
+            return Ok(end);
         }
         Ok(end)
     }
@@ -114,8 +125,8 @@ impl<'n, R: Progress, P: Write> Run<'n, R, P> {
         let mut output = SummedOutput::new(draft, out, listed.is_wanted);
         let opener = &mut Compared::new(rt.alloc(), true);
         opener.is_recorded = listed.is_wanted;
-        let (session, form) = (&mut session, task.form);
-        let answer = extract_in_passes(session, images, opener, true, form, &mut output, last);
+        let (session, form) = (&mut session, &mut self.form);
+        let answer = extract_in_form(session, images, opener, form, &mut output, last);
         let mut place = output.place;
         listed.sum = place.found.take();
         listed.want = session.want();
@@ -151,12 +162,17 @@ impl<'n, R: Progress, P: Write> Run<'n, R, P> {
     ) -> Result<Vec<BlockRun>, AllocError> {
         let openings = opener.openings.as_slice();
         let mut runs = runs_of(self.rt.alloc(), openings, position_of(want))?;
-        for run in &mut runs {
+        self.renumber(names, &mut runs);
+        Ok(runs)
+    }
+
+    /// Replaces the numbers of images among those named `names` by those among all images.
+    pub fn renumber(&self, names: &[&str], runs: &mut Vec<BlockRun>) {
+        for run in runs {
             if let Some(number) = run.image {
                 run.image = place_of(self.names, names, number);
             }
         }
-        Ok(runs)
     }
 }
 

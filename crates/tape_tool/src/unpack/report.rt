@@ -5,6 +5,7 @@ use crate::fault::{FaultLine, ToolFault};
 use crate::program::End;
 use crate::screen::Progress;
 use arrayvec::ArrayVec;
+use std::alloc::AllocError;
 use std::io::Write;
 use std::{io, mem};
 use tape_run::{
@@ -68,6 +69,21 @@ impl<R: Progress, P: Write> Run<'_, R, P> {
         Ok(report_file(alloc, out, tally, file, outcome, details, path)?)
     }
 
+    /// Returns what follows the word of an outcome in its line: what follows the first word of
+    /// `last`, and then the form of a file that has one that was chosen.
+    pub fn details(&self, outcome: UnpackOutcome, last: &[u8]) -> Result<Vec<u8>, AllocError> {
+        let mut details = Vec::from_slice(self.rt.alloc(), after_word(last))?;
+        let has_form = match outcome {
+            UnpackOutcome::Complete | UnpackOutcome::Ready | UnpackOutcome::Salvaged => true,
+            _ => false,
+        };
+        if has_form && self.order.form.is_none() && self.form.is_some() {
+            details.push(b' ')?;
+            details.extend_from_slice(self.form_name().as_bytes())?;
+        }
+        Ok(details)
+    }
+
     /// Prints the images that had other data of a file than those read before them.
     pub fn tell_differing(&mut self, file: &SetFile) -> Result<(), ToolFault> {
         let names = self.names;
@@ -92,7 +108,7 @@ impl<R: Progress, P: Write> Run<'_, R, P> {
 }
 
 /// Returns what follows the first word of a line.
-pub fn after_word(line: &[u8]) -> &[u8] {
+fn after_word(line: &[u8]) -> &[u8] {
     match line.iter().position(|byte| *byte == b' ') {
         Some(end) => &line[end..],
         None => b"",

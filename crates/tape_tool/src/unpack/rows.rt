@@ -259,12 +259,13 @@ pub fn salvaged_file(
     ended(writer)
 }
 
-/// Returns the line of blocks of the file named `name`, which came from the image at `image`.
+/// Returns the line of blocks of the file named `name`, which came from the image with this name;
+/// the first of them is at this byte offset, if that is known.
 pub fn recorded_blocks(
     alloc: Global,
     name: &str,
     run: BlockRun,
-    image: Option<&str>,
+    from: Option<(&str, Option<u64>)>,
 ) -> Result<Vec<u8>, AllocError>
     ensures { IfOk result (λ line. IsJsonLine line.items) }
 {
@@ -272,10 +273,12 @@ pub fn recorded_blocks(
     add_member(&mut writer, "name", JsonCell::Text(name))?;
     add_position(&mut writer, "section", "block", "part", run.from)?;
     add_position(&mut writer, "end_section", "end_block", "end_part", run.end)?;
-    match image {
-        Some(image) => add_member(&mut writer, "image", JsonCell::Text(image))?,
-        None => add_member(&mut writer, "image", JsonCell::Null)?,
-    }
+    let (image, offset) = match from {
+        Some((image, offset)) => (JsonCell::Text(image), offset),
+        None => (JsonCell::Null, None),
+    };
+    add_member(&mut writer, "image", image)?;
+    add_number(&mut writer, "offset", offset)?;
     ended(writer)
 }
 

@@ -1,12 +1,12 @@
 //! Recovers files from images into a directory.
 
-use super::UnpackOrder;
 use super::completion::salvage_task;
 use super::manifest::{Manifest, verify};
-use super::report::{Ended, LastLine, after_word};
+use super::report::{Ended, LastLine};
 use super::salvaged::Salvaged;
-use super::stages::is_front;
+use super::sources::Recorded;
 use super::summed::Listed;
+use super::{UnpackOrder, has_images};
 use crate::dates::set_time;
 use crate::explain::FaultSite;
 use crate::extract::no_draft;
@@ -15,12 +15,13 @@ use crate::help;
 use crate::images::names_of;
 use crate::normal::{Normal, NormalImages};
 use crate::program::{End, check_end};
-use crate::refusal::{Refusal, no_pipes, remove};
+use crate::refusal::Refusal;
 use crate::screen::{Host, Progress};
 use crate::words::set_id_of;
 use std::alloc::AllocError;
 use std::io::{BufWriter, Write};
 use std::{fs, io};
+use tape_blocks::Form;
 use tape_label::Field;
 use tape_run::{
     FileChoice, FoundFiles, Mounted, SetFile, Tally, UnpackOutcome, file_line, file_name,
@@ -45,6 +46,12 @@ pub struct Run<'n, R: Progress, P> {
     pub differing: Vec<usize>,
     /// The image that stays open from file to file.
     pub mounted: Option<Mounted<Normal<R>>>,
+    /// What is recorded about the files that are verified.
+    pub recorded: &'n Recorded,
+    /// The form of the current file, unless it is not chosen yet.
+    pub form: Option<Form>,
+    /// The image that stays open from file to file whose forms are chosen.
+    pub checked: Option<Mounted<Normal<R>>>,
     /// The lines of the report, and how many files they were about.
     pub out: P,
     pub tally: Tally,
@@ -52,24 +59,39 @@ pub struct Run<'n, R: Progress, P> {
     pub manifest: Option<Manifest>,
 }
 
-/// Recovers every file on the images that the arguments name. On error, `site` says where it
-/// occurred.
+/// Recovers every file on the images that the arguments name, or verifies the files of the
+/// directory. On error, `site` says where it occurred.
 pub fn unpack<'a, R: Progress>(
     rt: &R,
     order: &UnpackOrder<'a>,
     site: &mut FaultSite<'a>,
 ) -> Result<End, Refusal> {
-    let folder = order.folder;
-    if order.verify {
-        return verify(rt, folder, site);
+    if !order.verify {
+        return unpack_images(rt, order, site);
     }
+    let listed = verify(rt, order.folder, site)?;
+    if !has_images(order) {
+        return Ok(listed);
+    }
+    Ok(match unpack_images(rt, order, site)? {
+        End::Done => listed,
+        end => end,
+    })
+}
+
+/// Recovers every file on the images that the arguments name, or compares it with the one in the
+/// directory.
+fn unpack_images<'a, R: Progress>(
+    rt: &R,
+    order: &UnpackOrder<'a>,
+    site: &mut FaultSite<'a>,
+) -> Result<End, Refusal> {
+    let folder = order.folder;
     let mut text = String::new(rt.alloc());
     let names = names_of(rt.host(), &order.images, &mut text, site)?;
     let names = names.as_slice();
     no_draft(names, order.images.list)?;
-    no_pipes(rt.host(), names)?;
-    let is_listed = order.manifest && !order.list;
-    let manifest = manifest_of(rt.host(), folder, is_listed, site)?;
+    let (manifest, recorded) = lists_of(rt.host(), order, site)?;
     let out = BufWriter::new(rt.alloc(), io::writer(rt)).map_err(|_| AllocError)?;
     let met = find_files(rt.alloc(), &mut NormalImages::new(rt, names));
     let met = met.map_err(|fault| ToolFault::Run(fault))?;
@@ -85,6 +107,9 @@ pub fn unpack<'a, R: Progress>(
         met: &met,
         differing: Vec::new(rt.alloc()),
         mounted: None,
+        recorded: &recorded,
+        form: None,
+        checked: None,
         out,
         tally: Tally::new(),
         manifest,
@@ -101,14 +126,14 @@ pub fn unpack<'a, R: Progress>(
     })
 }
 
-/// Checks that the directory for the files exists, and reads its lists if they are to be extended.
-/// On error, `site` says where it occurred.
-fn manifest_of<'a, R: Host>(
+/// Checks that the directory for the files exists. Reads its lists if they are to be extended, and
+/// what is recorded about its files if these are verified. On error, `site` says where it occurred.
+fn lists_of<'a, R: Host>(
     rt: &R,
-    folder: &'a str,
-    is_listed: bool,
+    order: &UnpackOrder<'a>,
     site: &mut FaultSite<'a>,
-) -> Result<Option<Manifest>, Refusal> {
+) -> Result<(Option<Manifest>, Recorded), Refusal> {
+    let folder = order.folder;
     *site = FaultSite::Folder(folder);
     match fs::metadata(rt, folder) {
         Ok(found) if found.is_dir() => {}
@@ -116,13 +141,15 @@ fn manifest_of<'a, R: Host>(
         Ok(_) => return Err(Refusal::Words(help::DIR_IS_NO_FOLDER)),
         Err(_) => return Err(Refusal::from(FileFault::NotOpened)),
     }
-    if !is_listed {
-        return Ok(None);
-    }
     *site = FaultSite::Manifest(folder);
-    let manifest = Manifest::open(rt, folder)?;
+    let (mut manifest, mut recorded) = (None, Recorded::new(rt.alloc()));
+    if order.verify {
+        recorded = Recorded::read(rt, folder)?;
+    } else if order.manifest && !order.list {
+        manifest = Some(Manifest::open(rt, folder)?);
+    }
     *site = FaultSite::Folder(folder);
-    Ok(Some(manifest))
+    Ok((manifest, recorded))
 }
 
 impl<R: Progress, P: Write> Run<'_, R, P> {
@@ -131,7 +158,7 @@ impl<R: Progress, P: Write> Run<'_, R, P> {
     fn unpack_all(&mut self) -> Ended {
         let (choice, met) = (self.choice, self.met);
         let files = met.files.as_slice();
-        let mut all = met.whole && !files.is_empty();
+        let mut all = self.compare_sources()? && met.whole && !files.is_empty();
         let mut failed = None;
         let mut before: Option<(Field<6>, u16)> = None;
         for file in files {
@@ -181,6 +208,7 @@ impl<R: Progress, P: Write> Run<'_, R, P> {
             out.push(char::from(*byte))?;
         }
         let stage = format!(in alloc; "{out}.stage")?;
+        self.begin_form(out.as_str());
         self.unpack_to(file, out.as_str(), stage.as_str())
     }
 
@@ -188,7 +216,7 @@ impl<R: Progress, P: Write> Run<'_, R, P> {
     /// incomplete one to `stage`.
     fn unpack_to(&mut self, file: &SetFile, out: &str, stage: &str) -> Ended {
         let mut last = LastLine::new();
-        let is_list = self.order.list;
+        let is_list = self.order.list || self.order.verify;
         let done = match found(fs::symlink_metadata(self.rt.host(), out)) {
             Ok(Some(_)) => Err(EXISTS),
             // Its sections alone say how the recovery of the file would end.
@@ -197,23 +225,24 @@ impl<R: Progress, P: Write> Run<'_, R, P> {
                     let _ = write!(last, "LACKS {sect}\n");
                     Ok(End::Incomplete)
                 }
-                None => Ok(End::Done),
+                None => self.choose_listed(file).map(|_| End::Done),
             },
             Ok(None) => self.unpacked(file, out, stage, &mut last),
             Err(fault) => Err(ToolFault::File(fault)),
         };
         let (outcome, path, end) = match (done, is_list) {
             (Ok(end @ End::Done), false) => (UnpackOutcome::Complete, out, end),
-            (Ok(end @ End::Done), true) => (UnpackOutcome::Ready, out, end),
+            (Ok(End::Done), true) => (UnpackOutcome::Ready, out, self.ready_end()),
             (Ok(end), false) => (UnpackOutcome::Awaits, stage, end),
             (Ok(end), true) => (UnpackOutcome::Lacks, stage, end),
             // It existed before, or was created meanwhile.
-            (Err(EXISTS), false) => return self.compare_file(file, out),
-            (Err(EXISTS), true) => (UnpackOutcome::Exists, out, End::Done),
+            (Err(EXISTS), _) if !self.order.list => return self.compare_file(file, out, stage),
+            (Err(EXISTS), _) => (UnpackOutcome::Exists, out, End::Done),
             (Err(OUT_OF_MEMORY), _) => return Err(OUT_OF_MEMORY),
             (Err(fault), _) => return self.tell_failed(file, out, fault),
         };
-        self.tell(file, outcome, after_word(last.text()), path)?;
+        let details = self.details(outcome, last.text())?;
+        self.tell(file, outcome, details.as_slice(), path)?;
         self.tell_differing(file)?;
         match outcome {
             UnpackOutcome::Complete => self.end_stage(file, out, stage)?,
@@ -225,6 +254,16 @@ impl<R: Progress, P: Write> Run<'_, R, P> {
         Ok(end)
     }
 
+    /// Returns how it ends for a file that could be recovered, but does not exist: it is missing if
+    /// files are verified.
+    fn ready_end(&self) -> End {
+        if self.order.verify {
+            End::Incomplete
+        } else {
+            End::Done
+        }
+    }
+
     /// Writes the list of checksums and the record, if they are to be extended.
     fn write_manifest(&mut self) -> Result<(), ToolFault> {
         self.record_images()?;
@@ -232,20 +271,6 @@ impl<R: Progress, P: Write> Run<'_, R, P> {
             Some(manifest) => manifest.write(self.rt),
             None => Ok(()),
         }
-    }
-
-    /// Removes the stage of a complete file if the file begins with all that the stage has. Reports
-    /// any other stage, and keeps it: a copy that was read earlier has other data.
-    fn end_stage(&mut self, file: &SetFile, out: &str, stage: &str) -> Result<(), ToolFault> {
-        let host = self.rt.host();
-        if let Ok(None) = found(fs::symlink_metadata(host, stage)) {
-            return Ok(());
-        }
-        if is_front(host, stage, out, self.order.form) {
-            remove(self.rt, stage);
-            return Ok(());
-        }
-        self.tell(file, UnpackOutcome::StageKept, b"", stage)
     }
 
     /// Recovers a file. Removes the salvaged records of a complete one, since the file then
@@ -282,7 +307,8 @@ impl<R: Progress, P: Write> Run<'_, R, P> {
         let rt = self.rt;
         let salvaged = Salvaged::of(rt.alloc(), out)?;
         let names = self.names_of_set(file.set_id)?;
-        let task = salvage_task(file, self.order.form);
+        self.choose_salvaged(file, names.as_slice())?;
+        let task = salvage_task(file, self.form());
         let path = salvaged.records.as_str();
         let mut last = LastLine::new();
         let outcome = match salvaged.write(rt, &task, names.as_slice(), &mut last) {
@@ -298,7 +324,8 @@ impl<R: Progress, P: Write> Run<'_, R, P> {
         if outcome == UnpackOutcome::Exists {
             last = LastLine::new();
         }
-        let line = file_line(rt.alloc(), file, outcome, after_word(last.text()), path)?;
+        let details = self.details(outcome, last.text())?;
+        let line = file_line(rt.alloc(), file, outcome, details.as_slice(), path)?;
         write_text(&mut self.out, line.as_slice())?;
         Ok(end)
     }

@@ -1,32 +1,72 @@
 //! The stages of files that were recovered completely.
 
 use super::existing::Existing;
+use super::run::Run;
+use super::salvaged::Salvaged;
 use crate::fault::ToolFault;
-use crate::refusal::open;
-use crate::screen::Host;
+use crate::refusal::{open, remove};
+use crate::screen::{Host, Progress};
 use crate::stage::ReadOnly;
-use crate::staging::locked_stage;
+use crate::staging::{is_unmade, locked_stage};
 use std::cell::Cell;
 use std::fs;
+use std::io::Write;
 use tape_blocks::Form;
 use tape_core::PartWalk;
-use tape_run::write_part;
+use tape_run::{SetFile, UnpackOutcome, write_part};
 use tape_stage::{Disk, Stage, StageFault, buffered_file};
+use tape_writer::system::found;
 
-/// Returns whether the data in the stage at `path`, as records in this form, are the beginning of
-/// the file at `out`. Returns false if that cannot be found out: `path` is not a plain file or not
-/// an intact stage, another run uses it, or a file cannot be read.
-pub fn is_front<R: Host>(rt: &R, path: &str, out: &str, form: Form) -> bool {
+/// Returns whether the data in the stage of `file` at `path`, as records in this form, are the
+/// beginning of the file at `out`. A file that is empty, or has only the beginning of a new stage,
+/// has no data. Returns false if that cannot be found out: `path` is not a plain file or not an
+/// intact stage, another run uses it, or a file cannot be read.
+pub fn is_front<R: Host>(rt: &R, file: &SetFile, path: &str, out: &str, form: Form) -> bool {
     // A link is not followed to a stage.
     let is_plain = fs::symlink_metadata(rt, path).is_ok_and(|found| found.is_file());
-    is_plain && compare(rt, path, out, form) == Ok(())
+    is_plain && compare(rt, file, path, out, form) == Ok(())
+}
+
+impl<R: Progress, P: Write> Run<'_, R, P> {
+    /// Removes the stage of a complete file if the file begins with all that the stage has. Reports
+    /// any other stage, and keeps it: a copy that was read earlier has other data.
+    pub fn end_stage(&mut self, file: &SetFile, out: &str, stage: &str) -> Result<(), ToolFault> {
+        let host = self.rt.host();
+        if let Ok(None) = found(fs::symlink_metadata(host, stage)) {
+            return Ok(());
+        }
+        if is_front(host, file, stage, out, self.form()) {
+            remove(self.rt, stage);
+            return Ok(());
+        }
+        self.tell(file, UnpackOutcome::StageKept, b"", stage)
+    }
+
+    /// Removes what a run that was killed left next to the file at `out`, which exists and is
+    /// complete: a stage if the file begins with all that it has, and salvaged records.
+    pub fn remove_remains(&self, file: &SetFile, out: &str, stage: &str) -> Result<(), ToolFault> {
+        if is_front(self.rt.host(), file, stage, out, self.form()) {
+            remove(self.rt, stage);
+        }
+        Salvaged::of(self.rt.alloc(), out)?.remove(self.rt)
+    }
 }
 
 /// Compares the data in a stage with a file. The stage is only read.
-fn compare<R: Host>(rt: &R, path: &str, out: &str, form: Form) -> Result<(), ToolFault> {
-    let file = open(rt, path)?;
-    locked_stage(file.try_lock_shared())?;
-    let disk = buffered_file(rt.alloc(), ReadOnly(file)).map_err(|fault| ToolFault::Stage(fault))?;
+fn compare<R: Host>(
+    rt: &R,
+    file: &SetFile,
+    path: &str,
+    out: &str,
+    form: Form,
+) -> Result<(), ToolFault> {
+    let kept = open(rt, path)?;
+    locked_stage(kept.try_lock_shared())?;
+    let disk = buffered_file(rt.alloc(), ReadOnly(kept));
+    let mut disk = disk.map_err(|fault| ToolFault::Stage(fault))?;
+    if is_unmade(&mut disk, file.set_id, file.file) == Ok(true) {
+        return Ok(());
+    }
     let opened = match Stage::open_read_only(rt.alloc(), disk) {
         Ok(opened) => opened,
         Err(refused) => return Err(ToolFault::Stage(refused.fault)),
