@@ -2,24 +2,29 @@
 """Lists of checksums and records: `unpack --manifest` and `--verify`, judged by `sha256sum` and by Python.
 Run manually; CI does not run it.
 
-    ./manifest.py [--program PATH] [--names N] [--kills N] [--seed N]
+    ./manifest.py [--program PATH] [--names N] [--shelves N] [--kills N] [--refusals N] [--seed N]
 
-- N damaged images with odd names and identifiers are unpacked, some of them a day. The blocks that MANIFEST.jsonl
-  names, read from its images by this script, are those of each file; its sums and sizes are those of files and
-  images, its identifiers those of the labels, and its keys those of docs/JSON.md. If Python's jsonschema is
-  installed, each line must have the form that docs/json.schema.json describes.
+- On each of N shelves, N / 25 damaged images with odd names and identifiers are unpacked, some of them a day. The
+  blocks that MANIFEST.jsonl names, read from its images by this script, are those of each file, and are at the
+  offsets that it has; its sums and sizes are those of files and images, its identifiers those of the labels, and its
+  keys those of docs/JSON.md. If Python's jsonschema is installed, each line must have the form that
+  docs/json.schema.json describes. `--verify` agrees with the images, finds each that was changed, was removed or is
+  not named, and each file that was changed together with its sum; it changes nothing.
+- On N shelves of files of text and of other bytes in the formats F, D and S, `--form auto` gives each file the form
+  that this script finds, also a file that was recovered on several days, or of which labels are lost.
 - Files with N odd identifiers are unpacked in two runs: the list has a line for each complete file and no
   other, `sha256sum -c --strict` accepts it, and `--verify` agrees.
 - `sha256sum` lists files with N odd names, of which some are changed or removed then: `--verify` finds the
   same files as `sha256sum -c`, and `--manifest` keeps each line, byte for byte.
 - Runs that extend a list and a record are killed at N random instants, and with each system call refused in turn,
-  by calls.c. Then each is the earlier one, or has all its lines, and a right line for each further file. A run with
+  by calls.c (or N of these calls, if N is not 0). Then each is the earlier one, or has all its lines, and a right line for each further file. A run with
   status 0 has complete ones, and so has the next run.
 
 Prints a line for each wrong result, and how many there were. Exit status 1 if one was wrong.
 """
 
 import errno
+import functools
 import hashlib
 import json
 import os
@@ -31,7 +36,7 @@ import time
 
 from common import Results, arguments, files_in, folder_with, library
 from fail import ERRORS, KINDS
-from json_rows import keys_in, validator
+from json_rows import keys_in, plain, validator
 from make_worked_image import block, label, mark, second_label, volume_label, word
 
 MANIFEST = "MANIFEST.sha256"
@@ -88,6 +93,7 @@ def agrees(folder):
     return subprocess.run(words, cwd=folder, capture_output=True, check=False).returncode == 0
 
 
+@functools.cache
 def blocks_in(image):
     """The blocks of each file of an image as `volume` makes them, and None for those that are unreadable."""
     groups, place = [[]], 0
@@ -98,6 +104,20 @@ def blocks_in(image):
         else:
             groups[-1].append(None if length >> 31 else image[place + 4:place + 4 + size])
         place += 8 + size if length else 4
+    return dict(enumerate(groups[1::3], 1))
+
+
+@functools.cache
+def offsets_in(image):
+    """The offsets of the blocks of each file of an image as `volume` makes them."""
+    groups, place = [[]], 0
+    while (length := int.from_bytes(image[place:place + 4], "little")) != 0xFFFFFFFF:
+        if length == 0:
+            groups.append([])
+        else:
+            groups[-1].append(place)
+        size = length & 0xFFFFFF
+        place += 8 + size + size % 2 if length else 4
     return dict(enumerate(groups[1::3], 1))
 
 
@@ -129,7 +149,9 @@ def recorded_blocks(groups, at, images):
             before = next(at for at in range(at - 1, -1, -1) if groups[at][0]["name"] == stage)
             found += recorded_blocks(groups, before, images)[:end]
             assert len(found) == end or end is None, run
+            assert run["offset"] is None, run
         else:
+            assert run["offset"] == next(iter(offsets_in(images[run["image"]])[number][len(found):end]), None), run
             found += blocks_in(images[run["image"]])[number][len(found):end]
         assert None not in found, run
     return found
@@ -180,6 +202,123 @@ def record_odd_names(options, results):
                 results.expect(found == blocks[:row["block"]], f"record: blocks of {row}")
         complete = {row["name"] for row, _ in groups if row["row"] == "FILE"}
         results.expect(complete == set(listed(left[MANIFEST])), "record: files")
+        verify_images(options, results, folder, rows, len(complete) == len(files))
+
+
+def verify_images(options, results, folder, rows, is_whole):
+    """`--verify` with images, on a directory that agrees with them, and with one change after another."""
+    choice, before = options.random, files_in(folder)
+    used = sorted({row["image"] for row in rows if row["row"] == "IMAGE"})
+    names = [name for name in before if "/" not in name]
+
+    def verify(names, wanted, what):
+        done = run(options, folder, "unpack", "--verify", "d", *names)
+        told = [plain(line) for line in done.stdout.decode().splitlines() if line.startswith("IMAGE")]
+        results.expect(told == wanted, f"verify, {what}: {told}, not {wanted}")
+        return done
+
+    done = verify(names, [], "all")
+    results.expect(done.returncode == (0 if is_whole else 3), f"verify: {done.returncode} {done.stdout!r} {done.stderr!r}")
+    results.expect(b" 0 differ 0 missing 0 not read" in done.stdout and b"DIFFERENT" not in done.stdout, f"verify: {done.stdout!r}")
+    results.expect(files_in(folder) == before, "verify: something was written")
+    for name in choice.sample(used, min(2, len(used))):
+        left = [other for other in names if other != name] or ["lost.tap"]
+        results.expect(verify(left, [f"IMAGE MISSING {name}"], "not named").returncode == 3, "verify: status")
+        (folder / name).write_bytes(before[name][:-1] + b"\xfe")
+        results.expect(verify(names, [f"IMAGE DIFFERS {name}"], "changed").returncode == 3, "verify: status")
+        (folder / name).unlink()
+        results.expect(verify(names, [f"IMAGE NOT READ {name}"], "removed").returncode == 3, "verify: status")
+        (folder / "moved.tap").write_bytes(before[name])
+        verify([*left, "moved.tap"], [], "renamed")
+        (folder / "moved.tap").rename(folder / name)
+    full = [name for name in listed(before[f"d/{MANIFEST}"]) if before[f"d/{name}"]]
+    if is_whole and full:
+        name = choice.choice(full)
+        changed = bytes([before[f"d/{name}"][0] ^ 1]) + before[f"d/{name}"][1:]
+        (folder / "d" / name).write_bytes(changed)
+        text = before[f"d/{MANIFEST}"].replace(digest(before[f"d/{name}"]).encode() + b"  " + name.encode() + b"\n",
+                                               digest(changed).encode() + b"  " + name.encode() + b"\n")
+        (folder / "d" / MANIFEST).write_bytes(text)
+        done = verify(names, [], "a changed file")
+        found = [plain(line) for line in done.stdout.decode().splitlines() if " DIFFERENT " in line]
+        is_found = len(found) == 1 and found[0].endswith(f" DIFFERENT d/{name}")
+        results.expect(done.returncode == 3 and is_found, f"verify: a changed file: {done.stdout!r}")
+
+
+TEXT = bytes([9, 12, *range(32, 127)])
+
+
+def recorded_file(choice, number):
+    """A file in a random format: its letter, record length, records and blocks of up to 800 bytes."""
+    letter, length = choice.choice("FDS"), choice.choice((1, 7, 80))
+    records = [bytes(choice.choices(TEXT, k=length if letter == "F" else choice.randint(0, 90))) for _ in range(choice.randint(0, 60))]
+    if records and choice.random() < 0.5:
+        at = choice.randrange(len(records))
+        odd = bytes([choice.choice([10, 0, 13, 27, 127, 128, 255, *range(256)])])
+        records[at] = odd + records[at][1:] if records[at] or letter == "F" else odd
+    heads = {"F": lambda text: text, "D": lambda text: b"%04d" % (len(text) + 4) + text, "S": lambda text: b"0%04d" % (len(text) + 5) + text}
+    blocks = [b""]
+    for record in map(heads[letter], records):
+        if len(blocks[-1]) + len(record) > 800:
+            blocks.append(b"")
+        blocks[-1] += record
+    # A block of fewer than 18 bytes is filled with circumflexes, which are no text of the records.
+    return letter, length if letter == "F" else 90 + len(heads[letter](b"")), records, [text.ljust(18, b"^") if letter != "F" else text for text in blocks if text]
+
+
+def second(kind, letter, length):
+    return label((kind, 4), (letter, 1), ("00800", 5), (f"{length if letter != 'S' else 0:05}", 5), ("", 35), ("00", 2), ("", 28))
+
+
+def mixed_volume(files, bad, lost):
+    """A volume of files in several formats, some blocks of which are unreadable, and some of whose HDR1 are lost."""
+    pieces = [volume_label("ABC001")]
+    for number, (letter, length, _, blocks) in enumerate(files, 1):
+        first = first_label("HDR1", b"FILE%d" % number, number, 0)
+        pieces += [bad_block(first[4:84]) if number in lost else first, second("HDR2", letter, length), mark()]
+        pieces += [bad_block(text + b"^" * (len(text) % 2)) if (number, place) in bad else block(text) for place, text in enumerate(blocks)]
+        pieces += [mark(), first_label("EOF1", b"FILE%d" % number, number, len(blocks)), second("EOF2", letter, length), mark()]
+    return b"".join([*pieces, mark(), word(0xFFFFFFFF)])
+
+
+def choose_forms(options, results):
+    """`--form auto` over several days, with damaged copies, and then against the images."""
+    choice = options.random
+    files = [recorded_file(choice, number) for number in range(1, 13)]
+    images = {}
+    for copy in range(3):
+        bad = {(number, place) for number in range(1, 13) for place in range(9) if choice.random() < 0.15}
+        images[f"{copy}.tap"] = mixed_volume(files, bad, {number for number in range(1, 13) if choice.random() < 0.1})
+    images["3.tap"] = mixed_volume(files, set(), {choice.randint(1, 12)})
+    wanted = {}
+    for number, (_, _, records, _) in enumerate(files, 1):
+        is_text = all(byte in TEXT for byte in b"".join(records))
+        content = b"".join(record + b"\n" * is_text for record in records)
+        wanted[f"ABC001.{number}.FILE{number}"] = content, "lines" if is_text else "raw"
+    with folder_with(images) as folder:
+        (folder / "d").mkdir()
+        for day in range(4):
+            names = choice.sample(sorted(images), choice.randint(1, 2)) if day < 3 else sorted(images)
+            words = ["--salvage"] if choice.random() < 0.3 else []
+            listed_forms = run(options, folder, "unpack", "d", *names, "--form", "auto", "--list").stdout.decode()
+            for form, name in re.findall(r" READY (?:(\w+) )?d/(\S+)$", listed_forms, re.M):
+                results.expect(form == wanted[name][1], f"auto: READY {form} {name}")
+            done = run(options, folder, "unpack", "d", *names, "--form", "auto", "--manifest", *words)
+            results.expect(done.returncode in (0, 3), f"auto: {done.returncode} {done.stderr!r}")
+            for form, name in re.findall(r" COMPLETE \d+ (?:(\w+) )?d/(\S+)$", done.stdout.decode(), re.M):
+                results.expect(form == wanted[name][1], f"auto: COMPLETE {form} {name}")
+        results.expect(done.returncode == 0 or b" AWAITS " not in done.stdout, f"auto: {done.stdout!r}")
+        left = files_in(folder / "d")
+        for name, (content, form) in wanted.items():
+            results.expect(left.get(name) in (content, None), f"auto: {name} is not {form}")
+        told = {row["name"]: row["form"] for row in rows_in(left[RECORD])[0] if row["row"] == "FILE"}
+        results.expect(told == {name: wanted[name][1] for name in told}, "auto: forms in the record")
+        results.expect(told.keys() == left.keys() & wanted.keys(), "auto: files in the record")
+        for form in ("lines", "raw", "auto"):
+            done = run(options, folder, "unpack", "--verify", "d", *sorted(images), "--form", form)
+            results.expect(b"DIFFERENT" not in done.stdout and b" 0 differ 0 missing" in done.stdout, f"auto: --verify: {done.stdout!r}")
+        done = run(options, folder, "unpack", "d", *sorted(images), "--form", "auto")
+        results.expect(done.stdout.count(b" EXISTS ") == len(told) and files_in(folder / "d") == left, f"auto: again {done.stdout!r}")
 
 
 def unpack_odd_names(options, results):
@@ -314,19 +453,25 @@ def refuse_each(options, results):
                 again_is_whole(options, results, folder, files, f"refused {refusal}")
 
         attempt("")
-        for kind, number in zip(KINDS, counts.read_text().split(), strict=False):
-            for refusal in range(1, int(number) + 1):
-                for error in ERRORS[kind]:
-                    for later in ("", "+") if error != errno.EINTR else ("",):
-                        attempt(f"{kind}{refusal}{later}:{error}")
+        refusals = [f"{kind}{refusal}{later}:{error}"
+                    for kind, number in zip(KINDS, counts.read_text().split(), strict=False)
+                    for refusal in range(1, int(number) + 1)
+                    for error in ERRORS[kind]
+                    for later in (("", "+") if error != errno.EINTR else ("",))]
+        if 0 < options.refusals < len(refusals):
+            refusals = options.random.sample(refusals, options.refusals)
+        for refusal in refusals:
+            attempt(refusal)
 
 
 def main():
-    options = arguments(__doc__, ("--names", 1000, "odd names"), ("--kills", 100, "runs that are killed"), ("--seed", 1, "of the choices"))
+    options = arguments(__doc__, ("--names", 1000, "odd names"), ("--shelves", 25, "shelves of damaged images"),
+        ("--kills", 100, "runs that are killed"), ("--refusals", 0, "refused calls, all if 0"), ("--seed", 1, "of the choices"))
     options.random = random.Random(options.seed)
     results = Results()
-    for _ in range(25):
+    for _ in range(options.shelves):
         record_odd_names(options, results)
+        choose_forms(options, results)
     unpack_odd_names(options, results)
     read_lists_of_others(options, results)
     stop_at_random(options, results)
