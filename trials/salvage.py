@@ -75,6 +75,17 @@ def items_of(image):
     return reading_of(image)[0]
 
 
+def spelled(image):
+    """The bytes of each item of an image, and those after them."""
+    made, at = [], 0
+    for item in items_of(image):
+        size = 0 if item is MARK else struct.unpack_from("<I", image, at)[0] & 0xFFFFFF
+        end = at + (4 if item is MARK else 8 + size + size % 2)
+        made.append(image[at:end])
+        at = end
+    return made, image[at:]
+
+
 def is_block(item):
     return isinstance(item, bytes)
 
@@ -114,15 +125,19 @@ class Section:
 
     def __init__(self, head, image):
         self.head, self.image, self.form, self.data, self.doubt, self.closing = head, image, None, [], None, None
-        self.is_without_second = False
+        self.is_without_second = self.is_doubted = False
 
-    def believed(self):
+    def possible(self):
+        """How many of its data items may be its blocks."""
         if self.closing:
             return len(self.data)
         labels = [first_label(item, (b"EOF1", b"EOV1")) for item in self.data]
         own = (self.head["section"], self.head["file"])
         trailers = [at for at, it in enumerate(labels) if it and (it["section"], it["file"]) == own]
-        return min([len(self.data), *trailers[:1], *([] if self.doubt is None else [self.doubt])])
+        return min([len(self.data), *trailers[:1]])
+
+    def believed(self):
+        return self.possible() if self.closing or self.doubt is None else min(self.possible(), self.doubt)
 
     def recording(self):
         return self.head["identifier"], self.head["written"]
@@ -202,8 +217,9 @@ def sections_on(items, image):
         section.form = form_in(labels[0]) if labels else None
         section.is_without_second = is_further(labels[0]) if labels else begin < len(items)
         end = next_mark(items, begin + 1)
-        section.data = items[begin + 1:end]
+        section.data, section.start = items[begin + 1:end], begin + 1
         unread = [number for number, it in enumerate(section.data) if it is BAD]
+        section.is_doubted = BAD in labels
         section.doubt = 0 if BAD in labels else unread[0] if unread else None
         if end + 1 >= len(items):
             break
@@ -235,8 +251,71 @@ def unnamed_at(items, first, image):
     if not trailer or trailer["count"] != len(data) % 1_000_000:
         return end, None
     section = Section(trailer, image)
-    section.data, section.doubt = data, 0
+    section.data, section.doubt, section.start, section.is_doubted = data, 0, first, True
     return close(section, trailer, items, end + 1), section
+
+
+# ---- joined copies
+
+def joinable(copies):
+    """The copies of a section that may complete each other, with the one first that the others complete."""
+    numbered = [it for it in copies if it.possible() and it.miscount() is None and it.is_named()]
+    base = max(numbered, key=lambda it: (bool(it.closing), it.rank() if it.closing else it.possible(), -it.image), default=None)
+    alike = [it for it in numbered if it is not base and it.recording() == base.recording()
+        and (None in (it.form, base.form) or it.form == base.form)]
+    return [base, *alike] if alike else []
+
+
+def contradiction(copies):
+    """The first two copies that close otherwise, or have another block with a number; None if there are none. And for each
+    block of the first copy the copy that has it first, or None."""
+    base, sure, found = copies[0], list(copies), []
+    for copy in copies[1:]:
+        if copy.closing and base.closing and (len(copy.data), copy.closing["name"]) != (len(base.data), base.closing["name"]):
+            return (base, copy), []
+    for at in range(base.possible()):
+        having = [it for it in sure if at < it.possible() and is_block(it.data[at])]
+        for copy in having[1:]:
+            if copy.data[at] != having[0].data[at]:
+                return (having[0], copy), []
+        found.append(having[0] if having else None)
+        if not having:
+            sure = [it for it in sure if it.closing]
+            if base not in sure:
+                break
+    return None, found
+
+
+def joined_with(images, set_id, file):
+    """The images with the blocks that they take from each other, and the lines about these."""
+    made, lines, firsts = [None if it is None else spelled(it) for it in images], [], {}
+    for number, image in enumerate(images):
+        for section in [] if image is None else sections_on(items_of(image), number):
+            if (section.head["set"], section.head["file"]) == (set_id.ljust(6).encode(), file):
+                firsts.setdefault((section.head["section"], number), section)
+    old = [it and list(it[0]) for it in made]
+    for number in range(1, max((it for it, _ in firsts), default=0) + 1):
+        own = [it for (section, _), it in firsts.items() if section == number]
+        best = max(own, key=lambda it: (it.rank(), -it.image), default=None)
+        copies = joinable(own) if own else []
+        if not copies or best.closing and best.miscount() is None and BAD not in best.data:
+            continue
+        differ, found = contradiction(copies)
+        if differ:
+            lines.append(f"CONFLICT {number} {differ[0].image + 1} {differ[1].image + 1}")
+        is_whole = found and copies[0].closing and not copies[0].is_doubted and None not in found
+        if not is_whole and sum(it is not None for it in found) <= best.rank():
+            continue
+        run = None
+        for at, copy in enumerate([*found, None]):
+            taken = copy if copy is not None and copy is not copies[0] else None
+            if run and (taken is None or taken.image != run[0]):
+                lines.append(f"FILLED {number} {run[0] + 1} {run[1]} {at - 1}")
+                run = None
+            if taken:
+                run = run or (taken.image, at)
+                made[copies[0].image][0][copies[0].start + at] = old[taken.image][taken.start + at]
+    return [it and b"".join([*it[0], it[1]]) for it in made], lines
 
 
 # ---- recovered data
@@ -326,6 +405,7 @@ class Recovered:
 def recovered(images, set_id, file, blocks):
     """The expected data of a file from some images; None represents an image that cannot be opened."""
     made, sections = Recovered(), []
+    images, made.lines = joined_with(images, set_id, file)
     for number, image in enumerate(images):
         if image is None:
             made.lines.append(f"IMAGE {number + 1} NOT OPENED")
@@ -707,7 +787,17 @@ def conflicts(trial):
         ("an unreadable block, and another one differs", [image(a, None), image(c, b)], ["SECTION 1 2 2", "COMPLETE 4"], c + b),
         ("a wrong count, and a block differs", [image(a, b), image(a, c, count=1)], ["SECTION 1 1 2", "COMPLETE 4"], a + b),
         ("none is complete", [image(a, None), image(c, None)],
+            ["CONFLICT 1 1 2", "SECTION 1 1 2", "GAP 1 1 1 2", "SALVAGED 2"], a),
+        ("they complete each other", [image(a, None), image(None, b)],
+            ["FILLED 1 2 1 1", "SECTION 1 1 2", "COMPLETE 4"], a + b),
+        ("three complete each other", [image(a, None, None), image(a, None, c), image(None, b, None)],
+            ["FILLED 1 3 1 1", "SECTION 1 2 3", "COMPLETE 6"], a + b + c),
+        ("a block that none has", [image(a, None, None), image(None, None, c)],
+            ["FILLED 1 2 2 2", "SECTION 1 1 3", "GAP 1 1 1 2", "SALVAGED 4"], a + c),
+        ("the count of one is wrong", [image(a, None), image(None, b, count=3)],
             ["SECTION 1 1 2", "GAP 1 1 1 2", "SALVAGED 2"], a),
+        ("different counts, and none is complete", [image(a, None), image(a, None, c)],
+            ["CONFLICT 1 2 1", "SECTION 1 2 3", "GAP 1 1 1 2", "SALVAGED 4"], a + c),
     ]
     for what, images, lines, text in rows:
         names = [f"{at}.tap" for at in range(len(images))]

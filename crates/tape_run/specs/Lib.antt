@@ -124,6 +124,7 @@ pub mod SalvageConflicts
 pub mod SalvageGaps
 pub mod SalvageClosed
 pub mod Salvaging
+pub mod SalvageJoined
 pub mod SalvagedSets
 pub mod SalvageWhole
 pub mod SalvageSections

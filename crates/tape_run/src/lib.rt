@@ -53,7 +53,7 @@ pub use merge::{MergeFault, Merged, merge_items};
 pub use quoting::{name_text, quoted_char};
 pub use reel_reader::ReelAnswer;
 pub use report::{Report, check_set};
-pub use salvage::{Content, SalvageTask, salvage_to};
+pub use salvage::{Content, SalvageTask, salvage_joined, salvage_to};
 pub use script::{Step, run};
 pub use section::{Entry, ImageLine, ImageStop, Lack, SectionKey, SectionLine, SectionState};
 pub use session::Session;

@@ -4,14 +4,20 @@ ghost use Rattle.std.specs.Prelude.{◌≡◌, ◌<◌, ◌⊎◌, ◌&&◌, not
 ghost use Rattle.std.specs.Prelude.{option_map, OnErr, IfOk, IfErr, if◌then◌else◌, codes};
 ghost use Rattle.std.specs.Io.KnownBytes.{Appends};
 ghost use Rattle.tape_run.specs.{Checked.IsCheckFault, SalvageLine.stopped_line};
+ghost use Rattle.tape_run.specs.SalvageJoined.{SalvagesJoined, FailsJoined};
 ghost use Rattle.tape_run.specs.Salvaging.{FindsOn, FindsAll, Salvages, StopsSalvage};
 ghost use Rattle.tape_image.specs.Written.{AppendsFront};
 
+mod aligned;
 mod conflicts;
 mod copies;
 mod ending;
+mod fill;
 mod front;
 mod image;
+mod joinable;
+pub(crate) mod joined;
+mod joining;
 mod mender;
 mod outside;
 mod recovery;
@@ -24,10 +30,12 @@ use crate::extract::images::ImageSource;
 use crate::fault::{EngineFault, NO_MEMORY, WriteFailed};
 use crate::salvage::conflicts::report_conflicts;
 use crate::salvage::copies::{SectionCopy, copies_on};
+use crate::salvage::joined::JoinedImages;
+use crate::salvage::joining::find_joins;
 use crate::salvage::recovery::Recovery;
 use crate::salvage::sections::recover_sections;
 use crate::section::ImageStop;
-use crate::text::{flush, write_line};
+use crate::text::{flush, write_line, write_text};
 use std::alloc::Global;
 use std::io::{Read, Write};
 use tape_blocks::Form;
@@ -112,6 +120,42 @@ pub fn salvage_to<W: Write + Drop, R: Read + Drop, L: ImageSource<R>, O: Place<W
     write_line(report, &format_args!("{word} {records}\n"))?;
     flush(report)?;
     Ok(complete)
+}
+
+/// Recovers the readable parts of a file as `salvage_to` does. Blocks that are unreadable on the
+/// image from which a section is read are taken from other images, if copies of the section agree
+/// in all blocks that two of them have; these blocks, and copies that do not agree, are reported
+/// first. If there are no such blocks, the images are read as they are.
+///
+/// Each image is read once more, and once more for each section that it may complete.
+///
+/// # Errors
+///
+/// As `salvage_to`.
+pub fn salvage_joined<W: Write + Drop, R: Read + Drop, L: ImageSource<R>, O: Place<W>, P: Write>(
+    alloc: Global,
+    task: &SalvageTask,
+    images: &mut L,
+    out: W,
+    place: &mut O,
+    report: &mut P,
+) -> Result<bool, EngineFault>
+    ensures ok { IfOk result (λ complete. (lines : List ℕ) × (said : Option (List ℕ))
+        × Appends (P.contents report.old) said lines × SalvagesJoined W.contents L.size L.gives
+        R.remaining task.now out images.new (O.stands place.new) said (P.contents report.new)
+        complete) }
+    ensures err { OnErr result (FailsJoined W.contents L.size L.gives R.remaining task.now out
+        images.new (O.stands place.old) (O.stands place.new) (P.contents report.old)
+        (P.contents report.new)) }
+    ensures fault { IfErr result IsCheckFault }
+{
+    let joins = find_joins(alloc, task, images)?;
+    write_text(report, joins.lines.as_slice())?;
+    if joins.fills.is_empty() {
+        return salvage_to(alloc, task, images, out, place, report);
+    }
+    let mut joined = JoinedImages::new(alloc, images, joins.fills.as_slice());
+    salvage_to(alloc, task, &mut joined, out, place, report)
 }
 
 /// Returns whether nothing is missing and no copies differ.

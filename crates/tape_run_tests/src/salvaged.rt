@@ -151,7 +151,7 @@ const CHANGED: &[(&[(usize, u8)], bool, &str, usize)] = &[
 ];
 
 /// Returns the example image with the bytes of `changes` changed.
-fn changed(alloc: Global, changes: &[(usize, u8)]) -> Result<Image, AllocError> {
+pub fn changed(alloc: Global, changes: &[(usize, u8)]) -> Result<Image, AllocError> {
     let mut image = cut(alloc, 2484)?;
     for (place, value) in changes {
         if let Some(byte) = image.bytes.as_mut_slice().get_mut(*place) {

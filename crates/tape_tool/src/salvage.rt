@@ -15,7 +15,7 @@ use clap::ArgMatches;
 use std::alloc::Global;
 use std::io;
 use tape_blocks::Form;
-use tape_run::{Content, SalvageTask, salvage_to};
+use tape_run::{Content, SalvageTask, salvage_joined};
 
 /// The request to `salvage`: the file to recover, the images and the output.
 #[derive(Drop)]
@@ -97,7 +97,7 @@ pub fn salvage<'a, R: Progress>(
     let images = &mut NormalImages::new(rt, names.as_slice());
     let report = &mut io::writer(rt);
     let task = &order.task;
-    let end = check_end(salvage_to(rt.alloc(), task, images, out, &mut draft, report));
+    let end = check_end(salvage_joined(rt.alloc(), task, images, out, &mut draft, report));
     if draft.has_taken() && !order.now {
         date_output(rt, order.out, names.as_slice(), task.set_id, task.file);
     }

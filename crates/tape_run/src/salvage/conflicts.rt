@@ -19,7 +19,7 @@ use tape_core::Known;
 
 /// Returns whether the HDR1 of two copies of a section say different things: they are not copies of
 /// one recording.
-fn are_other_labels(best: &SectionCopy, copy: &SectionCopy) -> bool
+pub fn are_other_labels(best: &SectionCopy, copy: &SectionCopy) -> bool
     ensures { result ≡ are_other_labels best.now copy.now }
 {
     best.section.file_id.bytes() != copy.section.file_id.bytes()
@@ -28,7 +28,7 @@ fn are_other_labels(best: &SectionCopy, copy: &SectionCopy) -> bool
 }
 
 /// Returns whether both closed, and the file ends with both of them or with none.
-fn end_alike(one: &Option<Closing>, other: &Option<Closing>) -> bool
+pub fn end_alike(one: &Option<Closing>, other: &Option<Closing>) -> bool
     ensures { result ≡ end_alike one.now other.now }
 {
     match (one, other) {
@@ -49,7 +49,7 @@ fn are_unlike(best: &SectionCopy, copy: &SectionCopy) -> bool
 }
 
 /// Returns whether the forms of both copies are recorded, and differ.
-fn are_other_forms(one: &Option<Known>, other: &Option<Known>) -> bool
+pub fn are_other_forms(one: &Option<Known>, other: &Option<Known>) -> bool
     ensures { result ≡ are_other_forms one.now other.now }
 {
     match (one, other) {
@@ -157,7 +157,7 @@ fn is_form_of(copy: &SectionCopy, form: &Option<Known>) -> bool
 }
 
 /// Returns whether its trailer label, if it has one, names the file of its HDR1.
-fn is_named(copy: &SectionCopy) -> bool
+pub fn is_named(copy: &SectionCopy) -> bool
     ensures { result ≡ is_named_copy copy.now }
 {
     match copy.closed {

@@ -52,6 +52,15 @@ impl SectionCopy {
         }
     }
 
+    /// Returns how many of its data items may be its blocks: those before the first that reads as
+    /// its own trailer label, if it does not close.
+    pub fn possible(&self) -> u32 {
+        match (self.closed, self.section.trailer) {
+            (None, Some(trailer)) => trailer,
+            _ => self.section.blocks,
+        }
+    }
+
     /// Returns how many of its blocks are recovered if `read` of its data items are read again.
     pub fn recovered(&self, read: u32) -> u32
         ensures { result ≡ min read (believed self.now) }

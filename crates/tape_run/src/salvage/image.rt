@@ -32,7 +32,7 @@ fn read_in(key: &SectionKey, expected: &Expected) -> u32
 
 /// Returns the number of the next item among the data items of section `key`, if it is one of the
 /// first `most`.
-fn number_in(key: &SectionKey, most: u32, expected: &Expected) -> Option<u32>
+pub fn number_in(key: &SectionKey, most: u32, expected: &Expected) -> Option<u32>
     ensures { result ≡ number_in key.now most expected.now }
 {
     match expected {

@@ -277,8 +277,10 @@ read the record format or the volume has no HDR2.
 The lines give a section (counted from 1), its blocks (from 0) and the number
 of records written so far:
   IMAGE 2 NOT OPENED    the second image could not be opened
+  FILLED 1 3 7 9        blocks 7 to 9 of section 1 are taken from the third
+                        image; the one in its line SECTION lacks them
   CONFLICT 1 1 3        the first and the third image have copies of section 1
-                        that contradict each other; the first one is used
+                        that contradict each other, and are not joined
   SECTION 1 2 40        section 1 is read from the second image, which has 40
                         data blocks of it, unreadable ones included
   GAP 1 5 7 120         blocks 5 to 7 of section 1 are missing, after record

@@ -20,8 +20,7 @@ use std::io;
 use std::io::Write;
 use tape_blocks::Form;
 use tape_label::Field;
-use tape_run::{BlockRun, Content, Place, SalvageTask, SetFile, WriteFailed, salvage_to, set_of};
-use tape_set::Position;
+use tape_run::{Content, Place, SalvageTask, SetFile, WriteFailed, salvage_joined, set_of};
 
 /// A slot that keeps a file without giving it a name.
 #[derive(Drop)]
@@ -146,11 +145,8 @@ impl<'n, R: Progress, P: Write> Run<'n, R, P> {
         let differs = &Cell::new(false);
         let existing = Existing::open(rt.host(), out, differs)?;
         let images = &mut NormalImages::again(rt, names);
-        let (task, told) = (
-            salvage_task(file, self.form()),
-            &mut SectionLines::new(rt.alloc()),
-        );
-        match salvage_to(rt.alloc(), &task, images, existing, &mut Comparison, told) {
+        let (task, told) = (salvage_task(file, self.order.form), &mut LastLine::new());
+        match salvage_joined(rt.alloc(), &task, images, existing, &mut Comparison, told) {
             Ok(true) => {
                 *runs = told.runs(rt.alloc())?;
                 self.renumber(names, runs);
@@ -182,7 +178,7 @@ pub fn salvage_whole<'a, R: Progress>(
     let images = &mut NormalImages::again(rt, names);
     let records = Summed::new(records, listed.is_wanted);
     let salvage = salvage_task(file, task.form);
-    let done = match salvage_to(rt.alloc(), &salvage, images, records, &mut kept, &mut told) {
+    let done = match salvage_joined(rt.alloc(), &salvage, images, records, &mut kept, &mut told) {
         Ok(true) => is_certain(rt, task, file, names, place.draft.path()),
         Ok(false) => Ok(false),
         Err(fault) => Err(ToolFault::from(fault)),

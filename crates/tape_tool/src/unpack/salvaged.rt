@@ -18,7 +18,7 @@ use std::alloc::{AllocError, Global};
 use std::fs::File;
 use std::io::{BufWriter, Read, Write};
 use std::{fs, io};
-use tape_run::{Place, SalvageTask, WriteFailed, flush, name_text, salvage_to, write_text};
+use tape_run::{Place, SalvageTask, WriteFailed, flush, name_text, salvage_joined, write_text};
 use tape_writer::system::found;
 
 /// The length of the last line of a report: `SUMS`, two checksums of 64 digits, two spaces and a
@@ -184,7 +184,7 @@ fn written<R: Progress>(
     let mut kept = Kept(None);
     let images = &mut NormalImages::again(rt, names);
     let records = Summed::new(records);
-    salvage_to(alloc, task, images, records, &mut kept, &mut report)?;
+    salvage_joined(alloc, task, images, records, &mut kept, &mut report)?;
     let Some(records) = kept.0 else {
         return Err(ToolFault::File(FileFault::WriteFailed));
     };

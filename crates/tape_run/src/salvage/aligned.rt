@@ -1,0 +1,217 @@
+//! Copies of one section, read side by side block by block.
+
+use crate::merge::candidate::Candidate;
+use crate::salvage::copies::SectionCopy;
+use crate::salvage::fill::{Fill, Stretch, add_fill};
+use crate::salvage::image::number_in;
+use crate::salvage::walk::{Expected, step};
+use std::alloc::AllocError;
+use std::io::Read;
+use tape_image::{ImageReader, Item};
+
+/// What a copy has of a block.
+#[derive(Clone, Copy)]
+enum Answer {
+    /// It is readable, and the same as in the copies before it that have it.
+    Has,
+    /// It is unreadable.
+    Lacks,
+    /// It is readable, and another one than in a copy before it.
+    Differs,
+    /// No item of the copy is certain to be this block.
+    Unsure,
+}
+
+/// A copy of a section, of which the blocks up to some number have been read.
+#[derive(Drop)]
+pub struct Aligned<'r, R: Read> {
+    image: ImageReader<'r, R>,
+    copy: SectionCopy,
+    expected: Expected,
+    /// The byte offset at which the last item begins that was read.
+    from: u64,
+    /// Whether an item after its HDR1 and before its data is unreadable, or HDR1 itself.
+    is_doubted: bool,
+    /// Whether the numbers of its further items are not certain.
+    is_over: bool,
+}
+
+impl<'r, R: Read> Aligned<'r, R> {
+    /// Creates the reading of a copy from an unread image.
+    pub fn new(image: ImageReader<'r, R>, copy: SectionCopy) -> Aligned<'r, R> {
+        Aligned {
+            image,
+            expected: copy.start(),
+            copy,
+            from: 0,
+            is_doubted: false,
+            is_over: false,
+        }
+    }
+
+    /// Returns whether the next item is a data item of the section.
+    fn is_at_data(&self) -> bool {
+        let key = &self.copy.section.key;
+        number_in(key, self.copy.possible(), &self.expected).is_some()
+    }
+
+    /// Reads up to the section's data.
+    pub fn reach(&mut self) {
+        'items: for _ in 0..u32::MAX {
+            if self.is_at_data() {
+                let open = self.expected.open_section();
+                self.is_doubted = open.is_some_and(|(section, _)| section.certain.is_some());
+                return;
+            }
+            let Ok(Some(item)) = self.image.next() else {
+                break;
+            };
+            self.expected = step(self.expected, item).0;
+        }
+        self.is_over = true;
+    }
+
+    /// Reads the next block, and compares it with the one of the copies before.
+    fn ask(&mut self, best: &mut Candidate) -> Result<Answer, AllocError> {
+        if self.is_over || !self.is_at_data() {
+            self.is_over = true;
+            return Ok(Answer::Unsure);
+        }
+        self.from = self.image.place();
+        let item = match self.image.next() {
+            Ok(Some(item)) => item,
+            _ => {
+                self.is_over = true;
+                return Ok(Answer::Unsure);
+            }
+        };
+        self.expected = step(self.expected, item).0;
+        match item {
+            Item::Block(_) if best.take(item)? => Ok(Answer::Has),
+            Item::Block(_) => Ok(Answer::Differs),
+            Item::Bad => Ok(Answer::Lacks),
+            Item::Mark => {
+                self.is_over = true;
+                Ok(Answer::Unsure)
+            }
+        }
+    }
+
+    /// Returns whether it is a complete copy if it has as many of its blocks.
+    fn is_whole(&self, read: u32) -> bool {
+        self.copy.closed.is_some() && !self.is_doubted && read == self.copy.section.blocks
+    }
+
+    /// Records that an unreadable item was read that no copy has: if the section does not close, it
+    /// may not have been a block.
+    fn doubt(&mut self) {
+        if self.copy.closed.is_none() {
+            self.is_over = true;
+        }
+    }
+
+    /// Returns the bytes of the block that was read last.
+    fn last(&self) -> Stretch {
+        Stretch {
+            image: self.copy.image,
+            from: self.from,
+            to: self.image.place(),
+        }
+    }
+}
+
+/// The copies that have a block.
+#[derive(Clone, Copy)]
+enum Held {
+    /// None of them.
+    Nowhere,
+    /// The one with this index is the first.
+    First(usize),
+    /// The ones with these indexes have different blocks.
+    Differ(usize, usize),
+}
+
+/// The result of comparing copies.
+#[derive(Clone, Copy)]
+pub struct Compared {
+    /// Whether the first copy is complete with the blocks of the others.
+    pub completes: bool,
+    /// The number of blocks of the first copy that one of them has.
+    pub read: u32,
+    /// The indexes of two copies that have different blocks with the same number.
+    pub differ: Option<(usize, usize)>,
+}
+
+/// Asks each copy for its next block.
+fn ask_all<R: Read>(
+    copies: &mut [Aligned<'_, R>],
+    best: &mut Candidate,
+) -> Result<Held, AllocError> {
+    best.clear();
+    let mut held = Held::Nowhere;
+    for number in 0..copies.len() {
+        match (copies[number].ask(best)?, held) {
+            (Answer::Has, Held::Nowhere) => held = Held::First(number),
+            (Answer::Differs, Held::First(first)) => return Ok(Held::Differ(first, number)),
+            _ => {}
+        }
+    }
+    Ok(held)
+}
+
+/// Compares the blocks of the copies. Adds to `fills` the runs of blocks that the first copy lacks,
+/// and that another one has.
+///
+/// # Errors
+///
+/// `AllocError` if a block or a run cannot be kept.
+pub fn compare<R: Read>(
+    copies: &mut [Aligned<'_, R>],
+    best: &mut Candidate,
+    fills: &mut Vec<Fill>,
+) -> Result<Compared, AllocError> {
+    let mut compared = Compared {
+        completes: false,
+        read: 0,
+        differ: None,
+    };
+    for number in 0..u32::MAX {
+        let held = ask_all(copies, best)?;
+        let Some(base) = copies.first().filter(|base| !base.is_over) else {
+            break;
+        };
+        match held {
+            Held::Differ(one, other) => {
+                compared.differ = Some((one, other));
+                break;
+            }
+            Held::Nowhere => doubt_all(copies),
+            Held::First(first) => {
+                compared.read = compared.read.saturating_add(1);
+                compared.completes = base.is_whole(compared.read);
+                if let Some(source) = copies.get(first).filter(|_| first > 0) {
+                    add_fill(fills, fill_of(number, base, source))?;
+                }
+            }
+        }
+    }
+    Ok(compared)
+}
+
+/// Returns the block with this number, which `base` lacks, and `source` has.
+fn fill_of<R: Read>(number: u32, base: &Aligned<'_, R>, source: &Aligned<'_, R>) -> Fill {
+    Fill {
+        sect: base.copy.section.key.sect,
+        first: number,
+        last: number,
+        gap: base.last(),
+        source: source.last(),
+    }
+}
+
+/// Records in each copy that none has the block that was read last.
+fn doubt_all<R: Read>(copies: &mut [Aligned<'_, R>]) {
+    for copy in copies {
+        copy.doubt();
+    }
+}
