@@ -125,7 +125,7 @@ pub fn salvage_to<W: Write + Drop, R: Read + Drop, L: ImageSource<R>, O: Place<W
 /// Recovers the readable parts of a file as `salvage_to` does. Blocks that are unreadable on the
 /// image from which a section is read are taken from other images, if copies of the section agree
 /// in all blocks that two of them have; these blocks, and copies that do not agree, are reported
-/// first. If there are no such blocks, the images are read as they are.
+/// first. If nothing is reported first, the images are read as they are.
 ///
 /// Each image is read once more, and once more for each section that it may complete.
 ///
@@ -140,20 +140,19 @@ pub fn salvage_joined<W: Write + Drop, R: Read + Drop, L: ImageSource<R>, O: Pla
     place: &mut O,
     report: &mut P,
 ) -> Result<bool, EngineFault>
-    ensures ok { IfOk result (λ complete. (lines : List ℕ) × (said : Option (List ℕ))
-        × Appends (P.contents report.old) said lines × SalvagesJoined W.contents L.size L.gives
-        R.remaining task.now out images.new (O.stands place.new) said (P.contents report.new)
-        complete) }
+    ensures ok { IfOk result (λ complete. SalvagesJoined W.contents L.size L.gives R.remaining
+        task.now out images.new (O.stands place.new) (P.contents report.old)
+        (P.contents report.new) complete) }
     ensures err { OnErr result (FailsJoined W.contents L.size L.gives R.remaining task.now out
         images.new (O.stands place.old) (O.stands place.new) (P.contents report.old)
         (P.contents report.new)) }
     ensures fault { IfErr result IsCheckFault }
 {
     let joins = find_joins(alloc, task, images)?;
-    write_text(report, joins.lines.as_slice())?;
-    if joins.fills.is_empty() {
+    if joins.lines.is_empty() {
         return salvage_to(alloc, task, images, out, place, report);
     }
+    write_text(report, joins.lines.as_slice())?;
     let mut joined = JoinedImages::new(alloc, images, joins.fills.as_slice());
     salvage_to(alloc, task, &mut joined, out, place, report)
 }

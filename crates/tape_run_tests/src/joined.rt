@@ -100,6 +100,13 @@ const ROWS: &[(&[Damaged], bool, &str, usize)] = &[
         "FILLED 1 2 1 1\nIMAGE 2 FAULT 5 1884\nSECTION 1 1 3\nCOMPLETE 25\n",
         2025,
     ),
+    // A copy that it completes is preferred to the copy itself, which has as many blocks.
+    (
+        &[(2484, &[1], &[]), (2292, &[], &[])],
+        true,
+        "FILLED 1 2 1 1\nIMAGE 2 FAULT 5 2292\nSECTION 1 1 3\nCOMPLETE 25\n",
+        2025,
+    ),
     // Block 0, which it lacks, is a block, since the other image has it.
     (
         &[(2484, &[1], &[]), (1884, &[0], &[])],

@@ -60,7 +60,8 @@ pub fn add_fill(fills: &mut Vec<Fill>, next: Fill) -> Result<(), AllocError> {
             return Ok(());
         }
     }
-    fills.push(next)
+    fills.push(next)?;
+    Ok(())
 }
 
 /// Appends the lines about runs of blocks that are taken from other images.
