@@ -251,6 +251,17 @@ here u l xs none = inr (record {
   closing = refl;
 })
 
+unsure : (u : OpenSection) (l : Closing) (xs : List TapeItem)
+    → Comes (Trailers u l) xs (with_second false u) l
+unsure u l xs none = inr (record {
+  key = refl;
+  blocks = refl;
+  digest = refl;
+  certain = refl;
+  after = λ e. e;
+  closing = refl;
+})
+
 all_there : (xs : List TapeItem) (l : List FoundAt) → AllByRecursion (PAt Comes (Outside 0) xs) l
     → AllByRecursion (IsThere xs) l
 all_there xs [] all = tt
@@ -259,4 +270,5 @@ all_there xs ((place, (v, Some k)) ∷ l) (h, all) =
     (λ none. elim (h none) [ inl c ↦ c | inr o ↦ absurd o ], all_there xs l all)
 
 pub closed_are_there : ClosedAreThere
-closed_are_there items = all_there _ _ (all_found Comes back here (λ n u xs v k none. inr tt) items)
+closed_are_there items =
+    all_there _ _ (all_found Comes back here unsure (λ n u xs v k none. inr tt) items)

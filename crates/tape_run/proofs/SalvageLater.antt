@@ -14,7 +14,7 @@ use Rattle.tape_run.specs.declared.salvage.walk.Expected.TheVariants.{Skipping, 
 use Rattle.tape_run.specs.declared.salvage.walk.Expected.TheVariants.{UnnamedTrailer}
 use Rattle.tape_run.specs.SalvageWalk.{step, expected_after, closed_by, closes, found_from, in_list}
 use Rattle.tape_run.specs.SalvageWalk.{FoundAt, FoundSection, one_further, open_section, read_after}
-use Rattle.tape_run.specs.SalvageWalk.{sections_in, unclosed_by}
+use Rattle.tape_run.specs.SalvageWalk.{sections_in, unclosed_by, with_second}
 use Rattle.tape_run.specs.SalvageWalk.{closing_of}
 
 -- parts of a section that was found
@@ -58,12 +58,14 @@ PAt P s xs (place, (v, None)) = Unit {0}
 PAt P s xs (place, (v, Some k)) = P s xs v k
 
 -- `P s xs v k`: if the phase s is expected, and a section that is found later ends as v and k, then
--- this is true of the items to come. It is true at the end of its labels, and before each item if
--- it is true after it.
+-- this is true of the items to come. It is true at the end of its labels, also if its second label
+-- is in doubt, and before each item if it is true after it.
 module _ (P : Expected → List TapeItem → OpenSection → Closing → Type 0)
     (back : (s : Expected) (x : TapeItem) (xs : List TapeItem) (v : OpenSection) (k : Closing)
     → P (step s x).0 xs v k → P s (x ∷ xs) v k)
     (here : (u : OpenSection) (l : Closing) (xs : List TapeItem) → P (Trailers u l) xs u l)
+    (unsure : (u : OpenSection) (l : Closing) (xs : List TapeItem)
+    → P (Trailers u l) xs (with_second false u) l)
     (skips : (n : ℕ) (u : OpenSection) (xs : List TapeItem) (v : OpenSection) (k : Closing)
     → P (Skipping n u) xs v k) where
   named : (u v : OpenSection) (l k : Closing) (xs : List TapeItem) → u ≡ v → l ≡ k
@@ -74,8 +76,12 @@ module _ (P : Expected → List TapeItem → OpenSection → Closing → Type 0)
   ends_here : (s : Expected) (x : TapeItem) (xs : List TapeItem) (v : OpenSection) (k : Closing)
       → (step s x).1 ≡ Some (v, Some k) → P s (x ∷ xs) v k
   ends_here (Trailers u l) bad xs v k e =
-      let same : u ≡ v = ap (section_or u) e in
-      let alike : l ≡ k = ap (closing_or l) e in named u v l k (bad ∷ xs) same alike
+      let w = with_second false u in
+      let s = Trailers u l in
+      let same : w ≡ v = ap (section_or w) e in
+      let alike : l ≡ k = ap (closing_or l) e in
+      subst (λ z. P s (bad ∷ xs) z k) same
+      (subst (λ m. P s (bad ∷ xs) w m) alike (unsure u l (bad ∷ xs)))
   ends_here (Trailers u l) mark xs v k e =
       let same : u ≡ v = ap (section_or u) e in
       let alike : l ≡ k = ap (closing_or l) e in named u v l k (mark ∷ xs) same alike

@@ -16,7 +16,7 @@ use Rattle.tape_run.specs.declared.salvage.walk.Expected.TheVariants.{Trailer, T
 use Rattle.tape_run.specs.SalvageWalk.{step, section_by, begun_by, with_item, with_data}
 use Rattle.tape_run.specs.SalvageWalk.{with_unreadable, doubted, closes, closed_by, second_by}
 use Rattle.tape_run.specs.SalvageWalk.{unclosed_by, with_trailer, unnamed_after, one_read, form_by}
-use Rattle.tape_run.specs.SalvageWalk.{form_or}
+use Rattle.tape_run.specs.SalvageWalk.{form_or, with_second}
 use Rattle.tape_run.specs.SalvageWhole.{Blocks, not_read}
 use Rattle.tape_run.specs.SalvageSections.{Labels, filled_of, MayBegin, after_trailers}
 use Rattle.tape_run.proofs.SalvageComing.{some_first}
@@ -225,7 +225,7 @@ long (b ∷ bs) = ap suc (long bs)
 unfoldable pub trailed : OpenSection → Labels → OpenSection
 trailed u [] = u
 trailed u ((true, b) ∷ ls) = trailed (with_trailer u (wide_head2_at b)) ls
-trailed u ((false, b) ∷ ls) = u
+trailed u ((false, b) ∷ ls) = with_second false u
 
 pub same_trailed : (u : OpenSection) (ls : Labels) → (trailed u ls).key ≡ u.key
 unfolding trailed

@@ -190,17 +190,21 @@ module _ {A : Type 0} (act : Expected → A → TapeItem → A) where
       }
 
   -- the labels after a trailer label, and the mark after them
-  trailers : Quiet act → (u : OpenSection) (k : Closing) (a b : A) (ls : Labels) → NoneBegins ls
-      → act (Trailers (trailed u ls) k) a mark ≡ b → act (Trailers (trailed u ls) k) a bad ≡ b
-      → Walk act (Trailers u k) a (read_labels ls ++ mark ∷ []) (after_trailers ls) b
+  trailers : Quiet act → (u : OpenSection) (k : Closing) (a : A) (ends : OpenSection → A)
+      (ls : Labels) → NoneBegins ls
+      → ((z : OpenSection) → act (Trailers z k) a mark ≡ ends z)
+      → ((z : OpenSection) → act (Trailers z k) a bad ≡ ends (with_second false z))
+      → Walk act (Trailers u k) a (read_labels ls ++ mark ∷ []) (after_trailers ls)
+      (ends (trailed u ls))
   unfolding trailed
-  trailers q u k a b [] none m n = one (Trailers u k) Next a b mark refl m
-  trailers q u k a b ((true, x) ∷ ls) none m n =
+  trailers q u k a ends [] none m n = one (Trailers u k) Next a (ends u) mark refl (m u)
+  trailers q u k a ends ((true, x) ∷ ls) none m n =
       let v = with_trailer u (wide_head2_at x) in
-      first (Trailers u k) (Trailers v k) (after_trailers ls) a a b (block x)
-      (read_labels ls ++ mark ∷ []) refl (q.trailers u k a x) (trailers q v k a b ls none m n)
-  trailers q u k a b ((false, x) ∷ ls) none m n =
-      first (Trailers u k) (Outside 0) (Outside 1) a b b bad (read_labels ls ++ mark ∷ []) refl n
+      first (Trailers u k) (Trailers v k) (after_trailers ls) a a (ends (trailed v ls)) (block x)
+      (read_labels ls ++ mark ∷ []) refl (q.trailers u k a x) (trailers q v k a ends ls none m n)
+  trailers q u k a ends ((false, x) ∷ ls) none m n =
+      let b = ends (with_second false u) in
+      first (Trailers u k) (Outside 0) (Outside 1) a b b bad (read_labels ls ++ mark ∷ []) refl (n u)
       (follow (Outside 0) (Outside 0) (Outside 1) b b b (read_labels ls) (mark ∷ [])
       (outside q b ls none)
       (one (Outside 0) (Outside 1) b b mark refl (q.begin (Outside 0) b mark refl)))
@@ -223,7 +227,7 @@ module _ {A : Type 0} (act : Expected → A → TapeItem → A) where
       → ((w : OpenSection) → w.key ≡ key_of set_id r → w.blocks ≡ length r.blocks
       → act (Data w) b mark ≡ c)
       → ((z : OpenSection) (k : Closing) → act (Trailers z k) c mark ≡ ends z k)
-      → ((z : OpenSection) (k : Closing) → act (Trailers z k) c bad ≡ ends z k)
+      → ((z : OpenSection) (k : Closing) → act (Trailers z k) c bad ≡ ends (with_second false z) k)
       → Walked set_id r s a ends
   section_walked q set_id volumes r s a b c ends read may on_data on_mark on_end on_bad =
       let x = r.placed in
@@ -264,7 +268,8 @@ module _ {A : Type 0} (act : Expected → A → TapeItem → A) where
             (one (Trailer w) (Trailers w k) c c (block y.trailer)
             (ap (λ p. p.0) (trailer_step w y.trailer t at closed))
             (q.trailer w c y.trailer t at closed)))
-            (trailers q w k c d r.trailers read.none (on_end z k) (on_bad z k))))));
+            (trailers q w k c (λ y. ends y k) r.trailers read.none (λ y. on_end y k)
+            (λ y. on_bad y k))))));
         has = record {
           key = same_trailed w r.trailers ∙ whose;
           blocks = omega (arith, later, all, two.none);

@@ -210,6 +210,10 @@ back (Skipping n u) x xs v k h own = inr tt
 here : (u : OpenSection) (l : Closing) (xs : List TapeItem) → Comes (Trailers u l) xs u l
 here u l xs own = inr (record { key = refl; blocks = refl; after = own; closing = refl })
 
+unsure : (u : OpenSection) (l : Closing) (xs : List TapeItem)
+    → Comes (Trailers u l) xs (with_second false u) l
+unsure u l xs own = inr (record { key = refl; blocks = refl; after = own; closing = refl })
+
 all_there : (xs : List TapeItem) (l : List FoundAt) → AllByRecursion (PAt Comes (Outside 0) xs) l
     → AllByRecursion (IsThereUnnamed xs) l
 all_there xs [] all = tt
@@ -218,4 +222,5 @@ all_there xs ((place, (v, Some k)) ∷ l) (h, all) =
     (λ own. elim (h own) [ inl c ↦ c | inr o ↦ absurd o ], all_there xs l all)
 
 pub unnamed_are_there : UnnamedAreThere
-unnamed_are_there items = all_there _ _ (all_found Comes back here (λ n u xs v k own. inr tt) items)
+unnamed_are_there items =
+    all_there _ _ (all_found Comes back here unsure (λ n u xs v k own. inr tt) items)

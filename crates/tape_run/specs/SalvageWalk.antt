@@ -107,7 +107,8 @@ form_by file_id (Ok g) =
     if form_in_range (form_of file_id g) then Some (form_of file_id g) else None
 form_by file_id (Err _) = None
 
--- the section after what is in place of its second label, which shows that it has none or does not
+-- the section after what is in place of its second label, which shows that it has none or does not;
+-- an unreadable item after its trailer label may be its second label too, so it shows nothing
 abbrev pub with_second : Bool → OpenSection → OpenSection
 with_second is_absent u = record u { has_no_second = is_absent }
 
@@ -226,7 +227,7 @@ step (Trailer u) (block b) = closed_by u (trail1_at b) (head1_at b)
 step (Trailer u) bad = (Outside 0, Some (u, None))
 step (Trailer u) mark = (Outside 1, Some (u, None))
 step (Trailers u k) (block b) = (Trailers (with_trailer u (wide_head2_at b)) k, None)
-step (Trailers u k) bad = (Outside 0, Some (u, Some k))
+step (Trailers u k) bad = (Outside 0, Some (with_second false u, Some k))
 step (Trailers u k) mark = (Next, Some (u, Some k))
 step Next (block b) = (begun_by (head1_at b) (Outside 0), None)
 step Next bad = (Outside 0, None)

@@ -156,12 +156,13 @@ trailer_by _ = None
 
 -- What an item says about second labels: it is the second header label of a section, and supported;
 -- or a section has none, since a tape mark or a further header label is in its place; or it is an
--- EOF2 or EOV2 behind a trailer label.
+-- EOF2 or EOV2 behind a trailer label, or an unreadable item there, which may be one.
 abbrev pub form_in : Phase → TapeItem → Option FormNote
 form_in (Second met) mark = Some (Absent (file_key met.key.set_id met.key.file))
 form_in (Second met) (block b) =
     form_by met.key (kind_at b) (wide_head2_at b) (is_further_header b)
 form_in (Trailers volume) (block b) = trailer_by (kind_at b)
+form_in (Trailers volume) bad = Some Trailer
 form_in _ _ = None
 
 -- Two second labels of one section say different things: the copies do not come from one recording.

@@ -29,7 +29,8 @@ pub struct OpenSection {
     pub generation: Field<4>,
     /// The form of its blocks in its HDR2 or, if no HDR2 was read, in its EOF2 or EOV2.
     pub form: Option<Known>,
-    /// Whether its HDR1 was followed by a tape mark or a further header label: it has no HDR2.
+    /// Whether its HDR1 was followed by a tape mark or a further header label, and its trailer label
+    /// by no unreadable item: it has no HDR2.
     pub has_no_second: bool,
     /// The number of data items so far, including unreadable ones.
     pub blocks: u32,
@@ -174,7 +175,7 @@ impl OpenSection {
         }
     }
 
-    /// Records whether what follows its HDR1 shows that it has no HDR2.
+    /// Records whether what follows one of its labels shows that it has no HDR2.
     fn with_second(self, is_absent: bool) -> OpenSection
         ensures { result ≡ Walk.with_second is_absent self }
     {
@@ -301,9 +302,11 @@ fn bad_step(expected: Expected) -> (Expected, Option<FoundSection>)
         ),
         Expected::Data(section) => (Expected::Data(section.with_unreadable().with_item()), None),
         Expected::Trailer(section) => (Expected::Outside(0), Some((section, None))),
-        Expected::Trailers(section, closed) => {
-            (Expected::Outside(0), Some((section, Some(closed))))
-        }
+        // The unreadable item may be an EOF2: then the section had an HDR2, which is lost.
+        Expected::Trailers(section, closed) => (
+            Expected::Outside(0),
+            Some((section.with_second(false), Some(closed))),
+        ),
         Expected::Next => (Expected::Outside(0), None),
         Expected::Unnamed(items) => (Expected::Unnamed(items.and_unreadable()), None),
         Expected::UnnamedTrailer(_) => (unnamed_after(1, false), None),

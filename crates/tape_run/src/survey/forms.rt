@@ -22,7 +22,7 @@ pub(crate) enum FormNote {
     Stated(SectionKey, Head2),
     /// A section of the file has no second label.
     Absent(FileKey),
-    /// The section has a second trailer label.
+    /// The section has a second trailer label, or an unreadable item may be it.
     Trailer,
 }
 
@@ -53,6 +53,8 @@ pub(crate) fn form_in(phase: &Phase, item: Item<'_>) -> Option<FormNote>
             Some(Kind::Eof2 | Kind::Eov2) => Some(FormNote::Trailer),
             _ => None,
         },
+        // It may be an EOF2.
+        (Phase::Trailers(_), Item::Bad) => Some(FormNote::Trailer),
         _ => None,
     }
 }
