@@ -11,7 +11,7 @@ use Rattle.tape_run.specs.{Checked.Reel, Passing.Told}
 use Rattle.tape_run.specs.declared.section.SectionState.TheVariants.{Good}
 use Rattle.tape_run.specs.{Noted.is_good}
 use Rattle.tape_run.specs.{Reeling.Mounting, Lacks.lacks, Lacks.is_none_lacking, Lacks.found_all}
-use Rattle.tape_run.specs.{SurveyTally.is_whole_sight, SurveyFiles.Filed, SurveyFiles.any_differs}
+use Rattle.tape_run.specs.{SurveyWhole.is_whole_sight, SurveyFiles.Filed, SurveyFiles.any_differs}
 use Rattle.tape_run.specs.SurveySets.{all_good, follows_end, is_all, is_flawless, none_follows}
 use Rattle.tape_run.specs.SurveyFiles.{any_lost, any_misfit, reads_wide}
 use Rattle.tape_run.specs.declared.survey.fits.Misfit.{Misfit}

@@ -8,9 +8,11 @@ use Rattle.tape_label.specs.VolumeLabels.{is_volume_label}
 use Rattle.tape_run.specs.SurveyLaws.{course_of, has_left, end_marks, IsSectionInOrder, IsBegun}
 use Rattle.tape_run.specs.SurveyLaws.{IsVolumeInOrder, IsFirstAstray, LeavesThere, EndedIsVolume}
 use Rattle.tape_run.specs.{declared.survey.course.ExpectedItem.ExpectedItem, SurveyFiles.filed_in}
-use Rattle.tape_run.specs.{Noted.noted_all, Survey.survey_text, Survey.Surveys, Survey.SurveysFront}
+use Rattle.tape_run.specs.{Noted.noted_all, Survey.Surveys, Survey.SurveysFront}
+use Rattle.tape_run.specs.SurveyRows.{survey_rows}
+use Rattle.tape_run.specs.declared.survey.Wording.TheVariants.{Rows}
 use Rattle.tape_run.specs.{declared.survey.dates.Date.Date, declared.survey.Wording.Wording}
-use Rattle.tape_run.specs.{declared.survey.view.ImageSurvey.ImageSurvey, SurveyTally.is_whole_sight}
+use Rattle.tape_run.specs.{declared.survey.view.ImageSurvey.ImageSurvey, SurveyWhole.is_whole_sight}
 use Rattle.tape_run.specs.{Onward.met_in, SurveyConflicts.TellsDispute}
 use Rattle.tape_run.specs.SurveyConflicts.{all_placed}
 use Rattle.tape_run.specs.declared.survey.course.LabelOrder.TheVariants.{Blank, Ended, Leaves}
@@ -68,18 +70,19 @@ pub record CasesOfSurveys : Type 0 where
       × (d.copies ≡ copied_in c.images c.copies v.1.items)
       × (d.whole ≡ (c.whole && is_whole_sight s)) × (d.images ≡ next_image c.images)
       × IsKindOf before s.kind
-  -- the survey that is written describes the images that were read, in their order
+  -- the rows that are written are those of the images that were read, in their order
   pub surveyed : (y : Wording) (names : List (List ℕ)) (shelf left : Readers) (old new : Known)
       (all : Bool) (s : Surveys y Took (λ r. r) names shelf left old new all)
       → (length s.sights ≡ length names)
       × AreViewed Took (λ r. r) shelf 0 s.sights nothing_found left s.found
-      × Appends old new (survey_text y names s.sights s.found) × (all ≡ is_all s.found)
+      × Appends old new s.text × (y ≡ Rows → s.text ≡ survey_rows names s.sights s.found)
+      × (all ≡ is_all s.found)
   -- after a fault a prefix of the survey of all images was written, if anything was
   pub surveyed_in_part : (y : Wording) (names : List (List ℕ)) (shelf left : Readers)
       (old new : Known) (s : SurveysFront y Took (λ r. r) names shelf left old new)
       → (length s.sights ≡ length names)
       × AreViewed Took (λ r. r) shelf 0 s.sights nothing_found left s.found
-      × AppendsFront old new (survey_text y names s.sights s.found)
+      × AppendsFront old new s.text × (y ≡ Rows → s.text ≡ survey_rows names s.sights s.found)
   -- of two images with good copies that differ each is in conflict, and no other image
   pub disputes : (y : Wording) (names : List (List ℕ)) (shelf left : Readers) (old new : Known)
       (all : Bool) (s : Surveys y Took (λ r. r) names shelf left old new all) (image : ℕ)

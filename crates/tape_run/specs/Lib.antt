@@ -63,7 +63,7 @@ pub mod SurveyFiles
 pub mod SurveyFits
 pub mod SurveyDigest
 pub mod SurveyCopies
-pub mod SurveyTally
+pub mod SurveyWhole
 pub mod SurveyRead
 pub mod SurveyLine
 pub mod SurveyLocations
@@ -71,9 +71,8 @@ pub mod Dates
 pub mod SurveyProblems
 pub mod SurveyChain
 pub mod SurveySets
-pub mod SurveyRows
 pub mod SurveyCompared
-pub mod SurveyWording
+pub mod SurveyRows
 pub mod SurveyConflicts
 pub mod SurveySound
 pub mod Survey

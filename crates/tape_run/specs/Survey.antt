@@ -1,30 +1,16 @@
 -- What `survey` prints of images.
-use Rattle.std.specs.Prelude.{◌≡◌, ◌⊎◌, ◌+◌, ℕ, Bool, true, List, [], ◌∷◌, ◌++◌, length, Option}
-use Rattle.std.specs.{Prelude.Some, Io.KnownBytes.Appends}
+use Rattle.std.specs.Prelude.{◌≡◌, ◌⊎◌, ℕ, Bool, true, List, length, Option, Some}
+use Rattle.std.specs.Io.KnownBytes.{Appends}
 use Rattle.tape_run.specs.{declared.section.SectionKey.SectionKey, declared.survey.Wording.Wording}
 use Rattle.tape_run.specs.{declared.survey.copies.CopyNote.CopyNote, Reeling.Mounting}
 use Rattle.tape_run.specs.{declared.survey.view.ImageSurvey.ImageSurvey, SurveySound.IsSound}
-use Rattle.tape_run.specs.{SurveySets.is_all, SurveyWording.image_text, SurveyWording.summary}
+use Rattle.tape_run.specs.{SurveySets.is_all, SurveyRows.survey_rows}
+use Rattle.tape_run.specs.declared.survey.Wording.TheVariants.{Rows}
 use Rattle.tape_run.specs.SurveyConflicts.{IsIn, CopiesDiffer, EndsDiffer, TellsDispute}
 use Rattle.tape_run.specs.SurveyConflicts.{all_placed}
-use Rattle.tape_run.specs.SurveyCopies.{Noted, Held, disputed, disputed_on}
+use Rattle.tape_run.specs.SurveyCopies.{Noted, disputed, disputed_on}
 use Rattle.tape_run.specs.SurveyRead.{Found, nothing_found, AreViewed}
-use Rattle.tape_run.specs.SurveyTally.{no_images, tally_from}
 use Rattle.tape_image.specs.Written.{AppendsFront}
-
--- the texts about images, of which the first has this number, with the good copies of sections
--- whose good copies differ
-abbrev pub image_texts : Wording → List Held → ℕ → List (List ℕ) → List (Option ImageSurvey)
-    → List ℕ
-image_texts y held image [] sights = []
-image_texts y held image (name ∷ names) [] = []
-image_texts y held image (name ∷ names) (sight ∷ sights) =
-    image_text y name sight (disputed_on held image) ++ image_texts y held (image + 1) names sights
-
--- the survey of images with these names, on which this was found
-abbrev pub survey_text : Wording → List (List ℕ) → List (Option ImageSurvey) → Found → List ℕ
-survey_text y names sights d = image_texts y (disputed d.copies) 0 names sights
-    ++ summary y names (tally_from (disputed d.copies) no_images 0 sights) d
 
 -- The images were read, one after another, and their survey was written; the result says whether
 -- all is well.
@@ -36,7 +22,10 @@ pub record Surveys {L R : Type 0} (y : Wording) (gives : Mounting L R)
   pub found : Found
   pub each : length sights ≡ length names
   pub viewed : AreViewed gives remaining shelf 0 sights nothing_found left found
-  pub wrote : Appends old new (survey_text y names sights found)
+  -- a text was written: the rows of what was found, or words about it
+  pub text : List ℕ
+  pub wrote : Appends old new text
+  pub rows : y ≡ Rows → text ≡ survey_rows names sights found
   pub is_so : all ≡ is_all found
   -- if all is well, the images are sound; and copies that are reported to differ do differ
   pub sound : all ≡ true → IsSound gives remaining shelf left sights found viewed
@@ -62,7 +51,9 @@ pub record SurveysFront {L R : Type 0} (y : Wording) (gives : Mounting L R)
   pub found : Found
   pub each : length sights ≡ length names
   pub viewed : AreViewed gives remaining shelf 0 sights nothing_found left found
-  pub wrote : AppendsFront old new (survey_text y names sights found)
+  pub text : List ℕ
+  pub wrote : AppendsFront old new text
+  pub rows : y ≡ Rows → text ≡ survey_rows names sights found
 
 -- nothing was written, or all images were read
 abbrev pub SurveysInPart : {L R : Type 0} → Wording → Mounting L R → (R → Option (List ℕ))

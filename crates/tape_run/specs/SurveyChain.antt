@@ -1,12 +1,12 @@
--- The volumes of a set, in the order of its sections. The line is for people, and may change.
-use Rattle.std.specs.Prelude.{ℕ, zero, suc, ◌+◌, ◌-◌, nat_lt, Bool, true, false, not, length}
-use Rattle.std.specs.Prelude.{if◌then◌else◌, List, [], ◌∷◌, ◌++◌, codes, Option, Some, None}
+-- The volumes of a set, in the order of its sections.
+use Rattle.std.specs.Prelude.{ℕ, zero, suc, ◌+◌, ◌-◌, nat_lt, Bool, true, false, not}
+use Rattle.std.specs.Prelude.{if◌then◌else◌, List, [], ◌∷◌, ◌++◌, Option, Some, None}
 use Rattle.std.specs.Str.{bytes_eq}
 use Rattle.tape_run.specs.declared.{section.Entry.Entry, survey.volumes.VolumeItem.VolumeItem}
 use Rattle.tape_run.specs.declared.survey.volumes.VolumeItem.TheVariants.{Named, MissingFirst}
 use Rattle.tape_run.specs.declared.survey.volumes.VolumeItem.TheVariants.{MissingAfter}
 use Rattle.tape_run.specs.Lacks.{SetFiles, entry_at, key_at}
-use Rattle.tape_run.specs.{Passing.Told, SurveyGaps.is_found, SurveyLine.trimmed_text}
+use Rattle.tape_run.specs.{Passing.Told, SurveyGaps.is_found}
 use Rattle.tape_run.specs.{SurveyProblems.first_after, SurveyProblems.ends, SurveyRead.Found}
 
 -- ---- the chain of a set: the volume of each section, in order, and `None` where sections are
@@ -87,35 +87,3 @@ volumes_from last missing (Some v ∷ xs) = items_to last missing v ++ volumes_f
 -- the volumes of a set
 abbrev pub volumes_of : Found → SetFiles → List VolumeItem
 volumes_of d x = volumes_from None false (files_chain d x.0 1 x.1)
-
--- ---- the line of the volumes
-
--- the text of an entry
-abbrev pub item_text : VolumeItem → List ℕ
-item_text (Named v) = trimmed_text v
-item_text MissingFirst = codes "missing"
-item_text (MissingAfter v) = codes "missing (follows " ++ (trimmed_text v ++ codes ")")
-
--- a line of length `column` has room for the text
-abbrev pub has_room : ℕ → List ℕ → Bool
-has_room column text = nat_lt (column + length text) 96
-
--- the text that separates an entry from the one before
-abbrev pub comma_text : ℕ → List ℕ → List ℕ
-comma_text column text = if has_room column text then codes ", " else codes ",\n           "
-
--- the length of the line after an entry
-abbrev pub column_after : ℕ → List ℕ → ℕ
-column_after column text = (if has_room column text then column + 2 else 11) + length text
-
--- the text of further entries
-abbrev pub items_text : ℕ → List VolumeItem → List ℕ
-items_text column [] = []
-items_text column (x ∷ xs) = (comma_text column (item_text x) ++ item_text x)
-    ++ items_text (column_after column (item_text x)) xs
-
--- the text of the volumes, in lines of at most 100 columns
-abbrev pub volumes_line : List VolumeItem → List ℕ
-volumes_line [] = []
-volumes_line (x ∷ xs) = ((codes "  Volumes: " ++ item_text x)
-    ++ items_text (11 + length (item_text x)) xs) ++ codes "\n"

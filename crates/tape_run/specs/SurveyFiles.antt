@@ -4,7 +4,7 @@ use Rattle.std.specs.Prelude.{◌∷◌}
 use Rattle.std.specs.Prelude.{Option, Some, None, is_some, option_map, Result, Ok}
 use Rattle.std.specs.{Map.lookup, Str.bytes_eq}
 use Rattle.indexmap.specs.IndexMap.{insert_entry}
-use Rattle.tape_image.specs.Tape.{TapeItem, block, mark}
+use Rattle.tape_image.specs.Tape.{TapeItem, block, bad, mark}
 use Rattle.tape_label.specs.{declared.values.Head1.Head1, declared.values.Head2.Head2}
 use Rattle.tape_label.specs.declared.values.Kind.{Kind}
 use Rattle.tape_label.specs.declared.values.Kind.TheVariants.{Hdr2, Eof2, Eov2}

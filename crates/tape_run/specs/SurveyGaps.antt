@@ -1,9 +1,7 @@
 -- Numbers of files without any label found.
 use Rattle.std.specs.Prelude.{ℕ, zero, suc, ◌-◌, Bool, if◌then◌else◌, List, [], ◌++◌, nat_lt}
 use Rattle.std.specs.Prelude.{is_some, codes, decimal}
-use Rattle.tape_run.specs.declared.survey.Wording.{Wording}
-use Rattle.tape_run.specs.declared.survey.Wording.TheVariants.{Words, Rows}
-use Rattle.tape_run.specs.{Identifier.identifier_text, SurveyLine.trimmed_text, SurveyRead.Found}
+use Rattle.tape_run.specs.{Identifier.identifier_text, SurveyRead.Found}
 use Rattle.tape_run.specs.SurveyFiles.{note_at, file_key}
 
 -- a header label of the file was found
@@ -21,22 +19,7 @@ numbers_text first next =
     if nat_lt first (next - 1) then decimal first ++ (codes "-" ++ decimal (next - 1))
     else decimal first
 
--- the ending of a plural, if there is more than one such number
-abbrev pub plural : ℕ → ℕ → List ℕ
-plural first next = if nat_lt first (next - 1) then codes "s" else []
-
 -- the line of `unpack` for such numbers
 abbrev pub numbers_line : List ℕ → ℕ → ℕ → List ℕ
 numbers_line set_id first file = codes "FILE " ++ (identifier_text set_id ++ (codes " "
     ++ (numbers_text first file ++ codes " NOT FOUND\n")))
-
--- the line or the row of `survey`
-abbrev pub gap_by : Wording → List ℕ → ℕ → ℕ → List ℕ
-gap_by Words set_id first file = codes "  file" ++ (plural first file ++ (codes " "
-    ++ (numbers_text first file ++ codes ": not found\n")))
-gap_by Rows set_id first file = codes "FILE\t" ++ (trimmed_text set_id ++ (codes "\t"
-    ++ (numbers_text first file ++ codes "\t\t\tMISSING\t1\t\t\t1:MISSING;\t\t\t\n")))
-
--- the text for the file numbers from `first` to `file - 1`, if there are any
-abbrev pub gap_text : Wording → List ℕ → ℕ → ℕ → List ℕ
-gap_text y set_id first file = if nat_lt first file then gap_by y set_id first file else []

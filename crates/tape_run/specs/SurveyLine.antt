@@ -1,25 +1,24 @@
 -- The description of an image in a survey. The text is for people, and may change.
 use Rattle.std.specs.Prelude.{◌||◌, Bool, true, false, length, take, ◌-◌, ℕ, ◌==◌, nat_lt, map}
 use Rattle.std.specs.Prelude.{if◌then◌else◌, List, [], ◌++◌, codes, decimal, Option, Some, None}
-use Rattle.std.specs.List.{flat_map, repeat, suffix_len}
+use Rattle.std.specs.List.{flat_map, suffix_len}
 use Rattle.tape_image.specs.{declared.item.ImageFault.ImageFault, Fault.number_of}
 use Rattle.tape_label.specs.declared.values.Head1.{Head1}
 use Rattle.tape_run.specs.declared.section.{ImageStop.ImageStop, SectionKey.SectionKey}
 use Rattle.tape_run.specs.declared.section.{SectionLine.SectionLine, SectionState.SectionState}
 use Rattle.tape_run.specs.declared.survey.glance.{First.First, ImageSummary.ImageSummary}
 use Rattle.tape_run.specs.declared.survey.course.{ExpectedItem.ExpectedItem, LabelOrder.LabelOrder}
-use Rattle.tape_run.specs.declared.survey.{line.ImageState.ImageState, view.ImageSurvey.ImageSurvey}
+use Rattle.tape_run.specs.declared.survey.view.ImageSurvey.{ImageSurvey}
 use Rattle.tape_run.specs.declared.section.SectionState.TheVariants.{Good, Bad, Count, Cut}
 use Rattle.tape_run.specs.declared.section.ImageStop.TheVariants.{Marked, Physical, Fault}
 use Rattle.tape_run.specs.declared.survey.course.LabelOrder.TheVariants.{Follows, Blank, Ended}
 use Rattle.tape_run.specs.declared.survey.course.LabelOrder.TheVariants.{Leaves}
-use Rattle.tape_run.specs.{Identifier.printed, Quoting.name_text}
+use Rattle.tape_run.specs.Identifier.{printed}
 use Rattle.tape_run.specs.declared.container.Container.{Container}
-use Rattle.tape_run.specs.{ContainerText.container_text, SurveyTally.is_named}
-use Rattle.tape_run.specs.SurveyTally.{is_no_image, state_of}
+use Rattle.tape_run.specs.{ContainerText.container_text, SurveyWhole.is_named}
+use Rattle.tape_run.specs.SurveyWhole.{is_no_image}
 use Rattle.tape_run.specs.declared.survey.glance.First.TheVariants as firsts
 use Rattle.tape_run.specs.declared.survey.course.ExpectedItem.TheVariants as wanted
-use Rattle.tape_run.specs.declared.survey.line.ImageState.TheVariants as states
 
 -- a space
 abbrev pub is_space : ℕ → Bool
@@ -174,26 +173,3 @@ seen_text between s key = glance_text between s.glance
     ++ (course_text between (course_shown s.glance.first s.glance.course) s.stop
     ++ (stop_text between s.kind s.stop
     ++ (damages_text between s.damaged ++ dispute_text between key)))
-
--- the word for a state, padded to a column
-abbrev pub state_word : ImageState → List ℕ
-state_word states.Ok = codes "ok           "
-state_word states.Blank = codes "blank        "
-state_word states.Conflict = codes "conflict     "
-state_word states.Damaged = codes "damaged      "
-state_word states.Unsupported = codes "unsupported  "
-state_word states.Empty = codes "empty        "
-state_word states.NotTape = codes "not a tape   "
-
--- its state and what it is, each fact after the first on a line of its own, or the text that it was
--- not opened
-abbrev pub sight_text : Option ImageSurvey → Option SectionKey → List ℕ
-sight_text (Some s) key =
-    state_word (state_of s key) ++ (seen_text (codes "\n    ") s key ++ codes "\n")
-sight_text None key = codes "not opened\n"
-
--- the line of an image: the column after its printed name is aligned for all names of at most 24
--- bytes
-abbrev pub image_line : List ℕ → Option ImageSurvey → Option SectionKey → List ℕ
-image_line name sight key = let shown = name_text name in
-    shown ++ (repeat (24 - length shown) (codes " ") ++ (codes "  " ++ sight_text sight key))

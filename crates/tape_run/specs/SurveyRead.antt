@@ -4,7 +4,7 @@ use Rattle.std.specs.Prelude.{None, ◌≤◌, length}
 use Rattle.std.specs.Io.KnownBytes.{Consumes}
 use Rattle.tape_run.specs.{declared.container.Container.Container, Container.container_of}
 use Rattle.tape_image.specs.{Tape.TapeItem, Reader.IfKnown}
-use Rattle.tape_run.specs.{declared.survey.view.ImageSurvey.ImageSurvey, SurveyTally.is_whole_sight}
+use Rattle.tape_run.specs.{declared.survey.view.ImageSurvey.ImageSurvey, SurveyWhole.is_whole_sight}
 use Rattle.tape_run.specs.{Added.StopsBehind, SurveyGlance.glance_of, SurveyGlance.damages_in}
 use Rattle.tape_run.specs.{Checked.Reel, Noted.noted_all, Reeling.Mounting}
 use Rattle.tape_run.specs.{Passing.Told, Onward.met_in, SurveyFiles.Labelled}

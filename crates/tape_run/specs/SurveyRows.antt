@@ -1,12 +1,13 @@
 -- The rows of a survey, for scripts. A tab separates the columns, and none contains one: each byte
 -- of a name or an identifier that is not printable is replaced by a question mark.
-use Rattle.std.specs.Prelude.{ℕ, Bool, if◌then◌else◌, List, [], ◌∷◌, ◌++◌, codes, decimal, Option}
-use Rattle.std.specs.Prelude.{Some, None, is_some, ◌||◌}
+use Rattle.std.specs.Prelude.{ℕ, zero, suc, ◌+◌, ◌-◌, nat_lt, Bool, if◌then◌else◌, List, [], ◌∷◌}
+use Rattle.std.specs.Prelude.{◌++◌, codes, decimal, Option, Some, None, is_some, ◌||◌}
+use Rattle.std.specs.List.{flat_map}
 use Rattle.tape_label.specs.Formats.{letter}
 use Rattle.tape_label.specs.declared.values.{Head1.Head1, Head2.Head2}
 use Rattle.tape_run.specs.declared.survey.glance.First.{First}
 use Rattle.tape_run.specs.declared.survey.{files.FileNote.FileNote, sets.Standing.Standing}
-use Rattle.tape_run.specs.declared.survey.{view.ImageSurvey.ImageSurvey, Wording.TheVariants.Rows}
+use Rattle.tape_run.specs.declared.survey.view.ImageSurvey.{ImageSurvey}
 use Rattle.tape_run.specs.declared.section.SectionKey.{SectionKey}
 use Rattle.tape_run.specs.declared.survey.glance.First.TheVariants as firsts
 use Rattle.tape_run.specs.declared.survey.sets.Standing.TheVariants.{Complete, Damaged, Behind}
@@ -15,8 +16,13 @@ use Rattle.tape_run.specs.{CheckLine.state_text, CheckLine.stop_text, Dates.date
 use Rattle.tape_run.specs.{Dates.date_cell, Passing.Told, SurveyCopies.dispute_at}
 use Rattle.tape_run.specs.{SurveyFiles.note_at, SurveyFiles.file_key, Quoting.name_text}
 use Rattle.tape_run.specs.{SurveyLine.trimmed_text, SurveyLine.seen_text, SurveyRead.Found}
-use Rattle.tape_run.specs.SurveyTally.{is_sound}
-use Rattle.tape_run.specs.SurveySets.{standing_of, clear_standing, flaw_in, is_mixed, rest_lines}
+use Rattle.tape_run.specs.{SurveyWhole.is_sound, SurveyCompared.copies_rows}
+use Rattle.tape_run.specs.SurveySets.{standing_of, clear_standing, flaw_in, is_mixed, file_problems}
+use Rattle.tape_run.specs.SurveyGaps.{is_found, gap_first, numbers_text}
+use Rattle.tape_run.specs.SurveyCopies.{Held, disputed, disputed_on}
+use Rattle.tape_run.specs.{Lacks.SetFiles, Lacks.sets_from}
+use Rattle.tape_run.specs.declared.survey.problems.Problem.{Problem}
+use Rattle.tape_run.specs.declared.survey.problems.Problem.TheVariants as problems
 
 -- the state of an image: whether it is in conflict, or else was read completely without damage
 abbrev pub whole_cell : Bool → Bool → List ℕ
@@ -111,8 +117,55 @@ abbrev pub form_cells : Option FileNote → List ℕ
 form_cells (Some note) = form_by note.form
 form_cells None = codes "\t\t\t"
 
+-- a damaged section, or missing ones, with the state
+abbrev pub problem_cell : Problem → List ℕ
+problem_cell (problems.Damaged sect entry) =
+    decimal sect ++ (codes ":" ++ (state_text entry.state ++ codes ";"))
+problem_cell (problems.Missing first next) = numbers_text first next ++ codes ":MISSING;"
+
 -- the row of a file, with a column for all sections that are damaged or missing
 abbrev pub file_row : Found → List ℕ → ℕ → List ℕ
 file_row d set_id file = (file_cells d set_id file
-    ++ rest_lines Rows d.sections set_id file)
+    ++ flat_map problem_cell (file_problems d.sections set_id file))
     ++ (form_cells (note_at d.files (file_key set_id file)) ++ codes "\n")
+
+-- the row for the file numbers from `first` to `file - 1`, for which no label was found
+abbrev pub gap_row : List ℕ → ℕ → ℕ → List ℕ
+gap_row set_id first file = codes "FILE\t" ++ (trimmed_text set_id ++ (codes "\t"
+    ++ (numbers_text first file ++ codes "\t\t\tMISSING\t1\t\t\t1:MISSING;\t\t\t\n")))
+
+-- the row for a file, preceded by that for the numbers since the last file that was found; nothing
+-- if the file was not found
+abbrev pub found_row : Found → List ℕ → ℕ → List ℕ
+found_row d set_id file =
+    if is_found d set_id file
+    then (if nat_lt (gap_first d set_id (file - 1)) file
+    then gap_row set_id (gap_first d set_id (file - 1)) file else [])
+    ++ file_row d set_id file
+    else []
+
+-- the rows for n files of a set, from this one on
+abbrev pub file_rows : Found → List ℕ → ℕ → ℕ → List ℕ
+file_rows d set_id file zero = []
+file_rows d set_id file (suc n) = found_row d set_id file ++ file_rows d set_id (file + 1) n
+
+-- the rows for the files of a set, up to the greatest number of one
+abbrev pub set_rows : Found → SetFiles → List ℕ
+set_rows d x = file_rows d x.0 1 x.1
+
+-- all sets that were found, in the order in which they were found first
+abbrev pub sets_rows : Found → List ℕ
+sets_rows d = flat_map (set_rows d) (sets_from [] d.sections)
+
+-- the rows of images, of which the first has this number, with the good copies of sections whose
+-- good copies differ
+abbrev pub image_rows : List Held → ℕ → List (List ℕ) → List (Option ImageSurvey) → List ℕ
+image_rows held image [] sights = []
+image_rows held image (name ∷ names) [] = []
+image_rows held image (name ∷ names) (sight ∷ sights) =
+    image_row name sight (disputed_on held image) ++ image_rows held (image + 1) names sights
+
+-- the rows of the survey of images with these names, on which this was found
+abbrev pub survey_rows : List (List ℕ) → List (Option ImageSurvey) → Found → List ℕ
+survey_rows names sights d = image_rows (disputed d.copies) 0 names sights
+    ++ (flat_map section_row d.sections ++ (sets_rows d ++ copies_rows names d.copies.notes))

@@ -1,25 +1,17 @@
--- What a survey says of sets and their files. The text is for people, and may change.
+-- What a survey finds of sets and their files.
 use Rattle.std.specs.Prelude.{ℕ, zero, suc, ◌+◌, ◌-◌, ◌&&◌, ◌||◌, not, Bool, true, false}
-use Rattle.std.specs.Prelude.{if◌then◌else◌, List, [], ◌∷◌, ◌++◌, codes, decimal, Option, Some}
-use Rattle.std.specs.Prelude.{None, is_none, is_some, length}
-use Rattle.std.specs.List.{flat_map, repeat}
+use Rattle.std.specs.Prelude.{if◌then◌else◌, List, [], ◌∷◌, Option, Some, None, is_none, is_some}
 use Rattle.tape_run.specs.declared.survey.sets.Standing.TheVariants.{Complete, Damaged, Behind}
 use Rattle.tape_run.specs.{declared.section.Entry.Entry, declared.survey.files.FileNote.FileNote}
-use Rattle.tape_run.specs.{declared.survey.sets.Standing.Standing, declared.survey.Wording.Wording}
+use Rattle.tape_run.specs.{declared.survey.sets.Standing.Standing, Noted.is_good, Passing.Told}
 use Rattle.tape_run.specs.declared.survey.sets.Standing.TheVariants.{Missing, Misfit}
-use Rattle.tape_run.specs.Noted.{is_good}
-use Rattle.tape_run.specs.declared.survey.Wording.TheVariants.{Words, Rows}
-use Rattle.tape_run.specs.{Dates.date_of, Dates.date_text, Identifier.identifier_text, Passing.Told}
+use Rattle.tape_run.specs.declared.survey.problems.Problem.{Problem}
 use Rattle.tape_run.specs.{SurveyCopies.dispute_at, SurveyCopies.is_agreed, SurveyGlance.one_if}
-use Rattle.tape_run.specs.{SurveyLine.trimmed_text, SurveyLine.damage_text, SurveyRead.Found}
-use Rattle.tape_run.specs.SurveyProblems.{problem_lines}
-use Rattle.tape_label.specs.declared.values.{Format.Format, Head2.Head2}
-use Rattle.tape_label.specs.declared.values.Format.TheVariants.{Undefined, Variable}
+use Rattle.tape_run.specs.{SurveyProblems.problems_in, SurveyRead.Found}
 use Rattle.tape_run.specs.Lacks.{entry_at, key_at, good_end, lack_of, found_all}
 use Rattle.tape_run.specs.SurveyFiles.{Filed, note_at, file_key, any_differs, any_lost, any_misfit}
 use Rattle.tape_run.specs.SurveyFiles.{flaw_of, flaw_section}
 use Rattle.tape_run.specs.declared.survey.fits.{Flaw.Flaw, Flaw.TheVariants.Lost}
-use Rattle.tape_run.specs.declared.survey.fits.Flaw.TheVariants.{Unsupported, Misfits}
 
 -- the state of a file without this section; the entries are those of it and of the one before it
 abbrev pub state_without : ℕ → Option Entry → Option Entry → Standing
@@ -43,12 +35,6 @@ clear_standing (Some Lost) Complete = Missing 1
 clear_standing (Some flaw) Complete = Misfit (flaw_section flaw)
 clear_standing flaw standing = standing
 
--- the facts about a file in its labels: its identifier, and when it was created
-abbrev pub known_text : Option FileNote → List ℕ
-known_text (Some note) = identifier_text note.head.file_id
-    ++ (codes "  " ++ date_text (date_of note.head.created))
-known_text None = codes "(no label found)"
-
 -- labels of different files were found
 abbrev pub is_mixed : Option FileNote → Bool
 is_mixed (Some note) = is_some note.conflict
@@ -58,41 +44,9 @@ is_mixed None = false
 abbrev pub is_whole_file : List Told → List ℕ → ℕ → Bool
 is_whole_file c set_id file = is_none (lack_of c set_id file)
 
--- the state of a file in a word, or why it is in conflict: labels of different files have one
--- number, or good copies of a section differ
-abbrev pub file_word : Bool → Bool → Bool → List ℕ
-file_word mixed disputed complete =
-    if mixed then codes "conflict: labels of different files have this number"
-    else if disputed then codes "conflict: good copies of a section differ"
-    else if complete then codes "complete" else codes "incomplete"
-
--- what the labels say of a format other than F, D and S
-abbrev pub format_word : Format → List ℕ
-format_word Undefined = codes ", U"
-format_word Variable = codes ", V"
-format_word _ = []
-
-abbrev pub form_by : Option Head2 → Bool → List ℕ
-form_by (Some form) absent = format_word form.format
-form_by None true = codes ", blocks (no HDR2)"
-form_by None false = []
-
-unfoldable pub form_word : Option FileNote → List ℕ
-form_word (Some note) = form_by note.form note.absent
-form_word None = []
-
--- the first line of a file, which may be in conflict or complete; its number has at least four
--- columns
-abbrev pub head_line : ℕ → Option FileNote → Bool → Bool → List ℕ
-head_line file note disputed complete = let number = decimal file in
-    repeat (4 - length number) (codes " ") ++ (number ++ (codes " " ++ (known_text note
-    ++ (codes "  " ++ (file_word (is_mixed note) disputed complete ++ (form_word note
-    ++ codes "\n"))))))
-
 -- the damaged and missing sections of a file, unless it is complete
-unfoldable pub rest_lines : Wording → List Told → List ℕ → ℕ → List ℕ
-rest_lines y c set_id file =
-    if is_whole_file c set_id file then [] else problem_lines y c set_id file
+unfoldable pub file_problems : List Told → List ℕ → ℕ → List Problem
+file_problems c set_id file = if is_whole_file c set_id file then [] else problems_in c set_id file
 
 -- why the file of which this is known is not readable, if there is a reason
 abbrev pub flaw_by : Option FileNote → Option Flaw
@@ -102,25 +56,6 @@ flaw_by (Some note) = flaw_of note
 -- the same for this file
 abbrev pub flaw_in : Found → List ℕ → ℕ → Option Flaw
 flaw_in d set_id file = flaw_by (note_at d.files (file_key set_id file))
-
--- the line about that
-unfoldable pub flaw_line : Option Flaw → List ℕ
-flaw_line None = []
-flaw_line (Some Lost) =
-    codes "            HDR2 is lost on each image: the record format is unknown\n"
-flaw_line (Some Unsupported) = codes "            no HDR2 with a supported record format was read\n"
-flaw_line (Some (Misfits misfit)) = (codes "        section " ++ (decimal misfit.sect
-    ++ codes " is not readable: ")) ++ (codes "block " ++ (decimal misfit.block
-    ++ codes " is not in the format that HDR2 states\n"))
-
--- the lines about a file: its state and, unless it is complete, its damaged and missing sections,
--- or why it is not readable
-abbrev pub file_lines : Found → List ℕ → ℕ → List ℕ
-file_lines d set_id file =
-    let key = file_key set_id file in
-    head_line file (note_at d.files key) (is_some (dispute_at d.copies key))
-    (is_whole_file d.sections set_id file && is_none (flaw_in d set_id file))
-    ++ (flaw_line (flaw_in d set_id file) ++ rest_lines Words d.sections set_id file)
 
 -- the file is complete, no label of another file has its number, no good copies of its sections
 -- differ, and it is readable
@@ -134,11 +69,6 @@ is_sure d set_id file =
 abbrev pub sure_files : Found → List ℕ → ℕ → ℕ → ℕ
 sure_files d set_id file zero = 0
 sure_files d set_id file (suc n) = one_if (is_sure d set_id file) + sure_files d set_id (file + 1) n
-
--- the line about a set, with the number of its complete files
-abbrev pub set_line : List ℕ → ℕ → ℕ → List ℕ
-set_line set_id complete files = codes "Set " ++ (trimmed_text set_id ++ (codes ": "
-    ++ (decimal complete ++ (codes " of " ++ (decimal files ++ codes " files complete\n")))))
 
 -- it is known that this section ends its file
 abbrev pub is_known_end : Option Bool → Bool
@@ -160,20 +90,6 @@ follows_end c t = ends_among c t.0.set_id t.0.file 0 t.0.sect
 abbrev pub none_follows : List Told → List Told → Bool
 none_follows c [] = true
 none_follows c (t ∷ ts) = not (follows_end c t) && none_follows c ts
-
--- the line of a section, if its file is complete without it, and it is damaged or follows the end
-abbrev pub stray_text : List Told → Told → List ℕ
-stray_text c t =
-    if (is_good t.1.state && not (follows_end c t)) || not (is_whole_file c t.0.set_id t.0.file)
-    then []
-    else trimmed_text t.0.set_id ++ (codes " file " ++ (decimal t.0.file ++ (codes " section "
-    ++ (decimal t.0.sect ++ (codes " " ++ (damage_text t.1.state ++ (codes " on "
-    ++ (trimmed_text t.1.volume ++ codes ": the file ends before it\n"))))))))
-
--- the lines of all such sections, in words; rows have the state of each section
-abbrev pub strays_text : Wording → List Told → List ℕ
-strays_text Words c = flat_map (stray_text c) c
-strays_text Rows c = []
 
 -- each of these sections is good
 abbrev pub all_good : List Told → Bool

@@ -3,7 +3,7 @@ use Rattle.std.specs.Prelude.{◌≡◌, ◌≢◌, ℕ, true, false, List, [], 
 use Rattle.std.specs.List.{AllByRecursion}
 use Rattle.tape_run.specs.{declared.section.SectionState.TheVariants.Good, Lacks.lacks}
 use Rattle.tape_run.specs.{declared.survey.view.ImageSurvey.ImageSurvey, Reeling.Mounting}
-use Rattle.tape_run.specs.{SurveyDigest.digest_of, SurveyTally.is_whole_sight}
+use Rattle.tape_run.specs.{SurveyDigest.digest_of, SurveyWhole.is_whole_sight}
 use Rattle.tape_run.specs.SurveyConflicts.{Placed, all_placed, IsIn}
 use Rattle.tape_run.specs.SurveyFiles.{reads_wide}
 use Rattle.tape_run.specs.SurveyRead.{Found, nothing_found, AreViewed}

@@ -12,7 +12,7 @@ use Rattle.tape_run.specs.declared.unpack.{SetFile.SetFile, FoundFiles.FoundFile
 use Rattle.tape_run.specs.{Lacks.SetFiles, Lacks.sets_from, Lacks.lack_of, Quoting.hex}
 use Rattle.tape_run.specs.{Reeling.Mounting, SurveyCopies.dispute_at, SurveyLine.trimmed_len}
 use Rattle.tape_run.specs.SurveyCopies.{opponents_at}
-use Rattle.tape_run.specs.{SurveyTally.is_whole_sight, SurveyFiles.note_at, SurveyFiles.file_key}
+use Rattle.tape_run.specs.{SurveyWhole.is_whole_sight, SurveyFiles.note_at, SurveyFiles.file_key}
 use Rattle.tape_run.specs.SurveyFiles.{reads_wide, flaw_of, flaw_section}
 use Rattle.tape_run.specs.declared.survey.fits.Flaw.{Flaw}
 use Rattle.tape_run.specs.SurveyRead.{Found, nothing_found, AreViewed}

@@ -1,10 +1,9 @@
 //! `survey`: describes images, by their names, and the sets and files on them.
-ghost use Rattle.std.specs.Prelude.{◌≡◌, ◌++◌, length, map, IfOk, OnOk, OnErr, IfErr};
+ghost use Rattle.std.specs.Prelude.{◌≡◌, length, map, IfOk, OnErr, IfErr};
 ghost use Rattle.tape_run.specs.{Checked.IsCheckFault, SurveySets.is_all};
-ghost use Rattle.tape_run.specs.SurveyTally.{no_images, tally_from};
-ghost use Rattle.tape_run.specs.Survey.{Surveys, SurveysInPart, image_texts, survey_text};
+ghost use Rattle.tape_run.specs.{Survey.Surveys, Survey.SurveysInPart, SurveyRows.survey_rows};
+ghost use Rattle.tape_run.specs.declared.survey.Wording.TheVariants.{Rows};
 
-mod compared;
 pub(crate) mod copies;
 mod course;
 mod damages;
@@ -17,32 +16,25 @@ mod forms;
 mod front;
 pub(crate) mod gaps;
 pub(crate) mod glance;
-mod line;
 pub(crate) mod locations;
 mod onward;
 mod problems;
 mod rows;
 mod sets;
 mod strays;
-mod tally;
-mod texts;
 pub(crate) mod view;
 mod volumes;
+mod words;
 
 use crate::check::pass_on;
 use crate::extract::images::ImageSource;
 use crate::fault::{EngineFault, RunFault};
-use compared::add_copies;
-use copies::{Held, disputed_on};
-use line::{image_line, state_at};
-use rows::image_row;
+use rows::rows;
 use sets::is_all;
 use std::alloc::{AllocError, Global};
 use std::io::{Read, Write};
-use strays::add_strays;
-use tally::{NO_IMAGES, Tally, end_text, with_state};
-use texts::{add_sections, add_sets};
 use view::{Findings, ImageSurvey, read_images};
+use words::words;
 
 /// The form in which a survey is printed.
 #[derive(Clone, Copy)]
@@ -74,7 +66,7 @@ pub fn survey_to<R: Read + Drop, L: ImageSource<R>, P: Write>(
     wording: Wording,
     report: &mut P,
 ) -> Result<bool, EngineFault>
-    // On success the whole survey was written, and the result says whether all is well.
+    // On success the survey was written, and the result says whether all is well.
     ensures ok { IfOk result (Surveys wording L.gives R.remaining (map (λ n. n.now) names.now)
         images.old images.new (P.contents report.old) (P.contents report.new)) }
     // On any error nothing was written, or the images were read and a prefix of their survey was.
@@ -104,49 +96,14 @@ fn survey_text(
     wording: Wording,
 ) -> Result<(Vec<u8>, bool), AllocError>
     requires { length sights.now ≡ length names.now }
-    ensures text { IfOk result (λ survey. survey.0.items
-        ≡ survey_text wording (map (λ n. n.now) names.now) sights.now findings.now) }
+    ensures rows { IfOk result (λ survey. wording ≡ Rows → survey.0.items
+        ≡ survey_rows (map (λ n. n.now) names.now) sights.now findings.now) }
     ensures all { IfOk result (λ survey. survey.1 ≡ is_all findings.now) }
 {
-    let alloc = findings.alloc;
-    let mut text = Vec::new(alloc);
-    let copies = findings.copies.disputed(alloc)?;
-    let tally = add_images(alloc, &mut text, copies.as_slice(), sights, names, wording)?;
-    add_sections(&mut text, wording, &findings.sections)?;
-    add_sets(&mut text, findings, wording)?;
-    add_strays(&mut text, wording, &findings.sections)?;
-    add_copies(&mut text, wording, names, &findings.copies.notes)?;
     let all = is_all(findings)?;
-    let end = end_text(alloc, wording, &tally, all)?;
-    text.extend_from_slice(end.as_bytes())?;
+    let text = match wording {
+        Wording::Rows => rows(findings, sights, names)?,
+        Wording::Words => words(findings, sights, names, all)?,
+    };
     Ok((text, all))
-}
-
-/// Appends the description of each image; `copies` are the complete copies of sections whose
-/// complete copies differ. Returns the number of images in each state.
-fn add_images(
-    alloc: Global,
-    text: &mut Vec<u8>,
-    copies: &[Held],
-    sights: &[Option<ImageSurvey>],
-    names: &[&str],
-    wording: Wording,
-) -> Result<Tally, AllocError>
-    requires { length sights.now ≡ length names.now }
-    ensures text { OnOk result (text.new.items ≡ text.old.items
-        ++ image_texts wording copies.now 0 (map (λ n. n.now) names.now) sights.now) }
-    ensures tally { IfOk result (λ tally. tally ≡ tally_from copies.now no_images 0 sights.now) }
-{
-    let mut tally = NO_IMAGES;
-    for number in 0..names.len() {
-        let (name, sight) = (names[number], &sights[number]);
-        let dispute = disputed_on(copies, number);
-        let line = match wording {
-            Wording::Words => image_line(alloc, name, sight, dispute)?,
-            Wording::Rows => image_row(alloc, name, sight, dispute)?,
-        };
-        text.extend_from_slice(line.as_slice())?;
-        tally = with_state(tally, state_at(sight, &dispute));
-    }
-    Ok(tally)
 }

@@ -5,12 +5,11 @@ ghost use Rattle.tape_run.specs.SurveyLine.{late_text, unread_text, wanted_text,
 ghost use Rattle.tape_run.specs.SurveyLine.{rest_text};
 ghost use Rattle.tape_run.specs.SurveyLine.{course_shown, left_text, is_told, kind_text};
 ghost use Rattle.tape_run.specs.SurveyLine.{fault_text, stop_text, glance_text, seen_text};
-ghost use Rattle.tape_run.specs.SurveyTally.{is_no_image};
+ghost use Rattle.tape_run.specs.SurveyWhole.{is_named, is_no_image};
 
 use super::course::{ExpectedItem, LabelOrder};
 use super::damages::{DamagesText, dispute_text};
 use super::glance::{First, ImageSummary};
-use super::line::is_named;
 use super::view::ImageSurvey;
 use crate::container::{Container, container_text};
 use crate::section::{ImageStop, SectionKey};
@@ -187,6 +186,13 @@ fn rest_text(wanted: ExpectedItem) -> &'static str
         ExpectedItem::End => "the rest is ignored",
         _ => "counting continues",
     }
+}
+
+/// Returns whether the kind is known and is not that of a SIMH image.
+pub(super) fn is_named(kind: Container) -> bool
+    ensures { result ≡ is_named kind }
+{
+    !matches!(kind, Container::Unknown | Container::Simh)
 }
 
 /// Returns whether no item of it can be read, so that it is probably not an image.

@@ -1,12 +1,9 @@
 //! File numbers that were not found, between those that were.
-ghost use Rattle.std.specs.Prelude.{◌≡◌, ◌≤◌, ◌<◌, ◌-◌, IfOk, Some, string_bytes};
-ghost use Rattle.tape_run.specs.SurveyGaps.{is_found, gap_first, numbers_text, plural, gap_text};
+ghost use Rattle.std.specs.Prelude.{◌≡◌, ◌≤◌, ◌<◌, ◌-◌, Some};
+ghost use Rattle.tape_run.specs.SurveyGaps.{is_found, gap_first, numbers_text};
 
-use super::Wording;
 use super::files::FileKey;
 use super::view::Findings;
-use crate::text::Trimmed;
-use std::alloc::{AllocError, Global};
 use std::fmt::{self, Display};
 use tape_label::Field;
 
@@ -50,40 +47,6 @@ impl Display for Numbers {
             write!(f, "{first}-{last}")
         } else {
             write!(f, "{first}")
-        }
-    }
-}
-
-/// Returns the ending of a plural, if there is more than one number from `first` to `next - 1`.
-pub(crate) fn plural(first: u16, next: u16) -> &'static str
-    ensures { result.now ≡ plural first next }
-{
-    if first < next.saturating_sub(1) {
-        "s"
-    } else {
-        ""
-    }
-}
-
-/// Returns the text for the file numbers `first` to `file - 1`, for which no label was found, if
-/// there are any.
-pub(crate) fn gap_text(
-    alloc: Global,
-    wording: Wording,
-    set_id: &Field<6>,
-    first: u16,
-    file: u16,
-) -> Result<String, AllocError>
-    ensures { IfOk result (λ text. string_bytes text ≡ gap_text wording set_id.now first file) }
-{
-    if first >= file {
-        return Ok(String::new(alloc));
-    }
-    let (numbers, plural, set_id) = (Numbers(first, file), plural(first, file), Trimmed(set_id));
-    match wording {
-        Wording::Words => format!(in alloc; "  file{plural} {numbers}: not found\n"),
-        Wording::Rows => {
-            format!(in alloc; "FILE\t{set_id}\t{numbers}\t\t\tMISSING\t1\t\t\t1:MISSING;\t\t\t\n")
         }
     }
 }

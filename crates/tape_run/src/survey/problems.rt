@@ -1,65 +1,32 @@
 //! The sections of a file that are damaged or missing.
-ghost use Rattle.std.specs.Prelude.{◌≡◌, ◌≤◌, ◌<◌, ◌+◌, ◌-◌, ◌++◌, OnOk, IfOk, string_bytes};
-ghost use Rattle.tape_run.specs.SurveyProblems.{found_line, missing_line, known_text, first_after};
-ghost use Rattle.tape_run.specs.SurveyProblems.{ends, sections_from, problem_lines};
+ghost use Rattle.std.specs.Prelude.{◌≡◌, ◌≤◌, ◌<◌, ◌+◌, ◌-◌, ◌++◌, OnOk, IfOk};
+ghost use Rattle.tape_run.specs.SurveyProblems.{found_problem, known_problems, first_after};
+ghost use Rattle.tape_run.specs.SurveyProblems.{ends, problems_from, problems_in};
 ghost use Rattle.tape_run.specs.{Lacks.entry_at, Lacks.key_at};
 
-use super::Wording;
-use super::damages::damage_text;
-use super::gaps::{Numbers, plural};
-use crate::check_line::state_text;
 use crate::section::{Entry, LAST_SECTION, SectionKey, SectionState};
 use crate::sections::Sections;
-use crate::text::Trimmed;
-use std::alloc::{AllocError, Global};
+use std::alloc::AllocError;
 use tape_label::Field;
 
-/// Returns the text for a section that was found, if it is damaged.
-fn found_line(
-    alloc: Global,
-    wording: Wording,
-    sect: u16,
-    entry: &Entry,
-) -> Result<String, AllocError>
-    ensures { IfOk result (λ line. string_bytes line ≡ found_line wording sect entry.now) }
-{
-    if entry.state.is_good() {
-        return Ok(String::new(alloc));
-    }
-    match wording {
-        Wording::Words => {
-            let (damage, volume) = (damage_text(entry.state), Trimmed(&entry.volume));
-            format!(in alloc; "        section {sect} {damage} on {volume}: no good copy\n")
-        }
-        Wording::Rows => {
-            let state = state_text(entry.state);
-            format!(in alloc; "{sect}:{state};")
-        }
-    }
+/// A section of a file that is damaged, or sections that are missing.
+#[derive(Clone, Copy)]
+pub(crate) enum Problem {
+    /// This section was found, and no copy of it is complete.
+    Damaged(u16, Entry),
+    /// The sections from the first number up to, but not including, the second are missing.
+    Missing(u16, u16),
 }
 
-/// Returns the text for the missing sections from `first` up to the one before `next`; `before` is
-/// the entry of the section before them, if it was found.
-fn missing_line(
-    alloc: Global,
-    wording: Wording,
-    first: u16,
-    next: u16,
-    before: Option<Entry>,
-) -> Result<String, AllocError>
-    ensures { IfOk result (λ line. string_bytes line ≡ missing_line wording first next before) }
+/// Appends a section that was found, if it is damaged.
+fn add_found(problems: &mut Vec<Problem>, sect: u16, entry: &Entry) -> Result<(), AllocError>
+    ensures { OnOk result (problems.new.items
+        ≡ problems.old.items ++ found_problem sect entry.now) }
 {
-    let (numbers, plural) = (Numbers(first, next), plural(first, next));
-    match (wording, before) {
-        (Wording::Rows, _) => format!(in alloc; "{numbers}:MISSING;"),
-        (Wording::Words, Some(entry)) => {
-            let volume = Trimmed(&entry.volume);
-            format!(in alloc; "        section{plural} {numbers} missing, after volume {volume}\n")
-        }
-        (Wording::Words, None) => {
-            format!(in alloc; "        section{plural} {numbers} not found\n")
-        }
+    if !entry.state.is_good() {
+        problems.push(Problem::Damaged(sect, *entry))?;
     }
+    Ok(())
 }
 
 /// Returns the entry of the section before section `key`.
@@ -71,11 +38,10 @@ pub(crate) fn before_of(sections: &Sections, key: &SectionKey) -> Option<Entry>
     sections.get(&SectionKey { sect, ..*key }).copied()
 }
 
-/// Appends section `key`, if it was found, after the missing sections before it, which begin with
-/// `first`. Returns the number of the first section that may be missing after it.
+/// Appends section `key`, if it was found and is damaged, after the missing sections before it,
+/// which begin with `first`. Returns the number of the first section that may be missing after it.
 fn add_section(
-    texts: &mut Vec<u8>,
-    wording: Wording,
+    problems: &mut Vec<Problem>,
     sections: &Sections,
     first: u16,
     key: &SectionKey,
@@ -85,27 +51,16 @@ fn add_section(
     ensures few { IfOk result (λ next. next ≤ key.now.sect + 1) }
     ensures next { IfOk result (λ next. next
         ≡ first_after first key.now.sect (entry_at sections.now.entries key.now)) }
-    ensures text { IfOk result (λ _. texts.new.items ≡ texts.old.items
-        ++ known_text wording sections.now.entries key.now.set_id key.now.file first key.now.sect
-        (entry_at sections.now.entries key.now)) }
+    ensures problems { IfOk result (λ _. problems.new.items ≡ problems.old.items
+        ++ known_problems first key.now.sect (entry_at sections.now.entries key.now)) }
 {
     let Some(entry) = sections.get(key) else {
         return Ok(first);
     };
-    let alloc = *texts.allocator();
     if first < key.sect {
-        let before = before_of(
-            sections,
-            &SectionKey {
-                sect: first,
-                ..*key
-            },
-        );
-        let missing = missing_line(alloc, wording, first, key.sect, before)?;
-        texts.extend_from_slice(missing.as_bytes())?;
+        problems.push(Problem::Missing(first, key.sect))?;
     }
-    let found = found_line(alloc, wording, key.sect, entry)?;
-    texts.extend_from_slice(found.as_bytes())?;
+    add_found(problems, key.sect, entry)?;
     Ok(key.sect + 1)
 }
 
@@ -121,25 +76,24 @@ pub(crate) fn ends(sections: &Sections, first: &SectionKey) -> bool
     }
 }
 
-/// Appends the text for the first `most` sections of a file, and for the section after the last one
-/// that was found, if one follows.
+/// Appends the problems among the first `most` sections of a file, and the section after the last
+/// one that was found, if one follows.
 fn add_sections(
-    texts: &mut Vec<u8>,
-    wording: Wording,
+    problems: &mut Vec<Problem>,
     sections: &Sections,
     set_id: Field<6>,
     file: u16,
     most: u16,
 ) -> Result<(), AllocError>
     requires { most ≤ 9999 }
-    ensures { OnOk result (texts.new.items
-        ≡ texts.old.items ++ sections_from wording sections.now.entries set_id file 1 1 most) }
+    ensures { OnOk result (problems.new.items
+        ≡ problems.old.items ++ problems_from sections.now.entries set_id file 1 1 most) }
 {
     let mut first = 1;
     for before in 0..most {
         let sect = before + 1;
         let key = SectionKey { set_id, file, sect };
-        first = add_section(texts, wording, sections, first, &key)?;
+        first = add_section(problems, sections, first, &key)?;
     }
     let next = SectionKey {
         set_id,
@@ -149,23 +103,21 @@ fn add_sections(
     if ends(sections, &next) {
         return Ok(());
     }
-    let before = before_of(sections, &next);
-    let line = missing_line(*texts.allocator(), wording, first, first + 1, before)?;
-    texts.extend_from_slice(line.as_bytes())
+    problems.push(Problem::Missing(first, first + 1))?;
+    Ok(())
 }
 
 /// Appends each damaged section of a file, and the sections that are missing before or after the
 /// sections found.
-#[tactic(auto, unfolding(crate::specs::SurveyProblems::problem_lines))]
+#[tactic(auto, unfolding(crate::specs::SurveyProblems::problems_in))]
 pub(crate) fn add_problems(
-    texts: &mut Vec<u8>,
-    wording: Wording,
+    problems: &mut Vec<Problem>,
     sections: &Sections,
     set_id: Field<6>,
     file: u16,
 ) -> Result<(), AllocError>
-    ensures { OnOk result (texts.new.items
-        ≡ texts.old.items ++ problem_lines wording sections.now.entries set_id file) }
+    ensures { OnOk result (problems.new.items
+        ≡ problems.old.items ++ problems_in sections.now.entries set_id file) }
 {
-    add_sections(texts, wording, sections, set_id, file, LAST_SECTION)
+    add_sections(problems, sections, set_id, file, LAST_SECTION)
 }

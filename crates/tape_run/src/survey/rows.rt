@@ -1,229 +1,210 @@
-//! The rows of a survey, for scripts, with tab-separated columns.
-ghost use Rattle.std.specs.Prelude.{◌≡◌, ◌||◌, IfOk, option_map, string_bytes};
-ghost use Rattle.tape_run.specs.SurveyRows.{whole_cell, head_cells, sight_cells, section_row};
-ghost use Rattle.tape_run.specs.SurveyRows.{known_cells, standing_cells, file_cells, form_cells};
-ghost use Rattle.tape_run.specs.SurveyRows.{image_row, conflict_cell, found_cells, file_text};
-ghost use Rattle.tape_run.specs.SurveyLine.{trimmed_text};
+//! A survey in rows, for scripts.
+ghost use Rattle.std.specs.Prelude.{◌≡◌, ◌<◌, ◌++◌, length, map, IfOk, OnOk};
+ghost use Rattle.std.specs.List.{flat_map};
+ghost use Rattle.tape_run.specs.SurveyCompared.{name_at, copy_row, copies_rows};
+ghost use Rattle.tape_run.specs.SurveyRows.{problem_cell, file_row, found_row, file_rows, sets_rows};
+ghost use Rattle.tape_run.specs.SurveyRows.{section_row, image_rows, survey_rows};
 
-use super::dates::date_of;
-use super::facts::seen_text;
-use super::files::{FileKey, FileNote};
-use super::glance::First;
-use super::sets::{Standing, clear_standing, flaw_in, is_mixed, standing_of};
+mod cells;
+
+use super::copies::{CopyNote, CopyNotes, Held, disputed_on};
+use super::files::FileKey;
+use super::gaps::{gap_first, is_found};
+use super::problems::Problem;
+use super::sets::file_problems;
 use super::view::{Findings, ImageSurvey};
-use crate::check_line::state_text;
 use crate::quoting::name_text;
-use crate::section::{Entry, SectionKey};
+use crate::report::sets_of;
+use crate::section::SectionKey;
+use crate::sections::Sections;
 use crate::text::Trimmed;
-use std::alloc::{AllocError, Global};
-use tape_label::{Field, Head1};
+use cells::{file_cells, form_cells, gap_row, image_row, problem_cell, section_row};
+use std::alloc::AllocError;
+use tape_label::Field;
 
-/// Returns the row for the image named `name`; `dispute` is a section on it whose complete copies
-/// differ, if any.
-pub(crate) fn image_row(
-    alloc: Global,
-    name: &str,
-    sight: &Option<ImageSurvey>,
-    dispute: Option<SectionKey>,
+/// Returns the rows of images that were read: those of the images, the sections, the files, and the
+/// sections with more than one complete copy.
+pub(super) fn rows(
+    findings: &Findings,
+    sights: &[Option<ImageSurvey>],
+    names: &[&str],
 ) -> Result<Vec<u8>, AllocError>
-    ensures { IfOk result (λ row. row.items ≡ image_row name.now sight.now dispute) }
+    requires { length sights.now ≡ length names.now }
+    ensures { IfOk result (λ rows. rows.items
+        ≡ survey_rows (map (λ n. n.now) names.now) sights.now findings.now) }
 {
-    let mut row = Vec::from_slice(alloc, b"IMAGE\t")?;
-    row.extend_from_slice(name_text(alloc, name)?.as_slice())?;
-    let cells = sight_cells(alloc, sight, dispute)?;
-    row.extend_from_slice(cells.as_bytes())?;
-    Ok(row)
+    let mut rows = Vec::new(findings.alloc);
+    let copies = findings.copies.disputed(findings.alloc)?;
+    add_images(&mut rows, copies.as_slice(), sights, names)?;
+    add_sections(&mut rows, &findings.sections)?;
+    add_sets(&mut rows, findings)?;
+    add_copies(&mut rows, names, &findings.copies.notes)?;
+    Ok(rows)
 }
 
-/// Returns the columns after the name of an image: its description, at last in words, or the text
-/// that it was not opened.
-fn sight_cells(
-    alloc: Global,
-    sight: &Option<ImageSurvey>,
-    dispute: Option<SectionKey>,
-) -> Result<String, AllocError>
-    ensures { IfOk result (λ cells. string_bytes cells ≡ sight_cells sight.now dispute) }
+/// Appends the row of each image; `copies` are the complete copies of sections whose complete
+/// copies differ.
+fn add_images(
+    rows: &mut Vec<u8>,
+    copies: &[Held],
+    sights: &[Option<ImageSurvey>],
+    names: &[&str],
+) -> Result<(), AllocError>
+    requires { length sights.now ≡ length names.now }
+    ensures { OnOk result (rows.new.items ≡ rows.old.items
+        ++ image_rows copies.now 0 (map (λ n. n.now) names.now) sights.now) }
 {
-    let Some(sight) = sight else {
-        return format!(in alloc; "\tNOT OPENED\t\t\t\t\t\t\t\t\tnot opened\n");
-    };
-    let (glance, stop) = (&sight.glance, sight.stop);
-    let whole = whole_cell(dispute.is_some(), sight.is_sound());
-    let (volume, owner) = match &glance.first {
-        First::Volume(label) => (
-            trimmed(alloc, &label.volume)?,
-            trimmed(alloc, &label.owner)?,
-        ),
-        _ => (String::new(alloc), String::new(alloc)),
-    };
-    let head = head_cells(alloc, &glance.head)?;
-    let (items, files, bad) = (glance.items, glance.files, glance.bad);
-    let seen = seen_text(alloc, "; ", sight, dispute)?;
-    let front = format!(in alloc; "\t{whole}\t{volume}\t{head}\t{items}\t{files}\t{bad}")?;
-    format!(in alloc; "{front}\t{stop}\t{owner}\t{seen}\n")
-}
-
-/// Returns the state of an image: whether it has a copy that differs from another, or else was read
-/// completely without damage.
-fn whole_cell(disputed: bool, sound: bool) -> &'static str
-    ensures { result.now ≡ whole_cell disputed sound }
-{
-    if disputed {
-        "CONFLICT"
-    } else if sound {
-        "WHOLE"
-    } else {
-        "PARTIAL"
+    let alloc = *rows.allocator();
+    for number in 0..names.len() {
+        let (name, sight) = (names[number], &sights[number]);
+        let dispute = disputed_on(copies, number);
+        let row = image_row(alloc, name, sight, dispute)?;
+        rows.extend_from_slice(row.as_slice())?;
     }
+    Ok(())
 }
 
-/// Returns the field without trailing spaces.
-fn trimmed<const N: usize>(alloc: Global, field: &Field<N>) -> Result<String, AllocError>
-    ensures { IfOk result (λ text. string_bytes text ≡ trimmed_text field.now) }
+/// Appends the row of each section.
+fn add_sections(rows: &mut Vec<u8>, sections: &Sections) -> Result<(), AllocError>
+    ensures { OnOk result (rows.new.items
+        ≡ rows.old.items ++ flat_map section_row sections.now.entries) }
 {
-    format!(in alloc; "{}", Trimmed(field))
-}
-
-/// Returns the set and the system, if a section was found.
-fn head_cells(alloc: Global, head: &Option<Head1>) -> Result<String, AllocError>
-    ensures { IfOk result (λ cells. string_bytes cells ≡ head_cells head.now) }
-{
-    match head {
-        Some(head) => {
-            let (set_id, system) = (Trimmed(&head.set_id), Trimmed(&head.implementation));
-            format!(in alloc; "{set_id}\t{system}")
-        }
-        None => format!(in alloc; "\t"),
+    let alloc = *rows.allocator();
+    for (key, entry) in sections {
+        let row = section_row(alloc, key, entry)?;
+        rows.extend_from_slice(row.as_bytes())?;
     }
+    Ok(())
 }
 
-/// Returns the row for a section.
-pub(crate) fn section_row(
-    alloc: Global,
-    key: &SectionKey,
-    entry: &Entry,
-) -> Result<String, AllocError>
-    ensures { IfOk result (λ row. string_bytes row ≡ section_row (key.now, entry.now)) }
+/// Appends the rows of all sets that were found, in the order in which they were found first.
+fn add_sets(rows: &mut Vec<u8>, findings: &Findings) -> Result<(), AllocError>
+    ensures { OnOk result (rows.new.items ≡ rows.old.items ++ sets_rows findings.now) }
 {
-    let (set_id, file, sect) = (Trimmed(&key.set_id), key.file, key.sect);
-    let (volume, blocks, state) = (
-        Trimmed(&entry.volume),
-        entry.blocks,
-        state_text(entry.state),
-    );
-    let eof = if entry.eof { "EOF" } else { "" };
-    let key = format!(in alloc; "SECTION\t{set_id}\t{file}\t{sect}")?;
-    format!(in alloc; "{key}\t{volume}\t{blocks}\t{state}\t{eof}\n")
+    let sets = sets_of(findings.alloc, &findings.sections)?;
+    for (set_id, greatest) in &sets {
+        add_set(rows, findings, *set_id, *greatest)?;
+    }
+    Ok(())
 }
 
-/// Returns the columns of a file, up to the last one.
-pub(crate) fn file_cells(
+/// Appends the rows of a set's files, of which the greatest number is `greatest`.
+fn add_set(
+    rows: &mut Vec<u8>,
+    findings: &Findings,
+    set_id: Field<6>,
+    greatest: u16,
+) -> Result<(), AllocError>
+    ensures { OnOk result (rows.new.items
+        ≡ rows.old.items ++ file_rows findings.now set_id 1 greatest) }
+{
+    for before in 0..greatest {
+        add_found(rows, findings, set_id, before + 1)?;
+    }
+    Ok(())
+}
+
+/// Appends the row of a file, if it was found, preceded by that for the numbers since the last file
+/// that was found.
+fn add_found(
+    rows: &mut Vec<u8>,
     findings: &Findings,
     set_id: Field<6>,
     file: u16,
-) -> Result<String, AllocError>
-    ensures { IfOk result (λ cells. string_bytes cells ≡ file_cells findings.now set_id file) }
+) -> Result<(), AllocError>
+    requires { 0 < file }
+    ensures { OnOk result (rows.new.items
+        ≡ rows.old.items ++ found_row findings.now set_id file) }
 {
-    let alloc = findings.alloc;
-    let key = FileKey { set_id, file };
-    let note = findings.files.notes.get(&key);
-    let standing = standing_of(&findings.sections, set_id, file);
-    let standing = clear_standing(flaw_in(findings, set_id, file), standing);
-    let found = found_cells(
-        alloc,
-        note,
-        &standing,
-        findings.copies.dispute(&key).is_some(),
-    )?;
-    file_text(alloc, &set_id, file, found.as_str())
-}
-
-/// Returns the row of a file up to the columns `found`.
-fn file_text(alloc: Global, set_id: &Field<6>, file: u16, found: &str) -> Result<String, AllocError>
-    ensures { IfOk result (λ text. string_bytes text ≡ file_text set_id.now file found.now) }
-{
-    let set = trimmed(alloc, set_id)?;
-    format!(in alloc; "FILE\t{set}\t{file}\t{found}")
-}
-
-/// Returns the columns with what was found of a file: its labels, its state, and whether labels of
-/// different files were found, or copies differ.
-fn found_cells(
-    alloc: Global,
-    note: Option<&FileNote>,
-    standing: &Standing,
-    disputed: bool,
-) -> Result<String, AllocError>
-    ensures { IfOk result (λ cells. string_bytes cells
-        ≡ found_cells (option_map (λ n. n.now) note.entry) standing.now disputed) }
-{
-    let conflict = conflict_cell(is_mixed(note), disputed);
-    let known = known_cells(alloc, note)?;
-    let standing = standing_cells(alloc, standing)?;
-    format!(in alloc; "{known}\t{standing}{conflict}")
-}
-
-/// Returns whether labels of different files were found under its number, or copies differ.
-fn conflict_cell(mixed: bool, disputed: bool) -> &'static str
-    ensures { result.now ≡ conflict_cell (mixed || disputed) }
-{
-    if mixed || disputed {
-        "\tCONFLICT\t"
-    } else {
-        "\t\t"
+    if !is_found(findings, set_id, file) {
+        return Ok(());
     }
+    let first = gap_first(findings, set_id, file);
+    if first < file {
+        let gap = gap_row(findings.alloc, &set_id, first, file)?;
+        rows.extend_from_slice(gap.as_bytes())?;
+    }
+    add_file(rows, findings, set_id, file)
 }
 
-/// Returns the facts about a file that its labels state.
-fn known_cells(alloc: Global, note: Option<&FileNote>) -> Result<String, AllocError>
-    ensures { IfOk result (λ cells. string_bytes cells
-        ≡ known_cells (option_map (λ n. n.now) note.entry)) }
+/// Appends the row of a file, with its damaged and missing sections.
+fn add_file(
+    rows: &mut Vec<u8>,
+    findings: &Findings,
+    set_id: Field<6>,
+    file: u16,
+) -> Result<(), AllocError>
+    ensures { OnOk result (rows.new.items ≡ rows.old.items ++ file_row findings.now set_id file) }
 {
-    let Some(note) = note else {
-        return format!(in alloc; "\t");
+    let front = file_cells(findings, set_id, file)?;
+    rows.extend_from_slice(front.as_bytes())?;
+    let problems = file_problems(findings, set_id, file)?;
+    add_problems(rows, problems.as_slice())?;
+    let note = findings.files.notes.get(&FileKey { set_id, file });
+    let form = form_cells(findings.alloc, note)?;
+    rows.extend_from_slice(form.as_slice())?;
+    rows.push(b'\n')?;
+    Ok(())
+}
+
+/// Appends damaged and missing sections.
+fn add_problems(rows: &mut Vec<u8>, problems: &[Problem]) -> Result<(), AllocError>
+    ensures { OnOk result (rows.new.items ≡ rows.old.items ++ flat_map problem_cell problems.now) }
+{
+    let alloc = *rows.allocator();
+    for problem in problems {
+        let cell = problem_cell(alloc, problem)?;
+        rows.extend_from_slice(cell.as_bytes())?;
+    }
+    Ok(())
+}
+
+/// Appends the name of image number `image`.
+#[tactic(auto, using(crate::proofs::SurveyCompared::is_name))]
+fn add_name(row: &mut Vec<u8>, names: &[&str], image: usize) -> Result<(), AllocError>
+    ensures { OnOk result (row.new.items
+        ≡ row.old.items ++ name_at (map (λ n. n.now) names.now) image) }
+{
+    if image >= names.len() {
+        return Ok(());
+    }
+    let name = name_text(*row.allocator(), names[image])?;
+    row.extend_from_slice(name.as_slice())
+}
+
+/// Appends the row for a section, with the name of the image whose copy differs, if any.
+fn add_copy(
+    rows: &mut Vec<u8>,
+    names: &[&str],
+    key: &SectionKey,
+    note: &CopyNote,
+) -> Result<(), AllocError>
+    ensures { OnOk result (rows.new.items ≡ rows.old.items
+        ++ copy_row (map (λ n. n.now) names.now) (key.now, note.now)) }
+{
+    let alloc = *rows.allocator();
+    let (set_id, file, sect) = (Trimmed(&key.set_id), key.file, key.sect);
+    let copies = note.copies;
+    let front = format!(in alloc; "COPIES\t{set_id}\t{file}\t{sect}\t{copies}\t")?;
+    rows.extend_from_slice(front.as_bytes())?;
+    add_name(rows, names, note.image)?;
+    let Some(other) = note.opponent() else {
+        return rows.extend_from_slice(b"\t\tAGREE\n");
     };
-    let file_id = trimmed(alloc, &note.head.file_id)?;
-    match date_of(&note.head.created) {
-        Some(date) => format!(in alloc; "{file_id}\t{date}"),
-        None => format!(in alloc; "{file_id}\t"),
-    }
+    rows.push(b'\t')?;
+    add_name(rows, names, other)?;
+    rows.extend_from_slice(b"\tCONFLICT\n")
 }
 
-/// Returns the state of a file, the number of its first section that is damaged or missing, and the
-/// volume that this section is on, or follows.
-fn standing_cells(alloc: Global, standing: &Standing) -> Result<String, AllocError>
-    ensures { IfOk result (λ cells. string_bytes cells ≡ standing_cells standing.now) }
+/// Appends the row for each section with more than one complete copy.
+fn add_copies(rows: &mut Vec<u8>, names: &[&str], notes: &CopyNotes) -> Result<(), AllocError>
+    ensures { OnOk result (rows.new.items ≡ rows.old.items
+        ++ copies_rows (map (λ n. n.now) names.now) notes.now.entries) }
 {
-    match standing {
-        Standing::Complete => format!(in alloc; "COMPLETE\t\t"),
-        Standing::Damaged(sect, entry) => {
-            let (state, volume) = (state_text(entry.state), trimmed(alloc, &entry.volume)?);
-            format!(in alloc; "{state}\t{sect}\t{volume}")
+    for (key, note) in notes {
+        if note.copies != 1 || note.opponent().is_some() {
+            add_copy(rows, names, key, note)?;
         }
-        Standing::Behind(sect, volume) => {
-            let volume = trimmed(alloc, volume)?;
-            format!(in alloc; "MISSING\t{sect}\t{volume}")
-        }
-        Standing::Missing(sect) => format!(in alloc; "MISSING\t{sect}\t"),
-        Standing::Misfit(sect) => format!(in alloc; "FORMAT\t{sect}\t"),
     }
-}
-
-/// Returns the last columns of a file: its record format, block length and record length.
-pub(crate) fn form_cells(alloc: Global, note: Option<&FileNote>) -> Result<Vec<u8>, AllocError>
-    ensures { IfOk result (λ cells. cells.items
-        ≡ form_cells (option_map (λ n. n.now) note.entry)) }
-{
-    let Some(note) = note else {
-        return Vec::from_slice(alloc, b"\t\t\t");
-    };
-    let Some(form) = note.form else {
-        return Vec::from_slice(alloc, b"\t\t\t");
-    };
-    let (block_len, rec_len) = (form.block_len, form.rec_len);
-    let mut cells = Vec::from_slice(alloc, b"\t")?;
-    cells.push(form.format.letter())?;
-    let lengths = format!(in alloc; "\t{block_len}\t{rec_len}")?;
-    cells.extend_from_slice(lengths.as_bytes())?;
-    Ok(cells)
+    Ok(())
 }

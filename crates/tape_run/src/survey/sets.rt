@@ -1,29 +1,21 @@
-//! The part of a survey about sets and their files.
-ghost use Rattle.std.specs.Prelude.{◌≡◌, ◌++◌, IfOk, OnOk, is_some, option_map, string_bytes};
-ghost use Rattle.tape_run.specs.SurveySets.{standing_of, known_text, file_word, head_line};
-ghost use Rattle.tape_run.specs.SurveySets.{form_word};
-ghost use Rattle.tape_run.specs.SurveySets.{is_mixed, file_lines, is_whole_file, is_sure};
-ghost use Rattle.tape_run.specs.SurveySets.{sure_files, all_good, is_all, rest_lines, flaw_in};
-ghost use Rattle.tape_run.specs.SurveySets.{flaw_line, clear_standing, is_flawless};
-ghost use Rattle.tape_run.specs.{SurveyRows.file_row, SurveyCopies.dispute_at};
-ghost use Rattle.tape_run.specs.SurveyFiles.{note_at, file_key};
+//! The sets that were found and their files: what is complete, and what is missing.
+ghost use Rattle.std.specs.Prelude.{◌≡◌, IfOk, option_map};
+ghost use Rattle.tape_run.specs.SurveySets.{standing_of, clear_standing, is_mixed, is_whole_file};
+ghost use Rattle.tape_run.specs.SurveySets.{file_problems, flaw_in, is_sure, sure_files, all_good};
+ghost use Rattle.tape_run.specs.SurveySets.{is_all, is_flawless};
 
-use super::Wording;
-use super::dates::date_of;
 use super::files::{FileKey, FileNote, FileNotes, any_differs, any_lost};
 use super::fits::{Flaw, any_misfit, flaw_of};
 use super::glance::one_if;
-use super::problems::{add_problems, before_of};
-use super::rows::{file_cells, form_cells};
+use super::problems::{Problem, add_problems, before_of};
 use super::strays::none_follows;
 use super::view::Findings;
 use crate::lacks::lack_of;
 use crate::report::{found_all, sets_of};
 use crate::section::{Entry, SectionKey};
 use crate::sections::Sections;
-use crate::text::Identifier;
-use std::alloc::{AllocError, Global};
-use tape_label::{Field, Format};
+use std::alloc::AllocError;
+use tape_label::Field;
 
 /// The state of a file.
 #[derive(Clone, Copy)]
@@ -66,74 +58,6 @@ pub(crate) fn clear_standing(flaw: Option<Flaw>, standing: Standing) -> Standing
     }
 }
 
-/// Returns the facts about a file that its labels state.
-fn known_text(alloc: Global, note: Option<&FileNote>) -> Result<String, AllocError>
-    ensures { IfOk result (λ text. string_bytes text
-        ≡ known_text (option_map (λ n. n.now) note.entry)) }
-{
-    let Some(note) = note else {
-        return format!(in alloc; "(no label found)");
-    };
-    let name = Identifier(&note.head.file_id);
-    match date_of(&note.head.created) {
-        Some(date) => format!(in alloc; "{name}  {date}"),
-        None => format!(in alloc; "{name}            "),
-    }
-}
-
-/// Returns the state of a file in a word, or why it is in conflict.
-fn file_word(mixed: bool, disputed: bool, complete: bool) -> &'static str
-    ensures { result.now ≡ file_word mixed disputed complete }
-{
-    if mixed {
-        "conflict: labels of different files have this number"
-    } else if disputed {
-        "conflict: good copies of a section differ"
-    } else if complete {
-        "complete"
-    } else {
-        "incomplete"
-    }
-}
-
-/// Returns what the labels of a file say of its record format, if it is not F, D or S.
-#[tactic(auto, unfolding(crate::specs::SurveySets::form_word))]
-fn form_word(note: Option<&FileNote>) -> &'static str
-    ensures { result.now ≡ form_word (option_map (λ n. n.now) note.entry) }
-{
-    let Some(note) = note else {
-        return "";
-    };
-    match note.form {
-        Some(form) => match form.format {
-            Format::Undefined => ", U",
-            Format::Variable => ", V",
-            _ => "",
-        },
-        None if note.absent => ", blocks (no HDR2)",
-        None => "",
-    }
-}
-
-/// Returns the first line about a file.
-fn head_line(
-    alloc: Global,
-    file: u16,
-    note: Option<&FileNote>,
-    disputed: bool,
-    complete: bool,
-) -> Result<String, AllocError>
-    ensures { IfOk result (λ line. string_bytes line
-        ≡ head_line file (option_map (λ n. n.now) note.entry) disputed complete) }
-{
-    let number = format!(in alloc; "{file}")?;
-    let spaces = " ".repeat(alloc, 4usize.saturating_sub(number.len()))?;
-    let known = known_text(alloc, note)?;
-    let word = file_word(is_mixed(note), disputed, complete);
-    let form = form_word(note);
-    format!(in alloc; "{spaces}{number} {known}  {word}{form}\n")
-}
-
 /// Returns whether header labels of different files were found.
 pub(crate) fn is_mixed(note: Option<&FileNote>) -> bool
     ensures { result ≡ is_mixed (option_map (λ n. n.now) note.entry) }
@@ -144,84 +68,28 @@ pub(crate) fn is_mixed(note: Option<&FileNote>) -> bool
     }
 }
 
-/// Appends the first line about a file.
-fn add_head(
-    texts: &mut Vec<u8>,
-    findings: &Findings,
-    set_id: Field<6>,
-    file: u16,
-    complete: bool,
-) -> Result<(), AllocError>
-    ensures { OnOk result (texts.new.items ≡ texts.old.items
-        ++ head_line file (note_at findings.now.files (file_key set_id file))
-        (is_some (dispute_at findings.now.copies (file_key set_id file))) complete) }
-{
-    let key = FileKey { set_id, file };
-    let note = findings.files.notes.get(&key);
-    let disputed = findings.copies.dispute(&key).is_some();
-    let head = head_line(findings.alloc, file, note, disputed, complete)?;
-    texts.extend_from_slice(head.as_bytes())
-}
-
-/// Appends the damaged and missing sections of a file, unless it is complete.
-#[tactic(auto, unfolding(crate::specs::SurveySets::rest_lines))]
-fn add_rest(
-    texts: &mut Vec<u8>,
-    findings: &Findings,
-    wording: Wording,
-    set_id: Field<6>,
-    file: u16,
-) -> Result<(), AllocError>
-    ensures { OnOk result (texts.new.items
-        ≡ texts.old.items ++ rest_lines wording findings.now.sections set_id file) }
-{
-    if is_whole_file(&findings.sections, set_id, file) {
-        return Ok(());
-    }
-    add_problems(texts, wording, &findings.sections, set_id, file)
-}
-
-/// Appends the lines of a file: its state, and then its damaged and missing sections.
-pub(crate) fn add_lines(
-    texts: &mut Vec<u8>,
-    findings: &Findings,
-    set_id: Field<6>,
-    file: u16,
-) -> Result<(), AllocError>
-    ensures { OnOk result (texts.new.items
-        ≡ texts.old.items ++ file_lines findings.now set_id file) }
-{
-    let flaw = flaw_in(findings, set_id, file);
-    let complete = is_whole_file(&findings.sections, set_id, file) && flaw.is_none();
-    add_head(texts, findings, set_id, file, complete)?;
-    texts.extend_from_slice(flaw_line(findings.alloc, flaw)?.as_bytes())?;
-    add_rest(texts, findings, Wording::Words, set_id, file)
-}
-
-/// Appends the row of a file, with its damaged and missing sections.
-pub(crate) fn add_file_row(
-    texts: &mut Vec<u8>,
-    findings: &Findings,
-    set_id: Field<6>,
-    file: u16,
-) -> Result<(), AllocError>
-    ensures { OnOk result (texts.new.items ≡ texts.old.items ++ file_row findings.now set_id file) }
-{
-    let front = file_cells(findings, set_id, file)?;
-    texts.extend_from_slice(front.as_bytes())?;
-    add_rest(texts, findings, Wording::Rows, set_id, file)?;
-    let note = findings.files.notes.get(&FileKey { set_id, file });
-    let form = form_cells(findings.alloc, note)?;
-    texts.extend_from_slice(form.as_slice())?;
-    texts.push(b'\n')?;
-    Ok(())
-}
-
 /// Returns whether nothing of a file is missing.
 pub(crate) fn is_whole_file(sections: &Sections, set_id: Field<6>, file: u16) -> bool
     ensures { result ≡ is_whole_file sections.now.entries set_id file }
 {
     lack_of(sections, set_id, file).is_none()
+}
+
+/// Returns the damaged and missing sections of a file, unless it is complete.
+#[tactic(auto, unfolding(crate::specs::SurveySets::file_problems))]
+pub(crate) fn file_problems(
+    findings: &Findings,
+    set_id: Field<6>,
+    file: u16,
+) -> Result<Vec<Problem>, AllocError>
+    ensures { IfOk result (λ problems. problems.items
+        ≡ file_problems findings.now.sections set_id file) }
+{
+    let mut problems = Vec::new(findings.alloc);
+    if !is_whole_file(&findings.sections, set_id, file) {
+        add_problems(&mut problems, &findings.sections, set_id, file)?;
+    }
+    Ok(problems)
 }
 
 /// Returns the reason why a file is not readable although all its sections are complete, if there
@@ -232,27 +100,6 @@ pub(crate) fn flaw_in(findings: &Findings, set_id: Field<6>, file: u16) -> Optio
     match findings.files.notes.get(&FileKey { set_id, file }) {
         Some(note) => flaw_of(note),
         None => None,
-    }
-}
-
-/// Returns the line about this reason.
-#[tactic(auto, unfolding(crate::specs::SurveySets::flaw_line))]
-fn flaw_line(alloc: Global, flaw: Option<Flaw>) -> Result<String, AllocError>
-    ensures { IfOk result (λ line. string_bytes line ≡ flaw_line flaw) }
-{
-    match flaw {
-        None => Ok(String::new(alloc)),
-        Some(Flaw::Lost) => format!(in alloc;
-            "            HDR2 is lost on each image: the record format is unknown\n"
-        ),
-        Some(Flaw::Unsupported) => format!(in alloc;
-            "            no HDR2 with a supported record format was read\n"
-        ),
-        Some(Flaw::Misfits(misfit)) => {
-            let (sect, block) = (misfit.sect, misfit.block);
-            let front = format!(in alloc; "        section {sect} is not readable: ")?;
-            format!(in alloc; "{front}block {block} is not in the format that HDR2 states\n")
-        }
     }
 }
 

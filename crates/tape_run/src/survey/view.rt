@@ -4,7 +4,7 @@ ghost use Rattle.std.specs.Prelude.{◌≡◌, length, IfOk, OnOk, option_map};
 ghost use Rattle.tape_image.specs.Reader.{going};
 ghost use Rattle.tape_run.specs.declared.fault.RunFault.TheVariants as faults;
 ghost use Rattle.tape_run.specs.SurveyRead.{ViewsItems, IsViewed, AreViewed, nothing_found};
-ghost use Rattle.tape_run.specs.SurveyTally.{is_whole_sight, is_sound, is_ended, is_end};
+ghost use Rattle.tape_run.specs.SurveyWhole.{is_whole_sight, is_sound, is_ended, is_end};
 
 use super::copies::Copies;
 use super::course::LabelOrder;

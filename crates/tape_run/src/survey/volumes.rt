@@ -1,28 +1,19 @@
 //! The volumes of a set, in the order of its sections.
-ghost use Rattle.std.specs.String.{string_bytes};
 ghost use Rattle.std.specs.Prelude.{◌≡◌, ◌≤◌, ◌<◌, ◌++◌, IfOk, OnOk, None, false};
 ghost use Rattle.tape_run.specs.Lacks.{entry_at};
 ghost use Rattle.tape_run.specs.SurveyChain.{link_of, next_first, sections_chain, found_chain};
 ghost use Rattle.tape_run.specs.SurveyChain.{file_chain, files_chain, is_same, missing_if};
-ghost use Rattle.tape_run.specs.SurveyChain.{items_to, volumes_from, item_text, comma_text};
-ghost use Rattle.tape_run.specs.SurveyChain.{column_after, volumes_line, volumes_of};
+ghost use Rattle.tape_run.specs.SurveyChain.{items_to, volumes_from, volumes_of};
 
 use super::gaps::is_found;
 use super::problems::ends;
 use super::view::Findings;
 use crate::section::{LAST_SECTION, SectionKey};
 use crate::sections::Sections;
-use crate::text::Trimmed;
 use std::alloc::{AllocError, Global};
 use tape_label::Field;
 
-/// The column at which a line begins.
-const INDENT: usize = 11;
-
-/// The maximum length of a line, without a comma and the space after it.
-const WIDTH: usize = 96;
-
-/// An entry in the line of a set's volumes.
+/// An entry in the list of a set's volumes.
 #[derive(Clone, Copy)]
 pub(crate) enum VolumeItem {
     /// A volume on which a section was found.
@@ -205,70 +196,14 @@ fn items_of(alloc: Global, chain: &[Option<Field<6>>]) -> Result<Vec<VolumeItem>
     Ok(items)
 }
 
-/// Returns the text of an entry.
-fn item_text(alloc: Global, item: &VolumeItem) -> Result<String, AllocError>
-    ensures { IfOk result (λ text. string_bytes text ≡ item_text item.now) }
-{
-    match item {
-        VolumeItem::Named(volume) => {
-            let volume = Trimmed(volume);
-            format!(in alloc; "{volume}")
-        }
-        VolumeItem::MissingFirst => format!(in alloc; "missing"),
-        VolumeItem::MissingAfter(last) => {
-            let last = Trimmed(last);
-            format!(in alloc; "missing (follows {last})")
-        }
-    }
-}
-
-/// Appends the text of `item` to a line of length `column`, or begins another line with it. Returns
-/// the length of the line that it is on.
-fn add_text(
-    alloc: Global,
-    texts: &mut Vec<u8>,
-    column: usize,
-    item: &VolumeItem,
-) -> Result<usize, AllocError>
-    ensures next { IfOk result (λ next. next ≡ column_after column (item_text item.now)) }
-    ensures text { IfOk result (λ _. texts.new.items ≡ texts.old.items
-        ++ (comma_text column (item_text item.now) ++ item_text item.now)) }
-{
-    let text = item_text(alloc, item)?;
-    let (comma, start) = if text.len() < WIDTH.saturating_sub(column) {
-        (", ", column + 2)
-    } else {
-        (",\n           ", INDENT)
-    };
-    texts.extend_from_slice(comma.as_bytes())?;
-    texts.extend_from_slice(text.as_bytes())?;
-    Ok(start + text.len())
-}
-
-/// Appends the line of the volumes of a set whose greatest file number is `greatest`, if there are
-/// any.
-pub(crate) fn add_volumes(
-    texts: &mut Vec<u8>,
+/// Returns the volumes of a set whose greatest file number is `greatest`.
+pub(crate) fn volumes_of(
     findings: &Findings,
     set_id: Field<6>,
     greatest: u16,
-) -> Result<(), AllocError>
-    ensures { OnOk result (texts.new.items ≡ texts.old.items
-        ++ volumes_line (volumes_of findings.now (set_id, greatest))) }
+) -> Result<Vec<VolumeItem>, AllocError>
+    ensures { IfOk result (λ items. items.items ≡ volumes_of findings.now (set_id, greatest)) }
 {
-    let alloc = findings.alloc;
     let chain = chain_of(findings, set_id, greatest)?;
-    let items = items_of(alloc, chain.as_slice())?;
-    let [first, rest @ ..] = items.as_slice() else {
-        return Ok(());
-    };
-    let text = item_text(alloc, first)?;
-    texts.extend_from_slice(b"  Volumes: ")?;
-    texts.extend_from_slice(text.as_bytes())?;
-    let mut column = INDENT + text.len();
-    for item in rest {
-        column = add_text(alloc, texts, column, item)?;
-    }
-    texts.push(b'\n')?;
-    Ok(())
+    items_of(findings.alloc, chain.as_slice())
 }

@@ -8,6 +8,6 @@ loop-before-preserved c =
     omega (arith, c.loop-before-test.true) in
     record {
       few = omega (arith, c.in_ok-first.ensures.few);
-      text = rw (c.in_ok-first.ensures.next, c.in_ok-first.ensures.text, append_assoc)
-          (rw one at c.loop-before.invariant.text);
+      problems = rw (c.in_ok-first.ensures.next, c.in_ok-first.ensures.problems, append_assoc)
+          (rw one at c.loop-before.invariant.problems);
     }

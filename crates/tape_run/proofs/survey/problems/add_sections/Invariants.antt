@@ -1,12 +1,12 @@
 use Rattle.std.proofs.Common.{◌≡◌, ◌++◌, ◌+◌, ◌-◌, ◌≤◌}
-use Rattle.tape_run.specs.SurveyProblems.{sections_from}
+use Rattle.tape_run.specs.SurveyProblems.{problems_from}
 use Rattle.tape_run.proofs.survey.problems.add_sections.Given as goal
 
 abbrev pub invariant-loop-before : goal.invariant-loop-before
 invariant-loop-before l = record {
   few : l.first ≤ l.before + 1;
-  text : l.texts.items ++ sections_from l.wording l.sections.entries l.set_id l.file l.first
+  problems : l.problems.items ++ problems_from l.sections.entries l.set_id l.file l.first
       (l.before + 1)
       (l.most - l.before)
-      ≡ l.fn.texts.items ++ sections_from l.wording l.sections.entries l.set_id l.file 1 1 l.most;
+      ≡ l.fn.problems.items ++ problems_from l.sections.entries l.set_id l.file 1 1 l.most;
 }
