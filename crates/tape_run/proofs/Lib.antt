@@ -189,3 +189,7 @@ pub mod WideSections
 pub mod WideSoFar
 pub mod OnwardSoFar
 pub mod OnwardFinds
+mod CopyTold
+mod CopyAlong
+mod CopySuspects
+mod CopyAgrees

@@ -8,6 +8,7 @@ mod catalogue;
 mod check;
 mod check_line;
 mod container;
+pub mod copy_laws;
 mod extract;
 mod fault;
 mod lacks;

@@ -1,0 +1,42 @@
+//! Laws of what is reported of reels: of copies of a valid set nothing without a reason. Each is the
+//! contract of a function that does nothing.
+
+ghost use Rattle.std.specs.Prelude.{◌≡◌, ◌≢◌, ◌≤◌, ◌++◌, ◌∷◌, ℕ, Bool, List, length};
+ghost use Rattle.tape_image.specs.{Tape.TapeItem, Begins.image_limit};
+ghost use Rattle.tape_set.specs.{Layout.FileSet, Lawful.IsLawful, Lawful.FileForm};
+ghost use Rattle.tape_set.specs.declared.position.Position.TheVariants.{Finished};
+ghost use Rattle.tape_core.specs.declared.event.Heading.{Heading};
+ghost use Rattle.tape_core.specs.declared.event.Phase.TheVariants.{DataWanted};
+ghost use Rattle.tape_core.specs.{State.State, Table.mount_of, Follows.IsAt, Overlap.Agrees};
+ghost use Rattle.tape_run.specs.declared.reel_reader.ReelAnswer.{ReelAnswer};
+ghost use Rattle.tape_run.specs.{Reels.Reads, Reels.behind_items, Reeling.is_suspect};
+ghost use Rattle.tape_run.specs.Mount.{MountEvent, IsMount, IsMountOf};
+
+/// A reel that is a copy of a volume of a valid set, or belongs to another set, is not suspect, at
+/// any position in a file of the set: its trailer label does not give another number of blocks, and
+/// nothing that is no label stands in place of the trailer label of blocks that it gave. The copy may
+/// be truncated, and any of its items unreadable.
+pub fn no_copy_is_suspect()
+    ensures { (set : FileSet) (h : MountEvent) (bytes left : List ℕ) (wide again : Bool)
+        (core new : State) (answer : ReelAnswer)
+        → IsLawful set
+        → IsMountOf set bytes h
+        → length bytes ≤ image_limit
+        → IsAt set core
+        → Reads wide core.position core (mount_of core) bytes left answer new
+        → is_suspect again answer ≡ Bool.false }
+{}
+
+/// Each item of the data of the section needed, on such a reel, agrees with what was delivered
+/// before: blocks that a reading skips have the parts that were delivered of them, and the block at
+/// which it goes on begins with those that were delivered of it.
+pub fn each_item_agrees()
+    ensures { (set : FileSet) (h : MountEvent) (items more : List TapeItem) (item : TapeItem)
+        (wide : Bool) (core : State) (heading : Heading) (form : FileForm) (count : ℕ)
+        → IsLawful set
+        → IsMount set (items ++ item ∷ more) h
+        → IsAt set core
+        → core.position ≢ Finished
+        → (behind_items wide (mount_of core) items).phase ≡ DataWanted heading form count
+        → Agrees set (behind_items wide (mount_of core) items) form count item }
+{}
