@@ -45,6 +45,7 @@ pub mod Left
 pub mod Listing
 pub mod Fronts
 pub mod Completes
+pub mod SameBytes
 pub mod Comparing
 pub mod ComparedBlocks
 pub mod ComparedItems

@@ -25,8 +25,8 @@ abbrev pub core_before : State → State
 core_before core = mount_of (place_of (saved core 0))
 
 -- An item of a reading in this phase, compared with the parts that are to come: if it is a block of
--- the section needed, with the number `from` or a greater one, they begin with its parts. `left` are
--- to come after it.
+-- the section needed, with the number `from` or a greater one, they begin with its parts. `left`
+-- are to come after it.
 abbrev pub Meets : ℕ → Phase → TapeItem → List Portion → List Portion → Type 0
 Meets from (DataWanted heading form seen) (block content) ahead left =
     ((seen < from) × (left ≡ ahead)) ⊎ ((from ≤ seen) × ((parts : List Portion)

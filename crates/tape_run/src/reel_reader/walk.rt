@@ -11,11 +11,41 @@ ghost use Rattle.tape_run.specs.{Comparing.Reads, Crash.BringsNoMore, Steps.IsRe
 use tape_blocks::{Part, Parts, Shape, check_block};
 use tape_core::{PartWalk, SinkFault, goes_on_at};
 
+/// Returns whether two words of eight bytes are the same.
+#[inline(always)]
+fn is_same_word(one: [u8; 8], other: [u8; 8]) -> bool
+    ensures { IsTrue result ↔ (one ≡ other) }
+{
+    u64::from_le_bytes(one) == u64::from_le_bytes(other)
+}
+
+/// Returns whether two slices have the same bytes. Takes eight at a time, where `==` takes one.
+#[tactic(auto, using(crate::proofs::SameBytes::same_whole))]
+fn has_same_bytes(one: &[u8], other: &[u8]) -> bool
+    ensures { IsTrue result ↔ (one.now ≡ other.now) }
+{
+    let mut left = one;
+    let mut right = other;
+    'words: loop {
+        let Some((word, rest)) = left.split_first_chunk::<8>() else {
+            return left == right;
+        };
+        let Some((there, others)) = right.split_first_chunk::<8>() else {
+            return false;
+        };
+        if !is_same_word(*word, *there) {
+            return false;
+        }
+        left = rest;
+        right = others;
+    }
+}
+
 /// Returns whether two parts have the same span and bytes.
 fn is_same(one: Part<'_>, other: Part<'_>) -> bool
     ensures { IsTrue result ↔ (view one.entry ≡ view other.entry) }
 {
-    one.span == other.span && one.bytes == other.bytes
+    one.span == other.span && has_same_bytes(one.bytes, other.bytes)
 }
 
 /// Returns whether the next part of a walk over a sink is this one.

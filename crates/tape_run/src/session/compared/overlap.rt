@@ -38,9 +38,9 @@ pub(super) struct Overlap {
     part: u32,
     /// The number of the block after the last unreadable one, or 0 if none is unreadable.
     from: u32,
-    /// The weight of the parts that the blocks from there on have on the image, with the first parts
-    /// of the block at which the session continues; the maximum if the image has an item that is no
-    /// such block.
+    /// The weight of the parts that the blocks from there on have on the image, with the first
+    /// parts of the block at which the session continues; the maximum if the image has an item that
+    /// is no such block.
     pub weight: u64,
     /// The byte offset of the section's data in the image.
     pub place: u64,
