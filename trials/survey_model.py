@@ -106,7 +106,7 @@ class Survey:
         heads = self.heads[set_id, file]
         good = [each for each in self.found[set_id, file] if each["state"] == "GOOD"]
         days = {(each["section"], each["day"], each["gen"]) for each in heads}
-        data = {(each["section"], tuple(each["blocks"])) for each in good}
+        data = {(each["section"], tuple(each["blocks"]), each["eof"]) for each in good}
         forms = {(each["section"], each["form"]) for each in self.found[set_id, file]
                  if "form" in each}
         counts = [Counter(section for section, *_ in each) for each in (days, data, forms)]
@@ -120,7 +120,7 @@ class Survey:
             if each["state"] == "GOOD":
                 copies[each["set"], each["file"], each["section"]].append(each)
         return {each["at"] for group in copies.values() for each in group
-                if any(other["blocks"] != each["blocks"] for other in group)}
+                if any(other[key] != each[key] for other in group for key in ("blocks", "eof"))}
 
     def order(self, set_id, file, strangers):
         """The images as `--again` reads them.
