@@ -2,6 +2,7 @@
 
 mod draft;
 mod out;
+mod recovery;
 
 use crate::command_spec::{CommandSpec, Kind, Word};
 use crate::compared::Compared;
@@ -11,26 +12,20 @@ use crate::fault::{OUT_OF_MEMORY, ToolFault};
 use crate::help;
 use crate::images::{Images, Named, in_reading_order, names_of};
 use crate::normal::NormalImages;
-use crate::program::{End, extract_end};
+use crate::program::End;
 use crate::refusal::{Refusal, are_files, is_file};
 use crate::screen::Progress;
-use crate::staging::{StageSink, session_in};
 use crate::warned::Warned;
 use crate::words::{FORM, form_of, named, out_of, set_id_of, text_of};
 use clap::ArgMatches;
 pub use draft::{Draft, no_draft};
 pub use out::{Output, Way, is_one_name, way_to_out};
+pub use recovery::end_as_written;
+use recovery::recover;
 use std::alloc::Global;
-use std::fs::File;
-use std::io;
-use std::io::{BufWriter, Read, Write};
 use tape_blocks::Form;
-use tape_core::{MemorySink, PartWalk, SinkFault};
 use tape_label::Field;
-use tape_run::{
-    AsTheyAre, EngineFault, ImageSource, Opener, OutSink, RunFault, Session, extract_in_passes,
-    extract_watched, find_files,
-};
+use tape_run::{AsTheyAre, find_files};
 use tape_set::Want;
 
 /// The request to `extract`: a file of a set, to be recovered from images in their order.
@@ -112,29 +107,54 @@ pub fn extract<'a, R: Progress>(
     awaited: &mut Option<Want>,
     site: &mut FaultSite<'a>,
 ) -> Result<End, Refusal> {
-    let task = &order.task;
     let mut text = String::new(rt.alloc());
     let named = names_of(rt.host(), &order.images, &mut text, site)?;
-    *site = FaultSite::Out(task.out);
-    let named = named.as_slice();
-    let way = way_to_out(rt.host(), task.out, task.stage, order.images.list, named)?;
+    *site = FaultSite::Out(order.task.out);
     let reels = explained.then_some(0);
+    extract_named(rt, order, named.as_slice(), reels, awaited, site)
+}
+
+/// Recovers the file from the images named `named`. If `reels` is not `None`, names each image
+/// before it is read.
+fn extract_named<'n, 'a, R: Progress>(
+    rt: &'n R,
+    order: &ExtractOrder<'a>,
+    named: &'n [&'n str],
+    reels: Option<u64>,
+    awaited: &mut Option<Want>,
+    site: &mut FaultSite<'a>,
+) -> Result<End, Refusal> {
+    let task = &order.task;
+    let way = way_to_out(rt.host(), task.out, task.stage, order.images.list, named)?;
     let end = if task.again {
         extract_again(rt, order, named, way, reels, awaited, site)?
     } else {
-        let images = &mut Images::new(rt, named);
-        images.reels = reels;
-        let is_on = are_files(rt.host(), named);
-        let (kept, streamed) = (
-            &mut Warned::new(rt.alloc(), task, is_on),
-            &mut Warned::new(rt.alloc(), task, is_on),
-        );
-        recover(rt, task, images, (kept, streamed), way, awaited, site)?
+        extract_in_order(rt, task, named, way, reels, awaited, site)?
     };
     if end == End::Done && !order.now {
         date_output(rt, task.out, named, task.set_id, task.file);
     }
     Ok(end)
+}
+
+/// Recovers the file from images that are read once, in their order and as they are.
+fn extract_in_order<'n, 'a, R: Progress>(
+    rt: &'n R,
+    task: &Task<'a>,
+    named: &'n [&'n str],
+    way: Way,
+    reels: Option<u64>,
+    awaited: &mut Option<Want>,
+    site: &mut FaultSite<'a>,
+) -> Result<End, ToolFault> {
+    let images = &mut Images::new(rt, named);
+    images.reels = reels;
+    let is_on = are_files(rt.host(), named);
+    let openers = (
+        &mut Warned::new(rt.alloc(), task, is_on),
+        &mut Warned::new(rt.alloc(), task, is_on),
+    );
+    recover(rt, task, images, openers, way, awaited, site)
 }
 
 /// Recovers the file from images that are read in normal form, in the wider reading if a survey
@@ -164,51 +184,6 @@ fn extract_again<'n, 'a, R: Progress>(
     }
     let openers = (&mut Compared::new(rt.alloc(), surveyed), &mut AsTheyAre);
     recover(rt, task, images, openers, way, awaited, site)
-}
-
-/// Recovers the file `task` from images. They are opened by the first of `openers` or, if the
-/// records are written as they are read, by the second. If something is missing, `awaited` says
-/// what is expected next. On error, `site` says where it occurred.
-fn recover<'a, R, I, L, M, N>(
-    rt: &R,
-    task: &Task<'a>,
-    images: &mut L,
-    openers: (&mut M, &mut N),
-    way: Way,
-    awaited: &mut Option<Want>,
-    site: &mut FaultSite<'a>,
-) -> Result<End, ToolFault>
-where
-    R: Progress,
-    I: Read + Drop,
-    L: ImageSource<I>,
-    M: Opener<MemorySink, I, L> + Opener<StageSink, I, L>,
-    N: Opener<OutSink<BufWriter<File>>, I, L>,
-{
-    let (opener, streamer) = openers;
-    let Some(path) = task.stage else {
-        return extract_now(rt, task, images, (opener, streamer), way, awaited);
-    };
-    *site = FaultSite::Stage(path);
-    let mut session = session_in(rt.host(), path, task.set_id, task.file)?;
-    if task.wide {
-        session.widen();
-    }
-    *site = FaultSite::Out(task.out);
-    let output = Output::new(rt, task.out, way)?;
-    let end = gather(
-        task,
-        images,
-        opener,
-        output,
-        &mut io::writer(rt),
-        &mut session,
-    );
-    *awaited = session.want();
-    if let End::Faulted(ToolFault::Run(_)) = end {
-        *site = FaultSite::Stage(path);
-    }
-    Ok(end)
 }
 
 /// Returns the names in the order in which the images are read. If they are surveyed first, those
@@ -254,90 +229,4 @@ fn names_to_read<'n, 'a, R: Progress>(
         }
     }
     Ok(in_reading_order(rt.alloc(), names, &met, (task.set_id, task.file))?)
-}
-
-/// Recovers a file without a stage. If the images are read once, writes the records as they are
-/// read, unless the output is written in place; otherwise holds its data in memory. If the images
-/// are read repeatedly, the data of a suspect reel can be dropped again: the session has a
-/// checkpoint at its start. If something is missing, `awaited` says what is expected next.
-fn extract_now<R, I, L, M, N>(
-    rt: &R,
-    task: &Task<'_>,
-    images: &mut L,
-    openers: (&mut M, &mut N),
-    way: Way,
-    awaited: &mut Option<Want>,
-) -> Result<End, ToolFault>
-where
-    R: Progress,
-    I: Read + Drop,
-    L: ImageSource<I>,
-    M: Opener<MemorySink, I, L>,
-    N: Opener<OutSink<BufWriter<File>>, I, L>,
-{
-    let (opener, streamer) = openers;
-    let report = &mut io::writer(rt);
-    let sink = MemorySink::new(rt.alloc());
-    let Ok(mut session) = Session::new(rt.alloc(), task.set_id, task.file, sink) else {
-        return Ok(End::WrongWords);
-    };
-    if task.again && session.note().is_err() {
-        return Err(OUT_OF_MEMORY);
-    }
-    if task.wide {
-        session.widen();
-    }
-    let output = Output::new(rt, task.out, way)?;
-    match output {
-        Output::New(draft, out) if !task.again => {
-            let mut draft = draft;
-            let sink = OutSink::new(out, task.form);
-            let Ok(mut session) = Session::new(rt.alloc(), task.set_id, task.file, sink) else {
-                return Ok(draft.ended(End::WrongWords));
-            };
-            let session = &mut session;
-            let answer = extract_watched(session, images, streamer, task.form, &mut draft, report);
-            *awaited = session.want();
-            drop(session);
-            Ok(draft.ended(end_as_written(answer)))
-        }
-        output => {
-            let end = gather(task, images, opener, output, report, &mut session);
-            *awaited = session.want();
-            Ok(end)
-        }
-    }
-}
-
-/// Returns how the run ends: a part that could not be stored is a record that could not be written.
-pub fn end_as_written(answer: Result<Option<Want>, EngineFault>) -> End {
-    match answer {
-        Err(EngineFault::Run(RunFault::Sink(SinkFault::Device))) => {
-            extract_end(Err(EngineFault::WriteFailed))
-        }
-        answer => extract_end(answer),
-    }
-}
-
-/// Reads the images into the session, and writes the recovered file to `output` if it is complete.
-pub fn gather<R, I, L, M, S, P>(
-    task: &Task<'_>,
-    images: &mut L,
-    opener: &mut M,
-    output: Output<'_, R>,
-    report: &mut P,
-    session: &mut Session<S>,
-) -> End
-where
-    R: Progress,
-    I: Read + Drop,
-    L: ImageSource<I>,
-    M: Opener<S, I, L>,
-    S: PartWalk + Drop,
-    P: Write,
-{
-    let mut output = output;
-    let (again, form) = (task.again, task.form);
-    let answer = extract_in_passes(session, images, opener, again, form, &mut output, report);
-    output.ended(extract_end(answer))
 }

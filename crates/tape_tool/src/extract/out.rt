@@ -77,19 +77,7 @@ pub fn way_to_out<R: Host>(
         return Err(Refusal::Words(help::OUT_IS_FOLDER));
     }
     if let Some(there) = there {
-        if there.is_file() {
-            differs(rt, &there, STANDARD_OUTPUT, help::OUT_IS_LINES)?;
-        }
-        if let Some(list) = list {
-            let path = list.file.unwrap_or(STANDARD_INPUT);
-            differs(rt, &there, path, help::OUT_IS_LIST)?;
-        }
-        if let Some(stage) = stage {
-            differs(rt, &there, stage, help::OUT_IS_STAGE)?;
-        }
-        for image in images {
-            differs(rt, &there, *image, help::OUT_IS_IMAGE)?;
-        }
+        is_other(rt, &there, stage, list, images)?;
         if there.is_file() && there.len() > 0 && may_keep_a_tape(rt, out)? {
             return Err(Refusal::from(FileFault::Exists));
         }
@@ -105,6 +93,34 @@ pub fn way_to_out<R: Host>(
         Some(named) if !named.is_file() => Ok(Way::InPlace(before)),
         _ => Ok(Way::Renamed(before)),
     }
+}
+
+/// Refuses an existing output with metadata `there` that is another file of the run.
+fn is_other<R: Host>(
+    rt: &R,
+    there: &Metadata,
+    stage: Option<&str>,
+    list: Option<List<'_>>,
+    images: &[&str],
+) -> Result<(), Refusal> {
+    if there.is_file() {
+        differs(rt, there, STANDARD_OUTPUT, help::OUT_IS_LINES)?;
+    }
+    if let Some(list) = list {
+        differs(
+            rt,
+            there,
+            list.file.unwrap_or(STANDARD_INPUT),
+            help::OUT_IS_LIST,
+        )?;
+    }
+    if let Some(stage) = stage {
+        differs(rt, there, stage, help::OUT_IS_STAGE)?;
+    }
+    for image in images {
+        differs(rt, there, *image, help::OUT_IS_IMAGE)?;
+    }
+    Ok(())
 }
 
 /// Returns whether the paths `one` and `other` name the same entry of the same directory.
@@ -144,18 +160,25 @@ fn may_keep_a_tape<R: Host>(rt: &R, path: &str) -> Result<bool, Refusal> {
     let Ok(count) = fill(&mut file, front.as_mut_slice()) else {
         return Err(Refusal::from(FileFault::ReadFailed));
     };
-    let (name, front) = (
-        path.as_bytes(),
-        front.as_slice().get(..count).unwrap_or(&[]),
-    );
+    let front = front.as_slice().get(..count).unwrap_or(&[]);
+    if is_kept(path.as_bytes(), front) {
+        return Ok(true);
+    }
+    begins_as_image(rt, path)
+}
+
+/// Returns whether a file with this name and these first bytes is kept, whatever follows them.
+fn is_kept(name: &[u8], front: &[u8]) -> bool {
     let is_named = name[name.len().saturating_sub(4)..].eq_ignore_ascii_case(b".tap");
     let begins_as_kept = FRONTS.iter().any(|(place, bytes)| front
         .get(*place..)
         .is_some_and(|there| there.starts_with(*bytes)));
-    if is_named || begins_as_kept || container_of(front) != Container::Unknown {
-        return Ok(true);
-    }
-    // An image begins with a complete item, or with an end-of-medium marker.
+    is_named || begins_as_kept || container_of(front) != Container::Unknown
+}
+
+/// Returns whether the file at `path` begins as an image: with a complete item, or with an
+/// end-of-medium marker.
+fn begins_as_image<R: Host>(rt: &R, path: &str) -> Result<bool, Refusal> {
     let begins = ImageReader::new(rt.alloc(), &mut open(rt, path)?).and_then(|image| {
         let mut image = image;
         let has_item = image.next()?.is_some();

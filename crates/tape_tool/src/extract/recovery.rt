@@ -1,0 +1,175 @@
+//! The recovery of a file from opened images, with a stage or without one.
+
+use super::Task;
+use super::draft::Drafted;
+use super::out::{Output, Way};
+use crate::explain::FaultSite;
+use crate::fault::{OUT_OF_MEMORY, ToolFault};
+use crate::program::{End, extract_end};
+use crate::screen::Progress;
+use crate::staging::{StageSink, session_in};
+use std::fs::File;
+use std::io;
+use std::io::{BufWriter, Read};
+use tape_core::{MemorySink, PartWalk, SinkFault};
+use tape_run::{
+    EngineFault, ImageSource, Opener, OutSink, RunFault, Session, extract_in_passes,
+    extract_watched,
+};
+use tape_set::Want;
+
+/// Recovers the file `task` from images. They are opened by the first of `openers` or, if the
+/// records are written as they are read, by the second. If something is missing, `awaited` says
+/// what is expected next. On error, `site` says where it occurred.
+pub fn recover<'a, R, I, L, M, N>(
+    rt: &R,
+    task: &Task<'a>,
+    images: &mut L,
+    openers: (&mut M, &mut N),
+    way: Way,
+    awaited: &mut Option<Want>,
+    site: &mut FaultSite<'a>,
+) -> Result<End, ToolFault>
+where
+    R: Progress,
+    I: Read + Drop,
+    L: ImageSource<I>,
+    M: Opener<MemorySink, I, L> + Opener<StageSink, I, L>,
+    N: Opener<OutSink<BufWriter<File>>, I, L>,
+{
+    let (opener, streamer) = openers;
+    let Some(path) = task.stage else {
+        return extract_now(rt, task, images, (opener, streamer), way, awaited);
+    };
+    *site = FaultSite::Stage(path);
+    let mut session = session_in(rt.host(), path, task.set_id, task.file)?;
+    if task.wide {
+        session.widen();
+    }
+    *site = FaultSite::Out(task.out);
+    let mut output = Output::new(rt, task.out, way)?;
+    let answer = gather(rt, task, images, opener, &mut output, &mut session);
+    *awaited = session.want();
+    let end = output.ended(extract_end(answer));
+    if let End::Faulted(ToolFault::Run(_)) = end {
+        *site = FaultSite::Stage(path);
+    }
+    Ok(end)
+}
+
+/// Recovers a file without a stage. If the images are read once, writes the records as they are
+/// read, unless the output is written in place. If something is missing, `awaited` says what is
+/// expected next.
+fn extract_now<R, I, L, M, N>(
+    rt: &R,
+    task: &Task<'_>,
+    images: &mut L,
+    openers: (&mut M, &mut N),
+    way: Way,
+    awaited: &mut Option<Want>,
+) -> Result<End, ToolFault>
+where
+    R: Progress,
+    I: Read + Drop,
+    L: ImageSource<I>,
+    M: Opener<MemorySink, I, L>,
+    N: Opener<OutSink<BufWriter<File>>, I, L>,
+{
+    let (opener, streamer) = openers;
+    Ok(match Output::new(rt, task.out, way)? {
+        Output::New(draft, out) if !task.again => {
+            extract_written(rt, task, images, streamer, (draft, out), awaited)
+        }
+        output => extract_held(rt, task, images, opener, output, awaited),
+    })
+}
+
+/// Recovers a file into a draft, to which the records are written as they are read.
+fn extract_written<R, I, L, N>(
+    rt: &R,
+    task: &Task<'_>,
+    images: &mut L,
+    opener: &mut N,
+    drafted: Drafted<'_, R>,
+    awaited: &mut Option<Want>,
+) -> End
+where
+    R: Progress,
+    I: Read + Drop,
+    L: ImageSource<I>,
+    N: Opener<OutSink<BufWriter<File>>, I, L>,
+{
+    let (mut draft, out) = drafted;
+    let sink = OutSink::new(out, task.form);
+    let Ok(mut session) = Session::new(rt.alloc(), task.set_id, task.file, sink) else {
+        return draft.ended(End::WrongWords);
+    };
+    let (session, report) = (&mut session, &mut io::writer(rt));
+    let answer = extract_watched(session, images, opener, task.form, &mut draft, report);
+    *awaited = session.want();
+    draft.ended(end_as_written(answer))
+}
+
+/// Recovers a file whose data is held in memory. If the images are read repeatedly, the data of a
+/// suspect reel can be dropped again: the session has a checkpoint at its start.
+fn extract_held<R, I, L, M>(
+    rt: &R,
+    task: &Task<'_>,
+    images: &mut L,
+    opener: &mut M,
+    output: Output<'_, R>,
+    awaited: &mut Option<Want>,
+) -> End
+where
+    R: Progress,
+    I: Read + Drop,
+    L: ImageSource<I>,
+    M: Opener<MemorySink, I, L>,
+{
+    let mut output = output;
+    let sink = MemorySink::new(rt.alloc());
+    let Ok(mut session) = Session::new(rt.alloc(), task.set_id, task.file, sink) else {
+        return output.ended(End::WrongWords);
+    };
+    if task.again && session.note().is_err() {
+        return output.ended(End::Faulted(OUT_OF_MEMORY));
+    }
+    if task.wide {
+        session.widen();
+    }
+    let answer = gather(rt, task, images, opener, &mut output, &mut session);
+    *awaited = session.want();
+    output.ended(extract_end(answer))
+}
+
+/// Returns how the run ends: a part that could not be stored is a record that could not be written.
+pub fn end_as_written(answer: Result<Option<Want>, EngineFault>) -> End {
+    match answer {
+        Err(EngineFault::Run(RunFault::Sink(SinkFault::Device))) => {
+            extract_end(Err(EngineFault::WriteFailed))
+        }
+        answer => extract_end(answer),
+    }
+}
+
+/// Reads the images into the session, and writes the recovered file to `output` if it is complete.
+fn gather<R, I, L, M, S>(
+    rt: &R,
+    task: &Task<'_>,
+    images: &mut L,
+    opener: &mut M,
+    output: &mut Output<'_, R>,
+    session: &mut Session<S>,
+) -> Result<Option<Want>, EngineFault>
+where
+    R: Progress,
+    I: Read + Drop,
+    L: ImageSource<I>,
+    M: Opener<S, I, L>,
+    S: PartWalk + Drop,
+{
+    let report = &mut io::writer(rt);
+    extract_in_passes(
+        session, images, opener, task.again, task.form, output, report,
+    )
+}
