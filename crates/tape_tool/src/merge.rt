@@ -14,8 +14,9 @@ use crate::screen::Progress;
 use crate::words::{named, out_of};
 use clap::ArgMatches;
 use std::alloc::Global;
+use std::fs::File;
 use std::io;
-use std::io::{Sink, Write};
+use std::io::{BufWriter, Sink, Write};
 use tape_image::{ImageCause, ImageFault};
 use tape_run::{MergeEnd, MergeStop, Place, WriteFailed, merge_now};
 
@@ -121,8 +122,7 @@ pub fn compare_order<'a>(
 }
 
 /// Merges the readings named in the arguments into a new image, and creates its log if one is
-/// requested, or only compares them. The log gets its name before the merged image does, and loses
-/// it again if the merged image cannot get its own. On error, `site` says where it occurred.
+/// requested, or only compares them. On error, `site` says where it occurred.
 pub fn merge<'a, R: Progress>(
     rt: &R,
     order: &MergeOrder<'a>,
@@ -130,14 +130,29 @@ pub fn merge<'a, R: Progress>(
 ) -> Result<End, Refusal> {
     let mut text = String::new(rt.alloc());
     let names = names_of(rt.host(), &order.images, &mut text, site)?;
-    let (names, no_rows) = (names.as_slice(), &mut io::sink());
+    let names = names.as_slice();
     if names.len() < 2 {
         return Err(Refusal::Words(help::ONE_READING));
     }
-    let Some(path) = order.out else {
-        *site = FaultSite::Lines;
-        return Ok(merge_files(rt, order, names, io::sink(), &mut Nowhere, no_rows, site));
-    };
+    match order.out {
+        Some(path) => merge_into(rt, order, names, path, site),
+        None => {
+            *site = FaultSite::Lines;
+            let (place, no_rows) = (&mut Nowhere, &mut io::sink());
+            Ok(merge_files(rt, order, names, io::sink(), place, no_rows, site))
+        }
+    }
+}
+
+/// Merges the readings named `names` into a new image at `path`, and creates its log if one is
+/// requested.
+fn merge_into<'a, R: Progress>(
+    rt: &R,
+    order: &MergeOrder<'a>,
+    names: &[&str],
+    path: &'a str,
+    site: &mut FaultSite<'a>,
+) -> Result<End, Refusal> {
     *site = FaultSite::New(path);
     no_draft(names, order.images.list)?;
     no_draft(&[path, order.log.unwrap_or(path)], None)?;
@@ -148,24 +163,39 @@ pub fn merge<'a, R: Progress>(
     }
     let (mut draft, out) = Draft::new(rt, path)?;
     let end = match order.log {
-        None => merge_files(rt, order, names, out, &mut draft, no_rows, site),
+        None => merge_files(rt, order, names, out, &mut draft, &mut io::sink(), site),
         Some(log) => {
             *site = FaultSite::Log(log);
             match Draft::new(rt, log) {
                 Ok((log, rows)) => {
                     *site = FaultSite::New(path);
-                    let mut log = Output::New(log, rows);
-                    let end = merge_files(rt, order, names, out, &mut draft, &mut log, site);
-                    if !draft.has_taken() {
-                        log.give_back();
-                    }
-                    log.ended(end)
+                    let log = Output::New(log, rows);
+                    merge_with_log(rt, order, names, out, &mut draft, log, site)
                 }
                 Err(fault) => End::Faulted(fault),
             }
         }
     };
     Ok(draft.ended(end))
+}
+
+/// Merges the readings into `out`, and writes the log, which gets its name before the merged image
+/// does, and loses it again if the merged image cannot get its own.
+fn merge_with_log<'a, R: Progress>(
+    rt: &R,
+    order: &MergeOrder<'a>,
+    names: &[&str],
+    out: BufWriter<File>,
+    draft: &mut Draft<'_, R>,
+    log: Output<'_, R>,
+    site: &mut FaultSite<'a>,
+) -> End {
+    let mut log = log;
+    let end = merge_files(rt, order, names, out, draft, &mut log, site);
+    if !draft.has_taken() {
+        log.give_back();
+    }
+    log.ended(end)
 }
 
 /// A destination of the merged image that discards it, for `compare`.
