@@ -3,12 +3,15 @@ mod container;
 mod files;
 mod missing;
 
-use crate::fault::{FileFault, OUT_OF_MEMORY, ToolFault, number_of_file, number_of_write};
+use crate::fault::{
+    FaultLine, FileFault, OUT_OF_MEMORY, ToolFault, number_of_file, number_of_write,
+};
 use crate::images::ImageName;
+use crate::screen::Progress;
 use crate::shown::Shown;
 use crate::write::failed::OddRecord;
 use crate::write::run::split;
-pub use container::kind_of;
+use container::kind_of;
 use files::{
     FILE_OF_FOLDER, FILE_OF_IMAGE, FILE_OF_IMAGES, FILE_OF_INPUT, FILE_OF_LINES, FILE_OF_LIST,
     FILE_OF_LOG, FILE_OF_MANIFEST, FILE_OF_NEW, FILE_OF_OUT, FILE_OF_STAGE, FILE_OF_VOLUME,
@@ -25,7 +28,7 @@ use tape_writer::Prefix;
 use tape_writer::system::folder_of;
 
 /// The file or stream that the program was working on when a fault occurred, as far as it is known.
-#[derive(Clone, Copy, PartialEq, Eq)]
+#[derive(Clone, Copy)]
 pub enum FaultSite<'a> {
     /// The site is unknown.
     Unknown,
@@ -141,7 +144,7 @@ impl fmt::Display for Explanation<'_> {
         };
         let is_known = match self.fault {
             ToolFault::Run(_) => matches!(site, FaultSite::Stage(_)),
-            _ => site != FaultSite::Unknown,
+            _ => !matches!(site, FaultSite::Unknown),
         };
         if text != NO_MEMORY && is_known {
             write!(f, "{site}")?;
@@ -166,9 +169,28 @@ impl fmt::Display for Explanation<'_> {
     }
 }
 
+/// Reports a fault and, if it has a site, explains it. If standard error is closed, it cannot be
+/// reported.
+pub fn report_fault<R: Progress>(rt: &R, fault: ToolFault, site: Option<FaultSite<'_>>) {
+    let _ = rt.eprint(FaultLine(fault));
+    if let Some(site) = site {
+        let reason = reason_of(rt.host(), fault, site);
+        let kind = match (fault, site) {
+            (ToolFault::Image(_), FaultSite::Image(path)) => kind_of(rt.host(), rt.alloc(), path),
+            _ => None,
+        };
+        let _ = rt.eprint(Explanation {
+            fault,
+            site,
+            reason,
+            kind,
+        });
+    }
+}
+
 /// Accesses the file with the fault again, and returns the system's error. Returns `None` if there
 /// is no error now, or if there is no file that can be accessed again.
-pub fn reason_of<R: Runtime>(rt: &R, fault: ToolFault, site: FaultSite<'_>) -> Option<io::Error> {
+fn reason_of<R: Runtime>(rt: &R, fault: ToolFault, site: FaultSite<'_>) -> Option<io::Error> {
     match fault {
         ToolFault::File(FileFault::NotOpened | FileFault::ReadFailed) => {}
         ToolFault::Image(fault) if fault.cause == ImageCause::Device => {}

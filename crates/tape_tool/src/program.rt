@@ -10,9 +10,9 @@ use crate::check::check;
 use crate::command_line::{Order, call_of, error_in};
 use crate::command_spec::CommandSpec;
 use crate::convert::convert_image;
-use crate::explain::{Explanation, FaultSite, explain_missing, kind_of, reason_of};
+use crate::explain::{FaultSite, explain_missing, report_fault};
 use crate::extract::extract;
-use crate::fault::{FaultLine, FileFault, OUT_OF_MEMORY, ToolFault};
+use crate::fault::{FileFault, OUT_OF_MEMORY, ToolFault};
 use crate::help;
 use crate::init::init;
 use crate::list::list;
@@ -156,21 +156,7 @@ pub fn run_on<R: Host>(rt: &R, is_terminal: bool) -> u8 {
         return End::Closed.status();
     }
     if let End::Faulted(fault) = end {
-        // If standard error is closed, the fault cannot be reported.
-        let _ = screen.eprint(FaultLine(fault));
-        if let Some(site) = explained {
-            let reason = reason_of(rt, fault, site);
-            let kind = match (fault, site) {
-                (ToolFault::Image(_), FaultSite::Image(path)) => kind_of(rt, rt.alloc(), path),
-                _ => None,
-            };
-            let _ = screen.eprint(Explanation {
-                fault,
-                site,
-                reason,
-                kind,
-            });
-        }
+        report_fault(screen, fault, explained);
     }
     screen.clear();
     end.status()
@@ -273,29 +259,12 @@ fn perform<'a, R: Progress>(
         Ok(call) => call,
         Err(error) => return (refuse(rt, &error), None),
     };
-    // The command line decides, otherwise the environment, otherwise the terminal.
-    let requested = match (call.explained, env::var(rt.host(), "TAPE_EXPLAIN")) {
-        (None, Ok(value)) if !value.as_str().is_empty() => Some(value.as_str() != "0"),
-        (requested, _) => requested,
-    };
+    let requested = is_requested(rt.host(), call.explained);
     let explained = requested.unwrap_or(is_terminal);
     // Names before the lines of a run that succeeds are printed on request only.
     let names = requested == Some(true);
     let (mut site, mut awaited) = (FaultSite::Unknown, None);
-    let done = match &call.order {
-        Order::List(order) => list(rt, *order, &mut site),
-        Order::Show(order) => show(rt, order, &mut site),
-        Order::Init(order) => Ok(end_of(init(rt, order, &mut site))),
-        Order::Check(named, form) => check(rt, named, *form, &mut site),
-        Order::Write(order) => write(rt, order, &mut site),
-        Order::Extract(order) => extract(rt, order, names, &mut awaited, &mut site),
-        Order::Unpack(order) => unpack(rt, order, &mut site),
-        Order::Salvage(order) => salvage(rt, order, &mut site),
-        Order::Stage(order) => stage(rt, order, &mut site),
-        Order::Merge(order) => merge(rt, order, &mut site),
-        Order::Convert(order) => convert_image(rt, *order, &mut site),
-    };
-    let end = match done {
+    let end = match execute(rt, &call.order, names, &mut awaited, &mut site) {
         Ok(end) => end,
         Err(refusal) => end_refused(rt, call.spec, refusal),
     };
@@ -303,6 +272,42 @@ fn perform<'a, R: Progress>(
         explain_missing(rt, &call.order, awaited);
     }
     (end, explained.then_some(site))
+}
+
+/// Returns whether explanations are requested or declined: by the command line, which says
+/// `explained`, otherwise by the environment.
+fn is_requested<R: Host>(rt: &R, explained: Option<bool>) -> Option<bool> {
+    if explained.is_some() {
+        return explained;
+    }
+    match env::var(rt, "TAPE_EXPLAIN") {
+        Ok(value) if !value.as_str().is_empty() => Some(value.as_str() != "0"),
+        _ => None,
+    }
+}
+
+/// Executes a command. If `names`, `extract` names each image before it is read; `awaited` is then
+/// the part of the file that it expects next. On error, `site` says where it occurred.
+fn execute<'a, R: Progress>(
+    rt: &R,
+    order: &Order<'a>,
+    names: bool,
+    awaited: &mut Option<Want>,
+    site: &mut FaultSite<'a>,
+) -> Result<End, Refusal> {
+    match order {
+        Order::List(order) => list(rt, *order, site),
+        Order::Show(order) => show(rt, order, site),
+        Order::Init(order) => Ok(end_of(init(rt, order, site))),
+        Order::Check(named, form) => check(rt, named, *form, site),
+        Order::Write(order) => write(rt, order, site),
+        Order::Extract(order) => extract(rt, order, names, awaited, site),
+        Order::Unpack(order) => unpack(rt, order, site),
+        Order::Salvage(order) => salvage(rt, order, site),
+        Order::Stage(order) => stage(rt, order, site),
+        Order::Merge(order) => merge(rt, order, site),
+        Order::Convert(order) => convert_image(rt, *order, site),
+    }
 }
 
 /// Prints the text of the argument parser: help to standard output, a usage error to standard

@@ -42,30 +42,33 @@ fn text_by_images<R: Progress>(rt: &R, order: &Order<'_>, awaited: Option<Want>)
     let mut list = String::new(rt.alloc());
     let mut site = FaultSite::Unknown;
     let names = names_of(rt.host(), named, &mut list, &mut site).ok()?;
-    let names = names.as_slice();
-    name_unread(rt, names);
+    text_by_names(rt, order, awaited, names.as_slice())
+}
+
+/// Does the same for images named `names`.
+fn text_by_names<R: Progress>(
+    rt: &R,
+    order: &Order<'_>,
+    awaited: Option<Want>,
+    names: &[&str],
+) -> Option<String> {
     if !are_files(rt.host(), names) {
         return None;
     }
+    let again = matches!(order, Order::Extract(order) if order.task.again);
     let met = &match order {
-        Order::Extract(order) if !order.task.again => {
-            find_files(rt.alloc(), &mut Images::new(rt, names)).ok()?
-        }
-        _ => find_files(rt.alloc(), &mut NormalImages::again(rt, names)).ok()?,
-    };
+        Order::Extract(_) if !again => find_files(rt.alloc(), &mut Images::new(rt, names)),
+        _ => find_files(rt.alloc(), &mut NormalImages::again(rt, names)),
+    }
+    .ok()?;
     let shelf = Shelf {
         alloc: rt.alloc(),
         names,
         met,
         awaited: awaited.map(|want| want.sect),
-        again: matches!(order, Order::Extract(order) if order.task.again),
+        again,
     };
-    match order {
-        Order::Extract(order) => shelf.file_text(order.task.set_id, order.task.file).ok()?,
-        Order::Salvage(order) => shelf.file_text(order.task.set_id, order.task.file).ok()?,
-        Order::Unpack(order) => shelf.choice_text(order),
-        _ => None,
-    }
+    shelf.text(order)
 }
 
 /// The images of a command, by their names, what is on them, and how they were read.
@@ -81,6 +84,16 @@ struct Shelf<'n> {
 }
 
 impl Shelf<'_> {
+    /// Returns what is missing after the command, or `None` if the images do not show it.
+    fn text(&self, order: &Order<'_>) -> Option<String> {
+        match order {
+            Order::Extract(order) => self.file_text(order.task.set_id, order.task.file).ok()?,
+            Order::Salvage(order) => self.file_text(order.task.set_id, order.task.file).ok()?,
+            Order::Unpack(order) => self.choice_text(order),
+            _ => None,
+        }
+    }
+
     /// Returns what is missing of a file, by its labels and sections. Returns `None` if these do
     /// not show it.
     fn file_text(&self, set_id: Field<6>, file: u16) -> Result<Option<String>, AllocError> {

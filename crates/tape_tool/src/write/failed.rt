@@ -53,7 +53,7 @@ pub fn site_of<'a, R: Host>(
 }
 
 /// A record that a file of the set cannot have.
-#[derive(Clone, Copy, PartialEq, Eq)]
+#[derive(Clone, Copy)]
 pub struct OddRecord {
     /// Whether records are lines.
     is_line: bool,
