@@ -119,6 +119,20 @@ fn written<'a, R: Progress>(
     site: &mut FaultSite<'a>,
 ) -> Result<u64, ToolFault> {
     let mut out = out;
+    copy_image(rt, order, &mut out, site)?;
+    let items = items_of(rt, draft.path())?;
+    *site = FaultSite::New(order.out);
+    draft.place(out)?;
+    Ok(items)
+}
+
+/// Writes the SIMH image of the image in `order`. On error, `site` says where it occurred.
+fn copy_image<'a, R: Progress, W: Write>(
+    rt: &R,
+    order: ConvertOrder<'a>,
+    out: &mut W,
+    site: &mut FaultSite<'a>,
+) -> Result<(), ToolFault> {
     *site = order
         .image
         .map_or(FaultSite::Stdin, |path| FaultSite::Image(path));
@@ -128,20 +142,21 @@ fn written<'a, R: Progress>(
     let Some(image) = images.mount(0).map_err(|_| OUT_OF_MEMORY)? else {
         return Err(ToolFault::File(FileFault::NotOpened));
     };
-    match copied(rt.alloc(), image, order.format, &mut out) {
-        Ok(()) => {}
-        Err(Stop::Image(fault)) => return Err(fault),
+    match copied(rt.alloc(), image, order.format, out) {
+        Ok(()) => Ok(()),
+        Err(Stop::Image(fault)) => Err(fault),
         Err(Stop::Out) => {
             *site = FaultSite::New(order.out);
-            return Err(ToolFault::File(FileFault::WriteFailed));
+            Err(ToolFault::File(FileFault::WriteFailed))
         }
     }
-    let file = open(rt.host(), draft.path())?;
-    let mut draft_bytes = ReadAhead::new(rt.alloc(), file).map_err(|_| OUT_OF_MEMORY)?;
-    let items = count_items(rt.alloc(), &mut draft_bytes)?;
-    *site = FaultSite::New(order.out);
-    draft.place(out)?;
-    Ok(items)
+}
+
+/// Returns the number of items of the SIMH image at `path`.
+fn items_of<R: Progress>(rt: &R, path: &str) -> Result<u64, ToolFault> {
+    let file = open(rt.host(), path)?;
+    let mut image = ReadAhead::new(rt.alloc(), file).map_err(|_| OUT_OF_MEMORY)?;
+    count_items(rt.alloc(), &mut image)
 }
 
 /// The reason why no SIMH image was written.

@@ -4,7 +4,7 @@ use crate::command_spec::{CommandSpec, Kind, Word};
 use crate::explain::FaultSite;
 use crate::fault::{FileFault, ToolFault};
 use crate::help;
-use crate::images::Images;
+use crate::images::{Image, Images};
 use crate::json_rows::{Column, JsonRows, RowKind, RowTable, Shape, Span};
 use crate::program::{End, end_of};
 use crate::refusal::Refusal;
@@ -96,11 +96,14 @@ pub fn list_order<'a>(matches: &ArgMatches<'a>) -> Result<ListOrder<'a>, Refusal
     })
 }
 
-/// The fault if a buffer cannot be allocated.
-pub const NO_MEMORY: ToolFault = ToolFault::Image(ImageFault {
+/// The fault of an image for which a buffer cannot be allocated.
+const NO_BUFFER: ImageFault = ImageFault {
     place: 0,
     cause: ImageCause::OutOfMemory,
-});
+};
+
+/// The fault if a buffer cannot be allocated.
+pub const NO_MEMORY: ToolFault = ToolFault::Image(NO_BUFFER);
 
 /// Lists the image at the path in `order`, or the one on standard input, on standard output. Both
 /// are buffered. On error, `site` says where it occurred.
@@ -118,17 +121,28 @@ pub fn list<'a, R: Progress>(
     let Some(mut image) = images.mount(0).map_err(|_| NO_MEMORY)? else {
         return Err(Refusal::from(FileFault::NotOpened));
     };
-    let mut writer = BufWriter::new(rt.alloc(), io::writer(rt)).map_err(|_| NO_MEMORY)?;
-    let listed = if order.json {
-        let rows = &mut JsonRows::new(rt.alloc(), LIST_ROWS, &mut writer);
-        list_places_to(rt.alloc(), &mut image, rows)
-    } else if order.offsets {
-        list_places_to(rt.alloc(), &mut image, &mut writer)
-    } else {
-        list_to(rt.alloc(), &mut image, &mut writer)
-    };
+    let listed = list_image(rt, order, &mut image);
     if let Err(ListFault::WriteFailed) = listed {
         *site = FaultSite::Lines;
     }
     Ok(end_of(listed.map_err(|fault| ToolFault::from(fault))))
+}
+
+/// Lists an image on standard output.
+fn list_image<R: Progress>(
+    rt: &R,
+    order: ListOrder<'_>,
+    image: &mut Image<R>,
+) -> Result<(), ListFault> {
+    let Ok(mut writer) = BufWriter::new(rt.alloc(), io::writer(rt)) else {
+        return Err(ListFault::Image(NO_BUFFER));
+    };
+    if order.json {
+        let rows = &mut JsonRows::new(rt.alloc(), LIST_ROWS, &mut writer);
+        return list_places_to(rt.alloc(), image, rows);
+    }
+    if order.offsets {
+        return list_places_to(rt.alloc(), image, &mut writer);
+    }
+    list_to(rt.alloc(), image, &mut writer)
 }

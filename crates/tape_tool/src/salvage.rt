@@ -90,16 +90,24 @@ pub fn salvage<'a, R: Progress>(
     let mut text = String::new(rt.alloc());
     let names = names_of(rt.host(), &order.images, &mut text, site)?;
     *site = FaultSite::Out(order.out);
-    no_draft(names.as_slice(), order.images.list)?;
+    salvage_named(rt, order, names.as_slice())
+}
+
+/// Recovers the readable parts of the file from the images named `names`.
+fn salvage_named<R: Progress>(
+    rt: &R,
+    order: &SalvageOrder<'_>,
+    names: &[&str],
+) -> Result<End, Refusal> {
+    no_draft(names, order.images.list)?;
     no_draft(&[order.out], None)?;
     no_pipes(rt.host(), names.as_slice())?;
     let (mut draft, out) = Draft::new(rt, order.out)?;
-    let images = &mut NormalImages::new(rt, names.as_slice());
+    let (task, images) = (&order.task, &mut NormalImages::new(rt, names));
     let report = &mut io::writer(rt);
-    let task = &order.task;
-    let end = check_end(salvage_joined(rt.alloc(), task, images, out, &mut draft, report));
+    let end = check_end(salvage_to(rt.alloc(), task, images, out, &mut draft, report));
     if draft.has_taken() && !order.now {
-        date_output(rt, order.out, names.as_slice(), task.set_id, task.file);
+        date_output(rt, order.out, names, task.set_id, task.file);
     }
     Ok(draft.ended(end))
 }

@@ -17,7 +17,7 @@ use std::fs::{File, Metadata, OpenFile};
 use std::io;
 use std::io::{Error, ErrorKind, Read, Seek, SeekFrom, Write};
 use tape_blocks::Form;
-use tape_stage::buffered_file;
+use tape_stage::{BufferedFile, buffered_file};
 
 /// The request to `stage`: the stage to show, and the output for its records.
 #[derive(Clone, Copy)]
@@ -73,7 +73,7 @@ pub fn stage<'a, R: Progress>(
         ));
     }
     *site = FaultSite::Stage(order.stage);
-    let (alloc, report) = (rt.alloc(), &mut io::writer(rt));
+    let alloc = rt.alloc();
     let file = open(rt.host(), order.stage)?;
     // No other run may write to it. On a file system without locks, other runs are not excluded.
     locked_stage(file.try_lock_shared())?;
@@ -81,13 +81,11 @@ pub fn stage<'a, R: Progress>(
     let end = match target {
         Some((out, way)) => {
             *site = FaultSite::Out(out);
-            let (form, mut out) = (Some(order.form), Output::new(rt, out, way)?);
-            let (shown, _) = show_stage(alloc, disk, order.damaged, form, &mut out, report);
-            out.ended(stage_end(shown))
+            write_stage(rt, order, disk, Output::new(rt, out, way)?)
         }
         None => {
             *site = FaultSite::Lines;
-            let out = &mut io::sink();
+            let (out, report) = (&mut io::sink(), &mut io::writer(rt));
             stage_end(show_stage(alloc, disk, order.damaged, None, out, report).0)
         }
     };
@@ -95,6 +93,19 @@ pub fn stage<'a, R: Progress>(
         *site = FaultSite::Stage(order.stage);
     }
     Ok(end)
+}
+
+/// Shows the stage in `disk`, and writes its records to `out`.
+fn write_stage<R: Progress>(
+    rt: &R,
+    order: &StageOrder<'_>,
+    disk: BufferedFile<ReadOnly>,
+    out: Output<'_, R>,
+) -> End {
+    let (form, mut out) = (Some(order.form), out);
+    let report = &mut io::writer(rt);
+    let (shown, _) = show_stage(rt.alloc(), disk, order.damaged, form, &mut out, report);
+    out.ended(stage_end(shown))
 }
 
 /// A file that is never changed: writing and truncating fail. Syncing does nothing and reports

@@ -54,18 +54,29 @@ pub fn write<'a, R: Progress>(
         head_for(word, order.created)?;
     }
     let mut files = find_inputs(rt.host(), order, site)?;
-    let ended = match write_in_folder(rt.host(), &plan, files.as_mut_slice()) {
-        Ok(ended) => ended,
+    Ok(end_of(write_files(rt, order, &plan, files.as_mut_slice(), site)))
+}
+
+/// Writes the files to volumes, and reports these. Removes created images on error.
+fn write_files<'r, 'a: 'r, R: Progress>(
+    rt: &'r R,
+    order: &WriteOrder<'a>,
+    plan: &FolderPlan<'a>,
+    files: &mut [Input<InputFile<'r, R::System>>],
+    site: &mut FaultSite<'a>,
+) -> Result<(), ToolFault> {
+    match write_in_folder(rt.host(), plan, files) {
+        Ok(ended) => {
+            *site = FaultSite::Lines;
+            Ok(say(&mut io::writer(rt), files.len() as u64, ended.as_slice())?)
+        }
         Err(unwritten) => {
             remove_images(rt, order, unwritten.made.as_slice());
             let begun = files.iter().filter(|file| file.reader.has_begun()).count();
             *site = site_of(rt.host(), order, &plan.shape, begun, &unwritten);
-            return Err(Refusal::from(ToolFault::from(unwritten.fault)));
+            Err(ToolFault::from(unwritten.fault))
         }
-    };
-    *site = FaultSite::Lines;
-    let said = say(&mut io::writer(rt), files.len() as u64, ended.as_slice());
-    Ok(end_of(said.map_err(|fault| ToolFault::from(fault))))
+    }
 }
 
 /// Returns the shape of all files. An impossible shape is reported as a fault of the writer.
