@@ -142,24 +142,31 @@ impl Salvaged {
         let records = found(fs::symlink_metadata(rt, self.records.as_str()))?;
         let report = found(fs::symlink_metadata(rt, self.report.as_str()))?;
         let other = ToolFault::File(FileFault::Exists);
-        let (records, report) = match (&records, &report) {
+        let (records, report) = match (records, report) {
             (None, None) => return Ok((None, None)),
             (Some(records), Some(report)) if records.is_file() && report.is_file() => {
                 (records, report)
             }
             _ => return Err(other),
         };
-        let lines = report.len().checked_sub(SUMS as u64).ok_or(other)?;
+        if !self.has_sums(rt, records.len(), report.len())? {
+            return Err(other);
+        }
+        Ok((Some(FileId::of(&records)), Some(FileId::of(&report))))
+    }
+
+    /// Returns whether the report ends with the checksums of both files, which have these lengths.
+    fn has_sums<R: Host>(&self, rt: &R, records: u64, report: u64) -> Result<bool, ToolFault> {
+        let Some(lines) = report.checked_sub(SUMS as u64) else {
+            return Ok(false);
+        };
         let mut file = open(rt, self.report.as_str())?;
         let of_lines = sum_of(&mut file, lines)?;
         let mut last = [0; SUMS];
         file.read_exact(&mut last)
             .map_err(|_| FileFault::ReadFailed)?;
-        let of_records = sum_of(&mut open(rt, self.records.as_str())?, records.len())?;
-        if last.as_slice() != sums_line(rt.alloc(), &of_records, &of_lines)?.as_bytes() {
-            return Err(other);
-        }
-        Ok((Some(FileId::of(records)), Some(FileId::of(report))))
+        let of_records = sum_of(&mut open(rt, self.records.as_str())?, records)?;
+        Ok(last.as_slice() == sums_line(rt.alloc(), &of_records, &of_lines)?.as_bytes())
     }
 }
 
@@ -173,18 +180,11 @@ fn written<R: Progress>(
     lines: BufWriter<File>,
     last: &mut LastLine,
 ) -> Result<(BufWriter<File>, BufWriter<File>), ToolFault> {
-    let alloc = rt.alloc();
     let mut report = Summed::new(lines);
-    for (number, name) in names.iter().enumerate() {
-        let front = format!(in alloc; "FROM {} ", number.saturating_add(1))?;
-        write_text(&mut report, front.as_bytes())?;
-        write_text(&mut report, name_text(alloc, *name)?.as_slice())?;
-        write_text(&mut report, b"\n")?;
-    }
-    let mut kept = Kept(None);
-    let images = &mut NormalImages::again(rt, names);
+    write_names(rt.alloc(), names, &mut report)?;
+    let (mut kept, images) = (Kept(None), &mut NormalImages::again(rt, names));
     let records = Summed::new(records);
-    salvage_joined(alloc, task, images, records, &mut kept, &mut report)?;
+    salvage_to(rt.alloc(), task, images, records, &mut kept, &mut report)?;
     let Some(records) = kept.0 else {
         return Err(ToolFault::File(FileFault::WriteFailed));
     };
@@ -194,10 +194,31 @@ fn written<R: Progress>(
         last: told,
     } = report;
     *last = told;
-    let line = sums_line(alloc, &records.sum.finalize(), &sum.finalize())?;
-    write_text(&mut out, line.as_bytes())?;
-    flush(&mut out)?;
+    let sums = (records.sum.finalize(), sum.finalize());
+    write_sums(rt.alloc(), &sums.0, &sums.1, &mut out)?;
     Ok((records.out, out))
+}
+
+/// Writes the names of the images, each on a line.
+fn write_names(alloc: Global, names: &[&str], report: &mut Summed) -> Result<(), ToolFault> {
+    for (number, name) in names.iter().enumerate() {
+        let front = format!(in alloc; "FROM {} ", number.saturating_add(1))?;
+        write_text(report, front.as_bytes())?;
+        write_text(report, name_text(alloc, *name)?.as_slice())?;
+        write_text(report, b"\n")?;
+    }
+    Ok(())
+}
+
+/// Writes the last line of a report.
+fn write_sums(
+    alloc: Global,
+    records: &[u8; 32],
+    lines: &[u8; 32],
+    report: &mut BufWriter<File>,
+) -> Result<(), ToolFault> {
+    write_text(report, sums_line(alloc, records, lines)?.as_bytes())?;
+    Ok(flush(report)?)
 }
 
 /// Returns the last line of a report: the checksums of the records, and of the lines before it.
