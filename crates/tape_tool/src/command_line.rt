@@ -34,6 +34,41 @@ const TAPE: &CommandSpec = &CommandSpec {
     words: &[],
 };
 
+/// The name of a command.
+#[derive(Clone, Copy)]
+enum CommandName {
+    List,
+    Show,
+    Check,
+    Survey,
+    Compare,
+    Merge,
+    Convert,
+    Extract,
+    Unpack,
+    Salvage,
+    Stage,
+    Init,
+    Write,
+}
+
+/// The commands, in the order in which help lists them.
+const COMMANDS: &[(CommandName, &CommandSpec)] = &[
+    (CommandName::List, LIST),
+    (CommandName::Show, SHOW),
+    (CommandName::Check, CHECK),
+    (CommandName::Survey, SURVEY),
+    (CommandName::Compare, COMPARE),
+    (CommandName::Merge, MERGE),
+    (CommandName::Convert, CONVERT),
+    (CommandName::Extract, EXTRACT),
+    (CommandName::Unpack, UNPACK),
+    (CommandName::Salvage, SALVAGE),
+    (CommandName::Stage, STAGE),
+    (CommandName::Init, INIT),
+    (CommandName::Write, WRITE),
+];
+
 /// A parsed command line.
 #[derive(Drop)]
 pub struct Call<'a> {
@@ -82,24 +117,34 @@ pub fn call_of<'a>(alloc: Global, words: &'a [String]) -> Result<Call<'a>, Error
     let matches = match command(alloc)?.try_get_matches_from(words) {
         Ok(matches) => matches,
         Err(error) if error.kind() == ErrorKind::OutOfMemory => return Err(error),
-        Err(_) => {
-            // The message contains the arguments as they are printed. The parser refuses these for
-            // the same reason, since none of its names has a character that is printed differently.
-            let mut shown = Vec::new(alloc);
-            for word in words {
-                shown.push(format!(in alloc; "{}", Shown(word.as_str()))?)?;
-            }
-            return match command(alloc)?.try_get_matches_from(shown.as_slice()) {
-                Ok(_) => Err(command(alloc)?.error(ErrorKind::ValueValidation, help::REFUSED)?),
-                Err(error) => Err(error),
-            };
-        }
+        Err(_) => return Err(shown_error(alloc, words)?),
     };
+    call_in(alloc, &matches)
+}
+
+/// Returns the error of the parser, whose message contains the arguments as they are printed. The
+/// parser refuses these for the same reason, since none of its names has a character that is
+/// printed differently.
+fn shown_error(alloc: Global, words: &[String]) -> Result<Error, AllocError> {
+    let mut shown = Vec::new(alloc);
+    for word in words {
+        shown.push(format!(in alloc; "{}", Shown(word.as_str()))?)?;
+    }
+    match command(alloc)?.try_get_matches_from(shown.as_slice()) {
+        Ok(_) => command(alloc)?.error(ErrorKind::ValueValidation, help::REFUSED),
+        Err(error) => Ok(error),
+    }
+}
+
+/// Returns the request in parsed arguments.
+fn call_in<'a>(alloc: Global, matches: &ArgMatches<'a>) -> Result<Call<'a>, Error> {
     // The parser guarantees that the arguments name one of the commands.
     let Some((name, words)) = matches.subcommand() else {
         return Err(mistake(alloc, TAPE, help::NO_COMMAND));
     };
-    let spec = spec_of(name);
+    let Some((name, spec)) = command_named(name) else {
+        return Err(mistake(alloc, TAPE, help::NO_COMMAND));
+    };
     check_numbers(alloc, spec, words)?;
     match order_of(alloc, name, words) {
         Ok(order) => Ok(Call {
@@ -123,26 +168,24 @@ pub fn call_of<'a>(alloc: Global, words: &'a [String]) -> Result<Call<'a>, Error
 
 /// The program with its commands and their arguments.
 fn command<'a>(alloc: Global) -> Result<Command<'a>, AllocError> {
-    let explain = Arg::new(alloc, "explain")
-        .long("explain")
-        .action(ArgAction::SetTrue)
-        .global(true)
-        .help(help::EXPLAIN);
-    let silent = Arg::new(alloc, "no-explain")
-        .long("no-explain")
-        .action(ArgAction::SetTrue)
-        .global(true)
-        .help(help::NO_EXPLAIN);
-    let bare = command_of(alloc, TAPE)?.version(VERSION);
-    let mut tape = bare.subcommand_required(true).arg(explain)?.arg(silent)?;
-    let commands = [
-        LIST, SHOW, CHECK, SURVEY, COMPARE, MERGE, CONVERT, EXTRACT, UNPACK, SALVAGE, STAGE, INIT,
-        WRITE,
-    ];
-    for spec in &commands {
+    let mut tape = command_of(alloc, TAPE)?
+        .version(VERSION)
+        .subcommand_required(true)
+        .arg(flag(alloc, "explain", help::EXPLAIN))?
+        .arg(flag(alloc, "no-explain", help::NO_EXPLAIN))?;
+    for (_, spec) in COMMANDS {
         tape = tape.subcommand(command_of(alloc, *spec)?)?;
     }
     Ok(tape)
+}
+
+/// Returns a flag that each command has.
+fn flag<'a>(alloc: Global, name: &'static str, text: &'static str) -> Arg<'a> {
+    Arg::new(alloc, name)
+        .long(name)
+        .action(ArgAction::SetTrue)
+        .global(true)
+        .help(text)
 }
 
 /// Returns the usage error of a command for the reason `refusal`, which may be that an argument has
@@ -164,49 +207,45 @@ pub fn error_in(alloc: Global, spec: &CommandSpec, value: &str, refusal: Refusal
     }
 }
 
-/// Returns the description of command `name`, or that of the program if there is none.
-fn spec_of(name: &str) -> &'static CommandSpec {
-    match name {
-        "list" => LIST,
-        "show" => SHOW,
-        "check" => CHECK,
-        "survey" => SURVEY,
-        "extract" => EXTRACT,
-        "unpack" => UNPACK,
-        "salvage" => SALVAGE,
-        "stage" => STAGE,
-        "init" => INIT,
-        "write" => WRITE,
-        "merge" => MERGE,
-        "compare" => COMPARE,
-        "convert" => CONVERT,
-        _ => TAPE,
+/// Returns the command that is called `name`, with its description.
+fn command_named(name: &str) -> Option<(CommandName, &'static CommandSpec)> {
+    for (command, spec) in COMMANDS {
+        if spec.name == name {
+            return Some((*command, *spec));
+        }
     }
+    None
 }
 
 /// Returns the request to command `name` in its arguments. The parser has checked that all required
 /// ones are present.
-fn order_of<'a>(alloc: Global, name: &str, words: &ArgMatches<'a>) -> Result<Order<'a>, Refusal> {
+fn order_of<'a>(
+    alloc: Global,
+    name: CommandName,
+    words: &ArgMatches<'a>,
+) -> Result<Order<'a>, Refusal> {
     Ok(match name {
-        "list" => Order::List(list_order(words)?),
-        "show" => Order::Show(show_order(words)?),
-        "check" => Order::Check(named_once(alloc, words, help::TOO_MANY_TO_CHECK)?, None),
-        "survey" => {
+        CommandName::List => Order::List(list_order(words)?),
+        CommandName::Show => Order::Show(show_order(words)?),
+        CommandName::Check => Order::Check(
+            named_once(alloc, words, help::TOO_MANY_TO_CHECK)?,
+            None,
+        ),
+        CommandName::Survey => {
             let form = survey_form(words)?;
             Order::Check(
                 named_once(alloc, words, help::TOO_MANY_TO_SURVEY)?,
                 Some(form),
             )
         }
-        "extract" => Order::Extract(extract_order(alloc, words)?),
-        "unpack" => Order::Unpack(unpack_order(alloc, words)?),
-        "salvage" => Order::Salvage(salvage_order(alloc, words)?),
-        "stage" => Order::Stage(stage_order(words)?),
-        "init" => Order::Init(init_order(words)?),
-        "write" => Order::Write(write_order(alloc, words)?),
-        "merge" => Order::Merge(merge_order(alloc, words)?),
-        "compare" => Order::Merge(compare_order(alloc, words)?),
-        "convert" => Order::Convert(convert_order(words)?),
-        _ => return Err(Refusal::Words(help::NO_COMMAND)),
+        CommandName::Extract => Order::Extract(extract_order(alloc, words)?),
+        CommandName::Unpack => Order::Unpack(unpack_order(alloc, words)?),
+        CommandName::Salvage => Order::Salvage(salvage_order(alloc, words)?),
+        CommandName::Stage => Order::Stage(stage_order(words)?),
+        CommandName::Init => Order::Init(init_order(words)?),
+        CommandName::Write => Order::Write(write_order(alloc, words)?),
+        CommandName::Merge => Order::Merge(merge_order(alloc, words)?),
+        CommandName::Compare => Order::Merge(compare_order(alloc, words)?),
+        CommandName::Convert => Order::Convert(convert_order(words)?),
     })
 }
