@@ -32,13 +32,10 @@
 //!   `modified FILE SECONDS` checks when it was written, in seconds from 1970 on, and `new FILE`
 //!   that this was in this century.
 
-use crate::fake_system::{Odd, called};
-use crate::image::{damage, example, payroll};
+use crate::fake_system::{Odd, Seen, called};
+use crate::steps::take;
 use std::alloc::{AllocError, Global};
-use std::fs::{OpenOptions, Permissions};
 use std::io::ErrorKind;
-use std::os::unix;
-use std::os::unix::fs::{MetadataExt, PermissionsExt};
 use std::test::Fail;
 use std::{env, fs};
 
@@ -120,27 +117,31 @@ impl<'a> Run<'a> {
     /// Runs the program with the arguments in `line`, and fails unless it has the expected results.
     fn check_one(&self, rt: &HostRuntime, line: &str) -> Result<(), Fail> {
         let seen = called(rt, line, self.odd)?;
-        let status = format!(in rt.alloc(); "{}", seen.status)?;
-        let (out, told) = (seen.out.as_str(), seen.told.as_str());
-        let is_opened = match self.opened {
-            Some(paths) => seen.opened.as_str().trim_end() == paths,
-            None => true,
-        };
-        let is_out = !self.is_out_compared || out == self.out.as_str();
-        let is_told = !self.is_told_compared || told.trim_end() == self.told.as_str().trim_end();
-        let mut has_parts = true;
-        for (is_error, part) in self.parts.as_slice() {
-            has_parts = has_parts && (if *is_error { told } else { out }).contains(*part);
-        }
-        let is_ended = seen.status != 1 || told.ends_with('\n');
-        let is_status = status.as_str() == self.status && is_ended;
-        if is_status && is_out && is_told && has_parts && is_opened {
+        if self.expects(&seen) {
             return Ok(());
         }
         Err(Fail::from(format!(in rt.alloc();
-            "{}: {status}\n{}{}{}",
-            line, seen.out, seen.told, seen.opened
+            "{line}: {}\n{}{}{}",
+            seen.status, seen.out, seen.told, seen.opened
         )?))
+    }
+
+    /// Returns whether a run has the expected results.
+    fn expects(&self, seen: &Seen) -> bool {
+        let (out, told) = (seen.out.as_str(), seen.told.as_str());
+        let is_status = self
+            .status
+            .parse::<u8>()
+            .is_ok_and(|status| status == seen.status);
+        let is_ended = seen.status != 1 || told.ends_with('\n');
+        let is_out = !self.is_out_compared || out == self.out.as_str();
+        let is_told = !self.is_told_compared || told.trim_end() == self.told.as_str().trim_end();
+        let opened = seen.opened.as_str().trim_end();
+        let is_opened = self.opened.is_none_or(|paths| opened == paths);
+        let has_parts = self.parts.as_slice().iter().all(|(is_error, part)| {
+            (if *is_error { told } else { out }).contains(*part)
+        });
+        is_status && is_ended && is_out && is_told && is_opened && has_parts
     }
 
     /// Runs the program with each of the lines.
@@ -152,8 +153,22 @@ impl<'a> Run<'a> {
     }
 }
 
+/// The peculiarities of the system without arguments, and their names.
+const ODDITIES: &[(&str, Odd<'_>)] = &[
+    ("rename", Odd::Rename),
+    ("remove", Odd::Remove),
+    ("full", Odd::Full),
+    ("pipe", Odd::Pipe),
+    ("no_text", Odd::NoText),
+];
+
 /// Returns a peculiarity of the system, as a script names it.
 fn odd_of(text: &str) -> Odd<'_> {
+    for (name, odd) in ODDITIES {
+        if *name == text {
+            return *odd;
+        }
+    }
     let (word, rest) = text.split_once(' ').unwrap_or((text, ""));
     let (path, other) = rest.split_once(' ').unwrap_or((rest, ""));
     match word {
@@ -162,26 +177,28 @@ fn odd_of(text: &str) -> Odd<'_> {
         "link" => Odd::Link(kind_of(path)),
         "comes" => Odd::Comes(path, other),
         "terminal" => Odd::Terminal(path.parse::<usize>().unwrap_or(0)),
-        "rename" => Odd::Rename,
-        "remove" => Odd::Remove,
-        "full" => Odd::Full,
-        "pipe" => Odd::Pipe,
-        "no_text" => Odd::NoText,
         _ => Odd::Nothing,
     }
 }
 
+/// Error kinds, and their names in scripts.
+const KINDS: &[(&str, ErrorKind)] = &[
+    ("denied", ErrorKind::PermissionDenied),
+    ("exists", ErrorKind::AlreadyExists),
+    ("full", ErrorKind::StorageFull),
+    ("lost", ErrorKind::NotFound),
+    ("stale", ErrorKind::StaleNetworkFileHandle),
+    ("unsupported", ErrorKind::Unsupported),
+];
+
 /// Returns an error kind, as a script names it.
-fn kind_of(name: &str) -> ErrorKind {
-    match name {
-        "denied" => ErrorKind::PermissionDenied,
-        "exists" => ErrorKind::AlreadyExists,
-        "full" => ErrorKind::StorageFull,
-        "lost" => ErrorKind::NotFound,
-        "stale" => ErrorKind::StaleNetworkFileHandle,
-        "unsupported" => ErrorKind::Unsupported,
-        _ => ErrorKind::TimedOut,
+fn kind_of(word: &str) -> ErrorKind {
+    for (name, kind) in KINDS {
+        if *name == word {
+            return *kind;
+        }
     }
+    ErrorKind::TimedOut
 }
 
 fn push_line(page: &mut String, text: &str) -> Result<(), AllocError> {
@@ -221,115 +238,4 @@ pub fn follow(rt: &HostRuntime, script: &str) -> Result<(), Fail> {
         Some(run) => run.check(rt),
         None => Ok(()),
     }
-}
-
-/// Executes a step other than a run. Returns whether it had its expected result.
-fn take(rt: &HostRuntime, word: &str, rest: &str) -> Result<bool, Fail> {
-    let alloc = rt.alloc();
-    let (path, text) = rest.split_once(' ').unwrap_or((rest, ""));
-    let number = text.parse::<usize>().unwrap_or(usize::MAX);
-    match word {
-        "folder" => Ok(rest.split(' ').all(|path| fs::create_dir(rt, path).is_ok())),
-        "put" => put(rt, path, bytes_of(alloc, text)?.as_slice()),
-        "fill" => fill(rt, path, text),
-        "link" => Ok(unix::fs::symlink(rt, text, path).is_ok()),
-        "name" => Ok(fs::hard_link(rt, text, path).is_ok()),
-        "remove" => Ok(fs::remove_file(rt, path).is_ok()),
-        "allow" => Ok(fs::set_permissions(rt, path, mode_of(text)).is_ok()),
-        "cut" => {
-            let file = OpenOptions::new().write(true).open(rt, path)?;
-            Ok(file.set_len(number as u64).is_ok())
-        }
-        "worked" => {
-            let bytes = example(alloc, word, 0)?;
-            for path in rest.split(' ') {
-                put(rt, path, bytes.as_slice())?;
-            }
-            Ok(true)
-        }
-        "front" => {
-            let bytes = example(alloc, word, 0)?;
-            put(rt, path, bytes.as_slice().get(..number).unwrap_or(&[]))
-        }
-        "damaged"
-        | "lost"
-        | "lost_damaged"
-        | "first"
-        | "first_damaged"
-        | "second"
-        | "second_file"
-        | "ebcdic"
-        | "booted"
-        | "marked"
-        | "unnamed" => { put(rt, path, example(alloc, word, number)?.as_slice()) }
-        "spoil" | "omit" => {
-            let bytes = fs::read(rt, path)?;
-            let bytes = damage(alloc, bytes.as_slice(), number, word == "omit")?;
-            put(rt, path, bytes.as_slice())
-        }
-        "records" => put(rt, path, payroll(alloc)?.as_slice()),
-        "has" => holds(rt, path, bytes_of(alloc, text)?.as_slice()),
-        "at" => has_text(rt, path, text),
-        "modified" => Ok(fs::metadata(rt, path)?.mtime().unsigned_abs() == number as u64),
-        "new" => Ok(fs::metadata(rt, path)?.mtime() >= 978_307_200),
-        "length" => Ok(fs::read(rt, path)?.len() == number),
-        "is_worked" => holds(rt, path, example(alloc, word, 0)?.as_slice()),
-        "missing" => Ok(rest.split(' ').all(|path| fs::read(rt, path).is_err())),
-        "allowed" => {
-            let mode = fs::metadata(rt, path)?.permissions().mode() & 0o7777;
-            Ok(mode == mode_of(text).mode())
-        }
-        _ => Ok(false),
-    }
-}
-
-/// Returns `text` with the bytes that it represents.
-fn bytes_of(alloc: Global, text: &str) -> Result<Vec<u8>, Fail> {
-    let mut bytes = Vec::new(alloc);
-    for (number, part) in text.split('\\').enumerate() {
-        let mut part = part;
-        if let (Some(digits), Some(rest)) = (part.get(..2), part.get(2..))
-            && number > 0
-        {
-            bytes.extend_from_slice(hex::decode(alloc, digits)?.as_slice())?;
-            part = rest;
-        }
-        bytes.extend_from_slice(part.as_bytes())?;
-    }
-    Ok(bytes)
-}
-
-fn mode_of(text: &str) -> Permissions {
-    Permissions::from_mode(u32::from_str_radix(text, 8).unwrap_or(0))
-}
-
-pub fn put(rt: &HostRuntime, path: &str, bytes: &[u8]) -> Result<bool, Fail> {
-    fs::write(rt, path, bytes)?;
-    Ok(true)
-}
-
-/// Creates a file with so many copies of a text as `text` says.
-fn fill(rt: &HostRuntime, path: &str, text: &str) -> Result<bool, Fail> {
-    let (count, piece) = text.split_once(' ').unwrap_or((text, ""));
-    let piece = bytes_of(rt.alloc(), piece)?;
-    let mut bytes = Vec::new(rt.alloc());
-    for _ in 0..count.parse::<u32>().unwrap_or(0) {
-        bytes.extend_from_slice(piece.as_slice())?;
-    }
-    put(rt, path, bytes.as_slice())
-}
-
-/// Returns whether the contents of the file at `path` are exactly `bytes`.
-pub fn holds(rt: &HostRuntime, path: &str, bytes: &[u8]) -> Result<bool, Fail> {
-    Ok(fs::read(rt, path)?.as_slice() == bytes)
-}
-
-/// Returns whether the file at `path` contains a text at an offset, as `text` says.
-fn has_text(rt: &HostRuntime, path: &str, text: &str) -> Result<bool, Fail> {
-    let (place, text) = text.split_once(' ').unwrap_or((text, ""));
-    let place = place.parse::<usize>().unwrap_or(usize::MAX);
-    let text = bytes_of(rt.alloc(), text)?;
-    let bytes = fs::read(rt, path)?;
-    let rest = bytes.as_slice().get(place..).unwrap_or(&[]);
-    Ok(rest.starts_with(text.as_slice()))
 }

@@ -1,5 +1,6 @@
 //! Tests of `extract` and `stage`: files, and exit statuses.
-use crate::calls::{follow, follow_in, holds, put};
+use crate::calls::{follow, follow_in};
+use crate::steps::{holds, put};
 use std::test::Fail;
 
 const FILES: &str = "

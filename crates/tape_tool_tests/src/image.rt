@@ -3,6 +3,15 @@ use std::alloc::{AllocError, Global};
 
 const MARK: &[u8] = &[0, 0, 0, 0];
 
+const VOL1: &[u8; 80] =
+    b"VOL1ABC001                                                                     4";
+
+const HDR1: &[u8; 80] =
+    b"HDR1PAYROLL          ABC00100010001000100 00000 00000 000000                    ";
+
+const HDR2: &[u8; 80] =
+    b"HDR2F0080000080                                   00                            ";
+
 /// Two tape marks, and the end-of-medium marker.
 const END: &[u8] = &[0, 0, 0, 0, 0, 0, 0, 0, 0xFF, 0xFF, 0xFF, 0xFF];
 
@@ -27,18 +36,91 @@ fn in_ebcdic(character: u8) -> u8 {
     }
 }
 
-/// Appends a label, which is padded with spaces, in EBCDIC or in ASCII.
-fn push_label(image: &mut Vec<u8>, text: &str, is_ebcdic: bool) -> Result<(), AllocError> {
-    let mut label = [b' '; 80];
-    for (slot, byte) in label.iter_mut().zip(text.as_bytes()) {
-        *slot = *byte;
+/// The example volume, or a variant of it, that is written item by item.
+#[derive(Drop)]
+struct Volume<'a> {
+    name: &'a str,
+    /// The digit of the volume's number, and of that of the section on it.
+    section: u8,
+    /// The digit of the file's number in its set.
+    file: u8,
+    /// The length of a full block.
+    size: usize,
+    /// The items so far.
+    image: Vec<u8>,
+}
+
+impl Volume<'_> {
+    /// Appends all items of the volume, with these records. Block `bad` is unreadable if the
+    /// records are in blocks of 400.
+    fn push_all(&mut self, records: &[u8], bad: usize) -> Result<(), AllocError> {
+        let is_empty = self.section == b'2' || self.file == b'2';
+        let full = if self.size == 400 { b'5' } else { b'3' };
+        let count = if is_empty { b'0' } else { full };
+        let is_first = self.name.starts_with("first");
+        self.push_front()?;
+        self.push_labels(b"HDR", b'0')?;
+        self.image.extend_from_slice(MARK)?;
+        self.push_blocks(if is_empty { &[] } else { records }, bad)?;
+        self.image.extend_from_slice(MARK)?;
+        self.push_labels(if is_first { b"EOV" } else { b"EOF" }, count)?;
+        self.image.extend_from_slice(END)
     }
-    if is_ebcdic {
-        for slot in label.iter_mut() {
-            *slot = in_ebcdic(*slot);
+
+    /// Appends what comes before the first header label.
+    fn push_front(&mut self) -> Result<(), AllocError> {
+        let mut label = *VOL1;
+        label[9] = self.section;
+        match self.name {
+            "unnamed" => return Ok(()),
+            "marked" => self.image.extend_from_slice(MARK)?,
+            _ => {}
+        }
+        self.push_label(label)?;
+        match self.name {
+            "booted" => push_block(&mut self.image, &[b'B'; 512], 0),
+            _ => Ok(()),
         }
     }
-    push_block(image, &label, 0)
+
+    /// Appends the two labels of a group, the first of which counts `count` blocks.
+    fn push_labels(&mut self, group: &[u8; 3], count: u8) -> Result<(), AllocError> {
+        let (mut first, mut second) = (*HDR1, *HDR2);
+        first[..3].copy_from_slice(group);
+        second[..3].copy_from_slice(group);
+        if self.file == b'2' {
+            first[4..11].copy_from_slice(b"LEDGER ");
+        }
+        first[30] = self.section;
+        first[34] = self.file;
+        first[59] = count;
+        second[7] = if self.size == 400 { b'4' } else { b'8' };
+        self.push_label(first)?;
+        self.push_label(second)
+    }
+
+    /// Appends a label, in EBCDIC or in ASCII.
+    fn push_label(&mut self, label: [u8; 80]) -> Result<(), AllocError> {
+        let mut label = label;
+        if self.name == "ebcdic" {
+            for character in label.iter_mut() {
+                *character = in_ebcdic(*character);
+            }
+        }
+        push_block(&mut self.image, &label, 0)
+    }
+
+    /// Appends the records in blocks.
+    fn push_blocks(&mut self, records: &[u8], bad: usize) -> Result<(), AllocError> {
+        let is_lost = self.name.starts_with("lost");
+        for (number, block) in records.chunks(self.size).enumerate() {
+            if !(is_lost && number == 1) {
+                let is_bad = self.size == 400 && number == bad;
+                push_block(&mut self.image, block, if is_bad { 0x80 } else { 0 })?;
+            }
+        }
+        Ok(())
+    }
 }
 
 /// Returns the example volume, 2,484 bytes with 25 records of 80 characters in blocks of 800, or a
@@ -54,64 +136,16 @@ fn push_label(image: &mut Vec<u8>, text: &str, is_ebcdic: bool) -> Result<(), Al
 /// - `ebcdic` has its labels in EBCDIC, `booted` a block of 512 bytes after its volume label,
 ///   `marked` a mark before it, and `unnamed` no volume label.
 pub fn example(alloc: Global, name: &str, bad: usize) -> Result<Vec<u8>, AllocError> {
-    let is_damaged = name.ends_with("damaged");
-    let section = if name == "second" { 2 } else { 1 };
-    let file = if name == "second_file" { 2 } else { 1 };
-    let is_empty = name == "second" || name == "second_file";
-    let id = if file == 2 { "LEDGER " } else { "PAYROLL" };
-    let end = if name.starts_with("first") {
-        "EOV"
-    } else {
-        "EOF"
-    };
-    let size = if is_damaged { 400 } else { 800 };
-    let most = if is_damaged { 5 } else { 3 };
-    let count = if is_empty { 0 } else { most };
-    let volume = format!(in alloc; "VOL1ABC00{section}{:69}4", "")?;
-    let place = format!(in alloc; "ABC001000{section}000{file}000100 00000 00000 00000")?;
-    let header = format!(in alloc; "HDR1{id}          {place}0")?;
-    let trailer = format!(in alloc; "{end}1{id}          {place}{count}")?;
-    let form = format!(in alloc; "2F00{size}00080                                   00")?;
-    let mut image = Vec::new(alloc);
-    let is_ebcdic = name == "ebcdic";
-    if name == "marked" {
-        image.extend_from_slice(MARK)?;
-    }
-    if name != "unnamed" {
-        push_label(&mut image, volume.as_str(), is_ebcdic)?;
-    }
-    if name == "booted" {
-        push_block(&mut image, &[b'B'; 512], 0)?;
-    }
-    push_label(&mut image, header.as_str(), is_ebcdic)?;
-    push_label(
-        &mut image,
-        format!(in alloc; "HDR{form}")?.as_str(),
-        is_ebcdic,
-    )?;
-    image.extend_from_slice(MARK)?;
     let records = payroll(alloc)?;
-    let records = records.as_slice();
-    let blocks = if is_damaged {
-        records.chunks(400)
-    } else {
-        records.chunks(800)
+    let mut volume = Volume {
+        name,
+        section: if name == "second" { b'2' } else { b'1' },
+        file: if name == "second_file" { b'2' } else { b'1' },
+        size: if name.ends_with("damaged") { 400 } else { 800 },
+        image: Vec::new(alloc),
     };
-    for (number, block) in blocks.enumerate() {
-        if !is_empty && !(name.starts_with("lost") && number == 1) {
-            let is_bad = is_damaged && number == bad;
-            push_block(&mut image, block, if is_bad { 0x80 } else { 0 })?;
-        }
-    }
-    image.extend_from_slice(MARK)?;
-    push_label(&mut image, trailer.as_str(), is_ebcdic)?;
-    push_label(
-        &mut image,
-        format!(in alloc; "{end}{form}")?.as_str(),
-        is_ebcdic,
-    )?;
-    image.extend_from_slice(END)?;
-    Ok(image)
+    volume.push_all(records.as_slice(), bad)?;
+    Ok(volume.image)
 }
 
 /// Returns an image without item `number`, counted from 0, or with an unreadable item in its place.

@@ -34,6 +34,8 @@ mod show_program;
 #[cfg(test)]
 mod staging;
 #[cfg(test)]
+mod steps;
+#[cfg(test)]
 mod unpack_program;
 #[cfg(test)]
 mod verify_program;

@@ -1,13 +1,12 @@
 //! Tests of command lines: the request that the program understands, or what it prints.
 use crate::calls::follow_in;
 use crate::fake_system::words_of;
-use std::alloc::{AllocError, Global};
 use std::fmt;
 use std::test::Fail;
 use tape_run::Content;
 use tape_tool::{Named, Order, WriteOrder, call_of};
 
-/// Command lines, each before its request as `text_of` prints it, on the same line or the next.
+/// Command lines, each before its request as `Request` prints it, on the same line or the next.
 const REQUESTS: &str = "
     list => list offsets=false json=false none
     list a.tap => list offsets=false json=false a.tap
@@ -110,143 +109,143 @@ fn id(bytes: &[u8]) -> &str {
     str::from_utf8(bytes).unwrap_or("")
 }
 
-/// Returns a request as text.
-fn text_of(alloc: Global, order: &Order<'_>) -> Result<String, AllocError> {
-    match order {
-        Order::List(order) => {
-            let image = order.image.unwrap_or("none");
-            format!(in alloc;
-                "list offsets={} json={} {image}",
-                order.offsets, order.json
-            )
-        }
-        Order::Show(order) => format!(in alloc;
-            "show {} {}-{} raw={} ebcdic={}",
-            order.image, order.first, order.last, order.raw, order.ebcdic
-        ),
-        Order::Check(images, None) => format!(in alloc; "check{}", Images(images)),
-        Order::Check(images, Some(form)) => {
-            format!(in alloc; "survey {form:?}{}", Images(images))
-        }
-        Order::Stage(order) => format!(in alloc;
-            "stage {} {:?} damaged={} {}",
-            order.stage,
-            order.form,
-            order.damaged,
-            order.out.unwrap_or("none")
-        ),
-        Order::Init(order) => format!(in alloc;
-            "init {} {} {}",
-            order.folder,
-            id(&order.prefix.characters),
-            order.count
-        ),
-        Order::Write(order) => write_text(alloc, order),
-        Order::Merge(order) => {
-            let (log, images) = (order.log.unwrap_or("none"), Images(&order.images));
-            match order.out {
-                Some(out) => format!(in alloc; "merge {out} log={log}{images}"),
-                None => format!(in alloc; "compare json={}{images}", order.json),
+/// A request as text.
+#[derive(Clone, Copy)]
+struct Request<'a>(&'a Order<'a>);
+
+impl fmt::Display for Request<'_> {
+    fn fmt<W: fmt::Write>(&self, f: &mut fmt::Formatter<W>) -> fmt::Result {
+        match self.0 {
+            Order::List(order) => {
+                let (offsets, json) = (order.offsets, order.json);
+                let image = order.image.unwrap_or("none");
+                write!(f, "list offsets={offsets} json={json} {image}")
             }
+            Order::Show(order) => {
+                write!(f, "show {} {}-{} ", order.image, order.first, order.last)?;
+                write!(f, "raw={} ebcdic={}", order.raw, order.ebcdic)
+            }
+            Order::Check(images, None) => write!(f, "check{}", Images(images)),
+            Order::Check(images, Some(form)) => write!(f, "survey {form:?}{}", Images(images)),
+            Order::Stage(order) => {
+                write!(f, "stage {} {:?} ", order.stage, order.form)?;
+                write!(
+                    f,
+                    "damaged={} {}",
+                    order.damaged,
+                    order.out.unwrap_or("none")
+                )
+            }
+            Order::Init(order) => {
+                let prefix = id(&order.prefix.characters);
+                write!(f, "init {} {prefix} {}", order.folder, order.count)
+            }
+            Order::Write(order) => write_write(f, order),
+            Order::Merge(order) => {
+                let (log, images) = (order.log.unwrap_or("none"), Images(&order.images));
+                match order.out {
+                    Some(out) => write!(f, "merge {out} log={log}{images}"),
+                    None => write!(f, "compare json={}{images}", order.json),
+                }
+            }
+            Order::Convert(order) => {
+                let image = order.image.unwrap_or("none");
+                write!(f, "convert {} image={image} {:?}", order.out, order.format)
+            }
+            order => write_recovery(f, order),
         }
-        Order::Convert(order) => {
-            let image = order.image.unwrap_or("none");
-            format!(in alloc; "convert {} image={image} {:?}", order.out, order.format)
-        }
-        _ => recovery_text(alloc, order),
     }
 }
 
-/// Returns a request to recover files as text.
-fn recovery_text(alloc: Global, order: &Order<'_>) -> Result<String, AllocError> {
+/// Writes a request to recover files.
+fn write_recovery<W: fmt::Write>(f: &mut fmt::Formatter<W>, order: &Order<'_>) -> fmt::Result {
     match order {
         Order::Extract(order) => {
             let task = &order.task;
-            format!(in alloc;
-                "extract {} {} {} {:?} stage={} again={} now={}{}",
-                id(task.set_id.bytes()),
-                task.file,
-                task.out,
-                task.form,
-                task.stage.unwrap_or("none"),
-                task.again,
-                order.now,
-                Images(&order.images)
-            )
+            let (set, stage) = (id(task.set_id.bytes()), task.stage.unwrap_or("none"));
+            write!(
+                f,
+                "extract {set} {} {} {:?} ",
+                task.file, task.out, task.form
+            )?;
+            write!(f, "stage={stage} again={} ", task.again)?;
+            write!(f, "now={}{}", order.now, Images(&order.images))
         }
         Order::Unpack(order) => {
-            let form = match order.form {
-                Some(form) => format!(in alloc; "{form:?}")?,
-                None => String::from_str(alloc, "auto")?,
-            };
-            format!(in alloc;
-                "unpack {} {form} list={} salvage={} now={} set={}{}{}",
-                order.folder,
-                order.list,
-                order.salvage,
-                order.now,
-                order.set.unwrap_or("none"),
-                Texts(" file=", order.files.as_slice()),
-                Images(&order.images)
-            )
+            write!(
+                f,
+                "unpack {} {:?} list={} ",
+                order.folder, order.form, order.list
+            )?;
+            write!(f, "salvage={} now={} ", order.salvage, order.now)?;
+            write!(f, "set={}", order.set.unwrap_or("none"))?;
+            let files = Texts(" file=", order.files.as_slice());
+            write!(f, "{files}{}", Images(&order.images))
         }
         Order::Salvage(order) => {
-            let is_blocks = matches!(order.task.content, Content::Blocks);
-            format!(in alloc;
-                "salvage {} {} {} blocks={is_blocks} {:?} now={}{}",
-                id(order.task.set_id.bytes()),
-                order.task.file,
-                order.out,
-                order.task.form,
-                order.now,
-                Images(&order.images)
-            )
+            let task = &order.task;
+            let is_blocks = matches!(task.content, Content::Blocks);
+            write!(f, "salvage {} {} ", id(task.set_id.bytes()), task.file)?;
+            write!(f, "{} blocks={is_blocks} {:?} ", order.out, task.form)?;
+            write!(f, "now={}{}", order.now, Images(&order.images))
         }
-        _ => Ok(String::new(alloc)),
+        _ => Ok(()),
     }
 }
 
-/// Returns a request to `write` as text.
-fn write_text(alloc: Global, order: &WriteOrder<'_>) -> Result<String, AllocError> {
-    format!(in alloc;
-        "{}write {} {} {} {:?} {} offset={} full={} {:?} record={:?} date={}{}",
+/// Writes a request to `write`.
+fn write_write<W: fmt::Write>(f: &mut fmt::Formatter<W>, order: &WriteOrder<'_>) -> fmt::Result {
+    let prefix = id(&order.prefix.characters);
+    write!(
+        f,
+        "{}write {} ",
         if order.dry { "dry: " } else { "" },
-        order.folder,
-        id(&order.prefix.characters),
-        order.capacity,
-        order.format,
-        order.block,
-        order.offset,
-        order.pad_full,
-        order.form,
-        order.record,
+        order.folder
+    )?;
+    write!(f, "{prefix} {} {:?} ", order.capacity, order.format)?;
+    write!(
+        f,
+        "{} offset={} full={} ",
+        order.block, order.offset, order.pad_full
+    )?;
+    write!(f, "{:?} record={:?} ", order.form, order.record)?;
+    write!(
+        f,
+        "date={}{}",
         id(order.created.bytes()),
         Texts(" ", order.files.as_slice())
     )
 }
 
+/// Fails unless the request in the command line `line` is `wanted`.
+fn understands(rt: &HostRuntime, line: &str, wanted: &str) -> Result<(), Fail> {
+    let words = words_of(rt.alloc(), line)?;
+    let call = call_of(rt.alloc(), words.as_slice())?;
+    let explained = match call.explained {
+        Some(true) => "explained: ",
+        Some(false) => "bare: ",
+        None => "",
+    };
+    let text = format!(in rt.alloc(); "{explained}{}", Request(&call.order))?;
+    if text.as_str() == wanted {
+        return Ok(());
+    }
+    Err(Fail::from(format!(in rt.alloc(); "{line}: {text}")?))
+}
+
 #[test]
 fn requests(rt: HostRuntime) -> Result<(), Fail> {
-    let mut asked = String::new(rt.alloc());
+    let mut asked = "";
     for line in REQUESTS.lines() {
         let line = line.trim_start();
         let Some((words, wanted)) = line.split_once("=> ") else {
-            asked = line.to_string(rt.alloc())?;
+            asked = line;
             continue;
         };
         if !words.is_empty() {
-            asked = words.to_string(rt.alloc())?;
+            asked = words;
         }
-        let words = words_of(rt.alloc(), asked.as_str())?;
-        let call = call_of(rt.alloc(), words.as_slice())?;
-        let explained = match call.explained {
-            Some(true) => "explained: ",
-            Some(false) => "bare: ",
-            None => "",
-        };
-        let text = text_of(rt.alloc(), &call.order)?;
-        let text = format!(in rt.alloc(); "{explained}{text}")?;
-        assert!(rt; text.as_str() == wanted, "{asked}: {text}");
+        understands(&rt, asked, wanted)?;
     }
     Ok(())
 }
