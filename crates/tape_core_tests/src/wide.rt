@@ -95,7 +95,22 @@ fn files_of_format_u(rt: HostRuntime) {
     );
     goes_on(
         &rt,
-        "no HDR2",
+        "short block",
+        &mut reader(&rt, 1),
+        &[
+            (Block(HDR2_U), Passed),
+            (Mark, Passed),
+            (Block(b"000"), Useless(BadBlock(short))),
+        ],
+    );
+}
+
+#[test]
+fn files_without_hdr2(rt: HostRuntime) {
+    let end = counted(EOF1, b"000002");
+    goes_on(
+        &rt,
+        "a mark after HDR1",
         &mut reader(&rt, 1),
         &[
             (Mark, Passed),
@@ -107,23 +122,13 @@ fn files_of_format_u(rt: HostRuntime) {
     );
     goes_on(
         &rt,
-        "HDR3 alone",
+        "HDR3 after HDR1",
         &mut reader(&rt, 1),
         &[
             (Block(HDR3), Passed),
             (Block(UHL1), Passed),
             (Mark, Passed),
             (Block(b"A"), Deliver),
-        ],
-    );
-    goes_on(
-        &rt,
-        "short block",
-        &mut reader(&rt, 1),
-        &[
-            (Block(HDR2_U), Passed),
-            (Mark, Passed),
-            (Block(b"000"), Useless(BadBlock(short))),
         ],
     );
 }

@@ -23,51 +23,32 @@ fn fields(format: Format, block_len: u32, rec_len: u32, offset: u8) -> Result<He
 }
 
 #[test]
-fn labels_that_only_the_wider_reading_accepts(rt: HostRuntime) {
-    for (front, offset, want, strict) in [
-        (
-            b"HDR2U0051200512",
-            b"00",
-            fields(Format::Undefined, 512, 512, 0),
-            LabelFault::Format(b'U'),
-        ),
-        (
-            b"EOF2U          ",
-            b"04",
-            fields(Format::Undefined, 0, 0, 4),
-            LabelFault::Format(b'U'),
-        ),
-        (
-            b"EOV2V0800000104",
-            b"  ",
-            fields(Format::Variable, 8000, 104, 0),
-            LabelFault::Format(b'V'),
-        ),
-        (
-            b"HDR2D02048     ",
-            b"00",
-            fields(Format::Counted, 2048, 0, 0),
-            LabelFault::NotDigits(11),
-        ),
-        (
-            b"HDR2S     00000",
-            b"00",
-            fields(Format::Spanned, 0, 0, 0),
-            LabelFault::NotDigits(6),
-        ),
-        (
-            b"HDR2F     00080",
-            b"99",
-            fields(Format::Fixed, 0, 80, 99),
-            LabelFault::NotDigits(6),
-        ),
+fn fields_in_the_wider_reading(rt: HostRuntime) {
+    for (front, offset, format, block_len, rec_len, prefix) in [
+        (b"HDR2U0051200512", b"00", Format::Undefined, 512, 512, 0),
+        (b"EOF2U          ", b"04", Format::Undefined, 0, 0, 4),
+        (b"EOV2V0800000104", b"  ", Format::Variable, 8000, 104, 0),
+        (b"HDR2D02048     ", b"00", Format::Counted, 2048, 0, 0),
+        (b"HDR2S     00000", b"00", Format::Spanned, 0, 0, 0),
+        (b"HDR2F     00080", b"99", Format::Fixed, 0, 80, 99),
     ] {
-        let block = label(front, offset);
-        assert_eq!(rt;
-            (read_wide_head2(&block), read_head2(&block)),
-            (want, Err(strict)),
-            "{front:?}"
-        );
+        let want = fields(format, block_len, rec_len, prefix);
+        assert_eq!(rt; read_wide_head2(&label(front, offset)), want, "{front:?}");
+    }
+}
+
+/// The strict reading refuses the same labels.
+#[test]
+fn labels_that_only_the_wider_reading_accepts(rt: HostRuntime) {
+    for (front, offset, fault) in [
+        (b"HDR2U0051200512", b"00", LabelFault::Format(b'U')),
+        (b"EOF2U          ", b"04", LabelFault::Format(b'U')),
+        (b"EOV2V0800000104", b"  ", LabelFault::Format(b'V')),
+        (b"HDR2D02048     ", b"00", LabelFault::NotDigits(11)),
+        (b"HDR2S     00000", b"00", LabelFault::NotDigits(6)),
+        (b"HDR2F     00080", b"99", LabelFault::NotDigits(6)),
+    ] {
+        assert_eq!(rt; read_head2(&label(front, offset)), Err(fault), "{front:?}");
     }
 }
 
