@@ -246,65 +246,17 @@ fn what_is_read_of_a_text(rt: HostRuntime) {
 }
 
 /// A text, a position in it, the characters written at that position, the format that the wider
-/// reading returns or its fault, and the fault of the strict reading.
-type InBoth<'r> = (
-    &'r [u8; 80],
-    usize,
-    &'r str,
-    Result<Format, PointFault>,
-    PointFault,
-);
+/// reading returns or its fault, and the position of the field that the strict reading refuses.
+type InBoth<'r> = (&'r [u8; 80], usize, &'r str, Result<Format, PointFault>, u8);
 
 const FORMATS: &[InBoth<'_>] = &[
-    (
-        PAYROLL_1,
-        29,
-        "U00000",
-        Ok(Format::Undefined),
-        PointFault::Field(29),
-    ),
-    (
-        PAYROLL_2,
-        38,
-        "U00000",
-        Ok(Format::Undefined),
-        PointFault::Field(38),
-    ),
-    (
-        PAYROLL_2,
-        36,
-        "11V00000",
-        Ok(Format::Variable),
-        PointFault::Field(38),
-    ),
-    (
-        PAYROLL_2,
-        36,
-        "11U00000",
-        Err(PointFault::Range),
-        PointFault::Field(38),
-    ),
-    (
-        PAYROLL_2,
-        38,
-        "V00080",
-        Err(PointFault::Range),
-        PointFault::Field(38),
-    ),
-    (
-        PAYROLL_2,
-        38,
-        "V0000x",
-        Err(PointFault::Field(39)),
-        PointFault::Field(38),
-    ),
-    (
-        PAYROLL_2,
-        38,
-        "X00000",
-        Err(PointFault::Field(38)),
-        PointFault::Field(38),
-    ),
+    (PAYROLL_1, 29, "U00000", Ok(Format::Undefined), 29),
+    (PAYROLL_2, 38, "U00000", Ok(Format::Undefined), 38),
+    (PAYROLL_2, 36, "11V00000", Ok(Format::Variable), 38),
+    (PAYROLL_2, 36, "11U00000", Err(PointFault::Range), 38),
+    (PAYROLL_2, 38, "V00080", Err(PointFault::Range), 38),
+    (PAYROLL_2, 38, "V0000x", Err(PointFault::Field(39)), 38),
+    (PAYROLL_2, 38, "X00000", Err(PointFault::Field(38)), 38),
 ];
 
 /// Returns whether both readings answer as the row says.
@@ -316,7 +268,7 @@ fn is_format(row: &InBoth<'_>) -> bool {
         (Err(fault), Err(wanted)) => fault == *wanted,
         _ => false,
     };
-    same && read_point(&text) == Err(*strict)
+    same && read_point(&text) == Err(PointFault::Field(*strict))
 }
 
 #[test]

@@ -2,6 +2,8 @@
 #![tactic(auto)]
 
 #[cfg(test)]
+mod as_in_memory;
+#[cfg(test)]
 mod blanks;
 #[cfg(test)]
 mod calls;
