@@ -1,10 +1,10 @@
 //! Tests of the explanations that `--explain` prints after the line of a fault, and of what is
 //! missing.
-use crate::calls::follow_in;
 use std::test::Fail;
 use tape_image::{ImageCause, ImageFault};
 use tape_run::RunFault;
 use tape_tool::{Explanation, FaultSite, ToolFault};
+use tape_tool_calls::follow_in;
 use tape_writer::system::FileFault;
 
 /// Runs that end with a fault: the line about its site, and the beginning of its explanation.

@@ -1,7 +1,6 @@
 //! Tests of `extract` and `stage`: files, and exit statuses.
-use crate::calls::{follow, follow_in};
-use crate::steps::{holds, put};
 use std::test::Fail;
+use tape_tool_calls::{follow, follow_in, holds, put};
 
 const FILES: &str = "
     worked got.tap

@@ -1,7 +1,7 @@
 //! Tests of the program when the system refuses a call, or files change during a run. No existing
 //! data is lost.
-use crate::calls::follow_in;
 use std::test::Fail;
+use tape_tool_calls::follow_in;
 
 /// A file that appears during a run contains `mine`.
 const GUARDED: &str = "

@@ -1,6 +1,6 @@
 //! Tests of lines of JSON: each command that prints them, and odd names.
-use crate::calls::follow_in;
 use std::test::Fail;
+use tape_tool_calls::follow_in;
 
 /// The example image has twelve items; FORMATS.md lists their offsets.
 const ITEMS: &str = "

@@ -1,10 +1,9 @@
 //! Tests of command lines: the request that the program understands, or what it prints.
-use crate::calls::follow_in;
-use crate::fake_system::words_of;
 use std::fmt;
 use std::test::Fail;
 use tape_run::Content;
 use tape_tool::{Named, Order, WriteOrder, call_of};
+use tape_tool_calls::{follow_in, words_of};
 
 /// Command lines, each before its request as `Request` prints it, on the same line or the next.
 const REQUESTS: &str = "

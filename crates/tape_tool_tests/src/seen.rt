@@ -1,8 +1,7 @@
 //! Tests of whole runs as a caller sees them: exit status, both streams, and the files that are
 //! opened.
-use crate::calls::follow_in;
-use crate::fake_system::{Odd, called};
 use std::test::Fail;
+use tape_tool_calls::{Odd, called, follow_in};
 
 const CALLS: &str = "
     front seen_cut.tap 2288

@@ -1,6 +1,6 @@
 //! Tests of `show`: labels by their fields, blocks as rows, and damaged images.
-use crate::calls::follow_in;
 use std::test::Fail;
+use tape_tool_calls::follow_in;
 
 /// Runs of `show`. The example image has its labels at 0, 88 and 176, a mark at 264, and its first
 /// block of 800 bytes at 268.

@@ -1,10 +1,10 @@
 //! Tests of `stage`, and of two runs that use one stage.
-use crate::calls::{follow, follow_in};
 use std::fs::File;
 use std::test::Fail;
 use tape_label::Field;
 use tape_stage::{MemoryDisk, StageFault};
 use tape_tool::{StagingFault, open_session};
+use tape_tool_calls::{follow, follow_in};
 
 const SHOWN: &str = "
     damaged shown.tap 3

@@ -1,8 +1,8 @@
 //! Tests of `unpack --manifest` and `unpack --verify`. In the scripts `@` and a letter represent
 //! a checksum.
-use crate::calls::follow_in;
 use std::alloc::{AllocError, Global};
 use std::test::Fail;
+use tape_tool_calls::follow_in;
 
 /// Returns a checksum as `sha256sum` prints it: of the example file as lines (L) and raw (R), of
 /// `A` and a line feed (A), of two lines `B` (B), and of `x` (X), this one in capital digits, too

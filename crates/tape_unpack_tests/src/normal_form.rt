@@ -1,7 +1,7 @@
 //! Tests of tapes that are not written as the standard would have them: which commands read them,
 //! and what they say.
-use crate::calls::follow_in;
 use std::test::Fail;
+use tape_tool_calls::follow_in;
 
 const READ: &str = "
     ebcdic ebcdic.tap

@@ -1,8 +1,8 @@
 //! Tests of `unpack` and `salvage`.
-use crate::calls::follow_in;
 use std::io::Write;
 use std::test::Fail;
 use tape_tool::LastLine;
+use tape_tool_calls::follow_in;
 
 const UNPACKED: &str = "
     # All files are unpacked in one run; a second run leaves them unchanged.

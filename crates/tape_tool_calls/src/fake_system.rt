@@ -263,6 +263,10 @@ impl Runtime for FakeSystem<'_> {}
 
 /// Returns the arguments in `line`, after the program's name. Two quotes represent an empty
 /// argument.
+///
+/// # Errors
+///
+/// Returns `AllocError` if memory was refused.
 pub fn words_of(alloc: Global, line: &str) -> Result<Vec<String>, AllocError> {
     let mut words = Vec::new(alloc);
     words.push(String::from_str(alloc, "out/tape")?)?;
@@ -278,14 +282,22 @@ const CLEARED: &str = "\r                                                       
 /// The results of a run.
 #[derive(Drop)]
 pub struct Seen {
+    /// The exit status.
     pub status: u8,
+    /// The text on standard output.
     pub out: String,
     /// The texts on standard error. A line that was removed ends with `<`.
     pub told: String,
+    /// The paths that were opened, each with a question mark if that failed.
     pub opened: String,
 }
 
 /// Runs the program with the arguments in `line`, on a system with the peculiarity `odd`.
+///
+/// # Errors
+///
+/// Fails if memory was refused, or if a file is opened before the numbers of the standard streams
+/// were checked.
 pub fn called(rt: &HostRuntime, line: &str, odd: Odd<'_>) -> Result<Seen, Fail> {
     let words = words_of(rt.alloc(), line)?;
     let records = Records {

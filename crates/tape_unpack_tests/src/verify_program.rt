@@ -1,6 +1,6 @@
 //! Tests of `unpack --form auto`, of `unpack --verify` with images, and of what killed runs left.
-use crate::calls::follow_in;
 use std::test::Fail;
+use tape_tool_calls::follow_in;
 
 const CHOSEN: &str = "
     # Text is written as lines, and anything else as it is. A tab and a form feed are text.

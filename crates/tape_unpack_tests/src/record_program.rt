@@ -1,6 +1,6 @@
 //! Tests of the record of files: `MANIFEST.jsonl` of `unpack --manifest`.
-use crate::calls::follow_in;
 use std::test::Fail;
+use tape_tool_calls::follow_in;
 
 const RECORDED: &str = "
     # A complete file, from one image. A second run adds nothing.

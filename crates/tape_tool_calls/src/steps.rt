@@ -167,6 +167,11 @@ fn mode_of(text: &str) -> Permissions {
     Permissions::from_mode(u32::from_str_radix(text, 8).unwrap_or(0))
 }
 
+/// Writes `bytes` to the file at `path`, which is created if it does not exist. Returns true.
+///
+/// # Errors
+///
+/// Returns the system's error.
 pub fn put(rt: &HostRuntime, path: &str, bytes: &[u8]) -> Result<bool, Fail> {
     fs::write(rt, path, bytes)?;
     Ok(true)
@@ -184,6 +189,10 @@ fn fill(rt: &HostRuntime, path: &str, text: &str) -> Result<bool, Fail> {
 }
 
 /// Returns whether the contents of the file at `path` are exactly `bytes`.
+///
+/// # Errors
+///
+/// Returns the system's error if the file cannot be read.
 pub fn holds(rt: &HostRuntime, path: &str, bytes: &[u8]) -> Result<bool, Fail> {
     Ok(fs::read(rt, path)?.as_slice() == bytes)
 }

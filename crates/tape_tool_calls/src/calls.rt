@@ -207,13 +207,21 @@ fn push_line(page: &mut String, text: &str) -> Result<(), AllocError> {
 }
 
 /// Creates the directory `folder`, and executes the steps of `script` there, as `follow` does.
+///
+/// # Errors
+///
+/// Those of `follow`, and the system's error if the directory cannot be created.
 pub fn follow_in(rt: &HostRuntime, folder: &str, script: &str) -> Result<(), Fail> {
     fs::create_dir(rt, folder)?;
     env::set_current_dir(rt, folder)?;
     follow(rt, script)
 }
 
-/// Executes the steps of `script` in order, and fails unless each has its expected result.
+/// Executes the steps of `script` in order.
+///
+/// # Errors
+///
+/// Fails at the first step that has not its expected result, with its line.
 pub fn follow(rt: &HostRuntime, script: &str) -> Result<(), Fail> {
     let mut run: Option<Run<'_>> = None;
     for line in script.lines() {

@@ -3,8 +3,8 @@
 //! The items of the example image: 0 is VOL1, 1 HDR1, 2 HDR2, 3 a tape mark, 4 to 6 blocks, 7 a
 //! mark, 8 EOF1, 9 EOF2, 10 and 11 marks. The first mark ends at byte 268. The file has 25 records
 //! of 80 bytes, so 2,025 bytes as lines.
-use crate::calls::follow_in;
 use std::test::Fail;
+use tape_tool_calls::follow_in;
 
 const COMPLETED: &str = "
     # HDR2 is lost with no error, but EOF2 gives the format. Nothing else is missing.

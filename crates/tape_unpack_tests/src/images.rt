@@ -1,6 +1,6 @@
 //! Tests of the commands that read images or create them: files, and exit statuses.
-use crate::calls::follow_in;
 use std::test::Fail;
+use tape_tool_calls::follow_in;
 
 const READ: &str = "
     # Command lines, and how they end.
