@@ -4,13 +4,13 @@ ghost use Rattle.std.specs.List.{flat_map};
 ghost use Rattle.tape_run.specs.SurveyCompared.{name_at, copy_row, copies_rows};
 ghost use Rattle.tape_run.specs.SurveyRows.{problem_cell, file_row, found_row, file_rows, sets_rows};
 ghost use Rattle.tape_run.specs.SurveyRows.{section_row, image_rows, survey_rows};
+ghost use Rattle.tape_run.specs.SurveySets.{file_problems};
 
 mod cells;
 
 use super::copies::{CopyNote, CopyNotes, Held, disputed_on};
 use super::files::FileKey;
 use super::gaps::{gap_first, is_found};
-use super::problems::Problem;
 use super::sets::file_problems;
 use super::view::{Findings, ImageSurvey};
 use crate::quoting::name_text;
@@ -138,8 +138,7 @@ fn add_file(
 {
     let front = file_cells(findings, set_id, file)?;
     rows.extend_from_slice(front.as_bytes())?;
-    let problems = file_problems(findings, set_id, file)?;
-    add_problems(rows, problems.as_slice())?;
+    add_problems(rows, findings, set_id, file)?;
     let note = findings.files.notes.get(&FileKey { set_id, file });
     let form = form_cells(findings.alloc, note)?;
     rows.extend_from_slice(form.as_slice())?;
@@ -147,13 +146,19 @@ fn add_file(
     Ok(())
 }
 
-/// Appends damaged and missing sections.
-fn add_problems(rows: &mut Vec<u8>, problems: &[Problem]) -> Result<(), AllocError>
-    ensures { OnOk result (rows.new.items ≡ rows.old.items ++ flat_map problem_cell problems.now) }
+/// Appends the damaged and missing sections of a file, unless it is complete.
+fn add_problems(
+    rows: &mut Vec<u8>,
+    findings: &Findings,
+    set_id: Field<6>,
+    file: u16,
+) -> Result<(), AllocError>
+    ensures { OnOk result (rows.new.items ≡ rows.old.items
+        ++ flat_map problem_cell (file_problems findings.now.sections set_id file)) }
 {
-    let alloc = *rows.allocator();
-    for problem in problems {
-        let cell = problem_cell(alloc, problem)?;
+    let problems = file_problems(findings, set_id, file)?;
+    for problem in &problems {
+        let cell = problem_cell(findings.alloc, problem)?;
         rows.extend_from_slice(cell.as_bytes())?;
     }
     Ok(())
