@@ -1,6 +1,6 @@
 -- A core on its way through a mount.
-use Rattle.std.proofs.Common.{◌≡◌, ◌≢◌, ◌⊎◌, inl, inr, ℕ, zero, suc, ◌+◌, ◌<◌, ◌≤◌, Bool, true, false}
-use Rattle.std.proofs.Common.{cond, List, [], ◌∷◌, ◌++◌, length, take, drop, Option, Some, refl, sym}
+use Rattle.std.proofs.Common.{◌≡◌, ◌⊎◌, inl, inr, ℕ, zero, suc, ◌+◌, ◌<◌, ◌≤◌, Bool, true, false}
+use Rattle.std.proofs.Common.{cond, List, [], ◌∷◌, ◌++◌, length, take, drop, Some, refl, sym}
 use Rattle.std.proofs.Common.{ap, subst, ◌∙◌, arith, length-append, slice_get}
 use Rattle.std.proofs.Common.{nat_lt}
 use Rattle.std.proofs.{lemmas.List.length-map, lemmas.Bool.Decides.nat_tests}
@@ -10,7 +10,7 @@ use Rattle.tape_set.specs.Layout.{FileSet, Entry, items, item_of, entries}
 use Rattle.tape_set.specs.{Lawful.IsLawful, Reading.as_read}
 use Rattle.tape_core.specs.{State.State, Table.mount_of, Wide.step_by, Place.rest_of}
 use Rattle.tape_core.specs.{Place.IsPlaced, Follows.IsAt, Follows.Left}
-use Rattle.tape_core.specs.{declared.event.Phase.Phase, Place.resting, Table.mounted}
+use Rattle.tape_core.specs.{declared.event.Phase.Phase}
 use Rattle.tape_core.proofs.Standing.{rests, rested}
 use Rattle.tape_run.specs.{Reels.behind_items, Mount.MountEvent, Mount.IsMount, Mount.IsCopy}
 use Rattle.tape_run.proofs.Mounts.{is_under, begins, both, Both, as_read_length}

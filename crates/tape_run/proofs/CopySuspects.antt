@@ -1,21 +1,19 @@
 -- No copy of a volume of a valid set is suspect.
-use Rattle.std.proofs.Common.{◌≡◌, ◌≢◌, ◌⊎◌, inl, inr, ℕ, zero, suc, ◌+◌, ◌<◌, ◌≤◌, ◌==◌, Bool, true}
+use Rattle.std.proofs.Common.{◌≡◌, ◌≢◌, inl, inr, ℕ, ◌+◌, ◌<◌, ◌≤◌, ◌==◌, Bool, true}
 use Rattle.std.proofs.Common.{if◌then◌else◌, drop}
-use Rattle.std.proofs.Common.{false, cond, List, [], ◌∷◌, ◌++◌, length, take, Option, Some, None, refl}
-use Rattle.std.proofs.Common.{sym, ap, subst, ◌∙◌, arith, nat_lt, ◌&&◌, ◌||◌, append_assoc}
-use Rattle.std.proofs.Common.{length-append, slice_get}
+use Rattle.std.proofs.Common.{false, cond, List, [], ◌∷◌, ◌++◌, length, take, Some, None, refl}
+use Rattle.std.proofs.Common.{sym, ap, subst, ◌∙◌, arith, nat_lt, append_assoc}
+use Rattle.std.proofs.Common.{slice_get}
 use Rattle.std.proofs.lemmas.Bool.Decides.{nat_tests}
-use Rattle.std.specs.{Prelude.⊤, List.AllByRecursion}
+use Rattle.std.specs.{List.AllByRecursion}
 use Rattle.tape_image.specs.{Tape.TapeItem, Tape.block, Tape.mark, Tape.bad, Begins.image_limit}
 use Rattle.tape_image.specs.Begins.{Begins, Stop}
 use Rattle.tape_image.proofs.Callers.{front_of_image}
 use Rattle.tape_set.specs.declared.position.Position.{Position}
 use Rattle.tape_set.specs.declared.position.Position.TheVariants.{Awaits, Finished}
 use Rattle.tape_set.specs.{Layout.FileSet, Layout.items, Lawful.IsLawful, Lawful.FileForm}
-use Rattle.tape_set.specs.{Reading.Reading, Reach.stopped}
+use Rattle.tape_set.specs.{Reach.stopped}
 use Rattle.tape_core.specs.declared.event.{Answer.Answer, Phase.Phase, Heading.Heading}
-use Rattle.tape_core.specs.declared.event.Answer.TheVariants.{Passed, Deliver, SectionDone}
-use Rattle.tape_core.specs.declared.event.Answer.TheVariants.{Complete, Useless}
 use Rattle.tape_core.specs.declared.event.Phase.TheVariants.{DataWanted, TrailerWanted, Broken}
 use Rattle.tape_core.specs.declared.event.Phase.TheVariants.{Header2}
 use Rattle.tape_core.specs.{State.State, State.is_broken, Table.mount_of, Table.Outcome}
@@ -34,7 +32,7 @@ use Rattle.tape_run.specs.Mount.{MountEvent, reads, foreign_reel, saves, restart
 use Rattle.tape_run.specs.Mount.{IsMountOf}
 use Rattle.tape_run.proofs.CopyTold.{IsInSection, step_tells, step_within}
 use Rattle.tape_run.proofs.CopyAlong.{Along, starts, next, goes, first_of, item_at, none_left}
-use Rattle.tape_run.proofs.CopyAlong.{Copied, Behind}
+use Rattle.tape_run.proofs.CopyAlong.{Behind}
 
 -- ---- within a section
 

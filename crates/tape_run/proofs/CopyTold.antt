@@ -1,6 +1,6 @@
 -- The answers that follow delivered blocks, and those that break a core.
-use Rattle.std.proofs.Common.{◌≡◌, ◌≢◌, ◌⊎◌, inl, inr, ℕ, Bool, true, false, List, Option, Some, None}
-use Rattle.std.proofs.Common.{Result, Ok, Err, refl, sym, ap, subst, if◌then◌else◌, not, nat_lt}
+use Rattle.std.proofs.Common.{◌≡◌, ◌≢◌, inl, inr, ℕ, Bool, true, false, List, Option, Some, None}
+use Rattle.std.proofs.Common.{Result, Ok, Err, refl, sym, subst, if◌then◌else◌, not, nat_lt}
 use Rattle.std.proofs.Common.{◌==◌, ◌∙◌}
 use Rattle.std.specs.{Prelude.⊤, Str.bytes_eq}
 use Rattle.tape_image.specs.Tape.{TapeItem, block, bad, mark}
@@ -19,7 +19,6 @@ use Rattle.tape_set.specs.Lawful.{FileForm, label_count, most_blocks}
 use Rattle.tape_core.specs.declared.event.{Answer.Answer, Reason.Reason, Heading.Heading}
 use Rattle.tape_core.specs.declared.event.{Phase.Phase, Answer.TheVariants.Deliver}
 use Rattle.tape_core.specs.declared.event.Answer.TheVariants.{Passed, Useless}
-use Rattle.tape_core.specs.declared.event.Reason.TheVariants as reasons
 use Rattle.tape_core.specs.declared.event.Phase.TheVariants.{Over, Broken, Volume, VolumeLabels}
 use Rattle.tape_core.specs.declared.event.Phase.TheVariants.{Header2, Headers, DataPassed}
 use Rattle.tape_core.specs.declared.event.Phase.TheVariants.{DataWanted, TrailerPassed}

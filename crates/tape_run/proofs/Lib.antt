@@ -194,3 +194,7 @@ mod CopyTold
 mod CopyAlong
 mod CopySuspects
 mod CopyAgrees
+mod CopyComing
+mod CopySteps
+mod CopyFindings
+mod CopySurveys

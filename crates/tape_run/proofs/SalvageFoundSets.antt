@@ -43,7 +43,7 @@ by_cause its all OutOfMemory q xs ys given end why whole a b = absurd a
 by_cause its all Truncated q xs ys given end why whole a b = same_front _ _ _ _ _ _ _ a.0 b
 by_cause its all _ q xs ys given end why whole a b = same_front its all xs q end _ why a.0 b
 
-stops_front : (its all : List TapeItem) (stop : ImageStop) (xs ys : List ℕ) (end : ℕ) (why : Stop)
+pub stops_front : (its all : List TapeItem) (stop : ImageStop) (xs ys : List ℕ) (end : ℕ) (why : Stop)
     → StopsBehind its stop xs ys → Begins 0 xs all end why
     → (more : List TapeItem) × (all ≡ its ++ more)
 stops_front its all Marked xs ys end why (place, t) b = same_front _ _ _ _ _ _ _ t.begins b

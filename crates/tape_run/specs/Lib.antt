@@ -77,6 +77,7 @@ pub mod SurveyConflicts
 pub mod SurveySound
 pub mod Survey
 pub mod SurveyLaws
+pub mod CopySurveys
 -- Files unpacked: definitions to trust, in reading order.
 pub mod Unpacking
 pub mod ReadingOrder

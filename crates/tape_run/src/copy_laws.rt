@@ -11,6 +11,10 @@ ghost use Rattle.tape_core.specs.{State.State, Table.mount_of, Follows.IsAt, Ove
 ghost use Rattle.tape_run.specs.declared.reel_reader.ReelAnswer.{ReelAnswer};
 ghost use Rattle.tape_run.specs.{Reels.Reads, Reels.behind_items, Reeling.is_suspect};
 ghost use Rattle.tape_run.specs.Mount.{MountEvent, IsMount, IsMountOf};
+ghost use Rattle.tape_run.specs.CopySurveys.{CopiesNeverConflict};
+
+use crate::extract::images::ImageSource;
+use std::io::Read;
 
 /// A reel that is a copy of a volume of a valid set, or belongs to another set, is not suspect, at
 /// any position in a file of the set: its trailer label does not give another number of blocks, and
@@ -39,4 +43,11 @@ pub fn each_item_agrees()
         → core.position ≢ Finished
         → (behind_items wide (mount_of core) items).phase ≡ DataWanted heading form count
         → Agrees set (behind_items wide (mount_of core) items) form count item }
+{}
+
+/// A survey of copies of volumes of a valid set, whose trailer labels name the files of their
+/// headers, reports no conflict: each complete or truncated, with any data blocks unreadable, in any
+/// order and with repeats.
+pub fn copies_never_conflict<R: Read + Drop, L: ImageSource<R>>()
+    ensures { CopiesNeverConflict L.gives R.remaining }
 {}
