@@ -142,6 +142,7 @@ mod SalvageMost
 mod SalvageDamagedSets
 mod SalvageFoundSets
 mod SalvagedSets
+mod SalvageJoined
 mod Examples
 mod ExamplesOfReels
 mod ExamplesOfCatalogues

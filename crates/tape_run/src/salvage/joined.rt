@@ -38,6 +38,9 @@ impl<R: Read> Opened<R> {
         ensures { IfOk result (λ count. count ≤ length buf.new) }
     {
         let most = end.saturating_sub(self.place).min(buf.len() as u64) as usize;
+        if most == 0 {
+            return Ok(0);
+        }
         let count = self.device.read(&mut buf[..most])?;
         self.place = self.place.saturating_add(count as u64);
         Ok(count)
