@@ -166,19 +166,25 @@ class Salvage:
     def names(label):
         return label["name"], label["day"], label["gen"]
 
-    def has_one_form(self):
-        """Whether the second labels of the file can be read and are the same; or there is none,
+    def is_one_file(self):
+        """Whether its labels are those of one file: first labels with one identifier, in a section
+        with one date and generation; and second labels that can be read and are the same, or none,
         and no unreadable item where one may be."""
-        seen, is_doubted = set(), False
-        for item, after in sum((list(zip(items, items[1:])) for items in self.images), []):
+        seen, names, is_doubted = set(), set(), False
+        for item, after in sum((list(zip(items, items[1:] + [model.MARK]))
+                                for items in self.images), []):
             own = label_of(item, ("HDR1", *FIRST))
             if own and (own["set"], own["file"]) == (self.set, self.file):
+                names.add((own["name"], own["section"], own["day"], own["gen"]))
                 is_doubted |= after[0] == "bad"
                 if model.kind_of(block_of(after)) in ("HDR2", *SECOND):
                     size = model.number(after[1], 6, 10) or 0
                     seen.add((shape_of(after, ("HDR2", *SECOND)), size))
-        return len(seen) == 1 and None not in [shape for shape, _ in seen] or (
-            not seen and not is_doubted)
+        is_one = len({name for name, *_ in names}) == 1
+        is_one &= len({section for _, section, *_ in names}) == len(names)
+        if not seen:
+            return is_one and not is_doubted
+        return is_one and len(seen) == 1 and None not in [shape for shape, _ in seen]
 
     def form(self, section):
         letter, length, offset = section.shape or self.known or ("", 0, 0)

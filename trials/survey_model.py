@@ -168,8 +168,7 @@ class Survey:
         others = self.of_set[b""] if reader.set else []
         images = [self.volumes[at].items for at in [*self.of_set[reader.set], *others]]
         salvage = Salvage(images, *key)
-        parts, names = salvage.parts(), {each["name"] for each in self.heads[key]}
-        is_one = len(names) == 1 and salvage.has_one_form() and not self.in_conflict(*key)
+        parts, is_one = salvage.parts(), salvage.is_one_file() and not self.in_conflict(*key)
         if parts is None or not is_one or parts[:len(reader.parts)] != reader.parts:
             return False
         reader.parts, reader.done = parts, True
