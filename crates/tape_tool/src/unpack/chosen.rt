@@ -1,6 +1,6 @@
 //! The form in which the records of a file are written, chosen by their bytes.
 
-ghost use Rattle.std.specs.Prelude.{◌≡◌, ◌&&◌, None};
+ghost use Rattle.std.specs.Prelude.{◌≡◌, ◌&&◌, [], None};
 ghost use Rattle.tape_tool.specs.TextForm.{form_for, is_text, is_text_byte};
 
 use super::completion::salvage_task;

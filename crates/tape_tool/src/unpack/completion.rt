@@ -16,8 +16,8 @@ use crate::program::{End, end_of};
 use crate::screen::Progress;
 use std::alloc::Global;
 use std::cell::Cell;
-use std::io;
 use std::io::Write;
+use std::{io, mem};
 use tape_blocks::Form;
 use tape_label::Field;
 use tape_run::{Content, Place, SalvageTask, SetFile, WriteFailed, salvage_joined, set_of};
@@ -39,8 +39,8 @@ impl Place<Summed> for Kept {
 #[derive(Drop)]
 struct SectionLines {
     last: LastLine,
-    /// The number of each section, and that of its image, counted from 0.
-    sections: Vec<(u16, usize)>,
+    /// The blocks of each section, all of which come from one image if the file is complete.
+    runs: Vec<BlockRun>,
     /// Whether there was no memory for all of them.
     is_short: bool,
 }
@@ -50,35 +50,34 @@ impl SectionLines {
     fn new(alloc: Global) -> SectionLines {
         SectionLines {
             last: LastLine::new(),
-            sections: Vec::new(alloc),
+            runs: Vec::new(alloc),
             is_short: false,
         }
     }
 
-    /// Returns where the blocks of a complete file came from, of which each section is read from
-    /// one image.
-    fn runs(&self, alloc: Global) -> Result<Vec<BlockRun>, ToolFault> {
-        let mut runs = Vec::new(alloc);
-        let sections = self.sections.as_slice();
-        for (number, (sect, image)) in sections.iter().enumerate() {
-            let next = sections.get(number.saturating_add(1));
-            let end = next.map_or(Position::Finished, |next| start_of(next.0));
-            let (image, from) = (Some(*image), start_of(*sect));
-            if self.is_short || runs.push(BlockRun { image, from, end }).is_err() {
-                return Err(OUT_OF_MEMORY);
-            }
+    /// Adds the section in the last line, if it is a line `SECTION`: it ends the one before it.
+    fn add_section(&mut self) {
+        let Some((sect, image)) = section_in(self.last.text()) else {
+            return;
+        };
+        let (block, part) = (0, 0);
+        let from = Position::Awaits { sect, block, part };
+        if let Some(before) = self.runs.last_mut() {
+            before.end = from;
         }
-        Ok(runs)
+        let (image, end) = (Some(image), Position::Finished);
+        if self.runs.push(BlockRun { image, from, end }).is_err() {
+            self.is_short = true;
+        }
+    }
+
+    /// Gives `runs` the blocks of the sections, and keeps none.
+    fn give_runs(&mut self, alloc: Global, runs: &mut Vec<BlockRun>) {
+        *runs = mem::replace(&mut self.runs, Vec::new(alloc));
     }
 }
 
-/// Returns the position before the first block of a section.
-fn start_of(sect: u16) -> Position {
-    let (block, part) = (0, 0);
-    Position::Awaits { sect, block, part }
-}
-
-/// Returns the section and the image of a line `SECTION`.
+/// Returns the section and the image of a line `SECTION`, the image counted from 0.
 fn section_in(line: &[u8]) -> Option<(u16, usize)> {
     let mut words = str::from_utf8(line)
         .ok()?
@@ -93,11 +92,8 @@ impl Write for SectionLines {
     fn write(&mut self, buf: &[u8]) -> io::Result<usize> {
         for byte in buf {
             self.last.write_all(&[*byte])?;
-            if *byte == b'\n'
-                && let Some(section) = section_in(self.last.text())
-                && self.sections.push(section).is_err()
-            {
-                self.is_short = true;
+            if *byte == b'\n' {
+                self.add_section();
             }
         }
         Ok(buf.len())
@@ -139,17 +135,31 @@ impl<'n, R: Progress, P: Write> Run<'n, R, P> {
         out: &str,
         runs: &mut Vec<BlockRun>,
     ) -> Result<End, ToolFault> {
-        let rt = self.rt;
         let names = self.names_of_set(file.set_id)?;
-        let names = names.as_slice();
+        let mut told = SectionLines::new(self.rt.alloc());
+        let end = self.compare_with(file, out, names.as_slice(), &mut told);
+        if end == Ok(End::Done) {
+            told.give_runs(self.rt.alloc(), runs);
+            self.renumber(names.as_slice(), runs);
+        }
+        end
+    }
+
+    /// Does the same with the images named `names`; `told` gets the report of `salvage`.
+    fn compare_with(
+        &self,
+        file: &SetFile,
+        out: &str,
+        names: &[&str],
+        told: &mut SectionLines,
+    ) -> Result<End, ToolFault> {
+        let rt = self.rt;
         let differs = &Cell::new(false);
         let existing = Existing::open(rt.host(), out, differs)?;
         let images = &mut NormalImages::again(rt, names);
-        let (task, told) = (salvage_task(file, self.order.form), &mut LastLine::new());
-        match salvage_joined(rt.alloc(), &task, images, existing, &mut Comparison, told) {
+        let task = salvage_task(file, self.form());
+        match salvage_to(rt.alloc(), &task, images, existing, &mut Comparison, told) {
             Ok(true) => {
-                *runs = told.runs(rt.alloc())?;
-                self.renumber(names, runs);
                 let images = &mut NormalImages::again(rt, names);
                 let same = are_of_one_file(rt.alloc(), images, file)?;
                 Ok(if same { End::Done } else { End::Incomplete })
@@ -158,27 +168,53 @@ impl<'n, R: Progress, P: Write> Run<'n, R, P> {
             _ => Ok(End::Incomplete),
         }
     }
+
+    /// Recovers an incomplete file as `salvage` does. If it is complete, `last` remembers the last
+    /// line, and `listed` the checksum and where its blocks came from.
+    pub fn recover_salvaged(
+        &mut self,
+        task: &Task<'_>,
+        file: &SetFile,
+        listed: &mut Listed,
+        last: &mut LastLine,
+    ) -> Result<End, ToolFault> {
+        let names = self.names_of_set(file.set_id)?;
+        self.choose_salvaged(file, names.as_slice())?;
+        let task = Task {
+            form: self.form(),
+            ..*task
+        };
+        let mut told = SectionLines::new(self.rt.alloc());
+        let end = salvage_whole(self.rt, &task, file, names.as_slice(), listed, &mut told);
+        if end == Ok(End::Done) {
+            told.give_runs(self.rt.alloc(), &mut listed.runs);
+            self.renumber(names.as_slice(), &mut listed.runs);
+            *last = mem::replace(&mut told.last, LastLine::new());
+        }
+        end
+    }
 }
 
 /// Recovers an incomplete file as `salvage` does, from the images named `names`. It gets its name
 /// only if `salvage` would call it complete, its labels are those of one file, and it begins with
-/// all that its stage has. Otherwise nothing is changed. If it is complete, `last` remembers the
-/// last line, and `listed` the checksum and from which of these images its blocks came.
-pub fn salvage_whole<'a, R: Progress>(
+/// all that its stage has. Otherwise nothing is changed. `told` gets the report of `salvage`, and
+/// `listed` the checksum of a complete file.
+fn salvage_whole<'a, R: Progress>(
     rt: &'a R,
     task: &Task<'a>,
     file: &SetFile,
     names: &'a [&'a str],
     listed: &mut Listed,
-    last: &mut LastLine,
+    told: &mut SectionLines,
 ) -> Result<End, ToolFault> {
     let (draft, records) = Draft::over(rt, task.out, None)?;
     let mut place = SummedDraft { draft, found: None };
-    let (mut kept, mut told) = (Kept(None), SectionLines::new(rt.alloc()));
+    let mut kept = Kept(None);
     let images = &mut NormalImages::again(rt, names);
     let records = Summed::new(records, listed.is_wanted);
     let salvage = salvage_task(file, task.form);
-    let done = match salvage_joined(rt.alloc(), &salvage, images, records, &mut kept, &mut told) {
+    let done = match salvage_to(rt.alloc(), &salvage, images, records, &mut kept, told) {
+        Ok(_) if told.is_short => Err(OUT_OF_MEMORY),
         Ok(true) => is_certain(rt, task, file, names, place.draft.path()),
         Ok(false) => Ok(false),
         Err(fault) => Err(ToolFault::from(fault)),
@@ -190,8 +226,6 @@ pub fn salvage_whole<'a, R: Progress>(
     let end = place.draft.ended(end);
     if end == End::Done {
         listed.sum = place.found.take();
-        listed.runs = told.runs(rt.alloc())?;
-        *last = told.last;
     }
     Ok(end)
 }

@@ -11,9 +11,18 @@ use tape_image::{ImageReader, Item};
 use tape_label::read_head1;
 use tape_run::{SectionKey, container_of};
 
-/// The byte offset at which the data of each section on an image begin, or `None` if more than one
-/// header label of the section was read.
-pub type Starts = IndexMap<SectionKey, Option<u64>>;
+/// Where the data of a section begin on an image.
+#[derive(Clone, Copy)]
+pub struct Start {
+    /// The byte offset after the tape mark before them.
+    pub data: u64,
+    /// That of the first block, if it is readable.
+    pub first: Option<u64>,
+}
+
+/// Where the data of each section on an image begin, or `None` if more than one header label of the
+/// section was read.
+pub type Starts = IndexMap<SectionKey, Option<Start>>;
 
 /// Returns where the data of the sections on the image at `path` begin: after the tape mark that
 /// follows a header label. Labels in EBCDIC are not read. The starts are those up to a fault, and
@@ -29,23 +38,63 @@ pub fn starts_in<R: Host>(rt: &R, path: &str) -> Result<Starts, AllocError> {
         return Ok(starts);
     }
     let mut image = reader_of(alloc, &mut bytes)?;
-    let (mut head, mut is_data) = (None, false);
+    // The section of the labels, the one that begins with the next item, and whether data follow.
+    let (mut head, mut begun, mut is_data) = (None, None, false);
     for _ in 0..u64::MAX {
-        match image.next() {
+        let (length, label) = match image.next() {
+            Ok(Some(Item::Block(block))) if is_data => (Some(block.len()), None),
+            Ok(Some(Item::Block(block))) => (None, section_of(block)),
+            Ok(Some(Item::Bad)) => (None, None),
             Ok(Some(Item::Mark)) => {
                 is_data = !is_data && head.is_some();
-                if let (Some(key), true) = (head, is_data) {
-                    let start = (!starts.contains_key(&key)).then_some(image.place());
-                    starts.insert(key, start).map_err(|_| AllocError)?;
-                }
+                begun = if is_data { head } else { None };
                 head = None;
+                note_start(&mut starts, begun, image.place())?;
+                continue;
             }
-            Ok(Some(Item::Block(label))) if !is_data => head = section_of(label).or(head),
-            Ok(Some(_)) => {}
             _ => break,
+        };
+        head = label.or(head);
+        if let (Some(key), Some(length)) = (begun.take(), length) {
+            note_first(
+                &mut starts,
+                key,
+                image.place().saturating_sub(size_of(length)),
+            )?;
         }
     }
     Ok(starts)
+}
+
+/// Records that the data of a section begin at this byte offset.
+fn note_start(
+    starts: &mut Starts,
+    section: Option<SectionKey>,
+    data: u64,
+) -> Result<(), AllocError> {
+    let Some(key) = section else {
+        return Ok(());
+    };
+    let start = (!starts.contains_key(&key)).then_some(Start { data, first: None });
+    starts.insert(key, start).map_err(|_| AllocError)?;
+    Ok(())
+}
+
+/// Records the byte offset of the first block of a section.
+fn note_first(starts: &mut Starts, key: SectionKey, place: u64) -> Result<(), AllocError> {
+    if let Some(Some(start)) = starts.get(&key).copied() {
+        let first = Some(place);
+        let start = Some(Start { first, ..start });
+        starts.insert(key, start).map_err(|_| AllocError)?;
+    }
+    Ok(())
+}
+
+/// Returns the number of bytes of a block in an image: a word before its bytes and one after them,
+/// and a byte that makes their number even.
+fn size_of(length: usize) -> u64 {
+    let length = length as u64;
+    length.saturating_add(length % 2).saturating_add(8)
 }
 
 /// Returns the section that begins with a block, if it is a header label.
@@ -92,10 +141,8 @@ pub fn block_offset<R: Host>(
         }
     }
     let length = match image.next() {
-        Ok(Some(Item::Block(block))) => block.len() as u64,
+        Ok(Some(Item::Block(block))) => block.len(),
         _ => return Ok(None),
     };
-    // A word before the bytes and one after them, and a byte that makes their number even.
-    let size = length.saturating_add(length % 2).saturating_add(8);
-    Ok(start.checked_add(image.place().saturating_sub(size)))
+    Ok(start.checked_add(image.place().saturating_sub(size_of(length))))
 }

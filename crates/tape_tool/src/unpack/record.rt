@@ -184,7 +184,8 @@ impl Record {
         }
         let starts = self.used.get(&number);
         match starts.and_then(|starts| starts.get(&key)).copied() {
-            Some(Some(start)) => block_offset(rt, path, start, block),
+            Some(Some(start)) if block == 0 => Ok(start.first),
+            Some(Some(start)) => block_offset(rt, path, start.data, block),
             _ => Ok(None),
         }
     }

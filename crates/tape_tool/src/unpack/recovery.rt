@@ -1,7 +1,6 @@
 //! The recovery of one file from the images.
 
 use super::chosen::extract_in_form;
-use super::completion::salvage_whole;
 use super::report::LastLine;
 use super::run::Run;
 use super::summed::{Listed, Summed, SummedDraft, SummedOutput};
@@ -63,17 +62,7 @@ impl<'n, R: Progress, P: Write> Run<'n, R, P> {
         }
         let end = self.recover_in_passes(&task, stage, listed, last)?;
         if end == End::Incomplete && self.differing.is_empty() {
-            let names = self.names_of_set(file.set_id)?;
-            self.choose_salvaged(file, names.as_slice())?;
-            let task = Task {
-                form: self.form(),
-                ..task
-            };
-            let end = salvage_whole(self.rt, &task, file, names.as_slice(), listed, last)?;
-            if end == End::Done {
-                self.renumber(names.as_slice(), &mut listed.runs);
-            }
-            return Ok(end);
+            return self.recover_salvaged(&task, file, listed, last);
         }
         Ok(end)
     }
