@@ -1,4 +1,4 @@
-use Rattle.std.proofs.Common.{◌∙◌, sym, subst, map, inr}
+use Rattle.std.proofs.Common.{◌≡◌, ◌∙◌, sym, subst, map, inr}
 use Rattle.std.proofs.lemmas.List.{length-map}
 use Rattle.std.specs.Io.KnownBytes.{Appends}
 use Rattle.tape_image.specs.Written.{AppendsFront}

@@ -1,9 +1,8 @@
-use Rattle.std.proofs.Common.{◌≡◌, ◌++◌, flat_map}
-use Rattle.tape_run.specs.{SurveyRows.problem_cell, SurveySets.file_problems}
+use Rattle.std.proofs.Common.{◌≡◌, ◌++◌, drop, flat_map}
+use Rattle.tape_run.specs.SurveyRows.{problem_cell}
 use Rattle.tape_run.proofs.survey.rows.add_problems.Given as goal
 
 abbrev pub invariant-loop-problem : goal.invariant-loop-problem
 invariant-loop-problem l =
-    l.rows.items ++ flat_map problem_cell l.problem-iterator
-    ≡ l.fn.rows.items
-    ++ flat_map problem_cell (file_problems l.findings.sections l.set_id l.file)
+    l.rows.items ++ flat_map problem_cell (drop l.problem-index l.problem-items)
+    ≡ l.fn.rows.items ++ flat_map problem_cell l.problem-items
