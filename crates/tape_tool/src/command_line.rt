@@ -34,41 +34,6 @@ const TAPE: &CommandSpec = &CommandSpec {
     words: &[],
 };
 
-/// The name of a command.
-#[derive(Clone, Copy)]
-enum CommandName {
-    List,
-    Show,
-    Check,
-    Survey,
-    Compare,
-    Merge,
-    Convert,
-    Extract,
-    Unpack,
-    Salvage,
-    Stage,
-    Init,
-    Write,
-}
-
-/// The commands, in the order in which help lists them.
-const COMMANDS: &[(CommandName, &CommandSpec)] = &[
-    (CommandName::List, LIST),
-    (CommandName::Show, SHOW),
-    (CommandName::Check, CHECK),
-    (CommandName::Survey, SURVEY),
-    (CommandName::Compare, COMPARE),
-    (CommandName::Merge, MERGE),
-    (CommandName::Convert, CONVERT),
-    (CommandName::Extract, EXTRACT),
-    (CommandName::Unpack, UNPACK),
-    (CommandName::Salvage, SALVAGE),
-    (CommandName::Stage, STAGE),
-    (CommandName::Init, INIT),
-    (CommandName::Write, WRITE),
-];
-
 /// A parsed command line.
 #[derive(Drop)]
 pub struct Call<'a> {
@@ -142,9 +107,7 @@ fn call_in<'a>(alloc: Global, matches: &ArgMatches<'a>) -> Result<Call<'a>, Erro
     let Some((name, words)) = matches.subcommand() else {
         return Err(mistake(alloc, TAPE, help::NO_COMMAND));
     };
-    let Some((name, spec)) = command_named(name) else {
-        return Err(mistake(alloc, TAPE, help::NO_COMMAND));
-    };
+    let spec = spec_of(name);
     check_numbers(alloc, spec, words)?;
     match order_of(alloc, name, words) {
         Ok(order) => Ok(Call {
@@ -173,7 +136,11 @@ fn command<'a>(alloc: Global) -> Result<Command<'a>, AllocError> {
         .subcommand_required(true)
         .arg(flag(alloc, "explain", help::EXPLAIN))?
         .arg(flag(alloc, "no-explain", help::NO_EXPLAIN))?;
-    for (_, spec) in COMMANDS {
+    let commands = [
+        LIST, SHOW, CHECK, SURVEY, COMPARE, MERGE, CONVERT, EXTRACT, UNPACK, SALVAGE, STAGE, INIT,
+        WRITE,
+    ];
+    for spec in &commands {
         tape = tape.subcommand(command_of(alloc, *spec)?)?;
     }
     Ok(tape)
@@ -207,45 +174,49 @@ pub fn error_in(alloc: Global, spec: &CommandSpec, value: &str, refusal: Refusal
     }
 }
 
-/// Returns the command that is called `name`, with its description.
-fn command_named(name: &str) -> Option<(CommandName, &'static CommandSpec)> {
-    for (command, spec) in COMMANDS {
-        if spec.name == name {
-            return Some((*command, *spec));
-        }
+/// Returns the description of command `name`, or that of the program if there is none.
+fn spec_of(name: &str) -> &'static CommandSpec {
+    match name {
+        "list" => LIST,
+        "show" => SHOW,
+        "check" => CHECK,
+        "survey" => SURVEY,
+        "extract" => EXTRACT,
+        "unpack" => UNPACK,
+        "salvage" => SALVAGE,
+        "stage" => STAGE,
+        "init" => INIT,
+        "write" => WRITE,
+        "merge" => MERGE,
+        "compare" => COMPARE,
+        "convert" => CONVERT,
+        _ => TAPE,
     }
-    None
 }
 
 /// Returns the request to command `name` in its arguments. The parser has checked that all required
 /// ones are present.
-fn order_of<'a>(
-    alloc: Global,
-    name: CommandName,
-    words: &ArgMatches<'a>,
-) -> Result<Order<'a>, Refusal> {
+fn order_of<'a>(alloc: Global, name: &str, words: &ArgMatches<'a>) -> Result<Order<'a>, Refusal> {
     Ok(match name {
-        CommandName::List => Order::List(list_order(words)?),
-        CommandName::Show => Order::Show(show_order(words)?),
-        CommandName::Check => Order::Check(
-            named_once(alloc, words, help::TOO_MANY_TO_CHECK)?,
-            None,
-        ),
-        CommandName::Survey => {
+        "list" => Order::List(list_order(words)?),
+        "show" => Order::Show(show_order(words)?),
+        "check" => Order::Check(named_once(alloc, words, help::TOO_MANY_TO_CHECK)?, None),
+        "survey" => {
             let form = survey_form(words)?;
             Order::Check(
                 named_once(alloc, words, help::TOO_MANY_TO_SURVEY)?,
                 Some(form),
             )
         }
-        CommandName::Extract => Order::Extract(extract_order(alloc, words)?),
-        CommandName::Unpack => Order::Unpack(unpack_order(alloc, words)?),
-        CommandName::Salvage => Order::Salvage(salvage_order(alloc, words)?),
-        CommandName::Stage => Order::Stage(stage_order(words)?),
-        CommandName::Init => Order::Init(init_order(words)?),
-        CommandName::Write => Order::Write(write_order(alloc, words)?),
-        CommandName::Merge => Order::Merge(merge_order(alloc, words)?),
-        CommandName::Compare => Order::Merge(compare_order(alloc, words)?),
-        CommandName::Convert => Order::Convert(convert_order(words)?),
+        "extract" => Order::Extract(extract_order(alloc, words)?),
+        "unpack" => Order::Unpack(unpack_order(alloc, words)?),
+        "salvage" => Order::Salvage(salvage_order(alloc, words)?),
+        "stage" => Order::Stage(stage_order(words)?),
+        "init" => Order::Init(init_order(words)?),
+        "write" => Order::Write(write_order(alloc, words)?),
+        "merge" => Order::Merge(merge_order(alloc, words)?),
+        "compare" => Order::Merge(compare_order(alloc, words)?),
+        "convert" => Order::Convert(convert_order(words)?),
+        _ => return Err(Refusal::Words(help::NO_COMMAND)),
     })
 }
