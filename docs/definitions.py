@@ -117,12 +117,12 @@ MORE = {
         "WholeReels",
     "survey_to, survey_laws":
         "those of `check_to`; of `tape_run` WidePassing, Onward, WideShown, Quoting, SurveyGaps, "
-        "SurveyGlance, SurveyFiles, SurveyDigest, SurveyCopies, SurveyTally, SurveyRead, SurveyLine, "
-        "SurveyLocations, Dates, SurveyProblems, SurveyChain, SurveySets, SurveyRows, SurveyCompared, "
-        "SurveyWording, SurveyConflicts, SurveySound, Survey, SurveyLaws",
+        "SurveyGlance, SurveyFiles, SurveyDigest, SurveyCopies, SurveyWhole, SurveyRead, SurveyLine, "
+        "SurveyLocations, Dates, SurveyProblems, SurveyChain, SurveySets, SurveyCompared, SurveyRows, "
+        "SurveyConflicts, SurveySound, Survey, SurveyLaws",
     "find_files":
         "of `tape_image` Step; of `tape_run` Noted, Added, Passing, Lacks, `Mounting` (Reeling), "
-        "`Reel` (Checked), SurveyGlance, SurveyFiles, SurveyDigest, SurveyCopies, SurveyTally, "
+        "`Reel` (Checked), SurveyGlance, SurveyFiles, SurveyDigest, SurveyCopies, SurveyWhole, "
         "SurveyRead, SurveyLocations, Unpacking; for the other calls of `unpack` also ReadingOrder, "
         "UnpackLine, UnpackChoice, UnpackTally, UnpackLaws",
     "merge_items, merge_to, merge_now":
