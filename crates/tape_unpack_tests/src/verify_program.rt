@@ -31,7 +31,7 @@ const CHOSEN: &str = "
     damaged auto1.tap 1
     damaged auto2.tap 2
     3: unpack auto_days auto1.tap --form auto --salvage
-    | FILE ABC001 1 AWAITS 1 1 0 auto_days/ABC001.1.PAYROLL.stage
+    | FILE ABC001 1 AWAITS 1 1 1 auto_days/ABC001.1.PAYROLL.stage
     | FILE ABC001 1 SALVAGED 20 lines auto_days/ABC001.1.PAYROLL.salvaged
     length auto_days/ABC001.1.PAYROLL.salvaged 1620
     3: unpack auto_days auto2.tap --form auto
