@@ -101,11 +101,11 @@ fn salvage_named<R: Progress>(
 ) -> Result<End, Refusal> {
     no_draft(names, order.images.list)?;
     no_draft(&[order.out], None)?;
-    no_pipes(rt.host(), names.as_slice())?;
+    no_pipes(rt.host(), names)?;
     let (mut draft, out) = Draft::new(rt, order.out)?;
     let (task, images) = (&order.task, &mut NormalImages::new(rt, names));
     let report = &mut io::writer(rt);
-    let end = check_end(salvage_to(rt.alloc(), task, images, out, &mut draft, report));
+    let end = check_end(salvage_joined(rt.alloc(), task, images, out, &mut draft, report));
     if draft.has_taken() && !order.now {
         date_output(rt, order.out, names, task.set_id, task.file);
     }

@@ -171,11 +171,12 @@ fn write_recovery<W: fmt::Write>(f: &mut fmt::Formatter<W>, order: &Order<'_>) -
             write!(f, "now={}{}", order.now, Images(&order.images))
         }
         Order::Unpack(order) => {
-            write!(
-                f,
-                "unpack {} {:?} list={} ",
-                order.folder, order.form, order.list
-            )?;
+            write!(f, "unpack {} ", order.folder)?;
+            match order.form {
+                Some(form) => write!(f, "{form:?}")?,
+                None => write!(f, "auto")?,
+            }
+            write!(f, " list={} ", order.list)?;
             write!(f, "salvage={} now={} ", order.salvage, order.now)?;
             write!(f, "set={}", order.set.unwrap_or("none"))?;
             let files = Texts(" file=", order.files.as_slice());

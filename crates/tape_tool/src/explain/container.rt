@@ -24,3 +24,14 @@ pub fn kind_of<R: Runtime>(rt: &R, alloc: Global, path: &str) -> Option<Containe
 fn read_front<R: Runtime>(rt: &R, path: &str, front: &mut [u8]) -> Option<usize> {
     File::open(rt, path).ok()?.read(front).ok()
 }
+
+/// Names on standard error the images of kinds that are not read, such as compressed ones, and the
+/// programs that make SIMH images of them.
+pub fn name_unread<R: Progress>(rt: &R, names: &[&str]) {
+    for name in names {
+        let kind = kind_of(rt.host(), rt.alloc(), *name).unwrap_or(Container::Unknown);
+        if !is_simh(kind) && format_of(kind).is_none() {
+            let _ = rt.eprint(format_args!("  {}: {}\n", Shown(*name), container_text(kind)));
+        }
+    }
+}

@@ -52,6 +52,7 @@ fn text_by_names<R: Progress>(
     awaited: Option<Want>,
     names: &[&str],
 ) -> Option<String> {
+    name_unread(rt, names);
     if !are_files(rt.host(), names) {
         return None;
     }

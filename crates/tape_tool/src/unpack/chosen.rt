@@ -15,7 +15,7 @@ use tape_blocks::Form;
 use tape_core::PartWalk;
 use tape_run::{
     EngineFault, ImageSource, Opener, OutSink, Place, Session, SetFile, WriteFailed,
-    extract_in_passes, extract_located, salvage_to,
+    extract_in_passes, extract_located, salvage_joined,
 };
 use tape_set::Want;
 use tape_writer::system::name_in_folder;
@@ -171,7 +171,7 @@ impl<R: Progress, P: Write> Run<'_, R, P> {
         let (rt, chosen) = (self.rt, &mut Chosen(None));
         let images = &mut NormalImages::again(rt, names);
         let (task, told) = (salvage_task(file, Form::Raw), &mut LastLine::new());
-        match salvage_to(rt.alloc(), &task, images, TextCheck::new(), chosen, told) {
+        match salvage_joined(rt.alloc(), &task, images, TextCheck::new(), chosen, told) {
             Err(fault) if ToolFault::from(fault) == OUT_OF_MEMORY => return Err(OUT_OF_MEMORY),
             Ok(_) | Err(_) => {}
         }

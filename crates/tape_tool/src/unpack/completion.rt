@@ -20,7 +20,10 @@ use std::io::Write;
 use std::{io, mem};
 use tape_blocks::Form;
 use tape_label::Field;
-use tape_run::{Content, Place, SalvageTask, SetFile, WriteFailed, salvage_joined, set_of};
+use tape_run::{
+    BlockRun, Content, Place, SalvageTask, SetFile, WriteFailed, salvage_joined, set_of,
+};
+use tape_set::Position;
 
 /// A slot that keeps a file without giving it a name.
 #[derive(Drop)]
@@ -35,11 +38,25 @@ impl Place<Summed> for Kept {
     }
 }
 
-/// A report of `salvage`: its last line, and the images from which sections are read.
+/// Blocks of a section that are read from one image.
+#[derive(Clone, Copy)]
+struct TakenBlocks {
+    sect: u16,
+    /// The number of the image, counted from 0.
+    image: usize,
+    /// The number of the first block.
+    first: u32,
+    /// The number after that of the last one.
+    after: u32,
+}
+
+/// A report of `salvage`: its last line, and the images from which blocks are read.
 #[derive(Drop)]
 struct SectionLines {
     last: LastLine,
-    /// The blocks of each section, all of which come from one image if the file is complete.
+    /// The blocks that the image of a section lacks, and another one has.
+    fills: Vec<TakenBlocks>,
+    /// The blocks of each section, without a gap if the file is complete.
     runs: Vec<BlockRun>,
     /// Whether there was no memory for all of them.
     is_short: bool,
@@ -50,25 +67,42 @@ impl SectionLines {
     fn new(alloc: Global) -> SectionLines {
         SectionLines {
             last: LastLine::new(),
+            fills: Vec::new(alloc),
             runs: Vec::new(alloc),
             is_short: false,
         }
     }
 
-    /// Adds the section in the last line, if it is a line `SECTION`: it ends the one before it.
-    fn add_section(&mut self) {
-        let Some((sect, image)) = section_in(self.last.text()) else {
-            return;
+    /// Records what the last line says about blocks. Lines `FILLED` precede the lines `SECTION`.
+    fn note(&mut self) {
+        let line = self.last.text();
+        let is_kept = if let Some(fill) = taken_in(line, "FILLED ") {
+            self.fills.push(fill).is_ok()
+        } else if let Some(section) = taken_in(line, "SECTION ") {
+            self.add_section(&section)
+        } else {
+            true
         };
-        let (block, part) = (0, 0);
-        let from = Position::Awaits { sect, block, part };
-        if let Some(before) = self.runs.last_mut() {
-            before.end = from;
+        self.is_short = self.is_short || !is_kept;
+    }
+
+    /// Adds the blocks of a section: those of its image, and those that other images have instead.
+    /// Returns false if there is no memory for them.
+    fn add_section(&mut self, section: &TakenBlocks) -> bool {
+        let (mut block, mut is_kept) = (0, true);
+        for fill in &self.fills {
+            if fill.sect == section.sect && fill.first >= block {
+                if fill.first > block {
+                    is_kept = is_kept && add_run(&mut self.runs, section, block);
+                }
+                is_kept = is_kept && add_run(&mut self.runs, fill, fill.first);
+                block = fill.after;
+            }
         }
-        let (image, end) = (Some(image), Position::Finished);
-        if self.runs.push(BlockRun { image, from, end }).is_err() {
-            self.is_short = true;
+        if block < section.after || block == 0 {
+            is_kept = is_kept && add_run(&mut self.runs, section, block);
         }
+        is_kept
     }
 
     /// Gives `runs` the blocks of the sections, and keeps none.
@@ -77,15 +111,37 @@ impl SectionLines {
     }
 }
 
-/// Returns the section and the image of a line `SECTION`, the image counted from 0.
-fn section_in(line: &[u8]) -> Option<(u16, usize)> {
-    let mut words = str::from_utf8(line)
-        .ok()?
-        .strip_prefix("SECTION ")?
-        .split(' ');
-    let sect = words.next()?.parse::<u16>().ok()?;
-    let image = words.next()?.parse::<usize>().ok()?;
-    Some((sect, image.checked_sub(1)?))
+/// Adds blocks that were taken from an image, from number `block` on: they end those before them.
+/// Returns false if there is no memory for them.
+fn add_run(runs: &mut Vec<BlockRun>, taken: &TakenBlocks, block: u32) -> bool {
+    let (sect, part) = (taken.sect, 0);
+    let from = Position::Awaits { sect, block, part };
+    if let Some(before) = runs.last_mut() {
+        before.end = from;
+    }
+    let (image, end) = (Some(taken.image), Position::Finished);
+    runs.push(BlockRun { image, from, end }).is_ok()
+}
+
+/// Returns the blocks in a line `SECTION S N BLOCKS` or `FILLED S N FIRST LAST`, which begins with
+/// this word.
+fn taken_in(line: &[u8], word: &str) -> Option<TakenBlocks> {
+    let mut words = str::from_utf8(line).ok()?.strip_prefix(word)?.split(' ');
+    let mut numbers = [0u32; 3];
+    for place in 0..3 {
+        numbers[place] = words.next()?.parse::<u32>().ok()?;
+    }
+    let last = words.next().and_then(|word| word.parse::<u32>().ok());
+    let (first, after) = match last {
+        Some(last) => (numbers[2], last.saturating_add(1)),
+        None => (0, numbers[2]),
+    };
+    Some(TakenBlocks {
+        sect: u16::try_from(numbers[0]).ok()?,
+        image: (numbers[1] as usize).checked_sub(1)?,
+        first,
+        after,
+    })
 }
 
 impl Write for SectionLines {
@@ -93,7 +149,7 @@ impl Write for SectionLines {
         for byte in buf {
             self.last.write_all(&[*byte])?;
             if *byte == b'\n' {
-                self.add_section();
+                self.note();
             }
         }
         Ok(buf.len())
@@ -158,7 +214,7 @@ impl<'n, R: Progress, P: Write> Run<'n, R, P> {
         let existing = Existing::open(rt.host(), out, differs)?;
         let images = &mut NormalImages::again(rt, names);
         let task = salvage_task(file, self.form());
-        match salvage_to(rt.alloc(), &task, images, existing, &mut Comparison, told) {
+        match salvage_joined(rt.alloc(), &task, images, existing, &mut Comparison, told) {
             Ok(true) => {
                 let images = &mut NormalImages::again(rt, names);
                 let same = are_of_one_file(rt.alloc(), images, file)?;
@@ -213,7 +269,7 @@ fn salvage_whole<'a, R: Progress>(
     let images = &mut NormalImages::again(rt, names);
     let records = Summed::new(records, listed.is_wanted);
     let salvage = salvage_task(file, task.form);
-    let done = match salvage_to(rt.alloc(), &salvage, images, records, &mut kept, told) {
+    let done = match salvage_joined(rt.alloc(), &salvage, images, records, &mut kept, told) {
         Ok(_) if told.is_short => Err(OUT_OF_MEMORY),
         Ok(true) => is_certain(rt, task, file, names, place.draft.path()),
         Ok(false) => Ok(false),

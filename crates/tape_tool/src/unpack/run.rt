@@ -15,7 +15,7 @@ use crate::help;
 use crate::images::names_of;
 use crate::normal::{Normal, NormalImages};
 use crate::program::{End, check_end};
-use crate::refusal::Refusal;
+use crate::refusal::{Refusal, no_pipes};
 use crate::screen::{Host, Progress};
 use crate::words::set_id_of;
 use std::alloc::AllocError;
@@ -91,6 +91,7 @@ fn unpack_images<'a, R: Progress>(
     let names = names_of(rt.host(), &order.images, &mut text, site)?;
     let names = names.as_slice();
     no_draft(names, order.images.list)?;
+    no_pipes(rt.host(), names)?;
     let (manifest, recorded) = lists_of(rt.host(), order, site)?;
     let out = BufWriter::new(rt.alloc(), io::writer(rt)).map_err(|_| AllocError)?;
     let met = find_files(rt.alloc(), &mut NormalImages::new(rt, names));

@@ -184,7 +184,7 @@ fn written<R: Progress>(
     write_names(rt.alloc(), names, &mut report)?;
     let (mut kept, images) = (Kept(None), &mut NormalImages::again(rt, names));
     let records = Summed::new(records);
-    salvage_to(rt.alloc(), task, images, records, &mut kept, &mut report)?;
+    salvage_joined(rt.alloc(), task, images, records, &mut kept, &mut report)?;
     let Some(records) = kept.0 else {
         return Err(ToolFault::File(FileFault::WriteFailed));
     };
