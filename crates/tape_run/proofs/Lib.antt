@@ -195,6 +195,10 @@ mod CopyTold
 mod CopyAlong
 mod CopySuspects
 mod CopyAgrees
+mod CopyTurns
+mod SectionOpens
+mod SectionSteps
+mod SectionStands
 mod CopyComing
 mod CopySteps
 mod CopyFindings

@@ -13,6 +13,7 @@ pub mod Fault
 pub mod Reels
 pub mod ByTable
 pub mod GoesBehind
+pub mod SectionEnds
 pub mod Steps
 pub mod Runs
 pub mod Crash
@@ -77,6 +78,7 @@ pub mod SurveyConflicts
 pub mod SurveySound
 pub mod Survey
 pub mod SurveyLaws
+pub mod CopyLaws
 pub mod CopySurveys
 -- Files unpacked: definitions to trust, in reading order.
 pub mod Unpacking

@@ -1,16 +1,22 @@
-//! Laws of what is reported of reels: of copies of a valid set nothing without a reason. Each is the
-//! contract of a function that does nothing.
+//! Laws of what is reported of reels: of copies of a valid set nothing without a reason; and what
+//! follows if a reading ends a section. Each is the contract of a function that does nothing.
 
-ghost use Rattle.std.specs.Prelude.{◌≡◌, ◌≢◌, ◌≤◌, ◌++◌, ◌∷◌, ℕ, Bool, List, length};
+ghost use Rattle.std.specs.Prelude.{◌≡◌, ◌≢◌, ◌≤◌, ◌+◌, ◌++◌, ◌∷◌, ℕ, Bool, List, length};
 ghost use Rattle.tape_image.specs.{Tape.TapeItem, Begins.image_limit};
 ghost use Rattle.tape_set.specs.{Layout.FileSet, Lawful.IsLawful, Lawful.FileForm};
 ghost use Rattle.tape_set.specs.declared.position.Position.TheVariants.{Finished};
 ghost use Rattle.tape_core.specs.declared.event.Heading.{Heading};
 ghost use Rattle.tape_core.specs.declared.event.Phase.TheVariants.{DataWanted};
 ghost use Rattle.tape_core.specs.{State.State, Table.mount_of, Follows.IsAt, Overlap.Agrees};
+ghost use Rattle.tape_core.specs.{Place.IsPlaced, Place.rest_of};
 ghost use Rattle.tape_run.specs.declared.reel_reader.ReelAnswer.{ReelAnswer};
-ghost use Rattle.tape_run.specs.{Reels.Reads, Reels.behind_items, Reeling.is_suspect};
+ghost use Rattle.std.specs.{Prelude.Some, List.AllByRecursion};
+ghost use Rattle.tape_core.specs.{Wide.step_by, Overlap.EndsSection};
+ghost use Rattle.tape_run.specs.{Reels.Reads, Reels.behind_items, Reeling.is_suspect, Seen.Seen};
+ghost use Rattle.tape_run.specs.{Reels.GoesOn, Reels.answers_to, SectionEnds.StandsOnReel};
+ghost use Rattle.tape_run.specs.{Reeling.Turn, Reeling.Follows};
 ghost use Rattle.tape_run.specs.Mount.{MountEvent, IsMount, IsMountOf};
+ghost use Rattle.tape_run.specs.{CopyLaws.AreCopiesOf, CopyLaws.NoneIsSuspect};
 ghost use Rattle.tape_run.specs.CopySurveys.{CopiesNeverConflict};
 
 use crate::extract::images::ImageSource;
@@ -31,6 +37,18 @@ pub fn no_copy_is_suspect()
         → is_suspect again answer ≡ Bool.false }
 {}
 
+/// So of such images that an engine of `extract` reads, one after another, none is suspect.
+pub fn no_copies_are_suspect()
+    ensures { (set : FileSet) (back spares : Bool) (core last : State) (old new : Seen)
+        (turns : List Turn)
+        → IsLawful set
+        → IsPlaced set old.place old.parts
+        → old.place ≡ rest_of core
+        → AreCopiesOf set turns
+        → Follows back spares core old turns last new
+        → NoneIsSuspect turns }
+{}
+
 /// Each item of the data of the section needed, on such a reel, agrees with what was delivered
 /// before: blocks that a reading skips have the parts that were delivered of them, and the block at
 /// which it goes on begins with those that were delivered of it.
@@ -43,6 +61,17 @@ pub fn each_item_agrees()
         → core.position ≢ Finished
         → (behind_items wide (mount_of core) items).phase ≡ DataWanted heading form count
         → Agrees set (behind_items wide (mount_of core) items) form count item }
+{}
+
+/// On any reel: a section that a reading ends is there, between two tape marks, with the blocks that
+/// were skipped because they were delivered before, and those that were delivered; and the trailer
+/// label that follows counts all of them.
+pub fn ended_sections_stand()
+    ensures { (wide : Bool) (core : State) (items : List TapeItem) (item : TapeItem)
+        → core.position ≢ Finished
+        → AllByRecursion GoesOn (answers_to wide (mount_of core) items)
+        → EndsSection (step_by wide (behind_items wide (mount_of core) items) (Some item)).0
+        → StandsOnReel wide core items item }
 {}
 
 /// A survey of copies of volumes of a valid set, whose trailer labels name the files of their
