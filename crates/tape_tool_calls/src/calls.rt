@@ -137,7 +137,10 @@ impl<'a> Run<'a> {
         let is_out = !self.is_out_compared || out == self.out.as_str();
         let is_told = !self.is_told_compared || told.trim_end() == self.told.as_str().trim_end();
         let opened = seen.opened.as_str().trim_end();
-        let is_opened = self.opened.is_none_or(|paths| opened == paths);
+        let is_opened = match self.opened {
+            Some(paths) => opened == paths,
+            None => true,
+        };
         let has_parts = self.parts.as_slice().iter().all(|(is_error, part)| {
             (if *is_error { told } else { out }).contains(*part)
         });

@@ -112,6 +112,9 @@ impl Volume<'_> {
 
     /// Appends the records in blocks.
     fn push_blocks(&mut self, records: &[u8], bad: usize) -> Result<(), AllocError> {
+        if self.size == 0 {
+            return Ok(());
+        }
         let is_lost = self.name.starts_with("lost");
         for (number, block) in records.chunks(self.size).enumerate() {
             if !(is_lost && number == 1) {
