@@ -1,4 +1,5 @@
 //! Tests of command lines: the request that the program understands, or what it prints.
+use std::alloc::{AllocError, Global};
 use std::fmt;
 use std::test::Fail;
 use tape_run::Content;
@@ -217,16 +218,26 @@ fn write_write<W: fmt::Write>(f: &mut fmt::Formatter<W>, order: &WriteOrder<'_>)
     )
 }
 
-/// Fails unless the request in the command line `line` is `wanted`.
-fn understands(rt: &HostRuntime, line: &str, wanted: &str) -> Result<(), Fail> {
-    let words = words_of(rt.alloc(), line)?;
-    let call = call_of(rt.alloc(), words.as_slice())?;
-    let explained = match call.explained {
+/// Returns a request as text, after whether explanations are requested.
+fn text_of(
+    alloc: Global,
+    explained: Option<bool>,
+    order: &Order<'_>,
+) -> Result<String, AllocError> {
+    let explained = match explained {
         Some(true) => "explained: ",
         Some(false) => "bare: ",
         None => "",
     };
-    let text = format!(in rt.alloc(); "{explained}{}", Request(&call.order))?;
+    let request = Request(order);
+    format!(in alloc; "{explained}{request}")
+}
+
+/// Fails unless the request in the command line `line` is `wanted`.
+fn understands(rt: &HostRuntime, line: &str, wanted: &str) -> Result<(), Fail> {
+    let words = words_of(rt.alloc(), line)?;
+    let call = call_of(rt.alloc(), words.as_slice())?;
+    let text = text_of(rt.alloc(), call.explained, &call.order)?;
     if text.as_str() == wanted {
         return Ok(());
     }
@@ -235,17 +246,17 @@ fn understands(rt: &HostRuntime, line: &str, wanted: &str) -> Result<(), Fail> {
 
 #[test]
 fn requests(rt: HostRuntime) -> Result<(), Fail> {
-    let mut asked = "";
+    let mut asked = String::new(rt.alloc());
     for line in REQUESTS.lines() {
         let line = line.trim_start();
         let Some((words, wanted)) = line.split_once("=> ") else {
-            asked = line;
+            asked = line.to_string(rt.alloc())?;
             continue;
         };
         if !words.is_empty() {
-            asked = words;
+            asked = words.to_string(rt.alloc())?;
         }
-        understands(&rt, asked, wanted)?;
+        understands(&rt, asked.as_str(), wanted)?;
     }
     Ok(())
 }
