@@ -22,6 +22,7 @@ mod devices;
 mod extract;
 #[cfg(test)]
 mod image;
+#[cfg(test)]
 mod joined;
 #[cfg(test)]
 mod let_go;
