@@ -6,13 +6,14 @@
                                                   long, with status 1
 
 A list is between '<!-- usage of COMMAND -->' or '<!-- errors -->' and '<!-- end -->'. The rest of the page is
-written by hand and stays. Usage and arguments come from the program, as in docs/man.py; an argument that an
-earlier command has in the same words is left out. Errors come from explain.rt and explain/files.rt: of each the
-first sentence that is no advice (ADVICE), and that the page does not say of all errors (SAID).
+written by hand and stays. Usage and arguments come from the program, as in docs/man.py; the arguments are listed
+if the section of the command does not describe them (LISTED). Errors come from explain.rt and explain/files.rt: of
+each the first sentence that is no advice (ADVICE), and that the page does not say of all errors (SAID).
 """
 import os
 import re
 import sys
+import textwrap
 
 import commands
 
@@ -42,9 +43,11 @@ FILES = {"FILE_OF_IMAGE": "an image", "FILE_OF_LIST": "a list of images",
          "FILE_OF_IMAGES": "an image of `write`", "FILE_OF_LINES": "standard output"}
 
 
-# The options, and the beginning of an argument's description, that 'Lists of images' has for all commands.
-COMMON = ("--files-from LIST", "--null")
-IMAGES = "SIMH .tap images, in any order (at most 256; see --files-from)"
+# The commands of which the arguments are listed with their descriptions.
+LISTED = ("init", "write")
+
+# The columns of a usage; a character in place of the spaces in an option.
+WIDTH, UNBROKEN = 100, "\0"
 
 # How a sentence begins that says what to do, or what FORMATS.md has; so does a question.
 ADVICE = re.compile(r"(?:A file of at most|Allowed|Check|Choose|Close|Copy|Free|Give|If the disk|Increase|Leave|Look"
@@ -77,11 +80,15 @@ def unescaped(text):
     return re.sub(r"\\(.)", lambda it: "\n" if it[1] == "n" else it[1], text)
 
 
-def usage(command, before):
-    """The usage of a command, and a list of its arguments, without those of COMMON, IMAGES and `before`."""
-    rows = [f"- `{word.call}`: {line(word.described)}" for word in command.arguments + command.options
-            if word.call not in COMMON and not line(word.described).startswith(IMAGES)]
-    return "\n".join(["    " + command.usage, "", *(it for it in rows if it not in before)]) + "\n", rows
+def usage(command):
+    """The usage of a command with all options and, if it is LISTED, a list of its arguments."""
+    options = [f"[{word.call}]".replace(" ", UNBROKEN) for word in command.options]
+    lines = textwrap.wrap(" ".join(["tape", command.name, *options, command.required]), WIDTH,
+                          initial_indent=" " * 4, subsequent_indent=" " * 8, break_on_hyphens=False)
+    lines = [it.replace(UNBROKEN, " ") for it in lines]
+    if command.name in LISTED:
+        lines += ["", *(f"- `{word.call}`: {line(word.described)}" for word in command.arguments + command.options)]
+    return "\n".join(lines) + "\n"
 
 
 def explanations():
@@ -151,10 +158,7 @@ def page(program):
     """The page with its lists."""
     text = read(PAGE)
     found = [it[3] for it in BLOCK.finditer(text) if it[3]]
-    usages, before = {}, set()
-    for command in sorted(program.commands, key=lambda it: found.index(it.name) if it.name in found else len(found)):
-        usages[command.name], rows = usage(command, before)
-        before.update(rows)
+    usages = {command.name: usage(command) for command in program.commands}
     if sorted(found) != sorted(usages):
         sys.exit(f"docs/REFERENCE.md has usages of {' '.join(found)}; the commands are {' '.join(usages)}")
     return BLOCK.sub(lambda it: it[1] + (usages[it[3]] if it[3] else errors()) + it[4], text)
