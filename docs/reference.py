@@ -51,7 +51,7 @@ WIDTH, UNBROKEN = 100, "\0"
 
 # How a sentence begins that says what to do, or what FORMATS.md has; so does a question.
 ADVICE = re.compile(r"(?:A file of at most|Allowed|Check|Choose|Close|Copy|Free|Give|If the disk|Increase|Leave|Look"
-                    r"|Name|Remove|Shorten|Use|Wait|With 'extract' OUT|With 'merge' OUT|With the default|'tape|'sha256sum)\b")
+                    r"|Name|Remove|Shorten|Use|Wait|With 'extract' OUT|With 'merge' (?:and 'convert' )?OUT|With the default|'tape|'sha256sum)\b")
 
 # Sentences that the sections of the commands, or the text above the list, have for all their errors.
 SAID = {"Nothing was listed.", "All items before that block were listed.", "All items before that were listed.",
@@ -121,7 +121,10 @@ def misfits():
 # What the numbers of file faults mean for every file, as the text above the list says.
 PLAIN = re.compile(r"[A-Z][\w. -]*?(?:, or a file in it,)? could not be (?:opened|created|opened or created|read"
                    r"|written|written completely)(?:: the disk is full or failing)?\.|The \w+ already exists\."
-                   r"|Writing to \w+ or standard output failed: the disk is full, or a pipe was closed\.")
+                   r"|Writing to \w+ or standard output failed: the disk is full, or a pipe was closed\."
+                   r"|OUT already exists, or another program created it meanwhile\."
+                   r"|Output failed: the disk is full, or the pipe was closed \(by 'head', say\)\."
+                   r"|OUT already exists and could not be read, so tape cannot tell whether it is a tape image\.")
 
 
 def facts(text):
