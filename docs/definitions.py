@@ -2,15 +2,17 @@
 """Writes the list of definitions in docs/DEFINITIONS.md from the definitions themselves.
 
 READ names the definitions that have to be believed for the headline, in reading order. The list has
-their files in crates/NAME/specs/ and the names of the main ones; the comments are in the files. The
-rest of the page is written by hand and stays.
+their files in crates/NAME/specs/; the comments are in the files. The rest of the page is written by
+hand and stays.
 
     docs/definitions.py           writes the list
     docs/definitions.py --check   says if the list is out of date, with status 1
+    docs/definitions.py --main    prints the list with the main definitions of each file
+    docs/definitions.py --tied    prints which definitions need no belief (TIED)
     docs/definitions.py CALL      prints which files to read for the statement of another call (MORE)
 
-The first two also report names of READ, of MORE, of the text written by hand, and of files in two
-lists, that do not exist (status 1).
+The first two also report names of READ, MORE, TIED, of the text written by hand, and of files in a
+list of ARCHITECTURE.md, that do not exist (status 1).
 """
 import collections
 import os
@@ -26,9 +28,34 @@ DEFINED = re.compile(r"(?:(?:abbrev|unfoldable) )?pub (record |data )?([^\s:]+)"
 OF_STD = {"Appends", "Keeps", "Consumes", "IsAtEnd"}
 
 # Pages with lists of files in specs/, and a text above each list.
-LISTS = [("DEFINITIONS.md", "By crate, these files"), ("ARCHITECTURE.md", "## Where to change what")]
+LISTS = [("ARCHITECTURE.md", "## Where to change what")]
 
-# Of a file all definitions count, and these are named on the page.
+# Files and definitions of each crate that need no belief, since contracts and laws tie them to the others; all
+# others do, if a statement uses them.
+TIED = {
+    "tape_image":
+        "Laws, FormatLaws, Examples, Device, Front, FormatState; State and Standing except "
+        "`status_of` and `standing_of`",
+    "tape_label":
+        "`number_of`, `kind_at`, `kind_named`, `is_volume_label`; Reading and Labels except "
+        "`begins_as`, `IsLabel` and the order of faults",
+    "tape_blocks":
+        "Units, Packed; Judged and Parts except `begun_behind` and `view`; Cases",
+    "tape_set":
+        "Laws",
+    "tape_writer":
+        "`trailer_items`, `StaysAsked`, `IsOfOut`, `Stops`, `Opens`",
+    "tape_core":
+        "Follows between its headings on the file and on a step, except `IsReading`; Table resembles "
+        "code, but has to be believed",
+    "tape_run":
+        "Steps and Runs follow for `headline` and `stopped`; Made, Puts, Taking; `kept` (Noted), "
+        "`stop_at` (Added), `greatest` (Lacks), `blocks_of` (Passing)",
+    "tape_stage":
+        "Laws, `SameContent` and `DidCall` (Memory), the cases",
+}
+
+# Of a file all definitions count, and --main prints these.
 Main = collections.namedtuple("Main", "names")
 
 # Of a file these count.
@@ -159,26 +186,24 @@ def definitions(crate, file):
 
 
 def listed(crate, file, names):
-    """What the page says of a file, and the names that it does not define."""
-    main = isinstance(names, Main)
-    named = names.names if main or isinstance(names, Names) else names
-    shown = ", ".join(f"`{name}`" for name in named)
-    text = (f": {shown}" if main else f", only {shown}") if shown else ""
-    return text, sorted(set(named) - set(definitions(crate, file)))
+    """What the page says of a file, its main definitions, and the names that it does not define."""
+    named = names.names if isinstance(names, (Main, Names)) else names
+    unknown = sorted(set(named) - set(definitions(crate, file)))
+    if isinstance(names, Main):
+        return file, named, unknown
+    return f"{file} (only {', '.join(f'`{name}`' for name in named)})", [], unknown
 
 
-def the_list():
-    """The generated part of the page, and what READ names in vain."""
+def the_list(with_main=False):
+    """The generated part of the page, or what --main prints, and what READ names in vain."""
     out, missing = [], []
     for number, (heading, crate, files) in enumerate(READ, 1):
-        out += [f"{number}. {heading}, in `{crate}/specs/`"]
-        for file, names in files.items():
-            shown, unknown = listed(crate, file, names)
-            out.append(f"   - {file}{shown}")
-            missing += [f"definitions.py: {file} of {crate} does not define {name}"
-                        for name in unknown]
-    out.append("")
-    return "\n".join(out), missing
+        found = {file: listed(crate, file, names) for file, names in files.items()}
+        missing += [f"definitions.py: {file} of {crate} does not define {name}"
+                    for file, (_, _, unknown) in found.items() for name in unknown]
+        texts = [shown + (f": {', '.join(main)}" if with_main and main else "") for shown, main, _ in found.values()]
+        out += [f"{number}. {heading}, in `{crate}/specs/`: {(' · ' if with_main else ', ').join(texts)}"]
+    return "\n".join([*out, ""]), missing
 
 
 def known_names():
@@ -229,6 +254,12 @@ def print_more(call):
 
 
 def main():
+    if sys.argv[1:] == ["--main"]:
+        print(the_list(with_main=True)[0], end="")
+        return 0
+    if sys.argv[1:] == ["--tied"]:
+        print(*(f"{crate}: {names}" for crate, names in TIED.items()), sep="\n")
+        return 0
     if sys.argv[1:] and sys.argv[1:] != ["--check"]:
         return print_more(sys.argv[1])
     old = read("docs", "DEFINITIONS.md")
@@ -236,7 +267,8 @@ def main():
     new = PLACE.sub(lambda it: it[1] + "\n" + text + it[2], old)
     wrong += [f"DEFINITIONS.md: `{word}` is not defined" for word in unknown_words(old)]
     wrong += [line for page, above in LISTS for line in unknown_files(page, items(page, above))]
-    wrong += [line for text in MORE.values() for line in unknown_files("MORE", text)]
+    wrong += [line for text in [*MORE.values(), *TIED.values()] for line in unknown_files("a list", text)]
+    wrong += [f"TIED: `{word}` is not defined" for text in TIED.values() for word in unknown_words(text)]
     if sys.argv[1:] == ["--check"]:
         wrong += ["DEFINITIONS.md is out of date: run docs/definitions.py"] * (new != old)
     elif new != old:
