@@ -248,6 +248,9 @@ def print_more(call):
     found = [(calls, files) for calls, files in MORE.items() if call in calls.split(", ")]
     for calls, files in found:
         print(f"{calls}: {files}")
+    if found:
+        print("most statements: `IfKnown` (Reader), `AppendsFront` (Written) and, for numbers of faults, Fault of "
+              "`tape_image`; Faults of `tape_label`; Faults and Numbers of `tape_blocks`")
     if not found:
         print("one of", *", ".join(MORE).split(", "))
     return 0 if found else 1
