@@ -5,7 +5,7 @@ run it.
     ./joined.py [--program PATH] [--seed N] [--shelves N] [--keep]
 
 Each file is in format F, D or S, on one to three volumes, of each of which there are one to three copies. Blocks of a copy are
-unreadable, and some copies are cut. A model in this file says which blocks are read: those that a copy has, if their
+unreadable, some copies are cut, and of some HDR2, the tape marks beside the data or trailer labels are unreadable. A model in this file says which blocks are read: those that a copy has, if their
 number is certain in it. The output must be exactly the records of which every block is read, and the lines FILLED must name
 exactly the blocks that the image in the line SECTION lacks. The number of records must not be less than
 
@@ -34,7 +34,8 @@ SET = "JOIN01"
 
 
 class Copy:
-    """A copy of a volume with one section of the file: which of its blocks are readable, and whether its trailer label is."""
+    """A copy of a volume with one section of the file: which of its blocks are readable, whether its trailer label counts
+    them, and whether an item between its HDR1 and its data is unreadable."""
 
     def __init__(self, rng, items):
         self.reel = Reel("", SET, list(items))
@@ -46,18 +47,40 @@ class Copy:
             length = rng.randint(0, len(self.at))
             self.reel.cut = sum(len(item.spelling) for item in items[:self.at[0] + length])
             self.closes = False
+        self.doubted = False
+        if self.at and rng.random() < 0.4:
+            self.damage(rng)
         self.good = [at not in self.reel.bad for at in self.at[:length]]
 
+    def damage(self, rng):
+        """Makes HDR2 of a copy that is not cut unreadable, or some of the tape marks and trailer labels."""
+        front, end = self.at[0] - 1, self.at[-1] + 1
+        if self.closes and rng.random() < 0.2:
+            self.doubted = True
+            self.reel.bad.add(front - 1)
+            return
+        bad = {at for at in (front, end, end + 1, end + 2) if rng.random() < 0.4}
+        self.doubted = front in bad
+        self.closes = self.closes and not bad & {front, end, end + 1}
+        self.reel.bad |= bad
+
+    def is_numbered(self):
+        """Whether it is certain which of its items is which block."""
+        return self.closes or not self.doubted
+
     def is_whole(self):
-        return self.closes and all(self.good)
+        return self.closes and not self.doubted and all(self.good)
 
     def count(self):
         """The number of its readable blocks with certain numbers."""
+        if not self.is_numbered():
+            return 0
         return sum(self.good) if self.closes else next((at for at, it in enumerate(self.good) if not it), len(self.good))
 
 
 def held_by(copies):
     """The blocks of a section that are read from these copies of it."""
+    copies = [copy for copy in copies if copy.is_numbered()]
     sure, found = list(copies), set()
     for at in range(max((len(copy.good) for copy in copies), default=0)):
         having = [copy for copy in sure if at < len(copy.good) and copy.good[at]]
@@ -71,13 +94,26 @@ def held_by(copies):
     return found
 
 
-def records_of(file, sections, held):
-    """The records of which every block is held; a record that may go on in blocks after a cut is left out."""
+def closes_joined(copies, length):
+    """Whether the section is read from a copy with a trailer label: from the one with most blocks, or that which the others
+    complete if it has more blocks then, or is a whole copy."""
+    best = max(copies, key=lambda copy: (copy.is_whole(), copy.count()))
+    held, closing = held_by(copies), [copy for copy in copies if copy.closes]
+    if best.is_whole() or not closing:
+        return best.closes
+    base = max(closing, key=lambda copy: copy.count())
+    completes = len(held) == length and not base.doubted
+    return base.closes if completes or len(held) > best.count() else best.closes
+
+
+def records_of(file, sections, held, closing):
+    """The records of which every block is held. One that goes on in the next section is left out if its section has no end."""
     whole, so_far, is_whole = [], b"", True
     places = [(number, at) for number, count in enumerate(sections) for at in range(count)]
     for place, data in zip(places, file.blocks):
         for begins, ends, content in parts_of((file.shape[0], file.shape[2]), data):
-            is_whole = (begins or is_whole) and place in held
+            is_cut = place[1] == 0 and place[0] > 0 and place[0] - 1 not in closing
+            is_whole = (begins or is_whole and not is_cut) and place in held
             so_far = content if begins else so_far + content
             if ends:
                 whole += [so_far] if is_whole else []
@@ -104,7 +140,7 @@ class Shelf:
         """Changes a block that two incomplete copies of a section have, in one of them. Returns the section, or None."""
         for at, copies in enumerate(self.copies):
             closing = [copy for copy in copies if copy.closes]
-            if any(copy.is_whole() for copy in copies) or len(closing) < 2:
+            if any(all(copy.good) for copy in closing) or len(closing) < 2:
                 continue
             shared = [it for it in range(self.counts[at]) if closing[0].good[it] and closing[1].good[it]]
             if shared:
@@ -179,9 +215,10 @@ def check_shelf(trial, rng, number):
     trial.files += 1
     if shelf.conflict is None:
         held = {(at, it) for at, copies in enumerate(shelf.copies) for it in held_by(copies)}
-        expected = b"".join(record + b"\n" for record in records_of(shelf.file, shelf.counts, held))
+        closing = {at for at, copies in enumerate(shelf.copies) if closes_joined(copies, shelf.counts[at])}
+        expected = b"".join(record + b"\n" for record in records_of(shelf.file, shelf.counts, held, closing))
         trial.expect(got == expected, f"{what}: {count} records\n{done.stdout.decode()}")
-        is_whole = len(held) == len(shelf.file.blocks) and all(any(c.closes for c in copies) for copies in shelf.copies)
+        is_whole = len(held) == len(shelf.file.blocks) and len(closing) == len(shelf.copies)
         trial.expect((done.returncode == 0) == is_whole, f"{what}: status {done.returncode}")
         trial.expect(not any(line.startswith("CONFLICT") for line in lines), f"{what}: a conflict")
         for names in (shelf.names, shelf.names[::-1]):

@@ -55,12 +55,14 @@ impl<'r, R: Read> Aligned<'r, R> {
         number_in(key, self.copy.possible(), &self.expected).is_some()
     }
 
-    /// Reads up to the section's data.
+    /// Reads up to the section's data. If an item before them is unreadable, it may have been the
+    /// tape mark: then the numbers of the items are certain only if the section closes.
     pub fn reach(&mut self) {
         'items: for _ in 0..u32::MAX {
             if self.is_at_data() {
                 let open = self.expected.open_section();
                 self.is_doubted = open.is_some_and(|(section, _)| section.certain.is_some());
+                self.is_over = self.is_doubted && self.copy.closed.is_none();
                 return;
             }
             let Ok(Some(item)) = self.image.next() else {
