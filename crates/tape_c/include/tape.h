@@ -111,8 +111,9 @@ struct tape_image {
     size_t length;
 };
 
-/* Gives the rows that `tape survey --tsv` prints for images named 1, 2, 3 and so on: columns
- * separated by tabs, a line feed after each row. A text has no final NUL. */
+/* Gives the rows that `tape survey --tsv` prints for images named 1, 2, 3 and so on, if no rule of
+ * its normal form applies: SIMH images are read as they are, with labels in ASCII, and no other
+ * format. Columns are separated by tabs, and a line feed ends each row. A text has no final NUL. */
 struct tape_end tape_survey(const struct tape_image *images, size_t count,
                             char *text, size_t room);
 

@@ -285,7 +285,8 @@ class Survey:
 
 
 def survey(images):
-    """Surveys images, each a path, bytes or an Image."""
+    """Surveys SIMH images as they are, without the rules of the normal form: each is a path,
+    bytes or an Image."""
     images = [it if isinstance(it, Image) else Image(it) for it in images]
     table = (_Image * len(images))(*((it._address(), it.length) for it in images))
     text, end = _text(lambda out, room: _lib.tape_survey(table, len(images), out, room))
