@@ -236,8 +236,10 @@ fn the_length_is_counted(rt: HostRuntime) {
         return;
     };
     assert!(rt; disk.len() == Ok(4));
-    // This file can only be truncated to length 0.
-    assert!(rt; !cut(&mut disk, 3) && disk.len() == Ok(4));
+    // This file can only be truncated to length 0. Before a failure it need not be cut to its own
+    // length.
+    assert!(rt; cut(&mut disk, 4) && !cut(&mut disk, 3) && !cut(&mut disk, 4));
+    assert!(rt; disk.len() == Ok(4));
     assert!(rt; cut(&mut disk, 0) && disk.len() == Ok(0));
     assert!(rt; write(&mut disk, 0, b"ab") && disk.len() == Ok(2));
 }

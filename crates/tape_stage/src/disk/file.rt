@@ -11,7 +11,8 @@ use std::alloc::Global;
 use std::fs::OpenFile;
 use std::io::{Read, Seek, SeekFrom, Write};
 
-/// A file used as a disk. Each call is one call on the file.
+/// A file used as a disk. Each call is one call on the file; cutting it to its own length takes
+/// none.
 ///
 /// Tracks the length itself, so it never asks for bytes past the end, and reports each failure of
 /// the file as `Device`: an error, an interruption, an early end, or a write of no bytes. A
@@ -157,6 +158,11 @@ impl<F: Read + Write + Seek + OpenFile> Disk for FileDisk<F> {
     {
         if self.lost {
             return Err(fail(&mut self.failed));
+        }
+        // A system changes the time of a file that is cut, even to the length that it has. After a
+        // failure the file may be longer than its disk.
+        if len == self.len && self.failed == 0 {
+            return Ok(());
         }
         match self.file.set_len(len) {
             Ok(()) => {
