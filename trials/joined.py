@@ -5,9 +5,10 @@ run it.
     ./joined.py [--program PATH] [--seed N] [--shelves N] [--keep]
 
 Each file is in format F, D or S, on one to three volumes, of each of which there are one to three copies. Blocks of a copy are
-unreadable, some copies are cut, and of some HDR2, the tape marks beside the data or trailer labels are unreadable. A model in this file says which blocks are read: those that a copy has, if their
-number is certain in it. The output must be exactly the records of which every block is read, and the lines FILLED must name
-exactly the blocks that the image in the line SECTION lacks. The number of records must not be less than
+unreadable, some copies are cut, and of some HDR2, the tape marks beside the data or trailer labels are unreadable. A model in
+this file says which blocks are read: those that a copy has, if their number is certain in it. The output must be exactly the
+records of which every block is read, and the lines FILLED must name exactly the blocks that the image in the line SECTION
+lacks. The number of records must not be less than
 
 - that of `salvage` with any one image of each volume;
 - that of the stage of `extract --again` with all images, in the order given and in the reverse.
