@@ -6,9 +6,9 @@
                                                   long, with status 1
 
 A list is between '<!-- usage of COMMAND -->' or '<!-- errors -->' and '<!-- end -->'. The rest of the page is
-written by hand and stays. Usage and arguments come from the program, as in docs/man.py; the arguments are listed
-if the section of the command does not describe them (LISTED). Errors come from explain.rt and explain/files.rt: of
-each the first sentence that is no advice (ADVICE), and that the page does not say of all errors (SAID).
+written by hand and stays. Usages come from the program, as in docs/man.py. Errors come from explain.rt and
+explain/files.rt: of each the first sentence that is no advice (ADVICE), and that the page does not say of all
+errors (SAID).
 """
 import os
 import re
@@ -42,9 +42,6 @@ FILES = {"FILE_OF_IMAGE": "an image", "FILE_OF_LIST": "a list of images",
          "FILE_OF_VOLUME": "an image of `init`", "FILE_OF_INPUT": "an input of `write`",
          "FILE_OF_IMAGES": "an image of `write`", "FILE_OF_LINES": "standard output"}
 
-
-# The commands of which the arguments are listed with their descriptions.
-LISTED = ("init", "write")
 
 # The columns of a usage; a character in place of the spaces in an option.
 WIDTH, UNBROKEN = 100, "\0"
@@ -81,14 +78,11 @@ def unescaped(text):
 
 
 def usage(command):
-    """The usage of a command with all options and, if it is LISTED, a list of its arguments."""
+    """The usage of a command with all its options."""
     options = [f"[{word.call}]".replace(" ", UNBROKEN) for word in command.options]
     lines = textwrap.wrap(" ".join(["tape", command.name, *options, command.required]), WIDTH,
                           initial_indent=" " * 4, subsequent_indent=" " * 8, break_on_hyphens=False)
-    lines = [it.replace(UNBROKEN, " ") for it in lines]
-    if command.name in LISTED:
-        lines += ["", *(f"- `{word.call}`: {line(word.described)}" for word in command.arguments + command.options)]
-    return "\n".join(lines) + "\n"
+    return "\n".join(lines).replace(UNBROKEN, " ") + "\n"
 
 
 def explanations():
