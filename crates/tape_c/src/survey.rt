@@ -51,8 +51,8 @@ impl<'a> ImageSource<&'a [u8]> for Shelf<'a> {
     }
 }
 
-/// Writes the rows that `tape survey --tsv` prints for images to `out`. The images have their
-/// numbers as names, counted from 1.
+/// Writes the rows that `tape survey --tsv` prints for images to `out`. The images are read as they
+/// are, not in normal form, and have their numbers as names, counted from 1.
 ///
 /// Allocates what `survey_to` does, and the names.
 #[unsafe(no_mangle)]

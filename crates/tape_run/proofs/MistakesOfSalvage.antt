@@ -18,8 +18,7 @@ use Rattle.tape_run.specs.{SalvageCopies.believed, SalvageBlocks.Salvaged, Salva
 use Rattle.tape_run.specs.{SalvageImage.ReadsSection, SalvageImage.closings, SalvageGaps.Gap}
 use Rattle.tape_run.specs.SalvageGaps.{AreGaps}
 use Rattle.tape_run.specs.SalvageConflicts.{are_conflicting, has_conflict, conflict_text, text_if}
-use Rattle.tape_run.specs.SalvageConflicts.{end_alike, have_same_blocks}
-use Rattle.tape_run.specs.SalvageCopies.{is_complete}
+use Rattle.tape_run.specs.SalvageConflicts.{end_alike, have_same_blocks, is_counted}
 use Rattle.tape_run.specs.SalvageWalk.{closing_of}
 
 -- gap_not_reported: blocks are missing, and no line says so
@@ -131,7 +130,7 @@ two_forms_reported_as_complete best c cs missing any same other is complete =
     conflict_reported_as_complete best c cs missing any
     (other_forms best c same other _ _) is complete
 
--- two_ends_reported_as_complete: the file ends with one of two complete copies of section 1 and
+-- two_ends_reported_as_complete: the file ends with one of two counted copies of a section and
 -- continues after the other, and the file is called complete
 unlike_if : (s p q r e b : Bool) → s ≡ true → p ≡ true → q ≡ true → e ≡ false
     → (s && ((p && (q && not (r && e))) || b)) ≡ true
@@ -140,12 +139,12 @@ unlike_if s p q false e b is one two other = rw (is, one, two) refl
 
 two_ends_reported_as_complete : (best c : SectionCopy) (cs : List SectionCopy)
     (missing any : Bool) → (c.section.key.sect == best.section.key.sect) ≡ true
-    → is_complete best ≡ true → is_complete c ≡ true
+    → is_counted best ≡ true → is_counted c ≡ true
     → end_alike best.closed c.closed ≡ false
     → any ≡ has_conflict (Some best) (c ∷ cs) → (not missing && not any) ≡ true → ⊥
 two_ends_reported_as_complete best c cs missing any same one two other is complete =
     conflict_reported_as_complete best c cs missing any
-    (unlike_if _ (is_complete best) (is_complete c) (have_same_blocks best c)
+    (unlike_if _ (is_counted best) (is_counted c) (have_same_blocks best c)
     (end_alike best.closed c.closed) _ same one two other) is complete
 
 -- two_files_reported_as_complete: section 2 has the file identifier of another file than section 1,

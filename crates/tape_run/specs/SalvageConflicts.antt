@@ -1,19 +1,25 @@
 -- Copies of one section that contradict each other.
 use Rattle.std.specs.Prelude.{◌≡◌, ℕ, zero, suc, ◌+◌, ◌==◌, ◌&&◌, ◌||◌, not, Bool, false}
 use Rattle.std.specs.Prelude.{if◌then◌else◌, List, [], ◌∷◌, ◌++◌, Option, Some, None}
+use Rattle.std.specs.Prelude.{is_some, is_none}
 use Rattle.tape_blocks.specs.Faults.{bool_eq}
 use Rattle.tape_run.specs.declared.salvage.copies.SectionCopy.{SectionCopy}
 use Rattle.tape_run.specs.declared.salvage.walk.Closing.{Closing}
-use Rattle.tape_run.specs.{SalvageCopies.is_complete, SalvageChoice.firsts, SalvageChoice.IsBest}
+use Rattle.tape_run.specs.{SalvageCopies.wrong_count, SalvageChoice.firsts, SalvageChoice.IsBest}
 use Rattle.tape_run.specs.{SalvageLine.conflict_line, SalvageTaking.image_number}
 use Rattle.tape_run.specs.SalvageChoice.{form_of_file}
 use Rattle.tape_run.specs.SalvageLabels.{are_other_labels, are_other_forms, has_other, labels_text}
 use Rattle.tape_run.specs.SalvageLabels.{IsFirst}
 
--- they have equally many blocks, and their digests are the same
+-- it closes, and its trailer label counts its blocks
+abbrev pub is_counted : SectionCopy → Bool
+is_counted c = is_some c.closed && is_none (wrong_count c)
+
+-- they have equally many blocks, and if all of them could be read, their digests are the same
 abbrev pub have_same_blocks : SectionCopy → SectionCopy → Bool
-have_same_blocks best c =
-    (c.section.blocks == best.section.blocks) && (c.section.digest == best.section.digest)
+have_same_blocks best c = (c.section.blocks == best.section.blocks)
+    && (not (best.section.unreadable == 0) || (not (c.section.unreadable == 0)
+    || (c.section.digest == best.section.digest)))
 
 -- both closed, and the file ends with both of them or with none
 abbrev pub end_alike : Option Closing → Option Closing → Bool
@@ -21,14 +27,14 @@ end_alike None other = false
 end_alike (Some k) None = false
 end_alike (Some k) (Some l) = bool_eq k.eof l.eof
 
--- both are complete copies, but have different blocks, or the file ends with one of the two and
--- continues after the other
+-- the trailer labels of both count their blocks, but they have different ones, or the file ends
+-- with one of the two and continues after the other
 abbrev pub are_unlike : SectionCopy → SectionCopy → Bool
-are_unlike best c = is_complete best
-    && (is_complete c && not (have_same_blocks best c && end_alike best.closed c.closed))
+are_unlike best c = is_counted best
+    && (is_counted c && not (have_same_blocks best c && end_alike best.closed c.closed))
 
--- Both are copies of one section, but contradict each other: both are complete and have different
--- blocks or end otherwise, or their HDR1 or their recorded forms differ.
+-- Both are copies of one section, but contradict each other: both count their blocks and have
+-- different ones or end otherwise, or their HDR1 or their recorded forms differ.
 abbrev pub are_conflicting : SectionCopy → SectionCopy → Bool
 are_conflicting best c = (c.section.key.sect == best.section.key.sect)
     && (are_unlike best c

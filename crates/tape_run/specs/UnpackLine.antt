@@ -7,7 +7,7 @@ use Rattle.tape_run.specs.declared.unpack.line.UnpackOutcome.TheVariants.{NotFou
 use Rattle.tape_run.specs.declared.unpack.line.UnpackOutcome.TheVariants.{Salvaged, StageKept}
 use Rattle.tape_run.specs.declared.unpack.line.UnpackOutcome.TheVariants.{Different, NotCompared}
 use Rattle.tape_run.specs.declared.unpack.line.UnpackOutcome.TheVariants.{Differs}
-use Rattle.tape_run.specs.declared.unpack.line.Notice.TheVariants.{NoSet, NoFile, Unread}
+use Rattle.tape_run.specs.declared.unpack.line.Notice.TheVariants.{NoSet, NoFile, Unread, AfterEnd}
 use Rattle.tape_run.specs.{Identifier.identifier_text, Quoting.name_text}
 
 -- the outcome of a file, as `unpack` prints it
@@ -43,6 +43,7 @@ abbrev pub notice_text : Notice → List ℕ
 notice_text NoSet = codes "NO SET "
 notice_text NoFile = codes "NO FILE "
 notice_text Unread = codes "INCOMPLETE IMAGE "
+notice_text AfterEnd = codes "SECTION AFTER END "
 
 -- the line that reports a word about a name
 abbrev pub notice_line : Notice → List ℕ → List ℕ

@@ -5,21 +5,28 @@ ghost use Rattle.std.specs.Result.{IsOkUnless};
 ghost use Rattle.tape_run.specs.{Causes.OpeningFails, Crash.IsWalked};
 ghost use Rattle.tape_run.specs.declared.fault.RunFault.TheVariants as faults;
 
+use crate::extract::Task;
+use crate::fault::ToolFault;
 use crate::normal::{Normal, NormalImages};
 use crate::screen::Progress;
 use std::alloc::Global;
 use std::io::Read;
 use tape_core::PartWalk;
-use tape_run::{ImageSource, OpenedImage, Opener, RunFault, Session, position_of};
+use tape_run::{
+    ImageSource, Miscounted, OpenedImage, Opener, RunFault, Session, find_doubts, position_of,
+};
+use tape_set::Want;
 
 /// Opens images in normal form. If an image has other data of the section needed than the session,
-/// the image is read as if it ended with a tape mark before these data.
+/// or of a doubtful copy, the image is read as if it ended with a tape mark before these data.
 #[derive(Drop)]
 pub struct Compared {
     /// Whether images are compared: each is then opened up to three times more.
     is_on: bool,
     /// The numbers of the images that had other data.
     pub differing: Vec<usize>,
+    /// The doubtful copies.
+    doubtful: Vec<Miscounted>,
     /// Whether it is recorded which images were opened.
     pub is_recorded: bool,
     /// The images that were opened, in order, if that is recorded.
@@ -32,9 +39,33 @@ impl Compared {
         Compared {
             is_on,
             differing: Vec::new(alloc),
+            doubtful: Vec::new(alloc),
             is_recorded: false,
             openings: Vec::new(alloc),
         }
+    }
+
+    /// Finds out what the images named `names` say against each other about the file of `task`, and
+    /// remembers which copies of its sections are doubtful. Returns the numbers of two images that
+    /// contradict each other, if there are any.
+    pub fn doubt<R: Progress>(
+        &mut self,
+        rt: &R,
+        task: &Task<'_>,
+        names: &[&str],
+    ) -> Result<Option<(usize, usize)>, ToolFault> {
+        let images = &mut NormalImages::again(rt, names);
+        let doubts = find_doubts(rt.alloc(), &task.set_id, task.file, images)?;
+        self.doubtful = doubts.miscounted;
+        Ok(doubts.conflict)
+    }
+
+    /// Returns the byte offset of the data of a doubtful copy of the section needed on an image.
+    fn doubtful_at(&self, number: usize, want: Option<Want>) -> Option<u64> {
+        let sect = want?.sect;
+        let mut copies = self.doubtful.iter();
+        let copy = copies.find(|copy| copy.image == number && copy.sect == sect)?;
+        Some(copy.place)
     }
 
     /// Records that an image is opened, if openings are to be recorded.
@@ -48,7 +79,7 @@ impl Compared {
     }
 
     /// Returns the byte offset at which image `number` has other data of the section needed than
-    /// the session has, if it has.
+    /// the session has, or those of a doubtful copy, if it has.
     ///
     /// # Errors
     ///
@@ -65,6 +96,9 @@ impl Compared {
         ensures cause { IfErr result
             (λ fault. OpeningFails S.PartSink S.refuses fault session.old session.new) }
     {
+        if let Some(place) = self.doubtful_at(number, session.want()) {
+            return Ok(Some(place));
+        }
         if !self.is_on || !session.is_within() || !images.is_file(number) {
             return Ok(None);
         }

@@ -275,8 +275,8 @@ const NO_MEMORY: &str = "Out of memory. What was written before it remains.
   Close other programs and try again.";
 
 const CONFLICT: &str = "These images have labels of different files with this SET and FILE, or
-  complete copies of a section that differ. Nothing was recovered. Use only the
-  images of one file: 'tape survey' and 'tape compare' show how they differ.";
+  copies of a section that differ. Nothing was recovered. Use only the images
+  of one file: 'tape survey' and 'tape compare' show how they differ.";
 
 const NO_IMAGE: &str = "This does not look like a .tap image. Nothing was listed.";
 

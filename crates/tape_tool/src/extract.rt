@@ -8,9 +8,9 @@ use crate::command_spec::{CommandSpec, Kind, Word};
 use crate::compared::Compared;
 use crate::dates::date_output;
 use crate::explain::FaultSite;
-use crate::fault::{OUT_OF_MEMORY, ToolFault};
+use crate::fault::ToolFault;
 use crate::help;
-use crate::images::{Images, Named, in_reading_order, names_of};
+use crate::images::{Images, Named, in_reading_order, names_of, place_of};
 use crate::normal::NormalImages;
 use crate::program::End;
 use crate::refusal::{Refusal, are_files, is_file};
@@ -22,7 +22,7 @@ pub use draft::{Draft, no_draft};
 pub use out::{Output, Way, is_one_name, way_to_out};
 pub use recovery::end_as_written;
 use recovery::recover;
-use std::alloc::Global;
+use std::alloc::{AllocError, Global};
 use tape_blocks::Form;
 use tape_label::Field;
 use tape_run::{AsTheyAre, find_files};
@@ -162,7 +162,8 @@ fn extract_in_order<'n, 'a, R: Progress>(
 ///
 /// # Errors
 ///
-/// As `recover`; also `Conflict`, see `names_to_read`.
+/// As `recover`; also `Conflict` if two images contradict each other about the file: `site` then
+/// names them.
 fn extract_again<'n, 'a, R: Progress>(
     rt: &'n R,
     order: &ExtractOrder<'a>,
@@ -173,51 +174,90 @@ fn extract_again<'n, 'a, R: Progress>(
     site: &mut FaultSite<'a>,
 ) -> Result<End, ToolFault> {
     let surveyed = named.iter().any(|name| is_file(rt.host(), name));
-    let mut wide = false;
-    let names = names_to_read(rt, order, named, surveyed, &mut wide, site)?;
-    let task = &order.task;
-    let task = &Task { wide, ..*task };
-    let images = &mut NormalImages::new(rt, names.as_slice());
+    let mut plan = Plan {
+        names: Vec::from_slice(rt.alloc(), named)?,
+        wide: false,
+        lacks: false,
+    };
+    if surveyed {
+        plan_reading(rt, order, named, &mut plan, site)?;
+    }
+    let names = plan.names.as_slice();
+    let task = &Task {
+        wide: plan.wide,
+        ..order.task
+    };
+    let opener = &mut Compared::new(rt.alloc(), surveyed);
+    if plan.lacks {
+        let files = files_in(rt, names)?;
+        if let Some((one, other)) = opener.doubt(rt, task, files.as_slice())? {
+            let image = |number| order
+                .images
+                .image(place_of(named, names, number).unwrap_or(0));
+            *site = FaultSite::Conflict(image(one), image(other));
+            return Err(ToolFault::Conflict);
+        }
+    }
+    let images = &mut NormalImages::new(rt, names);
     images.images.reels = reels;
     if surveyed {
         images.is_told();
     }
-    let openers = (&mut Compared::new(rt.alloc(), surveyed), &mut AsTheyAre);
-    recover(rt, task, images, openers, way, awaited, site)
+    recover(
+        rt,
+        task,
+        images,
+        (opener, &mut AsTheyAre),
+        way,
+        awaited,
+        site,
+    )
 }
 
-/// Returns the names in the order in which the images are read. If they are surveyed first, those
-/// on which a section of the file begins come first, and `wide` is set if the file may be read in
-/// the wider reading. An image that can be read only once is not surveyed.
+/// How the images of a file are read.
+#[derive(Drop)]
+struct Plan<'n> {
+    /// Their names, in the order in which they are read.
+    names: Vec<&'n str>,
+    /// Whether the file may be read in the wider reading.
+    wide: bool,
+    /// Whether a section of it is complete on no image.
+    lacks: bool,
+}
+
+/// Returns the names with an empty one, which no file has, in place of each image that can be read
+/// only once.
+fn files_in<'n, R: Progress>(rt: &R, names: &[&'n str]) -> Result<Vec<&'n str>, AllocError> {
+    let mut files = Vec::new(rt.alloc());
+    for name in names {
+        files.push(if is_file(rt.host(), name) { *name } else { "" })?;
+    }
+    Ok(files)
+}
+
+/// Surveys the images named `names`: those on which a section of the file begins are read first.
+/// An image that can be read only once is not surveyed.
 ///
 /// # Errors
 ///
 /// Returns `Conflict` if the survey finds labels of different files with the file's number, or
 /// complete copies of one of its sections that differ: `site` then names two such images.
-fn names_to_read<'n, 'a, R: Progress>(
+fn plan_reading<'n, 'a, R: Progress>(
     rt: &'n R,
     order: &ExtractOrder<'a>,
     names: &'n [&'n str],
-    surveyed: bool,
-    wide: &mut bool,
+    plan: &mut Plan<'n>,
     site: &mut FaultSite<'a>,
-) -> Result<Vec<&'n str>, ToolFault> {
+) -> Result<(), ToolFault> {
     let task = &order.task;
-    if !surveyed {
-        return Ok(Vec::from_slice(rt.alloc(), names)?);
-    }
-    let mut files = Vec::new(rt.alloc());
-    for name in names {
-        // No file has the empty name, so an image that is not surveyed keeps its number.
-        let tried = if is_file(rt.host(), name) { *name } else { "" };
-        files.push(tried).map_err(|_| OUT_OF_MEMORY)?;
-    }
+    let files = files_in(rt, names)?;
     let met = find_files(rt.alloc(), &mut NormalImages::new(rt, files.as_slice()))?;
     for file in met.files.as_slice() {
         if file.set_id != task.set_id || file.file != task.file {
             continue;
         }
-        *wide = file.wide;
+        plan.wide = file.wide;
+        plan.lacks = file.lacks.is_some();
         if file.differs {
             *site = match file.conflict {
                 Some((one, other)) => {
@@ -228,5 +268,6 @@ fn names_to_read<'n, 'a, R: Progress>(
             return Err(ToolFault::Conflict);
         }
     }
-    Ok(in_reading_order(rt.alloc(), names, &met, (task.set_id, task.file))?)
+    plan.names = in_reading_order(rt.alloc(), names, &met, (task.set_id, task.file))?;
+    Ok(())
 }

@@ -1,6 +1,7 @@
 //! The images that arguments and lists name, opened one at a time.
 
-ghost use Rattle.std.specs.Prelude.{⊤, length, ◌≡◌, ◌++◌, map, filter_map, slice_get, true, IfOk};
+ghost use Rattle.std.specs.Prelude.{⊤, length, ◌≡◌, ◌≤◌, ◌++◌, map, filter_map, slice_get, true};
+ghost use Rattle.std.specs.Prelude.{IfOk};
 ghost use Rattle.std.specs.Io.Buffered.{reader_remaining};
 ghost use Rattle.tape_run.specs.ReadingOrder.{reading_order};
 ghost use Rattle.tape_tool.specs.Names.{end_byte, names_in};
@@ -183,6 +184,17 @@ pub fn in_reading_order<'n>(
     Ok(order)
 }
 
+/// Returns the place among all these names of the one with number `number` among some of them.
+pub fn place_of(names: &[&str], some: &[&str], number: usize) -> Option<usize> {
+    let name = some.get(number)?;
+    for (place, other) in names.iter().enumerate() {
+        if *other == *name {
+            return Some(place);
+        }
+    }
+    None
+}
+
 /// The bytes of an image: those of a file, or standard input.
 #[derive(Drop)]
 enum InputBytes<R: Host> {
@@ -203,11 +215,21 @@ pub struct Watched<R: Progress> {
     inner: InputBytes<R::System>,
 }
 
-impl<R: Progress> Read for Watched<R> {
+impl<R: Host> Read for InputBytes<R> {
     fn read(&mut self, buf: &mut [u8]) -> io::Result<usize> {
-        let read = match &mut self.inner {
+        match self {
             InputBytes::Named(file) => file.read(buf),
             InputBytes::Input(reader) => reader.read(buf),
+        }
+    }
+}
+
+impl<R: Progress> Read for Watched<R> {
+    fn read(&mut self, buf: &mut [u8]) -> io::Result<usize> {
+        let read = if self.bytes == 0 {
+            read_first(&mut self.inner, buf)
+        } else {
+            self.inner.read(buf)
         };
         if let Ok(bytes) = &read {
             self.bytes = self.bytes.saturating_add(*bytes as u64);
@@ -215,6 +237,21 @@ impl<R: Progress> Read for Watched<R> {
         }
         read
     }
+}
+
+/// Reads until `buf` is full, the reader is at its end or a later read fails. A pipe may deliver
+/// the bytes by which the kind of an image is recognised in several pieces.
+fn read_first<R: Read>(reader: &mut R, buf: &mut [u8]) -> io::Result<usize>
+    ensures { IfOk result (λ count. count ≤ length buf.new) }
+{
+    let mut count = reader.read(buf)?;
+    'reads: for _ in 0..buf.len() {
+        match reader.read(&mut buf[count..]) {
+            Ok(0) | Err(_) => return Ok(count),
+            Ok(more) => count += more,
+        }
+    }
+    Ok(count)
 }
 
 /// The size of the read buffer of an image in bytes: all by which the kind of a file is recognised.

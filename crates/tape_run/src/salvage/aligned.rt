@@ -73,6 +73,11 @@ impl<'r, R: Read> Aligned<'r, R> {
         self.is_over = true;
     }
 
+    /// Returns the byte offset of the next item.
+    pub fn place(&self) -> u64 {
+        self.image.place()
+    }
+
     /// Reads the next block, and compares it with the one of the copies before.
     fn ask(&mut self, best: &mut Candidate) -> Result<Answer, AllocError> {
         if self.is_over || !self.is_at_data() {

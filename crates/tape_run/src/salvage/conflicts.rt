@@ -6,6 +6,7 @@ ghost use Rattle.tape_image.specs.Written.{AppendsFront};
 ghost use Rattle.tape_run.specs.SalvageChoice.{last_section};
 ghost use Rattle.tape_run.specs.SalvageConflicts.{AreConflicts, are_conflicting, conflict_text};
 ghost use Rattle.tape_run.specs.SalvageConflicts.{has_conflict, text_if, are_unlike, end_alike};
+ghost use Rattle.tape_run.specs.SalvageConflicts.{is_counted, have_same_blocks};
 ghost use Rattle.tape_run.specs.SalvageLabels.{are_of_one_file, are_same_forms, have_same_form};
 ghost use Rattle.tape_run.specs.SalvageLabels.{form_read, is_form_of, has_other, labels_text};
 ghost use Rattle.tape_run.specs.SalvageLabels.{are_other_labels, are_other_forms, is_named_copy};
@@ -37,15 +38,31 @@ pub fn end_alike(one: &Option<Closing>, other: &Option<Closing>) -> bool
     }
 }
 
-/// Returns whether both copies are complete copies, but have different blocks, or the file ends
-/// with one of the two and continues after the other.
+/// Returns whether the trailer label of a copy was read, and counts its blocks.
+fn is_counted(copy: &SectionCopy) -> bool
+    ensures { result ≡ is_counted copy.now }
+{
+    copy.closed.is_some() && copy.wrong_count().is_none()
+}
+
+/// Returns whether both copies have equally many blocks and, if all of them could be read, the same
+/// ones.
+fn have_same_blocks(best: &SectionCopy, copy: &SectionCopy) -> bool
+    ensures { result ≡ have_same_blocks best.now copy.now }
+{
+    copy.section.blocks == best.section.blocks
+        && (best.section.unreadable != 0
+            || copy.section.unreadable != 0
+            || copy.section.digest == best.section.digest)
+}
+
+/// Returns whether the trailer labels of both copies count their blocks, but they have different
+/// ones, or the file ends with one of the two and continues after the other.
 fn are_unlike(best: &SectionCopy, copy: &SectionCopy) -> bool
     ensures { result ≡ are_unlike best.now copy.now }
 {
-    let same_blocks = copy.section.blocks == best.section.blocks
-        && copy.section.digest == best.section.digest;
-    let alike = same_blocks && end_alike(&best.closed, &copy.closed);
-    best.is_complete() && copy.is_complete() && !alike
+    let alike = have_same_blocks(best, copy) && end_alike(&best.closed, &copy.closed);
+    is_counted(best) && is_counted(copy) && !alike
 }
 
 /// Returns whether the forms of both copies are recorded, and differ.
@@ -58,8 +75,8 @@ pub fn are_other_forms(one: &Option<Known>, other: &Option<Known>) -> bool
     }
 }
 
-/// Returns whether both are copies of one section, but contradict each other: both are complete and
-/// have different blocks or end otherwise, or their HDR1 or their recorded forms differ.
+/// Returns whether both are copies of one section, but contradict each other: both count their
+/// blocks and have different ones or end otherwise, or their HDR1 or their recorded forms differ.
 fn are_conflicting(best: &SectionCopy, copy: &SectionCopy) -> bool
     ensures { result ≡ are_conflicting best.now copy.now }
 {

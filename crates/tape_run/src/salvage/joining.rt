@@ -14,6 +14,7 @@ use crate::salvage::joinable::{contrary, is_wanting, joinable};
 use std::alloc::{AllocError, Global};
 use std::io::Read;
 use tape_image::{ImageBuffer, ImageReader};
+use tape_label::Field;
 
 /// How the copies of a file's sections complete each other.
 #[derive(Drop)]
@@ -41,7 +42,7 @@ pub fn find_joins<R: Read + Drop, L: ImageSource<R>>(
 ) -> Result<Joins, EngineFault>
     ensures fault { IfErr result IsCheckFault }
 {
-    let copies = find_again(alloc, task, images)?;
+    let copies = find_again(alloc, &task.set_id, task.file, images)?;
     match joins_of(alloc, copies.as_slice(), images) {
         Ok(joins) => Ok(joins),
         Err(_) => Err(NO_MEMORY),
@@ -49,9 +50,10 @@ pub fn find_joins<R: Read + Drop, L: ImageSource<R>>(
 }
 
 /// Finds the copies of the file's sections on the images.
-fn find_again<R: Read + Drop, L: ImageSource<R>>(
+pub fn find_again<R: Read + Drop, L: ImageSource<R>>(
     alloc: Global,
-    task: &SalvageTask,
+    set_id: &Field<6>,
+    file: u16,
     images: &mut L,
 ) -> Result<Vec<SectionCopy>, EngineFault>
     ensures fault { IfErr result IsCheckFault }
@@ -63,7 +65,6 @@ fn find_again<R: Read + Drop, L: ImageSource<R>>(
         };
         if let Some(device) = image {
             let mut device = device;
-            let (set_id, file) = (&task.set_id, task.file);
             copies_on(alloc, set_id, file, number, &mut device, &mut copies)?;
         }
     }
@@ -107,18 +108,8 @@ fn join_section<R: Read + Drop, L: ImageSource<R>>(
     block: &mut Candidate,
     joins: &mut Joins,
 ) -> Result<(), AllocError> {
-    if copies.len() < 2 {
-        return Ok(());
-    }
     let mut fills = Vec::new(alloc);
-    let compared = match contrary(copies) {
-        Some(number) => Compared {
-            completes: false,
-            read: 0,
-            differ: Some((0, number)),
-        },
-        None => compare_images(alloc, copies, images, block, &mut fills)?,
-    };
+    let compared = compare_copies(alloc, copies, images, block, &mut fills)?;
     if let Some((one, other)) = compared.differ {
         return push_contrary(alloc, copies, one, other, &mut joins.lines);
     }
@@ -129,23 +120,27 @@ fn join_section<R: Read + Drop, L: ImageSource<R>>(
     Ok(())
 }
 
-/// Compares the copies of a section, each read from its image. What cannot be opened again
-/// completes nothing.
-fn compare_images<R: Read + Drop, L: ImageSource<R>>(
+/// Compares the copies of a section, each read from its image. Adds to `fills` the blocks that
+/// complete the first. What cannot be opened again completes nothing.
+pub fn compare_copies<R: Read + Drop, L: ImageSource<R>>(
     alloc: Global,
     copies: &[SectionCopy],
     images: &mut L,
     block: &mut Candidate,
     fills: &mut Vec<Fill>,
 ) -> Result<Compared, AllocError> {
+    let compared = Compared {
+        completes: false,
+        read: 0,
+        differ: contrary(copies).map(|number| (0, number)),
+    };
+    if copies.len() < 2 || compared.differ.is_some() {
+        return Ok(compared);
+    }
     let mut devices = Vec::new(alloc);
     for copy in copies {
         let Some(device) = images.mount(copy.image)? else {
-            return Ok(Compared {
-                completes: false,
-                read: 0,
-                differ: None,
-            });
+            return Ok(compared);
         };
         devices.push(device)?;
     }

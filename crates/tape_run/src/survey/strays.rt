@@ -7,6 +7,7 @@ use super::sets::is_whole_file;
 use crate::lacks::good_end;
 use crate::section::{Entry, SectionKey};
 use crate::sections::Sections;
+use crate::unpack::{FoundFiles, SetFile};
 
 /// Returns whether the section with this key is good, and ends its file.
 fn is_end(sections: &Sections, key: &SectionKey) -> bool
@@ -29,6 +30,20 @@ fn follows_end(sections: &Sections, key: &SectionKey, entry: &Entry) -> bool
         }
     }
     false
+}
+
+impl FoundFiles {
+    /// Returns the number of an image on which a section of a file begins that follows a complete
+    /// one which ends the file, if one was found.
+    pub fn after_end(&self, file: &SetFile) -> Option<usize> {
+        for (key, entry) in &self.sections {
+            let is_of_file = key.set_id == file.set_id && key.file == file.file;
+            if is_of_file && follows_end(&self.sections, key, entry) {
+                return self.locations.get(key).copied();
+            }
+        }
+        None
+    }
 }
 
 /// Returns whether no section follows a good one that ends its file.

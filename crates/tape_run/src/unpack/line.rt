@@ -111,6 +111,8 @@ pub enum Notice {
     NoFile,
     /// The image with this name was not read completely.
     Unread,
+    /// The image with this name has a section of a file after the one that ends the file.
+    AfterEnd,
 }
 
 /// Returns the text before the name.
@@ -121,6 +123,7 @@ fn notice_text(notice: Notice) -> &'static [u8]
         Notice::NoSet => b"NO SET ",
         Notice::NoFile => b"NO FILE ",
         Notice::Unread => b"INCOMPLETE IMAGE ",
+        Notice::AfterEnd => b"SECTION AFTER END ",
     }
 }
 

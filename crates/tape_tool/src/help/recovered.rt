@@ -80,7 +80,8 @@ One line per image:
   REEL n BAD BLOCK CAUSE OFFSET   block contents do not fit the record format
   REEL n BAD LABEL CAUSE          label cannot be read
   REEL n SECTION DIFFERS          labels do not match those read before; with
-                                  --again also: other data than those recovered
+                                  --again also: other data than those recovered,
+                                  or unreadable blocks and a wrong block count
   REEL n SPAN LEFT                file ends inside a record
 followed by ' IMAGE CAUSE OFFSET' if the image itself ended the reading ('tape
 --help' lists the causes). The last line is 'COMPLETE n' (n records), or 'AWAITS
@@ -92,8 +93,9 @@ REEL 4 to REEL 6. With --explain the name of each image precedes its line, on
 standard error:
   REEL 4: one.tap
 With --again, images that are files are first read for their labels. If these
-show two files under one number, or complete copies of a section differ, nothing
-is recovered ('tape: set fault 1'); --explain names two such images.
+show two files under one number, or copies of a section contradict each other
+(CONFLICT in 'tape survey' or 'tape salvage'), nothing is recovered ('tape: set
+fault 1'); --explain names two such images.
 With --again or --stage the data of an image that answers BLOCK COUNT is
 discarded. With --again and without --stage the records are kept in memory until
 the file is complete.
@@ -205,6 +207,8 @@ each byte of the records is printable ASCII, a tab or a form feed, otherwise
 
 Further lines:
   NO SET ABC002            no file was found that --set or --file means
+  SECTION AFTER END a.tap  it has a section of a file after the section that
+                           ends the file, and was not used for that
   INCOMPLETE IMAGE a.tap   it could not be opened, or is not a whole volume in
                            formats that tape reads; 'tape survey' says why
 and a last line with the number of files by outcome:

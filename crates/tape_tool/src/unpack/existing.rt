@@ -214,6 +214,9 @@ impl<R: Progress, P: Write> Run<'_, R, P> {
         let names = self.names_for(task.set_id, session.want())?;
         let images = &mut NormalImages::again(rt, names.as_slice());
         let opener = &mut Compared::new(rt.alloc(), true);
+        if file.lacks.is_some() && opener.doubt(rt, task, names.as_slice())?.is_some() {
+            return Ok(End::Incomplete);
+        }
         opener.is_recorded = self.manifest.is_some();
         let (session, last) = (&mut session, &mut LastLine::new());
         let form = &mut self.form;

@@ -7,6 +7,7 @@ use super::summed::{Listed, Summed, SummedDraft, SummedOutput};
 use crate::compared::Compared;
 use crate::extract::{Draft, Task, end_as_written};
 use crate::fault::{FileFault, OUT_OF_MEMORY, ToolFault};
+use crate::images::place_of;
 use crate::normal::{Normal, NormalImages};
 use crate::program::{End, end_of, extract_end};
 use crate::screen::Progress;
@@ -60,7 +61,7 @@ impl<'n, R: Progress, P: Write> Run<'n, R, P> {
                 return end;
             }
         }
-        let end = self.recover_in_passes(&task, stage, listed, last)?;
+        let end = self.recover_in_passes(file, &task, stage, listed, last)?;
         if end == End::Incomplete && self.differing.is_empty() {
             return self.recover_salvaged(&task, file, listed, last);
         }
@@ -92,8 +93,14 @@ impl<'n, R: Progress, P: Write> Run<'n, R, P> {
     }
 
     /// Recovers a file on the stage at `path` from the images that may have its missing parts.
+    ///
+    /// # Errors
+    ///
+    /// Returns `Conflict` if two images contradict each other about a section that none has in
+    /// full; the stage is then not changed.
     fn recover_in_passes(
         &mut self,
+        file: &SetFile,
         task: &Task<'_>,
         path: &str,
         listed: &mut Listed,
@@ -110,9 +117,12 @@ impl<'n, R: Progress, P: Write> Run<'n, R, P> {
         }
         let names = self.names_for(task.set_id, session.want())?;
         let images = &mut NormalImages::again(rt, names.as_slice());
+        let opener = &mut Compared::new(rt.alloc(), true);
+        if file.lacks.is_some() && opener.doubt(rt, task, names.as_slice())?.is_some() {
+            return Err(ToolFault::Conflict);
+        }
         let (draft, out) = Draft::over(rt, task.out, None)?;
         let mut output = SummedOutput::new(draft, out, listed.is_wanted);
-        let opener = &mut Compared::new(rt.alloc(), true);
         opener.is_recorded = listed.is_wanted;
         let (session, form) = (&mut session, &mut self.form);
         let answer = extract_in_form(session, images, opener, form, &mut output, last);
@@ -163,17 +173,6 @@ impl<'n, R: Progress, P: Write> Run<'n, R, P> {
             }
         }
     }
-}
-
-/// Returns the place among all these names of the one with number `number` among some of them.
-fn place_of(names: &[&str], some: &[&str], number: usize) -> Option<usize> {
-    let name = some.get(number)?;
-    for (place, other) in names.iter().enumerate() {
-        if *other == *name {
-            return Some(place);
-        }
-    }
-    None
 }
 
 /// Recovers a file from the images that contain its sections, and prints the last line if it is

@@ -51,6 +51,21 @@ impl<R: Progress, P: Write> Run<'_, R, P> {
         Ok(write_text(&mut self.out, &total_line(&self.tally))?)
     }
 
+    /// Reports the images on which a section of a chosen file begins that follows the one which
+    /// ends the file. Returns whether there are none.
+    pub fn report_after_end(&mut self) -> Result<bool, ToolFault> {
+        let (choice, names, met) = (self.choice, self.names, self.met);
+        let mut all = true;
+        for file in met.files.as_slice() {
+            let number = met.after_end(file).filter(|_| choice.chooses(file));
+            if let Some(name) = number.and_then(|number| names.get(number)) {
+                self.notify(Notice::AfterEnd, *name)?;
+                all = false;
+            }
+        }
+        Ok(all)
+    }
+
     /// Prints a line about a name.
     fn notify(&mut self, notice: Notice, name: &str) -> Result<(), ToolFault> {
         let line = notice_line(self.rt.alloc(), notice, name)?;
@@ -84,8 +99,9 @@ impl<R: Progress, P: Write> Run<'_, R, P> {
         Ok(details)
     }
 
-    /// Prints the images that had other data of a file than those read before them.
-    pub fn tell_differing(&mut self, file: &SetFile) -> Result<(), ToolFault> {
+    /// Prints the images that had other data of a file than those read before them. Returns
+    /// whether there are none.
+    pub fn tell_differing(&mut self, file: &SetFile) -> Result<bool, ToolFault> {
         let names = self.names;
         let differing = mem::replace(&mut self.differing, Vec::new(self.rt.alloc()));
         for number in differing.as_slice() {
@@ -93,7 +109,7 @@ impl<R: Progress, P: Write> Run<'_, R, P> {
                 self.tell(file, UnpackOutcome::Differs, b"", *name)?;
             }
         }
-        Ok(())
+        Ok(differing.is_empty())
     }
 
     /// Reports that a file failed, and with which fault.

@@ -187,8 +187,9 @@ impl<R: Progress, P: Write> Run<'_, R, P> {
             before = Some((file.set_id, file.file));
         }
         let found = self.report_absent()?;
+        let used = self.report_after_end()?;
         self.report_images()?;
-        Ok(failed.unwrap_or(check_end(Ok(all && found))))
+        Ok(failed.unwrap_or(check_end(Ok(all && found && used))))
     }
 
     /// Unpacks `file` if it is chosen, or only looks what would become of it, and prints the
@@ -240,14 +241,19 @@ impl<R: Progress, P: Write> Run<'_, R, P> {
             (Err(EXISTS), _) if !self.order.list => return self.compare_file(file, out, stage),
             (Err(EXISTS), _) => (UnpackOutcome::Exists, out, End::Done),
             (Err(OUT_OF_MEMORY), _) => return Err(OUT_OF_MEMORY),
+            (Err(ToolFault::Conflict), _) => (UnpackOutcome::Conflict, "", End::Incomplete),
             (Err(fault), _) => return self.tell_failed(file, out, fault),
         };
         let details = self.details(outcome, last.text())?;
         self.tell(file, outcome, details.as_slice(), path)?;
-        self.tell_differing(file)?;
+        let end = if self.tell_differing(file)? {
+            end
+        } else {
+            End::Incomplete
+        };
         match outcome {
             UnpackOutcome::Complete => self.end_stage(file, out, stage)?,
-            UnpackOutcome::Awaits if self.order.salvage => {
+            UnpackOutcome::Awaits | UnpackOutcome::Conflict if self.order.salvage => {
                 return self.salvage_file(file, out, end);
             }
             _ => {}
