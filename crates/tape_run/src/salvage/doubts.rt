@@ -66,31 +66,68 @@ fn doubts_of<R: Read + Drop, L: ImageSource<R>>(
     copies: &[SectionCopy],
     images: &mut L,
 ) -> Result<Doubts, AllocError> {
+    let conflict = find_conflict(alloc, copies, images)?;
     let mut doubts = Doubts {
-        conflict: None,
+        conflict,
         miscounted: Vec::new(alloc),
     };
+    add_miscounted(alloc, copies, images, &mut doubts.miscounted)?;
+    Ok(doubts)
+}
+
+/// Adds the copies with unreadable blocks whose trailer label counts another number of blocks.
+fn add_miscounted<R: Read + Drop, L: ImageSource<R>>(
+    alloc: Global,
+    copies: &[SectionCopy],
+    images: &mut L,
+    miscounted: &mut Vec<Miscounted>,
+) -> Result<(), AllocError> {
     for copy in copies {
         if copy.wrong_count().is_some() && copy.section.unreadable > 0 {
             if let Some(place) = data_place(alloc, copy, images)? {
                 let (image, sect) = (copy.image, copy.section.key.sect);
-                doubts.miscounted.push(Miscounted { image, sect, place })?;
+                miscounted.push(Miscounted { image, sect, place })?;
             }
         }
     }
+    Ok(())
+}
+
+/// Returns the numbers of two images that contradict each other about a section which no image has
+/// in full.
+fn find_conflict<R: Read + Drop, L: ImageSource<R>>(
+    alloc: Global,
+    copies: &[SectionCopy],
+    images: &mut L,
+) -> Result<Option<(usize, usize)>, AllocError> {
     let mut block = Candidate::new(alloc)?;
+    let mut conflict = None;
     for before in 0..last_section(copies) {
         let sect = before + 1;
-        if best_copy(copies, sect).is_some_and(|best| is_wanting(&best)) {
-            let own = joinable(alloc, copies, sect)?;
-            let (own, fills) = (own.as_slice(), &mut Vec::new(alloc));
-            let compared = compare_copies(alloc, own, images, &mut block, fills)?;
-            if let Some((one, other)) = compared.differ {
-                doubts.conflict = pair_of(own, one, other);
+        if let Some(best) = best_copy(copies, sect) {
+            if is_wanting(&best) {
+                let own = joinable(alloc, copies, sect)?;
+                let pair = conflict_of(alloc, own.as_slice(), images, &mut block)?;
+                conflict = pair.or(conflict);
             }
         }
     }
-    Ok(doubts)
+    Ok(conflict)
+}
+
+/// Compares the copies of a section. Returns the numbers of two images that contradict each other.
+fn conflict_of<R: Read + Drop, L: ImageSource<R>>(
+    alloc: Global,
+    copies: &[SectionCopy],
+    images: &mut L,
+    block: &mut Candidate,
+) -> Result<Option<(usize, usize)>, AllocError> {
+    let mut fills = Vec::new(alloc);
+    let compared = compare_copies(alloc, copies, images, block, &mut fills)?;
+    match compared.differ {
+        Some((one, other)) => Ok(pair_of(copies, one, other)),
+        None => Ok(None),
+    }
 }
 
 /// Returns the byte offset at which the data of a copy begin on its image, which is opened again.
