@@ -15,11 +15,15 @@ use Rattle.tape_run.specs.SalvageLabels.{IsFirst}
 abbrev pub is_counted : SectionCopy → Bool
 is_counted c = is_some c.closed && is_none (wrong_count c)
 
--- they have equally many blocks, and if all of them could be read, their digests are the same
+-- its digest is that of all its blocks: each could be read, and so could its HDR1
+abbrev pub is_digested : SectionCopy → Bool
+is_digested c = (c.section.unreadable == 0) && is_none c.skip
+
+-- they have equally many blocks and, if the digests of both are those of all, the same ones
 abbrev pub have_same_blocks : SectionCopy → SectionCopy → Bool
 have_same_blocks best c = (c.section.blocks == best.section.blocks)
-    && (not (best.section.unreadable == 0) || (not (c.section.unreadable == 0)
-    || (c.section.digest == best.section.digest)))
+    && (not (is_digested best && is_digested c)
+    || (c.section.digest == best.section.digest))
 
 -- both closed, and the file ends with both of them or with none
 abbrev pub end_alike : Option Closing → Option Closing → Bool

@@ -6,7 +6,7 @@ ghost use Rattle.tape_image.specs.Written.{AppendsFront};
 ghost use Rattle.tape_run.specs.SalvageChoice.{last_section};
 ghost use Rattle.tape_run.specs.SalvageConflicts.{AreConflicts, are_conflicting, conflict_text};
 ghost use Rattle.tape_run.specs.SalvageConflicts.{has_conflict, text_if, are_unlike, end_alike};
-ghost use Rattle.tape_run.specs.SalvageConflicts.{is_counted, have_same_blocks};
+ghost use Rattle.tape_run.specs.SalvageConflicts.{is_counted, have_same_blocks, is_digested};
 ghost use Rattle.tape_run.specs.SalvageLabels.{are_of_one_file, are_same_forms, have_same_form};
 ghost use Rattle.tape_run.specs.SalvageLabels.{form_read, is_form_of, has_other, labels_text};
 ghost use Rattle.tape_run.specs.SalvageLabels.{are_other_labels, are_other_forms, is_named_copy};
@@ -45,15 +45,22 @@ fn is_counted(copy: &SectionCopy) -> bool
     copy.closed.is_some() && copy.wrong_count().is_none()
 }
 
-/// Returns whether both copies have equally many blocks and, if all of them could be read, the same
-/// ones.
+/// Returns whether the digest of a copy is that of all its blocks: each could be read, and so could
+/// its HDR1.
+fn is_digested(copy: &SectionCopy) -> bool
+    ensures { result ≡ is_digested copy.now }
+{
+    copy.section.unreadable == 0 && copy.skip.is_none()
+}
+
+/// Returns whether both copies have equally many blocks and, if the digests of both are those of
+/// all, the same ones.
 fn have_same_blocks(best: &SectionCopy, copy: &SectionCopy) -> bool
     ensures { result ≡ have_same_blocks best.now copy.now }
 {
+    let are_digested = is_digested(best) && is_digested(copy);
     copy.section.blocks == best.section.blocks
-        && (best.section.unreadable != 0
-            || copy.section.unreadable != 0
-            || copy.section.digest == best.section.digest)
+        && (!are_digested || copy.section.digest == best.section.digest)
 }
 
 /// Returns whether the trailer labels of both copies count their blocks, but they have different

@@ -8,7 +8,7 @@ use crate::fault::{EngineFault, NO_MEMORY};
 use crate::merge::candidate::Candidate;
 use crate::salvage::aligned::Aligned;
 use crate::salvage::copies::{SectionCopy, best_copy, last_section};
-use crate::salvage::joinable::{is_wanting, joinable};
+use crate::salvage::joinable::joinable;
 use crate::salvage::joining::{compare_copies, find_again};
 use std::alloc::{AllocError, Global};
 use std::io::Read;
@@ -83,7 +83,9 @@ fn add_miscounted<R: Read + Drop, L: ImageSource<R>>(
     miscounted: &mut Vec<Miscounted>,
 ) -> Result<(), AllocError> {
     for copy in copies {
-        if copy.wrong_count().is_some() && copy.section.unreadable > 0 {
+        // Some systems always write a count of 0.
+        let is_counted = copy.wrong_count().is_some_and(|count| count > 0);
+        if is_counted && copy.section.unreadable > 0 {
             if let Some(place) = data_place(alloc, copy, images)? {
                 let (image, sect) = (copy.image, copy.section.key.sect);
                 miscounted.push(Miscounted { image, sect, place })?;
@@ -105,7 +107,7 @@ fn find_conflict<R: Read + Drop, L: ImageSource<R>>(
     for before in 0..last_section(copies) {
         let sect = before + 1;
         if let Some(best) = best_copy(copies, sect) {
-            if is_wanting(&best) {
+            if !best.is_complete() {
                 let own = joinable(alloc, copies, sect)?;
                 let pair = conflict_of(alloc, own.as_slice(), images, &mut block)?;
                 conflict = pair.or(conflict);

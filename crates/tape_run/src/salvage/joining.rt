@@ -87,8 +87,7 @@ fn joins_of<R: Read + Drop, L: ImageSource<R>>(
         if let Some(best) = best_copy(copies, sect) {
             if is_wanting(&best) {
                 let own = joinable(alloc, copies, sect)?;
-                let (own, least) = (own.as_slice(), best.rank());
-                join_section(alloc, own, least, images, &mut block, &mut joins)?;
+                join_section(alloc, own.as_slice(), &best, images, &mut block, &mut joins)?;
             }
         }
     }
@@ -99,11 +98,11 @@ fn joins_of<R: Read + Drop, L: ImageSource<R>>(
 }
 
 /// Finds the blocks that complete the first of the copies of a section, or with which it has more
-/// than `least`. If two of the copies contradict each other, none completes another.
+/// than the best one. If two of the copies contradict each other, none completes another.
 fn join_section<R: Read + Drop, L: ImageSource<R>>(
     alloc: Global,
     copies: &[SectionCopy],
-    least: u64,
+    best: &SectionCopy,
     images: &mut L,
     block: &mut Candidate,
     joins: &mut Joins,
@@ -111,9 +110,14 @@ fn join_section<R: Read + Drop, L: ImageSource<R>>(
     let mut fills = Vec::new(alloc);
     let compared = compare_copies(alloc, copies, images, block, &mut fills)?;
     if let Some((one, other)) = compared.differ {
+        // What closes otherwise than the best copy is reported with the other conflicts.
+        let is_best = copies.first().is_some_and(|base| base.image == best.image);
+        if is_best && contrary(copies).is_some() {
+            return Ok(());
+        }
         return push_contrary(alloc, copies, one, other, &mut joins.lines);
     }
-    if compared.completes || u64::from(compared.read) > least {
+    if compared.completes || u64::from(compared.read) > best.rank() {
         push_fills(alloc, fills.as_slice(), &mut joins.lines)?;
         joins.fills.extend_from_slice(fills.as_slice())?;
     }
