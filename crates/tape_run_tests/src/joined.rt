@@ -159,34 +159,41 @@ fn damaged(alloc: Global, images: &[Damaged]) -> Result<Vec<Image>, AllocError> 
     Ok(made)
 }
 
-/// A block that one copy lacks is taken from another one, if its number is certain and no blocks
-/// differ.
-#[test]
-fn copies_complete_each_other(rt: HostRuntime) -> Result<(), Fail> {
+/// Returns whether `salvage` of these images, of which copies may complete each other, has the
+/// result `complete`, the report `lines` and an output of `length` bytes.
+pub fn joins(
+    alloc: Global,
+    images: &[Image],
+    complete: bool,
+    lines: &str,
+    length: usize,
+) -> Result<bool, Fail> {
     let task = SalvageTask {
         set_id: set_id(),
         file: 1,
         content: Content::Records,
         form: Form::Lines,
     };
+    let mut shelf = Shelf { images };
+    let mut name = Name {
+        is_free: true,
+        there: None,
+    };
+    let mut report = Vec::new(alloc);
+    let out = Narrow::new(alloc, 10000, true);
+    let answer = salvage_joined(alloc, &task, &mut shelf, out, &mut name, &mut report);
+    let written = name.there.map(|out| out.taken.len());
+    Ok(answer == Ok(complete) && report.as_slice() == lines.as_bytes() && written == Some(length))
+}
+
+/// A block that one copy lacks is taken from another one, if its number is certain and no blocks
+/// differ.
+#[test]
+fn copies_complete_each_other(rt: HostRuntime) -> Result<(), Fail> {
     for (number, (images, complete, lines, length)) in ROWS.iter().enumerate() {
         let images = damaged(rt.alloc(), images)?;
-        let mut shelf = Shelf {
-            images: images.as_slice(),
-        };
-        let mut name = Name {
-            is_free: true,
-            there: None,
-        };
-        let mut report = Vec::new(rt.alloc());
-        let out = Narrow::new(rt.alloc(), 10000, true);
-        let answer = salvage_joined(rt.alloc(), &task, &mut shelf, out, &mut name, &mut report);
-        let written = name.there.map(|out| out.taken.len());
-        let is_so = answer == Ok(*complete) && written == Some(*length);
-        assert!(rt;
-            is_so && report.as_slice() == lines.as_bytes(),
-            "row {number}"
-        );
+        let is_so = joins(rt.alloc(), images.as_slice(), *complete, lines, *length)?;
+        assert!(rt; is_so, "row {number}");
     }
     Ok(())
 }

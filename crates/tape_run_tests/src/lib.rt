@@ -13,6 +13,8 @@ mod check_faults;
 #[cfg(test)]
 mod containers;
 #[cfg(test)]
+mod contrary;
+#[cfg(test)]
 mod copies;
 #[cfg(test)]
 mod cuts;

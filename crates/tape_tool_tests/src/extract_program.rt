@@ -190,9 +190,10 @@ const AGAIN: &str = "
     set fault 1$ extract MIX001 1 mixed.txt one/MIX001.tap changed/MIX001.tap sub --again
     has mixed.txt kept
     length a.stage 2381
-    # A stage of a copy that lost a block is not continued from copies that have other data there,
-    # one of them with its first block unreadable. It is unchanged.
+    # A stage of a truncated copy that lost a block is not continued from copies that have other data
+    # there, one of them with its first block unreadable. It is unchanged.
     lost_damaged lost_block.tap 3
+    cut lost_block.tap 1492
     damaged no_first.tap 0
     3: extract ABC001 1 differs.txt lost_block.tap --again --stage differs.stage
     length differs.stage 1106

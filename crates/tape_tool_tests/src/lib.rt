@@ -2,6 +2,8 @@
 #![tactic(auto)]
 
 #[cfg(test)]
+mod contrary;
+#[cfg(test)]
 mod explain;
 #[cfg(test)]
 mod extract_program;

@@ -105,12 +105,14 @@ const LEFT: &str = "
     3: unpack form form.tap none.tap
     | FILE ABC001 1 AWAITS 1 1 0 form/ABC001.1.PAYROLL.stage
     missing form/ABC001.1.PAYROLL form/.tape-1.part
-    # A stage with other data: of a copy that lost its second block and is damaged after it.
+    # A stage with other data: of a copy that lost its second block, and was truncated after an
+    # unreadable one.
     folder staged
     worked hdr2.tap
     spoil hdr2.tap 2
     front head.tap 268
     lost_damaged older.tap 3
+    cut older.tap 1492
     3: unpack staged older.tap
     length staged/ABC001.1.PAYROLL.stage 1106
     3: unpack staged hdr2.tap head.tap
@@ -136,4 +138,50 @@ const LEFT: &str = "
 #[test]
 fn nothing_else_is_completed(rt: HostRuntime) -> Result<(), Fail> {
     follow_in(&rt, "not_completed", LEFT)
+}
+
+const CONTRARY: &str = "
+    # Three recordings of five blocks, with the same labels; the third one has other data.
+    folder one two three out kept after
+    fill data.bin 2000 1
+    fill other.bin 2000 2
+    0: write one DAY 100000 A=data.bin --format F --record 80 --block 400 --form raw
+    0: write two DAY 100000 A=data.bin --format F --record 80 --block 400 --form raw
+    0: write three DAY 100000 A=other.bin --format F --record 80 --block 400 --form raw
+    spoil one/DAY001.tap 5
+    spoil three/DAY001.tap 6
+    # Each has the block that the other one lacks, but the others differ.
+    3$ unpack out one/DAY001.tap three/DAY001.tap --salvage
+    > FILE DAY001 1 CONFLICT
+    > FILE DAY001 1 SALVAGED 20 out/DAY001.1.A.salvaged
+    > TOTAL 0 complete 0 existing 0 incomplete 1 in conflict 0 not found 0 failed
+    # 20 records of 80 bytes, each with a line feed.
+    length out/DAY001.1.A.salvaged 1620
+    at out/DAY001.1.A.salvaged 1539 11111
+    missing out/DAY001.1.A
+    # A stage with block 0, a copy of the others, and an image with another block 0 alone.
+    3: unpack kept one/DAY001.tap
+    spoil two/DAY001.tap 4
+    spoil three/DAY001.tap 5
+    spoil three/DAY001.tap 7
+    spoil three/DAY001.tap 8
+    3$ unpack kept two/DAY001.tap three/DAY001.tap
+    > FILE DAY001 1 COMPLETE 25 kept/DAY001.1.A
+    > FILE DAY001 1 SECTION DIFFERS three/DAY001.tap
+    > TOTAL 1 complete 0 existing 0 incomplete 0 in conflict 0 not found 0 failed
+    at kept/DAY001.1.A 0 11111
+    missing kept/DAY001.1.A.stage
+    # A section of the file after the one that ends it.
+    worked ends.tap
+    second second.tap
+    3$ unpack after ends.tap second.tap
+    > FILE ABC001 1 COMPLETE 25 after/ABC001.1.PAYROLL
+    > SECTION AFTER END second.tap
+    > TOTAL 1 complete 0 existing 0 incomplete 0 in conflict 0 not found 0 failed
+    length after/ABC001.1.PAYROLL 2025
+";
+
+#[test]
+fn contradictions_are_told(rt: HostRuntime) -> Result<(), Fail> {
+    follow_in(&rt, "contrary", CONTRARY)
 }

@@ -83,7 +83,9 @@ const UNPACKED: &str = "
     > FILE ABC001 1 CONFLICT
     > TOTAL 0 complete 0 existing 0 incomplete 1 in conflict 0 not found 0 failed
     lost_damaged older2.tap 3
-    3: unpack older older2.tap
+    lost_damaged older3.tap 3
+    cut older3.tap 1492
+    3: unpack older older3.tap
     length older/ABC001.1.PAYROLL.stage 1106
     $ unpack older older1.tap older2.tap
     > FILE ABC001 1 COMPLETE 25 older/ABC001.1.PAYROLL
@@ -107,7 +109,7 @@ const UNPACKED: &str = "
     # The stage of a copy that lost a block is not continued from a damaged copy with other data.
     folder differs
     damaged differs1.tap 0
-    3: unpack differs older2.tap
+    3: unpack differs older3.tap
     3$ unpack differs differs1.tap
     > FILE ABC001 1 AWAITS 1 1 2 differs/ABC001.1.PAYROLL.stage
     > FILE ABC001 1 SECTION DIFFERS differs1.tap
