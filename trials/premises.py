@@ -32,8 +32,8 @@ def first_label(kind, name, sect, date, count=0):
                  (date, 6), (" 00000", 6), ("", 1), (f"{count:06}", 6), ("", 13), ("", 7))
 
 
-def second_label(kind, size):
-    return label((kind, 4), ("F", 1), (f"{size:05}", 5), (f"{RECORD:05}", 5), ("", 35), ("00", 2), ("", 28))
+def second_label(kind, size, record=RECORD):
+    return label((kind, 4), ("F", 1), (f"{size:05}", 5), (f"{record:05}", 5), ("", 35), ("00", 2), ("", 28))
 
 
 def text(records):
@@ -50,16 +50,20 @@ def unreadable(data):
     return lead + data + lead
 
 
-def image(name, blocks, size=800, sect=1, date=" 00000", end="EOF", closing=None, bad=(), lost=(), cut=None):
-    """A volume with one section, of which the blocks `bad` are unreadable. Its first mark is lost, or its
-    second, if `lost` has 1 or 2. If `cut` is a number, the image ends after so many of the items after HDR2."""
+def image(name, blocks, size=800, sect=1, date=" 00000", end="EOF", closing=None, bad=(), lost=(), cut=None,
+          spoilt=(), count=None, record=RECORD):
+    """A volume with one section, of which the blocks `bad` and the items `spoilt` are unreadable: VOL1 is item 0, the
+    first mark is 3. The first mark is lost, or the second, if `lost` has 1 or 2. If `cut` is a number, the image ends
+    after so many of the items after HDR2. The trailer label counts `count` blocks instead of the right number."""
     items = [] if 1 in lost else [MARK]
     items += [unreadable(data) if at in bad else block(data) for at, data in enumerate(blocks)]
     items += [] if 2 in lost else [MARK]
     other, day = closing or (name, date)
-    items += [first_label(f"{end}1", other, sect, day, len(blocks)), second_label(f"{end}2", size), MARK, MARK + END]
+    count = len(blocks) if count is None else count
+    items += [first_label(f"{end}1", other, sect, day, count), second_label(f"{end}2", size, record), MARK, MARK + END]
     volume = label(("VOL1", 4), (f"ABC00{sect}", 6), ("", 69), ("4", 1))
-    return b"".join([volume, first_label("HDR1", name, sect, date), second_label("HDR2", size), *items[:cut]])
+    items = [volume, first_label("HDR1", name, sect, date), second_label("HDR2", size, record), *items[:cut]]
+    return b"".join(unreadable(b"??") if at in spoilt else item for at, item in enumerate(items))
 
 
 CARDS = [f"CARD {number}" for number in range(1, 4)]
@@ -69,6 +73,7 @@ RECORDS = {"cards": CARDS, "forty": FORTY, "week2": WEEKS[1], "first-twenty": FO
 
 THREE, FOUR = blocks_of(CARDS, 80), blocks_of(FORTY, 800)
 ONE, TWO = (blocks_of(week, 800) for week in WEEKS)
+SIX = blocks_of(FORTY + WEEKS[0][:20], 800)
 DUP, SKIP = [FOUR[0], FOUR[0], FOUR[1]], [FOUR[0], FOUR[2]]
 IMAGES = {
     "good": image("CARDS", THREE, 80),
@@ -105,6 +110,30 @@ IMAGES = {
     "p2": image("STOCK", ONE[:1], sect=2),
     # A trailer label of another file: the end of an older recording.
     "over": image("TUE.BCK", FOUR[:2], date=" 85142", closing=("MON.BCK", " 85141")),
+    # Unreadable labels and marks: HDR1, HDR2, both second labels, or the first mark and EOF1.
+    "nohdr1": image("CARDS", FOUR, spoilt=[1]),
+    "noform": image("CARDS", FOUR, spoilt=[2, 10]),
+    "nomark": image("CARDS", FOUR, spoilt=[3, 9]),
+    "second-bad": image("CARDS", FOUR, bad=[1]),
+    # Two recordings with the same labels, and with unreadable blocks or without HDR2.
+    "mon-1": image("CARDS", ONE, bad=[1]),
+    "mon-2": image("CARDS", ONE, bad=[2]),
+    "sun-0": image("CARDS", TWO, bad=[0]),
+    "sun-01": image("CARDS", TWO, bad=[0, 1]),
+    "sun-2": image("CARDS", TWO, bad=[2]),
+    "mon-hdr2": image("CARDS", ONE, spoilt=[2]),
+    "sun-hdr2": image("CARDS", TWO, spoilt=[2]),
+    "six-5": image("CARDS", SIX, bad=[5]),
+    "six-hdr2": image("CARDS", SIX, spoilt=[2]),
+    # Block 1 twice, and then an unreadable one: five items, of which the trailer label counts four. The same number
+    # of blocks as there are, and no count at all.
+    "twice": image("CARDS", [*FOUR[:2], *FOUR[1:]], bad=[3], count=4),
+    "nocount": image("CARDS", FOUR, bad=[2], count=0),
+    # A second section that lost its first block and was truncated, and one with an unreadable block.
+    "s2lost": image("CARDS", SIX[1:4], sect=2, cut=4),
+    "s2bad": image("CARDS", SIX, sect=2, bad=[2]),
+    # The file ends with its first section.
+    "ends": image("CARDS", FOUR[:2]),
     # HDR2 is lost, and then EOF2 too.
     "nohead2": image("CARDS", FOUR).replace(second_label("HDR2", 800), b""),
     "no2": image("CARDS", FOUR).replace(second_label("HDR2", 800), b"").replace(second_label("EOF2", 800), b""),
@@ -301,8 +330,9 @@ SCENES = f"""
 3 extract ABC001 1 out s2.tap --again --stage st
 - out
 ## extract --again: no copy is complete, and one has a doubled block
-3 extract ABC001 1 out first-bad.tap dup.tap --again
-? out forty
+1 extract ABC001 1 out first-bad.tap dup.tap --again
+! tape: set fault 1
+- out
 ## extract --again: a trailer label of another file
 1 extract ABC001 1 out over.tap --again
 ! tape: set fault 1
@@ -362,6 +392,98 @@ SCENES = f"""
 > CONFLICT 2 2 3
 0 salvage ABC001 1 out2 m1.tap m2.tap
 = out2 forty
+## salvage and unpack: EOF2 after an unreadable mark is no block
+3 salvage ABC001 1 out second-bad.tap nomark.tap
+> GAP 1 1 1 10
+> SALVAGED 30
+3 salvage ABC001 1 out2 nomark.tap second-bad.tap
+> GAP 1 1 1 10
+> SALVAGED 30
+3 unpack u second-bad.tap nomark.tap
+> FILE ABC001 1 AWAITS 1 1 1 u/ABC001.1.CARDS.stage
+- u/ABC001.1.CARDS
+## salvage: a copy after whose unreadable mark no block is certain contradicts no other one
+0 salvage ABC001 1 out second-bad.tap third-bad.tap nomark.tap
+> FILLED 1 2 1 1
+> COMPLETE 40
+= out forty
+## salvage: unreadable labels contradict no other copy
+0 salvage ABC001 1 out y.tap nohdr1.tap noform.tap
+> COMPLETE 40
+= out forty
+0 salvage ABC001 1 out2 nohdr1.tap noform.tap y.tap
+= out2 forty
+## unpack, extract --again: two recordings of which each has the block that the other lacks
+3 unpack u mon-1.tap sun-0.tap
+> FILE ABC001 1 CONFLICT
+3 unpack u sun-0.tap mon-1.tap
+> FILE ABC001 1 CONFLICT
+- u/ABC001.1.CARDS
+1 extract ABC001 1 out mon-1.tap sun-0.tap --again
+! tape: set fault 1
+1 extract ABC001 1 out sun-0.tap mon-1.tap --again
+! tape: set fault 1
+- out
+3 salvage ABC001 1 out2 mon-1.tap sun-0.tap
+> CONFLICT 1 1 2
+## unpack: the same on two days, and with a whole copy without HDR2
+3 unpack u mon-1.tap
+3 unpack u mon-1.tap sun-0.tap
+> FILE ABC001 1 CONFLICT
+3 unpack u mon-1.tap sun-0.tap mon-hdr2.tap
+> FILE ABC001 1 CONFLICT
+- u/ABC001.1.CARDS
+## unpack: three copies of two recordings, in two orders
+3 unpack u sun-2.tap sun-01.tap mon-2.tap
+> FILE ABC001 1 CONFLICT
+3 unpack u sun-01.tap mon-2.tap sun-2.tap
+> FILE ABC001 1 CONFLICT
+- u/ABC001.1.CARDS
+## unpack, extract --again: a doubled block, an unreadable one, and a count that shows it
+3 unpack u third-bad.tap twice.tap
+> FILE ABC001 1 AWAITS 1 1 2 u/ABC001.1.CARDS.stage
+3 unpack u twice.tap third-bad.tap
+> FILE ABC001 1 AWAITS 1 1 2 u/ABC001.1.CARDS.stage
+3 extract ABC001 1 out third-bad.tap twice.tap --again
+> AWAITS 1 1 2
+3 extract ABC001 1 out twice.tap third-bad.tap --again
+> AWAITS 1 1 2
+- out
+## unpack: a trailer label that counts no blocks says nothing against them
+3 unpack u nocount.tap
+> FILE ABC001 1 AWAITS 1 1 2 u/ABC001.1.CARDS.stage
+0 unpack u y.tap
+= u/ABC001.1.CARDS forty
+- u/ABC001.1.CARDS.stage
+## salvage, unpack: recordings without HDR2, all of whose blocks are readable
+3 salvage ABC001 1 out mon-hdr2.tap sun-hdr2.tap
+> CONFLICT 1 1 2
+3 salvage ABC001 1 out2 sun-hdr2.tap mon-hdr2.tap
+> CONFLICT 1 1 2
+3 salvage ABC001 1 out3 mon-hdr2.tap six-hdr2.tap
+> SALVAGED 60
+3 unpack u mon-hdr2.tap sun-hdr2.tap
+> FILE ABC001 1 CONFLICT
+- u/ABC001.1.CARDS
+## salvage: a complete copy, and one with an unreadable block whose label counts more blocks
+3 salvage ABC001 1 out y.tap six-5.tap
+> CONFLICT 1 1 2
+> SALVAGED 40
+## unpack, extract --again: a second section that lost its first block, and a damaged copy
+3 unpack u s1.tap s2lost.tap
+3 unpack u s1.tap s2lost.tap s2bad.tap
+> FILE ABC001 1 CONFLICT
+- u/ABC001.1.CARDS
+1 extract ABC001 1 out s1.tap s2lost.tap s2bad.tap --again
+! tape: set fault 1
+1 extract ABC001 1 out s1.tap s2bad.tap s2lost.tap --again
+! tape: set fault 1
+- out
+## unpack: a section after the one that ends the file
+3 unpack u ends.tap s2.tap
+> FILE ABC001 1 COMPLETE 20 u/ABC001.1.CARDS
+> SECTION AFTER END s2.tap
+= u/ABC001.1.CARDS first-twenty
 """
 
 
