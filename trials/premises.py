@@ -115,6 +115,8 @@ IMAGES = {
     "noform": image("CARDS", FOUR, spoilt=[2, 10]),
     "nomark": image("CARDS", FOUR, spoilt=[3, 9]),
     "second-bad": image("CARDS", FOUR, bad=[1]),
+    # Records of another length, in unreadable blocks.
+    "half": image("CARDS", FOUR, bad=[1, 2], record=40),
     # Two recordings with the same labels, and with unreadable blocks or without HDR2.
     "mon-1": image("CARDS", ONE, bad=[1]),
     "mon-2": image("CARDS", ONE, bad=[2]),
@@ -469,6 +471,15 @@ SCENES = f"""
 3 salvage ABC001 1 out y.tap six-5.tap
 > CONFLICT 1 1 2
 > SALVAGED 40
+## salvage: copies that record two forms, and one that records none
+3 salvage ABC001 1 out noform.tap second-bad.tap half.tap
+> CONFLICT 1 1 3
+> SALVAGED 40
+3 salvage ABC001 1 out2 noform.tap half.tap second-bad.tap
+> CONFLICT 1 1 3
+> SALVAGED 80
+0 salvage ABC001 1 out3 noform.tap second-bad.tap
+= out3 forty
 ## unpack, extract --again: a second section that lost its first block, and a damaged copy
 3 unpack u s1.tap s2lost.tap
 3 unpack u s1.tap s2lost.tap s2bad.tap

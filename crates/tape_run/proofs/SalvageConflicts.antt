@@ -10,7 +10,7 @@ use Rattle.std.specs.Option.{option_or}
 use Rattle.tape_set.specs.Lawful.{FileForm}
 use Rattle.tape_run.specs.declared.salvage.copies.SectionCopy.{SectionCopy}
 use Rattle.tape_run.specs.SalvageChoice.{firsts, IsBest, form_of_file}
-use Rattle.tape_run.specs.SalvageConflicts.{AreConflicts, text_if}
+use Rattle.tape_run.specs.SalvageConflicts.{AreConflicts, text_if, as_read}
 use Rattle.tape_image.specs.Written.{AppendsFront}
 use Rattle.tape_image.proofs.Pieces.{front_more, front_behind}
 use Rattle.tape_run.proofs.{SalvageChoice.taken_more, SalvageChoice.some_best, Reporting.front_then}
@@ -113,13 +113,13 @@ pub record ReportedSoFar (copies : List SectionCopy) (n : ℕ) (first : Option S
 
 -- the lines about the next section
 abbrev pub next_text : List SectionCopy → Option SectionCopy → Option SectionCopy → List ℕ
-next_text copies first best = conflict_text best copies
+next_text copies first best = conflict_text (as_read (form_of_file copies) best) copies
     ++ labels_text (form_of_file copies) first best
 
 -- whether the next section has any
 abbrev pub next_any : List SectionCopy → Option SectionCopy → Option SectionCopy → Bool → Bool
 next_any copies first best any = has_other (form_of_file copies) first best
-    || (has_conflict best copies || any)
+    || (has_conflict (as_read (form_of_file copies) best) copies || any)
 
 -- one more section
 next_first : (copies : List SectionCopy) (n : ℕ) (earlier first best : Option SectionCopy)
@@ -128,17 +128,19 @@ next_first : (copies : List SectionCopy) (n : ℕ) (earlier first best : Option 
 next_first copies n earlier first best before is e = (earlier, best, before, is, e)
 
 pub next_reported : (copies : List SectionCopy) (n : ℕ)
-    (known : Option FileForm) (any mid now : Bool) (earlier first best : Option SectionCopy)
+    (known : Option FileForm) (any mid now : Bool) (earlier first best used : Option SectionCopy)
     (said w v says : Option (List ℕ))
-    → known ≡ form_of_file copies → ReportedSoFar copies n earlier any said w → IsBest (firsts (n + 1) None copies) best
-    → first ≡ option_or earlier best → mid ≡ (has_conflict best copies || any)
-    → Appends w v (conflict_text best copies)
+    → known ≡ form_of_file copies → ReportedSoFar copies n earlier any said w
+    → IsBest (firsts (n + 1) None copies) best
+    → first ≡ option_or earlier best → used ≡ as_read known best
+    → mid ≡ (has_conflict used copies || any) → Appends w v (conflict_text used copies)
     → now ≡ (has_other known first best || mid) → Appends v says (labels_text known first best)
     → ReportedSoFar copies (n + 1) first now said says
-next_reported copies n known any mid now earlier first best said w v says form s is e
-    found wrote other more =
+next_reported copies n known any mid now earlier first best used said w v says form s is e
+    uses found wrote other more =
     let next : suc n ≡ n + 1 = omega arith in
     let line = next_text copies first best in
+    let reads : used ≡ as_read (form_of_file copies) best = uses ∙ ap (λ k. as_read k best) form in
     let begins = next_first copies n earlier first best s.is_first is e in
     let last_text : Appends v says (labels_text (form_of_file copies) first best) =
     subst (λ k. Appends v says (labels_text k first best)) form more in
@@ -155,11 +157,12 @@ next_reported copies n known any mid now earlier first best said w v says form s
         refl,
         other ∙ ap (λ k. has_other k first best || mid) form
             ∙ ap (λ b. has_other (form_of_file copies) first best || b)
-            found,
+            (found ∙ ap (λ u. has_conflict u copies || any) reads),
       );
       is_first = subst (λ m. IsFirst copies m first) next begins;
       wrote = Appends-trans said w says s.text line s.wrote
-          (Appends-trans w v says _ _ wrote last_text);
+          (Appends-trans w v says _ _
+          (subst (λ u. Appends w v (conflict_text u copies)) reads wrote) last_text);
     }
 
 -- the lines of further sections follow these
@@ -197,19 +200,23 @@ reported_front copies n last any earlier first best said w says within s is e pa
     (all, some, more, front_then said w says s.text line rest all s.wrote part joined)
 
 -- the lines about the copies of a section were not written completely
-pub copies_front : (copies : List SectionCopy) (first best : Option SectionCopy)
-    (w says : Option (List ℕ))
-    → AppendsFront w says (conflict_text best copies)
+pub copies_front : (copies : List SectionCopy) (known : Option FileForm)
+    (first best used : Option SectionCopy) (w says : Option (List ℕ))
+    → known ≡ form_of_file copies → used ≡ as_read known best
+    → AppendsFront w says (conflict_text used copies)
     → AppendsFront w says (next_text copies first best)
-copies_front copies first best w says part = front_more w says _ _ part
+copies_front copies known first best used w says form uses part = front_more w says _ _
+    (subst (λ u. AppendsFront w says (conflict_text u copies))
+    (uses ∙ ap (λ k. as_read k best) form) part)
 
 -- the line about the labels of a section was not written completely
 pub labels_front : (copies : List SectionCopy) (known : Option FileForm)
-    (first best : Option SectionCopy) (w v says : Option (List ℕ))
-    → known ≡ form_of_file copies
-    → Appends w v (conflict_text best copies)
+    (first best used : Option SectionCopy) (w v says : Option (List ℕ))
+    → known ≡ form_of_file copies → used ≡ as_read known best
+    → Appends w v (conflict_text used copies)
     → AppendsFront v says (labels_text known first best)
     → AppendsFront w says (next_text copies first best)
-labels_front copies known first best w v says form wrote part =
-    front_behind w v says _ _ wrote
+labels_front copies known first best used w v says form uses wrote part =
+    front_behind w v says _ _
+    (subst (λ u. Appends w v (conflict_text u copies)) (uses ∙ ap (λ k. as_read k best) form) wrote)
     (subst (λ k. AppendsFront v says (labels_text k first best)) form part)

@@ -9,7 +9,8 @@ use Rattle.tape_run.specs.{SalvageCopies.wrong_count, SalvageChoice.firsts, Salv
 use Rattle.tape_run.specs.{SalvageLine.conflict_line, SalvageTaking.image_number}
 use Rattle.tape_run.specs.SalvageChoice.{form_of_file}
 use Rattle.tape_run.specs.SalvageLabels.{are_other_labels, are_other_forms, has_other, labels_text}
-use Rattle.tape_run.specs.SalvageLabels.{IsFirst}
+use Rattle.tape_run.specs.SalvageLabels.{IsFirst, form_read}
+use Rattle.tape_set.specs.Lawful.{FileForm}
 
 -- it closes, and its trailer label counts its blocks
 abbrev pub is_counted : SectionCopy → Bool
@@ -38,11 +39,17 @@ are_unlike best c = is_counted best
     && (is_counted c && not (have_same_blocks best c && end_alike best.closed c.closed))
 
 -- Both are copies of one section, but contradict each other: both count their blocks and have
--- different ones or end otherwise, or their HDR1 or their recorded forms differ.
+-- different ones or end otherwise, or their HDR1 or their forms differ.
 abbrev pub are_conflicting : SectionCopy → SectionCopy → Bool
 are_conflicting best c = (c.section.key.sect == best.section.key.sect)
     && (are_unlike best c
     || (are_other_labels best c || are_other_forms best.section.form c.section.form))
+
+-- the best copy of a section, with the form in which it is read
+abbrev pub as_read : Option FileForm → Option SectionCopy → Option SectionCopy
+as_read known None = None
+as_read known (Some c) =
+    Some (record c { section = record c.section { form = form_read known c } })
 
 -- whether one of these copies contradicts the best copy of its section
 abbrev pub has_conflict : Option SectionCopy → List SectionCopy → Bool
@@ -63,14 +70,15 @@ conflict_text (Some best) [] = []
 conflict_text (Some best) (c ∷ cs) =
     text_if (are_conflicting best c) best c ++ conflict_text (Some best) cs
 
--- These lines report all copies of the sections 1 to n that contradict the best copy, and all of
--- these sections whose best copy has not the labels of the file. `any` says whether there are any.
+-- These lines report all copies of the sections 1 to n that contradict the best copy in the form in
+-- which it is read, and all of these sections whose best copy has not the labels of the file. `any`
+-- says whether there are any.
 abbrev pub AreConflicts : List SectionCopy → ℕ → List ℕ → Bool → Type 0
 AreConflicts copies zero text any = (text ≡ []) × (any ≡ false)
 AreConflicts copies (suc n) text any = (front : List ℕ) × (earlier : Bool)
     × (best first : Option SectionCopy) × AreConflicts copies n front earlier
     × IsBest (firsts (n + 1) None copies) best × IsFirst copies (suc n) first
-    × (text ≡ front ++ (conflict_text best copies
+    × (text ≡ front ++ (conflict_text (as_read (form_of_file copies) best) copies
     ++ labels_text (form_of_file copies) first best))
     × (any ≡ (has_other (form_of_file copies) first best
-    || (has_conflict best copies || earlier)))
+    || (has_conflict (as_read (form_of_file copies) best) copies || earlier)))

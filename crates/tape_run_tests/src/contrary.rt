@@ -137,6 +137,20 @@ const ROWS: &[(&[Items], bool, &str, usize)] = &[
         "CONFLICT 1 2 1\nSECTION 1 2 3\nGAP 1 1 1 1\nSALVAGED 2\n",
         12,
     ),
+    // The copy that is used records no form, and the others two: it is read in the first of these.
+    (
+        &[NO_FORM, OF_FIVE, OF_FOUR],
+        false,
+        "CONFLICT 1 1 3\nSECTION 1 1 1\nSALVAGED 4\n",
+        24,
+    ),
+    (
+        &[NO_FORM, OF_FOUR, OF_FIVE],
+        false,
+        "CONFLICT 1 1 3\nSECTION 1 1 1\nSALVAGED 5\n",
+        25,
+    ),
+    (&[NO_FORM, OF_FIVE], true, "SECTION 1 1 1\nCOMPLETE 4\n", 24),
 ];
 
 /// Returns an image with these items.

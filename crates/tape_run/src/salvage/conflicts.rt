@@ -6,14 +6,14 @@ ghost use Rattle.tape_image.specs.Written.{AppendsFront};
 ghost use Rattle.tape_run.specs.SalvageChoice.{last_section};
 ghost use Rattle.tape_run.specs.SalvageConflicts.{AreConflicts, are_conflicting, conflict_text};
 ghost use Rattle.tape_run.specs.SalvageConflicts.{has_conflict, text_if, are_unlike, end_alike};
-ghost use Rattle.tape_run.specs.SalvageConflicts.{is_counted, have_same_blocks, is_digested};
+ghost use Rattle.tape_run.specs.SalvageConflicts.{is_counted, have_same_blocks, is_digested, as_read};
 ghost use Rattle.tape_run.specs.SalvageLabels.{are_of_one_file, are_same_forms, have_same_form};
 ghost use Rattle.tape_run.specs.SalvageLabels.{form_read, is_form_of, has_other, labels_text};
 ghost use Rattle.tape_run.specs.SalvageLabels.{are_other_labels, are_other_forms, is_named_copy};
 
 use crate::fault::WriteFailed;
 use crate::salvage::copies::{SectionCopy, best_copy, form_of_file, last_section};
-use crate::salvage::walk::Closing;
+use crate::salvage::walk::{Closing, OpenSection};
 use crate::text::write_line;
 use std::io::Write;
 use tape_core::Known;
@@ -149,6 +149,23 @@ fn form_read(known: &Option<Known>, copy: &SectionCopy) -> Option<Known>
     copy.section.form.or(*known)
 }
 
+/// Returns the best copy of a section with the form in which it is read.
+fn as_read(known: &Option<Known>, best: &Option<SectionCopy>) -> Option<SectionCopy>
+    ensures { result ≡ as_read known.now best.now }
+{
+    match best {
+        None => None,
+        Some(copy) => {
+            let form = form_read(known, copy);
+            let section = OpenSection {
+                form,
+                ..copy.section
+            };
+            Some(SectionCopy { section, ..*copy })
+        }
+    }
+}
+
 /// Returns whether blocks of both forms contain records in the same way.
 fn are_same_forms(one: &Known, other: &Known) -> bool
     ensures { result ≡ are_same_forms one.now other.now }
@@ -233,9 +250,9 @@ fn report_labels<P: Write>(
     Ok(true)
 }
 
-/// Reports the copies of each section that contradict the one that is used, and each section whose
-/// labels are not of the same file as those of the first section that was found. Returns whether
-/// there are any.
+/// Reports the copies of each section that contradict the one that is used, in the form in which it
+/// is read, and each section whose labels are not of the same file as those of the first section
+/// that was found. Returns whether there are any.
 ///
 /// # Errors
 ///
@@ -258,7 +275,7 @@ pub fn report_conflicts<P: Write>(
     for before in 0..last {
         let best = best_copy(copies, before + 1);
         first = first.or(best);
-        any = report_section(copies, &best, any, report)?;
+        any = report_section(copies, &as_read(&known, &best), any, report)?;
         any = report_labels(&known, &first, &best, any, report)?;
     }
     Ok(any)

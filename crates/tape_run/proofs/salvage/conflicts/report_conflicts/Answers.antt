@@ -6,8 +6,9 @@ use Rattle.tape_run.proofs.SalvageConflicts.{copies_front, labels_front}
 use Rattle.tape_run.proofs.salvage.conflicts.report_conflicts.Goals as goal
 
 pub loop-before-preserved : goal.loop-before-preserved
-loop-before-preserved g c = next_reported _ c.loop-before.before _ _ _ _ _ _ _ _ _ _ _
+loop-before-preserved g c = next_reported _ c.loop-before.before _ _ _ _ _ _ _ _ _ _ _ _
     c.form_of_file-known.ensures c.loop-before.invariant c.best_copy-best.ensures c.or-first.ensures
+    c.as_read.ensures
     c.in_ok-any.ensures.any c.in_ok-any.ensures.text
     c.in_ok-any-2.ensures.any c.in_ok-any-2.ensures.text
 
@@ -17,8 +18,8 @@ returns-in_err-any-clause-front g c =
     omega (arith, c.loop-before-test.true, c.last_section-last.ensures) in
     on_err c.from_residual.result _ (reported_front _ c.loop-before.before _ _ _ _ _ _ _ _ within
     c.loop-before.invariant c.best_copy-best.ensures c.or-first.ensures
-    (copies_front c.args.copies.now c.or-first.result c.best_copy-best.result _ _
-    c.in_err-any.ensures.front))
+    (copies_front c.args.copies.now _ c.or-first.result c.best_copy-best.result _ _ _
+    c.form_of_file-known.ensures c.as_read.ensures c.in_err-any.ensures.front))
 
 pub returns-in_err-any-2-clause-front : goal.returns-in_err-any-2-clause-front
 returns-in_err-any-2-clause-front g c =
@@ -26,5 +27,5 @@ returns-in_err-any-2-clause-front g c =
     omega (arith, c.loop-before-test.true, c.last_section-last.ensures) in
     on_err c.from_residual-in_err-any-2.result _ (reported_front _ c.loop-before.before _ _ _ _ _ _
     _ _ within c.loop-before.invariant c.best_copy-best.ensures c.or-first.ensures
-    (labels_front c.args.copies.now _ c.or-first.result c.best_copy-best.result _ _ _
-    c.form_of_file-known.ensures c.in_ok-any.ensures.text c.in_err-any-2.ensures.front))
+    (labels_front c.args.copies.now _ c.or-first.result c.best_copy-best.result _ _ _ _
+    c.form_of_file-known.ensures c.as_read.ensures c.in_ok-any.ensures.text c.in_err-any-2.ensures.front))
