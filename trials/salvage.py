@@ -126,7 +126,7 @@ class Section:
 
     def __init__(self, head, image):
         self.head, self.image, self.form, self.data, self.doubt, self.closing = head, image, None, [], None, None
-        self.is_without_second = self.is_doubted = False
+        self.is_without_second = self.is_doubted = self.is_unnamed = False
 
     def possible(self):
         """How many of its data items may be its blocks."""
@@ -152,6 +152,20 @@ class Section:
     def miscount(self):
         counted = self.closing and self.closing["count"] != len(self.data) % 1_000_000
         return self.closing["count"] if counted else None
+
+    def is_counted(self):
+        return bool(self.closing) and self.miscount() is None
+
+    def closes_otherwise(self, other):
+        """Whether both close, but not with as many blocks, or not both as the end of the file."""
+        ends = [it.closing and (len(it.data), it.closing["name"]) for it in (self, other)]
+        return None not in ends and ends[0] != ends[1]
+
+    def is_unlike(self, other):
+        """Whether both count their blocks and contradict each other."""
+        are_read = not any(it.is_unnamed or BAD in it.data for it in (self, other))
+        differs = self.closes_otherwise(other) or are_read and self.data != other.data
+        return self.is_counted() and other.is_counted() and differs
 
     def is_complete(self):
         return bool(self.closing) and self.doubt is None and self.miscount() is None
@@ -253,6 +267,7 @@ def unnamed_at(items, first, image):
         return end, None
     section = Section(trailer, image)
     section.data, section.doubt, section.start, section.is_doubted = data, 0, first, True
+    section.is_unnamed = True
     return close(section, trailer, items, end + 1), section
 
 
@@ -270,11 +285,12 @@ def joinable(copies):
 def contradiction(copies):
     """The first two copies that close otherwise, or have another block with a number; None if there are none. And for each
     block of the first copy the copy that has it first, or None."""
-    base, sure, found = copies[0], list(copies), []
+    base, found = copies[0], []
+    sure = [it for it in copies if it.closing or not it.is_doubted]
     for copy in copies[1:]:
-        if copy.closing and base.closing and (len(copy.data), copy.closing["name"]) != (len(base.data), base.closing["name"]):
+        if copy.closes_otherwise(base):
             return (base, copy), []
-    for at in range(base.possible()):
+    for at in range(base.possible() if base in sure else 0):
         having = [it for it in sure if at < it.possible() and is_block(it.data[at])]
         for copy in having[1:]:
             if copy.data[at] != having[0].data[at]:
@@ -302,7 +318,7 @@ def joined_with(images, set_id, file):
         if not copies or best.closing and best.miscount() is None and BAD not in best.data:
             continue
         differ, found = contradiction(copies)
-        if differ:
+        if differ and not (differ[0] is best and differ[1].closes_otherwise(best)):
             lines.append(f"CONFLICT {number} {differ[0].image + 1} {differ[1].image + 1}")
         is_whole = found and copies[0].closing and not copies[0].is_doubted and None not in found
         if not is_whole and sum(it is not None for it in found) <= best.rank():
@@ -431,8 +447,7 @@ def recovered(images, set_id, file, blocks):
         bests[number] = max(firsts, key=lambda it: (it.rank(), -it.image), default=None)
         for copy in copies:
             best = bests[number]
-            is_other = copy.is_complete() and best.is_complete() and copy.data != best.data
-            if is_other or last > 1 and copy.recording() != best.recording():
+            if copy.is_unlike(best) or last > 1 and copy.recording() != best.recording():
                 made.lines.append(f"CONFLICT {number} {best.image + 1} {copy.image + 1}")
                 made.missing = True
         first = next((bests[it] for it in range(1, number + 1) if bests[it]), None)
