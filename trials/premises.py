@@ -69,7 +69,8 @@ def image(name, blocks, size=800, sect=1, date=" 00000", end="EOF", closing=None
 CARDS = [f"CARD {number}" for number in range(1, 4)]
 FORTY = [f"{number:04}" for number in range(1, 41)]
 WEEKS = [[f"WEEK {week} {number:04}" for number in range(1, 41)] for week in (1, 2)]
-RECORDS = {"cards": CARDS, "forty": FORTY, "week2": WEEKS[1], "first-twenty": FORTY[:20]}
+RECORDS = {"cards": CARDS, "forty": FORTY, "week2": WEEKS[1], "first-twenty": FORTY[:20],
+           "week1-gap": WEEKS[0][:10] + WEEKS[0][20:]}
 
 THREE, FOUR = blocks_of(CARDS, 80), blocks_of(FORTY, 800)
 ONE, TWO = (blocks_of(week, 800) for week in WEEKS)
@@ -136,6 +137,10 @@ IMAGES = {
     "s2bad": image("CARDS", SIX, sect=2, bad=[2]),
     # The file ends with its first section.
     "ends": image("CARDS", FOUR[:2]),
+    # A truncated copy, the second recording, complete, and files of two sets on one volume.
+    "cut": image("CARDS", FOUR, cut=3),
+    "sun": image("CARDS", TWO),
+    "sets": image("CARDS", THREE, 80)[:-8] + image("OTHER", FOUR)[88:].replace(b"ABC001", b"XYZ002"),
     # HDR2 is lost, and then EOF2 too.
     "nohead2": image("CARDS", FOUR).replace(second_label("HDR2", 800), b""),
     "no2": image("CARDS", FOUR).replace(second_label("HDR2", 800), b"").replace(second_label("EOF2", 800), b""),
@@ -490,6 +495,22 @@ SCENES = f"""
 1 extract ABC001 1 out s1.tap s2bad.tap s2lost.tap --again
 ! tape: set fault 1
 - out
+## unpack: salvaged records of another recording than the complete one
+3 unpack u mon-1.tap --salvage
+0 unpack u sun.tap
+> FILE ABC001 1 STAGE KEPT u/ABC001.1.CARDS.stage
+= u/ABC001.1.CARDS week2
+= u/ABC001.1.CARDS.salvaged week1-gap
+## unpack: a file of another set on the same volume
+0 unpack u sets.tap
+> FILE ABC001 1 COMPLETE 3 u/ABC001.1.CARDS
+> FILE XYZ002 1 COMPLETE 40 u/XYZ002.1.OTHER
+= u/XYZ002.1.OTHER forty
+## unpack --verify: a damaged image of a file that agrees
+3 unpack u y.tap cut.tap --manifest
+0 unpack --verify u y.tap cut.tap
+> FILE ABC001 1 EXISTS u/ABC001.1.CARDS
+> INCOMPLETE IMAGE cut.tap
 ## unpack: a section after the one that ends the file
 3 unpack u ends.tap s2.tap
 > FILE ABC001 1 COMPLETE 20 u/ABC001.1.CARDS

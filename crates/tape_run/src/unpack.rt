@@ -119,8 +119,8 @@ pub fn is_read(sight: &Option<ImageSurvey>) -> bool
     }
 }
 
-/// Returns the set of the section that begins first on an image, if any. The image contains nothing
-/// of a file of another set.
+/// Returns the set of the section that begins first on an image, if any. On a valid volume no other
+/// set has sections.
 pub fn set_of(sight: &Option<ImageSurvey>) -> Option<Field<6>>
     ensures { result ≡ set_of sight.now }
 {

@@ -30,6 +30,9 @@ const SITES: &str = "
     put told.aws P\\00\\00\\00\\A0\\00VOL1
     1: list told.aws --explain =>   This does not look like a .tap image.
     ~   It is an AWS image: 'tape convert' makes a SIMH image of it.
+    3: extract ABC001 1 told.txt told.aws --explain
+    ~   told.aws: an AWS image: 'tape convert' makes a SIMH image of it, or add --again
+    3: extract ABC001 1 told.txt told.aws --again --explain
     put told.het P\\00\\00\\00\\A1\\00VOL1
     1: list told.het --explain =>   This does not look like a .tap image.
     ~   It is a HET image:
@@ -206,7 +209,8 @@ const MISSING: &str = "
     !   REEL 1: missing3.tap
     !   Section 1 of file 1 is complete and readable on no image. It begins on
     !   volume ABC001, image missing3.tap.
-    !   Look for another copy of that reel, or for another image of it.
+    !   Look for another copy of that reel, or for another image of it. If it has
+    !   no block count (0), first 'tape merge' all its copies.
     3$ extract ABC001 1 missing.txt missing3.tap missing4.tap --again --explain
     > REEL 1 BAD ITEM
     > REEL 2 SECTION DONE
@@ -223,7 +227,8 @@ const MISSING: &str = "
     3: salvage ABC001 1 missing_one.txt missing4.tap missing3.tap --explain
     !   Section 1 of file 1 is complete and readable on no image. It begins on
     !   volume ABC001, image missing3.tap.
-    !   Look for another copy of that reel, or for another image of it.
+    !   Look for another copy of that reel, or for another image of it. If it has
+    !   no block count (0), first 'tape merge' all its copies.
     # Sections that were recovered earlier are in the stage, and on none of these images.
     fill missing.bin 600 9
     0: write . MIS 1042 MANY=missing.bin --format S --block 18 --form raw
@@ -257,7 +262,7 @@ const MISSING: &str = "
     3: unpack . missing1.tap --explain
     !   The lines say what is missing. After AWAITS and NOT COMPARED, run it again
     !   with all images, old and new; after DIFFERENT unpack into another directory.
-    !   For CONFLICT and INCOMPLETE IMAGE see 'tape survey'.
+    !   For the other lines see 'tape survey', for CONFLICT also 'tape salvage'.
     3: stage ABC001.1.PAYROLL.stage --explain
     !   The stage has only a part of the file, or is damaged. After AWAITS, 'tape
     !   extract --stage' continues from it; after TRUNCATED AT, start a new stage.

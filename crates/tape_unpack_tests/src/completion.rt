@@ -171,6 +171,16 @@ const CONTRARY: &str = "
     > TOTAL 1 complete 0 existing 0 incomplete 0 in conflict 0 not found 0 failed
     at kept/DAY001.1.A 0 11111
     missing kept/DAY001.1.A.stage
+    # Salvaged records are kept with a stage that has other data than the complete file.
+    folder four days
+    0: write four DAY 100000 A=other.bin --format F --record 80 --block 400 --form raw
+    3: unpack days one/DAY001.tap --salvage
+    0: unpack days four/DAY001.tap
+    | FILE DAY001 1 STAGE KEPT days/DAY001.1.A.stage
+    at days/DAY001.1.A 0 22222
+    length days/DAY001.1.A.salvaged 1620
+    0: unpack days four/DAY001.tap
+    length days/DAY001.1.A.salvaged 1620
     # A section of the file after the one that ends it.
     worked ends.tap
     second second.tap

@@ -80,6 +80,12 @@ const VERIFIED: &str = "
     # It has another name now.
     damaged moved.tap 2
     0: unpack --verify seen moved.tap seen1.tap
+    # A truncated copy does not matter if the file agrees.
+    damaged short.tap 9
+    cut short.tap 1000
+    0: unpack --verify seen moved.tap seen1.tap short.tap
+    | FILE ABC001 1 EXISTS seen/ABC001.1.PAYROLL
+    | INCOMPLETE IMAGE short.tap
     # The file was changed, and its checksum in the list.
     put seen/ABC001.1.PAYROLL x
     put seen/MANIFEST.sha256 \

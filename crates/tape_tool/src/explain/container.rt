@@ -26,12 +26,19 @@ fn read_front<R: Runtime>(rt: &R, path: &str, front: &mut [u8]) -> Option<usize>
 }
 
 /// Names on standard error the images of kinds that are not read, such as compressed ones, and the
-/// programs that make SIMH images of them.
-pub fn name_unread<R: Progress>(rt: &R, names: &[&str]) {
+/// programs that make SIMH images of them. Those that are read only in normal form are named if the
+/// images were read as they are.
+pub fn name_unread<R: Progress>(rt: &R, names: &[&str], as_they_are: bool) {
     for name in names {
         let kind = kind_of(rt.host(), rt.alloc(), *name).unwrap_or(Container::Unknown);
-        if !is_simh(kind) && format_of(kind).is_none() {
-            let _ = rt.eprint(format_args!("  {}: {}\n", Shown(*name), container_text(kind)));
+        let end = match format_of(kind) {
+            None => "",
+            Some(_) if as_they_are => ", or add --again",
+            Some(_) => continue,
+        };
+        if !is_simh(kind) {
+            let (name, text) = (Shown(*name), container_text(kind));
+            let _ = rt.eprint(format_args!("  {name}: {text}{end}\n"));
         }
     }
 }

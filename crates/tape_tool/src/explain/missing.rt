@@ -52,13 +52,14 @@ fn text_by_names<R: Progress>(
     awaited: Option<Want>,
     names: &[&str],
 ) -> Option<String> {
-    name_unread(rt, names);
+    let as_they_are = matches!(order, Order::Extract(order) if !order.task.again);
+    name_unread(rt, names, as_they_are);
     if !are_files(rt.host(), names) {
         return None;
     }
     let again = matches!(order, Order::Extract(order) if order.task.again);
     let met = &match order {
-        Order::Extract(_) if !again => find_files(rt.alloc(), &mut Images::new(rt, names)),
+        Order::Extract(_) if as_they_are => find_files(rt.alloc(), &mut Images::new(rt, names)),
         _ => find_files(rt.alloc(), &mut NormalImages::again(rt, names)),
     }
     .ok()?;
@@ -164,7 +165,8 @@ impl Shelf<'_> {
             Some(lacks) if lacks == sect => format!(in self.alloc;
                 "Section {sect} of file {file} is complete and readable on no image. It begins on
   {on}.
-  Look for another copy of that reel, or for another image of it."
+  Look for another copy of that reel, or for another image of it. If it has
+  no block count (0), first 'tape merge' all its copies."
             )?,
             _ if self.again => return Ok(None),
             Some(_) => format!(in self.alloc;
@@ -298,7 +300,7 @@ fn general_text(order: &Order<'_>) -> &'static str {
         Order::Unpack(_) =>
             "The lines say what is missing. After AWAITS and NOT COMPARED, run it again
   with all images, old and new; after DIFFERENT unpack into another directory.
-  For CONFLICT and SECTION AFTER END see 'tape survey'; for INCOMPLETE IMAGE too.",
+  For the other lines see 'tape survey', for CONFLICT also 'tape salvage'.",
         Order::Salvage(_) =>
             "The lines say what is missing, could not be read, or differs. Another copy of
   these reels may have it. After NO FORM or REFUSED use --form blocks.",

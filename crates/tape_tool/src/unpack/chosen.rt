@@ -183,7 +183,7 @@ impl<R: Progress, P: Write> Run<'_, R, P> {
     /// file are complete.
     pub fn choose_listed(&mut self, file: &SetFile) -> Result<(), ToolFault> {
         self.choose_whole(file)?;
-        let names = self.names_of_set(file.set_id)?;
+        let names = self.names_of_file(file)?;
         self.choose_salvaged(file, names.as_slice())
     }
 

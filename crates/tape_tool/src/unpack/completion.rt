@@ -19,9 +19,8 @@ use std::cell::Cell;
 use std::io::Write;
 use std::{io, mem};
 use tape_blocks::Form;
-use tape_label::Field;
 use tape_run::{
-    BlockRun, Content, Place, SalvageTask, SetFile, WriteFailed, salvage_joined, set_of,
+    BlockRun, Content, Locations, Place, SalvageTask, SetFile, WriteFailed, salvage_joined, set_of,
 };
 use tape_set::Position;
 
@@ -171,11 +170,17 @@ pub fn salvage_task(file: &SetFile, form: Form) -> SalvageTask {
 }
 
 impl<'n, R: Progress, P: Write> Run<'n, R, P> {
-    /// Returns the names of the images that may have blocks of a set, in their order.
-    pub fn names_of_set(&self, set_id: Field<6>) -> Result<Vec<&'n str>, ToolFault> {
-        let mut names = Vec::new(self.rt.alloc());
-        for (name, image) in self.names.iter().zip(self.met.images.as_slice()) {
-            if set_of(image).is_none_or(|found| found == set_id) {
+    /// Returns the names of the images that may have blocks of a file, in their order: those whose
+    /// first section is of its set, or whose first labels were not read, and those on which one of
+    /// its sections begins.
+    pub fn names_of_file(&self, file: &SetFile) -> Result<Vec<&'n str>, ToolFault> {
+        let (met, mut names) = (self.met, Vec::new(self.rt.alloc()));
+        for (number, name) in self.names.iter().enumerate() {
+            let Some(image) = met.images.as_slice().get(number) else {
+                continue;
+            };
+            let is_of_set = set_of(image).is_none_or(|set_id| set_id == file.set_id);
+            if is_of_set || begins_on(&met.locations, file, number) {
                 names.push(*name).map_err(|_| OUT_OF_MEMORY)?;
             }
         }
@@ -191,7 +196,7 @@ impl<'n, R: Progress, P: Write> Run<'n, R, P> {
         out: &str,
         runs: &mut Vec<BlockRun>,
     ) -> Result<End, ToolFault> {
-        let names = self.names_of_set(file.set_id)?;
+        let names = self.names_of_file(file)?;
         let mut told = SectionLines::new(self.rt.alloc());
         let end = self.compare_with(file, out, names.as_slice(), &mut told);
         if end == Ok(End::Done) {
@@ -234,7 +239,7 @@ impl<'n, R: Progress, P: Write> Run<'n, R, P> {
         listed: &mut Listed,
         last: &mut LastLine,
     ) -> Result<End, ToolFault> {
-        let names = self.names_of_set(file.set_id)?;
+        let names = self.names_of_file(file)?;
         self.choose_salvaged(file, names.as_slice())?;
         let task = Task {
             form: self.form(),
@@ -249,6 +254,16 @@ impl<'n, R: Progress, P: Write> Run<'n, R, P> {
         }
         end
     }
+}
+
+/// Returns whether a section of a file begins on the image with this number.
+fn begins_on(locations: &Locations, file: &SetFile, number: usize) -> bool {
+    for (key, at) in locations {
+        if key.set_id == file.set_id && key.file == file.file && *at == number {
+            return true;
+        }
+    }
+    false
 }
 
 /// Recovers an incomplete file as `salvage` does, from the images named `names`. It gets its name

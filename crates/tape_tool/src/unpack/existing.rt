@@ -223,7 +223,7 @@ impl<R: Progress, P: Write> Run<'_, R, P> {
         let answer = extract_in_form(session, images, opener, form, &mut existing, last);
         let end = extract_end(answer);
         if end == End::Incomplete && opener.differing.is_empty() {
-            let names = self.names_of_set(file.set_id)?;
+            let names = self.names_of_file(file)?;
             self.choose_salvaged(file, names.as_slice())?;
             return self.compare_salvaged(file, task.out, runs);
         }

@@ -159,7 +159,9 @@ impl<R: Progress, P: Write> Run<'_, R, P> {
     fn unpack_all(&mut self) -> Ended {
         let (choice, met) = (self.choice, self.met);
         let files = met.files.as_slice();
-        let mut all = self.compare_sources()? && met.whole && !files.is_empty();
+        // What is verified may have been recovered from damaged images.
+        let is_read = met.whole || self.order.verify;
+        let mut all = self.compare_sources()? && is_read && !files.is_empty();
         let mut failed = None;
         let mut before: Option<(Field<6>, u16)> = None;
         for file in files {
@@ -280,8 +282,7 @@ impl<R: Progress, P: Write> Run<'_, R, P> {
         }
     }
 
-    /// Recovers a file. Removes the salvaged records of a complete one, since the file then
-    /// contains all that they had.
+    /// Recovers a file.
     fn unpacked(
         &mut self,
         file: &SetFile,
@@ -301,7 +302,6 @@ impl<R: Progress, P: Write> Run<'_, R, P> {
             if !self.order.now {
                 set_time(self.rt.host(), out, &file.created);
             }
-            Salvaged::of(self.rt.alloc(), out)?.remove(self.rt)?;
         } else {
             self.record_awaited(file, stage, &listed)?;
         }
@@ -313,7 +313,7 @@ impl<R: Progress, P: Write> Run<'_, R, P> {
     fn salvage_file(&mut self, file: &SetFile, out: &str, end: End) -> Ended {
         let rt = self.rt;
         let salvaged = Salvaged::of(rt.alloc(), out)?;
-        let names = self.names_of_set(file.set_id)?;
+        let names = self.names_of_file(file)?;
         self.choose_salvaged(file, names.as_slice())?;
         let task = salvage_task(file, self.form());
         let path = salvaged.records.as_str();

@@ -28,27 +28,33 @@ pub fn is_front<R: Host>(rt: &R, file: &SetFile, path: &str, out: &str, form: Fo
 }
 
 impl<R: Progress, P: Write> Run<'_, R, P> {
-    /// Removes the stage of a complete file if the file begins with all that the stage has. Reports
-    /// any other stage, and keeps it: a copy that was read earlier has other data.
+    /// Removes what earlier runs left next to the complete file at `out`. Reports a stage that is
+    /// kept: a copy that was read earlier has other data.
     pub fn end_stage(&mut self, file: &SetFile, out: &str, stage: &str) -> Result<(), ToolFault> {
-        let host = self.rt.host();
-        if let Ok(None) = found(fs::symlink_metadata(host, stage)) {
-            return Ok(());
-        }
-        if is_front(host, file, stage, out, self.form()) {
-            remove(self.rt, stage);
+        if self.remove_remains(file, out, stage)? {
             return Ok(());
         }
         self.tell(file, UnpackOutcome::StageKept, b"", stage)
     }
 
-    /// Removes what a run that was killed left next to the file at `out`, which exists and is
-    /// complete: a stage if the file begins with all that it has, and salvaged records.
-    pub fn remove_remains(&self, file: &SetFile, out: &str, stage: &str) -> Result<(), ToolFault> {
-        if is_front(self.rt.host(), file, stage, out, self.form()) {
+    /// Removes what earlier runs left next to the complete file at `out`: its stage and salvaged
+    /// records. Keeps them and returns false if the stage has other data than the file: the
+    /// records may then be those of another copy.
+    pub fn remove_remains(
+        &self,
+        file: &SetFile,
+        out: &str,
+        stage: &str,
+    ) -> Result<bool, ToolFault> {
+        let host = self.rt.host();
+        if !matches!(found(fs::symlink_metadata(host, stage)), Ok(None)) {
+            if !is_front(host, file, stage, out, self.form()) {
+                return Ok(false);
+            }
             remove(self.rt, stage);
         }
-        Salvaged::of(self.rt.alloc(), out)?.remove(self.rt)
+        Salvaged::of(self.rt.alloc(), out)?.remove(self.rt)?;
+        Ok(true)
     }
 }
 
