@@ -2,7 +2,7 @@
 # examples.sh [PROGRAM]: runs every example of README.md, docs/GUIDE.md and docs/RECIPES.md with
 # PROGRAM, such as an installed /usr/bin/tape (default: ./tape), in a new directory, and compares
 # the output with the page. An example is an indented line that begins with '$ '; the lines below
-# it in the same block are its output, standard output and standard error together. A line
+# it in the same block, empty ones too, are its output, standard output and standard error together. A line
 # '    [status N]' is an exit status other than 0. At the end docs/page.py must draw docs/page.html.
 # The last line printed is the number of examples that differ. Run manually, not in CI.
 here=$(dirname "$(readlink -f "$0")")
@@ -49,20 +49,21 @@ try() {
 # The examples of a page, in order, in one directory.
 page() {
     fresh
-    command='' wanted=''
+    command='' wanted='' gap=''
     while IFS= read -r line; do
         case $line in
         '    $ '*)
             [ -n "$command" ] && try "$command" "$wanted"
-            command=${line#'    $ '} wanted='' ;;
+            command=${line#'    $ '} wanted='' gap='' ;;
         '    '*)
             if [ -n "$command" ]; then
                 [ -n "$wanted" ] && wanted="$wanted"$'\n'
-                wanted="$wanted${line#'    '}"
+                wanted="$wanted$gap${line#'    '}" gap=''
             fi ;;
+        '') gap=$gap$'\n' ;;
         *)
             [ -n "$command" ] && try "$command" "$wanted"
-            command='' wanted='' ;;
+            command='' wanted='' gap='' ;;
         esac
     done <"$1"
     [ -n "$command" ] && try "$command" "$wanted"

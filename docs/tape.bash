@@ -33,7 +33,7 @@ _tape() {
         list) word='--offsets --json' ;;
         show) word='--raw --ebcdic' ;;
         check) word='--files-from --null' ;;
-        survey) word='--files-from --null --tsv --json' ;;
+        survey) word='--files-from --null --all --tsv --json' ;;
         compare) word='--files-from --null --json' ;;
         merge) word='--log --files-from --null' ;;
         convert) word='--format' ;;

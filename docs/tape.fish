@@ -46,7 +46,7 @@ complete -c tape -n '__tape_at "" 1' -s V -l version -d 'Print version'
 complete -c tape -n '__tape_at "" 1' -a list -d 'List the blocks, tape marks and labels of an image'
 complete -c tape -n '__tape_at "" 1' -a show -d 'Show items of an image in full: label fields, or bytes'
 complete -c tape -n '__tape_at "" 1' -a check -d 'Report which file sections are on the images and what is missing'
-complete -c tape -n '__tape_at "" 1' -a survey -d 'Describe each image, and report what is complete and what is missing'
+complete -c tape -n '__tape_at "" 1' -a survey -d 'Report what is complete, missing or damaged, and what to do about it'
 complete -c tape -n '__tape_at "" 1' -a compare -d 'Report whether images can be readings of the same tape'
 complete -c tape -n '__tape_at "" 1' -a merge -d 'Make one good image from several readings of a tape'
 complete -c tape -n '__tape_at "" 1' -a convert -d 'Make a SIMH image of an image of another format'
@@ -69,6 +69,7 @@ complete -c tape -n '__tape_in check' -l null -d 'Names in LIST end with NUL, as
 complete -c tape -n '__tape_at check 1 +' -F
 complete -c tape -n '__tape_in survey' -l files-from -r -F -d 'More names, one per line ('\''-'\'': standard input)'
 complete -c tape -n '__tape_in survey' -l null -d 'Names in LIST end with NUL, as of '\''find -print0'\'''
+complete -c tape -n '__tape_in survey' -l all -d 'Print each image, set, file and copy too, of any number of images'
 complete -c tape -n '__tape_in survey' -l tsv -d 'Print tab-separated values, for scripts'
 complete -c tape -n '__tape_in survey' -l json -d 'Print the same rows as JSON, one object per line'
 complete -c tape -n '__tape_at survey 1 +' -F

@@ -8,7 +8,7 @@ alone, with up to three copies of each volume. A copy is equal; or has one chang
 bytes with an unchanged sum, two exchanged blocks, a block lost or doubled (with or without this in
 the count of the trailer label), or a block in two parts; or belongs to another set with the same
 identifiers; or is damaged. One volume in the middle may be missing. The model compares
-the good copies byte by byte. The rows of `survey --tsv`, the lines of `survey`, the answers and the
+the good copies byte by byte. The rows of `survey --tsv`, all lines of `survey`, the answers and the
 files of `unpack` must be those of the model: each conflict is reported with both images, nothing else
 is, each image with such a copy is in conflict and no other, and no file in conflict is recovered.
 Prints each wrong result, and counts; exit status 1 if there is one.
@@ -36,6 +36,19 @@ def first_label(name, case, file, sect, blocks):
 
 def second_label(name):
     return label((f"{name}F{BLOCK:05}{RECORD:05}{'':35}00", 80))
+
+
+def fault_of(section):
+    return "has unreadable blocks" if section.damage is not None else "has a wrong block count"
+
+
+def counted(number, word):
+    return f"{number} {word}{'s' * (number != 1)}"
+
+
+def totals(states, words):
+    """How many are in each state: the first one always."""
+    return ": " + ", ".join(f"{states.count(word)} {word}" for word in words if word in states or word == words[0])
 
 
 class Section:
@@ -169,12 +182,19 @@ class Case:
                              names[others[0]] if others else "", "CONFLICT" if others else "AGREE"])
         return rows, conflicts
 
-    def lines(self, rows):
-        """The same as text."""
+    def runs(self, rows):
+        """The sections of rows as text, with the row of the first: those in a row with the same copies together."""
+        runs = []
         for row in rows:
-            said = (f"CONFLICT, {row[5]} and {row[6]} differ ('tape compare' shows where)" if row[6]
-                    else f"good, {row[4]} copies agree")
-            yield f"{row[1]} file {row[2]} section {row[3]}: {said}"
+            file, sect = int(row[2]), int(row[3])
+            before = runs[-1] if runs else None
+            if before and before[0][4:] == row[4:] and (file, sect) in ((before[2][0] + 1, 1), (before[2][0], before[2][1] + 1)):
+                before[2] = file, sect
+            else:
+                runs.append([row, (file, sect), (file, sect)])
+        for row, first, last in runs:
+            until = f" to file {last[0]} section {last[1]}" if last != first else ""
+            yield f"{self.set_id} file {first[0]} section {first[1]}{until}: ", row
 
     def problems(self, file):
         """The damaged and missing sections of a file, unless it is complete, as the last column of its row has them."""
@@ -214,25 +234,91 @@ class Case:
 
     def states(self):
         """The state of each image: in conflict if it has a good copy of a section of which good copies differ."""
-        disputed = {number for copies in self.copies().values() for number, _ in copies
-                    if any(section.blocks != copies[0][1].blocks for _, section in copies)}
-        return ["conflict" if number in disputed
-                else "ok" if all(section.is_good() for section in sections) else "damaged"
+        return ["in conflict" if self.disputed(number) else "ok" if all(section.is_good() for section in sections) else "damaged"
                 for number, (_, sections) in enumerate(self.images)]
 
-    def damages(self):
-        """The lines about the damaged sections of all images, in their order."""
-        return [f"    section {section.sect} of file {section.file} has {fault}, blocks found: {len(section.blocks)}"
-                for _, sections in self.images for section in sections if not section.is_good()
-                for fault in ["unreadable blocks" if section.damage is not None else "a wrong block count"]]
+    def disputed(self, number):
+        """The first good section on an image of which other good copies differ."""
+        copies = self.copies()
+        return next((section for section in self.images[number][1] if section.is_good()
+                     and len({tuple(each.blocks) for _, each in copies[section.file, section.sect]}) > 1), None)
 
-    def tally(self):
-        """How many images there are, and how many of them are in each state."""
+    def sight(self, number, column, indent):
+        """The lines about an image."""
+        volume, sections = self.images[number]
+        yield f"{column}volume VOL{volume + 1:03}, {len(sections)} section{'s' * (len(sections) != 1)}"
+        bad = sum(section.damage is not None for section in sections)
+        if bad:
+            yield f"{indent}{bad} unreadable block{'s' * (bad != 1)}"
+        for section in sections:
+            if not section.is_good():
+                yield (f"{indent}section {section.sect} of file {section.file} {fault_of(section)}, "
+                       f"blocks found: {len(section.blocks)}")
+        if section := self.disputed(number):
+            yield f"{indent}section {section.sect} of file {section.file}: good copies differ"
+
+    def survey(self, names, rows, conflicts):
+        """All lines of a survey in words, by what GUIDE.md says of its lists."""
+        copies, where, found = self.copies(), {}, {}
+        for number, (volume, sections) in enumerate(self.images):
+            for section in sections:
+                key = section.file, section.sect
+                found.setdefault(key, (f"VOL{volume + 1:03}", section))
+                where[key] = copies[key][0][0] if key in copies else number
+        damaged = [number for number, (_, sections) in enumerate(self.images) if not all(s.is_good() for s in sections)]
+        spare = [number for number in damaged
+                 if all((s.file, s.sect) in copies for s in self.images[number][1] if not s.is_good())]
+        files = {file for file, _ in found}
+
+        def sections_in(state):
+            for file in range(1, self.greatest() + 1):
+                before = max((each for each in files if each < file), default=0)
+                if state == "MISSING" and file in files and file > before + 1:
+                    numbers = f" {before + 1}" if file == before + 2 else f"s {before + 1}-{file - 1}"
+                    yield f"  {self.set_id} file{numbers}"
+                for cell in self.problems(file).split(";")[:-1] if file in files else ():
+                    numbers, said = cell.split(":")
+                    first = (file, int(numbers.split("-")[0]) - 1)
+                    if said == state:
+                        on = f", after volume {found[first][0]} ({names[where[first]]})" if first in found else ""
+                        yield f"  {self.set_id} file {file} FILE{file}: section{'s' * ('-' in numbers)} {numbers}{on}"
+
+        bad = [f"  {self.set_id} file {key[0]} FILE{key[0]}: section {key[1]} {fault_of(section)} on {volume} ({names[where[key]]})"
+               for key, (volume, section) in found.items() if key not in copies]
+        differ = [f"  {text}good copies on {row[5]} and {row[6]} differ" for text, row in self.runs([row for row in rows if row[6]])]
+        for heading, lines in (
+                ("In conflict: find out which is right ('tape compare', 'tape list')", differ),
+                ("Complete on no image: read or copy it again; 'tape unpack' joins copies", bad),
+                ("Missing: look for the reel, or for other images of it", list(sections_in("MISSING"))),
+                ("Damaged, but other images have the sections or the volume whole", [f"  {names[n]}" for n in spare])):
+            yield from [heading, *lines] * (lines != [])
         states = self.states()
-        count, ok = len(states), states.count("ok")
-        conflict, damaged = states.count("conflict"), states.count("damaged")
-        return (f"{count} image{'s' * (count != 1)}: {ok} ok" + f", {conflict} in conflict" * (conflict > 0)
-                + f", {damaged} damaged" * (damaged > 0))
+        if spare or differ or bad or list(sections_in("MISSING")):
+            yield ""
+        yield counted(len(states), "image") + totals(states, ("ok", "in conflict", "damaged"))
+        fates = ["in conflict" if file in conflicts else "not found" if file not in files else
+                 "complete" if self.text(file) is not None else "incomplete" for file in range(1, self.greatest() + 1)]
+        yield "1 set, " + counted(len(fates), "file") + totals(fates, ("complete", "in conflict", "incomplete", "not found"))
+        agreed = [row for row in rows if not row[6]]
+        if agreed:
+            yield counted(len(agreed), "section") + " with several good copies that agree"
+        if self.is_sound(conflicts):
+            yield "All files are complete, and every image was read to its end."
+        yield ""
+        for number, state in enumerate(states):
+            yield from self.sight(number, f"{names[number]:<24}  {state:<13}", "    ")
+        yield f"Set {self.set_id}: {fates.count('complete')} of {len(fates)} files complete"
+        line = "  Volumes: "
+        for volume in self.listed():
+            if not line.endswith(": ") and len(line) + 2 + len(volume) > 78:
+                yield line + ","
+                line = " " * 11
+            line += (", " if line.strip() and not line.endswith(": ") else "") + volume
+        yield line
+        for file, fate in enumerate(fates, 1):
+            if file in files:
+                yield f"{file:4} {'FILE' + str(file):<17}              {fate}"
+        yield from (f"{text}good, {row[4]} copies agree" for text, row in self.runs(agreed))
 
     def text(self, file):
         """The records of a file, or None if a section has no good copy."""
@@ -275,7 +361,7 @@ def try_case(trial, case, folder, number):
     told = [line.split("\t") for line in done.stdout.splitlines()]
     trial.expect([row for row in told if row[0] == "COPIES"] == rows, f"{number}: rows {done.stdout}\nwanted {rows}")
     states = [row[2] for row in told if row[0] == "IMAGE"]
-    wanted = [{"ok": "WHOLE", "damaged": "PARTIAL", "conflict": "CONFLICT"}[state] for state in case.states()]
+    wanted = [{"ok": "WHOLE", "damaged": "PARTIAL", "in conflict": "CONFLICT"}[state] for state in case.states()]
     trial.expect(states == wanted, f"{number}: states {states}, wanted {wanted}")
     marked = {int(row[2]) for row in told if row[0] == "FILE" and row[8] == "CONFLICT"}
     trial.expect(marked == {f for f in conflicts}, f"{number}: files in conflict {marked}, expected {conflicts}")
@@ -284,21 +370,15 @@ def try_case(trial, case, folder, number):
         trial.expect(told[file] == case.problems(file), f"{number}: file {file}: {told[file]!r}, not {case.problems(file)!r}")
     trial.expect(done.returncode == (0 if sound else 3), f"{number}: survey --tsv, status {done.returncode}")
 
-    done = trial.run(folder, "survey", *names)
-    lines = done.stdout.splitlines()
-    copies = [line for line in lines if " section " in line and (": good, " in line or ": CONFLICT, " in line)]
-    trial.expect(copies == list(case.lines(rows)), f"{number}: lines {done.stdout}")
-    wanted = [f"{name:<24}  {state:<13}volume " for name, state in zip(names, case.states())]
-    images = [line for line in lines if ".tap  " in line]
-    right = len(images) == len(wanted) and all(map(str.startswith, images, wanted))
-    trial.expect(right, f"{number}: images {images}, wanted {wanted}")
-    damages = [line for line in lines if "blocks found: " in line]
-    trial.expect(damages == case.damages(), f"{number}: damages {damages}, wanted {case.damages()}")
+    done = trial.run(folder, "survey", "--all", *names)
+    wanted = list(case.survey(names, rows, conflicts))
+    trial.expect(done.stdout.splitlines() == wanted, f"{number}: survey {done.stdout}\nwanted " + "\n".join(wanted))
     trial.expect(done.returncode == (0 if sound else 3), f"{number}: survey, status {done.returncode}")
-    volumes = [line[11:] for line in lines if line.startswith("  Volumes: ")]
-    trial.expect(volumes == [", ".join(case.listed())], f"{number}: volumes {volumes}, wanted {case.listed()}")
-    trial.expect(case.tally() in lines[-2:], f"{number}: no line {case.tally()!r} in {lines[-2:]}")
-    trial.expect(lines[-1].startswith("All files are complete") == sound, f"{number}: the last line {lines[-1]!r}")
+    few = trial.run(folder, "survey", *names).stdout.splitlines()
+    if len(names) > 5:
+        at = len(wanted) - wanted[::-1].index("")
+        wanted[at:] = ["With --all: also each image, each set with its volumes and files, and copies."]
+    trial.expect(few == wanted, f"{number}: survey of {len(names)} images: {few}")
 
     out = folder / "out"
     out.mkdir()

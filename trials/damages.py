@@ -163,7 +163,7 @@ class Trial:
         """Whether each file of which HDR1 or EOF1 is readable is named."""
         there = {number for at, (kind, number, _) in enumerate(items) if kind in ("HDR1", "EOF1") and at not in hits}
         named = {number for number, rows in lines.items() if rows[0][0] != "NOT"}
-        shown = {int(number) for number in re.findall(r"^ {0,4}(\d+) (?!\(no label)", survey, re.M)}
+        shown = {int(number) for number in re.findall(r"^ {1,3}(\d+) ", survey, re.M)}
         for command, found in (("unpack", named), ("survey", shown)):
             self.counts[f"not named by {command}"] += len(there - found)
             if self.is_mentioned:

@@ -168,12 +168,12 @@ CHECK_REPORTS = {
     "o": dict.fromkeys((0, 3), IMAGES + r"IMAGE \d+ 0 NOT OPENED\n" + IMAGES + SECTIONS),
     "r": dict.fromkeys((0, 3), IMAGES + r"IMAGE \d+ \d+ FAULT 5 \d+\n" + IMAGES + SECTIONS),
 }
-SIGHTS = r"(\w+\.tap +.*\n(    .*\n)*)*"
-SETS = r"(Set .*\n(  .*\n)*)*"
+LISTS = r"([A-Z].*\n(  .*\n)+)*"
+REST = r"([A-Z0-9].*\n)+\n(\w+\.tap +.*\n(    .*\n)*)*(Set .*\n(  .*\n)*)*"
 SURVEY_REPORTS = {
-    "o": {3: SIGHTS + r"\w+\.tap +not opened\n" + SIGHTS + SETS + r"2 images: [01] ok, [12] not opened\n"},
-    "r": {3: SIGHTS + r"\w+\.tap +.*\n(    .*\n)*    image fault 5 at byte \d+.*\n(    .*\n)*" + SIGHTS
-        + SETS + r"2 images: [01] ok, [12] damaged\n"},
+    "o": {3: r"Not opened: .*\n(  \w+\.tap\n)+" + LISTS + r"\n2 images: [01] ok, [12] not opened\n" + REST},
+    "r": {3: LISTS + r"\n2 images: [01] ok, [12] damaged\n([A-Z0-9].*\n)+\n(\w+\.tap +.*\n(    .*\n)*)*"
+        r"\w+\.tap +damaged .*\n(    .*\n)*    image fault 5 at byte \d+.*\n(    .*\n)*(\w+\.tap +.*\n(    .*\n)*)*(Set .*\n(  .*\n)*)*"},
 }
 # memory, files and stages as above; a fault inside a file is also reported by the file's line
 UNPACK = {

@@ -224,13 +224,13 @@ SCENES = f"""
 ? u/ABC001.1.CARDS forty
 ## survey and unpack: a trailer label of another file
 3 survey over.tap
->    1 TUE.BCK            1985-05-22  conflict: labels of different files have this number
+>   ABC001 file 1 TUE.BCK: labels of different files, on over.tap
 3 unpack u over.tap
 > FILE ABC001 1 CONFLICT
 - u/ABC001.1.TUE.BCK
 ## a lost HDR2: the trailer label says that there was one
 3 survey nohead2.tap
->             HDR2 is lost on each image: the record format is unknown
+>   ABC001 file 1 CARDS: HDR2 is lost on each image (nohead2.tap)
 3 unpack u nohead2.tap --list
 > FILE ABC001 1 LACKS 1 u/ABC001.1.CARDS.stage
 0 unpack u nohead2.tap
@@ -247,6 +247,7 @@ SCENES = f"""
 = u/ABC001.1.CARDS forty
 ## a lost HDR2 and EOF2: another image has them
 3 survey no2.tap y.tap
+>   ABC001 file 1 CARDS: HDR2 is lost on an image, and was found on another
 0 unpack u no2.tap y.tap
 = u/ABC001.1.CARDS forty
 0 extract ABC001 1 out no2.tap y.tap --again

@@ -110,10 +110,10 @@ def lines_of_volumes(text):
 
 
 def check_volumes(trial, shelf, there, names):
-    """The volumes of each set, with those that are missing; and the lines are at most 100 columns long."""
-    done = trial.run("survey", names=names)
+    """The volumes of each set, with those that are missing; and the lines are at most 80 columns long."""
+    done = trial.run("survey", "--all", names=names)
     trial.expect((done.returncode, done.stderr) == (3, notices(names)), f"survey: status {done.returncode}, {done.stderr!r}")
-    trial.expect(all(len(line) <= 100 for line in done.stdout.splitlines() if line.startswith("  ")), "survey: a long line")
+    trial.expect(all(len(line) <= 80 for line in done.stdout.partition("\nSet ")[2].splitlines()), "survey: a long line")
     told, missing, by_hand = lines_of_volumes(done.stdout), 0, 0
     for set_id in shelf.files:
         reels = [reel for reel in there if reel.set_id == set_id]

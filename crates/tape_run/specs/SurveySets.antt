@@ -6,7 +6,7 @@ use Rattle.tape_run.specs.{declared.section.Entry.Entry, declared.survey.files.F
 use Rattle.tape_run.specs.{declared.survey.sets.Standing.Standing, Noted.is_good, Passing.Told}
 use Rattle.tape_run.specs.declared.survey.sets.Standing.TheVariants.{Missing, Misfit}
 use Rattle.tape_run.specs.declared.survey.problems.Problem.{Problem}
-use Rattle.tape_run.specs.{SurveyCopies.dispute_at, SurveyCopies.is_agreed, SurveyGlance.one_if}
+use Rattle.tape_run.specs.{SurveyCopies.is_agreed}
 use Rattle.tape_run.specs.{SurveyProblems.problems_in, SurveyRead.Found}
 use Rattle.tape_run.specs.Lacks.{entry_at, key_at, good_end, lack_of, found_all}
 use Rattle.tape_run.specs.SurveyFiles.{Filed, note_at, file_key, any_differs, any_lost, any_misfit}
@@ -56,19 +56,6 @@ flaw_by (Some note) = flaw_of note
 -- the same for this file
 abbrev pub flaw_in : Found → List ℕ → ℕ → Option Flaw
 flaw_in d set_id file = flaw_by (note_at d.files (file_key set_id file))
-
--- the file is complete, no label of another file has its number, no good copies of its sections
--- differ, and it is readable
-abbrev pub is_sure : Found → List ℕ → ℕ → Bool
-is_sure d set_id file =
-    let key = file_key set_id file in
-    is_whole_file d.sections set_id file && (not (is_mixed (note_at d.files key))
-    && (is_none (dispute_at d.copies key) && is_none (flaw_in d set_id file)))
-
--- the number of complete files among n files of a set, from this one on
-abbrev pub sure_files : Found → List ℕ → ℕ → ℕ → ℕ
-sure_files d set_id file zero = 0
-sure_files d set_id file (suc n) = one_if (is_sure d set_id file) + sure_files d set_id (file + 1) n
 
 -- it is known that this section ends its file
 abbrev pub is_known_end : Option Bool → Bool

@@ -39,17 +39,22 @@ use words::words;
 /// The form in which a survey is printed.
 #[derive(Clone, Copy)]
 pub enum Wording {
-    /// In words, for people.
+    /// In words, for people: what needs attention, totals and, of at most five images, the rest.
     Words,
+    /// The same with the rest for any number of images.
+    Full,
     /// In tab-separated rows, for scripts.
     Rows,
 }
 
-/// Describes the images named `names`: prints a line for each; then each set that was found, with
-/// its files; then each section with more than one complete copy; and a last line if all is well.
-/// As rows, each section precedes the files, and there is no last line. Returns whether all is
-/// well: nothing is missing, each section that was found has a complete copy, no complete copies
-/// differ, no number has labels of different files, and every image was read completely.
+/// Describes the images named `names`: prints what needs attention; then the numbers of images,
+/// sets and files, and whether all is well; and then, of at most five images or as `Full`, each
+/// image, each set with its files, and the sections with several complete copies that agree. As
+/// rows, each image, section, file and section with several copies has a row.
+///
+/// Returns whether all is well: nothing is missing, each section that was found has a complete
+/// copy, no complete copies differ, no number has labels of different files, and every image was
+/// read completely.
 ///
 /// Images are opened in the order of their names, each read to its end or to a fault, and then
 /// closed. Nothing is printed before, since a copy on any image may differ from one on the first.
@@ -103,7 +108,8 @@ fn survey_text(
     let all = is_all(findings)?;
     let text = match wording {
         Wording::Rows => rows(findings, sights, names)?,
-        Wording::Words => words(findings, sights, names, all)?,
+        Wording::Words => words(findings, sights, names, false, all)?,
+        Wording::Full => words(findings, sights, names, true, all)?,
     };
     Ok((text, all))
 }

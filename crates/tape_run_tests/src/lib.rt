@@ -73,6 +73,8 @@ mod survey_copies;
 #[cfg(test)]
 mod survey_fits;
 #[cfg(test)]
+mod survey_list;
+#[cfg(test)]
 mod survey_mixed;
 #[cfg(test)]
 mod survey_onward;

@@ -7,25 +7,32 @@ use std::alloc::{AllocError, Global};
 use std::test::Fail;
 use tape_run::{Wording, survey_to};
 
-const AGREED: &str = "one.tap                   ok           volume ABC001, 1 section
+const AGREED: &str = "2 images: 2 ok
+1 set, 1 file: 1 complete
+1 section with several good copies that agree
+All files are complete, and every image was read to its end.
+
+one.tap                   ok           volume ABC001, 1 section
 two.tap                   ok           volume ABC001, 1 section
 Set ABC001: 1 of 1 files complete
   Volumes: ABC001
    1 PAYROLL                        complete
 ABC001 file 1 section 1: good, 2 copies agree
-2 images: 2 ok
-All files are complete, and every image was read to its end.
 ";
 
-const DISPUTED: &str = "one.tap                   conflict     volume ABC001, 1 section
+const DISPUTED: &str = "In conflict: find out which is right ('tape compare', 'tape list')
+  ABC001 file 1 section 1: good copies on one.tap and two.tap differ
+
+2 images: 0 ok, 2 in conflict
+1 set, 1 file: 0 complete, 1 in conflict
+
+one.tap                   in conflict  volume ABC001, 1 section
     section 1 of file 1: good copies differ
-two.tap                   conflict     volume ABC001, 1 section
+two.tap                   in conflict  volume ABC001, 1 section
     section 1 of file 1: good copies differ
 Set ABC001: 0 of 1 files complete
   Volumes: ABC001
-   1 PAYROLL                        conflict: good copies of a section differ
-ABC001 file 1 section 1: CONFLICT, one.tap and two.tap differ ('tape compare' shows where)
-2 images: 0 ok, 2 in conflict
+   1 PAYROLL                        in conflict
 ";
 
 const ROWS_OF_THREE: &str =
@@ -125,13 +132,17 @@ fn copies_that_end_otherwise(rt: HostRuntime) -> Result<(), Fail> {
 }
 
 /// A whole volume, and a second section of its only file.
-const BEYOND: &str = "1.tap                     ok           volume ABC001, 1 section
+const BEYOND: &str = "Suspect: look at it with 'tape list'
+  ABC001 file 1 PAYROLL: section 2 is good on ABC002, after the file's end (2.tap)
+
+2 images: 2 ok
+1 set, 1 file: 1 complete
+
+1.tap                     ok           volume ABC001, 1 section
 2.tap                     ok           volume ABC002, 1 section
 Set ABC001: 1 of 1 files complete
   Volumes: ABC001
    1 PAYROLL                        complete
-ABC001 file 1 section 2 is good on ABC002: the file ends before it
-2 images: 2 ok
 ";
 
 #[test]

@@ -136,30 +136,36 @@ fn word_of(label: &str) -> &'static str {
 
 /// Returns the survey of one image with one file.
 fn lines_of(alloc: Global, label: &str, misfit: Option<u32>) -> Result<String, AllocError> {
-    let (first, last) = match misfit {
+    let (first, state, number, word, last) = match misfit {
         None => (
             String::new(alloc),
+            "1 complete",
+            1,
+            "complete",
             "All files are complete, and every image was read to its end.\n",
         ),
         Some(block) => {
-            let front = "        section 1 is not readable: block";
+            let front = "'tape salvage --form blocks' its blocks\n  ABC001 file 1 PAYROLL";
+            let text = format!(in alloc; "section 1, block {block} is not as HDR2 states")?;
             (
-                format!(in alloc; "{front} {block} is not in the format that HDR2 states\n")?,
+                format!(in alloc;
+                    "Unsupported: 'tape list' shows it, {front}: {text} (one.tap)\n\n"
+                )?,
+                "0 complete, 1 not readable",
+                0,
+                "not readable",
                 "",
             )
         }
     };
-    let (number, word) = match misfit {
-        None => (1, "complete"),
-        Some(_) => (0, "incomplete"),
-    };
+    let counts = format!(in alloc; "{first}1 image: 1 ok\n1 set, 1 file: {state}\n{last}")?;
     let image = "one.tap                   ok           volume ABC001, 1 section";
     let set = format!(in alloc; "Set ABC001: {number} of 1 files complete\n  Volumes: ABC001")?;
     let file = format!(in alloc;
         "   1 PAYROLL                        {word}{}",
         word_of(label)
     )?;
-    format!(in alloc; "{image}\n{set}\n{file}\n{first}1 image: 1 ok\n{last}")
+    format!(in alloc; "{counts}\n{image}\n{set}\n{file}\n")
 }
 
 /// A file is complete only if each block is in the format of its HDR2.

@@ -21,8 +21,11 @@ const HDR1_LATER: &str = "HDR1PAYROLL          ABC00100020001000100 00000 00000 
 const EOF_LATER: &str = "EOF1PAYROLL          ABC00100020001000100 00000 00000 000001";
 
 /// The lines about a reel without second labels, and one that has them at both ends of its file.
-const MIXED: &str =
-    "one.tap                   ok           volume RT11A, written by DECRT11A, 1 section
+const MIXED: &str = "2 images: 2 ok
+2 sets, 2 files: 2 complete
+All files are complete, and every image was read to its end.
+
+one.tap                   ok           volume RT11A, written by DECRT11A, 1 section
 two.tap                   ok           volume ABC001, 1 section
 Set RT11A: 1 of 1 files complete
   Volumes: RT11A
@@ -30,22 +33,23 @@ Set RT11A: 1 of 1 files complete
 Set ABC001: 1 of 1 files complete
   Volumes: ABC001
    1 PAYROLL                        complete
-2 images: 2 ok
-All files are complete, and every image was read to its end.
 ";
 
 /// The lines if the reel lost its HDR2.
-const MIXED_LOST: &str =
-    "one.tap                   ok           volume RT11A, written by DECRT11A, 1 section
+const MIXED_LOST: &str = "Unsupported: 'tape list' shows it, 'tape salvage --form blocks' its blocks
+  RT11A file 1 SWAP  .SYS: HDR2 is lost on each image (one.tap)
+
+2 images: 2 ok
+2 sets, 2 files: 1 complete, 1 not readable
+
+one.tap                   ok           volume RT11A, written by DECRT11A, 1 section
 two.tap                   ok           volume ABC001, 1 section
 Set RT11A: 0 of 1 files complete
   Volumes: RT11A
-   1 SWAP  .SYS                     incomplete, blocks (no HDR2)
-            HDR2 is lost on each image: the record format is unknown
+   1 SWAP  .SYS                     not readable, blocks (no HDR2)
 Set ABC001: 1 of 1 files complete
   Volumes: ABC001
    1 PAYROLL                        complete
-2 images: 2 ok
 ";
 
 /// Returns a reel of RT-11, whose header and trailer groups end with these labels.

@@ -38,7 +38,7 @@ const ITEMS: usize = 25;
 
 /// What is done to one item of the volume.
 #[derive(Clone, Copy)]
-enum Damage {
+pub enum Damage {
     Unreadable,
     Lost,
 }
@@ -66,7 +66,7 @@ fn add(image: &mut Image, item: usize, bad: bool) -> Result<(), AllocError> {
 }
 
 /// Returns the volume with one item damaged.
-fn volume(alloc: Global, hit: usize, damage: Damage) -> Result<Image, AllocError> {
+pub fn volume(alloc: Global, hit: usize, damage: Damage) -> Result<Image, AllocError> {
     let mut image = Image::new(alloc);
     for before in 0..ITEMS {
         let item = before + 1;
@@ -123,7 +123,16 @@ fn all_files_are_listed(rt: HostRuntime) -> Result<(), Fail> {
     Ok(())
 }
 
-const SECOND_TRAILER: &str = "v.tap                     damaged      volume ABC001, 3 sections
+const SECOND_TRAILER: &str =
+    "Labels or marks damaged, or cut off: read the reel, or copy the image, again
+  v.tap                     volume ABC001, 3 sections
+      1 unreadable block
+      item 8 is neither a label nor a tape mark: counting continues
+
+1 image: 0 ok, 1 damaged
+1 set, 3 files: 3 complete
+
+v.tap                     damaged      volume ABC001, 3 sections
     1 unreadable block
     item 8 is neither a label nor a tape mark: counting continues
 Set ABC001: 3 of 3 files complete
@@ -131,23 +140,34 @@ Set ABC001: 3 of 3 files complete
    1 ALPHA                          complete
    2 BRAVO                          complete
    3 CHARLIE                        complete
-1 image: 0 ok, 1 damaged
 ";
 
-const FIRST_TRAILER: &str = "v.tap                     damaged      volume ABC001, 3 sections
+const FIRST_TRAILER: &str = "Complete on no image: read or copy it again; 'tape unpack' joins copies
+  ABC001 file 1 ALPHA: section 1 is truncated on ABC001 (v.tap)
+
+1 image: 0 ok, 1 damaged
+1 set, 3 files: 2 complete, 1 incomplete
+
+v.tap                     damaged      volume ABC001, 3 sections
     1 unreadable block
     item 7 is not EOF1 or EOV1 of its section: counting continues
     section 1 of file 1 is truncated, blocks found: 1
 Set ABC001: 2 of 3 files complete
   Volumes: ABC001
    1 ALPHA                          incomplete
-        section 1 is truncated on ABC001: no good copy
    2 BRAVO                          complete
    3 CHARLIE                        complete
-1 image: 0 ok, 1 damaged
 ";
 
-const HEADER: &str = "v.tap                     damaged      volume ABC001, 2 sections
+const HEADER: &str = "Complete on no image: read or copy it again; 'tape unpack' joins copies
+  ABC001 file 2 BRAVO: section 1 is truncated on ABC001
+Unsupported: 'tape list' shows it, 'tape salvage --form blocks' its blocks
+  ABC001 file 2 BRAVO: no HDR2 with a supported record format (v.tap)
+
+1 image: 0 ok, 1 damaged
+1 set, 3 files: 2 complete, 1 incomplete
+
+v.tap                     damaged      volume ABC001, 2 sections
     1 unreadable block
     item 10 is neither HDR1 nor a tape mark: counting continues
     section 1 of file 2 is truncated, blocks found: 0
@@ -155,13 +175,18 @@ Set ABC001: 2 of 3 files complete
   Volumes: ABC001
    1 ALPHA                          complete
    2 BRAVO                          incomplete
-            no HDR2 with a supported record format was read
-        section 1 is truncated on ABC001: no good copy
    3 CHARLIE                        complete
-1 image: 0 ok, 1 damaged
 ";
 
-const SECOND_HEADER: &str = "v.tap                     damaged      volume ABC001, 3 sections
+const SECOND_HEADER: &str = "Complete on no image: read or copy it again; 'tape unpack' joins copies
+  ABC001 file 2 BRAVO: section 1 has unreadable blocks on ABC001 (v.tap)
+Unsupported: 'tape list' shows it, 'tape salvage --form blocks' its blocks
+  ABC001 file 2 BRAVO: no HDR2 with a supported record format (v.tap)
+
+1 image: 0 ok, 1 damaged
+1 set, 3 files: 2 complete, 1 incomplete
+
+v.tap                     damaged      volume ABC001, 3 sections
     1 unreadable block
     item 11 is not HDR2: counting continues
     section 1 of file 2 has unreadable blocks, blocks found: 1
@@ -169,21 +194,21 @@ Set ABC001: 2 of 3 files complete
   Volumes: ABC001
    1 ALPHA                          complete
    2 BRAVO                          incomplete
-            no HDR2 with a supported record format was read
-        section 1 has unreadable blocks on ABC001: no good copy
    3 CHARLIE                        complete
-1 image: 0 ok, 1 damaged
 ";
 
-const VOLUME: &str =
-    "v.tap                     unsupported  no labels; its first block has 80 bytes, 3 \
-         sections
+const VOLUME: &str = "Unsupported: 'tape list' shows it, 'tape salvage --form blocks' its blocks
+  v.tap                     no labels; its first block has 80 bytes, 3 sections
+
+1 image: 0 ok, 1 unsupported
+1 set, 3 files: 3 complete
+
+v.tap                     unsupported  no labels; its first block has 80 bytes, 3 sections
 Set ABC001: 3 of 3 files complete
   Volumes: (none)
    1 ALPHA                          complete
    2 BRAVO                          complete
    3 CHARLIE                        complete
-1 image: 0 ok, 1 unsupported
 ";
 
 /// Fails unless the survey of the volume with one item damaged has these lines.
@@ -237,13 +262,20 @@ fn an_older_recording_is_not_counted(rt: HostRuntime) -> Result<(), Fail> {
         add(&mut image, item, false)?;
     }
     image.end()?;
-    let lines = "v.tap                     damaged      volume ABC001, 1 section
+    let lines = "Labels or marks damaged, or cut off: read the reel, or copy the image, again
+  v.tap                     volume ABC001, 1 section
+      1 unreadable block
+      item 8 is neither a label nor a tape mark: counting continues
+
+1 image: 0 ok, 1 damaged
+1 set, 1 file: 1 complete
+
+v.tap                     damaged      volume ABC001, 1 section
     1 unreadable block
     item 8 is neither a label nor a tape mark: counting continues
 Set ABC001: 1 of 1 files complete
   Volumes: ABC001
    1 ALPHA                          complete
-1 image: 0 ok, 1 damaged
 ";
     survey(
         &rt,

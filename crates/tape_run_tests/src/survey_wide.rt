@@ -33,37 +33,44 @@ const SECONDS: &[(&[&str], &[u8], &str)] = &[
     (&[], b"x", ", blocks (no HDR2)"),
 ];
 
-/// The lines before the words about the format, and after them.
-const COMPLETE: &str = "one.tap                   ok           volume ABC001, 1 section
+/// The lines before the words about the format.
+const COMPLETE: &str = "1 image: 1 ok
+1 set, 1 file: 1 complete
+All files are complete, and every image was read to its end.
+
+one.tap                   ok           volume ABC001, 1 section
 Set ABC001: 1 of 1 files complete
   Volumes: ABC001
    1 PAYROLL                        complete";
 
-const ALL: &str = "1 image: 1 ok
+const AGREED: &str = "2 images: 2 ok
+1 set, 2 files: 2 complete
+1 section with several good copies that agree
 All files are complete, and every image was read to its end.
-";
 
-const AGREED: &str = "one.tap                   ok           volume ABC001, 2 sections
+one.tap                   ok           volume ABC001, 2 sections
 two.tap                   ok           volume ABC001, 1 section
 Set ABC001: 2 of 2 files complete
   Volumes: ABC001
    1 PAYROLL                        complete
    2 LEDGER                         complete, blocks (no HDR2)
 ABC001 file 2 section 1: good, 2 copies agree
-2 images: 2 ok
-All files are complete, and every image was read to its end.
 ";
 
-const DISPUTED: &str = "one.tap                   conflict     volume ABC001, 2 sections
+const DISPUTED: &str = "In conflict: find out which is right ('tape compare', 'tape list')
+  ABC001 file 2 section 1: good copies on one.tap and two.tap differ
+
+2 images: 0 ok, 2 in conflict
+1 set, 2 files: 1 complete, 1 in conflict
+
+one.tap                   in conflict  volume ABC001, 2 sections
     section 1 of file 2: good copies differ
-two.tap                   conflict     volume ABC001, 1 section
+two.tap                   in conflict  volume ABC001, 1 section
     section 1 of file 2: good copies differ
 Set ABC001: 1 of 2 files complete
   Volumes: ABC001
    1 PAYROLL                        complete
-   2 LEDGER                         conflict: good copies of a section differ, blocks (no HDR2)
-ABC001 file 2 section 1: CONFLICT, one.tap and two.tap differ ('tape compare' shows where)
-2 images: 0 ok, 2 in conflict
+   2 LEDGER                         in conflict, blocks (no HDR2)
 ";
 
 /// Returns a volume with one section, in which HDR1 is followed by `labels`, with one block.
@@ -101,7 +108,7 @@ fn other_formats(rt: HostRuntime) -> Result<(), Fail> {
     for (labels, block, words) in SECONDS {
         let image = volume(rt.alloc(), labels, block)?;
         let images = [Some(image.bytes.as_slice())];
-        let lines = format!(in rt.alloc(); "{COMPLETE}{words}\n{ALL}")?;
+        let lines = format!(in rt.alloc(); "{COMPLETE}{words}\n")?;
         survey(&rt, &images, &["one.tap"], true, &lines)?;
     }
     Ok(())
@@ -120,30 +127,45 @@ fn copies_without_second_labels(rt: HostRuntime) -> Result<(), Fail> {
 }
 
 /// The lines about a file whose HDR2 is lost: its trailer labels say that there was one.
-const LOST: &str = "one.tap                   ok           volume ABC001, 1 section
+const LOST: &str = "Unsupported: 'tape list' shows it, 'tape salvage --form blocks' its blocks
+  ABC001 file 1 PAYROLL: HDR2 is lost on each image (one.tap)
+
+1 image: 1 ok
+1 set, 1 file: 0 complete, 1 not readable
+
+one.tap                   ok           volume ABC001, 1 section
 Set ABC001: 0 of 1 files complete
   Volumes: ABC001
-   1 PAYROLL                        incomplete, blocks (no HDR2)
-            HDR2 is lost on each image: the record format is unknown
-1 image: 1 ok
+   1 PAYROLL                        not readable, blocks (no HDR2)
 ";
 
 /// The lines if another image has its HDR2.
-pub const FOUND: &str = "one.tap                   ok           volume ABC001, 1 section
+pub const FOUND: &str = "Suspect: look at it with 'tape list'
+  ABC001 file 1 PAYROLL: HDR2 is lost on an image, and was found on another
+
+2 images: 2 ok
+1 set, 1 file: 1 complete
+1 section with several good copies that agree
+
+one.tap                   ok           volume ABC001, 1 section
 two.tap                   ok           volume ABC001, 1 section
 Set ABC001: 1 of 1 files complete
   Volumes: ABC001
    1 PAYROLL                        complete
 ABC001 file 1 section 1: good, 2 copies agree
-2 images: 2 ok
 ";
 
 /// The lines about a section whose trailer label names another file.
-const OVERWRITTEN: &str = "one.tap                   ok           volume ABC001, 1 section
+const OVERWRITTEN: &str = "In conflict: find out which is right ('tape compare', 'tape list')
+  ABC001 file 1 PAYROLL: labels of different files, on one.tap
+
+1 image: 1 ok
+1 set, 1 file: 0 complete, 1 in conflict
+
+one.tap                   ok           volume ABC001, 1 section
 Set ABC001: 0 of 1 files complete
   Volumes: ABC001
-   1 PAYROLL                        conflict: labels of different files have this number
-1 image: 1 ok
+   1 PAYROLL                        in conflict
 ";
 
 /// Returns a volume with one section with these header labels and trailer labels. Its block is one
@@ -205,20 +227,28 @@ fn a_section_with_the_trailer_label_of_another_file(rt: HostRuntime) -> Result<(
 
 /// The lines about two copies of a section whose second labels differ.
 const TWO_FORMS: (&str, &str) = (
-    "one.tap                   ok           volume ABC001, 1 section
+    "In conflict: find out which is right ('tape compare', 'tape list')
+  ABC001 file 1 PAYROLL: labels of different files, on one.tap and two.tap
+",
+    "
+2 images: 2 ok
+1 set, 1 file: 0 complete, 1 in conflict
+1 section with several good copies that agree
+
+one.tap                   ok           volume ABC001, 1 section
 two.tap                   ok           volume ABC001, 1 section
 Set ABC001: 0 of 1 files complete
   Volumes: ABC001
-   1 PAYROLL                        conflict: labels of different files have this number
-",
-    "ABC001 file 1 section 1: good, 2 copies agree
-2 images: 2 ok
+   1 PAYROLL                        in conflict
+ABC001 file 1 section 1: good, 2 copies agree
 ",
 );
 
 /// The line about a block that is not in the format of its copy.
 const NOT_IN_FORMAT: &str =
-    "        section 1 is not readable: block 0 is not in the format that HDR2 states\n";
+    "Unsupported: 'tape list' shows it, 'tape salvage --form blocks' its blocks
+  ABC001 file 1 PAYROLL: section 1, block 0 is not as HDR2 states (one.tap)
+";
 
 /// Two copies of a section with different second labels are not of one recording, whatever their
 /// blocks.

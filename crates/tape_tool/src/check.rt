@@ -28,6 +28,7 @@ pub const SURVEY: &CommandSpec = &CommandSpec {
     after_help: help::AFTER_SURVEY,
     words: &[
         Word("IMAGE", Kind::Images, help::IMAGES),
+        Word("all", Kind::Flag, help::SURVEY_ALL),
         Word("tsv", Kind::Flag, help::ROWS),
         Word("json", Kind::Flag, help::SURVEY_JSON),
     ],
@@ -38,6 +39,8 @@ pub const SURVEY: &CommandSpec = &CommandSpec {
 pub enum SurveyForm {
     /// In words, for people.
     Words,
+    /// In words, with everything of any number of images.
+    Full,
     /// In tab-separated rows.
     Tsv,
     /// In lines of JSON.
@@ -115,6 +118,7 @@ pub fn survey_form(matches: &ArgMatches<'_>) -> Result<SurveyForm, Refusal> {
         (true, true) => Err(Refusal::Words(help::TSV_OR_JSON)),
         (true, false) => Ok(SurveyForm::Tsv),
         (false, true) => Ok(SurveyForm::Json),
+        (false, false) if matches.get_flag("all") => Ok(SurveyForm::Full),
         (false, false) => Ok(SurveyForm::Words),
     }
 }
@@ -159,6 +163,7 @@ fn survey<R: Progress, W: Write>(
     let alloc = rt.alloc();
     match form {
         SurveyForm::Words => survey_to(alloc, images, names, Wording::Words, report),
+        SurveyForm::Full => survey_to(alloc, images, names, Wording::Full, report),
         SurveyForm::Tsv => survey_to(alloc, images, names, Wording::Rows, report),
         SurveyForm::Json => {
             let rows = &mut JsonRows::new(alloc, SURVEY_ROWS, report);

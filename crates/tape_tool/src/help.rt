@@ -186,9 +186,11 @@ and rename it";
 
 // `survey`: descriptions of arguments and commands.
 pub const ABOUT_SURVEY: &str =
-    "Describe each image, and report what is complete and what is missing";
+    "Report what is complete, missing or damaged, and what to do about it";
 
 pub const SHELF: &str = "SIMH .tap images, in any order (at most 256; see --files-from)";
+
+pub const SURVEY_ALL: &str = "Print each image, set, file and copy too, of any number of images";
 
 pub const ROWS: &str = "Print tab-separated values, for scripts";
 
@@ -197,52 +199,58 @@ pub const SURVEY_JSON: &str = "Print the same rows as JSON, one object per line"
 pub const TSV_OR_JSON: &str = "--tsv and --json exclude each other: name one of them";
 
 pub const AFTER_SURVEY: &str =
-    "When all images have been read, each of them: its name, its state in a word, and
-what was found on it.
+    "When all images have been read, first what needs attention: images, files and
+sections in lists, in the order in which to act, each with what to do.
+  Not opened: check the names, and that you may read the files
+    lost.tap
+  No images of tapes: copy them again, decompress or convert them
+    zip.tap                   no items
+        image fault 3 at byte 0: a zip archive: 'unzip' unpacks it
+  In conflict: find out which is right ('tape compare', 'tape list')
+    OLD001 file 1 section 1: good copies on 1.tap and 2.tap differ
+    DAY001 file 1 BACKUP: labels of different files, on mo.tap and tu.tap
+  Complete on no image: read or copy it again; 'tape unpack' joins copies
+    ABC001 file 2 LEDGER: section 1 has unreadable blocks on ABC002 (two.tap)
+  Labels or marks damaged, or cut off: read the reel, or copy the image, again
+    hdr.tap                   volume ABC003, 1 section
+        item 11 is neither HDR1 nor a tape mark: counting continues
+  Missing: look for the reel, or for other images of it
+    ABC001 file 2 LEDGER: section 3, after volume ABC003 (three.tap)
+  Unsupported: 'tape list' shows it, 'tape salvage --form blocks' its blocks
+    raw.tap                   no labels; its first block has 10240 bytes
+    VMS001 file 1 X.EXE: no HDR2 with a supported record format (fmt.tap)
+  Suspect: look at it with 'tape list'
+    SYS001 file 1 A: section 2 is good on SYS002, after the file's end (s.tap)
+  Damaged, but other images have the sections or the volume whole
+    cut.tap
+If labels of different files have the same number, two sets share one
+identifier. tape cannot separate them: keep the images of each set in a
+directory of its own. Copies are compared by the number of their data blocks and
+a digest of their contents.
+Then how many images, sets and files there are, and how many in each state:
+  14 images: 7 ok, 2 in conflict, 3 damaged, 1 not a tape, 1 not opened
+  5 sets, 8 files: 3 complete, 2 in conflict, 2 incomplete, 1 not readable
+  1 section with several good copies that agree
+  All files are complete, and every image was read to its end.
+That last line appears only if nothing is missing, each section found has a good
+copy, whose blocks are in the format that HDR2 states, each image is a volume
+from its label to its end in formats that tape reads, no number has labels of
+different files, and no good copies differ. No label says whether more files
+follow the last one found.
+
+Then, of at most five images or with --all, the rest: each image; each set with
+its volumes in order, and its files: number, identifier, creation date if there
+is one, and state; and the sections with several good copies that agree:
   one.tap                   ok           volume ABC001, 2 sections
   two.tap                   damaged      volume ABC002, 2 sections
       2 unreadable blocks
-      image fault 1 at byte 18840
-      section 2 of file 1 has unreadable blocks, blocks found: 9
-      section 1 of file 2 is truncated, blocks found: 13
-  hdr.tap                   damaged      volume ABC003, 1 section
-      item 11 is neither HDR1 nor a tape mark: counting continues
-  fmt.tap                   unsupported  volume VMS001, 1 section
-      file 1 has an unsupported record format
-  new.tap                   blank        volume NEW001
-  old.tap                   conflict     volume OLD001, 1 section
-      section 1 of file 1: good copies differ
-  raw.tap                   unsupported  no labels; its first block has 10240
-                                         bytes
-  zip.tap                   not a tape   no items
-      image fault 3 at byte 0: a zip archive: 'unzip' unpacks it
-Then each set with its volumes in order, and its files: number, identifier,
-creation date if there is one, and whether all sections were found. Below an
-incomplete file, each of its sections that is damaged or missing:
+      section 1 of file 2 has unreadable blocks, blocks found: 13
   Set ABC001: 1 of 2 files complete
     Volumes: ABC001, ABC002, ABC003, missing (follows ABC003)
      1 PAYROLL            1985-04-23  complete
      2 LEDGER             1985-04-23  incomplete
-          section 1 is truncated on ABC002: no good copy
-          section 3 missing, after volume ABC003
-If labels of different files have the same number, two sets share one
-identifier. tape cannot separate them: keep the images of each set in a
-directory of its own.
-Then each section with more than one good copy. Copies are compared by the
-number of their data blocks and a digest of their contents:
   ABC001 file 1 section 1: good, 2 copies agree
-  ABC001 file 2 section 1: CONFLICT, 1.tap and 2.tap differ ('tape compare'
-                           shows where)
-
-The last lines are how many images there are, and how many of them in each
-state, and
-  All files are complete, and every image was read to its end.
-That one appears only if nothing is missing, each section found has a good
-copy, whose blocks are in the format that HDR2 states, each image is a volume
-from its label to its end in formats that tape reads, no number has labels of
-different files, and no good copies differ. No label says whether more files
-follow the last one found. The wording may change; the exit status and the
-columns of --tsv will not.
+The wording may change; the exit status and the columns of --tsv will not.
 
 With --tsv these rows; a column whose value is not known is empty:
   IMAGE name state volume set system items files bad end owner words

@@ -25,7 +25,8 @@ const REQUESTS: &str = "
     check --files-from - => check lines of none
     check - => check -
     survey a.tap b.tap => survey Words a.tap b.tap
-    survey --tsv a.tap => survey Tsv a.tap
+    survey --all a.tap => survey Full a.tap
+    survey --all --tsv a.tap => survey Tsv a.tap
     survey --json a.tap => survey Json a.tap
     survey --files-from - --null -- -a => survey Words -a nulls of none
     extract ABC001 2 out a.tap b.tap

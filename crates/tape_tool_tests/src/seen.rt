@@ -60,18 +60,24 @@ const CALLS: &str = "
     ? seen2.tap
     # A missing section, and an image that does not exist.
     3$ survey lost.tap seen1.tap
+    > Not opened: check the names, and that you may read the files
+    >   lost.tap
+    > Missing: look for the reel, or for other images of it
+    >   ABC001 file 1 PAYROLL: section 2, after volume ABC001 (seen1.tap)
+    >
+    > 2 images: 1 ok, 1 not opened
+    > 1 set, 1 file: 0 complete, 1 incomplete
+    >
     > lost.tap                  not opened
     > seen1.tap                 ok           volume ABC001, 1 section
     > Set ABC001: 0 of 1 files complete
     >   Volumes: ABC001, missing (follows ABC001)
     >    1 PAYROLL                        incomplete
-    >         section 2 missing, after volume ABC001
-    > 2 images: 1 ok, 1 not opened
     ? lost.tap? seen1.tap
     # A section after the one that ends its file.
     worked seen_whole.tap
     3: survey seen_whole.tap seen2.tap
-    | ABC001 file 1 section 2 is good on ABC002: the file ends before it
+    | section 2 is good on ABC002, after the file's end (seen2.tap)
     # No image is opened after the one that completes the file, but for its labels. The directory
     # is opened to be synced.
     $ extract ABC001 1 seen.txt lost.tap seen1.tap seen2.tap seen1.tap

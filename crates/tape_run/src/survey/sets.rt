@@ -1,12 +1,11 @@
 //! The sets that were found and their files: what is complete, and what is missing.
 ghost use Rattle.std.specs.Prelude.{◌≡◌, IfOk, option_map};
 ghost use Rattle.tape_run.specs.SurveySets.{standing_of, clear_standing, is_mixed, is_whole_file};
-ghost use Rattle.tape_run.specs.SurveySets.{file_problems, flaw_in, is_sure, sure_files, all_good};
+ghost use Rattle.tape_run.specs.SurveySets.{file_problems, flaw_in, all_good};
 ghost use Rattle.tape_run.specs.SurveySets.{is_all, is_flawless};
 
 use super::files::{FileKey, FileNote, FileNotes, any_differs, any_lost};
 use super::fits::{Flaw, any_misfit, flaw_of};
-use super::glance::one_if;
 use super::problems::{Problem, add_problems, before_of};
 use super::strays::none_follows;
 use super::view::Findings;
@@ -101,28 +100,6 @@ pub(crate) fn flaw_in(findings: &Findings, set_id: Field<6>, file: u16) -> Optio
         Some(note) => flaw_of(note),
         None => None,
     }
-}
-
-/// Returns whether a file is complete, readable and not in conflict.
-fn is_sure(findings: &Findings, set_id: Field<6>, file: u16) -> bool
-    ensures { result ≡ is_sure findings.now set_id file }
-{
-    let key = FileKey { set_id, file };
-    is_whole_file(&findings.sections, set_id, file)
-        && !is_mixed(findings.files.notes.get(&key))
-        && findings.copies.dispute(&key).is_none()
-        && flaw_in(findings, set_id, file).is_none()
-}
-
-/// Returns how many files of a set, up to its greatest file number, are complete.
-pub(crate) fn sure_files(findings: &Findings, set_id: Field<6>, greatest: u16) -> u32
-    ensures { result ≡ sure_files findings.now set_id 1 greatest }
-{
-    let mut sure = 0;
-    for before in 0..greatest {
-        sure += one_if(is_sure(findings, set_id, before + 1));
-    }
-    sure
 }
 
 /// Returns whether each section that was found has a complete copy.

@@ -1,14 +1,12 @@
 //! The lines about a file, and the volumes of a set.
 
+ghost use Rattle.std.specs.Prelude.{◌<◌};
+
 use super::page::Page;
-use crate::section::SectionKey;
-use crate::survey::damages::damage_text;
 use crate::survey::dates::date_of;
 use crate::survey::files::{FileKey, FileNote};
-use crate::survey::fits::Flaw;
-use crate::survey::gaps::Numbers;
-use crate::survey::problems::{Problem, before_of};
-use crate::survey::sets::{file_problems, flaw_in, is_mixed, is_whole_file};
+use crate::survey::fits::flaw_of;
+use crate::survey::sets::is_whole_file;
 use crate::survey::view::Findings;
 use crate::survey::volumes::VolumeItem;
 use crate::text::{Identifier, Trimmed};
@@ -19,7 +17,7 @@ use tape_label::{Field, Format};
 const INDENT: usize = 11;
 
 /// The maximum length of a line of volumes, without a comma and the space after it.
-const WIDTH: usize = 96;
+const WIDTH: usize = 76;
 
 /// Returns the ending of a plural, if there is more than one number from `first` to `next - 1`.
 pub(super) fn plural(first: u16, next: u16) -> &'static str {
@@ -45,7 +43,7 @@ fn volume_text(alloc: Global, item: &VolumeItem) -> Result<String, AllocError> {
     }
 }
 
-/// Appends the volumes of a set, if there are any, in lines of at most 100 columns.
+/// Appends the volumes of a set, if there are any, in lines of at most 80 columns.
 pub(super) fn add_volumes(page: &mut Page, volumes: &[VolumeItem]) {
     let mut column = 0usize;
     for volume in volumes {
@@ -82,16 +80,57 @@ fn known_text(alloc: Global, note: Option<&FileNote>) -> Result<String, AllocErr
     }
 }
 
-/// Returns the state of a file in a word, or why it is in conflict.
-fn file_word(mixed: bool, disputed: bool, complete: bool) -> &'static str {
-    if mixed {
-        "conflict: labels of different files have this number"
-    } else if disputed {
-        "conflict: good copies of a section differ"
-    } else if complete {
-        "complete"
+/// The state of a file, or of a number without a label.
+#[derive(Clone, Copy)]
+pub(super) enum FileState {
+    /// All its sections are complete and readable.
+    Complete,
+    /// Labels of different files have its number, or complete copies of a section differ.
+    Conflict,
+    Incomplete,
+    /// All its sections are complete, and not in a format that can be read.
+    NotReadable,
+    NotFound,
+}
+
+/// The words for the states of files, in their order.
+pub(super) const FILE_WORDS: [&str; 5] = [
+    "complete",
+    "in conflict",
+    "incomplete",
+    "not readable",
+    "not found",
+];
+
+impl FileState {
+    /// Returns the place of the state among all.
+    pub(super) fn place(self) -> usize
+        ensures { result < 5 }
+    {
+        match self {
+            FileState::Complete => 0,
+            FileState::Conflict => 1,
+            FileState::Incomplete => 2,
+            FileState::NotReadable => 3,
+            FileState::NotFound => 4,
+        }
+    }
+}
+
+/// Returns the state of a file.
+pub(super) fn file_state(findings: &Findings, set_id: Field<6>, file: u16) -> FileState {
+    let key = FileKey { set_id, file };
+    let Some(note) = findings.files.notes.get(&key) else {
+        return FileState::NotFound;
+    };
+    if note.conflict.is_some() || findings.copies.dispute(&key).is_some() {
+        FileState::Conflict
+    } else if !is_whole_file(&findings.sections, set_id, file) {
+        FileState::Incomplete
+    } else if flaw_of(note).is_some() {
+        FileState::NotReadable
     } else {
-        "incomplete"
+        FileState::Complete
     }
 }
 
@@ -111,79 +150,21 @@ fn form_word(note: Option<&FileNote>) -> &'static str {
     }
 }
 
-/// Returns the line about the reason why a file is not readable.
-fn flaw_line(alloc: Global, flaw: Flaw) -> Result<String, AllocError> {
-    match flaw {
-        Flaw::Lost => format!(in alloc;
-            "            HDR2 is lost on each image: the record format is unknown\n"
-        ),
-        Flaw::Unsupported => format!(in alloc;
-            "            no HDR2 with a supported record format was read\n"
-        ),
-        Flaw::Misfits(misfit) => {
-            let (sect, block) = (misfit.sect, misfit.block);
-            let front = format!(in alloc; "        section {sect} is not readable: ")?;
-            format!(in alloc; "{front}block {block} is not in the format that HDR2 states\n")
-        }
-    }
-}
-
-/// Returns the line about a damaged section of a file, or about missing ones.
-fn problem_line(
-    findings: &Findings,
-    set_id: Field<6>,
-    file: u16,
-    problem: &Problem,
-) -> Result<String, AllocError> {
-    let alloc = findings.alloc;
-    match problem {
-        Problem::Damaged(sect, entry) => {
-            let (damage, volume) = (damage_text(entry.state), Trimmed(&entry.volume));
-            format!(in alloc; "        section {sect} {damage} on {volume}: no good copy\n")
-        }
-        Problem::Missing(first, next) => {
-            let sect = *first;
-            let (numbers, plural) = (Numbers(sect, *next), plural(sect, *next));
-            let key = SectionKey { set_id, file, sect };
-            let Some(before) = before_of(&findings.sections, &key) else {
-                return format!(in alloc; "        section{plural} {numbers} not found\n");
-            };
-            let volume = Trimmed(&before.volume);
-            format!(in alloc; "        section{plural} {numbers} missing, after volume {volume}\n")
-        }
-    }
-}
-
-/// Appends the lines of a file: its state, and then its damaged and missing sections.
-pub(super) fn add_file(page: &mut Page, findings: &Findings, set_id: Field<6>, file: u16) {
+/// Appends the line of a file.
+pub(super) fn add_file(page: &mut Page<'_>, findings: &Findings, set_id: Field<6>, file: u16) {
     let alloc = page.alloc();
-    let key = FileKey { set_id, file };
-    let note = findings.files.notes.get(&key);
-    let flaw = flaw_in(findings, set_id, file);
-    let complete = is_whole_file(&findings.sections, set_id, file) && flaw.is_none();
-    let disputed = findings.copies.dispute(&key).is_some();
-    let (word, form) = (
-        file_word(is_mixed(note), disputed, complete),
+    let note = findings.files.notes.get(&FileKey { set_id, file });
+    let word = FILE_WORDS[file_state(findings, set_id, file).place()];
+    let (indent, form) = (
+        match file {
+            0..=9 => "   ",
+            10..=99 => "  ",
+            100..=999 => " ",
+            _ => "",
+        },
         form_word(note),
     );
-    let indent = match file {
-        0..=9 => "   ",
-        10..=99 => "  ",
-        100..=999 => " ",
-        _ => "",
-    };
     page.add(format!(in alloc; "{indent}{file} "));
     page.add(known_text(alloc, note));
     page.add(format!(in alloc; "  {word}{form}\n"));
-    if let Some(flaw) = flaw {
-        page.add(flaw_line(alloc, flaw));
-    }
-    match file_problems(findings, set_id, file) {
-        Ok(problems) => {
-            for problem in &problems {
-                page.add(problem_line(findings, set_id, file, problem));
-            }
-        }
-        Err(refused) => page.add(Err(refused)),
-    }
 }

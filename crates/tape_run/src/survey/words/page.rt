@@ -3,21 +3,31 @@
 use crate::quoting::name_text;
 use std::alloc::{AllocError, Global};
 
-/// A text that grows. It remembers whether memory was refused, so that this is asked only once.
+/// A text about images that grows. It remembers whether memory was refused, so that this is asked
+/// only once.
 #[derive(Drop)]
-pub(super) struct Page {
+pub(super) struct Page<'a> {
     alloc: Global,
     text: Vec<u8>,
     refused: bool,
+    /// The names of the images.
+    names: &'a [&'a str],
+    /// The heading of the next entry, if it is to be printed before it.
+    heading: &'static str,
+    /// Whether an empty line precedes what is appended next.
+    gap: bool,
 }
 
-impl Page {
-    /// Returns an empty text.
-    pub(super) fn new(alloc: Global) -> Page {
+impl<'a> Page<'a> {
+    /// Returns an empty text about images of these names.
+    pub(super) fn new(alloc: Global, names: &'a [&'a str]) -> Page<'a> {
         Page {
             alloc,
             text: Vec::new(alloc),
             refused: false,
+            names,
+            heading: "",
+            gap: false,
         }
     }
 
@@ -28,7 +38,12 @@ impl Page {
 
     /// Appends bytes.
     pub(super) fn put(&mut self, bytes: &[u8]) {
-        if self.text.extend_from_slice(bytes).is_err() {
+        let gap = if self.gap { "\n" } else { "" };
+        self.gap = false;
+        let text = &mut self.text;
+        if text.extend_from_slice(gap.as_bytes()).is_err()
+            || text.extend_from_slice(bytes).is_err()
+        {
             self.refused = true;
         }
     }
@@ -42,8 +57,8 @@ impl Page {
     }
 
     /// Appends the name of image number `image` as it is printed. Returns the number of its bytes.
-    pub(super) fn add_name(&mut self, names: &[&str], image: usize) -> usize {
-        let Some(name) = names.get(image) else {
+    pub(super) fn add_name(&mut self, image: usize) -> usize {
+        let Some(name) = self.names.get(image) else {
             return 0;
         };
         match name_text(self.alloc, name) {
@@ -56,6 +71,23 @@ impl Page {
                 0
             }
         }
+    }
+
+    /// Separates what precedes, if anything does, from what follows, if anything will.
+    pub(super) fn begin_part(&mut self) {
+        self.gap = !self.text.is_empty();
+    }
+
+    /// Begins a list, whose heading is printed only with its first entry.
+    pub(super) fn begin_list(&mut self, heading: &'static str) {
+        self.heading = heading;
+    }
+
+    /// Begins an entry of the list.
+    pub(super) fn begin_entry(&mut self) {
+        self.put(self.heading.as_bytes());
+        self.heading = "";
+        self.put(b"  ");
     }
 
     /// Returns the text.

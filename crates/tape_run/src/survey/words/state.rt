@@ -2,15 +2,14 @@
 
 ghost use Rattle.std.specs.Prelude.{◌<◌};
 
-use super::page::Page;
 use crate::container::Container;
-use crate::section::{ImageStop, SectionKey};
+use crate::section::ImageStop;
 use crate::survey::facts::{is_named, is_no_image};
 use crate::survey::glance::First;
 use crate::survey::view::{ImageSurvey, is_end, is_ended};
 
 /// The state of an image.
-#[derive(Clone, Copy)]
+#[derive(Clone, Copy, PartialEq, Eq)]
 pub(super) enum ImageState {
     /// A volume without damage.
     Ok,
@@ -27,15 +26,8 @@ pub(super) enum ImageState {
     NotOpened,
 }
 
-/// The number of states.
-const STATES: usize = 8;
-
-/// The number of images in each state, in the order of the states.
-#[derive(Clone, Copy)]
-pub(super) struct Tally([u32; STATES]);
-
-/// What the last line calls the images in each state.
-const CALLED: [&str; STATES] = [
+/// The words for the states of images, in their order.
+pub(super) const IMAGE_WORDS: [&str; 8] = [
     "ok",
     "blank",
     "in conflict",
@@ -48,7 +40,7 @@ const CALLED: [&str; STATES] = [
 
 impl ImageState {
     /// Returns the place of the state among all.
-    fn place(self) -> usize
+    pub(super) fn place(self) -> usize
         ensures { result < 8 }
     {
         match self {
@@ -61,56 +53,6 @@ impl ImageState {
             ImageState::NotTape => 6,
             ImageState::NotOpened => 7,
         }
-    }
-
-    /// Returns the word for the state, padded to a column.
-    pub(super) fn word(self) -> &'static str {
-        match self {
-            ImageState::Ok => "ok           ",
-            ImageState::Blank => "blank        ",
-            ImageState::Conflict => "conflict     ",
-            ImageState::Damaged => "damaged      ",
-            ImageState::Unsupported => "unsupported  ",
-            ImageState::Empty => "empty        ",
-            ImageState::NotTape => "not a tape   ",
-            ImageState::NotOpened => "not opened",
-        }
-    }
-}
-
-impl Tally {
-    /// Returns the numbers before any image was counted.
-    pub(super) fn new() -> Tally {
-        Tally([0; STATES])
-    }
-
-    /// Counts an image in this state.
-    pub(super) fn count(&mut self, state: ImageState) {
-        let place = state.place();
-        self.0[place] = self.0[place].saturating_add(1);
-    }
-
-    /// Appends the line about all images.
-    pub(super) fn add_to(&self, page: &mut Page) {
-        let mut images = 0u32;
-        for number in &self.0 {
-            images = images.saturating_add(*number);
-        }
-        let alloc = page.alloc();
-        let (plural, ok) = (if images == 1 { "" } else { "s" }, self.0[0]);
-        page.add(format!(in alloc; "{images} image{plural}: {ok} ok"));
-        for place in 1..STATES {
-            let number = self.0[place];
-            let called = if place == 6 && number > 1 {
-                "not tapes"
-            } else {
-                CALLED[place]
-            };
-            if number > 0 {
-                page.add(format!(in alloc; ", {number} {called}"));
-            }
-        }
-        page.put(b"\n");
     }
 }
 
@@ -164,13 +106,13 @@ fn named_state(kind: Container) -> ImageState {
     }
 }
 
-/// Returns the state of an image; `dispute` is a section on it whose complete copies differ. The
-/// kind of an image decides if it cannot be read to its end.
-pub(super) fn state_of(sight: &Option<ImageSurvey>, dispute: &Option<SectionKey>) -> ImageState {
+/// Returns the state of an image; `is_disputed` says whether complete copies of a section on it
+/// differ. The kind of an image decides if it cannot be read to its end.
+pub(super) fn state_of(sight: &Option<ImageSurvey>, is_disputed: bool) -> ImageState {
     let Some(sight) = sight else {
         return ImageState::NotOpened;
     };
-    if dispute.is_some() {
+    if is_disputed {
         return ImageState::Conflict;
     }
     if is_named(sight.kind) && !is_end(sight.stop) {
