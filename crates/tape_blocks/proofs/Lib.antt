@@ -1,4 +1,5 @@
 pub mod BackLaws
+pub mod CountedLaws
 pub mod FrontLaws
 pub mod JoinLaws
 pub mod JudgedLaws

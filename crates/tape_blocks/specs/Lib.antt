@@ -7,6 +7,7 @@ pub mod Packing
 pub mod Tight
 pub mod Records
 pub mod Numbers
+pub mod CountedForm
 pub mod Laws
 pub mod Cases
 -- definitions similar to the code, proved to agree with the definitions above:

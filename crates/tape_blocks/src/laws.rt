@@ -6,6 +6,7 @@ ghost use Rattle.tape_blocks.specs.Laws.{HoldsOneList, PartsFit, PassesForOne, J
 ghost use Rattle.tape_blocks.specs.Laws.{JoinsOn, BegunIsRest, ReadyIsFull, PackedBlocksHold};
 ghost use Rattle.tape_blocks.specs.WideLaws.{UndefinedIsOne, UndefinedIsNone, DescribedHolds};
 ghost use Rattle.tape_blocks.specs.WideLaws.{ContentIsKept};
+ghost use Rattle.tape_blocks.specs.CountedForm.{CountedKeepsAll};
 ghost use Rattle.tape_blocks.specs.Cases.{CasesOfOffers, CasesOfBlocks, CasesOfLaws};
 
 use tape_label::Format;
@@ -75,6 +76,13 @@ pub fn described_holds()
 #[tactic(auto, using(crate::proofs::Wide::content_kept))]
 pub fn content_is_kept()
     ensures { ContentIsKept }
+{}
+
+/// What is written in the counted form determines the records: their number, their lengths and
+/// their bytes.
+#[tactic(auto, using(crate::proofs::CountedLaws::counted_keeps))]
+pub fn counted_keeps_all()
+    ensures { CountedKeepsAll }
 {}
 
 /// Test cases for the definitions of packing and for the laws.

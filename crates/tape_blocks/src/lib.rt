@@ -2,6 +2,7 @@
 #![tactic(auto)]
 
 mod check;
+mod counted;
 pub mod laws;
 mod offer;
 mod own;
@@ -12,6 +13,7 @@ mod put;
 mod writing;
 
 pub use check::{BlockCause, BlockFault, check_block};
+pub use counted::length_bytes;
 pub use offer::{Offer, PackFault};
 pub use own::{after, own_offset};
 pub use packer::Packer;

@@ -19,6 +19,10 @@ pub enum Form {
     /// of the record length, and format S makes them a single record; in the output the records are
     /// joined.
     Raw,
+    /// In the output each record follows its length in four bytes, the most significant first
+    /// ([`length_bytes`](crate::length_bytes)), so that the records can be separated again. There
+    /// is no input in this form.
+    Counted,
 }
 
 /// The shape of a file's blocks and records (ECMA-13, 4th edition: the label HDR2).

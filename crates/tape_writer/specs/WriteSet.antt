@@ -32,3 +32,4 @@ raw_cut Variable n = None
 abbrev pub cut_of : Form → Shape → Option Cut
 cut_of forms.Lines shape = Some Lines
 cut_of forms.Raw shape = raw_cut shape.format shape.rec_len
+cut_of forms.Counted shape = None

@@ -88,7 +88,8 @@ impl Cut {
 }
 
 /// Returns how inputs of form `form` are cut for files of shape `shape`, or `None` for raw inputs
-/// in format D, which cannot be cut, and in formats U and V, which are not written.
+/// in format D, which cannot be cut, and in formats U and V, which are not written, and for the
+/// form `Counted`, which is for outputs only.
 pub fn cut_of(form: Form, shape: &Shape) -> Option<Cut>
     ensures { result ≡ cut_by form shape.now }
 {
@@ -99,6 +100,7 @@ pub fn cut_of(form: Form, shape: &Shape) -> Option<Cut>
             Format::Spanned => Some(Cut::Whole),
             Format::Counted | Format::Undefined | Format::Variable => None,
         },
+        Form::Counted => None,
     }
 }
 
