@@ -157,17 +157,19 @@ cases_of_outputs = record {
       (s.most, one_stopped _ _ _ _ _ _ (s.once refl) s.are_rounds s.are_turns);
   stopped_turns_now = λ session shelf left form out now said says s.
       (s.most, one_stopped _ _ _ _ _ _ (s.once refl) s.are_rounds s.are_turns);
-  taken = λ form out weight records begun parts t. (t.weighs, t.counted);
-  taken_text = λ form out weight records begun parts t. (t.begins, t.text);
+  taken = λ form out held weight records begun parts t. (t.weighs, t.counted);
+  taken_text = λ form out held weight records begun parts t. (t.begins, t.text);
+  held_back = λ form out held weight records begun t. t.waits;
+  shares = (refl, refl, refl, refl);
   text = λ known is. cc is;
   no_writer = tt;
   tells = λ w. refl;
   tells_nothing = λ tells. absurd (let e = tells [] in cc e);
   ended = (refl, refl);
-  write_refused = λ works still weight r. r;
-  not_heavy = λ works still r. absurd (omega (arith, r.2));
+  write_refused = λ form works still weight r. r;
+  not_heavy = λ form works still r. absurd (omega (arith, r.2));
   heavy = (refl, refl, omega arith);
-  refused_later = λ works weight. refl;
-  writer_kept = λ still. (λ r. r.1, λ r. r);
-  no_memory_taken = λ works still weight r. r;
+  refused_later = λ form works weight. refl;
+  writer_kept = λ form still. (λ r. r.1, λ r. r, λ r. r.2);
+  no_memory_taken = λ works still weight. (λ r. absurd (cc r.0), λ r. absurd (cc r.0));
 }

@@ -86,6 +86,10 @@ mod UnpackedFits
 mod UnpackedNames
 pub mod Patterns
 mod WholeReports
+pub mod RecordTexts
+mod MenderLaws
+mod RecordWrites
+mod PartWrites
 pub mod Streams
 mod QuotedNames
 pub mod RecordFronts
@@ -116,7 +120,6 @@ mod SalvageBegun
 mod SalvageShelf
 mod SalvageRest
 mod SalvageClosings
-mod SalvageText
 mod SalvageGaps
 mod SalvageFresh
 mod SalvageData

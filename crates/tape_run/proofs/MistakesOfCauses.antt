@@ -25,7 +25,8 @@ use Rattle.tape_run.proofs.session.Session.save.Reads as save
 failed_flush_told_as_the_sink : (S : _) (W : _) (LS : _) (LW : _) (g : _) (d : _) (g' : _) (d' : _)
     (h : _) (e : _) (κs : _) (a : _) (s : _)
     → write_file.Learnt-named S W LS LW g d g' d' h e κs a (Err (Run (Sink sink.Device))) s
-    → g'.refusals s.0.now ≡ g'.refusals a.0.now → g'.refusals a.0.now < 18446744073709551615 → ⊥
+    → g'.refusals s.1.0.now ≡ g'.refusals a.1.0.now
+    → g'.refusals a.1.0.now < 18446744073709551615 → ⊥
 failed_flush_told_as_the_sink S W LS LW g d g' d' h e κs a s l same few = elim (l.cause) [
   | inl r ↦ not_rose _ _ same few r.counted
   | inr other ↦ absurd (cc other.0)
@@ -90,7 +91,7 @@ walk_swaps_the_fault : (S : _) (W : _) (LS : _) (LW : _) (g : _) (d : _) (g' : _
     → write_file.Learnt-named S W LS LW g d g' d' h e κs a (Err (Run (Sink sink.OutOfMemory))) s
     → OnlyDevice g.refuses → ⊥
 walk_swaps_the_fault S W LS LW g d g' d' h e κs a s l only = elim (l.cause) [
-  | inl r ↦ absurd (cc (only r.mid sink.OutOfMemory s.0.now r.why))
+  | inl r ↦ absurd (cc (only r.mid sink.OutOfMemory s.1.0.now r.why))
   | inr other ↦ absurd (cc other.0)
 ]
 
@@ -117,8 +118,8 @@ missing_part_told_as_a_begun_record : (W : _) (R : _) (L : _) (O : _) (P : _) (L
     (o : _) (p : _) (i : _) (j : _) (κs : _) (a : _) (s : _) (held : List Portion)
     → streaming.Learnt-named W R L O P LW LR LL LO LP w f wd h e rd m n o p i j κs a
     (Err (Run (Sink sink.Failed))) s
-    → HasTaken w.contents a.0.now.sink.form a.0.now.sink.out a.0.now.sink.weight
-    a.0.now.sink.records a.0.now.sink.begun held → a.0.now.notes ≡ []
+    → HasTaken w.contents a.0.now.sink.form a.0.now.sink.out a.0.now.sink.held.items
+    a.0.now.sink.weight a.0.now.sink.records a.0.now.sink.begun held → a.0.now.notes ≡ []
     → s.0.now.sink.refused ≡ a.0.now.sink.refused
     → a.0.now.sink.refused < 18446744073709551615 → s.0.now.core.position ≢ Finished → ⊥
 missing_part_told_as_a_begun_record W R L O P LW LR LL LO LP w f wd h e rd m n o p i j κs a s held
@@ -146,8 +147,8 @@ complete_reported_before_the_name : (W : _) (R : _) (L : _) (O : _) (P : _) (LW 
     (p : _) (q : _) (i : _) (j : _) (κs : _) (a : _) (fault : _) (s : _) (held : List Portion)
     → (l : streaming.Learnt-named W R L O P LW LR LL LO LP w f h e m n o k p q i j κs a
     (Err fault) s)
-    → HasTaken w.contents a.0.now.sink.form a.0.now.sink.out a.0.now.sink.weight
-    a.0.now.sink.records a.0.now.sink.begun held → TellsAlways w.contents
+    → HasTaken w.contents a.0.now.sink.form a.0.now.sink.out a.0.now.sink.held.items
+    a.0.now.sink.weight a.0.now.sink.records a.0.now.sink.begun held → TellsAlways w.contents
     → l.err.want ≡ None → (AppendsFront (p.contents a.1.1.1.1.0.now) (p.contents s.1.1.1.1.0.now)
     (reel_lines 1 (map answer_of (turns_of l.err.rounds ++ l.err.turns))) → ⊥)
     → o.stands s.1.1.1.0.now ≡ None → ⊥

@@ -12,9 +12,9 @@ use Rattle.tape_blocks.specs.declared.parts.{Form.Form, Part.Part}
 use Rattle.tape_core.specs.{Walks.GivesPart, Stands.weight_of}
 use Rattle.tape_image.specs.Written.{AppendsFront}
 use Rattle.tape_image.proofs.Pieces.{front_more, front_behind}
-use Rattle.tape_run.specs.RecordText.{record_end, records_text, output_of, part_text}
+use Rattle.tape_run.specs.RecordText.{record_text, records_text, output_of}
 use Rattle.tape_run.specs.OutSinks.{with_end}
-use Rattle.tape_run.proofs.{OutSinks.records_text-append, Streams.ends, Streams.count_ends}
+use Rattle.tape_run.proofs.{RecordTexts.records_text-append, Streams.ends, Streams.count_ends}
 use Rattle.tape_run.proofs.{Streams.ends_few, Streams.ends_next}
 
 -- The text of the records is that of the first ones, followed by that of the others.
@@ -42,10 +42,6 @@ one_record : (p : Portion) (ps : List Portion) → leaves p.span ≡ false
     → (join (p ∷ ps)).records ≡ p.bytes ∷ (join ps).records
 one_record p ps e = ap (λ b. (if b then join_after (Some p.bytes) ps
     else with_record p.bytes (join_after None ps)).records) e
-
-one_text : (form : Form) (p : Portion) → leaves p.span ≡ false
-    → part_text form p ≡ p.bytes ++ record_end form
-one_text form p e = ap (λ b. p.bytes ++ (if b then [] else record_end form)) e
 
 next_record : (xs : List (List ℕ)) (n : ℕ) (x : List ℕ) (ys : List (List ℕ))
     → drop n xs ≡ x ∷ ys → (take (suc n) xs ≡ take n xs ++ x ∷ []) × (drop (suc n) xs ≡ ys)
@@ -87,7 +83,7 @@ pub front_writes : (form : Form) (ahead after : List Portion → Type 0) (all : 
     (written count next : ℕ) (old mid new : Option (List ℕ)) (parts : List Portion) (part : Part)
     → Fronts form ahead all written count old mid parts → all ≡ true
     → ((xs : List Portion) → ahead xs → GivesPart (Ok (Some part)) xs after)
-    → leaves part.span ≡ false → Appends mid new (part_text form (view part))
+    → leaves part.span ≡ false → Appends mid new (record_text form (view part).bytes)
     → (count ≤ 999999999999999 → next ≡ count + 1) → Fronts form after all next next old new parts
 front_writes form ahead after all written count next old mid new parts part f so gives e wrote
     counts =
@@ -110,12 +106,13 @@ front_writes form ahead after all written count next old mid new parts part f so
           ∙ ends_next false count (ends rest) (ends parts)
           (ap (λ b. count + with_end b (ends rest)) (sym e) ∙ ended);
       few = f.few;
-      wrote = subst (Appends old new) (ap (λ n. records_text form (take n rs) ++ part_text form p)
-          same ∙ ap (λ t. records_text form (take count rs) ++ t)
-          (one_text form p e ∙ sym (append-nil (p.bytes ++ record_end form)))
+      wrote = subst (Appends old new)
+          (ap (λ n. records_text form (take n rs) ++ record_text form p.bytes) same
+          ∙ ap (λ t. records_text form (take count rs) ++ t)
+          (sym (append-nil (record_text form p.bytes)))
           ∙ sym (records_text-append form (take count rs) (p.bytes ∷ []))
           ∙ ap (records_text form) (sym first ∙ ap (λ n. take n rs) (sym more)))
-          (Appends-trans old mid new _ (part_text form p) f.wrote wrote);
+          (Appends-trans old mid new _ (record_text form p.bytes) f.wrote wrote);
       each = λ all. (refl, ap (λ n. drop n rs) more ∙ left);
     }
 
@@ -123,17 +120,17 @@ pub front_failed : (form : Form) (ahead after : List Portion → Type 0) (all : 
     (written count : ℕ) (old mid new : Option (List ℕ)) (parts : List Portion) (part : Part)
     → Fronts form ahead all written count old mid parts → all ≡ true
     → ((xs : List Portion) → ahead xs → GivesPart (Ok (Some part)) xs after)
-    → leaves part.span ≡ false → AppendsFront mid new (part_text form (view part))
+    → leaves part.span ≡ false → AppendsFront mid new (record_text form (view part).bytes)
     → AppendsFront old new (output_of form parts)
 front_failed form ahead after all written count old mid new parts part f so gives e wrote =
     let (rest, is, there) = gives f.rest f.is_ahead in
     let p = view part in
     let (same, others) = f.each so in
     rest_failed form written old mid new (join parts).records f.wrote
-    (subst (AppendsFront mid new) (ap (λ t. t ++ output_of form rest) (one_text form p e)
-    ∙ ap (records_text form) (sym (ap (λ n. drop n (join parts).records) same ∙ others
+    (subst (AppendsFront mid new)
+    (ap (records_text form) (sym (ap (λ n. drop n (join parts).records) same ∙ others
     ∙ ap (λ ps. (join ps).records) is ∙ one_record p rest e)))
-    (front_more mid new (part_text form p) (output_of form rest) wrote))
+    (front_more mid new (record_text form p.bytes) (output_of form rest) wrote))
 
 -- the walk was refused
 pub front_refused : (form : Form) (ahead : List Portion → Type 0) (all : Bool) (written count : ℕ)

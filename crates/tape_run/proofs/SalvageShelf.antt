@@ -8,7 +8,7 @@ use Rattle.tape_image.proofs.Pieces.{front_more, front_behind}
 use Rattle.tape_run.specs.{declared.salvage.copies.SectionCopy.SectionCopy, Reeling.Mounting}
 use Rattle.tape_run.specs.{declared.salvage.recovery.Recovery.Recovery, SalvageLine.last_line}
 use Rattle.tape_run.specs.{declared.salvage.SalvageTask.SalvageTask, SalvageConflicts.AreConflicts}
-use Rattle.tape_run.specs.SalvageRecords.{Start, parts_text}
+use Rattle.tape_run.specs.{RecordText.output_of, SalvageRecords.Start}
 use Rattle.tape_run.specs.SalvageBlocks.{Salvaged, HasSalvaged, ReportsFront, none_salvaged}
 use Rattle.tape_run.specs.SalvageTaking.{TakesFile, StopsTaking, after_file, file_text, all_text}
 use Rattle.tape_run.specs.SalvageChoice.{last_section, form_of_file}
@@ -67,10 +67,10 @@ file_salvaged contents size gives remaining task out shelf middle left cs ds es 
       taken = t.taken;
       took = t.took;
       all = t.all;
-      wrote = subst (λ o. Appends (contents out) o (parts_text task.form g.piece.done)) (sym placed)
+      wrote = subst (λ o. Appends (contents out) o (output_of task.form g.piece.done)) (sym placed)
           (kept (contents out) (contents written) (contents flushed)
-          (parts_text task.form g.piece.done)
-          (subst (λ o. Appends (contents out) (contents o) (parts_text task.form g.piece.done))
+          (output_of task.form g.piece.done)
+          (subst (λ o. Appends (contents out) (contents o) (output_of task.form g.piece.done))
           (sym gave) r.0.piece.written) keeps);
       is_complete = all ∙ ap (λ b. not b && not conflict) r.0.same_missing;
       reported = kept found one says _ (three_texts found noted w one conflicts lines

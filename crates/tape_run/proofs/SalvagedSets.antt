@@ -9,7 +9,7 @@ use Rattle.tape_image.specs.Begins.{Stop, Begins, Walks, image_limit}
 use Rattle.tape_image.proofs.{Callers.front_of_image, Uniqueness.Begins-one}
 use Rattle.tape_image.proofs.Walks.{IfKnown-at, TakesFault-begins}
 use Rattle.tape_set.specs.{Layout.FileSet, Lawful.FileForm, Before.section_parts, Reading.Reading}
-use Rattle.tape_set.proofs.{Everywhere.every, Everywhere.every_stands, AllVolumes.file_is_lawful}
+use Rattle.tape_set.proofs.Everywhere.{every, every_stands}
 use Rattle.tape_run.specs.SalvageTaking.{Taken, AreTaken, AreAllSections, MountsTaken, MountsIf}
 use Rattle.tape_run.specs.SalvagedSets.{IsImage, HasOpened, AreImages, NoneFailed, IsReadToEnd}
 use Rattle.tape_run.specs.{declared.salvage.Content.Content, declared.section.ImageStop.ImageStop}
@@ -18,12 +18,12 @@ use Rattle.tape_run.specs.{declared.salvage.copies.SectionCopy.SectionCopy, Whol
 use Rattle.tape_run.specs.declared.section.ImageStop.TheVariants.{Marked, Physical, Fault}
 use Rattle.tape_run.specs.{Checked.Reel, Checked.IsReel, Reeling.Mounting, Reeling.AreMounted}
 use Rattle.tape_run.specs.{SalvageWalk.sections_in, SalvageCopies.of_file, Salvaging.FindsOnAll}
-use Rattle.tape_run.specs.{SalvageRecords.parts_text, SalvageBlocks.none_salvaged}
+use Rattle.tape_run.specs.{RecordText.output_of, SalvageBlocks.none_salvaged}
 use Rattle.tape_run.specs.SalvageChoice.{form_of_file, firsts, IsBest}
 use Rattle.tape_run.specs.SalvageTaking.{has_form, form_for, after_file, IsReadOf}
 use Rattle.tape_run.specs.SalvageSets.{items_read, copies_on, IsReadAgainIf, AreReadAgain}
 use Rattle.tape_run.specs.SalvagedSets.{RecoversSets}
-use Rattle.tape_run.proofs.{SalvageGood.IsGood, SalvageGood.copies_good, SalvageText.writes_output}
+use Rattle.tape_run.proofs.{SalvageGood.IsGood, SalvageGood.copies_good}
 use Rattle.tape_run.proofs.{SalvageAgain.IsOne, SalvageAgain.firsts_all, SalvageSets.recovers_set}
 
 -- if the reader did not fail, all items of the image were read
@@ -239,7 +239,7 @@ recovers_sets contents size gives remaining task out shelf left stands said says
     let r = recovers_set set file f rs copies s.taken l there cs fits is read sections in
     let g = after_file Records copies s.taken none_salvaged in
     let wrote = subst (λ (z : Content). Appends (contents out) stands
-    (parts_text task.form (after_file z copies s.taken none_salvaged).piece.done)) records
+    (output_of task.form (after_file z copies s.taken none_salvaged).piece.done)) records
     s.wrote in (
       g,
       r,
@@ -250,9 +250,7 @@ recovers_sets contents size gives remaining task out shelf left stands said says
           let off = not-true g.missing (and_parts (not g.missing) (not s.conflict) whole).0 in
           let parts = (r.complete off).1 in
           subst (λ (t : List ℕ). Appends (contents out) stands t)
-          (ap (parts_text task.form) parts
-          ∙ writes_output task.form (section_parts f) (file_is_lawful set file f l there).order)
-          wrote,
+          (ap (output_of task.form) parts) wrote,
     )
   where
     have_reading : (c : SectionCopy) → IsGood set task.file rs c

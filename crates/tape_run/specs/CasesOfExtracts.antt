@@ -1,28 +1,30 @@
 -- Examples for the definitions of recovered files. They are the contract of the call `laws::cases`.
 use Rattle.std.specs.Prelude.{◌≡◌, ◌≢◌, ◌<◌, ◌≤◌, ◌⊎◌, ℕ, List, [], ◌∷◌, ◌++◌, length, map, Option}
-use Rattle.std.specs.Prelude.{Some, None, Bool, true, false, ⊤, is_some}
+use Rattle.std.specs.Prelude.{Some, None, Bool, true, false, ⊤, is_some, codes}
 use Rattle.std.specs.Io.KnownBytes.{Appends}
 use Rattle.tape_blocks.specs.{declared.parts.Form.Form, Block.Portion, Spans.join}
+use Rattle.tape_blocks.specs.declared.parts.Form.TheVariants.{Lines, Raw, Counted}
+use Rattle.tape_blocks.specs.declared.parts.Span.TheVariants.{First}
 use Rattle.tape_image.specs.{Reader.IfKnown, Written.AppendsFront}
 use Rattle.tape_set.specs.{declared.position.Position.TheVariants.Finished, Position.want_at}
 use Rattle.tape_set.specs.declared.position.Want.{Want}
 use Rattle.tape_core.specs.declared.event.Answer.TheVariants.{SectionDone, Useless}
 use Rattle.tape_core.specs.declared.event.Reason.TheVariants.{BlockCount, Broken, BadItem}
-use Rattle.tape_core.specs.{Crash.lost, Place.rest_of, State.State, Weight.Rose, Point.Point}
+use Rattle.tape_core.specs.{Crash.lost, Place.rest_of, State.State, Point.Point}
 use Rattle.tape_core.specs.{Stands.weight_of, declared.sink.PartSink.Ghosts}
 use Rattle.tape_core.specs.Table.{saved, mount_of}
 use Rattle.tape_core.specs.declared.sink.SinkFault.{SinkFault}
-use Rattle.tape_core.specs.declared.sink.SinkFault.TheVariants.{Device, Failed}
 use Rattle.tape_core.specs.declared.sink.SinkFault.TheVariants as sink
-use Rattle.tape_run.specs.declared.fault.RunFault.TheVariants.{Sink, NoSuchPoint, TooFewReels}
+use Rattle.tape_run.specs.declared.fault.RunFault.TheVariants.{Sink, NoSuchPoint}
 use Rattle.tape_run.specs.OutSinks.{HasTaken, IsText, RefusesText, TellsAlways, text_so_far}
 use Rattle.tape_run.specs.Reeling.{Opened, Turn, answer_of, AreTurns, IsTurn, Follows, AreSteps}
 use Rattle.tape_run.specs.Reeling.{counts_differ, steps_of, ReadsAndNotes, goes_back, IsKeptFor}
 use Rattle.tape_run.specs.Reeling.{AreFirstTurns, AreTold, Took, step_behind, notes_behind, IsNoted}
 use Rattle.tape_run.specs.{declared.fault.EngineFault.EngineFault, declared.fault.RunFault.RunFault}
 use Rattle.tape_run.specs.declared.fault.EngineFault.TheVariants.{Run, WriteFailed}
-use Rattle.tape_run.specs.declared.fault.RunFault.TheVariants.{OutOfMemory, OtherFile}
-use Rattle.tape_run.specs.{Causes.WritingFails, Causes.EndingFails, Given.is_device, Reels.Reads}
+use Rattle.tape_run.specs.declared.fault.RunFault.TheVariants.{OutOfMemory}
+use Rattle.tape_run.specs.{Given.is_device, Reels.Reads}
+use Rattle.tape_run.specs.{RecordText.sent_of, RecordText.held_of}
 use Rattle.tape_run.specs.{Headline.HasRun, RecordText.output_of, Seen.Seen, Seen.IsKept, Seen.seen}
 use Rattle.tape_run.specs.{ReelLine.reel_lines, ReelLine.last_line, SessionState.SessionState}
 use Rattle.tape_run.specs.{Steps.Saved, Steps.Unmoved, Steps.WentBack, OutSinks.with_end}
@@ -283,15 +285,23 @@ pub record CasesOfOutputs : Type 0 where
       → s.want ≡ None → (AppendsFront said says (reel_lines 1 (map answer_of s.turns)) → ⊥)
       → (p : Seen) × (now ≡ Some (output_of form p.parts))
   -- the parts that a sink that writes them has received
-  pub taken : (form : Form) (out : Option Known) (weight records : ℕ) (begun : Bool)
-      (parts : List Portion)
-      → HasTaken (λ (w : Known). w) form out weight records begun parts
+  pub taken : (form : Form) (out : Option Known) (held : List ℕ) (weight records : ℕ)
+      (begun : Bool) (parts : List Portion)
+      → HasTaken (λ (w : Known). w) form out held weight records begun parts
       → (weight ≡ weight_of parts) × (records ≡ length (join parts).records)
-  pub taken_text : (form : Form) (out : Option Known) (weight records : ℕ) (begun : Bool)
-      (parts : List Portion)
-      → HasTaken (λ (w : Known). w) form out weight records begun parts
+  pub taken_text : (form : Form) (out : Option Known) (held : List ℕ) (weight records : ℕ)
+      (begun : Bool) (parts : List Portion)
+      → HasTaken (λ (w : Known). w) form out held weight records begun parts
       → (begun ≡ is_some (join parts).rest)
       × (TellsAlways (λ (w : Known). w) → IsText (λ (w : Known). w) (text_so_far form parts) out)
+  -- the bytes of an unfinished record are written, except in the counted form, where they are held
+  -- back until its length is known
+  pub held_back : (form : Form) (out : Option Known) (held : List ℕ) (weight records : ℕ)
+      (begun : Bool) → HasTaken (λ (w : Known). w) form out held weight records begun
+      (record { span = First; bytes = codes "AB" } ∷ []) → held ≡ held_of (Some (codes "AB")) form
+  pub shares : (sent_of (Some (codes "AB")) Lines ≡ codes "AB")
+      × (held_of (Some (codes "AB")) Raw ≡ []) × (sent_of (Some (codes "AB")) Counted ≡ [])
+      × (held_of (Some (codes "AB")) Counted ≡ codes "AB")
   pub text : (known : List ℕ) → IsText (λ (w : Known). w) (7 ∷ []) (Some (Some known))
       → known ≡ 7 ∷ []
   pub no_writer : IsText (λ (w : Known). w) (7 ∷ []) None
@@ -300,51 +310,17 @@ pub record CasesOfOutputs : Type 0 where
   pub tells_nothing : TellsAlways {W = List ℕ} (λ w. None) → ⊥
   pub ended : (with_end true 3 ≡ 3) × (with_end false 3 ≡ 4)
   -- a change is refused with Device by the write that failed first, which alone takes the writer
-  -- away, with Full if a part would be too heavy, and never for lack of memory
-  pub write_refused : (works still : Bool) (weight : ℕ) → RefusesText works weight sink.Device still
-      → (works ≡ true) × (still ≡ false)
-  pub not_heavy : (works still : Bool) → RefusesText works 5 sink.Full still → ⊥
-  pub heavy : RefusesText true 999999999999999 sink.Full true
-  pub refused_later : (works : Bool) (weight : ℕ) → RefusesText works weight sink.Failed works
-  pub writer_kept : (still : Bool) → (RefusesText true 3 sink.Full still → still ≡ true)
-      × (RefusesText true 3 sink.Failed still → still ≡ true)
+  -- away, with Full if a part would be too heavy, and for lack of memory only in the counted form
+  pub write_refused : (form : Form) (works still : Bool) (weight : ℕ)
+      → RefusesText form works weight sink.Device still → (works ≡ true) × (still ≡ false)
+  pub not_heavy : (form : Form) (works still : Bool) → RefusesText form works 5 sink.Full still → ⊥
+  pub heavy : RefusesText Lines true 999999999999999 sink.Full true
+  pub refused_later : (form : Form) (works : Bool) (weight : ℕ)
+      → RefusesText form works weight sink.Failed works
+  pub writer_kept : (form : Form) (still : Bool)
+      → (RefusesText form true 3 sink.Full still → still ≡ true)
+      × (RefusesText form true 3 sink.Failed still → still ≡ true)
+      × (RefusesText form true 3 sink.OutOfMemory still → still ≡ true)
   pub no_memory_taken : (works still : Bool) (weight : ℕ)
-      → RefusesText works weight sink.OutOfMemory still → ⊥
-
--- ---- why it was not
-
--- a sink that consists of its count of refused calls, refuses them with Device alone, and either
--- contains no part or has unknown contents
-abbrev pub FailsEmpty : EngineFault → ℕ → ℕ → Type 0
-FailsEmpty fault old new =
-    WritingFails (λ s ps. ps ≡ []) (λ s. s) (λ mid cause after. cause ≡ Device) old new fault
-
-abbrev pub FailsUnknown : EngineFault → ℕ → ℕ → Type 0
-FailsUnknown fault old new =
-    WritingFails (λ s ps. ⊥) (λ s. s) (λ mid cause after. cause ≡ Device) old new fault
-
-pub record CasesOfCauses : Type 0 where
-  -- a refusal is reported if one was counted, with the fault of the call
-  pub refused_writing : (cause : SinkFault) (old new : ℕ) → FailsEmpty (Run (Sink cause)) old new
-      → Rose old new × (cause ≡ Device)
-  pub told_refusal : FailsEmpty (Run (Sink Device)) 3 4
-  -- only a sink with unknown contents may return Failed, and no other fault, without a refused call
-  pub only_failed : (cause : SinkFault) (old new : ℕ) → FailsUnknown (Run (Sink cause)) old new
-      → (Rose old new × (cause ≡ Device)) ⊎ (cause ≡ Failed)
-  pub fewer_given : FailsUnknown (Run (Sink Failed)) 3 3
-  -- no other fault occurs, and a failed write is not a refusal
-  pub no_other_fault : (old new : ℕ) → (FailsUnknown (Run NoSuchPoint) old new → ⊥)
-      × (FailsUnknown (Run TooFewReels) old new → ⊥) × (FailsUnknown (Run OutOfMemory) old new → ⊥)
-      × (FailsUnknown (Run OtherFile) old new → ⊥)
-  pub write_failed : (old new : ℕ) → FailsUnknown WriteFailed old new → new ≡ old
-  -- the output of a sink is not finished for one of two reasons, and each of them is one
-  pub not_ended : (begun : Bool) (form asked : Form) (fault : RunFault)
-      → EndingFails begun form asked (Run fault)
-      → (fault ≡ Sink Failed) × ((begun ≡ true) ⊎ (form ≢ asked))
-  pub two_reasons : (begun : Bool) (form asked : Form)
-      → EndingFails true form asked (Run (Sink Failed))
-      × (form ≢ asked → EndingFails begun form asked (Run (Sink Failed)))
-  -- or the writer failed, and none of these reasons applies
-  pub writer_failed : (begun : Bool) (form asked : Form) → EndingFails begun form asked WriteFailed
-      → (begun ≡ true → ⊥) × (form ≢ asked → ⊥)
-  pub ends_but_for_it : (form : Form) → EndingFails false form form WriteFailed
+      → (RefusesText Lines works weight sink.OutOfMemory still → ⊥)
+      × (RefusesText Raw works weight sink.OutOfMemory still → ⊥)

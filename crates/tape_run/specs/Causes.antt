@@ -1,6 +1,7 @@
 -- Why records were not written.
-use Rattle.std.specs.Prelude.{◌≡◌, ◌≢◌, ◌⊎◌, ℕ, Bool, true, List, []}
+use Rattle.std.specs.Prelude.{◌≡◌, ◌≢◌, ◌⊎◌, ℕ, Bool, true, List, [], ⊤}
 use Rattle.tape_blocks.specs.{Block.Portion, declared.parts.Form.Form}
+use Rattle.tape_blocks.specs.declared.parts.Form.TheVariants.{Counted}
 use Rattle.tape_core.specs.{declared.sink.PartSink.Ghosts, declared.sink.SinkFault.SinkFault}
 use Rattle.tape_core.specs.declared.sink.SinkFault.TheVariants.{Failed}
 use Rattle.tape_run.specs.declared.fault.RunFault.TheVariants.{Sink, NoSuchPoint, OutOfMemory}
@@ -9,16 +10,24 @@ use Rattle.tape_run.specs.declared.fault.RunFault.{RunFault}
 use Rattle.tape_run.specs.declared.fault.EngineFault.TheVariants.{Run, WriteFailed}
 use Rattle.tape_run.specs.{Seen.IsKept, Seen.IfSeen, Seen.IsSeen, Steps.IsRefused}
 
+-- why a record or a part of one was not written: a write failed; or in the counted form there is no
+-- memory for the record, or it is too long, and then `same` is true
+abbrev pub RecordFails : Form → Type 0 → EngineFault → Type 0
+RecordFails form same (Run cause) = (cause ≡ OutOfMemory) × (form ≡ Counted) × same
+RecordFails form same WriteFailed = ⊤
+
 -- why the records of a sink were not written: it refused a call with this fault; or it returned
 -- fewer than were counted, which is only possible if its contents are unknown; or a write failed,
--- and it refused none
-abbrev pub WritingFails : {S : Type 0} → (S → List Portion → Type 0) → (S → ℕ)
+-- or in the counted form there was no memory for a record, and it refused none
+abbrev pub WritingFails : {S : Type 0} → Form → (S → List Portion → Type 0) → (S → ℕ)
     → (S → SinkFault → S → Type 0) → S → S → EngineFault → Type 0
-WritingFails holds refusals refuses old new (Run (Sink cause)) =
+WritingFails form holds refusals refuses old new (Run (Sink cause)) =
     IsRefused refusals refuses old cause new
     ⊎ ((cause ≡ Failed) × ((parts : List Portion) → holds old parts → ⊥))
-WritingFails holds refusals refuses old new WriteFailed = refusals new ≡ refusals old
-WritingFails holds refusals refuses old new fault = ⊥
+WritingFails form holds refusals refuses old new (Run OutOfMemory) =
+    (form ≡ Counted) × (refusals new ≡ refusals old)
+WritingFails form holds refusals refuses old new WriteFailed = refusals new ≡ refusals old
+WritingFails form holds refusals refuses old new fault = ⊥
 
 -- why images were not read, or the records of a session's sink not written, by one that rolls back
 -- or not: the sink refused a call with this fault; or it has failed, which is only possible if its

@@ -3,7 +3,7 @@ use Rattle.std.specs.Prelude.{◌≡◌, ℕ, List, [], ◌∷◌, ◌++◌, Opt
 use Rattle.tape_image.specs.declared.item.ImageCause.TheVariants.{Truncated}
 use Rattle.tape_blocks.specs.declared.parts.Span.TheVariants.{Whole, First, Middle, Last}
 use Rattle.tape_blocks.specs.Block.{Portion}
-use Rattle.tape_blocks.specs.declared.parts.Form.TheVariants.{Lines, Raw}
+use Rattle.tape_blocks.specs.declared.parts.Form.TheVariants.{Lines, Raw, Counted}
 use Rattle.tape_set.specs.declared.position.Want.{Want}
 use Rattle.tape_core.specs.declared.event.{Answer.TheVariants.Useless, Reason.TheVariants.ReelEnded}
 use Rattle.tape_run.specs.{declared.reel_reader.ReelAnswer.ReelAnswer, RecordText.output_of}
@@ -34,6 +34,8 @@ worked_end = Some (record {
 pub record ExtractIsWorked : Type 0 where
   pub lines : output_of Lines worked_parts ≡ codes "AB\nCDE\n"
   pub raw : output_of Raw worked_parts ≡ codes "ABCDE"
+  pub counted : output_of Counted worked_parts
+      ≡ 0 ∷ 0 ∷ 0 ∷ 2 ∷ codes "AB" ++ 0 ∷ 0 ∷ 0 ∷ 3 ∷ codes "CDE"
   pub nothing : output_of Lines [] ≡ []
   pub empty_record : output_of Lines (record { span = Whole; bytes = [] } ∷ []) ≡ codes "\n"
   pub not_opened : reel_line 1 None

@@ -143,6 +143,7 @@ pub mod CasesOfReels
 pub mod CasesOfCatalogues
 pub mod CasesOfSections
 pub mod CasesOfExtracts
+pub mod CasesOfCauses
 pub mod CasesOfSuspects
 pub mod CasesOfSaves
 pub mod CasesOfSeen

@@ -2,16 +2,16 @@
 use Rattle.std.specs.Prelude.{◌≡◌, ℕ, ◌+◌, ◌-◌, ◌*◌, ◌/◌, ◌==◌, ◌&&◌, min, max, nat_le, Bool, true}
 use Rattle.std.specs.Prelude.{false, if◌then◌else◌, List, [], length, take}
 use Rattle.std.specs.Prelude.{◌∷◌, ◌++◌, Option, Some, None, Result, Ok, Err}
-use Rattle.std.specs.{List.flat_map, List.suffix_len, Io.KnownBytes.Appends}
+use Rattle.std.specs.{List.suffix_len, Io.KnownBytes.Appends}
 use Rattle.tape_label.specs.declared.values.Format.{Format}
 use Rattle.tape_label.specs.declared.values.Format.TheVariants.{Fixed}
 use Rattle.tape_blocks.specs.{Content.content_in, Judged.in_order}
 use Rattle.tape_blocks.specs.{declared.parts.Form.Form, declared.parts.Span.TheVariants.Whole}
 use Rattle.tape_blocks.specs.{declared.check.BlockFault.BlockFault, Block.Portion, Judged.judged}
-use Rattle.tape_blocks.specs.Spans.{continues, leaves}
+use Rattle.tape_blocks.specs.Spans.{continues, leaves, join}
 use Rattle.tape_set.specs.Lawful.{FileForm}
 use Rattle.tape_core.specs.Parts.{goes_on_at, parts_in}
-use Rattle.tape_run.specs.{RecordText.part_text, declared.salvage.mender.Mender.Mender}
+use Rattle.tape_run.specs.{RecordText.output_of, declared.salvage.mender.Mender.Mender}
 
 -- The parts of the complete records, those of an unfinished record after them, and whether
 -- something is missing and no record has begun since.
@@ -159,22 +159,25 @@ abbrev pub is_cut : Option FileForm → Piece → List ℕ → Bool
 is_cut None p b = false
 is_cut (Some form) p b = p.torn && goes_on_at form.format form.offset b
 
--- the text written for parts
-abbrev pub parts_text : Form → List Portion → List ℕ
-parts_text form parts = flat_map (part_text form) parts
+-- the bytes of a record, if it is unfinished
+abbrev pub begun_bytes : Option (List ℕ) → List ℕ
+begun_bytes None = []
+begun_bytes (Some front) = front
 
 -- the contents of the writer at the start, if known, and how records are written
 pub record Start : Type 0 where
   pub had : Option (List ℕ)
   pub form : Form
 
--- The complete records were appended to the contents of the writer, the unfinished one is buffered,
--- and the flags and the count are right.
+-- The complete records were appended to the contents of the writer as `extract` writes them, the
+-- unfinished one is buffered, and the flags and the count are right.
 pub record IsPiece (start : Start) (now : Option (List ℕ)) (form : Form) (unfinished : List ℕ)
     (records : ℕ) (begun torn : Bool) (p : Piece) : Type 0 where
   pub forms : form ≡ start.form
-  pub written : Appends start.had now (parts_text start.form p.done)
-  pub buffered : unfinished ≡ parts_text start.form p.front
+  pub written : Appends start.had now (output_of start.form p.done)
+  pub whole : (join p.done).rest ≡ None
+  pub buffered : unfinished ≡ begun_bytes (join p.front).rest
+  pub no_record : (join p.front).records ≡ []
   pub counts : records ≡ p.records
   pub begins : begun ≡ p.begun
   pub tears : torn ≡ p.torn

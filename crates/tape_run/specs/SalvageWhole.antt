@@ -3,10 +3,8 @@
 use Rattle.std.specs.Prelude.{◌≡◌, ◌≢◌, ℕ, ◌+◌, ◌&&◌, Bool, true, false, List, [], ◌∷◌, ◌++◌, Some}
 use Rattle.std.specs.{Prelude.if◌then◌else◌, List.AllByRecursion}
 use Rattle.tape_blocks.specs.{Block.Portion, Block.Holds, Spans.leaves, Spans.InOrder, Tight.Filled}
-use Rattle.tape_blocks.specs.declared.parts.Form.{Form}
 use Rattle.tape_set.specs.Lawful.{FileForm}
-use Rattle.tape_run.specs.RecordText.{output_of}
-use Rattle.tape_run.specs.SalvageRecords.{Piece, nothing, mended, torn, parts_text}
+use Rattle.tape_run.specs.SalvageRecords.{Piece, nothing, mended, torn}
 
 -- the blocks of a file, each with whether it was read
 abbrev pub Blocks : Type 0
@@ -78,8 +76,3 @@ NeverLess = (form : FileForm) (bs more : Blocks) (end : Bool)
     → InOrder false (all_parts bs) end → let p = piece_after form nothing bs in
     (p.done ++ p.front ≡ all_parts bs)
     × ((rest : List Portion) × ((piece_after form nothing (bs ++ more)).done ≡ p.done ++ rest))
-
--- Parts in order are written as `extract` writes them.
-abbrev pub WritesOutput : Type 0
-WritesOutput = (form : Form) (parts : List Portion) → InOrder false parts false
-    → parts_text form parts ≡ output_of form parts

@@ -9,7 +9,7 @@ use Rattle.tape_run.specs.{Checked.Reel, Reeling.Mounting, WholeSet.IsNoDevice, 
 use Rattle.tape_run.specs.{declared.salvage.SalvageTask.SalvageTask, SalvageImage.EndsData}
 use Rattle.tape_run.specs.{declared.salvage.copies.SectionCopy.SectionCopy, SalvageWalk.sections_in}
 use Rattle.tape_run.specs.{RecordText.output_of, Salvaging.FindsOnAll, Salvaging.Salvages}
-use Rattle.tape_run.specs.{SalvageRecords.parts_text, SalvageCopies.of_file, SalvageCopies.start_of}
+use Rattle.tape_run.specs.{SalvageCopies.of_file, SalvageCopies.start_of}
 use Rattle.tape_run.specs.SalvageSets.{items_read, IsCompleteOr, HasVolume, IsRecovered}
 
 -- ---- the images
@@ -80,6 +80,6 @@ RecoversSets {W} {L} {R} contents size gives remaining = (task : SalvageTask) (o
     → NoneFailed task.set_id task.file 0 s.finds.reels [] s.copies s.finds.text s.finds.finds
     → AllByRecursion IsReadToEnd s.taken
     → (g : Salvaged) × IsRecovered set task.file f rs s.copies g
-    × Appends (contents out) stands (parts_text task.form g.piece.done)
+    × Appends (contents out) stands (output_of task.form g.piece.done)
     × (complete ≡ true
     → Appends (contents out) stands (output_of task.form (section_parts f)))

@@ -7,7 +7,7 @@ use Rattle.tape_run.specs.SalvageTaking.{Taken, AreTaken, AreAllSections, after_
 use Rattle.tape_run.specs.declared.salvage.copies.SectionCopy.{SectionCopy}
 use Rattle.tape_run.specs.{Reeling.Mounting, Reeling.AreMounted, Checked.Reel, Checked.IsReel}
 use Rattle.tape_run.specs.{declared.salvage.SalvageTask.SalvageTask, SalvageCopies.FindsCopies}
-use Rattle.tape_run.specs.{SalvageRecords.parts_text, SalvageConflicts.AreConflicts}
+use Rattle.tape_run.specs.{RecordText.output_of, SalvageConflicts.AreConflicts}
 use Rattle.tape_run.specs.SalvageLine.{not_opened_line, stopped_line, last_line}
 use Rattle.tape_run.specs.declared.section.ImageStop.{ImageStop}
 use Rattle.tape_run.specs.SalvageBlocks.{Salvaged, none_salvaged}
@@ -60,7 +60,7 @@ pub record Salvages {W L R : Type 0} (contents : W → Option (List ℕ)) (size 
   pub took : AreTaken gives remaining copies task.content (form_of_file copies) 1 middle taken left
   pub all : AreAllSections task.content (form_of_file copies) copies taken
   pub wrote : Appends (contents out) stands
-      (parts_text task.form (after_file task.content copies taken none_salvaged).piece.done)
+      (output_of task.form (after_file task.content copies taken none_salvaged).piece.done)
   pub is_complete : complete
       ≡ (not (after_file task.content copies taken none_salvaged).missing && not conflict)
   pub reported : Appends found says (conflicts

@@ -8,16 +8,17 @@ mod located;
 mod now;
 pub mod opening;
 mod out_sink;
+mod records;
 
 ghost use Rattle.std.specs.Prelude.{◌≡◌, ◌≢◌, None, List, OnOk, IfOk, OnErr, IfErr, true, false};
 ghost use Rattle.std.specs.Io.KnownBytes.{Appends};
-ghost use Rattle.tape_blocks.specs.{Block.Portion, Parts.view};
+ghost use Rattle.tape_blocks.specs.Block.{Portion};
 ghost use Rattle.tape_run.specs.Causes.{WritingFails, ExtractFails, RefusesAny, RefusesWalk};
 ghost use Rattle.tape_run.specs.Causes.{IsCalm};
 ghost use Rattle.tape_run.specs.{Crash.IsWalked, Crash.BringsNoMore, Reeling.goes_back};
 ghost use Rattle.tape_run.specs.Extracting.{Extracts, Stops, EndsFile, StopsAtEnd, IsWritten};
 ghost use Rattle.tape_run.specs.Extracting.{LeavesOutput};
-ghost use Rattle.tape_run.specs.RecordText.{output_of, record_end, part_text};
+ghost use Rattle.tape_run.specs.RecordText.{output_of};
 ghost use Rattle.tape_run.specs.ReelLine.{last_line};
 ghost use Rattle.tape_image.specs.Written.{AppendsFront};
 
@@ -32,8 +33,10 @@ pub use located::{Mounted, extract_located};
 pub use now::{Place, extract_streaming, extract_watched};
 pub use opening::{AsTheyAre, Opener};
 pub use out_sink::OutSink;
+pub use records::{write_part, write_record};
+use std::alloc::Global;
 use std::io::{Read, Write};
-use tape_blocks::{Form, Part};
+use tape_blocks::Form;
 use tape_core::{PartSink, PartWalk, SinkFault};
 use tape_set::Want;
 
@@ -157,7 +160,7 @@ fn end_file<S: PartWalk, W: Write, P: Write>(
         (P.contents report.old) (P.contents report.new)) }
     ensures same { IsWalked S.PartSink session.old session.new }
     ensures cause { IfErr result
-        (WritingFails S.holds S.refusals S.refuses session.old.sink session.new.sink) }
+        (WritingFails form S.holds S.refusals S.refuses session.old.sink session.new.sink) }
     ensures calm { OnOk result (S.refusals session.new.sink ≡ S.refusals session.old.sink) }
 {
     if let Some(want) = session.want() {
@@ -195,9 +198,11 @@ fn end_report<P: Write>(report: &mut P, want: Option<Want>, records: u64) -> Res
 /// # Errors
 ///
 /// Returns `Run(Sink)` with the refusal of the sink's device, or `Failed` if it returns fewer
-/// records than when they were counted; `WriteFailed`. The records written so far are a prefix of
-/// the sink's records.
+/// records than when they were counted; `WriteFailed`; in the form `Counted` also
+/// `Run(OutOfMemory)`, as [`write_part`]. The records written so far are a prefix of the sink's
+/// records.
 pub fn write_file<S: PartWalk, W: Write>(
+    alloc: Global,
     sink: &mut S,
     form: Form,
     out: &mut W,
@@ -209,11 +214,12 @@ pub fn write_file<S: PartWalk, W: Write>(
     ensures kept { (parts : List Portion) → S.holds sink.old parts → S.holds sink.new parts }
     // In any case, a crash after it leaves nothing that no crash before it could.
     ensures crash { BringsNoMore S.PartSink sink.old sink.new }
-    ensures cause { IfErr result (WritingFails S.holds S.refusals S.refuses sink.old sink.new) }
+    ensures cause { IfErr result
+        (WritingFails form S.holds S.refusals S.refuses sink.old sink.new) }
     ensures calm { OnOk result (S.refusals sink.new ≡ S.refusals sink.old) }
 {
     let front = write_front(sink, form, out)?;
-    write_rest(sink, front, form, out)?;
+    write_rest(alloc, sink, front, form, out)?;
     flush(out)?;
     Ok(front.records)
 }
@@ -223,29 +229,4 @@ pub fn walk_fault(cause: SinkFault) -> EngineFault
     ensures { result ≡ EngineFault.Run (RunFault.Sink cause) }
 {
     EngineFault::Run(RunFault::Sink(cause))
-}
-
-/// Writes one part, and the end of the record if it ends one.
-#[inline(always)]
-pub fn write_part<W: Write>(out: &mut W, part: Part<'_>, form: Form) -> Result<(), WriteFailed>
-    ensures ok { OnOk result (Appends (W.contents out.old) (W.contents out.new)
-        (part_text form (view part.entry))) }
-    ensures err { OnErr result (AppendsFront (W.contents out.old) (W.contents out.new)
-        (part_text form (view part.entry))) }
-{
-    write_text(out, part.bytes)?;
-    if part.span.leaves() {
-        return Ok(());
-    }
-    write_text(out, record_end(form))
-}
-
-/// Returns the terminator of each record.
-fn record_end(form: Form) -> &'static [u8]
-    ensures { result.now ≡ record_end form }
-{
-    match form {
-        Form::Lines => b"\n",
-        Form::Raw => b"",
-    }
 }

@@ -11,7 +11,8 @@ ghost use Rattle.tape_run.specs.{CasesOfCatalogues.CasesOfReports, CasesOfSectio
 ghost use Rattle.tape_run.specs.WholeSet.{WholeSetLacksNothing, WholeSetIsFound};
 ghost use Rattle.tape_run.specs.CasesOfReels.{CasesOfAnswers, CasesOfTable, CasesOfLeads};
 ghost use Rattle.tape_run.specs.{CasesOfSaves.CasesOfSaved, CasesOfRounds.CasesOfRounds};
-ghost use Rattle.tape_run.specs.CasesOfExtracts.{CasesOfTurns, CasesOfOutputs, CasesOfCauses};
+ghost use Rattle.tape_run.specs.{CasesOfCauses.CasesOfCauses, CasesOfExtracts.CasesOfTurns};
+ghost use Rattle.tape_run.specs.CasesOfExtracts.{CasesOfOutputs};
 ghost use Rattle.tape_run.specs.CasesOfSuspects.{CasesOfSuspects};
 ghost use Rattle.tape_run.specs.{CasesOfSeen.CasesOfSeen, Runs.OnlyRefusalsStop, Lacks.LackIsFirst};
 ghost use Rattle.tape_run.specs.{CasesOfRuns.CasesOfStops, OneEntry.OneEntryASection};
@@ -26,6 +27,13 @@ ghost use Rattle.tape_run.specs.ListExamples.{ListingIsWorked, OutcomesSay};
 ghost use Rattle.tape_run.specs.WholeReels.{WholeSetIsTold, GoodWasSeen};
 ghost use Rattle.tape_run.specs.UnpackLaws.{NamesDiffer, NamesStay, NamesFit};
 ghost use Rattle.tape_run.specs.QuotingLaws.{NamesShow, NamesTellApart, NamesKeep};
+ghost use Rattle.tape_run.specs.RecordText.{CountedKeepsRecords};
+
+/// What is written in the counted form determines the records, their number and their boundaries.
+#[tactic(auto, using(crate::proofs::RecordTexts::keeps_records))]
+pub fn counted_keeps_records()
+    ensures { CountedKeepsRecords }
+{}
 
 /// Only a refusal can stop a run over a script with existing checkpoints and enough readers.
 pub fn only_refusals_stop()

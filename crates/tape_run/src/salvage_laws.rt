@@ -3,7 +3,7 @@
 ghost use Rattle.tape_run.specs.SalvageWhole.{RecoversWhole, AllWhole, FirstStays, NeverLess};
 ghost use Rattle.tape_run.specs.SalvageSections.{RecoversSectionOf, PassesSection, FindsSection};
 ghost use Rattle.tape_run.specs.SalvageFile.{RecoversBlocks, RecoversFile, RecoversUpToGap};
-ghost use Rattle.tape_run.specs.{SalvageWhole.WritesOutput, SalvageImage.RestHasNothing};
+ghost use Rattle.tape_run.specs.SalvageImage.{RestHasNothing};
 ghost use Rattle.tape_run.specs.SalvageSections.{RecoversFromVolume, RecoversFromReading};
 ghost use Rattle.tape_run.specs.{SalvageReadings.RecoversReading, SalvageGaps.GapsAreRuns};
 ghost use Rattle.tape_run.specs.{SalvageClosed.ClosedAreThere, SalvageDamaged.ClosedAreExact};
@@ -63,13 +63,6 @@ pub fn recovered_records_stay()
 /// recovers up to there.
 pub fn never_less_than_up_to_the_gap()
     ensures { NeverLess }
-{}
-
-/// The parts of a file are written as `extract` writes them, so a file without missing blocks is
-/// the same, byte for byte.
-#[tactic(auto, using(crate::proofs::SalvageText::writes_output))]
-pub fn parts_are_written_as_extracted()
-    ensures { WritesOutput }
 {}
 
 /// Reading stops at the mark after a section's data. If the section is on the image only once, the

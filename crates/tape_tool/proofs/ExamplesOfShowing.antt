@@ -1,8 +1,11 @@
 -- The cases of `stage`.
-use Rattle.std.proofs.Common.{◌≡◌, ◌≢◌, ◌⊎◌, Bool, true, false, List, ℕ, Option, None, refl, inl}
-use Rattle.std.proofs.Common.{inr, arith, subst}
+use Rattle.std.proofs.Common.{◌≡◌, ◌≢◌, ◌⊎◌, Bool, true, false, List, ℕ, Option, Some, None, refl}
+use Rattle.std.proofs.Common.{inl, inr, arith, subst}
 use Rattle.std.specs.{Fmt.digits, Io.KnownBytes.Keeps}
 use Rattle.tape_blocks.specs.{declared.parts.Form.Form, Block.Portion}
+use Rattle.tape_blocks.specs.declared.parts.Form.TheVariants.{Counted}
+use Rattle.tape_run.specs.declared.fault.RunFault.{RunFault}
+use Rattle.tape_run.specs.declared.fault.RunFault.TheVariants as run
 use Rattle.tape_stage.specs.declared.stage.StageFault.TheVariants.{BadFrame, Device, Failed, Full}
 use Rattle.tape_stage.specs.{Faults.OnBadFrame, Faults.SaysNone, Found.IsFaultOf, Salvaged.Remains}
 use Rattle.tape_stage.specs.{Staged.HoldsNone, declared.stage.StageFault.StageFault}
@@ -37,14 +40,27 @@ module _ (read : List ℕ) (damaged : Bool) (form : Option Form)
     | inr w ↦ inr (grind (arith, w))
   ]
 
-  stops_by : StoppedOnlyBy (StopsShowing read damaged form out written said says)
+  -- a fault of the run occurred while records were written
+  of_run : (fault : RunFault) → StopsShowing read damaged form out written said says (Run fault)
+      → (form ≡ Some Counted) × (fault ≡ run.OutOfMemory)
+  of_run fault (unopened cause is none why frame full failed kept quiet) = absurd (cc is)
+  of_run fault (in_part g point broken parts remains whole (in_records wrote quiet ends)) =
+      elim ends.1 [
+        | inl e ↦ absurd (cc e)
+        | inr (inl e) ↦ absurd (cc e)
+        | inr (inr (counted, e)) ↦ (counted, cc e)
+      ]
+  of_run fault (in_part g point broken parts remains whole (in_lines wrote told failed)) =
+      absurd (cc failed)
+
+  stops_by : StoppedOnlyBy form (StopsShowing read damaged form out written said says)
       (Keeps out written × Keeps said says)
   stops_by = (
     λ h. elim (of_stage Full h) [ inl w ↦ w.3 refl | inr e ↦ cc ],
     λ h. elim (of_stage Failed h) [ inl w ↦ w.4 refl | inr e ↦ cc ],
     λ h. elim (of_stage OutOfMemory h) [ inl w ↦ (w.5, w.6) | inr e ↦ absurd (cc) ],
     λ fault h. grind (arith, stopped (File fault) h),
-    λ fault h. grind (arith, stopped (Run fault) h),
+    λ fault h. of_run fault h,
   )
 
   -- what NoPoint and BadFrame say is true, and BadFrame is not reported with `damaged`

@@ -7,5 +7,6 @@ mod Mistakes
 mod MistakesOfNames
 mod Examples
 mod ExamplesOfShowing
+mod StageFaults
 mod ExamplesOfWriting
 mod ExamplesOfWords

@@ -3,6 +3,8 @@ use Rattle.std.specs.Prelude.{◌≡◌, ◌≢◌, ◌⊎◌, ℕ, Bool, true, 
 use Rattle.std.specs.Prelude.{None, Ok, Err, codes}
 use Rattle.std.specs.Io.KnownBytes.{Appends, Keeps}
 use Rattle.tape_blocks.specs.{Block.Portion, Spans.join, declared.parts.Form.Form}
+use Rattle.tape_blocks.specs.declared.parts.Form.TheVariants.{Counted}
+use Rattle.tape_run.specs.declared.fault.RunFault.TheVariants as run
 use Rattle.tape_set.specs.{declared.position.Want.Want, declared.position.Position.Position}
 use Rattle.tape_set.specs.declared.position.Position.TheVariants.{Awaits, Finished}
 use Rattle.tape_core.specs.Point.{Point}
@@ -56,13 +58,14 @@ StopSays read damaged form out written said says fault =
     × (fault ≡ File WriteFailed))))
 
 -- The faults that can end it: a stage is never reported as full, or as failed before; after
--- OutOfMemory nothing was written; a fault of a file is a failed write, and there are no faults of
--- a run.
-abbrev pub StoppedOnlyBy : (ToolFault → Type 0) → Type 0 → Type 0
-StoppedOnlyBy stops untouched = (stops (Stage Full) → ⊥) × (stops (Stage Failed) → ⊥)
+-- OutOfMemory nothing was written; a fault of a file is a failed write, and the only fault of a run
+-- is OutOfMemory in the counted form.
+abbrev pub StoppedOnlyBy : Option Form → (ToolFault → Type 0) → Type 0 → Type 0
+StoppedOnlyBy form stops untouched = (stops (Stage Full) → ⊥) × (stops (Stage Failed) → ⊥)
     × (stops (Stage OutOfMemory) → untouched)
     × ((fault : FileFault) → stops (File fault) → fault ≡ WriteFailed)
-    × ((fault : RunFault) → stops (Run fault) → ⊥)
+    × ((fault : RunFault) → stops (Run fault)
+    → (form ≡ Some Counted) × (fault ≡ run.OutOfMemory))
 
 -- the lines of `stage`
 pub record CasesOfShowing : Type 0 where
@@ -102,7 +105,7 @@ pub record CasesOfShowing : Type 0 where
       × (StopsShowing read damaged form out written said says (Stage Device)
       → Keeps said says × (form ≡ None → Keeps out written))
       -- which faults stop it
-      × StoppedOnlyBy (StopsShowing read damaged form out written said says)
+      × StoppedOnlyBy form (StopsShowing read damaged form out written said says)
       (Keeps out written × Keeps said says)
       -- an intact stage is never reported as not being one
       × ((g : ℕ) (point : Point) (parts : List Portion) (cause : StageFault)

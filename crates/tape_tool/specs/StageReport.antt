@@ -3,16 +3,18 @@ use Rattle.std.specs.Prelude.{◌≡◌, ◌≢◌, ◌⊎◌, ℕ, List, [], �
 use Rattle.std.specs.Prelude.{false, codes, decimal}
 use Rattle.std.specs.Io.KnownBytes.{Appends, Keeps}
 use Rattle.tape_blocks.specs.{Block.Portion, Spans.join, declared.parts.Form.Form}
+use Rattle.tape_blocks.specs.declared.parts.Form.TheVariants.{Counted}
 use Rattle.tape_set.specs.Position.{want_at}
 use Rattle.tape_core.specs.Point.{Point}
 use Rattle.tape_run.specs.{Identifier.identifier_text, RecordText.output_of, ReelLine.last_line}
+use Rattle.tape_run.specs.declared.fault.RunFault.TheVariants.{OutOfMemory}
 use Rattle.tape_image.specs.Written.{AppendsFront}
 use Rattle.tape_stage.specs.{Faults.OnBadFrame, Faults.SaysNone, Found.IsFaultOf, Salvaged.Remains}
 use Rattle.tape_stage.specs.{Staged.Staged, Staged.HoldsNone, declared.stage.StageFault.StageFault}
 use Rattle.tape_stage.specs.declared.stage.StageFault.TheVariants.{Device, Failed, Full}
 use Rattle.tape_writer.specs.declared.system.fault.FileFault.TheVariants.{WriteFailed}
 use Rattle.tape_tool.specs.declared.fault.ToolFault.{ToolFault}
-use Rattle.tape_tool.specs.declared.fault.ToolFault.TheVariants.{File, Stage}
+use Rattle.tape_tool.specs.declared.fault.ToolFault.TheVariants.{File, Run, Stage}
 use Rattle.tape_tool.specs.declared.stage.show.StageEnding.{StageEnding}
 use Rattle.tape_tool.specs.declared.stage.show.StageEnding.TheVariants.{Whole, Broken}
 
@@ -40,10 +42,11 @@ output_in None parts = []
 output_in (Some form) parts = output_of form parts
 
 -- The faults while the records are written: a failed write, or the stage's device, since the parts
--- are read again.
+-- are read again, or in the counted form a record for which there is no memory.
 abbrev pub EndsInRecords : Option Form → ToolFault → Type 0
 EndsInRecords form fault = (form ≢ None)
-    × ((fault ≡ File WriteFailed) ⊎ (fault ≡ Stage Device))
+    × ((fault ≡ File WriteFailed) ⊎ (fault ≡ Stage Device)
+    ⊎ ((form ≡ Some Counted) × (fault ≡ Run OutOfMemory)))
 
 -- How far a run came that ended with a fault: a prefix of the records was written, and nothing was
 -- printed; or all records were written, and a prefix of the lines was printed.

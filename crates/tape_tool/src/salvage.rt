@@ -30,7 +30,7 @@ pub struct SalvageOrder<'a> {
     pub now: bool,
 }
 
-const FORMS_OF_SALVAGE: &[&str] = &["lines", "raw", "blocks"];
+const FORMS_OF_SALVAGE: &[&str] = &["lines", "raw", "counted", "blocks"];
 
 pub const SALVAGE: &CommandSpec = &CommandSpec {
     name: "salvage",

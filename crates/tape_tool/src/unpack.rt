@@ -53,7 +53,7 @@ pub struct UnpackOrder<'a> {
     pub verify: bool,
 }
 
-const FORMS_OF_FILES: &[&str] = &["lines", "raw", "auto"];
+const FORMS_OF_FILES: &[&str] = &["lines", "raw", "counted", "auto"];
 
 pub const UNPACK: &CommandSpec = &CommandSpec {
     name: "unpack",

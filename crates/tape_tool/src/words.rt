@@ -17,12 +17,12 @@ use tape_writer::system::name_in_folder;
 /// The maximum number of images in the arguments of a run.
 const MOST_IMAGES: usize = 256;
 
-pub const FORMS: &[&str] = &["lines", "raw"];
+const FORMS_OF_OUT: &[&str] = &["lines", "raw", "counted"];
 
 /// The option for the form of the records in an output.
 pub const FORM: Word = Word(
     "form",
-    Kind::NameOption("FORM", FORMS, &["lines"]),
+    Kind::NameOption("FORM", FORMS_OF_OUT, &["lines"]),
     help::FORM_OF_OUT,
 );
 
@@ -35,6 +35,7 @@ pub fn text_of<'a>(matches: &ArgMatches<'a>, name: &str) -> &'a str {
 pub fn form_of(matches: &ArgMatches<'_>) -> Form {
     match matches.get_str("form") {
         Some("raw") => Form::Raw,
+        Some("counted") => Form::Counted,
         _ => Form::Lines,
     }
 }

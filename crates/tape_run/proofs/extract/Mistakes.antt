@@ -37,12 +37,12 @@ full_told_at_once S R L W P LS LR LL LW LP g d g' d' h e m n w f p i j κs a s l
 begun_rest_written : (S : _) (W : _) (LS : _) (LW : _) (g : _) (d : _) (g' : _) (d' : _) (h : _)
     (e : _) (κs : _) (a : _) (n : _) (s : _)
     → write_file.Learnt-named S W LS LW g d g' d' h e κs a (Ok n) s
-    → g'.holds a.0.now begun → a.1.0 ≡ Lines
-    → h.contents a.1.1.0.now ≡ Some [] → h.contents s.1.1.0.now ≡ Some (codes "AB") → ⊥
+    → g'.holds a.1.0.now begun → a.1.1.0 ≡ Lines
+    → h.contents a.1.1.1.0.now ≡ Some [] → h.contents s.1.1.1.0.now ≡ Some (codes "AB") → ⊥
 begun_rest_written S W LS LW g d g' d' h e κs a n s l holds form old new =
-    let r : Appends (Some []) (Some (codes "AB")) (output_of a.1.0 begun)
-    = subst (λ v. Appends (Some []) v (output_of a.1.0 begun)) new
-    (subst (λ v. Appends v (h.contents s.1.1.0.now) (output_of a.1.0 begun)) old
+    let r : Appends (Some []) (Some (codes "AB")) (output_of a.1.1.0 begun)
+    = subst (λ v. Appends (Some []) v (output_of a.1.1.0 begun)) new
+    (subst (λ v. Appends v (h.contents s.1.1.1.0.now) (output_of a.1.1.0 begun)) old
     (l.ok begun holds).1) in
     absurd (let n : 2 ≡ 0 = ap length (r ∙ ap (λ v. output_of v begun) form) in omega arith)
 

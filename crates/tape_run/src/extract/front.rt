@@ -7,8 +7,9 @@ ghost use Rattle.tape_run.specs.{Causes.WritingFails, Crash.BringsNoMore};
 ghost use Rattle.tape_run.specs.RecordText.{output_of, records_text};
 ghost use Rattle.tape_image.specs.Written.{AppendsFront};
 
-use crate::extract::{walk_fault, write_part};
+use crate::extract::{walk_fault, write_part, write_record};
 use crate::fault::EngineFault;
+use std::alloc::Global;
 use std::io::Write;
 use tape_blocks::Form;
 use tape_core::{PartWalk, SinkFault};
@@ -41,7 +42,8 @@ pub fn write_front<S: PartWalk, W: Write>(
         → AppendsFront (W.contents out.old) (W.contents out.new) (output_of form parts)) }
     ensures kept { (parts : List Portion) → S.holds sink.old parts → S.holds sink.new parts }
     ensures crash { BringsNoMore S.PartSink sink.old sink.new }
-    ensures cause { IfErr result (WritingFails S.holds S.refusals S.refuses sink.old sink.new) }
+    ensures cause { IfErr result
+        (WritingFails form S.holds S.refusals S.refuses sink.old sink.new) }
     ensures calm { OnOk result (S.refusals sink.new ≡ S.refusals sink.old) }
 {
     // A sink's weight is limited, so the counts below stay far from the maximum of u64.
@@ -59,7 +61,7 @@ pub fn write_front<S: PartWalk, W: Write>(
                 }
                 records = records.saturating_add(1);
                 if all {
-                    write_part(out, part, form)?;
+                    write_record(out, form, b"", part.bytes)?;
                     written = records;
                 }
             }
@@ -75,6 +77,7 @@ pub fn write_front<S: PartWalk, W: Write>(
 ///
 /// As `write_file`.
 pub fn write_rest<S: PartWalk, W: Write>(
+    alloc: Global,
     sink: &mut S,
     front: Front,
     form: Form,
@@ -90,7 +93,7 @@ pub fn write_rest<S: PartWalk, W: Write>(
         (records_text form (drop front.written (join parts).records))) }
     ensures kept { (parts : List Portion) → S.holds sink.old parts → S.holds sink.new parts }
     ensures crash { BringsNoMore S.PartSink sink.old sink.new }
-    ensures cause { IfErr result (λ fault. WritingFails (λ s parts. S.holds s parts
+    ensures cause { IfErr result (λ fault. WritingFails form (λ s parts. S.holds s parts
         × (front.records ≡ length (join parts).records)) S.refusals S.refuses sink.old sink.new
         fault) }
     ensures calm { OnOk result (S.refusals sink.new ≡ S.refusals sink.old) }
@@ -100,13 +103,14 @@ pub fn write_rest<S: PartWalk, W: Write>(
         return Ok(());
     }
     sink.rewind();
+    let mut held = Vec::new(alloc);
     let mut ended = 0u64;
     'parts: while ended < front.records {
         match sink.next_part() {
             Ok(Some(part)) => {
                 let leaves = part.span.leaves();
                 if ended >= front.written {
-                    write_part(out, part, form)?;
+                    write_part(out, part, form, &mut held)?;
                 }
                 ended += u64::from(!leaves);
             }

@@ -1,4 +1,5 @@
-//! A sink that writes the records of a file as its parts come, and stores none of them.
+//! A sink that writes the records of a file as its parts come, and stores none of them, except an
+//! unfinished record whose length has to precede it.
 
 ghost use Rattle.std.specs.Prelude.{◌≡◌, ◌≢◌, ◌≤◌, ◌<◌, ◌+◌, ◌++◌, ◌∷◌, [], List, Some, None};
 ghost use Rattle.std.specs.Prelude.{is_some, length, true, OnOk, OnErr, IfOk, IfErr, Ok, Err};
@@ -11,6 +12,7 @@ ghost use Rattle.tape_run.specs.OutSinks.{TellsAlways, with_end, HasTaken, Refus
 use crate::extract::{walk_fault, write_part};
 use crate::fault::EngineFault;
 use crate::text::flush;
+use std::alloc::Global;
 use std::io::Write;
 use tape_blocks::{Form, Part, Span};
 use tape_core::{Checkpoint, PartSink, SinkFault};
@@ -18,7 +20,8 @@ use tape_core::{Checkpoint, PartSink, SinkFault};
 /// The greatest total weight of the parts.
 const MOST_STAGED: u64 = 999_999_999_999_999;
 
-/// Writes the records of a file as its parts come. Does not allocate, and nothing survives a crash.
+/// Writes the records of a file as its parts come. Allocates only in the form `Counted`, for an
+/// unfinished record ([`write_part`]), and nothing survives a crash.
 ///
 /// After a failed write, and after the output was finished, every `put` and `finish` is refused.
 #[derive(Drop)]
@@ -35,6 +38,8 @@ pub struct OutSink<W> {
     begun: bool,
     /// The number of calls that were refused.
     refused: u64,
+    /// In the form `Counted`, the bytes of an unfinished record, whose length is not known yet.
+    held: Vec<u8>,
     ghost light: { weight ≤ most_staged },
     ghost few: { records ≤ weight },
 }
@@ -50,9 +55,10 @@ fn with_end(span: Span, records: u64) -> u64
 
 impl<W: Write> OutSink<W> {
     /// Creates a sink without parts, over a writer to which nothing was written.
-    pub fn new(out: W, form: Form) -> OutSink<W>
+    pub fn new(alloc: Global, out: W, form: Form) -> OutSink<W>
         ensures empty { (TellsAlways W.contents → W.contents out ≡ Some [])
-            → HasTaken W.contents form result.out result.weight result.records result.begun [] }
+            → HasTaken W.contents form result.out result.held.items result.weight
+            result.records result.begun [] }
         ensures form { result.form ≡ form }
         ensures out { result.out ≡ Some out }
         ensures calm { result.refused ≡ 0 }
@@ -64,6 +70,7 @@ impl<W: Write> OutSink<W> {
             records: 0,
             begun: false,
             refused: 0,
+            held: Vec::new(alloc),
         }
     }
 }
@@ -78,7 +85,8 @@ impl<W: Write + Drop> OutSink<W> {
     /// finished.
     pub fn finish(&mut self, form: Form) -> Result<(W, u64), EngineFault>
         ensures ok { IfOk result (λ given. (parts : List Portion) → HasTaken W.contents
-            self.old.form self.old.out self.old.weight self.old.records self.old.begun parts
+            self.old.form self.old.out self.old.held.items self.old.weight self.old.records
+            self.old.begun parts
             → (given.1 ≡ length (join parts).records)
             × (TellsAlways W.contents → W.contents given.0 ≡ Some (output_of form parts))) }
         ensures cause { IfErr result (EndingFails self.old.begun self.old.form form) }
@@ -87,9 +95,9 @@ impl<W: Write + Drop> OutSink<W> {
         ensures gone { (CannotEnd self.old.begun self.old.form form → ⊥) → self.new.out ≡ None }
         ensures calm { self.new.refused ≡ self.old.refused }
         ensures kept { (parts : List Portion) → HasTaken W.contents self.old.form self.old.out
-            self.old.weight self.old.records self.old.begun parts
-            → HasTaken W.contents self.new.form self.new.out self.new.weight self.new.records
-            self.new.begun parts }
+            self.old.held.items self.old.weight self.old.records self.old.begun parts
+            → HasTaken W.contents self.new.form self.new.out self.new.held.items
+            self.new.weight self.new.records self.new.begun parts }
         ensures stays { IfErr result (λ fault. fault ≢ EngineFault.WriteFailed
             → self.new ≡ self.old) }
     {
@@ -105,14 +113,15 @@ impl<W: Write + Drop> OutSink<W> {
 }
 
 impl<W: Write + Drop> PartSink for OutSink<W> {
-    ghost holds = { λ s parts. HasTaken W.contents s.form s.out s.weight s.records s.begun parts };
+    ghost holds = { λ s parts. HasTaken W.contents s.form s.out s.held.items s.weight
+        s.records s.begun parts };
 
     ghost weighs = { λ s. s.weight };
 
     ghost refusals = { λ s. s.refused };
 
     ghost refuses_change = { λ s fault t.
-        RefusesText (is_some s.out) t.weight fault (is_some t.out) };
+        RefusesText s.form (is_some s.out) t.weight fault (is_some t.out) };
 
     ghost crashes = { λ s. lost };
 
@@ -124,15 +133,15 @@ impl<W: Write + Drop> PartSink for OutSink<W> {
     fn put(&mut self, part: Part<'_>) -> Result<(), SinkFault>
         requires { length part.bytes.now ≤ longest_block }
         ensures ok { OnOk result ((parts : List Portion)
-            → HasTaken W.contents self.old.form self.old.out self.old.weight self.old.records
-            self.old.begun parts
-            → HasTaken W.contents self.new.form self.new.out self.new.weight self.new.records
-            self.new.begun (parts ++ view part.entry ∷ [])) }
+            → HasTaken W.contents self.old.form self.old.out self.old.held.items
+            self.old.weight self.old.records self.old.begun parts
+            → HasTaken W.contents self.new.form self.new.out self.new.held.items
+            self.new.weight self.new.records self.new.begun (parts ++ view part.entry ∷ [])) }
         ensures err { OnErr result ((parts : List Portion)
-            → HasTaken W.contents self.old.form self.old.out self.old.weight self.old.records
-            self.old.begun parts
-            → HasTaken W.contents self.new.form self.new.out self.new.weight self.new.records
-            self.new.begun parts) }
+            → HasTaken W.contents self.old.form self.old.out self.old.held.items
+            self.old.weight self.old.records self.old.begun parts
+            → HasTaken W.contents self.new.form self.new.out self.new.held.items
+            self.new.weight self.new.records self.new.begun parts) }
         ensures weight { OnOk result
             (self.new.weight ≡ self.old.weight + (5 + length part.entry.bytes.now)) }
         ensures same_weight { OnErr result (self.new.weight ≡ self.old.weight) }
@@ -141,7 +150,8 @@ impl<W: Write + Drop> PartSink for OutSink<W> {
         ensures cause { OnErr result (Rose self.old.refused self.new.refused) }
         ensures calm { OnOk result (self.new.refused ≡ self.old.refused) }
         ensures why { IfErr result (λ fault.
-            RefusesText (is_some self.old.out) self.new.weight fault (is_some self.new.out)) }
+            RefusesText self.old.form (is_some self.old.out) self.new.weight fault
+            (is_some self.new.out)) }
         // A put is refused only because of the weight, or because a write failed now or before.
         ensures failed { result ≡ Err SinkFault.Failed → self.old.out ≡ None }
         // A part that is accepted was written, and the writer is kept.
@@ -158,17 +168,21 @@ impl<W: Write + Drop> PartSink for OutSink<W> {
             self.refused = self.refused.saturating_add(1);
             return Err(SinkFault::Full);
         }
-        match write_part(out, part, self.form) {
+        match write_part(out, part, self.form, &mut self.held) {
             Ok(()) => {
                 self.records = with_end(part.span, self.records);
                 self.begun = part.span.leaves();
                 self.weight += heavy;
                 Ok(())
             }
-            Err(_) => {
+            Err(EngineFault::WriteFailed) => {
                 self.out = None;
                 self.refused = self.refused.saturating_add(1);
                 Err(SinkFault::Device)
+            }
+            Err(EngineFault::Run(_)) => {
+                self.refused = self.refused.saturating_add(1);
+                Err(SinkFault::OutOfMemory)
             }
         }
     }
@@ -178,25 +192,26 @@ impl<W: Write + Drop> PartSink for OutSink<W> {
     fn cut_to(&mut self, point: &Checkpoint) -> Result<(), SinkFault>
         requires { point.now.staged ≤ self.old.weight }
         ensures ok { OnOk result ((front rest : List Portion)
-            → HasTaken W.contents self.old.form self.old.out self.old.weight self.old.records
-            self.old.begun (front ++ rest) → weight_of front ≡ point.now.staged
-            → HasTaken W.contents self.new.form self.new.out self.new.weight self.new.records
-            self.new.begun front) }
+            → HasTaken W.contents self.old.form self.old.out self.old.held.items
+            self.old.weight self.old.records self.old.begun (front ++ rest) → weight_of front ≡ point.now.staged
+            → HasTaken W.contents self.new.form self.new.out self.new.held.items
+            self.new.weight self.new.records self.new.begun front) }
         ensures weight { OnOk result (self.new.weight ≤ point.now.staged) }
         ensures calm { OnOk result (self.new.refused ≡ self.old.refused) }
         ensures refused { IfErr result (λ fault. (fault ≡ SinkFault.Failed)
             × (point.now.staged ≢ self.old.weight)) }
         ensures err { OnErr result ((parts : List Portion)
-            → HasTaken W.contents self.old.form self.old.out self.old.weight self.old.records
-            self.old.begun parts
-            → HasTaken W.contents self.new.form self.new.out self.new.weight self.new.records
-            self.new.begun parts) }
+            → HasTaken W.contents self.old.form self.old.out self.old.held.items
+            self.old.weight self.old.records self.old.begun parts
+            → HasTaken W.contents self.new.form self.new.out self.new.held.items
+            self.new.weight self.new.records self.new.begun parts) }
         ensures same_weight { self.new.weight ≡ self.old.weight }
         ensures writer { self.new.out ≡ self.old.out }
         ensures form { self.new.form ≡ self.old.form }
         ensures cause { OnErr result (Rose self.old.refused self.new.refused) }
         ensures why { IfErr result (λ fault.
-            RefusesText (is_some self.old.out) self.new.weight fault (is_some self.new.out)) }
+            RefusesText self.old.form (is_some self.old.out) self.new.weight fault
+            (is_some self.new.out)) }
     {
         if point.staged == self.weight {
             return Ok(());

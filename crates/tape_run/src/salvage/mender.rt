@@ -9,10 +9,9 @@ ghost use Rattle.tape_run.specs.SalvageRecords.{Piece, Start, HasPiece, nothing,
 ghost use Rattle.tape_run.specs.Checked.{IsCheckFault};
 ghost use Rattle.tape_run.specs.SalvageRecords.{with_parts, torn, taken, found_fault, is_cut};
 
-use crate::extract::write_part;
+use crate::extract::write_record;
 use crate::fault::{EngineFault, NO_MEMORY};
 use crate::salvage::front::{fault_in, front_to};
-use crate::text::write_text;
 use std::alloc::Global;
 use std::io::Write;
 use tape_blocks::{BlockFault, Form, Part, Parts, Span, check_block, content};
@@ -92,8 +91,9 @@ impl<W: Write> Mender<W> {
     ///
     /// # Errors
     ///
-    /// `Run(OutOfMemory)` if a record that continues in the next block can't be buffered,
-    /// `WriteFailed` if a record can't be written.
+    /// `Run(OutOfMemory)` if a record that continues in the next block can't be buffered, or in the
+    /// form `Counted` if a record exceeds 4,294,967,295 bytes, `WriteFailed` if a record can't be
+    /// written.
     pub fn take(
         &mut self,
         form: &Option<Known>,
@@ -207,8 +207,7 @@ impl<W: Write> Mender<W> {
                 Err(_) => Err(NO_MEMORY),
             };
         }
-        write_text(&mut self.out, &self.unfinished)?;
-        write_part(&mut self.out, part, self.form)?;
+        write_record(&mut self.out, self.form, &self.unfinished, part.bytes)?;
         self.unfinished.clear();
         self.records = self.records.saturating_add(1);
         Ok(())

@@ -29,10 +29,10 @@ impl<S: PartWalk> Session<S> {
         // that no crash before it could.
         ensures same { IsWalked S.PartSink self.old self.new }
         ensures cause { IfErr result
-            (WritingFails S.holds S.refusals S.refuses self.old.sink self.new.sink) }
+            (WritingFails form S.holds S.refusals S.refuses self.old.sink self.new.sink) }
         ensures calm { OnOk result (S.refusals self.new.sink ≡ S.refusals self.old.sink) }
     {
-        write_file(&mut self.reel_reader.sink, form, out)
+        write_file(self.alloc, &mut self.reel_reader.sink, form, out)
     }
 }
 
@@ -50,8 +50,8 @@ impl<W: Write + Drop> Session<OutSink<W>> {
         out: &mut O,
     ) -> Result<u64, EngineFault>
         ensures ok { IfOk result (λ records. (parts : List Portion) → HasTaken W.contents
-            self.old.sink.form self.old.sink.out self.old.sink.weight self.old.sink.records
-            self.old.sink.begun parts
+            self.old.sink.form self.old.sink.out self.old.sink.held.items self.old.sink.weight
+            self.old.sink.records self.old.sink.begun parts
             → IsPut form (TellsAlways W.contents) (O.stands out.new) None records parts) }
         ensures err { OnErr result (O.stands out.new ≡ O.stands out.old) }
         ensures cause { IfErr result (λ fault. fault ≢ EngineFault.WriteFailed

@@ -100,7 +100,7 @@ where
     N: Opener<OutSink<BufWriter<File>>, I, L>,
 {
     let (mut draft, out) = drafted;
-    let sink = OutSink::new(out, task.form);
+    let sink = OutSink::new(rt.alloc(), out, task.form);
     let Ok(mut session) = Session::new(rt.alloc(), task.set_id, task.file, sink) else {
         return draft.ended(End::WrongWords);
     };

@@ -12,7 +12,7 @@ pub const OUT: &str = "Output file; not touched until the file is complete";
 pub const REELS: &str = "SIMH .tap images (at most 256; see --files-from)";
 
 pub const FORM_OF_OUT: &str = "lines: end each record with a line feed;
-raw: do not";
+raw: do not; counted: begin each with its length";
 
 pub const STAGE: &str = "Save recovered data here, and continue from it";
 
@@ -128,8 +128,9 @@ pub const FOLDER_OF_FILES: &str = "Existing directory for the files and their st
 pub const SET_TO_UNPACK: &str = "Only files of this set";
 
 pub const FORM_OF_FILES: &str = "lines: end each record with a line feed;
-raw: do not; auto: lines for a file whose bytes are
-all text, raw for any other";
+raw: do not; counted: begin each with its length;
+auto: lines for a file whose bytes are all text, raw
+for any other";
 
 pub const FILES_TO_UNPACK: &str = "Only files with this number or name; '*' in a name
 represents any characters. May be repeated";
@@ -261,7 +262,8 @@ pub const ABOUT_SALVAGE: &str = "Recover what is readable of a file that no imag
 pub const OUT_OF_SALVAGE: &str = "New file for the recovered records (never an existing one)";
 
 pub const FORM_OF_SALVAGED: &str = "lines: end each record with a line feed;
-raw: do not; blocks: whole blocks";
+raw: do not; counted: begin each with its length;
+blocks: whole blocks";
 
 // `salvage`: errors in arguments.
 pub const TOO_MANY_TO_SALVAGE: &str =

@@ -44,7 +44,8 @@ pub enum StageEnding {
 ///
 /// Returns `Stage` with the fault of opening the stage, after which nothing was written, or with
 /// `Device` if its parts could not be read again; `File` with `WriteFailed` if writing to `out` or
-/// `report` failed. `NoPoint` is returned only if there is no stage.
+/// `report` failed; in the form `Counted` also `Run(OutOfMemory)`, as [`write_part`]. `NoPoint` is
+/// returned only if there is no stage.
 pub fn show_stage<D: Disk + Drop, W: Write, P: Write>(
     alloc: Global,
     disk: D,
@@ -76,7 +77,7 @@ pub fn show_stage<D: Disk + Drop, W: Write, P: Write>(
         Ok(ending) => ending,
         Err(fault) => return (Err(fault), stage.into_disk()),
     };
-    if let Err(fault) = write_in(&mut stage, records, form, out) {
+    if let Err(fault) = write_in(alloc, &mut stage, records, form, out) {
         return (Err(fault), stage.into_disk());
     }
     match write_text(report, &lines_of(&point, ending, records)) {
@@ -108,7 +109,9 @@ fn ending_at(
 }
 
 /// Writes the records of the parts of `stage` if `form` is `Some`. Their number is `records`.
+#[tactic(auto, using(crate::proofs::StageFaults::ends_so))]
 fn write_in<D: Disk, W: Write>(
+    alloc: Global,
     stage: &mut Stage<D>,
     records: u64,
     form: Option<Form>,
@@ -131,12 +134,13 @@ fn write_in<D: Disk, W: Write>(
         return Ok(());
     };
     stage.rewind();
+    let mut held = Vec::new(alloc);
     let mut ended = 0u64;
     'parts: while ended < records {
         match stage.next_part() {
             Ok(Some(part)) => {
                 let leaves = part.span.leaves();
-                write_part(out, part, form)?;
+                write_part(out, part, form, &mut held)?;
                 ended += u64::from(!leaves);
             }
             Ok(None) => return Err(ToolFault::Stage(StageFault::Device)),

@@ -142,7 +142,7 @@ impl<R: Progress, P: Write> Run<'_, R, P> {
             return Ok(());
         }
         let rt = self.rt;
-        let sink = OutSink::new(TextCheck::new(), Form::Raw);
+        let sink = OutSink::new(rt.alloc(), TextCheck::new(), Form::Raw);
         let Ok(mut session) = Session::new(rt.alloc(), file.set_id, file.file, sink) else {
             return Ok(());
         };
@@ -197,6 +197,7 @@ impl<R: Progress, P: Write> Run<'_, R, P> {
         match self.form() {
             Form::Lines => "lines",
             Form::Raw => "raw",
+            Form::Counted => "counted",
         }
     }
 }

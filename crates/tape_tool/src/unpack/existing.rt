@@ -245,7 +245,7 @@ fn compare_whole<R: Progress>(
     locations: &Locations,
     existing: Existing<'_>,
 ) -> End {
-    let sink = OutSink::new(existing, task.form);
+    let sink = OutSink::new(rt.alloc(), existing, task.form);
     let Ok(mut session) = Session::new(rt.alloc(), task.set_id, task.file, sink) else {
         return End::WrongWords;
     };

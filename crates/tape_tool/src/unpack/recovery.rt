@@ -189,7 +189,8 @@ fn extract_whole<'a, R: Progress, P: Write>(
 ) -> Result<End, ToolFault> {
     let (draft, out) = Draft::over(rt, task.out, None)?;
     let mut place = SummedDraft { draft, found: None };
-    let sink = OutSink::new(Summed::new(out, listed.is_wanted), task.form);
+    let summed = Summed::new(out, listed.is_wanted);
+    let sink = OutSink::new(rt.alloc(), summed, task.form);
     let Ok(mut session) = Session::new(rt.alloc(), task.set_id, task.file, sink) else {
         return Ok(place.draft.ended(End::WrongWords));
     };

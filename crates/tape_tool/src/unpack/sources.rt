@@ -107,6 +107,7 @@ impl Recorded {
                 let form = match text_in(&value, "form") {
                     Some("lines") => Form::Lines,
                     Some("raw") => Form::Raw,
+                    Some("counted") => Form::Counted,
                     _ => return Err(LineFault::NoLine),
                 };
                 self.forms.insert(name, form).map_err(|_| AllocError)?;

@@ -8,6 +8,7 @@ use crate::refusal::{open, remove};
 use crate::screen::{Host, Progress};
 use crate::stage::ReadOnly;
 use crate::staging::{is_unmade, locked_stage};
+use std::alloc::Global;
 use std::cell::Cell;
 use std::fs;
 use std::io::Write;
@@ -82,20 +83,27 @@ fn compare<R: Host>(
     }
     let mut stage = opened.stage;
     let differs = &Cell::new(false);
-    compare_parts(&mut stage, Existing::open(rt, out, differs)?, form)
+    compare_parts(
+        rt.alloc(),
+        &mut stage,
+        Existing::open(rt, out, differs)?,
+        form,
+    )
 }
 
 /// Compares the parts in a stage with the bytes of a file.
 fn compare_parts<D: Disk>(
+    alloc: Global,
     stage: &mut Stage<D>,
     file: Existing<'_>,
     form: Form,
 ) -> Result<(), ToolFault> {
     let mut bytes = file;
+    let mut held = Vec::new(alloc);
     stage.rewind();
     for _ in 0..u64::MAX {
         match stage.next_part() {
-            Ok(Some(part)) => write_part(&mut bytes, part, form)?,
+            Ok(Some(part)) => write_part(&mut bytes, part, form, &mut held)?,
             Ok(None) => return Ok(()),
             Err(_) => break,
         }

@@ -7,7 +7,7 @@ use crate::command_spec::{CommandSpec, Kind, Word};
 use crate::dates::day_of;
 use crate::help;
 use crate::refusal::Refusal;
-use crate::words::{FORMS, form_of, prefix_of, text_of};
+use crate::words::{form_of, prefix_of, text_of};
 use clap::ArgMatches;
 use std::alloc::{AllocError, Global};
 use tape_blocks::Form;
@@ -15,6 +15,8 @@ use tape_label::{Field, Format};
 use tape_writer::Prefix;
 
 const FORMATS: &[&str] = &["F", "D", "S"];
+
+const FORMS: &[&str] = &["lines", "raw"];
 
 /// The maximum of a block length and a record length.
 const MOST: u64 = 4_294_967_295;

@@ -16,9 +16,9 @@ parts-init g c = (
       (c.weight-weight.ensures.of parts was) c.weight-weight.ensures.limit,
 )
 
-pub returns-in_err-write_part-in-Ok-Some-clause-err :
-    goal.returns-in_err-write_part-in-Ok-Some-clause-err
-returns-in_err-write_part-in-Ok-Some-clause-err g c =
+pub returns-in_err-write_record-in-Ok-Some-clause-err :
+    goal.returns-in_err-write_record-in-Ok-Some-clause-err
+returns-in_err-write_record-in-Ok-Some-clause-err g c =
     let next = c.next_part.follows.lender-at-none in
     let ends : leaves c.in-Ok-Some.part.span ≡ false =
     search (rules, c.leaves.ensures, c.if-leaves.false) in
@@ -28,7 +28,7 @@ returns-in_err-write_part-in-Ok-Some-clause-err g c =
     (c.parts.invariant.1 parts was) c.if-all.true
     (λ xs is. rw (c.in-Ok-Some.is ∙ ap Ok c.in-Ok-Some.field-0-is) at
     (c.next_part.follows.holds-at-none.gives xs is))
-    ends c.in_err-write_part-in-Ok-Some.ensures.err)
+    ends c.in_err-write_record-in-Ok-Some.ensures.err)
 
 pub parts-preserved-then-all : goal.parts-preserved-then-all
 parts-preserved-then-all g c =
@@ -44,7 +44,7 @@ parts-preserved-then-all g c =
           c.if-all.true
           (λ xs is. rw (c.in-Ok-Some.is ∙ ap Ok c.in-Ok-Some.field-0-is) at
           (c.next_part.follows.holds-at-none.gives xs is))
-          ends c.in_ok-write_part-in-Ok-Some.ensures.ok
+          ends c.in_ok-write_record-in-Ok-Some.ensures.ok
           (λ few. omega (arith, few, c.saturating_add-records.ensures)),
     )
 

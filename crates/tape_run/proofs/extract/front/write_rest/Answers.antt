@@ -17,7 +17,7 @@ parts-init g c = (
     kept = c.rewind.ensures.keeps;
     crash = λ parts was. c.rewind.ensures.crash;
   },
-  λ parts was e. stream_starts _ _ _ _ parts (c.rewind.ensures.all parts was),
+  λ parts was e. stream_starts _ _ _ _ _ parts (search rules) (c.rewind.ensures.all parts was),
 )
 
 pub returns-in_err-write_part-in-Ok-Some-clause-err :
@@ -28,7 +28,7 @@ returns-in_err-write_part-in-Ok-Some-clause-err g c =
     let le : c.args.front.written ≤ c.parts.ended = omega (arith, c.if-ended-front.true) in
     on_err c.from_residual.result _
     (λ parts was e. stream_failed c.args.form (g.S.PartWalk.ahead c.parts.sink) (g.S.PartWalk.ahead
-    next) c.args.front.written c.parts.ended c.args.front.records _ _ _ parts c.in-Ok-Some.part
+    next) c.args.front.written c.parts.ended c.args.front.records _ _ _ _ parts c.in-Ok-Some.part
     (c.parts.invariant.1 parts was e) le more e
     (λ xs is. rw (c.in-Ok-Some.is ∙ ap Ok c.in-Ok-Some.field-0-is) at
     (c.next_part.follows.holds-at-none.gives xs is))
@@ -44,21 +44,22 @@ parts-preserved g c =
     let on = walk_on _ _ _ _ _ (c.in-Ok-Some.is ∙ ap Ok c.in-Ok-Some.field-0-is)
     c.parts.invariant.0 c.next_part.follows.holds-at-none in
     elim c.if-ended-front.branch [
-      | then-ended-front+in_ok-write_part-in-Ok-Some w ↦ rw (w.sink-is, w.out-is) (
+      | then-ended-front+in_ok-write_part-in-Ok-Some w ↦ rw (w.sink-is, w.out-is, w.held-is) (
         on,
         λ parts was e. stream_writes c.args.form (g.S.PartWalk.ahead c.parts.sink)
             (g.S.PartWalk.ahead next) c.args.front.written c.parts.ended _ c.args.front.records
-            _ _ _ parts c.in-Ok-Some.part (c.parts.invariant.1 parts was e)
+            _ _ _ _ _ parts c.in-Ok-Some.part (c.parts.invariant.1 parts was e)
             (omega (arith, w.if-ended-front.true)) more e
             (λ xs is. rw (c.in-Ok-Some.is ∙ ap Ok c.in-Ok-Some.field-0-is) at
             (c.next_part.follows.holds-at-none.gives xs is))
             w.in_ok-write_part-in-Ok-Some.ensures.ok
+            w.in_ok-write_part-in-Ok-Some.ensures.holds
             same,
       )
-      | else-ended-front w ↦ rw (w.sink-is, w.out-is) (
+      | else-ended-front w ↦ rw (w.sink-is, w.out-is, w.held-is) (
         on,
         λ parts was e. stream_skips c.args.form (g.S.PartWalk.ahead c.parts.sink)
-            (g.S.PartWalk.ahead next) c.args.front.written c.parts.ended _ _ _ parts
+            (g.S.PartWalk.ahead next) c.args.front.written c.parts.ended _ _ _ _ parts
             c.in-Ok-Some.part (c.parts.invariant.1 parts was e)
             (omega (arith, w.if-ended-front.false))
             (λ xs is. rw (c.in-Ok-Some.is ∙ ap Ok c.in-Ok-Some.field-0-is) at
@@ -76,12 +77,12 @@ returns-in-Ok-None-clause-cause g c =
       λ parts (was, e). stream_short c.args.form
           (g.S.PartWalk.ahead c.parts.sink) (g.S.PartWalk.ahead next) c.args.front.written
           c.parts.ended
-          c.args.front.records _ _ parts (c.parts.invariant.1 parts was e) more e
+          c.args.front.records _ _ _ parts (c.parts.invariant.1 parts was e) more e
           (λ xs is. rw (c.in-Ok-None.is ∙ ap Ok c.in-Ok-None.field-0-is) at
           (c.next_part.follows.holds-at-none.gives xs is)),
     ))
 
 pub returns-clause-ok : goal.returns-clause-ok
 returns-clause-ok g c = λ parts was e. stream_ended c.args.form _ c.args.front.written c.parts.ended
-    c.args.front.records _ _ parts (c.parts.invariant.1 parts was e)
+    c.args.front.records _ _ _ parts (c.parts.invariant.1 parts was e)
     (omega (arith, c.parts-test.false)) e

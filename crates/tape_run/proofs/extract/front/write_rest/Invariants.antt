@@ -8,7 +8,7 @@ invariant-parts g l = Walked g.S.PartSink
     l.fn.sink l.sink
     × ((parts : List Portion) → g.S.PartSink.holds l.fn.sink parts
     → l.front.records ≡ length (join parts).records
-    → Streams l.form (g.S.PartWalk.ahead l.sink) l.front.written l.ended
+    → Streams l.form (g.S.PartWalk.ahead l.sink) l.front.written l.ended l.held.items
     (g.W.Write.contents l.fn.out) (g.W.Write.contents l.out) parts)
 
 abbrev pub decreases-parts : goal.decreases-parts

@@ -1,9 +1,13 @@
 use Rattle.std.proofs.Common.{◌≡◌, arith}
 use Rattle.tape_image.proofs.Pieces.{on_err}
 use Rattle.tape_run.specs.{SalvageChoice.last_section, SalvageTaking.next_section}
-use Rattle.tape_run.proofs.SalvageTaking.{more_taken, ends_file, continues_file}
+use Rattle.tape_run.proofs.SalvageTaking.{none_taken, more_taken, ends_file, continues_file}
 use Rattle.tape_run.proofs.SalvageBegun.{stops_in, stops_last}
 use Rattle.tape_run.proofs.salvage.sections.recover_sections.Goals as goal
+
+pub loop-before-init : goal.loop-before-init
+loop-before-init g c = none_taken g.W.Write.contents g.L.ImageSource.gives g.R.Read.remaining
+    c.args.copies.now c.args.content _ _ _ _
 
 pub loop-before-preserved : goal.loop-before-preserved
 loop-before-preserved g c =

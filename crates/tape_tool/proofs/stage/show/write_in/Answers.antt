@@ -22,7 +22,8 @@ parts-init g c =
           → g.D.Disk.is_honest d) (sym same.1) (λ h. h);
       calm = ap (λ (d : g.row.D.Denot). g.D.Disk.faults d) same.1;
       readable = same.0.4;
-      text = λ parts was e. stream_starts _ _ _ _ parts (c.rewind.ensures.all parts was);
+      text = λ parts was e. stream_starts _ _ _ _ _ parts (search rules)
+          (c.rewind.ensures.all parts was);
     }
 
 pub parts-preserved : goal.parts-preserved
@@ -41,10 +42,11 @@ parts-preserved g c =
           gave.calm ∙ i.calm;
       readable = gave.same.4 ∙ i.readable;
       text = λ parts was e. stream_writes c.in-Some.form (λ ps. IsAhead c.parts.stage ps)
-          (λ ps. IsAhead next ps) 0 c.parts.ended _ c.args.records _ _ _ parts c.in-Ok-Some.part
+          (λ ps. IsAhead next ps) 0 c.parts.ended _ c.args.records _ _ _ _ _ parts c.in-Ok-Some.part
           (i.text parts was e) (omega arith) (omega (arith, c.parts-test.true)) e
           (λ xs x. subst (λ r. GivesPart r xs (λ ps. IsAhead next ps)) is (gave.gave.gives xs x))
-          c.in_ok-write_part-in-Ok-Some.ensures.ok same;
+          c.in_ok-write_part-in-Ok-Some.ensures.ok c.in_ok-write_part-in-Ok-Some.ensures.holds
+          same;
     }
 
 -- ---- a write failed
@@ -58,7 +60,8 @@ returns-in_err-write_part-in-Ok-Some-clause-err g c =
     subst (λ (form : Option Form). AppendsFront (g.W.Write.contents c.args.out.now)
     (g.W.Write.contents c.write_part.new.out) (output_in form parts)) (sym c.in-Some.is)
     (stream_failed c.in-Some.form (λ ps. IsAhead c.parts.stage ps) (λ ps. IsAhead next ps) 0
-    c.parts.ended c.args.records _ _ _ parts c.in-Ok-Some.part (c.parts.invariant.text parts was e)
+    c.parts.ended c.args.records _ _ _ _ parts c.in-Ok-Some.part
+    (c.parts.invariant.text parts was e)
     (omega arith) (omega (arith, c.parts-test.true)) e
     (λ xs x. subst (λ r. GivesPart r xs (λ ps. IsAhead next ps)) is
     (c.next_part.follows.holds-at-none.gave.gives xs x))
@@ -75,7 +78,7 @@ returns-in-Ok-None-clause-err g c parts was e =
     let next = c.next_part.follows.lender-at-none in
     let is = c.in-Ok-None.is ∙ ap Ok c.in-Ok-None.field-0-is in
     absurd (stream_short c.in-Some.form (λ ps. IsAhead c.parts.stage ps) (λ ps. IsAhead next ps) 0
-    c.parts.ended c.args.records _ _ parts (c.parts.invariant.text parts was e)
+    c.parts.ended c.args.records _ _ _ parts (c.parts.invariant.text parts was e)
     (omega (arith, c.parts-test.true)) e
     (λ xs x. subst (λ r. GivesPart r xs (λ ps. IsAhead next ps)) is
     (c.next_part.follows.holds-at-none.gave.gives xs x)))
@@ -85,7 +88,7 @@ returns-in-Ok-None-clause-cause g c device readable parts was e =
     let next = c.next_part.follows.lender-at-none in
     let is = c.in-Ok-None.is ∙ ap Ok c.in-Ok-None.field-0-is in
     absurd (stream_short c.in-Some.form (λ ps. IsAhead c.parts.stage ps) (λ ps. IsAhead next ps) 0
-    c.parts.ended c.args.records _ _ parts (c.parts.invariant.text parts was e)
+    c.parts.ended c.args.records _ _ _ parts (c.parts.invariant.text parts was e)
     (omega (arith, c.parts-test.true)) e
     (λ xs x. subst (λ r. GivesPart r xs (λ ps. IsAhead next ps)) is
     (c.next_part.follows.holds-at-none.gave.gives xs x)))
@@ -120,7 +123,7 @@ returns-in_err-flush-clause-err g c =
     on_err c.from_residual-in_err-flush.result _ (λ parts was e.
     subst (λ (form : Option Form). AppendsFront (g.W.Write.contents c.args.out.now)
     (g.W.Write.contents c.flush.new.writer) (output_in form parts)) (sym c.in-Some.is)
-    (whole_front _ _ _ _ (stream_ended c.in-Some.form _ 0 c.parts.ended c.args.records _ _ parts
+    (whole_front _ _ _ _ (stream_ended c.in-Some.form _ 0 c.parts.ended c.args.records _ _ _ parts
     (c.parts.invariant.text parts was e) (omega (arith, c.parts-test.false)) e)
     c.flush.ensures.kept))
 
@@ -128,6 +131,6 @@ pub returns-clause-ok : goal.returns-clause-ok
 returns-clause-ok g c parts was e =
     subst (λ (form : Option Form). Appends (g.W.Write.contents c.args.out.now)
     (g.W.Write.contents c.flush.new.writer) (output_in form parts)) (sym c.in-Some.is)
-    (kept _ _ _ _ (stream_ended c.in-Some.form _ 0 c.parts.ended c.args.records _ _ parts
+    (kept _ _ _ _ (stream_ended c.in-Some.form _ 0 c.parts.ended c.args.records _ _ _ parts
     (c.parts.invariant.text parts was e) (omega (arith, c.parts-test.false)) e)
     c.flush.ensures.kept)

@@ -11,8 +11,8 @@ invariant-parts g l = record {
   calm : g.D.Disk.faults l.stage.disk ≡ g.D.Disk.faults l.fn.stage.disk;
   readable : l.stage.readable ≡ l.fn.stage.readable;
   text : (parts : List Portion) → Holds l.fn.stage parts → l.records ≡ length (join parts).records
-      → Streams l.form (λ ps. IsAhead l.stage ps) 0 l.ended (g.W.Write.contents l.fn.out)
-      (g.W.Write.contents l.out) parts;
+      → Streams l.form (λ ps. IsAhead l.stage ps) 0 l.ended l.held.items
+      (g.W.Write.contents l.fn.out) (g.W.Write.contents l.out) parts;
 }
 
 abbrev pub decreases-parts : goal.decreases-parts

@@ -6,4 +6,4 @@ use Rattle.tape_run.proofs.extract.out_sink.OutSinkPartSink.cut_to.Goals as goal
 pub returns-then-point-self-clause-ok : goal.returns-then-point-self-clause-ok
 returns-then-point-self-clause-ok g c = λ front rest h e.
     let all : weight_of front ≡ c.args.self.now.weight = search (rules, e) in
-    all_kept _ _ _ _ _ _ front rest all h
+    all_kept _ _ _ _ _ _ _ front rest all h

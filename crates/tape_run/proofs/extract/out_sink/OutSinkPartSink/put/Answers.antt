@@ -7,6 +7,7 @@ pub returns-in-Ok-clause-ok : goal.returns-in-Ok-clause-ok
 returns-in-Ok-clause-ok g c =
     let old = c.args.self.now in
     let is : old.out ≡ Some c.in-Some.out = search rules in
-    λ parts h. put_done _ old.form _ _ old.weight _ old.records _ old.begun _ parts _
-    c.in-Ok.ensures.ok refl c.with_end-self.ensures c.leaves-self.ensures (subst (λ out. HasTaken
-    g.W.Write.contents old.form out old.weight old.records old.begun parts) is h)
+    λ parts h. put_done _ old.form _ _ old.held.items _ old.weight _ old.records _ old.begun _
+    parts _ c.in-Ok.ensures.ok c.in-Ok.ensures.holds refl c.with_end-self.ensures
+    c.leaves-self.ensures (subst (λ out. HasTaken g.W.Write.contents old.form out old.held.items
+    old.weight old.records old.begun parts) is h)
