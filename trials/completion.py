@@ -41,7 +41,7 @@ FILES_IN_FISH = [(["check"], "quo", ["quote'q.tap"]), (["stage"], "pl", ["plain.
     (["extract", "S", "1"], "my", []), (["extract", "S", "1", "o"], "my", ["my file.tap"]), (["check", "--files-from"], "pl", ["plain.stage"]),
     (["write", "D", "A", "1"], "ID=pl", ["ID=plain.stage"]), (["--explain", "stage"], "pl", ["plain.stage"])]
 # what is offered: the words before the cursor, and all offers; a name that ends in `/` is a directory
-OFFERED = [(["salvage", "--form"], "lines raw blocks"), (["stage", "--form"], "lines raw"), (["write", "--format"], "F D S"),
+OFFERED = [(["salvage", "--form"], "lines raw counted blocks"), (["stage", "--form"], "lines raw counted"), (["write", "--format"], "F D S"),
     (["unpack", "--set"], ""), (["write", "D", "A", "1", "--block"], ""), (["extract"], ""), (["extract", "S"], ""), (["init", "D"], "")]
 TELL = """_calls() { COMP_WORDS=("$@"); COMP_CWORD=$((${#COMP_WORDS[@]} - 1)); COMPREPLY=(); _tape; printf '%s\\n' "${COMPREPLY[@]}"; }
 compopt() { :; }; _calls "$@" """

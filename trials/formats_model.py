@@ -9,15 +9,17 @@ or spaces; gaps, pad bytes, user labels. More than half of the tapes are damaged
 unreadable, lost or doubled, wrong bytes, truncated images, faults of the image.
 
 The model (tape_model.py, normal_form.py, read_model.py, survey_model.py) is written from
-docs/FORMATS.md and docs/REFERENCE.md. `survey --tsv` must print its sections; `unpack` in both
-forms must report and write its files, byte for byte; `extract --again` of one file must print its
+docs/FORMATS.md and docs/REFERENCE.md. `survey --tsv` must print its sections; `unpack` in each
+form must report and write its files, byte for byte; `extract --again` of one file must print its
 lines; the stage of an incomplete file must have its records. And the records that were written are
 known: they must be those of the model if a tape is whole, and those of each file that is COMPLETE,
-unless the damage cannot be noticed, such as a wrong byte in a record.
+unless the damage cannot be noticed, such as a wrong byte in a record. Of what was written in the
+form counted the records must come back by their lengths.
 
 Prints each wrong result with the seed of its tape (PROGRAM 1 SEED repeats it), and counts; exit
 status 1 if there is one. --plant replaces a function of the model by a wrong one, for which there
-must be wrong results: FAULT is segments, record, padding, ambiguous, spans, sections or descriptor.
+must be wrong results: FAULT is segments, record, padding, ambiguous, spans, sections, descriptor
+or length.
 With TMPDIR=/dev/shm it takes half the time.
 """
 
@@ -36,7 +38,33 @@ from common import Results
 from drawn_sets import SET, Tape
 from survey_model import Survey, one_by_one, path_of, printed
 
-ENDS = {"raw": b"", "lines": b"\n"}
+FORMS = ["raw", "lines", "counted"]
+
+
+def length_of(record):
+    """What precedes a record in the form counted."""
+    return len(record).to_bytes(4, "big")
+
+
+def in_form(form, record):
+    """The bytes that are written for a record."""
+    if form == "counted":
+        return length_of(record) + record
+    return record + {"raw": b"", "lines": b"\n"}[form]
+
+
+def text_of(form, records):
+    return b"".join(in_form(form, record) for record in records)
+
+
+def counted(data):
+    """The records of a file in the form counted."""
+    records, at = [], 0
+    while at < len(data):
+        end = at + 4 + int.from_bytes(data[at:at + 4], "big")
+        records.append(data[at + 4:end])
+        at = end
+    return records
 
 
 class Trial(Results):
@@ -56,7 +84,7 @@ class Trial(Results):
         """Draws a tape, and compares what the program and the model read of it."""
         tape = self.tape = Tape(seed)
         shutil.rmtree(self.folder)
-        for form in ENDS:
+        for form in FORMS:
             (self.folder / form).mkdir(parents=True)
         self.names = [f"{number}.tap" for number in range(len(tape.images))]
         for name, data in zip(self.names, tape.images):
@@ -66,7 +94,7 @@ class Trial(Results):
         self.readers = {key: self.reader(*key) for key in self.found.files}
         self.check_model()
         self.check_survey()
-        for form in ENDS:
+        for form in FORMS:
             self.check_unpack(form)
         self.check_extract(tape.rng.choice(tape.files).number)
 
@@ -125,9 +153,9 @@ class Trial(Results):
                 line = f"{self.found.last_line(reader)} {path}.stage"
             if records is not None:
                 line = f"COMPLETE {len(records)} {path}"
-                files[path] = b"".join(each + ENDS[form] for each in records)
-            elif reader and form == "raw":
-                self.check_stage(path, file, reader)
+                files[path] = text_of(form, records)
+            elif reader and form != "lines":
+                self.check_stage(form, path, file, reader)
             want.append(f"FILE {printed(set_id)} {file} {line}")
         unread = [name for name, each in zip(self.names, self.found.volumes) if not each.is_read]
         want += [f"INCOMPLETE IMAGE {name}" for name in unread]
@@ -152,28 +180,31 @@ class Trial(Results):
         # Bytes may be wrong, but not the lengths of the records.
         found, at = [], 0
         for record in records:
+            at += 4 if form == "counted" else 0
             found.append(data[at:at + len(record)])
-            at += len(record) + len(ENDS[form])
+            at += len(record) + (1 if form == "lines" else 0)
         return found
 
     def check_written(self, form, made):
         """Apart from the model: status 0 means that the files are those that were written."""
         for path, data in made.items():
             file = self.tape.files[int(path.split(".")[1]) - 1]
-            want = b"".join(each + ENDS[form] for each in file.records)
-            self.same(data, want, f"unpack: {path} with status 0")
+            self.same(data, text_of(form, file.records), f"unpack: {path} with status 0")
+            if form == "counted":
+                self.same(counted(data), file.records, f"unpack: records of {path}")
 
-    def check_stage(self, path, file, reader):
+    def check_stage(self, form, path, file, reader):
         """The records in the stage of an incomplete file."""
         out = self.folder / "records"
         out.unlink(missing_ok=True)
-        self.run("stage", "--form", "raw", f"{path}.stage", out.name)
+        self.run("stage", "--form", form, f"{path}.stage", out.name)
         found = out.read_bytes() if out.exists() else None
-        self.same(found, b"".join(model.joined(reader.parts)), f"stage of file {file}")
+        self.same(found, text_of(form, model.joined(reader.parts)), f"stage of file {file}")
 
     def check_extract(self, file):
         """One file by `extract --again`: lines, status and bytes."""
-        words = ["--again", "--form", "raw", SET.decode(), str(file), "out"]
+        form = self.tape.rng.choice(FORMS)
+        words = ["--again", "--form", form, SET.decode(), str(file), "out"]
         done = self.run("extract", *words, *self.names)
         reader, lines = self.found.again(SET, file, True)
         want = [*lines, self.found.last_line(reader)], 0 if reader.done else 3
@@ -182,7 +213,7 @@ class Trial(Results):
         self.same((done.stdout.splitlines(), done.returncode), want, f"extract of file {file}")
         out = self.folder / "out"
         found = out.read_bytes() if out.exists() else None
-        right = b"".join(model.joined(reader.parts)) if want[1] == 0 else None
+        right = text_of(form, model.joined(reader.parts)) if want[1] == 0 else None
         self.same(found, right, f"extract of file {file}")
 
 
@@ -209,7 +240,9 @@ def plant(fault):
         "descriptor": ("described", lambda block, at:
                        described(block, at) and not block[at] & 0x80),
     }
-    if fault == "sections":  # a record of format V does not continue in the next section
+    if fault == "length":  # the length counts its own four bytes
+        globals()["length_of"] = lambda record: (len(record) + 4).to_bytes(4, "big")
+    elif fault == "sections":  # a record of format V does not continue in the next section
         read_model.Reader.begun = property(lambda self:
             begun.fget(self) and (self.seen > 0 or self.form[1] == "S"))
     else:

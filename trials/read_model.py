@@ -128,7 +128,9 @@ class Volume:
         return "trailers"
 
     def trailers(self, kind, block):
-        self.sections[-1]["has_second_trailer"] |= model.kind_of(block) in ("EOF2", "EOV2")
+        # An unreadable item may be a second trailer label.
+        is_second = kind == "bad" or model.kind_of(block) in ("EOF2", "EOV2")
+        self.sections[-1]["has_second_trailer"] |= is_second
         return {"mark": "next", "block": "trailers", "bad": None}[kind]
 
     def ended(self, *_):

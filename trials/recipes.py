@@ -1,5 +1,6 @@
 #!/usr/bin/env python3
-"""The recipes of RECIPES.md for a map of an image and for the rows of a survey. Run manually; CI does not run it.
+"""The recipes of RECIPES.md for a map of an image, for the rows of a survey, and for records and their lengths. Run
+manually; CI does not run it.
 
     ./recipes.py [--program PATH] [--seed N] [--cases N]
 
@@ -9,6 +10,7 @@ The lines are taken from the page. The images are made here, and the expected va
   `ddrescuelog` is installed, it must accept the map and count the same bytes as rescued.
 - rows with names and identifiers that begin with a quotation mark, as Python, SQLite (if it is installed) and
   `docs/page.py` read them.
+- records of any bytes in formats F, D and S, on several volumes, as Python splits the output in the form counted.
 
 Prints each wrong result, what is not installed, and the counts. Exit status 1 if something was wrong.
 """
@@ -136,12 +138,37 @@ def try_rows(trial):
     trial.expect(shown == [file.name for file in files], f"rows: identifiers on the page: {shown}")
 
 
+def try_counted(trial):
+    """Records of any bytes and lengths, also of none."""
+    rng, folder = trial.rng, trial.folder
+    lines = recipe("Records and their lengths", "records, at = ")
+    (folder / "counted").mkdir()
+    for case in range(trial.options.cases):
+        shape = rng.choice([("F", 400, 40), ("D", 400, 400), ("S", 80, 0)])
+        sizes = {"F": [40], "D": [0, 1, 9, 300, 396], "S": [0, 1, 70, 75, 76, 255, 256, 5000, 20000]}[shape[0]]
+        records = [rng.randbytes(rng.choice(sizes)) for _ in range(rng.randint(0, 9))]
+        made = File(1, "COUNTED", shape, " 85100")
+        made.blocks = packed(shape, records)
+        names = []
+        for number, volume in enumerate(volumes_of("CNT001", [made], rng, "CNT0")):
+            names.append(f"{number}.tap")
+            (folder / "counted" / names[-1]).write_bytes(b"".join(item.spelling for item in volume) + END)
+        out = folder / "counted" / f"out{case}"
+        words = ["extract", "--form", "counted", "CNT001", "1", out.name, *names]
+        done = subprocess.run([trial.options.program, *words], cwd=folder / "counted", capture_output=True, check=False)
+        scope = {"data": out.read_bytes() if done.returncode == 0 else b"\0"}
+        exec("\n".join(lines), scope)  # pylint: disable=exec-used
+        lengths = [len(record) for record in records], [len(record) for record in scope["records"]]
+        trial.expect(scope["records"] == records, f"records {case}, {shape}: {done}, {lengths}")
+
+
 def main():
-    options = arguments(__doc__, ("--seed", 1, "of the images"), ("--cases", 60, "of maps"))
+    options = arguments(__doc__, ("--seed", 1, "of the images"), ("--cases", 60, "of maps, and of files"))
     with folder_with() as folder:
         trial = Trial(options, folder)
         try_maps(trial)
         try_rows(trial)
+        try_counted(trial)
     return trial.end()
 
 

@@ -34,7 +34,7 @@ fn extracted<'a>(
     locations: &Locations,
     file: u16,
 ) -> Result<(Result<Option<u64>, EngineFault>, Option<u8>), Fail> {
-    let sink = OutSink::new(Narrow::new(alloc, 100, true), Form::Lines);
+    let sink = OutSink::new(alloc, Narrow::new(alloc, 100, true), Form::Lines);
     let mut session = Session::new(alloc, set_id(), file, sink)?;
     let mut name = Name {
         is_free: true,

@@ -90,7 +90,7 @@ fn comes_to(alloc: Global, row: &Row<'_>) -> Result<bool, Fail> {
     let (length, left, flushes, is_free, wanted, lines, there) = row;
     let image = cut(alloc, *length)?;
     let out = Narrow::new(alloc, *left, *flushes);
-    let mut session = Session::new(alloc, set_id(), 1, OutSink::new(out, Form::Lines))?;
+    let mut session = Session::new(alloc, set_id(), 1, OutSink::new(alloc, out, Form::Lines))?;
     let mut shelf = shelf_of(alloc, &mut [Some(image.bytes.as_slice())])?;
     let mut report = Vec::new(alloc);
     let mut name = Name {

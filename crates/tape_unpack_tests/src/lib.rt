@@ -4,6 +4,8 @@
 #[cfg(test)]
 mod completion;
 #[cfg(test)]
+mod counted_program;
+#[cfg(test)]
 mod images;
 #[cfg(test)]
 mod manifest_program;
