@@ -21,12 +21,13 @@ _tape() {
         salvage:--files-from) kind='file' ;;
     merge:--log | extract:--stage) kind='other' ;;
     convert:--format) kind='auto aws e11 simh' ;;
-    extract:--form | stage:--form | write:--form) kind='lines raw' ;;
-    unpack:--form) kind='lines raw auto' ;;
+    extract:--form | stage:--form) kind='lines raw counted' ;;
+    unpack:--form) kind='lines raw counted auto' ;;
     unpack:--set | unpack:--file | write:--block | write:--record | \
         write:--offset | write:--date) kind='text' ;;
-    salvage:--form) kind='lines raw blocks' ;;
+    salvage:--form) kind='lines raw counted blocks' ;;
     write:--format) kind='F D S' ;;
+    write:--form) kind='lines raw' ;;
     esac
     if [ -z "$kind" ] && [[ $cur == -* ]]; then
         case $command in
