@@ -40,7 +40,7 @@ pub const REFUSED: &str = "these arguments are not accepted";
 
 pub const NO_TEXT: &str = "error: a name on the command line is not valid UTF-8. Find it with
   ls | grep -axv '.*'
-and rename it, or use 'tape list < NAME'\n";
+and rename it, name a link to it (ln -s), or use 'tape list < NAME'\n";
 
 pub const AFTER: &str =
     "An error is one line on standard error: 'tape: KIND fault NUMBER', followed for
@@ -182,7 +182,7 @@ If names really begin or end like this, end each with a NUL and add --null";
 
 pub const NO_TEXT_IN_LIST: &str = "of the list is not valid UTF-8. Find the file with
   find . | grep -axv '.*'
-and rename it";
+and rename it, or list a link to it (ln -s)";
 
 // `survey`: descriptions of arguments and commands.
 pub const ABOUT_SURVEY: &str =

@@ -111,7 +111,7 @@ const GUARDED: &str = "
     * no_text
     ! error: a name on the command line is not valid UTF-8. Find it with
     !   ls | grep -axv '.*'
-    ! and rename it, or use 'tape list < NAME'
+    ! and rename it, name a link to it (ln -s), or use 'tape list < NAME'
     !   word 1: \\xFFist
 ";
 
