@@ -16,6 +16,7 @@ import commands
 # What the values with these names are: an image, a file, one that is no image, a directory, or free text.
 KINDS = {
     "IMAGE": "image", "LIST": "file", "ID=PATH": "file", "OUT": "other", "PATH": "other", "LOG": "other",
+    "JSONL": "other",
     "DIR": "directory", "SET": "text", "FILE": "text", "N": "text", "N|NAME": "text", "PRE": "text",
     "COUNT": "text", "CAPACITY": "text", "DATE": "text", "M": "text",
 }

@@ -38,7 +38,7 @@ MEMORY = {"IMAGE": 6, "WRITE": 10, "RUN": 4, "STAGE": 4}
 FILES = {"FILE_OF_IMAGE": "an image", "FILE_OF_LIST": "a list of images",
          "FILE_OF_OUT": "OUT", "FILE_OF_NEW": "OUT of `merge` or `convert`", "FILE_OF_LOG": "LOG of `merge`",
          "FILE_OF_STAGE": "a stage", "FILE_OF_FOLDER": "DIR of `unpack`",
-         "FILE_OF_MANIFEST": "a list of `unpack` in DIR",
+         "FILE_OF_MANIFEST": "a list of `unpack` in DIR", "FILE_OF_PROVENANCE": "the JSONL of `--provenance`",
          "FILE_OF_VOLUME": "an image of `init`", "FILE_OF_INPUT": "an input of `write`",
          "FILE_OF_IMAGES": "an image of `write`", "FILE_OF_LINES": "standard output"}
 

@@ -11,14 +11,13 @@ use crate::screen::Progress;
 use crate::shown::Shown;
 use crate::write::failed::OddRecord;
 use crate::write::run::split;
-use container::kind_of;
+use container::{kind_of, unread};
 use files::{
     FILE_OF_FOLDER, FILE_OF_IMAGE, FILE_OF_IMAGES, FILE_OF_INPUT, FILE_OF_LINES, FILE_OF_LIST,
-    FILE_OF_LOG, FILE_OF_MANIFEST, FILE_OF_NEW, FILE_OF_OUT, FILE_OF_STAGE, FILE_OF_VOLUME,
+    FILE_OF_LOG, FILE_OF_MANIFEST, FILE_OF_NEW, FILE_OF_OUT, FILE_OF_PROVENANCE, FILE_OF_STAGE,
+    FILE_OF_VOLUME,
 };
 pub use missing::explain_missing;
-use std::fs::File;
-use std::io::Read;
 use std::rt::Runtime;
 use std::{fmt, fs, io};
 use tape_image::ImageCause;
@@ -66,6 +65,8 @@ pub enum FaultSite<'a> {
     Folder(&'a str),
     /// The list of checksums in a directory.
     Manifest(&'a str),
+    /// The record of how an output was recovered.
+    Provenance(&'a str),
 }
 
 impl fmt::Display for FaultSite<'_> {
@@ -109,6 +110,7 @@ impl<'a> FaultSite<'a> {
             FaultSite::Stage(path) => ("Stage", path, FILE_OF_STAGE),
             FaultSite::Folder(path) => ("DIR", path, FILE_OF_FOLDER),
             FaultSite::Manifest(path) => ("DIR", path, FILE_OF_MANIFEST),
+            FaultSite::Provenance(path) => ("JSONL", path, FILE_OF_PROVENANCE),
         }
     }
 }
@@ -201,29 +203,16 @@ fn reason_of<R: Runtime>(rt: &R, fault: ToolFault, site: FaultSite<'_>) -> Optio
             unread(rt, path)
         }
         FaultSite::Input(word) => unread(rt, split(word).1),
-        FaultSite::Out(path) | FaultSite::New(path) | FaultSite::Log(path) => {
-            fs::metadata(rt, folder_of(path)).err()
-        }
+        FaultSite::Out(path)
+        | FaultSite::New(path)
+        | FaultSite::Log(path)
+        | FaultSite::Provenance(path) => fs::metadata(rt, folder_of(path)).err(),
         FaultSite::Folder(path)
         | FaultSite::Manifest(path)
         | FaultSite::Images(path)
         | FaultSite::Volume(path, _, _)
         | FaultSite::Written(path, _, _) => fs::metadata(rt, path).err(),
         _ => None,
-    }
-}
-
-/// Returns the error with which reading the file at `path` fails, if any. A pipe or a device is not
-/// opened, since that might block.
-fn unread<R: Runtime>(rt: &R, path: &str) -> Option<io::Error> {
-    match fs::metadata(rt, path) {
-        Ok(found) if found.is_file() || found.is_dir() => {
-            File::open(rt, path)
-                .and_then(|mut file| file.read(&mut [0]))
-                .err()
-        }
-        Ok(_) => None,
-        Err(error) => Some(error),
     }
 }
 

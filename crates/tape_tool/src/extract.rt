@@ -13,8 +13,10 @@ use crate::help;
 use crate::images::{Images, Named, in_reading_order, names_of, place_of};
 use crate::normal::NormalImages;
 use crate::program::End;
+use crate::recording::{PROVENANCE, ReadImages, new_record, provenance_of, record_extracted};
 use crate::refusal::{Refusal, are_files, is_file};
 use crate::screen::Progress;
+use crate::unpack::{Listed, Record};
 use crate::warned::Warned;
 use crate::words::{FORM, form_of, named, out_of, set_id_of, text_of};
 use clap::ArgMatches;
@@ -25,7 +27,7 @@ use recovery::recover;
 use std::alloc::{AllocError, Global};
 use tape_blocks::Form;
 use tape_label::Field;
-use tape_run::{AsTheyAre, find_files};
+use tape_run::{AsTheyAre, FoundFiles, find_files};
 use tape_set::Want;
 
 /// The request to `extract`: a file of a set, to be recovered from images in their order.
@@ -37,6 +39,8 @@ pub struct ExtractOrder<'a> {
     pub images: Named<'a>,
     /// Whether the output keeps the time at which it was written.
     pub now: bool,
+    /// The path of the record of how the file was recovered, if one is to be created.
+    pub provenance: Option<&'a str>,
 }
 
 /// The file of a set to recover, and how to recover it.
@@ -71,6 +75,7 @@ pub const EXTRACT: &CommandSpec = &CommandSpec {
         Word("stage", Kind::TextOption("PATH"), help::STAGE),
         Word("again", Kind::Flag, help::AGAIN),
         Word("now", Kind::Flag, help::NOW_OF_OUT),
+        PROVENANCE,
     ],
 };
 
@@ -90,10 +95,15 @@ pub fn extract_order<'a>(
         again: matches.get_flag("again"),
         wide: false,
     };
+    let provenance = provenance_of(matches)?;
+    if provenance.is_some() && !task.again {
+        return Err(Refusal::Words(help::PROVENANCE_NEEDS_AGAIN));
+    }
     Ok(ExtractOrder {
         task,
         images: named(alloc, matches, help::TOO_MANY_IMAGES)?,
         now: matches.get_flag("now"),
+        provenance,
     })
 }
 
@@ -124,13 +134,26 @@ fn extract_named<'n, 'a, R: Progress>(
     awaited: &mut Option<Want>,
     site: &mut FaultSite<'a>,
 ) -> Result<End, Refusal> {
-    let task = &order.task;
-    let way = way_to_out(rt.host(), task.out, task.stage, order.images.list, named)?;
+    let (task, host) = (&order.task, rt.host());
+    let way = way_to_out(host, task.out, task.stage, order.images.list, named)?;
+    let outs = [task.out, task.stage.unwrap_or(task.out)];
+    let mut record = new_record(host, order.provenance, &outs, named, site)?;
+    let mut listed = Listed::new(rt.alloc(), record.is_some());
     let end = if task.again {
-        extract_again(rt, order, named, way, reels, awaited, site)?
+        extract_again(
+            rt,
+            order,
+            named,
+            way,
+            reels,
+            (&mut record, &mut listed),
+            site,
+        )
     } else {
-        extract_in_order(rt, task, named, way, reels, awaited, site)?
+        extract_in_order(rt, task, named, way, reels, &mut listed, site)
     };
+    *awaited = listed.want;
+    let end = end?;
     if end == End::Done && !order.now {
         date_output(rt, task.out, named, task.set_id, task.file);
     }
@@ -144,7 +167,7 @@ fn extract_in_order<'n, 'a, R: Progress>(
     named: &'n [&'n str],
     way: Way,
     reels: Option<u64>,
-    awaited: &mut Option<Want>,
+    listed: &mut Listed,
     site: &mut FaultSite<'a>,
 ) -> Result<End, ToolFault> {
     let images = &mut Images::new(rt, named);
@@ -154,89 +177,64 @@ fn extract_in_order<'n, 'a, R: Progress>(
         &mut Warned::new(rt.alloc(), task, is_on),
         &mut Warned::new(rt.alloc(), task, is_on),
     );
-    recover(rt, task, images, openers, way, awaited, site)
+    recover(rt, task, images, openers, way, listed, site)
 }
 
 /// Recovers the file from images that are read in normal form, in the wider reading if a survey
-/// of them permits it. If `reels` is not `None`, names each image before it is read.
+/// of them permits it. If `reels` is not `None`, names each image before it is read. Writes the
+/// record, if there is to be one.
 ///
 /// # Errors
 ///
-/// As `recover`; also `Conflict` if two images contradict each other about the file: `site` then
-/// names them.
+/// As `recover` and `record_extracted`; also `Conflict`, see `names_to_read`.
 fn extract_again<'n, 'a, R: Progress>(
     rt: &'n R,
     order: &ExtractOrder<'a>,
     named: &'n [&'n str],
     way: Way,
     reels: Option<u64>,
-    awaited: &mut Option<Want>,
+    (record, listed): (&mut Option<Record>, &mut Listed),
     site: &mut FaultSite<'a>,
 ) -> Result<End, ToolFault> {
     let surveyed = named.iter().any(|name| is_file(rt.host(), name));
-    let mut plan = Plan {
-        names: Vec::from_slice(rt.alloc(), named)?,
-        wide: false,
-        lacks: false,
-    };
-    if surveyed {
-        plan_reading(rt, order, named, &mut plan, site)?;
-    }
-    let names = plan.names.as_slice();
-    let task = &Task {
-        wide: plan.wide,
-        ..order.task
-    };
-    let opener = &mut Compared::new(rt.alloc(), surveyed);
-    if plan.lacks {
-        let files = files_in(rt, names)?;
-        if let Some((one, other)) = opener.doubt(rt, task, files.as_slice())? {
-            let image = |number| order
-                .images
-                .image(place_of(named, names, number).unwrap_or(0));
-            *site = FaultSite::Conflict(image(one), image(other));
-            return Err(ToolFault::Conflict);
-        }
-    }
-    let images = &mut NormalImages::new(rt, names);
+    let (mut wide, mut met) = (false, None);
+    let names = names_to_read(rt, order, named, surveyed, (&mut wide, &mut met), site)?;
+    let task = &order.task;
+    let task = &Task { wide, ..*task };
+    let images = &mut NormalImages::new(rt, names.as_slice());
     images.images.reels = reels;
     if surveyed {
         images.is_told();
     }
-    recover(
+    let opener = &mut Compared::new(rt.alloc(), surveyed);
+    opener.is_recorded = listed.is_wanted;
+    let end = recover(
         rt,
         task,
         images,
         (opener, &mut AsTheyAre),
         way,
-        awaited,
+        listed,
         site,
-    )
-}
-
-/// How the images of a file are read.
-#[derive(Drop)]
-struct Plan<'n> {
-    /// Their names, in the order in which they are read.
-    names: Vec<&'n str>,
-    /// Whether the file may be read in the wider reading.
-    wide: bool,
-    /// Whether a section of it is complete on no image.
-    lacks: bool,
-}
-
-/// Returns the names with an empty one, which no file has, in place of each image that can be read
-/// only once.
-fn files_in<'n, R: Progress>(rt: &R, names: &[&'n str]) -> Result<Vec<&'n str>, AllocError> {
-    let mut files = Vec::new(rt.alloc());
-    for name in names {
-        files.push(if is_file(rt.host(), name) { *name } else { "" })?;
+    );
+    match (end, record, &met, order.provenance) {
+        (Ok(end), Some(record), Some(met), Some(path)) => {
+            *site = FaultSite::Provenance(path);
+            let order = names.as_slice();
+            let images = ReadImages {
+                order,
+                names: named,
+                met,
+            };
+            record_extracted(rt, record, task, images, opener, listed, end)
+        }
+        (end, _, _, _) => end,
     }
-    Ok(files)
 }
 
-/// Surveys the images named `names`: those on which a section of the file begins are read first.
-/// An image that can be read only once is not surveyed.
+/// Returns the names in the order in which the images are read. If they are surveyed first, those
+/// on which a section of the file begins come first, `wide` is set if the file may be read in the
+/// wider reading, and `met` gets the survey. An image that can be read only once is not surveyed.
 ///
 /// # Errors
 ///
@@ -246,13 +244,22 @@ fn plan_reading<'n, 'a, R: Progress>(
     rt: &'n R,
     order: &ExtractOrder<'a>,
     names: &'n [&'n str],
-    plan: &mut Plan<'n>,
+    surveyed: bool,
+    (wide, met): (&mut bool, &mut Option<FoundFiles>),
     site: &mut FaultSite<'a>,
 ) -> Result<(), ToolFault> {
     let task = &order.task;
-    let files = files_in(rt, names)?;
-    let met = find_files(rt.alloc(), &mut NormalImages::new(rt, files.as_slice()))?;
-    for file in met.files.as_slice() {
+    if !surveyed {
+        return Ok(Vec::from_slice(rt.alloc(), names)?);
+    }
+    let mut files = Vec::new(rt.alloc());
+    for name in names {
+        // No file has the empty name, so an image that is not surveyed keeps its number.
+        let tried = if is_file(rt.host(), name) { *name } else { "" };
+        files.push(tried).map_err(|_| OUT_OF_MEMORY)?;
+    }
+    let found = find_files(rt.alloc(), &mut NormalImages::new(rt, files.as_slice()))?;
+    for file in found.files.as_slice() {
         if file.set_id != task.set_id || file.file != task.file {
             continue;
         }
@@ -268,6 +275,7 @@ fn plan_reading<'n, 'a, R: Progress>(
             return Err(ToolFault::Conflict);
         }
     }
-    plan.names = in_reading_order(rt.alloc(), names, &met, (task.set_id, task.file))?;
-    Ok(())
+    let order = in_reading_order(rt.alloc(), names, &found, (task.set_id, task.file));
+    *met = Some(found);
+    Ok(order?)
 }

@@ -1,10 +1,12 @@
 //! The texts of help, and of most usage errors that the program finds itself.
 mod created;
 mod items;
+mod recorded;
 mod recovered;
 
 pub(crate) use created::*;
 pub(crate) use items::*;
+pub(crate) use recorded::*;
 pub(crate) use recovered::*;
 
 // The program, `list` and `check`: descriptions of arguments and commands.

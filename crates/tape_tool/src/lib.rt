@@ -22,6 +22,7 @@ mod list;
 mod merge;
 mod normal;
 mod program;
+mod recording;
 mod refusal;
 mod salvage;
 mod screen;

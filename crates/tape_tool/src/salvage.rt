@@ -8,8 +8,10 @@ use crate::help;
 use crate::images::{Named, names_of};
 use crate::normal::NormalImages;
 use crate::program::{End, check_end};
+use crate::recording::{PROVENANCE, RecordedReport, new_record, provenance_of, record_salvaged};
 use crate::refusal::{Refusal, no_pipes};
 use crate::screen::Progress;
+use crate::unpack::{Summed, SummedDraft};
 use crate::words::{form_of, named, out_of, set_id_of, text_of};
 use clap::ArgMatches;
 use std::alloc::Global;
@@ -28,6 +30,8 @@ pub struct SalvageOrder<'a> {
     pub images: Named<'a>,
     /// Whether the output keeps the time at which it was written.
     pub now: bool,
+    /// The path of the record of how the file was recovered, if one is to be created.
+    pub provenance: Option<&'a str>,
 }
 
 const FORMS_OF_SALVAGE: &[&str] = &["lines", "raw", "counted", "blocks"];
@@ -47,6 +51,7 @@ pub const SALVAGE: &CommandSpec = &CommandSpec {
             help::FORM_OF_SALVAGED,
         ),
         Word("now", Kind::Flag, help::NOW_OF_OUT),
+        PROVENANCE,
     ],
 };
 
@@ -71,11 +76,13 @@ pub fn salvage_order<'a>(
     };
     let images = named(alloc, matches, help::TOO_MANY_TO_SALVAGE)?;
     let now = matches.get_flag("now");
+    let provenance = provenance_of(matches)?;
     Ok(SalvageOrder {
         task,
         out,
         images,
         now,
+        provenance,
     })
 }
 
@@ -90,24 +97,37 @@ pub fn salvage<'a, R: Progress>(
     let mut text = String::new(rt.alloc());
     let names = names_of(rt.host(), &order.images, &mut text, site)?;
     *site = FaultSite::Out(order.out);
-    salvage_named(rt, order, names.as_slice())
+    salvage_named(rt, order, names.as_slice(), site)
 }
 
-/// Recovers the readable parts of the file from the images named `names`.
-fn salvage_named<R: Progress>(
+/// Recovers the readable parts of the file from the images named `names`, and writes the record, if
+/// there is to be one.
+fn salvage_named<'a, R: Progress>(
     rt: &R,
-    order: &SalvageOrder<'_>,
+    order: &SalvageOrder<'a>,
     names: &[&str],
+    site: &mut FaultSite<'a>,
 ) -> Result<End, Refusal> {
     no_draft(names, order.images.list)?;
     no_draft(&[order.out], None)?;
     no_pipes(rt.host(), names)?;
-    let (mut draft, out) = Draft::new(rt, order.out)?;
+    let mut record = new_record(rt.host(), order.provenance, &[order.out], names, site)?;
+    let (draft, out) = Draft::new(rt, order.out)?;
     let (task, images) = (&order.task, &mut NormalImages::new(rt, names));
-    let report = &mut io::writer(rt);
-    let end = check_end(salvage_joined(rt.alloc(), task, images, out, &mut draft, report));
-    if draft.has_taken() && !order.now {
+    let mut place = SummedDraft { draft, found: None };
+    let out = Summed::new(out, record.is_some());
+    let mut report = RecordedReport::new(rt.alloc(), io::writer(rt), record.is_some());
+    let done = salvage_joined(rt.alloc(), task, images, out, &mut place, &mut report);
+    if place.draft.has_taken() && !order.now {
         date_output(rt, order.out, names, task.set_id, task.file);
     }
-    Ok(draft.ended(end))
+    let end = place.draft.ended(check_end(done));
+    match (&mut record, order.provenance, place.found, end) {
+        (Some(record), Some(path), Some(sum), End::Done | End::Incomplete) => {
+            *site = FaultSite::Provenance(path);
+            let output = (task, order.out);
+            Ok(record_salvaged(rt, record, output, names, &report, sum, end)?)
+        }
+        _ => Ok(end),
+    }
 }

@@ -23,8 +23,13 @@ use crate::images::Named;
 use crate::refusal::Refusal;
 use crate::words::{folder_of, form_of, named, set_id_of};
 use clap::ArgMatches;
+pub use completion::SectionLines;
+pub use record::Record;
+pub use recorded::{RecordedName, written_at};
+pub use recovery::renumber;
 pub use run::unpack;
 use std::alloc::Global;
+pub use summed::{Listed, Summed, SummedDraft};
 use tape_blocks::Form;
 
 /// The request to `unpack`: the images, and the directory for their files.

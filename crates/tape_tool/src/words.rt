@@ -40,6 +40,14 @@ pub fn form_of(matches: &ArgMatches<'_>) -> Form {
     }
 }
 
+/// Returns the word for a form.
+pub fn form_word(form: Form) -> &'static str {
+    match form {
+        Form::Lines => "lines",
+        Form::Raw => "raw",
+    }
+}
+
 /// Returns the directory DIR.
 pub fn folder_of<'a>(matches: &ArgMatches<'a>) -> Result<&'a str, Refusal> {
     match text_of(matches, "DIR") {

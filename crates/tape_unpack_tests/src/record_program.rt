@@ -120,10 +120,12 @@ const RECORDED: &str = "
     # Salvaged records.
     folder salvaged
     3: unpack salvaged rec2.tap --manifest --salvage --form raw
-    length salvaged/MANIFEST.jsonl 595
+    length salvaged/MANIFEST.jsonl 683
     at salvaged/MANIFEST.jsonl 282 \
         {\"row\":\"SALVAGED\",\"name\":\"ABC001.1.PAYROLL.salvaged\",\"set\":\"ABC001\",\"file\":1,\
-        \"identifier\":\"PAYROLL\",\"form\":\"raw\",\"gaps\":\"ABC001.1.PAYROLL.gaps\"}\\0A
+        \"identifier\":\"PAYROLL\",\"form\":\"raw\",\"gaps\":\"ABC001.1.PAYROLL.gaps\",\
+        \"size\":1600,\
+        \"sha256\":\"968794b4732e5d2084d0602307bd8c23910079feb925d8d8494034b7f3742905\"}\\0A
 ";
 
 #[test]
@@ -170,4 +172,100 @@ const KEPT: &str = "
 #[test]
 fn records_are_kept(rt: HostRuntime) -> Result<(), Fail> {
     follow_in(&rt, "kept_records", KEPT)
+}
+
+const ONE_OUTPUT: &str = "
+    # The record of one output, from two damaged images: the second one is read first.
+    damaged one1.tap 1
+    damaged one2.tap 2
+    0: extract ABC001 1 one.txt one1.tap one2.tap --again --form raw --provenance one.jsonl
+    has one.jsonl \
+        {\"row\":\"FILE\",\"name\":\"one.txt\",\"set\":\"ABC001\",\"file\":1,\
+        \"identifier\":\"PAYROLL\",\"generation\":\"0001\",\"version\":\"00\",\"created\":null,\
+        \"expires\":null,\"access\":null,\"system\":null,\"format\":\"F\",\"block\":400,\
+        \"record\":80,\"form\":\"raw\",\"size\":2000,\
+        \"sha256\":\"9ca721bb0fceb366d3809a5da8042c523cf671155b6366a74de5b02d2f163684\",\
+        \"program\":\"0.1.0\",\"proved\":null,\"build\":null}\\0A\
+        {\"row\":\"BLOCKS\",\"name\":\"one.txt\",\"section\":1,\"block\":0,\"part\":0,\
+        \"end_section\":1,\"end_block\":2,\"end_part\":0,\"image\":\"one2.tap\",\
+        \"offset\":268}\\0A\
+        {\"row\":\"BLOCKS\",\"name\":\"one.txt\",\"section\":1,\"block\":2,\"part\":0,\
+        \"end_section\":null,\"end_block\":null,\"end_part\":null,\"image\":\"one1.tap\",\
+        \"offset\":1084}\\0A\
+        {\"row\":\"IMAGE\",\"image\":\"one1.tap\",\"size\":2500,\
+        \"sha256\":\"cb9687188964db738855ba386d62b001b7e858a9efc7e8285157f5e847509627\",\
+        \"volume\":\"ABC001\",\"owner\":null,\"system\":null}\\0A\
+        {\"row\":\"IMAGE\",\"image\":\"one2.tap\",\"size\":2500,\
+        \"sha256\":\"daf61a346b32d5f3b5ed4c59a4513114b6388172932a914eab267ae0bd4839a2\",\
+        \"volume\":\"ABC001\",\"owner\":null,\"system\":null}\\0A
+    # An existing record stays, and nothing is recovered. So it is if the record would be OUT.
+    put mine.jsonl mine
+    file fault 1: extract ABC001 1 no.txt one1.tap one2.tap --again --provenance mine.jsonl
+    file fault 1: salvage ABC001 1 no.txt one1.tap --provenance mine.jsonl
+    has mine.jsonl mine
+    file fault 2: salvage ABC001 1 no.txt one1.tap --provenance nowhere/no.jsonl
+    2: extract ABC001 1 no.txt one1.tap --provenance no.jsonl => --provenance needs --again
+    2: extract ABC001 1 no.txt one1.tap --again --provenance ./no.txt => is OUT or the stage
+    2: salvage ABC001 1 no.txt one1.tap --provenance - => standard output
+    2: salvage ABC001 1 no.txt one1.tap --provenance no/ => a directory
+    missing no.txt no.jsonl nowhere
+    # Of an incomplete file the stage is recorded, and nothing without one.
+    3: extract ABC001 1 no.txt one1.tap --again --provenance no.jsonl
+    missing no.txt no.jsonl
+    3: extract ABC001 1 no.txt one1.tap --again --stage one.stage --provenance stage.jsonl
+    has stage.jsonl \
+        {\"row\":\"AWAITS\",\"name\":\"one.stage\",\"set\":\"ABC001\",\"file\":1,\
+        \"identifier\":\"PAYROLL\",\"section\":1,\"block\":1,\"part\":0}\\0A\
+        {\"row\":\"BLOCKS\",\"name\":\"one.stage\",\"section\":1,\"block\":0,\"part\":0,\
+        \"end_section\":1,\"end_block\":1,\"end_part\":0,\"image\":\"one1.tap\",\
+        \"offset\":268}\\0A\
+        {\"row\":\"IMAGE\",\"image\":\"one1.tap\",\"size\":2500,\
+        \"sha256\":\"cb9687188964db738855ba386d62b001b7e858a9efc7e8285157f5e847509627\",\
+        \"volume\":\"ABC001\",\"owner\":null,\"system\":null}\\0A
+    # What salvage writes and prints, and with another image what fills its gap.
+    3: salvage ABC001 1 part.txt one1.tap --provenance part.jsonl
+    has part.jsonl \
+        {\"row\":\"SALVAGED\",\"name\":\"part.txt\",\"set\":\"ABC001\",\"file\":1,\
+        \"identifier\":\"PAYROLL\",\"form\":\"lines\",\"gaps\":null,\"size\":1620,\
+        \"sha256\":\"ab6db134842b1a0f4e16fcf07818c4aede0685cd639d8cd792dd1b7dfd493a84\"}\\0A\
+        {\"row\":\"BLOCKS\",\"name\":\"part.txt\",\"section\":1,\"block\":0,\"part\":0,\
+        \"end_section\":1,\"end_block\":5,\"end_part\":0,\"image\":\"one1.tap\",\
+        \"offset\":268}\\0A\
+        {\"row\":\"LINE\",\"name\":\"part.txt\",\"line\":\"SECTION 1 1 5\"}\\0A\
+        {\"row\":\"LINE\",\"name\":\"part.txt\",\"line\":\"GAP 1 1 1 5\"}\\0A\
+        {\"row\":\"LINE\",\"name\":\"part.txt\",\"line\":\"SALVAGED 20\"}\\0A\
+        {\"row\":\"IMAGE\",\"image\":\"one1.tap\",\"size\":2500,\
+        \"sha256\":\"cb9687188964db738855ba386d62b001b7e858a9efc7e8285157f5e847509627\",\
+        \"volume\":\"ABC001\",\"owner\":null,\"system\":null}\\0A
+    0: salvage ABC001 1 full.txt one1.tap one2.tap --provenance full.jsonl
+    has full.jsonl \
+        {\"row\":\"FILE\",\"name\":\"full.txt\",\"set\":\"ABC001\",\"file\":1,\
+        \"identifier\":\"PAYROLL\",\"generation\":\"0001\",\"version\":\"00\",\"created\":null,\
+        \"expires\":null,\"access\":null,\"system\":null,\"format\":\"F\",\"block\":400,\
+        \"record\":80,\"form\":\"lines\",\"size\":2025,\
+        \"sha256\":\"0ea04722dfc11a313781113712bafecee4beb63c00c2448f7cc86ff88949bdcb\",\
+        \"program\":\"0.1.0\",\"proved\":null,\"build\":null}\\0A\
+        {\"row\":\"BLOCKS\",\"name\":\"full.txt\",\"section\":1,\"block\":0,\"part\":0,\
+        \"end_section\":1,\"end_block\":1,\"end_part\":0,\"image\":\"one1.tap\",\
+        \"offset\":268}\\0A\
+        {\"row\":\"BLOCKS\",\"name\":\"full.txt\",\"section\":1,\"block\":1,\"part\":0,\
+        \"end_section\":1,\"end_block\":2,\"end_part\":0,\"image\":\"one2.tap\",\
+        \"offset\":676}\\0A\
+        {\"row\":\"BLOCKS\",\"name\":\"full.txt\",\"section\":1,\"block\":2,\"part\":0,\
+        \"end_section\":1,\"end_block\":5,\"end_part\":0,\"image\":\"one1.tap\",\
+        \"offset\":1084}\\0A\
+        {\"row\":\"LINE\",\"name\":\"full.txt\",\"line\":\"FILLED 1 2 1 1\"}\\0A\
+        {\"row\":\"LINE\",\"name\":\"full.txt\",\"line\":\"SECTION 1 1 5\"}\\0A\
+        {\"row\":\"LINE\",\"name\":\"full.txt\",\"line\":\"COMPLETE 25\"}\\0A\
+        {\"row\":\"IMAGE\",\"image\":\"one1.tap\",\"size\":2500,\
+        \"sha256\":\"cb9687188964db738855ba386d62b001b7e858a9efc7e8285157f5e847509627\",\
+        \"volume\":\"ABC001\",\"owner\":null,\"system\":null}\\0A\
+        {\"row\":\"IMAGE\",\"image\":\"one2.tap\",\"size\":2500,\
+        \"sha256\":\"daf61a346b32d5f3b5ed4c59a4513114b6388172932a914eab267ae0bd4839a2\",\
+        \"volume\":\"ABC001\",\"owner\":null,\"system\":null}\\0A
+";
+
+#[test]
+fn one_output_is_recorded(rt: HostRuntime) -> Result<(), Fail> {
+    follow_in(&rt, "one_output", ONE_OUTPUT)
 }

@@ -3,10 +3,10 @@ use crate::convert::{format_of, is_simh};
 use crate::screen::Progress;
 use crate::shown::Shown;
 use std::alloc::Global;
-use std::fs;
 use std::fs::File;
 use std::io::Read;
 use std::rt::Runtime;
+use std::{fs, io};
 use tape_run::{Container, KIND_BYTES, container_of, container_text};
 
 /// Reads the first bytes of the file at `path`, and returns its kind. Returns `None` if the path
@@ -40,5 +40,19 @@ pub fn name_unread<R: Progress>(rt: &R, names: &[&str], as_they_are: bool) {
             let (name, text) = (Shown(*name), container_text(kind));
             let _ = rt.eprint(format_args!("  {name}: {text}{end}\n"));
         }
+    }
+}
+
+/// Returns the error with which reading the file at `path` fails, if any. A pipe or a device is not
+/// opened, since that might block.
+pub fn unread<R: Runtime>(rt: &R, path: &str) -> Option<io::Error> {
+    match fs::metadata(rt, path) {
+        Ok(found) if found.is_file() || found.is_dir() => {
+            File::open(rt, path)
+                .and_then(|mut file| file.read(&mut [0]))
+                .err()
+        }
+        Ok(_) => None,
+        Err(error) => Some(error),
     }
 }

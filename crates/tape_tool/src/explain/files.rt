@@ -95,3 +95,11 @@ pub const FILE_OF_MANIFEST: &str = "
 #4  MANIFEST.sha256 or MANIFEST.jsonl could not be written: the disk is full or
   failing. An older list is unchanged, and reported files are kept. Free some
   space and try again: the list is then completed.";
+
+pub const FILE_OF_PROVENANCE: &str = "
+#1  JSONL already exists, or another program created it meanwhile. It was not
+  changed. OUT and the stage, if reported, are kept. Choose a new name.
+#2  JSONL could not be created. OUT and the stage, if reported, are kept.
+  Does its directory exist, and may you write there?
+#4  JSONL could not be written: the disk is full or failing. OUT and the stage
+  are kept. Free some space, or choose another disk for it.";

@@ -8,6 +8,7 @@ use crate::fault::{OUT_OF_MEMORY, ToolFault};
 use crate::program::{End, extract_end};
 use crate::screen::Progress;
 use crate::staging::{StageSink, session_in};
+use crate::unpack::{Listed, Summed};
 use std::fs::File;
 use std::io;
 use std::io::{BufWriter, Read};
@@ -19,15 +20,16 @@ use tape_run::{
 use tape_set::Want;
 
 /// Recovers the file `task` from images. They are opened by the first of `openers` or, if the
-/// records are written as they are read, by the second. If something is missing, `awaited` says
-/// what is expected next. On error, `site` says where it occurred.
+/// records are written as they are read, by the second. `listed` gets what is expected next, if
+/// something is missing, and the checksum of the output if it is needed. On error, `site` says
+/// where it occurred.
 pub fn recover<'a, R, I, L, M, N>(
     rt: &R,
     task: &Task<'a>,
     images: &mut L,
     openers: (&mut M, &mut N),
     way: Way,
-    awaited: &mut Option<Want>,
+    listed: &mut Listed,
     site: &mut FaultSite<'a>,
 ) -> Result<End, ToolFault>
 where
@@ -39,7 +41,7 @@ where
 {
     let (opener, streamer) = openers;
     let Some(path) = task.stage else {
-        return extract_now(rt, task, images, (opener, streamer), way, awaited);
+        return extract_now(rt, task, images, (opener, streamer), way, listed);
     };
     *site = FaultSite::Stage(path);
     let mut session = session_in(rt.host(), path, task.set_id, task.file)?;
@@ -48,8 +50,7 @@ where
     }
     *site = FaultSite::Out(task.out);
     let mut output = Output::new(rt, task.out, way)?;
-    let answer = gather(rt, task, images, opener, &mut output, &mut session);
-    *awaited = session.want();
+    let answer = gather(rt, task, images, opener, &mut output, listed, &mut session);
     let end = output.ended(extract_end(answer));
     if let End::Faulted(ToolFault::Run(_)) = end {
         *site = FaultSite::Stage(path);
@@ -58,15 +59,14 @@ where
 }
 
 /// Recovers a file without a stage. If the images are read once, writes the records as they are
-/// read, unless the output is written in place. If something is missing, `awaited` says what is
-/// expected next.
+/// read, unless the output is written in place. `listed` gets the same as in `recover`.
 fn extract_now<R, I, L, M, N>(
     rt: &R,
     task: &Task<'_>,
     images: &mut L,
     openers: (&mut M, &mut N),
     way: Way,
-    awaited: &mut Option<Want>,
+    listed: &mut Listed,
 ) -> Result<End, ToolFault>
 where
     R: Progress,
@@ -78,9 +78,9 @@ where
     let (opener, streamer) = openers;
     Ok(match Output::new(rt, task.out, way)? {
         Output::New(draft, out) if !task.again => {
-            extract_written(rt, task, images, streamer, (draft, out), awaited)
+            extract_written(rt, task, images, streamer, (draft, out), &mut listed.want)
         }
-        output => extract_held(rt, task, images, opener, output, awaited),
+        output => extract_held(rt, task, images, opener, output, listed),
     })
 }
 
@@ -118,7 +118,7 @@ fn extract_held<R, I, L, M>(
     images: &mut L,
     opener: &mut M,
     output: Output<'_, R>,
-    awaited: &mut Option<Want>,
+    listed: &mut Listed,
 ) -> End
 where
     R: Progress,
@@ -137,8 +137,7 @@ where
     if task.wide {
         session.widen();
     }
-    let answer = gather(rt, task, images, opener, &mut output, &mut session);
-    *awaited = session.want();
+    let answer = gather(rt, task, images, opener, &mut output, listed, &mut session);
     output.ended(extract_end(answer))
 }
 
@@ -153,12 +152,14 @@ pub fn end_as_written(answer: Result<Option<Want>, EngineFault>) -> End {
 }
 
 /// Reads the images into the session, and writes the recovered file to `output` if it is complete.
+/// `listed` gets the same as in `recover`.
 fn gather<R, I, L, M, S>(
     rt: &R,
     task: &Task<'_>,
     images: &mut L,
     opener: &mut M,
     output: &mut Output<'_, R>,
+    listed: &mut Listed,
     session: &mut Session<S>,
 ) -> Result<Option<Want>, EngineFault>
 where
@@ -168,8 +169,10 @@ where
     M: Opener<S, I, L>,
     S: PartWalk + Drop,
 {
-    let report = &mut io::writer(rt);
-    extract_in_passes(
-        session, images, opener, task.again, task.form, output, report,
-    )
+    let (mut out, report) = (Summed::new(output, listed.is_wanted), &mut io::writer(rt));
+    let (again, form) = (task.again, task.form);
+    let answer = extract_in_passes(session, images, opener, again, form, &mut out, report);
+    listed.sum = out.sum();
+    listed.want = session.want();
+    answer
 }

@@ -191,13 +191,4 @@ impl<R: Progress, P: Write> Run<'_, R, P> {
     pub fn form(&self) -> Form {
         self.form.unwrap_or(Form::Lines)
     }
-
-    /// Returns the name of the form of the current file.
-    pub fn form_name(&self) -> &'static str {
-        match self.form() {
-            Form::Lines => "lines",
-            Form::Raw => "raw",
-            Form::Counted => "counted",
-        }
-    }
 }

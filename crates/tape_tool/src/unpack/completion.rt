@@ -5,10 +5,11 @@ ghost use Rattle.std.specs.Prelude.{None};
 
 use super::existing::{Comparison, Existing};
 use super::labels::are_of_one_file;
+use super::recovery::renumber;
 use super::report::LastLine;
 use super::run::Run;
 use super::stages::is_front;
-use super::summed::{Listed, Summed, SummedDraft};
+use super::summed::{Listed, Summed, SummedDraft, SummedFile};
 use crate::extract::{Draft, Task};
 use crate::fault::{OUT_OF_MEMORY, ToolFault};
 use crate::normal::NormalImages;
@@ -26,12 +27,12 @@ use tape_set::Position;
 
 /// A slot that keeps a file without giving it a name.
 #[derive(Drop)]
-struct Kept(Option<Summed>);
+struct Kept(Option<SummedFile>);
 
-impl Place<Summed> for Kept {
+impl Place<SummedFile> for Kept {
     ghost stands = { λ _. None };
 
-    fn place(&mut self, out: Summed) -> Result<(), WriteFailed> {
+    fn place(&mut self, out: SummedFile) -> Result<(), WriteFailed> {
         self.0 = Some(out);
         Ok(())
     }
@@ -51,25 +52,35 @@ struct TakenBlocks {
 
 /// A report of `salvage`: its last line, and the images from which blocks are read.
 #[derive(Drop)]
-struct SectionLines {
+pub struct SectionLines {
     last: LastLine,
     /// The blocks that the image of a section lacks, and another one has.
     fills: Vec<TakenBlocks>,
     /// The blocks of each section, without a gap if the file is complete.
-    runs: Vec<BlockRun>,
+    pub runs: Vec<BlockRun>,
     /// Whether there was no memory for all of them.
-    is_short: bool,
+    pub is_short: bool,
+    /// Whether those of each section end with its last block, since sections may be missing.
+    has_ends: bool,
 }
 
 impl SectionLines {
     /// Creates a report without lines.
-    fn new(alloc: Global) -> SectionLines {
+    pub fn new(alloc: Global) -> SectionLines {
         SectionLines {
             last: LastLine::new(),
             fills: Vec::new(alloc),
             runs: Vec::new(alloc),
             is_short: false,
+            has_ends: false,
         }
+    }
+
+    /// Creates the report, without lines, of a file of which sections may be missing.
+    pub fn with_ends(alloc: Global) -> SectionLines {
+        let mut lines = SectionLines::new(alloc);
+        lines.has_ends = true;
+        lines
     }
 
     /// Records what the last line says about blocks. Lines `FILLED` precede the lines `SECTION`.
@@ -101,6 +112,12 @@ impl SectionLines {
         if block < section.after || block == 0 {
             is_kept = is_kept && add_run(&mut self.runs, section, block);
         }
+        if self.has_ends
+            && let Some(last) = self.runs.last_mut()
+        {
+            let (sect, block, part) = (section.sect, block.max(section.after), 0);
+            last.end = Position::Awaits { sect, block, part };
+        }
         is_kept
     }
 
@@ -110,12 +127,14 @@ impl SectionLines {
     }
 }
 
-/// Adds blocks that were taken from an image, from number `block` on: they end those before them.
-/// Returns false if there is no memory for them.
+/// Adds blocks that were taken from an image, from number `block` on: they end those before them,
+/// unless these have an end. Returns false if there is no memory for them.
 fn add_run(runs: &mut Vec<BlockRun>, taken: &TakenBlocks, block: u32) -> bool {
     let (sect, part) = (taken.sect, 0);
     let from = Position::Awaits { sect, block, part };
-    if let Some(before) = runs.last_mut() {
+    if let Some(before) = runs.last_mut()
+        && let Position::Finished = before.end
+    {
         before.end = from;
     }
     let (image, end) = (Some(taken.image), Position::Finished);
@@ -201,7 +220,7 @@ impl<'n, R: Progress, P: Write> Run<'n, R, P> {
         let end = self.compare_with(file, out, names.as_slice(), &mut told);
         if end == Ok(End::Done) {
             told.give_runs(self.rt.alloc(), runs);
-            self.renumber(names.as_slice(), runs);
+            renumber(self.names, names.as_slice(), runs);
         }
         end
     }
@@ -249,7 +268,7 @@ impl<'n, R: Progress, P: Write> Run<'n, R, P> {
         let end = salvage_whole(self.rt, &task, file, names.as_slice(), listed, &mut told);
         if end == Ok(End::Done) {
             told.give_runs(self.rt.alloc(), &mut listed.runs);
-            self.renumber(names.as_slice(), &mut listed.runs);
+            renumber(self.names, names.as_slice(), &mut listed.runs);
             *last = mem::replace(&mut told.last, LastLine::new());
         }
         end
@@ -302,7 +321,11 @@ fn salvage_whole<'a, R: Progress>(
 }
 
 /// Gives a new file its name if it is `certain`, and returns how the recovery of the file ends.
-fn placed<R: Progress>(place: &mut SummedDraft<'_, R>, kept: Option<Summed>, certain: bool) -> End {
+fn placed<R: Progress>(
+    place: &mut SummedDraft<'_, R>,
+    kept: Option<SummedFile>,
+    certain: bool,
+) -> End {
     let Some(records) = kept else {
         return End::Incomplete;
     };

@@ -96,7 +96,7 @@ fn key_of(line: &[u8]) -> &[u8] {
     line.get(..FILE.len().saturating_add(name)).unwrap_or(line)
 }
 
-/// The record of a directory, which a run of `unpack` extends.
+/// The record of a directory, which a run of `unpack` extends, or of one output.
 #[derive(Drop)]
 pub struct Record {
     path: String,
@@ -113,6 +113,18 @@ pub struct Record {
 }
 
 impl Record {
+    /// Creates the record of an output, at `path`, where there is no file.
+    pub fn new<R: Host>(rt: &R, path: String) -> Record {
+        Record {
+            path,
+            before: None,
+            len: 0,
+            lines: RecordLines::new(rt.alloc()),
+            note: Note::read(rt),
+            used: IndexMap::new(rt.alloc()),
+        }
+    }
+
     /// Reads the record of the directory `folder`, if there is one.
     ///
     /// # Errors
@@ -120,14 +132,7 @@ impl Record {
     /// Returns `Exists` if another file has its name, or one that is not such a record; otherwise
     /// the fault of reading it.
     pub fn open<R: Host>(rt: &R, folder: &str) -> Result<Record, ToolFault> {
-        let mut record = Record {
-            path: path_in(rt.alloc(), folder, RECORD)?,
-            before: None,
-            len: 0,
-            lines: RecordLines::new(rt.alloc()),
-            note: Note::read(rt),
-            used: IndexMap::new(rt.alloc()),
-        };
+        let mut record = Record::new(rt, path_in(rt.alloc(), folder, RECORD)?);
         record.read(rt)?;
         Ok(record)
     }

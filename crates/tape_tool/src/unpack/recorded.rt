@@ -1,37 +1,145 @@
-//! The lines that a run of `unpack` adds to `MANIFEST.jsonl`.
+//! The lines that a run adds to a record.
 
+use super::record::Record;
 use super::rows::{
-    WrittenFile, awaited_file, recorded_blocks, recorded_file, recorded_image, salvaged_file,
+    awaited_file, recorded_blocks, recorded_file, recorded_image, reported_line, salvaged_file,
 };
 use super::run::Run;
 use super::summed::{Listed, sum_of};
-use crate::fault::ToolFault;
+use crate::fault::{FileFault, ToolFault};
 use crate::refusal::open;
 use crate::screen::{Host, Progress};
+use crate::words::form_word;
+use std::alloc::{AllocError, Global};
 use std::fs;
 use std::io::Write;
-use tape_label::Vol1;
-use tape_run::{BlockRun, FileKey, First, ImageSurvey, SectionKey, SetFile};
-use tape_set::Position;
+use tape_label::{Field, Vol1};
+use tape_run::{BlockRun, FileKey, FileNote, First, ImageSurvey, SectionKey, SetFile};
+use tape_set::{Position, Want};
 use tape_writer::system::{found, name_in_folder};
 
-impl<R: Progress, P: Write> Run<'_, R, P> {
-    /// Adds a line to the record, if that is to be extended.
-    fn record(&mut self, line: &[u8]) -> Result<(), ToolFault> {
-        if let Some(manifest) = &mut self.manifest {
-            manifest.record.add(line)?;
+/// How a file was written.
+#[derive(Clone, Copy)]
+pub struct WrittenFile {
+    /// The form of its records.
+    pub form: &'static str,
+    pub size: u64,
+    pub sum: [u8; 32],
+}
+
+/// The name of an output, and its file in a set.
+#[derive(Clone, Copy)]
+pub struct RecordedName<'n> {
+    pub name: &'n str,
+    pub key: FileKey,
+    /// The identifier of the file, if a label of it was found.
+    pub file_id: Option<Field<17>>,
+}
+
+impl Record {
+    /// Adds a complete output, with the labels of its file if some were found.
+    pub fn add_file(
+        &mut self,
+        alloc: Global,
+        output: &RecordedName<'_>,
+        written: WrittenFile,
+        note: Option<&FileNote>,
+    ) -> Result<(), AllocError> {
+        let line = recorded_file(alloc, output, written, self.note.line(), note)?;
+        self.add(line.as_slice())
+    }
+
+    /// Adds where the blocks of an output came from. The numbers of their images count `names`.
+    pub fn add_runs<R: Host>(
+        &mut self,
+        rt: &R,
+        names: &[&str],
+        output: &RecordedName<'_>,
+        runs: &[BlockRun],
+    ) -> Result<(), AllocError> {
+        for run in runs {
+            let image = run.image.and_then(|number| names.get(number)).copied();
+            let offset = match (run.image, image, block_at(output.key, run.from)) {
+                (Some(number), Some(image), Some(at)) => self.note_use(rt, number, image, at)?,
+                _ => None,
+            };
+            let from = image.map(|image| (image, offset));
+            let line = recorded_blocks(rt.alloc(), output.name, *run, from)?;
+            self.add(line.as_slice())?;
         }
         Ok(())
     }
 
-    /// Returns whether a line is missing in the record, if that is to be extended.
-    fn is_new_line(&self, line: &[u8]) -> bool {
-        match &self.manifest {
-            Some(manifest) => !manifest.record.has(line),
-            None => false,
+    /// Adds an incomplete file with its stage, and where its blocks came from, unless the record
+    /// has it and the run added nothing.
+    pub fn add_awaited<R: Host>(
+        &mut self,
+        rt: &R,
+        names: &[&str],
+        output: &RecordedName<'_>,
+        want: Want,
+        runs: &[BlockRun],
+    ) -> Result<(), AllocError> {
+        let line = awaited_file(rt.alloc(), output, want)?;
+        let is_longer = runs.iter().any(|run| run.image.is_some());
+        if !is_longer && self.has(line.as_slice()) {
+            return Ok(());
         }
+        self.add(line.as_slice())?;
+        self.add_runs(rt, names, output, runs)
     }
 
+    /// Adds the salvaged records of an incomplete file, with the file of their gaps if there is
+    /// one, unless the record has them.
+    pub fn add_salvaged(
+        &mut self,
+        alloc: Global,
+        output: &RecordedName<'_>,
+        written: WrittenFile,
+        gaps: Option<&str>,
+    ) -> Result<(), AllocError> {
+        let line = salvaged_file(alloc, output, written, gaps)?;
+        if self.has(line.as_slice()) {
+            return Ok(());
+        }
+        self.add(line.as_slice())
+    }
+
+    /// Adds the lines of the report on the output named `name`.
+    pub fn add_lines(&mut self, alloc: Global, name: &str, text: &[u8]) -> Result<(), AllocError> {
+        for line in str::from_utf8(text).unwrap_or("").lines() {
+            let line = reported_line(alloc, name, line)?;
+            self.add(line.as_slice())?;
+        }
+        Ok(())
+    }
+
+    /// Adds the images named `names` from which blocks were taken, with their volume labels as a
+    /// survey found them in `images`.
+    pub fn add_images<R: Host>(
+        &mut self,
+        rt: &R,
+        names: &[&str],
+        images: &[Option<ImageSurvey>],
+    ) -> Result<(), AllocError> {
+        for (number, name) in names.iter().enumerate() {
+            if !self.is_used(number) {
+                continue;
+            }
+            let label = match images.get(number) {
+                Some(Some(image)) => label_of(image),
+                _ => None,
+            };
+            let line = recorded_image(rt.alloc(), *name, read_sum(rt, *name), label)?;
+            if !self.has(line.as_slice()) {
+                self.add(line.as_slice())?;
+            }
+        }
+        Ok(())
+    }
+}
+
+impl<R: Progress, P: Write> Run<'_, R, P> {
     /// Adds the complete file at `path`, which the run wrote, to the list of checksums and to the
     /// record, if they are to be extended. Its blocks came from `runs`.
     pub fn list_file(
@@ -55,28 +163,16 @@ impl<R: Progress, P: Write> Run<'_, R, P> {
         sum: [u8; 32],
         runs: &[BlockRun],
     ) -> Result<(), ToolFault> {
-        let key = FileKey {
-            set_id: file.set_id,
-            file: file.file,
-        };
-        let met = self.met;
-        let Some(note) = met.notes.get(&key) else {
-            return Ok(());
-        };
-        let there = found(fs::symlink_metadata(self.rt.host(), path))?;
-        let written = WrittenFile {
-            form: self.form_name(),
-            size: there.map_or(0, |there| there.len()),
-            sum,
-        };
-        let name = name_in_folder(path);
-        let build = match &self.manifest {
-            Some(manifest) => manifest.record.note.line(),
-            None => None,
-        };
-        let line = recorded_file(self.rt.alloc(), name, written, build, note)?;
-        self.record(line.as_slice())?;
-        self.record_runs(file, path, runs)
+        let (rt, names, met, form) = (self.rt, self.names, self.met, form_word(self.form()));
+        let output = &recorded_name(file, path);
+        let note = met.notes.get(&output.key);
+        if let (Some(manifest), Some(_)) = (&mut self.manifest, note) {
+            let written = written_at(rt.host(), path, form, sum)?;
+            let record = &mut manifest.record;
+            record.add_file(rt.alloc(), output, written, note)?;
+            record.add_runs(rt.host(), names, output, runs)?;
+        }
+        Ok(())
     }
 
     /// Adds an incomplete file with its stage, unless the record has it and the run added nothing.
@@ -86,96 +182,76 @@ impl<R: Progress, P: Write> Run<'_, R, P> {
         stage: &str,
         listed: &Listed,
     ) -> Result<(), ToolFault> {
-        let Some(want) = listed.want else {
-            return Ok(());
-        };
-        let line = awaited_file(self.rt.alloc(), name_in_folder(stage), file, want)?;
-        let is_longer = listed.runs.iter().any(|run| run.image.is_some());
-        if !is_longer && !self.is_new_line(line.as_slice()) {
-            return Ok(());
+        let (rt, names) = (self.rt, self.names);
+        if let (Some(manifest), Some(want)) = (&mut self.manifest, listed.want) {
+            let (output, runs) = (&recorded_name(file, stage), listed.runs.as_slice());
+            let record = &mut manifest.record;
+            record.add_awaited(rt.host(), names, output, want, runs)?;
         }
-        self.record(line.as_slice())?;
-        self.record_runs(file, stage, listed.runs.as_slice())
+        Ok(())
     }
 
-    /// Adds the salvaged records of a file, at `path`, with their gaps at `gaps`, unless the record
-    /// has them.
+    /// Adds the salvaged records of a file, at `path`, which have this checksum, with their gaps at
+    /// `gaps`, unless the record has them.
     pub fn record_salvaged(
         &mut self,
         file: &SetFile,
         path: &str,
         gaps: &str,
+        sum: [u8; 32],
     ) -> Result<(), ToolFault> {
-        let (name, gaps) = (name_in_folder(path), name_in_folder(gaps));
-        let line = salvaged_file(self.rt.alloc(), name, file, self.form_name(), gaps)?;
-        if self.is_new_line(line.as_slice()) {
-            self.record(line.as_slice())?;
+        let (rt, form) = (self.rt, form_word(self.form()));
+        if let Some(manifest) = &mut self.manifest {
+            let (output, gaps) = (&recorded_name(file, path), name_in_folder(gaps));
+            let written = written_at(rt.host(), path, form, sum)?;
+            let record = &mut manifest.record;
+            record.add_salvaged(rt.alloc(), output, written, Some(gaps))?;
         }
         Ok(())
     }
 
-    /// Adds where the blocks of a file came from, which is recorded with the name of `path`.
-    fn record_runs(
-        &mut self,
-        file: &SetFile,
-        path: &str,
-        runs: &[BlockRun],
-    ) -> Result<(), ToolFault> {
-        let (rt, names) = (self.rt, self.names);
-        for run in runs {
-            let image = run.image.and_then(|number| names.get(number)).copied();
-            let offset = match (
-                &mut self.manifest,
-                run.image,
-                image,
-                block_at(file, run.from),
-            ) {
-                (Some(manifest), Some(number), Some(image), Some(at)) => {
-                    manifest.record.note_use(rt.host(), number, image, at)?
-                }
-                _ => None,
-            };
-            let from = image.map(|image| (image, offset));
-            let line = recorded_blocks(rt.alloc(), name_in_folder(path), *run, from)?;
-            self.record(line.as_slice())?;
-        }
-        Ok(())
-    }
-
-    /// Returns whether blocks in the record came from image `number`.
-    fn is_used(&self, number: usize) -> bool {
-        match &self.manifest {
-            Some(manifest) => manifest.record.is_used(number),
-            None => false,
-        }
-    }
-
-    /// Adds the images from which blocks were taken.
+    /// Adds the images from which blocks were taken, if the record is to be extended.
     pub fn record_images(&mut self) -> Result<(), ToolFault> {
         let (rt, names, met) = (self.rt, self.names, self.met);
-        for (number, name) in names.iter().enumerate() {
-            if !self.is_used(number) {
-                continue;
-            }
-            let label = match met.images.as_slice().get(number) {
-                Some(Some(image)) => label_of(image),
-                _ => None,
-            };
-            let line = recorded_image(rt.alloc(), *name, read_sum(rt.host(), *name), label)?;
-            if self.is_new_line(line.as_slice()) {
-                self.record(line.as_slice())?;
-            }
+        if let Some(manifest) = &mut self.manifest {
+            let record = &mut manifest.record;
+            record.add_images(rt.host(), names, met.images.as_slice())?;
         }
         Ok(())
     }
 }
 
+/// Returns the name by which a file of a directory is recorded, whose path is `path`.
+fn recorded_name<'p>(file: &SetFile, path: &'p str) -> RecordedName<'p> {
+    RecordedName {
+        name: name_in_folder(path),
+        key: FileKey {
+            set_id: file.set_id,
+            file: file.file,
+        },
+        file_id: Some(file.file_id),
+    }
+}
+
+/// Returns what is recorded about the file at `path`, which was written in this form and has this
+/// checksum.
+pub fn written_at<R: Host>(
+    rt: &R,
+    path: &str,
+    form: &'static str,
+    sum: [u8; 32],
+) -> Result<WrittenFile, FileFault> {
+    let there = found(fs::metadata(rt, path))?;
+    let size = there.map_or(0, |there| there.len());
+    Ok(WrittenFile { form, size, sum })
+}
+
 /// Returns the section and the block at this position of a file, or `None` at its end.
-fn block_at(file: &SetFile, position: Position) -> Option<(SectionKey, u32)> {
+fn block_at(key: FileKey, position: Position) -> Option<(SectionKey, u32)> {
     let Position::Awaits { sect, block, .. } = position else {
         return None;
     };
-    let (set_id, file) = (file.set_id, file.file);
+    let FileKey { set_id, file } = key;
     Some((SectionKey { set_id, file, sect }, block))
 }
 

@@ -161,16 +161,17 @@ impl<'n, R: Progress, P: Write> Run<'n, R, P> {
     ) -> Result<Vec<BlockRun>, AllocError> {
         let openings = opener.openings.as_slice();
         let mut runs = runs_of(self.rt.alloc(), openings, position_of(want))?;
-        self.renumber(names, &mut runs);
+        renumber(self.names, names, &mut runs);
         Ok(runs)
     }
+}
 
-    /// Replaces the numbers of images among those named `names` by those among all images.
-    pub fn renumber(&self, names: &[&str], runs: &mut Vec<BlockRun>) {
-        for run in runs {
-            if let Some(number) = run.image {
-                run.image = place_of(self.names, names, number);
-            }
+/// Replaces the numbers of images among those named `some` by those among all images, which are
+/// named `names`.
+pub fn renumber(names: &[&str], some: &[&str], runs: &mut Vec<BlockRun>) {
+    for run in runs {
+        if let Some(number) = run.image {
+            run.image = place_of(names, some, number);
         }
     }
 }

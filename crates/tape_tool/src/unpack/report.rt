@@ -4,6 +4,7 @@ use super::run::Run;
 use crate::fault::{FaultLine, ToolFault};
 use crate::program::End;
 use crate::screen::Progress;
+use crate::words::form_word;
 use arrayvec::ArrayVec;
 use std::alloc::AllocError;
 use std::io::Write;
@@ -94,7 +95,7 @@ impl<R: Progress, P: Write> Run<'_, R, P> {
         };
         if has_form && self.order.form.is_none() && self.form.is_some() {
             details.push(b' ')?;
-            details.extend_from_slice(self.form_name().as_bytes())?;
+            details.extend_from_slice(form_word(self.form()).as_bytes())?;
         }
         Ok(details)
     }

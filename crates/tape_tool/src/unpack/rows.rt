@@ -3,6 +3,7 @@
 ghost use Rattle.std.specs.Prelude.{◌≡◌, [], IfOk, OnOk};
 ghost use Rattle.tape_tool.specs.JsonLine.{IsJsonLine};
 
+use super::recorded::{RecordedName, WrittenFile};
 use crate::command_line::VERSION;
 use crate::json_lines::{JsonCell, add_member};
 use arrayvec::ArrayString;
@@ -10,17 +11,8 @@ use json::Writer;
 use std::alloc::{AllocError, Global};
 use std::fmt::Write;
 use tape_label::{Field, Format, Head1, Head2, Vol1};
-use tape_run::{BlockRun, FileNote, SetFile, date_of, printed};
+use tape_run::{BlockRun, FileNote, date_of, printed};
 use tape_set::{Position, Want};
-
-/// How a file was written.
-#[derive(Clone, Copy)]
-pub struct WrittenFile {
-    /// The form of its records.
-    pub form: &'static str,
-    pub size: u64,
-    pub sum: [u8; 32],
-}
 
 /// Begins a line, with its word.
 fn begun(alloc: Global, word: &str) -> Result<Writer, AllocError>
@@ -117,13 +109,18 @@ fn letter_of(format: Format) -> &'static str {
     }
 }
 
-/// Writes the fields of a first label of a file.
-fn add_head(writer: &mut Writer, head: &Head1) -> Result<(), AllocError>
+/// Writes the fields of a first label of a file that name no file, or nulls if none was found.
+fn add_head(writer: &mut Writer, head: Option<&Head1>) -> Result<(), AllocError>
     ensures { OnOk result (writer.new.before ≡ writer.old.before) }
 {
-    add_field(writer, "set", head.set_id.bytes())?;
-    add_number(writer, "file", Some(u64::from(head.sequence)))?;
-    add_field(writer, "identifier", head.file_id.bytes())?;
+    let Some(head) = head else {
+        add_text(writer, "generation", "")?;
+        add_text(writer, "version", "")?;
+        add_text(writer, "created", "")?;
+        add_text(writer, "expires", "")?;
+        add_text(writer, "access", "")?;
+        return add_text(writer, "system", "");
+    };
     add_field(writer, "generation", head.generation.bytes())?;
     add_field(writer, "version", head.gen_version.bytes())?;
     add_day(writer, "created", &head.created)?;
@@ -163,35 +160,39 @@ fn add_program(writer: &mut Writer, build: Option<&str>) -> Result<(), AllocErro
     add_text(writer, "build", build)
 }
 
-/// Returns the line of a complete file named `name`, with these labels. `build` says how the
-/// program was built, if that is known.
+/// Returns the line of a complete output, with the labels of its file if some were found. `build`
+/// says how the program was built, if that is known.
 pub fn recorded_file(
     alloc: Global,
-    name: &str,
+    output: &RecordedName<'_>,
     written: WrittenFile,
     build: Option<&str>,
-    note: &FileNote,
+    note: Option<&FileNote>,
 ) -> Result<Vec<u8>, AllocError>
     ensures { IfOk result (λ line. IsJsonLine line.items) }
 {
     let mut writer = begun(alloc, "FILE")?;
-    add_member(&mut writer, "name", JsonCell::Text(name))?;
-    add_head(&mut writer, &note.head)?;
-    add_form(&mut writer, note.form)?;
+    add_names(&mut writer, output)?;
+    add_head(&mut writer, note.map(|note| &note.head))?;
+    add_form(&mut writer, note.and_then(|note| note.form))?;
     add_text(&mut writer, "form", written.form)?;
     add_sum(alloc, &mut writer, written.size, &written.sum)?;
     add_program(&mut writer, build)?;
     ended(writer)
 }
 
-/// Writes the name of a file in the directory, and which file of a set it is.
-fn add_names(writer: &mut Writer, name: &str, file: &SetFile) -> Result<(), AllocError>
+/// Writes the name of an output, and which file of a set it is.
+fn add_names(writer: &mut Writer, output: &RecordedName<'_>) -> Result<(), AllocError>
     ensures { OnOk result (writer.new.before ≡ writer.old.before) }
 {
+    let RecordedName { name, key, file_id } = *output;
     add_member(writer, "name", JsonCell::Text(name))?;
-    add_field(writer, "set", file.set_id.bytes())?;
-    add_number(writer, "file", Some(u64::from(file.file)))?;
-    add_field(writer, "identifier", file.file_id.bytes())
+    add_field(writer, "set", key.set_id.bytes())?;
+    add_number(writer, "file", Some(u64::from(key.file)))?;
+    match file_id {
+        Some(file_id) => add_field(writer, "identifier", file_id.bytes()),
+        None => add_member(writer, "identifier", JsonCell::Null),
+    }
 }
 
 /// Writes the section, the block and the part of a position, under these keys, or nulls at the end
@@ -222,8 +223,7 @@ fn add_position(
 /// part.
 pub fn awaited_file(
     alloc: Global,
-    name: &str,
-    file: &SetFile,
+    output: &RecordedName<'_>,
     want: Want,
 ) -> Result<Vec<u8>, AllocError>
     ensures { IfOk result (λ line. IsJsonLine line.items) }
@@ -236,26 +236,40 @@ pub fn awaited_file(
     } = want;
     let position = Position::Awaits { sect, block, part };
     let mut writer = begun(alloc, "AWAITS")?;
-    add_names(&mut writer, name, file)?;
+    add_names(&mut writer, output)?;
     add_position(&mut writer, "section", "block", "part", position)?;
     ended(writer)
 }
 
-/// Returns the line of the salvaged records of a file, which have this name. Their gaps are in the
-/// file named `gaps`.
+/// Returns the line of the salvaged records of a file. Their gaps are in the file named `gaps`, if
+/// there is one.
 pub fn salvaged_file(
     alloc: Global,
-    name: &str,
-    file: &SetFile,
-    form: &str,
-    gaps: &str,
+    output: &RecordedName<'_>,
+    written: WrittenFile,
+    gaps: Option<&str>,
 ) -> Result<Vec<u8>, AllocError>
     ensures { IfOk result (λ line. IsJsonLine line.items) }
 {
     let mut writer = begun(alloc, "SALVAGED")?;
-    add_names(&mut writer, name, file)?;
-    add_text(&mut writer, "form", form)?;
-    add_member(&mut writer, "gaps", JsonCell::Text(gaps))?;
+    add_names(&mut writer, output)?;
+    add_text(&mut writer, "form", written.form)?;
+    let gaps = match gaps {
+        Some(gaps) => JsonCell::Text(gaps),
+        None => JsonCell::Null,
+    };
+    add_member(&mut writer, "gaps", gaps)?;
+    add_sum(alloc, &mut writer, written.size, &written.sum)?;
+    ended(writer)
+}
+
+/// Returns the line of a line of the report on the output named `name`.
+pub fn reported_line(alloc: Global, name: &str, line: &str) -> Result<Vec<u8>, AllocError>
+    ensures { IfOk result (λ line. IsJsonLine line.items) }
+{
+    let mut writer = begun(alloc, "LINE")?;
+    add_member(&mut writer, "name", JsonCell::Text(name))?;
+    add_text(&mut writer, "line", line)?;
     ended(writer)
 }
 

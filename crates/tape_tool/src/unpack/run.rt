@@ -322,9 +322,9 @@ impl<R: Progress, P: Write> Run<'_, R, P> {
             Err(EXISTS) => UnpackOutcome::Exists,
             Err(OUT_OF_MEMORY) => return Err(OUT_OF_MEMORY),
             Err(fault) => return self.tell_failed(file, path, fault),
-            Ok(()) if last.text().starts_with(b"COMPLETE") => UnpackOutcome::Complete,
-            Ok(()) => {
-                self.record_salvaged(file, path, salvaged.report.as_str())?;
+            Ok(_) if last.text().starts_with(b"COMPLETE") => UnpackOutcome::Complete,
+            Ok(sum) => {
+                self.record_salvaged(file, path, salvaged.report.as_str(), sum)?;
                 UnpackOutcome::Salvaged
             }
         };

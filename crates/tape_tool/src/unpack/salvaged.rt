@@ -88,8 +88,8 @@ impl Salvaged {
         })
     }
 
-    /// Writes the readable records of a file on the images named `names`; `last` remembers the last
-    /// line of `salvage`.
+    /// Writes the readable records of a file on the images named `names`, and returns their
+    /// checksum; `last` remembers the last line of `salvage`.
     ///
     /// # Errors
     ///
@@ -101,12 +101,13 @@ impl Salvaged {
         task: &SalvageTask,
         names: &[&str],
         last: &mut LastLine,
-    ) -> Result<(), ToolFault> {
+    ) -> Result<[u8; 32], ToolFault> {
         let (records, report) = self.earlier(rt.host())?;
         let (mut draft, out) = Draft::over(rt, self.records.as_str(), records)?;
+        let mut sum = [0; 32];
         let end = match Draft::over(rt, self.report.as_str(), report) {
             Ok((mut of_report, lines)) => {
-                let done = written(rt, task, names, out, lines, last);
+                let done = written(rt, task, names, out, lines, &mut sum, last);
                 let placed = done.and_then(|(records, report)| {
                     of_report.place(report)?;
                     Ok(draft.place(records)?)
@@ -117,7 +118,7 @@ impl Salvaged {
         };
         match draft.ended(end) {
             End::Faulted(fault) => Err(fault),
-            _ => Ok(()),
+            _ => Ok(sum),
         }
     }
 
@@ -171,13 +172,15 @@ impl Salvaged {
 }
 
 /// Writes the records, and the report, which begins with the names of the images and ends with the
-/// checksums. Returns both files. Neither has its name yet.
+/// checksums. Returns both files, and in `sum_of_records` the checksum of the first. Neither has its
+/// name yet.
 fn written<R: Progress>(
     rt: &R,
     task: &SalvageTask,
     names: &[&str],
     records: BufWriter<File>,
     lines: BufWriter<File>,
+    sum_of_records: &mut [u8; 32],
     last: &mut LastLine,
 ) -> Result<(BufWriter<File>, BufWriter<File>), ToolFault> {
     let mut report = Summed::new(lines);
@@ -195,6 +198,7 @@ fn written<R: Progress>(
     } = report;
     *last = told;
     let sums = (records.sum.finalize(), sum.finalize());
+    *sum_of_records = sums.0;
     write_sums(rt.alloc(), &sums.0, &sums.1, &mut out)?;
     Ok((records.out, out))
 }

@@ -41,24 +41,30 @@ impl Listed {
     }
 }
 
-/// A new file that computes the checksum of its bytes on request.
+/// An output that computes the checksum of its bytes on request.
 #[derive(Drop)]
-pub struct Summed {
-    out: BufWriter<File>,
+pub struct Summed<W> {
+    out: W,
     sum: Option<Sha256>,
 }
 
-impl Summed {
+impl<W> Summed<W> {
     /// Creates a writer to `out`, to which nothing was written.
-    pub fn new(out: BufWriter<File>, is_wanted: bool) -> Summed {
+    pub fn new(out: W, is_wanted: bool) -> Summed<W> {
         Summed {
             out,
             sum: if is_wanted { Some(Sha256::new()) } else { None },
         }
     }
+
+    /// Returns the checksum of the bytes that were written, if it was requested. It is not computed
+    /// any further.
+    pub fn sum(&mut self) -> Option<[u8; 32]> {
+        self.sum.take().map(|sum| sum.finalize())
+    }
 }
 
-impl Write for Summed {
+impl<W: Write> Write for Summed<W> {
     #[inline(always)]
     fn write(&mut self, buf: &[u8]) -> io::Result<usize> {
         let count = self.out.write(buf)?;
@@ -73,6 +79,9 @@ impl Write for Summed {
     }
 }
 
+/// A new file that computes the checksum of its bytes on request.
+pub type SummedFile = Summed<BufWriter<File>>;
+
 /// The draft of an output, and the checksum of the file that got the output's name.
 #[derive(Drop)]
 pub struct SummedDraft<'a, R: Progress> {
@@ -80,10 +89,10 @@ pub struct SummedDraft<'a, R: Progress> {
     pub found: Option<[u8; 32]>,
 }
 
-impl<R: Progress> Place<Summed> for SummedDraft<'_, R> {
+impl<R: Progress> Place<SummedFile> for SummedDraft<'_, R> {
     ghost stands = { λ _. None };
 
-    fn place(&mut self, out: Summed) -> Result<(), WriteFailed> {
+    fn place(&mut self, out: SummedFile) -> Result<(), WriteFailed> {
         let Summed { out, sum } = out;
         self.draft.place(out)?;
         self.found = sum.map(|sum| sum.finalize());
@@ -95,7 +104,7 @@ impl<R: Progress> Place<Summed> for SummedDraft<'_, R> {
 #[derive(Drop)]
 pub struct SummedOutput<'a, R: Progress> {
     pub place: SummedDraft<'a, R>,
-    out: Summed,
+    out: SummedFile,
 }
 
 impl<'a, R: Progress> SummedOutput<'a, R> {
@@ -116,7 +125,7 @@ impl<R: Progress> Write for SummedOutput<'_, R> {
     fn flush(&mut self) -> io::Result<()> {
         self.out.flush()?;
         self.place.draft.take()?;
-        self.place.found = self.out.sum.take().map(|sum| sum.finalize());
+        self.place.found = self.out.sum();
         Ok(())
     }
 }
