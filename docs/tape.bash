@@ -19,7 +19,8 @@ _tape() {
     check:--files-from | survey:--files-from | compare:--files-from | \
         merge:--files-from | extract:--files-from | unpack:--files-from | \
         salvage:--files-from) kind='file' ;;
-    merge:--log | extract:--stage) kind='other' ;;
+    merge:--log | extract:--stage | extract:--provenance | \
+        salvage:--provenance) kind='other' ;;
     convert:--format) kind='auto aws e11 simh' ;;
     extract:--form | stage:--form) kind='lines raw counted' ;;
     unpack:--form) kind='lines raw counted auto' ;;
@@ -38,9 +39,9 @@ _tape() {
         compare) word='--files-from --null --json' ;;
         merge) word='--log --files-from --null' ;;
         convert) word='--format' ;;
-        extract) word='--files-from --null --form --stage --again --now' ;;
+        extract) word='--files-from --null --form --stage --again --now --provenance' ;;
         unpack) word='--files-from --null --form --set --file --list --salvage --now --manifest --verify' ;;
-        salvage) word='--files-from --null --form --now' ;;
+        salvage) word='--files-from --null --form --now --provenance' ;;
         stage) word='--form --damaged' ;;
         write) word='--format --block --record --offset --pad-full --form --date --dry-run' ;;
         *) word='' ;;
@@ -56,7 +57,7 @@ _tape() {
     for ((at = start + 1; at < COMP_CWORD; at++)); do
         case ${COMP_WORDS[at]} in
         --block | --date | --file | --files-from | --form | --format | --log \
-            | --offset | --record | --set | --stage)
+            | --offset | --provenance | --record | --set | --stage)
             at=$((at + 1))
             [ "${COMP_WORDS[at]}" = '=' ] && at=$((at + 1)) ;;
         -*) ;;

@@ -12,7 +12,7 @@ function __tape_at
             continue
         end
         switch $word
-            case --block --date --file --files-from --form --format --log --offset --record --set --stage
+            case --block --date --file --files-from --form --format --log --offset --provenance --record --set --stage
                 set is_value true
             case '-*'
             case '*'
@@ -91,6 +91,7 @@ complete -c tape -n '__tape_in extract' -l form -x -a 'lines raw counted' -d 'li
 complete -c tape -n '__tape_in extract' -l stage -x -a '(__tape_other)' -d 'Save recovered data here, and continue from it'
 complete -c tape -n '__tape_in extract' -l again -d 'Repeat until a pass recovers nothing new'
 complete -c tape -n '__tape_in extract' -l now -d 'Keep the present as the time of OUT, instead of noon (UTC) of the creation date in its labels'
+complete -c tape -n '__tape_in extract' -l provenance -x -a '(__tape_other)' -d 'Also create JSONL, with lines of JSON about OUT: its labels and its checksum, and the images and blocks it was made of; JSONL must not exist'
 complete -c tape -n '__tape_at extract 3' -a '(__tape_other)'
 complete -c tape -n '__tape_at extract 4 +' -F
 complete -c tape -n '__tape_in unpack' -l files-from -r -F -d 'More names, one per line ('\''-'\'': standard input)'
@@ -109,6 +110,7 @@ complete -c tape -n '__tape_in salvage' -l files-from -r -F -d 'More names, one 
 complete -c tape -n '__tape_in salvage' -l null -d 'Names in LIST end with NUL, as of '\''find -print0'\'''
 complete -c tape -n '__tape_in salvage' -l form -x -a 'lines raw counted blocks' -d 'lines: end each record with a line feed; raw: do not; counted: begin each with its length; blocks: whole blocks'
 complete -c tape -n '__tape_in salvage' -l now -d 'Keep the present as the time of OUT, instead of noon (UTC) of the creation date in its labels'
+complete -c tape -n '__tape_in salvage' -l provenance -x -a '(__tape_other)' -d 'Also create JSONL, with lines of JSON about OUT: its labels and its checksum, and the images and blocks it was made of; JSONL must not exist'
 complete -c tape -n '__tape_at salvage 3' -a '(__tape_other)'
 complete -c tape -n '__tape_at salvage 4 +' -F
 complete -c tape -n '__tape_in stage' -l form -x -a 'lines raw counted' -d 'lines: end each record with a line feed; raw: do not; counted: begin each with its length'
