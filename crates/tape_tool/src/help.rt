@@ -141,9 +141,9 @@ number of data blocks, and state.
   SECTION ABC001 1 4 ABC004 3 CUT      no trailer label of it was found
 If several copies of a section are found, the first GOOD one is reported, and
 the first of all if none is. 'tape survey' also compares the copies.
-For each file, the first section that was not found GOOD:
+For each incomplete file, the first section that no image has GOOD:
   LACKS ABC001 1 2
-or, if there is none of any file:
+or, if sections were found and no file is incomplete:
   ALL SECTIONS FOUND
 
 Names from LIST come after the IMAGEs; empty lines are ignored. A file ends
@@ -160,7 +160,7 @@ Examples:
 // Lists of images: descriptions of arguments and commands.
 pub const FROM: &str = "More names, one per line ('-': standard input)";
 
-pub const NULL: &str = "Names in LIST end with NUL, as of 'find -print0'";
+pub const NULL: &str = "Names in LIST end with NUL ('find -print0')";
 
 // Lists of images: errors in arguments.
 pub const TOO_MANY_TO_CHECK: &str =

@@ -51,10 +51,11 @@ pub const OUT_IS_IMAGE: &str =
   tape extract ABC001 1 payroll.txt *.tap";
 
 pub const AFTER_EXTRACT: &str =
-    "Name every image you have of the set, good or damaged. Images of other sets do
-no harm. Give --again whenever you name several: their order does not matter,
-and a block that is unreadable on one copy is taken from another. Give --stage
-too if more reels may turn up: otherwise an incomplete recovery keeps nothing.
+    "Name every image you have of the set, good or damaged. Images of sets with other
+identifiers do no harm. Give --again whenever you name several: their order then
+matters only if copies differ, and a block that is unreadable on one copy is
+taken from another. Give --stage too if more reels may turn up: otherwise an
+incomplete recovery keeps nothing.
 Without --again images are read once, in order, each only as far as needed;
 images after the one that completes the file are not read. Names from LIST come
 after the IMAGEs; empty lines are ignored.
@@ -284,9 +285,11 @@ The lines give a section (counted from 1), its blocks (from 0) and the number
 of records written so far:
   IMAGE 2 NOT OPENED    the second image could not be opened
   FILLED 1 3 7 9        blocks 7 to 9 of section 1 are taken from the third
-                        image; the one in its line SECTION lacks them
+                        image; the one in its line SECTION does not have them
   CONFLICT 1 1 3        the first and the third image have copies of section 1
                         that contradict each other, and are not joined
+  LABELS DIFFER 2 3 1   on the third image section 2 has other labels than the
+                        first section found, on the first image
   SECTION 1 2 40        section 1 is read from the second image, which has 40
                         data blocks of it, unreadable ones included
   GAP 1 5 7 120         blocks 5 to 7 of section 1 are missing, after record
@@ -301,15 +304,15 @@ of records written so far:
   UNSURE 1 30 38        items 30 to 38 may be blocks or labels, and are left
                         out
   COUNT 1 40 39         the trailer label counts 40 blocks, but there are 39
-The last line is COMPLETE and the number of records if nothing is missing and
-no copies differ, and otherwise SALVAGED and their number. OUT is written in
-both cases. Keep the lines with it: OUT itself does not show where something is
-missing.
+The last line is COMPLETE and the number of records if nothing is missing, and
+neither copies nor labels differ; otherwise SALVAGED and their number. OUT is
+written in both cases. Keep the lines with it: OUT itself does not show where
+something is missing.
 
 Images are opened more than once: a pipe such as '<(zcat NAME)' does not work.
 
-Exit status: 0 nothing is missing and no copies differ, 1 error, 2 usage error,
-3 something is missing, or copies differ";
+Exit status: 0 the last line is COMPLETE, 1 error, 2 usage error, 3 it is
+SALVAGED";
 
 // `stage`: descriptions of arguments and commands.
 pub const ABOUT_STAGE: &str = "Show what a stage contains, and write its records";
