@@ -140,6 +140,11 @@ def check_unpack(trial, shelf, there, names, day):
     unread = [line for line in lines if line.startswith("INCOMPLETE IMAGE ")]
     trial.expect(unread and unread == lines[-len(unread):], f"unpack: the images that were not read: {unread}")
     lines = lines[:-len(unread)]
+    # Only of the set that was written twice may a section follow the end of its file.
+    mixed = {f"SECTION AFTER END {reel.name}" for reel in there if reel.set_id == shelf.mixed}
+    after = [line for line in lines if line.startswith("SECTION AFTER END ")]
+    trial.expect(set(after) <= mixed, f"unpack: {after}")
+    lines = [line for line in lines if line not in after]
     trial.expect(all(line.startswith("FILE ") for line in lines), f"unpack: {done.stdout[:200]!r}")
     # A set identifier has six characters, of which the last ones may be spaces.
     lines = [("FILE", line[5:11].rstrip(), *line[12:].split(" ", 1)) for line in lines]

@@ -40,8 +40,8 @@ point_at position = record {
 
 -- the meaning of a fault: no stage was opened and nothing written, and NoPoint and BadFrame are
 -- true of the bytes; or a prefix of the remaining records was written and nothing printed, and the
--- fault is a failed write or the device; or all of them and a prefix of the lines, and the fault is
--- a failed write
+-- fault is a failed write, the device or, in the counted form, a record that is too long; or all of
+-- them and a prefix of the lines, and the fault is a failed write
 abbrev pub StopSays : List ℕ → Bool → Option Form → Option (List ℕ) → Option (List ℕ)
     → Option (List ℕ) → Option (List ℕ) → ToolFault → Type 0
 StopSays read damaged form out written said says fault =
@@ -52,7 +52,8 @@ StopSays read damaged form out written said says fault =
     ⊎ ((g : ℕ) × (point : Point) × (broken : Option ℕ) × (parts : List Portion)
     × Remains read g point broken parts × (damaged ≡ false → broken ≡ None)
     × ((AppendsFront out written (output_in form parts) × Keeps said says × (form ≢ None)
-    × ((fault ≡ File WriteFailed) ⊎ (fault ≡ Stage Device)))
+    × ((fault ≡ File WriteFailed) ⊎ ((fault ≡ Stage Device)
+    ⊎ ((form ≡ Some Counted) × (fault ≡ Run run.OutOfMemory)))))
     ⊎ (Appends out written (output_in form parts)
     × AppendsFront said says (told_of point broken (length (join parts).records))
     × (fault ≡ File WriteFailed))))

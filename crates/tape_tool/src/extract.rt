@@ -140,15 +140,8 @@ fn extract_named<'n, 'a, R: Progress>(
     let mut record = new_record(host, order.provenance, &outs, named, site)?;
     let mut listed = Listed::new(rt.alloc(), record.is_some());
     let end = if task.again {
-        extract_again(
-            rt,
-            order,
-            named,
-            way,
-            reels,
-            (&mut record, &mut listed),
-            site,
-        )
+        let (record, listed) = (&mut record, &mut listed);
+        extract_again(rt, order, named, (way, reels), record, listed, site)
     } else {
         extract_in_order(rt, task, named, way, reels, &mut listed, site)
     };
@@ -186,55 +179,108 @@ fn extract_in_order<'n, 'a, R: Progress>(
 ///
 /// # Errors
 ///
-/// As `recover` and `record_extracted`; also `Conflict`, see `names_to_read`.
+/// As `recover` and `record_extracted`; also `Conflict` if two images contradict each other about
+/// the file: `site` then names them.
 fn extract_again<'n, 'a, R: Progress>(
     rt: &'n R,
     order: &ExtractOrder<'a>,
     named: &'n [&'n str],
-    way: Way,
-    reels: Option<u64>,
-    (record, listed): (&mut Option<Record>, &mut Listed),
+    (way, reels): (Way, Option<u64>),
+    record: &mut Option<Record>,
+    listed: &mut Listed,
     site: &mut FaultSite<'a>,
 ) -> Result<End, ToolFault> {
     let surveyed = named.iter().any(|name| is_file(rt.host(), name));
-    let (mut wide, mut met) = (false, None);
-    let names = names_to_read(rt, order, named, surveyed, (&mut wide, &mut met), site)?;
-    let task = &order.task;
-    let task = &Task { wide, ..*task };
-    let images = &mut NormalImages::new(rt, names.as_slice());
+    let mut plan = Plan {
+        names: Vec::from_slice(rt.alloc(), named)?,
+        wide: false,
+        lacks: false,
+        met: None,
+    };
+    if surveyed {
+        plan_reading(rt, order, named, &mut plan, site)?;
+    }
+    let task = &Task {
+        wide: plan.wide,
+        ..order.task
+    };
+    let opener = &mut Compared::new(rt.alloc(), surveyed);
+    opener.is_recorded = listed.is_wanted;
+    if plan.lacks {
+        doubt_copies(rt, order, named, plan.names.as_slice(), opener, site)?;
+    }
+    let images = &mut NormalImages::new(rt, plan.names.as_slice());
     images.images.reels = reels;
     if surveyed {
         images.is_told();
     }
-    let opener = &mut Compared::new(rt.alloc(), surveyed);
-    opener.is_recorded = listed.is_wanted;
-    let end = recover(
-        rt,
-        task,
-        images,
-        (opener, &mut AsTheyAre),
-        way,
-        listed,
-        site,
-    );
-    match (end, record, &met, order.provenance) {
-        (Ok(end), Some(record), Some(met), Some(path)) => {
-            *site = FaultSite::Provenance(path);
-            let order = names.as_slice();
-            let images = ReadImages {
-                order,
-                names: named,
-                met,
-            };
-            record_extracted(rt, record, task, images, opener, listed, end)
-        }
-        (end, _, _, _) => end,
-    }
+    let openers = (&mut *opener, &mut AsTheyAre);
+    let end = recover(rt, task, images, openers, way, listed, site)?;
+    let (Some(met), Some(path)) = (&plan.met, order.provenance) else {
+        return Ok(end);
+    };
+    let Some(record) = &mut *record else {
+        return Ok(end);
+    };
+    *site = FaultSite::Provenance(path);
+    let images = ReadImages {
+        order: plan.names.as_slice(),
+        names: named,
+        met,
+    };
+    record_extracted(rt, record, task, images, opener, listed, end)
 }
 
-/// Returns the names in the order in which the images are read. If they are surveyed first, those
-/// on which a section of the file begins come first, `wide` is set if the file may be read in the
-/// wider reading, and `met` gets the survey. An image that can be read only once is not surveyed.
+/// How the images of a file are read.
+#[derive(Drop)]
+struct Plan<'n> {
+    /// Their names, in the order in which they are read.
+    names: Vec<&'n str>,
+    /// Whether the file may be read in the wider reading.
+    wide: bool,
+    /// Whether a section of it is complete on no image.
+    lacks: bool,
+    /// What was found on the images, if they were surveyed.
+    met: Option<FoundFiles>,
+}
+
+/// Returns the names with an empty one, which no file has, in place of each image that can be read
+/// only once.
+fn files_in<'n, R: Progress>(rt: &R, names: &[&'n str]) -> Result<Vec<&'n str>, AllocError> {
+    let mut files = Vec::new(rt.alloc());
+    for name in names {
+        files.push(if is_file(rt.host(), name) { *name } else { "" })?;
+    }
+    Ok(files)
+}
+
+/// Compares the copies of the file's sections on the images named `names`, which are read in this
+/// order; those on standard input are left out. `opener` remembers which copies are doubtful.
+///
+/// # Errors
+///
+/// Returns `Conflict` if two of the images contradict each other: `site` then names them.
+fn doubt_copies<'a, R: Progress>(
+    rt: &R,
+    order: &ExtractOrder<'a>,
+    named: &[&str],
+    names: &[&str],
+    opener: &mut Compared,
+    site: &mut FaultSite<'a>,
+) -> Result<(), ToolFault> {
+    let files = files_in(rt, names)?;
+    let Some((one, other)) = opener.doubt(rt, &order.task, files.as_slice())? else {
+        return Ok(());
+    };
+    let images = &order.images;
+    let one = place_of(named, names, one).unwrap_or(0);
+    let other = place_of(named, names, other).unwrap_or(0);
+    *site = FaultSite::Conflict(images.image(one), images.image(other));
+    Err(ToolFault::Conflict)
+}
+
+/// Surveys the images named `names`: those on which a section of the file begins are read first.
+/// An image that can be read only once is not surveyed.
 ///
 /// # Errors
 ///
@@ -244,22 +290,13 @@ fn plan_reading<'n, 'a, R: Progress>(
     rt: &'n R,
     order: &ExtractOrder<'a>,
     names: &'n [&'n str],
-    surveyed: bool,
-    (wide, met): (&mut bool, &mut Option<FoundFiles>),
+    plan: &mut Plan<'n>,
     site: &mut FaultSite<'a>,
 ) -> Result<(), ToolFault> {
     let task = &order.task;
-    if !surveyed {
-        return Ok(Vec::from_slice(rt.alloc(), names)?);
-    }
-    let mut files = Vec::new(rt.alloc());
-    for name in names {
-        // No file has the empty name, so an image that is not surveyed keeps its number.
-        let tried = if is_file(rt.host(), name) { *name } else { "" };
-        files.push(tried).map_err(|_| OUT_OF_MEMORY)?;
-    }
-    let found = find_files(rt.alloc(), &mut NormalImages::new(rt, files.as_slice()))?;
-    for file in found.files.as_slice() {
+    let files = files_in(rt, names)?;
+    let met = find_files(rt.alloc(), &mut NormalImages::new(rt, files.as_slice()))?;
+    for file in met.files.as_slice() {
         if file.set_id != task.set_id || file.file != task.file {
             continue;
         }
@@ -275,7 +312,7 @@ fn plan_reading<'n, 'a, R: Progress>(
             return Err(ToolFault::Conflict);
         }
     }
-    let order = in_reading_order(rt.alloc(), names, &found, (task.set_id, task.file));
-    *met = Some(found);
-    Ok(order?)
+    plan.names = in_reading_order(rt.alloc(), names, &met, (task.set_id, task.file))?;
+    plan.met = Some(met);
+    Ok(())
 }

@@ -45,6 +45,7 @@ pub fn form_word(form: Form) -> &'static str {
     match form {
         Form::Lines => "lines",
         Form::Raw => "raw",
+        Form::Counted => "counted",
     }
 }
 

@@ -170,7 +170,8 @@ const READERS: &[(&str, &str, &str)] = &[
     (
         "survey",
         "many.names ",
-        "\nlost.tap                  not opened\n300 images: 0 ok, 300 not opened\n",
+        "\n  lost.tap\n\n300 images: 0 ok, 300 not opened\nNo files were found.\n\n\
+            With --all: also each image, each set with its volumes and files, and copies.\n",
     ),
     (
         "extract ABC001 1 many.txt",

@@ -315,8 +315,14 @@ const SALVAGED: &str = "
     at salvaged.two 1539 0025 \\20
     # The other copy has all blocks of the section.
     worked salvage3.tap
-    0: salvage ABC001 1 salvaged.three salvage2.tap salvage3.tap
+    worked salvage6.tap
+    spoil salvage6.tap 5
+    0: salvage ABC001 1 salvaged.three salvage6.tap salvage3.tap
     length salvaged.three 2025
+    # An image with another number of blocks, which its trailer label counts, is no copy.
+    3: salvage ABC001 1 salvaged.six salvage2.tap salvage3.tap
+    | CONFLICT 1 2 1
+    length salvaged.six 2025
     # If a block is lost, everything in the other blocks is recovered.
     lost salvage4.tap
     3: salvage ABC001 1 salvaged.four salvage4.tap

@@ -300,7 +300,7 @@ fn general_text(order: &Order<'_>) -> &'static str {
         Order::Unpack(_) =>
             "The lines say what is missing. After AWAITS and NOT COMPARED, run it again
   with all images, old and new; after DIFFERENT unpack into another directory.
-  For CONFLICT, SECTION AFTER END and INCOMPLETE IMAGE see 'tape survey'.",
+  For the other lines see 'tape survey', for CONFLICT also 'tape salvage'.",
         Order::Salvage(_) =>
             "The lines say what is missing, could not be read, or differs. Another copy of
   these reels may have it. After NO FORM or REFUSED use --form blocks.",

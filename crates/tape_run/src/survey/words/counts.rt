@@ -46,11 +46,12 @@ impl<const N: usize> Tally<N> {
     /// Appends the number in the first state, and in each other state that occurs.
     fn add_to(&self, page: &mut Page<'_>, words: &[&str]) {
         let alloc = page.alloc();
-        let mut between = ": ";
+        let mut is_first = true;
         for (number, word) in self.0.iter().zip(words) {
-            if *number > 0 || between == ": " {
-                page.add(format!(in alloc; "{between}{number} {word}"));
-                between = ", ";
+            if *number > 0 || is_first {
+                page.put(if is_first { b": " } else { b", " });
+                page.add(format!(in alloc; "{number} {word}"));
+                is_first = false;
             }
         }
         page.put(b"\n");

@@ -1,5 +1,7 @@
 //! What needs attention, in the order in which to act.
 
+ghost use Rattle.std.specs.Prelude.{◌<◌};
+
 use super::file::plural;
 use super::page::Page;
 use super::runs::add_runs;
