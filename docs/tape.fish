@@ -69,6 +69,7 @@ complete -c tape -n '__tape_in check' -l null -d 'Names in LIST end with NUL ('\
 complete -c tape -n '__tape_at check 1 +' -F
 complete -c tape -n '__tape_in survey' -l files-from -r -F -d 'More names, one per line ('\''-'\'': standard input)'
 complete -c tape -n '__tape_in survey' -l null -d 'Names in LIST end with NUL ('\''find -print0'\'')'
+complete -c tape -n '__tape_in survey' -l all -d 'Print each image, set, file and copy too, of any number of images'
 complete -c tape -n '__tape_in survey' -l tsv -d 'Print tab-separated values, for scripts'
 complete -c tape -n '__tape_in survey' -l json -d 'Print the same rows as JSON, one object per line'
 complete -c tape -n '__tape_at survey 1 +' -F
@@ -86,7 +87,7 @@ complete -c tape -n '__tape_at convert 1' -a '(__tape_other)'
 complete -c tape -n '__tape_at convert 2 +' -F
 complete -c tape -n '__tape_in extract' -l files-from -r -F -d 'More names, one per line ('\''-'\'': standard input)'
 complete -c tape -n '__tape_in extract' -l null -d 'Names in LIST end with NUL ('\''find -print0'\'')'
-complete -c tape -n '__tape_in extract' -l form -x -a 'lines raw' -d 'lines: end each record with a line feed; raw: do not'
+complete -c tape -n '__tape_in extract' -l form -x -a 'lines raw counted' -d 'lines: end each record with a line feed; raw: do not; counted: begin each with its length'
 complete -c tape -n '__tape_in extract' -l stage -x -a '(__tape_other)' -d 'Save recovered data here, and continue from it'
 complete -c tape -n '__tape_in extract' -l again -d 'Repeat until a pass recovers nothing new'
 complete -c tape -n '__tape_in extract' -l now -d 'Keep the present as the time of OUT, instead of noon (UTC) of the creation date in its labels'
@@ -95,7 +96,7 @@ complete -c tape -n '__tape_at extract 3' -a '(__tape_other)'
 complete -c tape -n '__tape_at extract 4 +' -F
 complete -c tape -n '__tape_in unpack' -l files-from -r -F -d 'More names, one per line ('\''-'\'': standard input)'
 complete -c tape -n '__tape_in unpack' -l null -d 'Names in LIST end with NUL ('\''find -print0'\'')'
-complete -c tape -n '__tape_in unpack' -l form -x -a 'lines raw auto' -d 'lines: end each record with a line feed; raw: do not; auto: lines for a file whose bytes are all text, raw for any other'
+complete -c tape -n '__tape_in unpack' -l form -x -a 'lines raw counted auto' -d 'lines: end each record with a line feed; raw: do not; counted: begin each with its length; auto: lines for a file whose bytes are all text, raw for any other'
 complete -c tape -n '__tape_in unpack' -l set -x -d 'Only files of this set'
 complete -c tape -n '__tape_in unpack' -l file -x -d 'Only files with this number or name; '\''*'\'' in a name represents any characters'
 complete -c tape -n '__tape_in unpack' -l list -d 'Print what would be done, and create nothing'
@@ -107,7 +108,7 @@ complete -c tape -n '__tape_at unpack 1' -a '(__fish_complete_directories (comma
 complete -c tape -n '__tape_at unpack 2 +' -F
 complete -c tape -n '__tape_in salvage' -l files-from -r -F -d 'More names, one per line ('\''-'\'': standard input)'
 complete -c tape -n '__tape_in salvage' -l null -d 'Names in LIST end with NUL ('\''find -print0'\'')'
-complete -c tape -n '__tape_in salvage' -l form -x -a 'lines raw blocks' -d 'lines: end each record with a line feed; raw: do not; blocks: whole blocks'
+complete -c tape -n '__tape_in salvage' -l form -x -a 'lines raw counted blocks' -d 'lines: end each record with a line feed; raw: do not; counted: begin each with its length; blocks: whole blocks'
 complete -c tape -n '__tape_in salvage' -l now -d 'Keep the present as the time of OUT, instead of noon (UTC) of the creation date in its labels'
 complete -c tape -n '__tape_in salvage' -l provenance -x -a '(__tape_other)' -d 'Also create JSONL, with lines of JSON about OUT: its labels and its checksum, and the images and blocks it was made of; JSONL must not exist'
 complete -c tape -n '__tape_at salvage 3' -a '(__tape_other)'
