@@ -140,8 +140,8 @@ fn extract_named<'n, 'a, R: Progress>(
     let mut record = new_record(host, order.provenance, &outs, named, site)?;
     let mut listed = Listed::new(rt.alloc(), record.is_some());
     let end = if task.again {
-        let (record, listed) = (&mut record, &mut listed);
-        extract_again(rt, order, named, (way, reels), record, listed, site)
+        let (way, record, listed) = ((way, reels), &mut record, &mut listed);
+        extract_again(rt, order, named, way, record, listed, site)
     } else {
         extract_in_order(rt, task, named, way, reels, &mut listed, site)
     };
@@ -173,49 +173,78 @@ fn extract_in_order<'n, 'a, R: Progress>(
     recover(rt, task, images, openers, way, listed, site)
 }
 
+/// How the images of a file are read.
+#[derive(Drop)]
+struct Plan<'n> {
+    /// The names of the images, in the order in which they were named.
+    named: &'n [&'n str],
+    /// The same names, in the order in which the images are read.
+    names: Vec<&'n str>,
+    /// Whether images are surveyed first.
+    surveyed: bool,
+    /// Whether the file may be read in the wider reading.
+    wide: bool,
+    /// Whether a section of it is complete on no image.
+    lacks: bool,
+    /// What was found on the images, if they were surveyed.
+    met: Option<FoundFiles>,
+    /// What opens the images.
+    opener: Compared,
+}
+
 /// Recovers the file from images that are read in normal form, in the wider reading if a survey
-/// of them permits it. If `reels` is not `None`, names each image before it is read. Writes the
+/// of them permits it. If `way` has a number, names each image before it is read. Writes the
 /// record, if there is to be one.
 ///
 /// # Errors
 ///
-/// As `recover` and `record_extracted`; also `Conflict` if two images contradict each other about
-/// the file: `site` then names them.
+/// As `recover` and `record_extracted`; also `Conflict`: `site` then names two images.
 fn extract_again<'n, 'a, R: Progress>(
     rt: &'n R,
     order: &ExtractOrder<'a>,
     named: &'n [&'n str],
-    (way, reels): (Way, Option<u64>),
+    way: (Way, Option<u64>),
     record: &mut Option<Record>,
     listed: &mut Listed,
     site: &mut FaultSite<'a>,
 ) -> Result<End, ToolFault> {
     let surveyed = named.iter().any(|name| is_file(rt.host(), name));
     let mut plan = Plan {
-        names: Vec::from_slice(rt.alloc(), named)?,
+        named,
+        names: Vec::new(rt.alloc()),
+        surveyed,
         wide: false,
         lacks: false,
         met: None,
+        opener: Compared::new(rt.alloc(), surveyed),
     };
-    if surveyed {
-        plan_reading(rt, order, named, &mut plan, site)?;
+    plan.opener.is_recorded = listed.is_wanted;
+    extract_planned(rt, order, &mut plan, way, record, listed, site)
+}
+
+/// Makes the plan, and recovers the file by it.
+fn extract_planned<'n, 'a, R: Progress>(
+    rt: &'n R,
+    order: &ExtractOrder<'a>,
+    plan: &mut Plan<'n>,
+    way: (Way, Option<u64>),
+    record: &mut Option<Record>,
+    listed: &mut Listed,
+    site: &mut FaultSite<'a>,
+) -> Result<End, ToolFault> {
+    if plan.surveyed {
+        plan_reading(rt, order, plan, site)?;
+    } else {
+        plan.names.extend_from_slice(plan.named)?;
+    }
+    if plan.lacks {
+        doubt_copies(rt, order, plan, site)?;
     }
     let task = &Task {
         wide: plan.wide,
         ..order.task
     };
-    let opener = &mut Compared::new(rt.alloc(), surveyed);
-    opener.is_recorded = listed.is_wanted;
-    if plan.lacks {
-        doubt_copies(rt, order, named, plan.names.as_slice(), opener, site)?;
-    }
-    let images = &mut NormalImages::new(rt, plan.names.as_slice());
-    images.images.reels = reels;
-    if surveyed {
-        images.is_told();
-    }
-    let openers = (&mut *opener, &mut AsTheyAre);
-    let end = recover(rt, task, images, openers, way, listed, site)?;
+    let end = read_planned(rt, task, plan, way, listed, site)?;
     let (Some(met), Some(path)) = (&plan.met, order.provenance) else {
         return Ok(end);
     };
@@ -225,23 +254,28 @@ fn extract_again<'n, 'a, R: Progress>(
     *site = FaultSite::Provenance(path);
     let images = ReadImages {
         order: plan.names.as_slice(),
-        names: named,
+        names: plan.named,
         met,
     };
-    record_extracted(rt, record, task, images, opener, listed, end)
+    record_extracted(rt, record, task, images, &plan.opener, listed, end)
 }
 
-/// How the images of a file are read.
-#[derive(Drop)]
-struct Plan<'n> {
-    /// Their names, in the order in which they are read.
-    names: Vec<&'n str>,
-    /// Whether the file may be read in the wider reading.
-    wide: bool,
-    /// Whether a section of it is complete on no image.
-    lacks: bool,
-    /// What was found on the images, if they were surveyed.
-    met: Option<FoundFiles>,
+/// Recovers the file from the images in the order of the plan.
+fn read_planned<'a, R: Progress>(
+    rt: &R,
+    task: &Task<'a>,
+    plan: &mut Plan<'_>,
+    (way, reels): (Way, Option<u64>),
+    listed: &mut Listed,
+    site: &mut FaultSite<'a>,
+) -> Result<End, ToolFault> {
+    let images = &mut NormalImages::new(rt, plan.names.as_slice());
+    images.images.reels = reels;
+    if plan.surveyed {
+        images.is_told();
+    }
+    let openers = (&mut plan.opener, &mut AsTheyAre);
+    recover(rt, task, images, openers, way, listed, site)
 }
 
 /// Returns the names with an empty one, which no file has, in place of each image that can be read
@@ -254,8 +288,8 @@ fn files_in<'n, R: Progress>(rt: &R, names: &[&'n str]) -> Result<Vec<&'n str>, 
     Ok(files)
 }
 
-/// Compares the copies of the file's sections on the images named `names`, which are read in this
-/// order; those on standard input are left out. `opener` remembers which copies are doubtful.
+/// Compares the copies of the file's sections on the images of the plan; those on standard input
+/// are left out. Its opener remembers which copies are doubtful.
 ///
 /// # Errors
 ///
@@ -263,23 +297,21 @@ fn files_in<'n, R: Progress>(rt: &R, names: &[&'n str]) -> Result<Vec<&'n str>, 
 fn doubt_copies<'a, R: Progress>(
     rt: &R,
     order: &ExtractOrder<'a>,
-    named: &[&str],
-    names: &[&str],
-    opener: &mut Compared,
+    plan: &mut Plan<'_>,
     site: &mut FaultSite<'a>,
 ) -> Result<(), ToolFault> {
-    let files = files_in(rt, names)?;
-    let Some((one, other)) = opener.doubt(rt, &order.task, files.as_slice())? else {
+    let files = files_in(rt, plan.names.as_slice())?;
+    let Some((one, other)) = plan.opener.doubt(rt, &order.task, files.as_slice())? else {
         return Ok(());
     };
-    let images = &order.images;
-    let one = place_of(named, names, one).unwrap_or(0);
-    let other = place_of(named, names, other).unwrap_or(0);
+    let (images, names) = (&order.images, plan.names.as_slice());
+    let one = place_of(plan.named, names, one).unwrap_or(0);
+    let other = place_of(plan.named, names, other).unwrap_or(0);
     *site = FaultSite::Conflict(images.image(one), images.image(other));
     Err(ToolFault::Conflict)
 }
 
-/// Surveys the images named `names`: those on which a section of the file begins are read first.
+/// Surveys the images: those on which a section of the file begins are read first.
 /// An image that can be read only once is not surveyed.
 ///
 /// # Errors
@@ -289,11 +321,10 @@ fn doubt_copies<'a, R: Progress>(
 fn plan_reading<'n, 'a, R: Progress>(
     rt: &'n R,
     order: &ExtractOrder<'a>,
-    names: &'n [&'n str],
     plan: &mut Plan<'n>,
     site: &mut FaultSite<'a>,
 ) -> Result<(), ToolFault> {
-    let task = &order.task;
+    let (task, names) = (&order.task, plan.named);
     let files = files_in(rt, names)?;
     let met = find_files(rt.alloc(), &mut NormalImages::new(rt, files.as_slice()))?;
     for file in met.files.as_slice() {
