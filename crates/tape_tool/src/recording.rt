@@ -16,7 +16,9 @@ use clap::ArgMatches;
 use std::alloc::Global;
 use std::io::Write;
 use std::{fs, io};
-use tape_run::{Content, FileKey, FoundFiles, SalvageTask, find_files, position_of, runs_of};
+use tape_run::{
+    BlockRun, Content, FileKey, FileNote, FoundFiles, SalvageTask, find_files, position_of, runs_of,
+};
 use tape_writer::system::{folder_of, found, name_in_folder};
 
 /// Returns the record that is to be created at `path`, if one is requested: of an output, and of a
@@ -89,6 +91,11 @@ pub struct ReadImages<'n> {
     pub met: &'n FoundFiles,
 }
 
+/// Returns what the survey noted of a file.
+fn note_of<'n>(met: &'n FoundFiles, key: &FileKey) -> Option<&'n FileNote> {
+    met.notes.get(key)
+}
+
 /// Writes the record of a recovery in passes, which ended with `end`: of a complete output or, if
 /// the file is incomplete, of its stage. `opener` opened the images. Returns the end of the run.
 pub fn record_extracted<R: Progress>(
@@ -100,27 +107,39 @@ pub fn record_extracted<R: Progress>(
     listed: &Listed,
     end: End,
 ) -> Result<End, ToolFault> {
+    let (from, to) = (opener.openings.as_slice(), position_of(listed.want));
+    let mut runs = runs_of(rt.alloc(), from, to)?;
+    renumber(images.names, images.order, &mut runs);
+    record_runs(rt, record, task, images, runs.as_slice(), listed, end)
+}
+
+/// Writes the record of an output, or of a stage, that has these runs of blocks.
+fn record_runs<R: Progress>(
+    rt: &R,
+    record: &mut Record,
+    task: &Task<'_>,
+    images: ReadImages<'_>,
+    runs: &[BlockRun],
+    listed: &Listed,
+    end: End,
+) -> Result<End, ToolFault> {
     let (set_id, file) = (task.set_id, task.file);
     let key = FileKey { set_id, file };
-    let note = images.met.notes.get(&key);
-    let file_id = note.map(|note| note.head.file_id);
-    let mut runs = runs_of(
-        rt.alloc(),
-        opener.openings.as_slice(),
-        position_of(listed.want),
-    )?;
-    renumber(images.names, images.order, &mut runs);
+    let note = note_of(images.met, &key);
+    let file_id = match note {
+        Some(note) => Some(note.head.file_id),
+        None => None,
+    };
     match (end, listed.sum, listed.want, task.stage) {
         (End::Done, Some(sum), _, _) => {
             let name = task.out;
             let output = RecordedName { name, key, file_id };
             let written = written_at(rt.host(), name, form_word(task.form), sum)?;
             record.add_file(rt.alloc(), &output, written, note)?;
-            record.add_runs(rt.host(), images.names, &output, runs.as_slice())?;
+            record.add_runs(rt.host(), images.names, &output, runs)?;
         }
         (End::Incomplete, _, Some(want), Some(name)) => {
             let output = RecordedName { name, key, file_id };
-            let runs = runs.as_slice();
             record.add_awaited(rt.host(), images.names, &output, want, runs)?;
         }
         _ => return Ok(end),
