@@ -3,6 +3,7 @@
 //! second labels, nothing before the first label and nothing after the end. Data are never changed.
 
 mod code;
+mod counting;
 mod held;
 mod image;
 pub mod laws;

@@ -57,6 +57,10 @@ const UNCOUNTED: &[u8; 80] =
 const COUNTED: &[u8; 80] =
     b"EOF1PAYROLL          ABC00100010001000100 85113 00000 000001SYSTEM              ";
 
+/// The label of one block, with blanks before the digit.
+const PADDED_COUNT: &[u8; 80] =
+    b"EOF1PAYROLL          ABC00100010001000100 85113 00000      1SYSTEM              ";
+
 /// A trailer label that counts no blocks.
 const NO_BLOCKS: &[u8; 80] =
     b"EOF1PAYROLL          ABC00100010001000100 85113 00000 000000SYSTEM              ";
@@ -113,6 +117,7 @@ pub(crate) fn label(letter: u8) -> Option<[u8; 80]> {
         b'W' => *SHORT1,
         b'K' => *UNCOUNTED,
         b'k' => ebcdic(UNCOUNTED),
+        b'R' => *PADDED_COUNT,
         b'J' => *NO_BLOCKS,
         b'j' => ebcdic(NO_BLOCKS),
         b'Q' => *NO_SECTION1,
@@ -132,7 +137,7 @@ fn ascii(letter: u8) -> &'static [u8; 80] {
         b'v' => VOL1,
         b'h' | b'N' | b'i' => HDR1,
         b'W' => SEVENTH1,
-        b'K' | b'k' | b'J' | b'j' => COUNTED,
+        b'K' | b'k' | b'R' | b'J' | b'j' => COUNTED,
         b's' | b'P' | b'p' => HDR2,
         b'U' => WIDE2,
         _ => EOF1,
@@ -229,6 +234,7 @@ fn tapes_and_their_normal_forms(rt: HostRuntime) {
         ("VHSmDmKmm", "======A=="),
         ("vhsmDmkmm", "AAA===A=="),
         ("VHSmDDmKmm", "=======C=="),
+        ("VHSmDmRmm", "======A=="),
         ("VHSmDbmKmm", "=========="),
         ("VHSmDbmEmm", "=========="),
         ("VHSmKmKmm", "======A=="),

@@ -187,3 +187,42 @@ fn rules_are_known(rt: HostRuntime) -> Result<(), AllocError> {
     assert_eq!(rt; rules_of(rt.alloc(), "NSmDmFmm.")?, unnamed);
     Ok(())
 }
+
+/// Images, how many of their sections are not counted, and the numbers of the file and the section
+/// of the last of these.
+const UNCOUNTED: [(&str, u8, (u16, u16)); 12] = [
+    ("VHSmDmEmm.", 0, (0, 0)),
+    ("VHSmDmKmm.", 1, (1, 1)),
+    ("vhsmDmkmm.", 1, (1, 1)),
+    ("gVgHgSgmgDgmgKgmm.", 1, (1, 1)),
+    ("VHSmmKmm.", 1, (1, 1)),
+    ("VHSmDmJmm.", 1, (1, 1)),
+    // This label counts its blocks: there are none.
+    ("VHSmmJmm.", 0, (0, 0)),
+    ("VHSmDmRmm.", 0, (0, 0)),
+    ("VHSmDbmKmm.", 0, (0, 0)),
+    ("VHSmDmKTmHSmDmEmm.", 1, (1, 1)),
+    // The section is that of its header label.
+    ("VWSmDmKmm.", 1, (7, 1)),
+    ("VQSmDmKmm.", 1, (1, 1)),
+];
+
+#[test]
+fn sections_that_are_not_counted_are_known(rt: HostRuntime) -> Result<(), AllocError> {
+    for (letters, wanted, numbers) in UNCOUNTED {
+        let image = image_of(rt.alloc(), letters)?;
+        let mut normal = NormalImage::new(image.as_slice());
+        let (mut count, mut last) = (0u8, (0, 0));
+        for _ in 0..1_000 {
+            let Ok(1) = normal.read(&mut [0]) else {
+                break;
+            };
+            if let Some(head) = normal.take_uncounted() {
+                count = count.saturating_add(1);
+                last = (head.sequence, head.sect);
+            }
+        }
+        assert_eq!(rt; (count, last), (wanted, numbers), "{letters}");
+    }
+    Ok(())
+}

@@ -10,6 +10,7 @@ ghost use Rattle.tape_core.specs.NormalForm.Bytes.{normal_bytes, normal_from, by
 ghost use Rattle.tape_core.specs.NormalForm.{Bytes.IsHeld, Bytes.IsShort, Steps.counted_at};
 ghost use Rattle.tape_core.specs.NormalForm.Image.{normal_remaining, steps_left, GivesOn};
 
+use crate::normal::counting::Counting;
 use crate::normal::held::{Held, LABEL, copy_front};
 use crate::normal::looking::{Looked, begins_label, block_size, look};
 use crate::normal::machine::{Missing, Replacement, TapePlace};
@@ -105,6 +106,7 @@ impl<R: Read> Read for Input<R> {
 pub struct NormalImage<R> {
     input: Input<R>,
     rules: Rules,
+    pub(crate) counting: Counting,
     /// The number of bytes up to the greatest offset at which an item may end.
     room: u64,
     place: TapePlace,
@@ -127,6 +129,7 @@ impl<R: Read> NormalImage<R> {
                 held: Held::new(),
             },
             rules: Rules::NONE,
+            counting: Counting::START,
             room: IMAGE_LIMIT,
             place: TapePlace::Start(0),
             course: Course::Looking,
@@ -176,6 +179,8 @@ impl<R: Read> NormalImage<R> {
     {
         let Looked { size, next, change } = looked;
         self.rules.note(self.place, next, &change);
+        self.counting
+            .note(self.place, next, &change, self.input.held.bytes());
         self.room -= size;
         self.place = next;
         if let Missing::VolumeLabel = change.missing {
