@@ -48,16 +48,16 @@ class Copy:
             length = rng.randint(0, len(self.at))
             self.reel.cut = sum(len(item.spelling) for item in items[:self.at[0] + length])
             self.closes = False
-        self.doubted = False
+        self.doubted = self.lost_head2 = False
         if self.at and rng.random() < 0.4:
             self.damage(rng)
         self.good = [at not in self.reel.bad for at in self.at[:length]]
 
     def damage(self, rng):
-        """Makes HDR2 of a copy that is not cut unreadable, or some of the tape marks and trailer labels."""
+        """Makes HDR2 of a copy unreadable, or some of the tape marks and trailer labels."""
         front, end = self.at[0] - 1, self.at[-1] + 1
-        if self.closes and rng.random() < 0.2:
-            self.doubted = True
+        if rng.random() < (0.2 if self.closes else 0.5):
+            self.doubted = self.lost_head2 = True
             self.reel.bad.add(front - 1)
             return
         bad = {at for at in (front, end, end + 1, end + 2) if rng.random() < 0.4}
@@ -65,25 +65,30 @@ class Copy:
         self.closes = self.closes and not bad & {front, end, end + 1}
         self.reel.bad |= bad
 
-    def is_numbered(self):
-        """Whether it is certain which of its items is which block."""
+    def is_base(self):
+        """Whether other copies may complete it."""
         return self.closes or not self.doubted
+
+    def is_numbered(self):
+        """Whether it is certain which of its items is which block. HDR2 alone was no tape mark if data follow the next one."""
+        return self.is_base() or self.lost_head2 and self.good[:1] == [True]
 
     def is_whole(self):
         return self.closes and not self.doubted and all(self.good)
 
     def count(self):
         """The number of its readable blocks with certain numbers."""
-        if not self.is_numbered():
+        if not self.is_base():
             return 0
         return sum(self.good) if self.closes else next((at for at, it in enumerate(self.good) if not it), len(self.good))
 
 
 def held_by(copies):
     """The blocks of a section that are read from these copies of it."""
+    length = max((len(copy.good) for copy in copies if copy.is_base()), default=0)
     copies = [copy for copy in copies if copy.is_numbered()]
     sure, found = list(copies), set()
-    for at in range(max((len(copy.good) for copy in copies), default=0)):
+    for at in range(length):
         having = [copy for copy in sure if at < len(copy.good) and copy.good[at]]
         if having:
             found.add(at)
@@ -216,7 +221,8 @@ def check_shelf(trial, rng, number):
     trial.files += 1
     if shelf.conflict is None:
         held = {(at, it) for at, copies in enumerate(shelf.copies) for it in held_by(copies)}
-        closing = {at for at, copies in enumerate(shelf.copies) if closes_joined(copies, shelf.counts[at])}
+        named = [[copy for volume, copy in shelf.order if volume == at] for at in range(len(shelf.copies))]
+        closing = {at for at, copies in enumerate(named) if closes_joined(copies, shelf.counts[at])}
         expected = b"".join(record + b"\n" for record in records_of(shelf.file, shelf.counts, held, closing))
         trial.expect(got == expected, f"{what}: {count} records\n{done.stdout.decode()}")
         is_whole = len(held) == len(shelf.file.blocks) and len(closing) == len(shelf.copies)

@@ -69,7 +69,7 @@ def image(name, blocks, size=800, sect=1, date=" 00000", end="EOF", closing=None
 CARDS = [f"CARD {number}" for number in range(1, 4)]
 FORTY = [f"{number:04}" for number in range(1, 41)]
 WEEKS = [[f"WEEK {week} {number:04}" for number in range(1, 41)] for week in (1, 2)]
-RECORDS = {"cards": CARDS, "forty": FORTY, "week2": WEEKS[1], "first-twenty": FORTY[:20],
+RECORDS = {"cards": CARDS, "forty": FORTY, "week1": WEEKS[0], "week2": WEEKS[1], "first-twenty": FORTY[:20],
            "week1-gap": WEEKS[0][:10] + WEEKS[0][20:]}
 
 THREE, FOUR = blocks_of(CARDS, 80), blocks_of(FORTY, 800)
@@ -82,6 +82,11 @@ IMAGES = {
     "lost": image("CARDS", THREE, 80, lost=[1]),
     "lostcut": image("CARDS", THREE, 80, lost=[1], cut=6),
     "lost2": image("CARDS", THREE, 80, lost=[2]),
+    "lost2cut": image("CARDS", THREE, 80, lost=[2], cut=6),
+    # The same mark is lost, and EOF1 unreadable; other copies.
+    "losteof": image("CARDS", THREE, 80, lost=[1], spoilt=[7]),
+    "no1": image("CARDS", THREE, 80, bad=[1]),
+    "no01": image("CARDS", THREE, 80, bad=[0, 1]),
     # One file in blocks of 400, truncated, and in blocks of 800.
     "x": image("CARDS", blocks_of(FORTY, 400), 400, cut=3),
     "y": image("CARDS", FOUR),
@@ -164,7 +169,8 @@ SCENES = f"""
 ## unpack: a lost mark on a truncated image
 3 unpack u lostcut.tap
 0 unpack u good.tap
-> FILE ABC001 1 STAGE KEPT u/ABC001.1.CARDS.stage
+> FILE ABC001 1 COMPLETE 3 u/ABC001.1.CARDS
+- u/ABC001.1.CARDS.stage
 = u/ABC001.1.CARDS cards
 ## unpack: blocks of 400, truncated, then blocks of 800
 3 unpack u x.tap
@@ -196,6 +202,12 @@ SCENES = f"""
 3 unpack u w1b.tap w2b.tap
 > FILE ABC001 1 CONFLICT
 - u/ABC001.1.CARDS
+- u/ABC001.1.CARDS.stage
+## unpack: a file that two copies gave, and another image that contradicts them
+0 unpack u mon-1.tap mon-2.tap
+3 unpack u mon-1.tap mon-2.tap sun-0.tap
+> FILE ABC001 1 CONFLICT
+= u/ABC001.1.CARDS week1
 ## unpack: a doubled block in a truncated copy, then a good copy
 3 unpack u dup.tap
 0 unpack u y.tap
@@ -309,7 +321,7 @@ SCENES = f"""
 = out2 forty
 ## extract --again: no trailer label ends the blocks of a copy
 3 extract ABC001 1 out lost2.tap --again --stage st
-> REEL 1 BAD LABEL 2
+> REEL 1 REEL ENDED
 > AWAITS 1 1 0
 0 extract ABC001 1 out good.tap --again --stage st
 = out cards
@@ -450,6 +462,7 @@ SCENES = f"""
 ## unpack, extract --again: a doubled block, an unreadable one, and a count that shows it
 3 unpack u third-bad.tap twice.tap
 > FILE ABC001 1 AWAITS 1 1 2 u/ABC001.1.CARDS.stage
+> FILE ABC001 1 SECTION DIFFERS twice.tap
 3 unpack u twice.tap third-bad.tap
 > FILE ABC001 1 AWAITS 1 1 2 u/ABC001.1.CARDS.stage
 3 extract ABC001 1 out third-bad.tap twice.tap --again
@@ -517,6 +530,31 @@ SCENES = f"""
 > FILE ABC001 1 COMPLETE 20 u/ABC001.1.CARDS
 > SECTION AFTER END s2.tap
 = u/ABC001.1.CARDS first-twenty
+## extract --again, unpack: labels after a lost mark are not the blocks that another copy lacks
+3 extract ABC001 1 out lostcut.tap no01.tap --again
+> AWAITS 1 1 0
+3 extract ABC001 1 out no01.tap lostcut.tap --again
+> AWAITS 1 1 0
+- out
+3 unpack u lostcut.tap no01.tap
+- u/ABC001.1.CARDS
+## unpack: labels after a lost mark, over two days
+3 unpack u lostcut.tap
+3 unpack u no01.tap
+- u/ABC001.1.CARDS
+## extract --again: labels after a lost mark, in a truncated copy
+3 extract ABC001 1 out lost2cut.tap --again --stage st
+> AWAITS 1 1 0
+- out
+## salvage, unpack: EOF2 after a lost mark completes no other copy
+3 salvage ABC001 1 out losteof.tap no1.tap
+> GAP 1 1 1 1
+> SALVAGED 2
+3 salvage ABC001 1 out2 no1.tap losteof.tap
+> GAP 1 1 1 1
+> SALVAGED 2
+3 unpack u losteof.tap no1.tap
+- u/ABC001.1.CARDS
 """
 
 

@@ -37,7 +37,7 @@ use crate::salvage::recovery::Recovery;
 use crate::salvage::sections::recover_sections;
 use crate::section::ImageStop;
 use crate::text::{flush, write_line, write_text};
-pub use doubts::{Doubts, Miscounted, find_doubts};
+pub use doubts::{DoubtfulCopy, Doubts, find_doubts};
 use std::alloc::Global;
 use std::io::{Read, Write};
 use tape_blocks::Form;

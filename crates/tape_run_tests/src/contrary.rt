@@ -37,6 +37,16 @@ const NO_MARK: Items = &[
     HDR1, FIVE, "?", "aaaaa", "bbbbb", "ccccc", "|", "?", END_FIVE, "|",
 ];
 
+/// The mark before the data is lost, and EOF1 unreadable: EOF2 is the second item after a mark.
+const LOST_MARK: Items = &[
+    HDR1, FIVE, "aaaaa", "bbbbb", "ccccc", "|", "?", END_FIVE, "|",
+];
+
+/// HDR2 is unreadable, and the image truncated after two blocks, or after an unreadable one.
+const CUT_NO_HDR2: Items = &[HDR1, "?", "|", "aaaaa", "bbbbb"];
+
+const CUT_NO_FIRST: Items = &[HDR1, "?", "|", "?", "bbbbb"];
+
 /// HDR2 and block 2 are unreadable.
 const NO_HDR2: Items = &[
     HDR1, "?", "|", "aaaaa", "bbbbb", "?", "|", EOF_THREE, END_FIVE, "|",
@@ -99,6 +109,33 @@ const ROWS: &[(&[Items], bool, &str, usize)] = &[
         true,
         "FILLED 1 2 1 1\nSECTION 1 1 3\nCOMPLETE 3\n",
         18,
+    ),
+    // Nor is one after a lost mark.
+    (
+        &[NO_1, LOST_MARK],
+        false,
+        "SECTION 1 1 3\nGAP 1 1 1 1\nSALVAGED 2\n",
+        12,
+    ),
+    (
+        &[LOST_MARK, NO_1],
+        false,
+        "SECTION 1 2 3\nGAP 1 1 1 1\nSALVAGED 2\n",
+        12,
+    ),
+    // Data follow the next mark: the unreadable item was none. If they begin with an unreadable
+    // item, this is not certain.
+    (
+        &[CUT_NO_HDR2, NO_1],
+        true,
+        "FILLED 1 1 1 1\nSECTION 1 2 3\nCOMPLETE 3\n",
+        18,
+    ),
+    (
+        &[CUT_NO_FIRST, NO_1],
+        false,
+        "SECTION 1 2 3\nGAP 1 1 1 1\nSALVAGED 2\n",
+        12,
     ),
     // A trailer label that counts the items makes them certain.
     (

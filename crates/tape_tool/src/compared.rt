@@ -13,7 +13,7 @@ use std::alloc::Global;
 use std::io::Read;
 use tape_core::PartWalk;
 use tape_run::{
-    ImageSource, Miscounted, OpenedImage, Opener, RunFault, Session, find_doubts, position_of,
+    DoubtfulCopy, ImageSource, OpenedImage, Opener, RunFault, Session, find_doubts, position_of,
 };
 use tape_set::Want;
 
@@ -26,7 +26,7 @@ pub struct Compared {
     /// The numbers of the images that had other data.
     pub differing: Vec<usize>,
     /// The doubtful copies.
-    doubtful: Vec<Miscounted>,
+    doubtful: Vec<DoubtfulCopy>,
     /// Whether it is recorded which images were opened.
     pub is_recorded: bool,
     /// The images that were opened, in order, if that is recorded.
@@ -56,12 +56,12 @@ impl Compared {
     ) -> Result<Option<(usize, usize)>, ToolFault> {
         let images = &mut NormalImages::again(rt, names);
         let doubts = find_doubts(rt.alloc(), &task.set_id, task.file, images)?;
-        self.doubtful = doubts.miscounted;
+        self.doubtful = doubts.doubtful;
         Ok(doubts.conflict)
     }
 
     /// Returns the byte offset of the data of a doubtful copy of the section needed on an image.
-    fn doubtful_at(&self, number: usize, want: Option<Want>) -> Option<u64> {
+    pub fn doubtful_at(&self, number: usize, want: Option<Want>) -> Option<u64> {
         let sect = want?.sect;
         let mut copies = self.doubtful.iter();
         let copy = copies.find(|copy| copy.image == number && copy.sect == sect)?;

@@ -8,6 +8,7 @@ use crate::salvage::walk::{Expected, step};
 use std::alloc::AllocError;
 use std::io::Read;
 use tape_image::{ImageReader, Item};
+use tape_label::{Kind, is_further_header, kind};
 
 /// What a copy has of a block.
 #[derive(Clone, Copy)]
@@ -32,8 +33,47 @@ pub struct Aligned<'r, R: Read> {
     from: u64,
     /// Whether an item after its HDR1 and before its data is unreadable, or HDR1 itself.
     is_doubted: bool,
+    /// Whether its first data item has to be a block that is no label.
+    is_unsure: bool,
     /// Whether the numbers of its further items are not certain.
     is_over: bool,
+}
+
+/// Returns whether an item after HDR1 is neither a further header label nor a tape mark.
+fn is_other(item: Item<'_>) -> bool {
+    match item {
+        Item::Block(block) => kind(block) != Some(Kind::Hdr2) && !is_further_header(block),
+        Item::Bad => true,
+        Item::Mark => false,
+    }
+}
+
+/// Returns whether a block reads as a trailer label, in ASCII or EBCDIC.
+fn is_trailer(block: &[u8]) -> bool {
+    match kind(block) {
+        Some(Kind::Eof1 | Kind::Eof2 | Kind::Eov1 | Kind::Eov2) => true,
+        Some(_) => false,
+        None => {
+            block.len() == 80
+                && matches!(
+                    &block[..4],
+                    b"\xC5\xD6\xC6\xF1"
+                        | b"\xC5\xD6\xC6\xF2"
+                        | b"\xC5\xD6\xE5\xF1"
+                        | b"\xC5\xD6\xE5\xF2"
+                )
+        }
+    }
+}
+
+/// Returns whether a data item ends those with certain numbers: a mark, a label in a section that
+/// does not close, or an unreadable item if it is unsure that the data begin there.
+fn ends(item: Item<'_>, is_open: bool, is_unsure: bool) -> bool {
+    match item {
+        Item::Block(block) => is_open && (kind(block).is_some() || is_trailer(block)),
+        Item::Bad => is_unsure,
+        Item::Mark => true,
+    }
 }
 
 impl<'r, R: Read> Aligned<'r, R> {
@@ -45,6 +85,7 @@ impl<'r, R: Read> Aligned<'r, R> {
             copy,
             from: 0,
             is_doubted: false,
+            is_unsure: false,
             is_over: false,
         }
     }
@@ -55,22 +96,52 @@ impl<'r, R: Read> Aligned<'r, R> {
         number_in(key, self.copy.possible(), &self.expected).is_some()
     }
 
-    /// Reads up to the section's data. If an item before them is unreadable, it may have been the
-    /// tape mark: then the numbers of the items are certain only if the section closes.
+    /// Reads up to the section's data. If the section does not close, the mark found may not be the
+    /// one before them: the numbers of the items are certain only if no item before the mark is
+    /// other than a header label, or one that is unreadable, and a block that is no label follows.
     pub fn reach(&mut self) {
+        // The items after HDR1 that are neither header labels nor a tape mark.
+        let mut others: u32 = 0;
         'items: for _ in 0..u32::MAX {
             if self.is_at_data() {
                 let open = self.expected.open_section();
                 self.is_doubted = open.is_some_and(|(section, _)| section.certain.is_some());
-                self.is_over = self.is_doubted && self.copy.closed.is_none();
+                let is_open = self.copy.closed.is_none();
+                self.is_unsure = is_open && self.is_doubted;
+                self.is_over = is_open && others > u32::from(self.is_doubted);
                 return;
             }
             let Ok(Some(item)) = self.image.next() else {
                 break;
             };
+            if !matches!(self.expected, Expected::Second(_) | Expected::Headers(_)) {
+                others = 0;
+            } else if is_other(item) {
+                others = others.saturating_add(1);
+            }
             self.expected = step(self.expected, item).0;
         }
         self.is_over = true;
+    }
+
+    /// Returns whether labels may be among the data of a section that does not close: it is not
+    /// certain where they begin, or one of the blocks reads as a trailer label. Reads the data.
+    pub fn may_have_labels(&mut self) -> bool {
+        if self.is_over {
+            return true;
+        }
+        for _ in 0..u32::MAX {
+            match self.image.next() {
+                Ok(Some(Item::Block(block))) => {
+                    if is_trailer(block) {
+                        return true;
+                    }
+                }
+                Ok(Some(Item::Bad)) => {}
+                _ => return false,
+            }
+        }
+        false
     }
 
     /// Returns the byte offset of the next item.
@@ -93,15 +164,21 @@ impl<'r, R: Read> Aligned<'r, R> {
             }
         };
         self.expected = step(self.expected, item).0;
+        if ends(item, self.copy.closed.is_none(), self.is_unsure) {
+            self.is_over = true;
+            return Ok(Answer::Unsure);
+        }
+        self.is_unsure = false;
         match item {
             Item::Block(_) if best.take(item)? => Ok(Answer::Has),
             Item::Block(_) => Ok(Answer::Differs),
-            Item::Bad => Ok(Answer::Lacks),
-            Item::Mark => {
-                self.is_over = true;
-                Ok(Answer::Unsure)
-            }
+            _ => Ok(Answer::Lacks),
         }
+    }
+
+    /// Returns whether other copies can complete it from here.
+    fn is_base(&self) -> bool {
+        !self.is_over && (self.copy.closed.is_some() || !self.is_doubted)
     }
 
     /// Returns whether it is a complete copy if it has as many of its blocks.
@@ -184,7 +261,7 @@ pub fn compare<R: Read>(
     };
     for number in 0..u32::MAX {
         let held = ask_all(copies, best)?;
-        let Some(base) = copies.first().filter(|base| !base.is_over) else {
+        let Some(base) = copies.first().filter(|base| base.is_base()) else {
             break;
         };
         match held {

@@ -10,6 +10,7 @@ use crate::salvage::aligned::Aligned;
 use crate::salvage::copies::{SectionCopy, best_copy, last_section};
 use crate::salvage::joinable::joinable;
 use crate::salvage::joining::{compare_copies, find_again};
+use crate::salvage::walk::OpenSection;
 use std::alloc::{AllocError, Global};
 use std::io::Read;
 use tape_image::{ImageBuffer, ImageReader};
@@ -21,14 +22,14 @@ pub struct Doubts {
     /// The numbers of two images that contradict each other about a section which no image has in
     /// full: as for the line `CONFLICT` of `salvage`.
     pub conflict: Option<(usize, usize)>,
-    /// The copies of sections with unreadable blocks whose trailer label counts another number of
-    /// blocks. A reading for the records ends before that label.
-    pub miscounted: Vec<Miscounted>,
+    /// The copies of which a reading for the records reads no data.
+    pub doubtful: Vec<DoubtfulCopy>,
 }
 
-/// A copy of a section whose trailer label counts another number of blocks than it has.
+/// A copy of a section that has unreadable blocks, and whose trailer label counts another number of
+/// blocks; or one that does not close, and may have labels among its data.
 #[derive(Clone, Copy)]
-pub struct Miscounted {
+pub struct DoubtfulCopy {
     /// The number of its image, counted from 0.
     pub image: usize,
     /// The section's number.
@@ -69,26 +70,33 @@ fn doubts_of<R: Read + Drop, L: ImageSource<R>>(
     let conflict = find_conflict(alloc, copies, images)?;
     let mut doubts = Doubts {
         conflict,
-        miscounted: Vec::new(alloc),
+        doubtful: Vec::new(alloc),
     };
-    add_miscounted(alloc, copies, images, &mut doubts.miscounted)?;
+    add_doubtful(alloc, copies, images, &mut doubts.doubtful)?;
     Ok(doubts)
 }
 
-/// Adds the copies with unreadable blocks whose trailer label counts another number of blocks.
-fn add_miscounted<R: Read + Drop, L: ImageSource<R>>(
+/// Returns whether a copy has unreadable blocks, and its trailer label counts another number of
+/// blocks. Some systems always write a count of 0.
+fn is_miscounted(copy: &SectionCopy) -> bool {
+    match copy.wrong_count() {
+        Some(count) => count > 0 && copy.section.unreadable > 0,
+        None => false,
+    }
+}
+
+/// Adds the copies that are doubtful.
+fn add_doubtful<R: Read + Drop, L: ImageSource<R>>(
     alloc: Global,
     copies: &[SectionCopy],
     images: &mut L,
-    miscounted: &mut Vec<Miscounted>,
+    doubtful: &mut Vec<DoubtfulCopy>,
 ) -> Result<(), AllocError> {
     for copy in copies {
-        // Some systems always write a count of 0.
-        let is_counted = copy.wrong_count().is_some_and(|count| count > 0);
-        if is_counted && copy.section.unreadable > 0 {
-            if let Some(place) = data_place(alloc, copy, images)? {
+        if copy.closed.is_none() || is_miscounted(copy) {
+            if let Some(place) = doubtful_place(alloc, copy, images)? {
                 let (image, sect) = (copy.image, copy.section.key.sect);
-                miscounted.push(Miscounted { image, sect, place })?;
+                doubtful.push(DoubtfulCopy { image, sect, place })?;
             }
         }
     }
@@ -133,7 +141,8 @@ fn conflict_of<R: Read + Drop, L: ImageSource<R>>(
 }
 
 /// Returns the byte offset at which the data of a copy begin on its image, which is opened again.
-fn data_place<R: Read + Drop, L: ImageSource<R>>(
+/// Returns `None` if it does not close, and no labels are among its data.
+fn doubtful_place<R: Read + Drop, L: ImageSource<R>>(
     alloc: Global,
     copy: &SectionCopy,
     images: &mut L,
@@ -142,9 +151,19 @@ fn data_place<R: Read + Drop, L: ImageSource<R>>(
         return Ok(None);
     };
     let buffer = ImageBuffer::new(alloc)?;
-    let mut reading = Aligned::new(ImageReader::over(buffer, &mut device), *copy);
+    // Its data begin after the mark, also if the first item reads as its trailer label.
+    let section = OpenSection {
+        trailer: None,
+        ..copy.section
+    };
+    let whole = SectionCopy { section, ..*copy };
+    let mut reading = Aligned::new(ImageReader::over(buffer, &mut device), whole);
     reading.reach();
-    Ok(Some(reading.place()))
+    let place = reading.place();
+    if copy.closed.is_some() || reading.may_have_labels() {
+        return Ok(Some(place));
+    }
+    Ok(None)
 }
 
 /// Returns the numbers of the images of two copies.
