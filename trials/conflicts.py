@@ -263,7 +263,7 @@ class Case:
         for number, (volume, sections) in enumerate(self.images):
             for section in sections:
                 key = section.file, section.sect
-                found.setdefault(key, (f"VOL{volume + 1:03}", section))
+                found.setdefault(key, (f"VOL{volume + 1:03}", section, number))
                 where[key] = copies[key][0][0] if key in copies else number
         damaged = [number for number, (_, sections) in enumerate(self.images) if not all(s.is_good() for s in sections)]
         spare = [number for number in damaged
@@ -283,8 +283,8 @@ class Case:
                         on = f", after volume {found[first][0]} ({names[where[first]]})" if first in found else ""
                         yield f"  {self.set_id} file {file} FILE{file}: section{'s' * ('-' in numbers)} {numbers}{on}"
 
-        bad = [f"  {self.set_id} file {key[0]} FILE{key[0]}: section {key[1]} {fault_of(section)} on {volume} ({names[where[key]]})"
-               for key, (volume, section) in found.items() if key not in copies]
+        bad = [f"  {self.set_id} file {key[0]} FILE{key[0]}: section {key[1]} {fault_of(section)} on {volume} ({names[number]})"
+               for key, (volume, section, number) in found.items() if key not in copies]
         differ = [f"  {text}good copies on {row[5]} and {row[6]} differ" for text, row in self.runs([row for row in rows if row[6]])]
         for heading, lines in (
                 ("In conflict: find out which is right ('tape compare', 'tape list')", differ),

@@ -83,6 +83,8 @@ mod survey_onward;
 #[cfg(test)]
 mod survey_rows;
 #[cfg(test)]
+mod survey_tasks;
+#[cfg(test)]
 mod survey_wide;
 #[cfg(test)]
 mod taken_back;

@@ -173,7 +173,12 @@ one.tap                   unsupported  labels in EBCDIC
 ";
 
 const NOISE: &str = "Complete on no image: read or copy it again; 'tape unpack' joins copies
-  ABC001 file 1 PAYROLL: section 1 is truncated on (none) (one.tap)
+  ABC001 file 1 PAYROLL: section 1 is truncated (one.tap)
+Labels or marks damaged, or cut off: read the reel, or copy the image, again
+  one.tap                   does not begin with a label, 1 section
+      1 unreadable block
+      a VOL1 at item 2
+      section 1 of file 1 is truncated, blocks found: 0
 
 1 image: 0 ok, 1 damaged
 1 set, 1 file: 0 complete, 1 incomplete
@@ -223,6 +228,11 @@ fn no_labelled_volumes(rt: HostRuntime) -> Result<(), Fail> {
 
 const NO_SECOND: &str = "Complete on no image: read or copy it again; 'tape unpack' joins copies
   ABC001 file 1 PAYROLL: section 1 is truncated on ABC001 (one.tap)
+Labels or marks damaged, or cut off: read the reel, or copy the image, again
+  one.tap                   volume ABC001, 2 sections
+      item 3 is not HDR2: counting continues
+      section 1 of file 1 is truncated, blocks found: 0
+      section 1 of file 1 has unreadable blocks, blocks found: 1
 
 1 image: 0 ok, 1 damaged
 1 set, 1 file: 0 complete, 1 incomplete

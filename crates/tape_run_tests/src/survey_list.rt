@@ -23,6 +23,10 @@ Set ABC001: 0 of 1 files complete
 
 const BROKEN_OFF: &str = "Complete on no image: read or copy it again; 'tape unpack' joins copies
   ABC001 file 1 PAYROLL: section 1 is truncated on ABC001 (one.tap)
+Labels or marks damaged, or cut off: read the reel, or copy the image, again
+  one.tap                   volume ABC001, 1 section
+      image fault 1 at byte 1884
+      section 1 of file 1 is truncated, blocks found: 2
 
 1 image: 0 ok, 1 damaged
 1 set, 1 file: 0 complete, 1 incomplete
@@ -72,6 +76,10 @@ fn damaged_and_mixed(rt: HostRuntime) -> Result<(), Fail> {
 
 const PROBLEMS: &str = "Complete on no image: read or copy it again; 'tape unpack' joins copies
   ABC001 file 1 PAYROLL: section 2 is truncated on ABC001 (two.tap)
+Labels or marks damaged, or cut off: read the reel, or copy the image, again
+  two.tap                   volume ABC001, 1 section
+      item 7 is not EOF1 or EOV1 of its section: counting continues
+      section 2 of file 1 is truncated, blocks found: 1
 Missing: look for the reel, or for other images of it
   ABC001 file 1 PAYROLL: section 1
   ABC001 file 1 PAYROLL: sections 3-4, after volume ABC001 (two.tap)

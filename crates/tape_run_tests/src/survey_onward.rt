@@ -44,7 +44,7 @@ pub enum Damage {
 }
 
 /// Appends item `item` of the volume, counted from 1; with `bad` as an unreadable block.
-fn add(image: &mut Image, item: usize, bad: bool) -> Result<(), AllocError> {
+pub fn add(image: &mut Image, item: usize, bad: bool) -> Result<(), AllocError> {
     if bad {
         return image.bad(b"x");
     }
@@ -144,6 +144,11 @@ Set ABC001: 3 of 3 files complete
 
 const FIRST_TRAILER: &str = "Complete on no image: read or copy it again; 'tape unpack' joins copies
   ABC001 file 1 ALPHA: section 1 is truncated on ABC001 (v.tap)
+Labels or marks damaged, or cut off: read the reel, or copy the image, again
+  v.tap                     volume ABC001, 3 sections
+      1 unreadable block
+      item 7 is not EOF1 or EOV1 of its section: counting continues
+      section 1 of file 1 is truncated, blocks found: 1
 
 1 image: 0 ok, 1 damaged
 1 set, 3 files: 2 complete, 1 incomplete
@@ -160,7 +165,12 @@ Set ABC001: 2 of 3 files complete
 ";
 
 const HEADER: &str = "Complete on no image: read or copy it again; 'tape unpack' joins copies
-  ABC001 file 2 BRAVO: section 1 is truncated on ABC001
+  ABC001 file 2 BRAVO: section 1 is truncated on ABC001 (v.tap)
+Labels or marks damaged, or cut off: read the reel, or copy the image, again
+  v.tap                     volume ABC001, 2 sections
+      1 unreadable block
+      item 10 is neither HDR1 nor a tape mark: counting continues
+      section 1 of file 2 is truncated, blocks found: 0
 Unsupported: 'tape list' shows it, 'tape salvage --form blocks' its blocks
   ABC001 file 2 BRAVO: no HDR2 with a supported record format (v.tap)
 
@@ -180,6 +190,11 @@ Set ABC001: 2 of 3 files complete
 
 const SECOND_HEADER: &str = "Complete on no image: read or copy it again; 'tape unpack' joins copies
   ABC001 file 2 BRAVO: section 1 has unreadable blocks on ABC001 (v.tap)
+Labels or marks damaged, or cut off: read the reel, or copy the image, again
+  v.tap                     volume ABC001, 3 sections
+      1 unreadable block
+      item 11 is not HDR2: counting continues
+      section 1 of file 2 has unreadable blocks, blocks found: 1
 Unsupported: 'tape list' shows it, 'tape salvage --form blocks' its blocks
   ABC001 file 2 BRAVO: no HDR2 with a supported record format (v.tap)
 

@@ -7,7 +7,7 @@ use super::page::Page;
 use super::runs::add_runs;
 use super::state::{ImageState, state_of};
 use super::{Shelf, add_image};
-use crate::section::SectionKey;
+use crate::section::{Entry, SectionKey, SectionState};
 use crate::sections::Sections;
 use crate::survey::course::{ExpectedItem, LabelOrder};
 use crate::survey::damages::damage_text;
@@ -20,7 +20,7 @@ use crate::survey::sets::file_problems;
 use crate::survey::strays::is_stray;
 use crate::survey::view::{ImageSurvey, is_end};
 use crate::text::Trimmed;
-use tape_label::Field;
+use tape_label::{Field, Head1};
 
 const UNSUPPORTED: &str =
     "Unsupported: 'tape list' shows it, 'tape salvage --form blocks' its blocks\n";
@@ -67,21 +67,31 @@ pub(super) fn add_tasks(page: &mut Page<'_>, shelf: &Shelf<'_>) {
     add_images(page, shelf, Task::Nothing);
 }
 
-/// Returns what to do about an image, if anything. One with a damaged section that no image has
-/// complete is named beside that section.
+/// Returns what to do about an image, if anything. One whose labels are in order, with a damaged
+/// section that no image has complete, may be named beside that section only.
 fn task_of(shelf: &Shelf<'_>, sight: &Option<ImageSurvey>) -> Option<Task> {
     let findings = shelf.findings;
     match (state_of(sight, false), sight) {
         (ImageState::NotOpened, _) => Some(Task::Open),
         (ImageState::Empty | ImageState::NotTape, _) => Some(Task::Convert),
         (ImageState::Unsupported, _) => Some(Task::List),
-        (ImageState::Damaged, Some(sight)) if sight.damaged.as_slice().is_empty() => {
+        (ImageState::Damaged, Some(sight))
+            if !is_in_order(sight) || sight.damaged.as_slice().is_empty() => {
             Some(damage_task(shelf, sight))
         }
         (ImageState::Damaged, Some(sight)) if is_spare(&findings.sections, sight) => {
             Some(Task::Nothing)
         }
         _ => None,
+    }
+}
+
+/// Returns whether an image was read without a fault, and its items are in the order of a volume to
+/// the volume's end.
+fn is_in_order(sight: &ImageSurvey) -> bool {
+    match sight.glance.course {
+        LabelOrder::Ended | LabelOrder::Leaves(_, ExpectedItem::End) => is_end(sight.stop),
+        _ => false,
     }
 }
 
@@ -97,7 +107,15 @@ fn is_spare(sections: &Sections, sight: &ImageSurvey) -> bool {
     true
 }
 
-/// Returns what to do about an image without damaged sections that is damaged.
+/// Returns whether these labels of two images are of one set, as far as they were found.
+fn is_one_set(one: &Option<Head1>, other: &Option<Head1>) -> bool {
+    match (one, other) {
+        (Some(one), Some(other)) => one.set_id == other.set_id,
+        _ => true,
+    }
+}
+
+/// Returns what to do about an image that is damaged, and not in its sections alone.
 fn damage_task(shelf: &Shelf<'_>, sight: &ImageSurvey) -> Task {
     match sight.glance.course {
         LabelOrder::Leaves(_, ExpectedItem::End) if is_end(sight.stop) => return Task::Look,
@@ -106,11 +124,17 @@ fn damage_task(shelf: &Shelf<'_>, sight: &ImageSurvey) -> Task {
     let First::Volume(label) = &sight.glance.first else {
         return Task::Reread;
     };
+    let findings = shelf.findings;
+    if !is_spare(&findings.sections, sight) {
+        return Task::Reread;
+    }
     for other in shelf.sights {
         if let Some(other) = other
             && other.is_sound()
+            && other.glance.files > 0
             && let First::Volume(same) = &other.glance.first
             && same.volume == label.volume
+            && is_one_set(&sight.glance.head, &other.glance.head)
         {
             return Task::Nothing;
         }
@@ -148,10 +172,10 @@ fn begin_file(page: &mut Page<'_>, shelf: &Shelf<'_>, set_id: Field<6>, file: u1
 }
 
 /// Appends the name of an image in parentheses, if there is one, and ends the line.
-fn end_line(page: &mut Page<'_>, image: Option<&usize>) {
+fn end_line(page: &mut Page<'_>, image: Option<usize>) {
     if let Some(image) = image {
         page.put(b" (");
-        page.add_name(*image);
+        page.add_name(image);
         page.put(b")");
     }
     page.put(b"\n");
@@ -174,6 +198,43 @@ fn add_mixed(page: &mut Page<'_>, shelf: &Shelf<'_>) {
     }
 }
 
+/// Appends the volume on which a section is, if its label was read.
+fn add_volume(page: &mut Page<'_>, volume: &Field<6>) {
+    if volume.bytes() == b"(none)".as_slice() {
+        return;
+    }
+    let (alloc, volume) = (page.alloc(), Trimmed(volume));
+    page.add(format!(in alloc; " on {volume}"));
+}
+
+/// Returns whether a section on an image is damaged in this way.
+fn has_damage(sight: &ImageSurvey, key: &SectionKey, state: SectionState) -> bool {
+    for line in sight.damaged.as_slice() {
+        let (set_id, file, sect) = (line.set_id, line.file, line.sect);
+        let found = SectionKey { set_id, file, sect };
+        if found == *key && line.state == state {
+            return true;
+        }
+    }
+    false
+}
+
+/// Returns the number of the first image on which a section has the state of its entry.
+fn image_of(shelf: &Shelf<'_>, key: &SectionKey, entry: &Entry) -> Option<usize> {
+    let findings = shelf.findings;
+    if entry.state.is_good() {
+        return findings.locations.get(key).copied();
+    }
+    for (image, sight) in shelf.sights.iter().enumerate() {
+        if let Some(sight) = sight
+            && has_damage(sight, key, entry.state)
+        {
+            return Some(image);
+        }
+    }
+    None
+}
+
 /// Appends the sections that no image has complete, or those that complete files do not need.
 fn add_sections(page: &mut Page<'_>, shelf: &Shelf<'_>, strays: bool) {
     let (alloc, findings) = (page.alloc(), shelf.findings);
@@ -181,14 +242,12 @@ fn add_sections(page: &mut Page<'_>, shelf: &Shelf<'_>, strays: bool) {
     for (key, entry) in sections {
         if is_stray(sections, key, entry) == strays && (strays || !entry.state.is_good()) {
             begin_file(page, shelf, key.set_id, key.file);
-            let (sect, damage, volume) = (
-                key.sect,
-                damage_text(entry.state),
-                Trimmed(&entry.volume),
-            );
+            let (sect, damage) = (key.sect, damage_text(entry.state));
+            page.add(format!(in alloc; "section {sect} {damage}"));
+            add_volume(page, &entry.volume);
             let after_end = if strays { ", after the file's end" } else { "" };
-            page.add(format!(in alloc; "section {sect} {damage} on {volume}{after_end}"));
-            end_line(page, findings.locations.get(key));
+            page.put(after_end.as_bytes());
+            end_line(page, image_of(shelf, key, entry));
         }
     }
 }
@@ -250,7 +309,7 @@ fn add_missing_sections(page: &mut Page<'_>, shelf: &Shelf<'_>, key: SectionKey,
         let volume = Trimmed(&entry.volume);
         page.add(format!(in alloc; ", after volume {volume}"));
     }
-    end_line(page, findings.locations.get(&before));
+    end_line(page, findings.locations.get(&before).copied());
 }
 
 /// Appends the files that are not readable.
@@ -269,7 +328,7 @@ fn add_flaws(page: &mut Page<'_>, shelf: &Shelf<'_>) {
                     ));
                 }
             }
-            end_line(page, Some(&note.image));
+            end_line(page, Some(note.image));
         }
     }
 }
