@@ -367,10 +367,12 @@ def images_of_one_set(t):
     other = ONE.replace(b"ABC001", b"XYZ001")
     run = t(["unpack", "d", "one.tap", "other.tap"], {"one.tap": ONE, "other.tap": other})
     opened = [at for name, at, rest in run.events if name == "openat" and at.endswith(".tap")]
-    first = run.first(lambda name, at, rest: name == "openat" and at == "d/ABC001.1.PAYROLL.stage") or len(run.events)
-    ended = run.first(lambda name, at, rest: name == "openat" and at == "d/XYZ001.1.PAYROLL.stage") or len(run.events)
+    stage = "d/ABC001.1.PAYROLL.stage"
+    first = run.first(lambda name, at, rest: name == "openat" and at == stage) or len(run.events)
+    ended = run.first(lambda name, at, rest: name == "close" and at == stage, first) or len(run.events)
     between = {at for name, at, rest in run.events[first:ended] if name == "openat" and at.endswith(".tap")}
-    yield between == {"one.tap"}, f"for ABC001 {between} were opened ({opened})"
+    # After the survey the copies are compared, and the files recovered, set by set.
+    yield between == {"one.tap"} and opened[2:] == sorted(opened[2:]), f"for ABC001 {between} were opened ({opened})"
 
 
 def lines_one_by_one(t):

@@ -158,7 +158,13 @@ const CONTRARY: &str = "
     # 20 records of 80 bytes, each with a line feed.
     length out/DAY001.1.A.salvaged 1620
     at out/DAY001.1.A.salvaged 1539 11111
-    missing out/DAY001.1.A
+    missing out/DAY001.1.A out/DAY001.1.A.stage
+    # Nor is an existing file compared.
+    put out/DAY001.1.A kept
+    3$ unpack out one/DAY001.tap three/DAY001.tap
+    > FILE DAY001 1 CONFLICT
+    > TOTAL 0 complete 0 existing 0 incomplete 1 in conflict 0 not found 0 failed
+    has out/DAY001.1.A kept
     # A stage with block 0, a copy of the others, and an image with another block 0 alone.
     3: unpack kept one/DAY001.tap
     spoil two/DAY001.tap 4
@@ -171,6 +177,32 @@ const CONTRARY: &str = "
     > TOTAL 1 complete 0 existing 0 incomplete 0 in conflict 0 not found 0 failed
     at kept/DAY001.1.A 0 11111
     missing kept/DAY001.1.A.stage
+    # A copy with an unreadable block and a wrong block count is named if the file is incomplete.
+    folder counts
+    damaged last.tap 4
+    lost_damaged doubtful.tap 3
+    3$ unpack counts doubtful.tap last.tap
+    > FILE ABC001 1 AWAITS 1 1 4 counts/ABC001.1.PAYROLL.stage
+    > FILE ABC001 1 SECTION DIFFERS doubtful.tap
+    > TOTAL 0 complete 0 existing 1 incomplete 0 in conflict 0 not found 0 failed
+    damaged first.tap 0
+    $ unpack counts doubtful.tap last.tap first.tap
+    > FILE ABC001 1 COMPLETE 25 counts/ABC001.1.PAYROLL
+    > TOTAL 1 complete 0 existing 0 incomplete 0 in conflict 0 not found 0 failed
+    # Labels after a lost mark are not the blocks that another copy lacks.
+    folder labels
+    damaged marks.tap 9
+    omit marks.tap 12
+    omit marks.tap 3
+    damaged unread.tap 0
+    spoil unread.tap 5
+    3$ unpack labels marks.tap unread.tap
+    > FILE ABC001 1 AWAITS 1 1 0 labels/ABC001.1.PAYROLL.stage
+    > FILE ABC001 1 SECTION DIFFERS marks.tap
+    > INCOMPLETE IMAGE marks.tap
+    > TOTAL 0 complete 0 existing 1 incomplete 0 in conflict 0 not found 0 failed
+    3: extract ABC001 1 labels.txt marks.tap unread.tap --again
+    missing labels.txt labels/ABC001.1.PAYROLL
     # Salvaged records are kept with a stage that has other data than the complete file.
     folder four days
     0: write four DAY 100000 A=other.bin --format F --record 80 --block 400 --form raw

@@ -96,6 +96,10 @@ impl<R: Progress, P: Write> Run<'_, R, P> {
         let outcome = match self.compared(file, out, &mut runs) {
             Ok(outcome) => outcome,
             Err(OUT_OF_MEMORY) => return Err(OUT_OF_MEMORY),
+            Err(ToolFault::Conflict) => {
+                self.tell(file, UnpackOutcome::Conflict, b"", "")?;
+                return Ok(End::Incomplete);
+            }
             Err(fault) => return self.tell_failed(file, out, fault),
         };
         self.tell(file, outcome, b"", out)?;
@@ -111,7 +115,8 @@ impl<R: Progress, P: Write> Run<'_, R, P> {
 
     /// Returns how the file at `out` compares with that on the images. The images are read as for
     /// a file that does not exist, but nothing is saved in a stage, and none is read. `runs` gets
-    /// where the blocks of the images came from.
+    /// where the blocks of the images came from. Returns `Conflict` if two images contradict each
+    /// other about a section that none has in full.
     fn compared(
         &mut self,
         file: &SetFile,
@@ -215,7 +220,7 @@ impl<R: Progress, P: Write> Run<'_, R, P> {
         let images = &mut NormalImages::again(rt, names.as_slice());
         let opener = &mut Compared::new(rt.alloc(), true);
         if file.lacks.is_some() && opener.doubt(rt, task, names.as_slice())?.is_some() {
-            return Ok(End::Incomplete);
+            return Err(ToolFault::Conflict);
         }
         opener.is_recorded = self.manifest.is_some();
         let (session, last) = (&mut session, &mut LastLine::new());

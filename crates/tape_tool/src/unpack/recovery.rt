@@ -11,7 +11,7 @@ use crate::images::place_of;
 use crate::normal::{Normal, NormalImages};
 use crate::program::{End, end_of, extract_end};
 use crate::screen::Progress;
-use crate::staging::session_in;
+use crate::staging::{StageSink, session_in};
 use std::alloc::AllocError;
 use std::fs;
 use std::io::Write;
@@ -92,12 +92,35 @@ impl<'n, R: Progress, P: Write> Run<'n, R, P> {
         Ok(names)
     }
 
+    /// Compares the copies of a file's sections on the images that may have its parts from `want`
+    /// on, if a section is complete on no image. `opener` remembers which copies are doubtful.
+    ///
+    /// # Errors
+    ///
+    /// Returns `Conflict` if two of the images contradict each other.
+    fn doubt_copies(
+        &self,
+        file: &SetFile,
+        task: &Task<'_>,
+        want: Option<Want>,
+        opener: &mut Compared,
+    ) -> Result<(), ToolFault> {
+        if file.lacks.is_none() {
+            return Ok(());
+        }
+        let names = self.names_for(task.set_id, want)?;
+        match opener.doubt(self.rt, task, names.as_slice())? {
+            Some(_) => Err(ToolFault::Conflict),
+            None => Ok(()),
+        }
+    }
+
     /// Recovers a file on the stage at `path` from the images that may have its missing parts.
     ///
     /// # Errors
     ///
     /// Returns `Conflict` if two images contradict each other about a section that none has in
-    /// full; the stage is then not changed.
+    /// full; the stage is then not changed, or not created.
     fn recover_in_passes(
         &mut self,
         file: &SetFile,
@@ -107,24 +130,47 @@ impl<'n, R: Progress, P: Write> Run<'n, R, P> {
         last: &mut LastLine,
     ) -> Result<End, ToolFault> {
         let rt = self.rt;
-        // A link is not followed to a stage.
-        if found(fs::symlink_metadata(rt.host(), path))?.is_some_and(|there| !there.is_file()) {
-            return Err(ToolFault::File(FileFault::NotOpened));
-        }
+        let doubted = match found(fs::symlink_metadata(rt.host(), path))? {
+            Some(there) if there.is_file() => None,
+            // A link is not followed to a stage.
+            Some(_) => return Err(ToolFault::File(FileFault::NotOpened)),
+            None => Some(Want {
+                file: task.file,
+                sect: 1,
+                block: 0,
+                part: 0,
+            }),
+        };
+        let opener = &mut Compared::new(rt.alloc(), true);
+        // Before a stage is created.
+        self.doubt_copies(file, task, doubted, opener)?;
         let mut session = session_in(rt.host(), path, task.set_id, task.file)?;
         if task.wide {
             session.widen();
         }
+        if session.want() != doubted {
+            self.doubt_copies(file, task, session.want(), opener)?;
+        }
+        self.recover_on(&mut session, opener, task, listed, last)
+    }
+
+    /// Recovers a file in a session on its stage from the images that may have its missing parts,
+    /// which `opener` opens.
+    fn recover_on(
+        &mut self,
+        session: &mut Session<StageSink>,
+        opener: &mut Compared,
+        task: &Task<'_>,
+        listed: &mut Listed,
+        last: &mut LastLine,
+    ) -> Result<End, ToolFault> {
+        let rt = self.rt;
         let names = self.names_for(task.set_id, session.want())?;
         let images = &mut NormalImages::again(rt, names.as_slice());
-        let opener = &mut Compared::new(rt.alloc(), true);
-        if file.lacks.is_some() && opener.doubt(rt, task, names.as_slice())?.is_some() {
-            return Err(ToolFault::Conflict);
-        }
         let (draft, out) = Draft::over(rt, task.out, None)?;
         let mut output = SummedOutput::new(draft, out, listed.is_wanted);
         opener.is_recorded = listed.is_wanted;
-        let (session, form) = (&mut session, &mut self.form);
+        let form = &mut self.form;
         let answer = extract_in_form(session, images, opener, form, &mut output, last);
         let mut place = output.place;
         listed.sum = place.found.take();
@@ -148,6 +194,25 @@ impl<'n, R: Progress, P: Write> Run<'n, R, P> {
             }
         }
         listed.runs = self.runs_in_passes(names, opener, listed.want)?;
+        self.note_doubtful(names, opener, listed)
+    }
+
+    /// Remembers in `listed` which images have a doubtful copy of the section that is missing, but
+    /// no other data. It was recovered from those named `names`, which `opener` opened.
+    fn note_doubtful(
+        &self,
+        names: &[&str],
+        opener: &Compared,
+        listed: &mut Listed,
+    ) -> Result<(), AllocError> {
+        for number in 0..names.len() {
+            if opener.doubtful_at(number, listed.want).is_some()
+                && let Some(place) = place_of(self.names, names, number)
+                && !self.differing.contains(&place)
+            {
+                listed.doubtful.push(place)?;
+            }
+        }
         Ok(())
     }
 

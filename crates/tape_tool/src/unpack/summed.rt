@@ -27,6 +27,8 @@ pub struct Listed {
     pub runs: Vec<BlockRun>,
     /// The first part of the file that is missing, after a recovery on its stage.
     pub want: Option<Want>,
+    /// The numbers of the images with a doubtful copy of that section, counted from 0.
+    pub doubtful: Vec<usize>,
 }
 
 impl Listed {
@@ -37,6 +39,7 @@ impl Listed {
             sum: None,
             runs: Vec::new(alloc),
             want: None,
+            doubtful: Vec::new(alloc),
         }
     }
 }
