@@ -17,7 +17,7 @@ use std::alloc::Global;
 use std::io::Write;
 use std::{fs, io};
 use tape_run::{
-    BlockRun, Content, FileKey, FileNote, FoundFiles, SalvageTask, find_files, position_of, runs_of,
+    BlockRun, Content, FileKey, FoundFiles, SalvageTask, find_files, position_of, runs_of,
 };
 use tape_writer::system::{folder_of, found, name_in_folder};
 
@@ -84,16 +84,11 @@ pub fn provenance_of<'a>(matches: &ArgMatches<'a>) -> Result<Option<&'a str>, Re
 
 /// What a recovery in passes read: the names of its images in the order in which they were read and
 /// in the order of the survey of them, and the survey.
-#[derive(Clone, Copy)]
+#[derive(Drop)]
 pub struct ReadImages<'n> {
     pub order: &'n [&'n str],
     pub names: &'n [&'n str],
     pub met: &'n FoundFiles,
-}
-
-/// Returns what the survey noted of a file.
-fn note_of<'n>(met: &'n FoundFiles, key: &FileKey) -> Option<&'n FileNote> {
-    met.notes.get(key)
 }
 
 /// Writes the record of a recovery in passes, which ended with `end`: of a complete output or, if
@@ -102,7 +97,7 @@ pub fn record_extracted<R: Progress>(
     rt: &R,
     record: &mut Record,
     task: &Task<'_>,
-    images: ReadImages<'_>,
+    images: &ReadImages<'_>,
     opener: &Compared,
     listed: &Listed,
     end: End,
@@ -110,43 +105,58 @@ pub fn record_extracted<R: Progress>(
     let (from, to) = (opener.openings.as_slice(), position_of(listed.want));
     let mut runs = runs_of(rt.alloc(), from, to)?;
     renumber(images.names, images.order, &mut runs);
-    record_runs(rt, record, task, images, runs.as_slice(), listed, end)
-}
-
-/// Writes the record of an output, or of a stage, that has these runs of blocks.
-fn record_runs<R: Progress>(
-    rt: &R,
-    record: &mut Record,
-    task: &Task<'_>,
-    images: ReadImages<'_>,
-    runs: &[BlockRun],
-    listed: &Listed,
-    end: End,
-) -> Result<End, ToolFault> {
-    let (set_id, file) = (task.set_id, task.file);
-    let key = FileKey { set_id, file };
-    let note = note_of(images.met, &key);
-    let file_id = match note {
-        Some(note) => Some(note.head.file_id),
-        None => None,
-    };
-    match (end, listed.sum, listed.want, task.stage) {
-        (End::Done, Some(sum), _, _) => {
-            let name = task.out;
-            let output = RecordedName { name, key, file_id };
-            let written = written_at(rt.host(), name, form_word(task.form), sum)?;
-            record.add_file(rt.alloc(), &output, written, note)?;
-            record.add_runs(rt.host(), images.names, &output, runs)?;
-        }
-        (End::Incomplete, _, Some(want), Some(name)) => {
-            let output = RecordedName { name, key, file_id };
-            record.add_awaited(rt.host(), images.names, &output, want, runs)?;
-        }
+    match end {
+        End::Done => record_complete(rt, record, task, images, listed, runs.as_slice())?,
+        End::Incomplete => record_awaited(rt, record, task, images, listed, runs.as_slice())?,
         _ => return Ok(end),
     }
     record.add_images(rt.host(), images.names, images.met.images.as_slice())?;
     record.write(rt)?;
     Ok(end)
+}
+
+/// Adds a complete output with these runs of blocks.
+fn record_complete<R: Progress>(
+    rt: &R,
+    record: &mut Record,
+    task: &Task<'_>,
+    images: &ReadImages<'_>,
+    listed: &Listed,
+    runs: &[BlockRun],
+) -> Result<(), ToolFault> {
+    let Some(sum) = listed.sum else {
+        return Ok(());
+    };
+    let (set_id, file, name) = (task.set_id, task.file, task.out);
+    let key = FileKey { set_id, file };
+    let note = images.met.notes.get(&key);
+    let file_id = note.map(|note| note.head.file_id);
+    let output = RecordedName { name, key, file_id };
+    let written = written_at(rt, name, key, form_word(task.form), sum)?;
+    record.add_file(rt.alloc(), &output, written, note)?;
+    record.add_runs(rt.host(), images.names, &output, runs)?;
+    Ok(())
+}
+
+/// Adds the stage of an incomplete file, if there is one, with these runs of blocks.
+fn record_awaited<R: Progress>(
+    rt: &R,
+    record: &mut Record,
+    task: &Task<'_>,
+    images: &ReadImages<'_>,
+    listed: &Listed,
+    runs: &[BlockRun],
+) -> Result<(), ToolFault> {
+    let (Some(want), Some(name)) = (listed.want, task.stage) else {
+        return Ok(());
+    };
+    let (set_id, file) = (task.set_id, task.file);
+    let key = FileKey { set_id, file };
+    let note = images.met.notes.get(&key);
+    let file_id = note.map(|note| note.head.file_id);
+    let output = RecordedName { name, key, file_id };
+    record.add_awaited(rt.host(), images.names, &output, want, runs)?;
+    Ok(())
 }
 
 /// A report of `salvage` that is printed, and is remembered if the output is recorded.
@@ -214,7 +224,7 @@ pub fn record_salvaged<R: Progress, P>(
         Content::Blocks => "blocks",
         Content::Records => form_word(task.form),
     };
-    let written = written_at(rt.host(), out, form, sum)?;
+    let written = written_at(rt, out, key, form, sum)?;
     if end == End::Done {
         record.add_file(rt.alloc(), &output, written, note)?;
     } else {
