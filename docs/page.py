@@ -28,6 +28,7 @@ COLUMNS = {
     "SECTION": "set file section volume blocks state eof",
     "FILE": "set file identifier created state section volume conflict sections format block record",
     "COPIES": "set file section copies name other agree",
+    "UNCOUNTED": "set file section",
 }
 # What an item is drawn as, and what the bar below it says of its section; the worst last.
 KINDS = ("block", "mark", "label", "bad", "end")
@@ -161,10 +162,11 @@ def missing_of(row):
     return listed or ([row["section"]] if row["state"] == "MISSING" else [])
 
 
-def file_row(rows, sections, copies):
+def file_row(rows, sections, copies, uncounted):
     """The row of a file: its sections, what is missing, and its conflicts."""
-    first = rows[0]
-    cells = [cell(s["state"], f'{s["section"]} {s["state"]} on {s["volume"]}') for s in sections]
+    first, words = rows[0], {key: ", blocks not counted" for key in uncounted}
+    cells = [cell(s["state"], f'{s["section"]} {s["state"]} on {s["volume"]}{words.get(key_of(s), "")}')
+             for s in sections]
     for row in rows:
         for number in missing_of(row):
             is_first = number.split("-")[0] == row["section"]
@@ -187,6 +189,7 @@ def page(names, paths):
     rows = rows_of(paths)
     shown = dict(zip(paths, names))
     conflicts = [row for row in rows["COPIES"] if row["agree"] == "CONFLICT"]
+    uncounted = [key_of(row) for row in rows["UNCOUNTED"]]
     for row in conflicts:
         row.update((column, shown.get(row[column], row[column])) for column in ("name", "other"))
     yield '<!DOCTYPE html>\n<html lang="en">\n<meta charset="utf-8">\n<title>Tape images</title>'
@@ -204,7 +207,8 @@ def page(names, paths):
     for file, each in files.items():
         sections, copies = ([row for row in some if (row["set"], row["file"]) == file]
                             for some in (rows["SECTION"], conflicts))
-        yield file_row(each, sorted(sections, key=lambda row: int(row["section"])), copies)
+        sections = sorted(sections, key=lambda row: int(row["section"]))
+        yield file_row(each, sections, copies, uncounted)
     yield "</table>\n</html>"
 
 

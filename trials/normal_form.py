@@ -55,7 +55,8 @@ def numbered(label, file):
 
 
 class Normal:
-    """The normal form of a tape, item by item; `rules` are those that were applied.
+    """The normal form of a tape, item by item; `rules` are those that were applied, `uncounted` the
+    sections whose trailer labels have no block count: set, file and section of their HDR1.
 
     Each place of a tape is a method. It returns what replaces the item, or None if it stays.
     """
@@ -63,6 +64,7 @@ class Normal:
     def __init__(self):
         self.place, self.code, self.dropped, self.rules = "start", "ascii", 0, set()
         self.file, self.is_filled, self.blocks, self.counts = 0, False, None, False
+        self.head, self.uncounted = None, []
 
     def step(self, item):
         kind, block = item
@@ -116,7 +118,8 @@ class Normal:
         if self.is_filled:
             label, fields = better, first_label(better)
             self.rules.add("file")
-        if isinstance(fields, dict):
+        self.head = fields if isinstance(fields, dict) else None
+        if self.head:
             self.file = fields["file"]
         return label
 
@@ -178,6 +181,9 @@ class Normal:
             return label
         if better[54:60] != label[54:60]:
             self.rules.add("count")
+            if not label[54:60].strip(b" \x000"):
+                head = self.head or first_label(better)
+                self.uncounted.append((head["set"], head["file"], head["section"]))
         return better
 
     def trailers(self, kind, _, label):
@@ -202,7 +208,8 @@ def is_complete(data, at, kind, end):
 
 
 def normal_form(data):
-    """An image in normal form, and the rules that were applied. All is kept from a fault on."""
+    """An image in normal form, the rules that were applied, and the sections that are not counted.
+    All is kept from a fault on."""
     machine, made, at = Normal(), bytearray(), 0
     while machine.place != "over":
         kind, length, end = model.head_at(data, at)
@@ -216,8 +223,8 @@ def normal_form(data):
         if given and not is_right:
             break
         if not given and end > len(data):
-            return bytes(made) + b"\0", machine.rules
+            return bytes(made) + b"\0", machine.rules, machine.uncounted
         for each in given:
             made += data[at:end] if each == (kind, block) else model.encoded(each[1])
         at = end
-    return bytes(made) + data[at:], machine.rules
+    return bytes(made) + data[at:], machine.rules, machine.uncounted

@@ -67,8 +67,10 @@ class Trial(Results):
             (self.folder / name).write_bytes(data)
         # Some mutated images are taken for images of another format.
         forms = [normal_form.normal_form(simh_image(data)) for data in images]
-        survey = Survey([data for data, _ in forms])
-        applied = [(at, rule) for at, (_, rules) in enumerate(forms, 1) for rule in rules]
+        survey = Survey([data for data, *_ in forms])
+        applied = [(at, rule) for at, (_, rules, _) in enumerate(forms, 1) for rule in rules]
+        # Each section once, in the order in which they are read.
+        self.uncounted = list(dict.fromkeys(key for *_, keys in forms for key in keys))
         notices = [f"  image {at}: {normal_form.RULES[rule]}" for at, rule in applied]
         self.told.update(rule for _, rule in applied)
         self.survey(survey, names, notices)
@@ -99,6 +101,11 @@ class Trial(Results):
         wrong = [pair for pair in zip(told, want) if pair[0] != pair[1]]
         is_right = len(told) == len(want) and not wrong
         self.expect(is_right, f"batch {self.seed}: sections: {wrong[:1]}")
+        told = [row[1:] for row in rows if row[0] == "UNCOUNTED"]
+        want = [[printed(set_id).rstrip(), str(file), str(section)]
+                for set_id, file, section in self.uncounted]
+        self.expect(told == want, f"batch {self.seed}: not counted: {told}, expected {want}")
+        self.told["uncounted"] += len(want)
 
     def image_row(self, volume, is_in_conflict):
         """The columns of an image after its name, up to the owner."""
@@ -115,8 +122,10 @@ class Trial(Results):
         self.notices("unpack", told, notices)
         want, files = [], {}
         for set_id, file in survey.files:
-            line, path, records = self.read(survey, set_id, file)
-            want.append(f"FILE {printed(set_id)} {file} {line}")
+            lines, path, records = self.read(survey, set_id, file, names)
+            lines += [f"UNCOUNTED {section}"
+                      for *key, section in self.uncounted if key == [set_id, file]]
+            want += [f"FILE {printed(set_id)} {file} {line}" for line in lines]
             if records is not None:
                 files[path] = b"".join(each + b"\n" for each in records)
         unread = [name for name, volume in zip(names, survey.volumes) if not volume.is_read]
@@ -134,17 +143,18 @@ class Trial(Results):
             self.expect(made.get(path) == files.get(path), told)
         self.untouched(survey, made, images)
 
-    def read(self, survey, set_id, file):
-        """The end of the line about a file, its path, and its records if it is complete."""
+    def read(self, survey, set_id, file, names):
+        """The ends of the lines about a file, its path, and its records if it is complete."""
         path, records = "out/" + path_of(set_id, file, survey.names.get((set_id, file), b"")), None
-        line = "CONFLICT" if (set_id, file) in survey.names else "NOT FOUND"
-        if line == "CONFLICT" and not survey.in_conflict(set_id, file):
+        lines = ["CONFLICT" if (set_id, file) in survey.names else "NOT FOUND"]
+        if lines == ["CONFLICT"] and not survey.in_conflict(set_id, file):
             reader = survey.unpacked(set_id, file)
             self.told["salvaged"] += not reader.done and survey.salvaged(reader)
-            line = f"{survey.last_line(reader)} {path}" + ("" if reader.done else ".stage")
+            lines = [f"{survey.last_line(reader)} {path}" + ("" if reader.done else ".stage")]
+            lines += [f"SECTION DIFFERS {names[at]}" for at in survey.left_out(reader)]
             records = model.joined(reader.parts) if reader.done else None
-        self.told[line.split()[0].lower()] += 1
-        return line, path, records
+        self.told.update(line.split()[0].lower() for line in lines)
+        return lines, path, records
 
     def salvage(self, survey, names, images):
         self.run("unpack", "--salvage", "--form", "lines", "salvaged", names=names)

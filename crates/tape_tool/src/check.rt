@@ -9,11 +9,12 @@ use crate::normal::NormalImages;
 use crate::program::{End, check_end};
 use crate::refusal::Refusal;
 use crate::screen::Progress;
+use crate::unpack::printable;
 use clap::ArgMatches;
-use std::alloc::AllocError;
+use std::alloc::{AllocError, Global};
 use std::io;
 use std::io::{BufWriter, Write};
-use tape_run::{EngineFault, Wording, check_to, survey_to};
+use tape_run::{EngineFault, SectionKey, Wording, check_to, flush, survey_to, write_text};
 
 pub const CHECK: &CommandSpec = &CommandSpec {
     name: "check",
@@ -109,8 +110,19 @@ const SURVEY_ROWS: &RowTable = &RowTable {
                 Column("result", Shape::Text, Span::Cell),
             ],
         ),
+        RowKind(
+            "UNCOUNTED",
+            &[
+                Column("set", Shape::Text, Span::Cell),
+                Column("file", Shape::Number, Span::Cell),
+                Column("section", Shape::Number, Span::Cell),
+            ],
+        ),
     ],
 };
+
+/// The greatest number of images that `survey` describes one by one without `--all`.
+const FEW: usize = 5;
 
 /// Returns the form in which `survey` prints.
 pub fn survey_form(matches: &ArgMatches<'_>) -> Result<SurveyForm, Refusal> {
@@ -160,14 +172,74 @@ fn survey<R: Progress, W: Write>(
     form: SurveyForm,
     report: &mut W,
 ) -> Result<bool, EngineFault> {
-    let alloc = rt.alloc();
     match form {
-        SurveyForm::Words => survey_to(alloc, images, names, Wording::Words, report),
-        SurveyForm::Full => survey_to(alloc, images, names, Wording::Full, report),
-        SurveyForm::Tsv => survey_to(alloc, images, names, Wording::Rows, report),
+        SurveyForm::Words => survey_in(rt, images, names, Wording::Words, report),
+        SurveyForm::Full => survey_in(rt, images, names, Wording::Full, report),
+        SurveyForm::Tsv => survey_in(rt, images, names, Wording::Rows, report),
         SurveyForm::Json => {
-            let rows = &mut JsonRows::new(alloc, SURVEY_ROWS, report);
-            survey_to(alloc, images, names, Wording::Rows, rows)
+            let rows = &mut JsonRows::new(rt.alloc(), SURVEY_ROWS, report);
+            survey_in(rt, images, names, Wording::Rows, rows)
         }
+    }
+}
+
+/// Describes the images named `names`, and then says which sections have blocks that are not
+/// counted.
+fn survey_in<R: Progress, W: Write>(
+    rt: &R,
+    images: &mut NormalImages<'_, R>,
+    names: &[&str],
+    wording: Wording,
+    report: &mut W,
+) -> Result<bool, EngineFault> {
+    let all = survey_to(rt.alloc(), images, names, wording, report)?;
+    let sections = rt.uncounted().sections(rt.alloc())?;
+    match put_uncounted(
+        rt.alloc(),
+        sections.as_slice(),
+        names.len(),
+        wording,
+        report,
+    ) {
+        Ok(()) => Ok(all),
+        Err(fault) => Err(fault),
+    }
+}
+
+/// Names the sections whose blocks are not counted, or says how many there are, in words about more
+/// than a few images.
+fn put_uncounted<W: Write>(
+    alloc: Global,
+    sections: &[SectionKey],
+    images: usize,
+    wording: Wording,
+    report: &mut W,
+) -> Result<(), EngineFault> {
+    if sections.is_empty() {
+        return Ok(());
+    }
+    if images > FEW && matches!(wording, Wording::Words) {
+        let (count, s) = (sections.len(), if sections.len() == 1 { "" } else { "s" });
+        let line = format!(in alloc; "{count} section{s} whose blocks are not counted\n")?;
+        write_text(report, line.as_bytes())?;
+        return Ok(flush(report)?);
+    }
+    for section in sections {
+        write_text(report, uncounted_line(alloc, section, wording)?.as_bytes())?;
+    }
+    Ok(flush(report)?)
+}
+
+/// Returns the line of a section whose blocks are not counted.
+fn uncounted_line(
+    alloc: Global,
+    section: &SectionKey,
+    wording: Wording,
+) -> Result<String, AllocError> {
+    let set_id = printable(section.set_id.bytes());
+    let (set, file, sect) = (set_id.trim_end(), section.file, section.sect);
+    match wording {
+        Wording::Rows => format!(in alloc; "UNCOUNTED\t{set}\t{file}\t{sect}\n"),
+        _ => format!(in alloc; "{set} file {file} section {sect}: blocks not counted\n"),
     }
 }

@@ -16,6 +16,7 @@ use crate::program::End;
 use crate::recording::{PROVENANCE, ReadImages, new_record, provenance_of, record_extracted};
 use crate::refusal::{Refusal, are_files, is_file};
 use crate::screen::Progress;
+use crate::uncounted::report_uncounted;
 use crate::unpack::{Listed, Record};
 use crate::warned::Warned;
 use crate::words::{FORM, form_of, named, out_of, set_id_of, text_of};
@@ -25,6 +26,7 @@ pub use out::{Output, Way, is_one_name, way_to_out};
 pub use recovery::end_as_written;
 use recovery::recover;
 use std::alloc::{AllocError, Global};
+use std::io;
 use tape_blocks::Form;
 use tape_label::Field;
 use tape_run::{AsTheyAre, FoundFiles, find_files};
@@ -124,8 +126,7 @@ pub fn extract<'a, R: Progress>(
     extract_named(rt, order, named.as_slice(), reels, awaited, site)
 }
 
-/// Recovers the file from the images named `named`. If `reels` is not `None`, names each image
-/// before it is read.
+/// Recovers the file from the images `named`; names each before it is read, if `reels` is a number.
 fn extract_named<'n, 'a, R: Progress>(
     rt: &'n R,
     order: &ExtractOrder<'a>,
@@ -192,9 +193,8 @@ struct Plan<'n> {
     opener: Compared,
 }
 
-/// Recovers the file from images that are read in normal form, in the wider reading if a survey
-/// of them permits it. If `way` has a number, names each image before it is read. Writes the
-/// record, if there is to be one.
+/// Recovers the file from images in normal form, in the wider reading if their survey permits it.
+/// If `way` has a number, names each image before it is read. Writes the record, if requested.
 ///
 /// # Errors
 ///
@@ -245,6 +245,7 @@ fn extract_planned<'n, 'a, R: Progress>(
         ..order.task
     };
     let end = read_planned(rt, task, plan, way, listed, site)?;
+    let end = report_uncounted(rt, task.set_id, task.file, end, &mut io::writer(rt));
     let (Some(met), Some(path)) = (&plan.met, order.provenance) else {
         return Ok(end);
     };
@@ -257,7 +258,7 @@ fn extract_planned<'n, 'a, R: Progress>(
         names: plan.named,
         met,
     };
-    record_extracted(rt, record, task, images, &plan.opener, listed, end)
+    record_extracted(rt, record, task, &images, &plan.opener, listed, end)
 }
 
 /// Recovers the file from the images in the order of the plan.
@@ -278,8 +279,7 @@ fn read_planned<'a, R: Progress>(
     recover(rt, task, images, openers, way, listed, site)
 }
 
-/// Returns the names with an empty one, which no file has, in place of each image that can be read
-/// only once.
+/// Returns the names with an empty one, which no file has, for each image that is read only once.
 fn files_in<'n, R: Progress>(rt: &R, names: &[&'n str]) -> Result<Vec<&'n str>, AllocError> {
     let mut files = Vec::new(rt.alloc());
     for name in names {

@@ -252,7 +252,11 @@ is one, and state; and the sections with several good copies that agree:
      1 PAYROLL            1985-04-23  complete
      2 LEDGER             1985-04-23  incomplete
   ABC001 file 1 section 1: good, 2 copies agree
-The wording may change; the exit status and the columns of --tsv will not.
+  ABC001 file 1 section 1: blocks not counted
+The last line names a section without a block count, of which a missing block
+would not be noticed; without the rest only the number of such sections is
+printed. The wording may change; the exit status and the columns of --tsv will
+not.
 
 With --tsv these rows; a column whose value is not known is empty:
   IMAGE name state volume set system items files bad end owner words
@@ -271,6 +275,8 @@ With --tsv these rows; a column whose value is not known is empty:
            for a section with several good copies: how many agree with the
            first one, on the image NAME. If one differs, its image is OTHER, and
            the last column of this row and of the file is CONFLICT
+  UNCOUNTED set file section
+           for a section without a block count
 With --json each row is a JSON object on a line. Its member 'row' is the first
 word; the columns follow, with null for a value that is not known. Names of
 images are not escaped.

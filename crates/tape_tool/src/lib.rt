@@ -30,6 +30,7 @@ mod show;
 mod shown;
 mod stage;
 mod staging;
+mod uncounted;
 mod unpack;
 mod warned;
 mod words;

@@ -15,6 +15,7 @@ use std::io;
 use std::io::Read;
 use tape_core::normal::{NormalImage, Rules};
 use tape_image::SimhImage;
+use tape_label::Head1;
 use tape_run::{ImageSource, container_of};
 
 /// The rules that may be applied to an image, in the order in which they are named.
@@ -92,6 +93,16 @@ impl<R: Progress> Form<R> {
             Form::Other(_) => Rules::NONE,
         }
     }
+
+    /// Returns the label of the section that ended last if its blocks are not counted, once.
+    #[inline(always)]
+    fn take_uncounted(&mut self) -> Option<Head1> {
+        match self {
+            Form::Normal(image) => image.take_uncounted(),
+            Form::Converted(image) => image.take_uncounted(),
+            Form::Other(_) => None,
+        }
+    }
 }
 
 impl<R: Progress> Read for Form<R> {
@@ -143,6 +154,14 @@ impl<R: Progress> Normal<R> {
         };
     }
 
+    /// Remembers a section whose blocks are not counted.
+    #[cold]
+    fn note_uncounted(&self, head: &Head1) {
+        if !self.front.is_some_and(|front| front.is_over()) {
+            self.rt.uncounted().add(head);
+        }
+    }
+
     /// Names the rules that were applied since the last call.
     #[cold]
     fn name_rules(&mut self, rules: Rules) {
@@ -170,6 +189,9 @@ impl<R: Progress> Read for Normal<R> {
         let rules = self.inner.rules();
         if self.is_first && rules != self.named {
             self.name_rules(rules);
+        }
+        if let Some(head) = self.inner.take_uncounted() {
+            self.note_uncounted(&head);
         }
         if self.front.is_some() {
             self.follow(buf, &read);

@@ -23,6 +23,7 @@ use crate::screen::{Host, Line, Progress, Screen};
 use crate::show::show;
 use crate::stage::show::StageEnding;
 use crate::stage::stage;
+use crate::uncounted::Uncounted;
 use crate::unpack::unpack;
 use crate::write::run::write;
 use clap::error::ErrorKind;
@@ -141,7 +142,12 @@ const CANNOT_WRITE: End = End::Faulted(ToolFault::File(FileFault::WriteFailed));
 /// declined. If the reader of standard output has closed its pipe, nothing is reported.
 pub fn run_on<R: Host>(rt: &R, is_terminal: bool) -> u8 {
     let line = Cell::new(Line::new(rt, is_terminal));
-    let screen = &Screen { rt, line: &line };
+    let uncounted = &Uncounted::new(rt.alloc());
+    let screen = &Screen {
+        rt,
+        line: &line,
+        uncounted,
+    };
     // These files stay open until the run ends.
     let kept = keep_numbers(rt);
     let words = match &kept {

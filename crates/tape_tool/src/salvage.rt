@@ -11,6 +11,7 @@ use crate::program::{End, check_end};
 use crate::recording::{PROVENANCE, RecordedReport, new_record, provenance_of, record_salvaged};
 use crate::refusal::{Refusal, no_pipes};
 use crate::screen::Progress;
+use crate::uncounted::report_uncounted;
 use crate::unpack::{Summed, SummedDraft};
 use crate::words::{form_of, named, out_of, set_id_of, text_of};
 use clap::ArgMatches;
@@ -122,6 +123,7 @@ fn salvage_named<'a, R: Progress>(
         date_output(rt, order.out, names, task.set_id, task.file);
     }
     let end = place.draft.ended(check_end(done));
+    let end = report_uncounted(rt, task.set_id, task.file, end, &mut report);
     match (&mut record, order.provenance, place.found, end) {
         (Some(record), Some(path), Some(sum), End::Done | End::Incomplete) => {
             *site = FaultSite::Provenance(path);

@@ -7,6 +7,7 @@
 
 ghost use Rattle.std.specs.Prelude.{◌≡◌, false, None};
 
+use crate::uncounted::Uncounted;
 use std::alloc::Global;
 use std::cell::Cell;
 use std::fmt::Display;
@@ -15,7 +16,8 @@ use std::io::ErrorKind;
 use std::time::{Clock, Duration, Instant};
 pub use tape_writer::system::Host;
 
-/// The streams of a system, which show how far the images have been read.
+/// The streams of a system, which show how far the images have been read, and what is remembered
+/// about the images.
 pub trait Progress: Print + Eprint + AllocGlobal + Clone + Drop {
     type System: Host;
 
@@ -25,6 +27,9 @@ pub trait Progress: Print + Eprint + AllocGlobal + Clone + Drop {
     /// Shows that `bytes` bytes of image number `image` of `count` were read, if there is a
     /// terminal.
     fn show(&self, image: usize, count: usize, bytes: u64);
+
+    /// Returns the sections, found so far, whose blocks are not counted.
+    fn uncounted(&self) -> &Uncounted;
 }
 
 /// The time in milliseconds between two prints of the line, and before the first one.
@@ -68,6 +73,8 @@ pub struct Screen<'a, R> {
     pub rt: &'a R,
     /// The state of the line.
     pub line: &'a Cell<Line>,
+    /// The sections whose blocks are not counted.
+    pub uncounted: &'a Uncounted,
 }
 
 impl<R: Host> Screen<'_, R> {
@@ -105,6 +112,10 @@ impl<R: Host> Progress for Screen<'_, R> {
 
     fn host(&self) -> &R {
         self.rt
+    }
+
+    fn uncounted(&self) -> &Uncounted {
+        self.uncounted
     }
 
     fn show(&self, image: usize, count: usize, bytes: u64) {

@@ -27,6 +27,7 @@ pub use completion::SectionLines;
 pub use record::Record;
 pub use recorded::{RecordedName, written_at};
 pub use recovery::renumber;
+pub use rows::printable;
 pub use run::unpack;
 use std::alloc::Global;
 pub use summed::{Listed, Summed, SummedDraft};

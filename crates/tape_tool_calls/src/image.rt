@@ -94,6 +94,9 @@ impl Volume<'_> {
         first[30] = self.section;
         first[34] = self.file;
         first[59] = count;
+        if self.name == "uncounted" {
+            first[54..60].fill(b' ');
+        }
         second[7] = if self.size == 400 { b'4' } else { b'8' };
         self.push_label(first)?;
         self.push_label(second)
@@ -137,7 +140,8 @@ impl Volume<'_> {
 /// - `first_damaged` is `first` with the blocks of `damaged`;
 /// - `second_file` has only the second file of its set, without records;
 /// - `ebcdic` has its labels in EBCDIC, `booted` a block of 512 bytes after its volume label,
-///   `marked` a mark before it, and `unnamed` no volume label.
+///   `marked` a mark before it, `unnamed` no volume label, and `uncounted` blanks in place of its
+///   block counts.
 pub fn example(alloc: Global, name: &str, bad: usize) -> Result<Vec<u8>, AllocError> {
     let records = payroll(alloc)?;
     let mut volume = Volume {

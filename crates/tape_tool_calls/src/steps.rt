@@ -58,6 +58,7 @@ const STEPS: &[(&str, Step)] = &[
     ("booted", Step::Example),
     ("marked", Step::Example),
     ("unnamed", Step::Example),
+    ("uncounted", Step::Example),
     ("spoil", Step::Spoil),
     ("omit", Step::Omit),
     ("records", Step::Records),

@@ -59,6 +59,71 @@ const READ: &str = "
     3: compare ebcdic.tap worked.tap
 ";
 
+const UNCOUNTED: &str = "
+    uncounted uncounted.tap
+    worked worked.tap
+    0: survey --tsv uncounted.tap
+    | UNCOUNTED\tABC001\t1\t1
+    ~   image 1: a file has no block count
+    0: survey --json uncounted.tap
+    | {\"row\":\"UNCOUNTED\",\"set\":\"ABC001\",\"file\":1,\"section\":1}
+    0: survey uncounted.tap
+    | ABC001 file 1 section 1: blocks not counted
+    folder out
+    $ unpack --list out uncounted.tap
+    > FILE ABC001 1 READY out/ABC001.1.PAYROLL
+    > FILE ABC001 1 UNCOUNTED 1
+    > TOTAL 1 complete 0 existing 0 incomplete 0 in conflict 0 not found 0 failed
+    !   image 1: a file has no block count
+    $ unpack --manifest out worked.tap uncounted.tap
+    > FILE ABC001 1 COMPLETE 25 out/ABC001.1.PAYROLL
+    > FILE ABC001 1 UNCOUNTED 1
+    > TOTAL 1 complete 0 existing 0 incomplete 0 in conflict 0 not found 0 failed
+    !   image 2: a file has no block count
+    at out/MANIFEST.jsonl 232 \"counted\":false,
+    $ unpack out uncounted.tap
+    > FILE ABC001 1 EXISTS out/ABC001.1.PAYROLL
+    > FILE ABC001 1 UNCOUNTED 1
+    > TOTAL 0 complete 1 existing 0 incomplete 0 in conflict 0 not found 0 failed
+    !   image 1: a file has no block count
+    folder other
+    $ unpack --manifest other worked.tap
+    > FILE ABC001 1 COMPLETE 25 other/ABC001.1.PAYROLL
+    > TOTAL 1 complete 0 existing 0 incomplete 0 in conflict 0 not found 0 failed
+    at other/MANIFEST.jsonl 232 \"counted\":true,
+    $ extract --again ABC001 1 again.txt uncounted.tap
+    > REEL 1 COMPLETE
+    > COMPLETE 25
+    > UNCOUNTED 1
+    !   image 1: a file has no block count
+    $ salvage ABC001 1 salvaged.txt uncounted.tap
+    > SECTION 1 1 3
+    > COMPLETE 25
+    > UNCOUNTED 1
+    !   image 1: a file has no block count
+    0: salvage ABC001 1 kept.txt uncounted.tap --provenance kept.jsonl
+    at kept.jsonl 224 \"counted\":false,
+    # Of many images only their number is printed, unless all is wanted.
+    0: survey uncounted.tap worked.tap worked.tap worked.tap worked.tap worked.tap
+    | 1 section whose blocks are not counted
+    0: survey --all uncounted.tap worked.tap worked.tap worked.tap worked.tap worked.tap
+    | ABC001 file 1 section 1: blocks not counted
+    # The sections of other files do not matter.
+    3$ salvage ABC001 2 other.txt uncounted.tap
+    > GAP 1 - - 0
+    > SALVAGED 0
+    !   image 1: a file has no block count
+    # A command that reads the tape as it is cannot read the label.
+    3$ extract ABC001 1 plain.txt uncounted.tap
+    > REEL 1 BAD LABEL 3
+    > AWAITS 1 1 3
+";
+
+#[test]
+fn blocks_that_are_not_counted_are_reported(rt: HostRuntime) -> Result<(), Fail> {
+    follow_in(&rt, "not_counted", UNCOUNTED)
+}
+
 #[test]
 fn tapes_of_other_systems_are_read(rt: HostRuntime) -> Result<(), Fail> {
     follow_in(&rt, "normal_form", READ)

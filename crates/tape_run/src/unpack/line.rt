@@ -41,6 +41,8 @@ pub enum UnpackOutcome {
     /// A further line about a file: this image has other data of a section than an image that was
     /// read before, and was not used.
     Differs,
+    /// A further line about a file: the blocks of this section are not counted.
+    Uncounted,
 }
 
 /// Returns the words that `unpack` prints for an outcome.
@@ -61,6 +63,7 @@ pub fn unpack_outcome_text(outcome: UnpackOutcome) -> &'static [u8]
         UnpackOutcome::Salvaged => b"SALVAGED",
         UnpackOutcome::StageKept => b"STAGE KEPT",
         UnpackOutcome::Differs => b"SECTION DIFFERS",
+        UnpackOutcome::Uncounted => b"UNCOUNTED",
     }
 }
 

@@ -62,7 +62,10 @@ impl Tally {
             UnpackOutcome::NotFound => self.not_found = self.not_found.saturating_add(files),
             UnpackOutcome::Failed => self.failed = self.failed.saturating_add(files),
             // The file was counted before.
-            UnpackOutcome::Salvaged | UnpackOutcome::StageKept | UnpackOutcome::Differs => {}
+            UnpackOutcome::Salvaged
+            | UnpackOutcome::StageKept
+            | UnpackOutcome::Differs
+            | UnpackOutcome::Uncounted => {}
         }
     }
 }

@@ -65,7 +65,7 @@ pub const AFTER_WRITE: &str =
     "Images are created as DIR/PRE001.tap, DIR/PRE002.tap and so on, as many as
 needed, up to 256. An existing image must be blank, as 'tape init' creates it;
 any other is refused ('tape: file fault 1'). The set is named after its first
-volume. After an error, the images that were created are removed. Blank ones
+volume. If writing fails, the images that were created are removed. Blank ones
 that were begun are no longer blank: remove them before you try again. With
 --explain the error names the input, and the line that is too long.
 
@@ -133,7 +133,7 @@ are read side by side, item by item. If one has a bad block or ends early, the
 others supply the item; an image with a fault ends there. OUT is as long as the
 longest reading, and an item is bad only if it is bad in every reading that
 reaches it. The order of the names makes no difference to a byte of OUT. Labels
-are not needed: any tape will do.
+are not needed. A block of more than 99,999 bytes counts as bad.
   IMAGE 1 1284 3 MARKED monday.tap
            a line for each image: its number, items, bad items, and its end, as
            in 'tape check'; and its name

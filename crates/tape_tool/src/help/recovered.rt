@@ -82,12 +82,14 @@ One line per image:
   REEL n BAD LABEL CAUSE          label cannot be read
   REEL n SECTION DIFFERS          labels do not match those read before; with
                                   --again also: other data than those recovered,
-                                  or unreadable blocks and a wrong block count
+                                  or unreadable blocks and a wrong block count,
+                                  or perhaps labels among its data
   REEL n SPAN LEFT                file ends inside a record
 followed by ' IMAGE CAUSE OFFSET' if the image itself ended the reading ('tape
 --help' lists the causes). The last line is 'COMPLETE n' (n records), or 'AWAITS
 FILE SECTION BLOCK', the first block that is missing, counted from 0, and the
-part of it if some of its parts were read.
+part of it if some of its parts were read. With --again 'UNCOUNTED n' follows if
+section n has no block count, so that a missing block would not be noticed.
 
 With --again the numbering continues: the second pass over three images is
 REEL 4 to REEL 6. With --explain the name of each image precedes its line, on
@@ -183,8 +185,11 @@ One line per file:
            after COMPLETE: the stage of an earlier run has other data than the
            file, or cannot be compared with it
   FILE ABC001 2 SECTION DIFFERS cut.tap
-           a further line: this image has other data of the file than those
-           recovered before it, and was not used. 'tape compare' shows where
+           a further line: this image was not used: it has other data ('tape
+           compare' shows where), unreadable blocks and a wrong block count, or
+           perhaps labels among its data
+  FILE ABC001 2 UNCOUNTED 1
+           section 1 has no block count: a missing block would not be noticed
   FILE ABC001 3 EXISTS ../out/ABC001.3.TAXES
            a file of this name exists, and has exactly the records of this one
   FILE ABC001 3 DIFFERENT ../out/ABC001.3.TAXES
@@ -304,6 +309,7 @@ of records written so far:
   UNSURE 1 30 38        items 30 to 38 may be blocks or labels, and are left
                         out
   COUNT 1 40 39         the trailer label counts 40 blocks, but there are 39
+  UNCOUNTED 1           after the last line: section 1 has no block count
 The last line is COMPLETE and the number of records if nothing is missing, and
 neither copies nor labels differ; otherwise SALVAGED and their number. OUT is
 written in both cases. Keep the lines with it: OUT itself does not show where

@@ -6,9 +6,10 @@ use super::rows::{
 };
 use super::run::Run;
 use super::summed::{Listed, sum_of};
-use crate::fault::{FileFault, ToolFault};
+use crate::fault::ToolFault;
 use crate::refusal::open;
 use crate::screen::{Host, Progress};
+use crate::uncounted::uncounted_of;
 use crate::words::form_word;
 use std::alloc::{AllocError, Global};
 use std::fs;
@@ -25,6 +26,8 @@ pub struct WrittenFile {
     pub form: &'static str,
     pub size: u64,
     pub sum: [u8; 32],
+    /// Whether the blocks of each of its sections are counted.
+    pub counted: bool,
 }
 
 /// The name of an output, and its file in a set.
@@ -167,7 +170,7 @@ impl<R: Progress, P: Write> Run<'_, R, P> {
         let output = &recorded_name(file, path);
         let note = met.notes.get(&output.key);
         if let (Some(manifest), Some(_)) = (&mut self.manifest, note) {
-            let written = written_at(rt.host(), path, form, sum)?;
+            let written = written_at(rt, path, output.key, form, sum)?;
             let record = &mut manifest.record;
             record.add_file(rt.alloc(), output, written, note)?;
             record.add_runs(rt.host(), names, output, runs)?;
@@ -203,7 +206,7 @@ impl<R: Progress, P: Write> Run<'_, R, P> {
         let (rt, form) = (self.rt, form_word(self.form()));
         if let Some(manifest) = &mut self.manifest {
             let (output, gaps) = (&recorded_name(file, path), name_in_folder(gaps));
-            let written = written_at(rt.host(), path, form, sum)?;
+            let written = written_at(rt, path, output.key, form, sum)?;
             let record = &mut manifest.record;
             record.add_salvaged(rt.alloc(), output, written, Some(gaps))?;
         }
@@ -233,17 +236,24 @@ fn recorded_name<'p>(file: &SetFile, path: &'p str) -> RecordedName<'p> {
     }
 }
 
-/// Returns what is recorded about the file at `path`, which was written in this form and has this
-/// checksum.
-pub fn written_at<R: Host>(
+/// Returns what is recorded about the file at `path`, which has the records of this file of a set,
+/// was written in this form and has this checksum.
+pub fn written_at<R: Progress>(
     rt: &R,
     path: &str,
+    key: FileKey,
     form: &'static str,
     sum: [u8; 32],
-) -> Result<WrittenFile, FileFault> {
-    let there = found(fs::metadata(rt, path))?;
+) -> Result<WrittenFile, ToolFault> {
+    let there = found(fs::metadata(rt.host(), path))?;
     let size = there.map_or(0, |there| there.len());
-    Ok(WrittenFile { form, size, sum })
+    let counted = uncounted_of(rt, key.set_id, key.file)?.is_empty();
+    Ok(WrittenFile {
+        form,
+        size,
+        sum,
+        counted,
+    })
 }
 
 /// Returns the section and the block at this position of a file, or `None` at its end.

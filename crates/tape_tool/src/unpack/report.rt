@@ -4,6 +4,7 @@ use super::run::Run;
 use crate::fault::{FaultLine, ToolFault};
 use crate::program::End;
 use crate::screen::Progress;
+use crate::uncounted::uncounted_of;
 use crate::words::form_word;
 use arrayvec::ArrayVec;
 use std::alloc::AllocError;
@@ -98,6 +99,21 @@ impl<R: Progress, P: Write> Run<'_, R, P> {
             details.extend_from_slice(form_word(self.form()).as_bytes())?;
         }
         Ok(details)
+    }
+
+    /// Prints the sections of a file whose blocks are not counted.
+    pub fn tell_uncounted(&mut self, file: &SetFile) -> Result<(), ToolFault> {
+        let numbers = uncounted_of(self.rt, file.set_id, file.file)?;
+        self.tell_numbers(file, numbers.as_slice())
+    }
+
+    /// Prints the sections of a file with these numbers, whose blocks are not counted.
+    fn tell_numbers(&mut self, file: &SetFile, numbers: &[u16]) -> Result<(), ToolFault> {
+        for number in numbers {
+            let details = format!(in self.rt.alloc(); " {number}")?;
+            self.tell(file, UnpackOutcome::Uncounted, details.as_bytes(), "")?;
+        }
+        Ok(())
     }
 
     /// Prints the images that had other data of a file than those read before them. Returns

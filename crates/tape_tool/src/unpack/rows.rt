@@ -48,15 +48,20 @@ fn add_text(writer: &mut Writer, key: &str, text: &str) -> Result<(), AllocError
     add_member(writer, key, value)
 }
 
+/// Returns a field of a label, with a question mark for each byte that is not printable.
+pub fn printable(bytes: &[u8]) -> ArrayString<32> {
+    let mut text = ArrayString::new();
+    for byte in bytes {
+        let _ = text.try_push(char::from(printed(*byte)));
+    }
+    text
+}
+
 /// Writes a field of a label, with a question mark for each byte that is not printable.
 fn add_field(writer: &mut Writer, key: &str, bytes: &[u8]) -> Result<(), AllocError>
     ensures { OnOk result (writer.new.before ≡ writer.old.before) }
 {
-    let mut text = ArrayString::<32>::new();
-    for byte in bytes {
-        let _ = text.try_push(char::from(printed(*byte)));
-    }
-    add_text(writer, key, text.as_str())
+    add_text(writer, key, printable(bytes).as_str())
 }
 
 /// Writes the day in the six characters of a label, or null if they are not a day.
@@ -176,6 +181,7 @@ pub fn recorded_file(
     add_head(&mut writer, note.map(|note| &note.head))?;
     add_form(&mut writer, note.and_then(|note| note.form))?;
     add_text(&mut writer, "form", written.form)?;
+    add_member(&mut writer, "counted", JsonCell::Flag(written.counted))?;
     add_sum(alloc, &mut writer, written.size, &written.sum)?;
     add_program(&mut writer, build)?;
     ended(writer)
@@ -254,6 +260,7 @@ pub fn salvaged_file(
     let mut writer = begun(alloc, "SALVAGED")?;
     add_names(&mut writer, output)?;
     add_text(&mut writer, "form", written.form)?;
+    add_member(&mut writer, "counted", JsonCell::Flag(written.counted))?;
     let gaps = match gaps {
         Some(gaps) => JsonCell::Text(gaps),
         None => JsonCell::Null,

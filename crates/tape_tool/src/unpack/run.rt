@@ -181,10 +181,13 @@ impl<R: Progress, P: Write> Run<'_, R, P> {
                 )?;
                 all = false;
             }
-            match self.unpack_file(file)? {
-                End::Done => {}
-                End::Incomplete => all = false,
-                end => failed = failed.or(Some(end)),
+            if choice.chooses(file) {
+                match self.unpack_file(file)? {
+                    End::Done => {}
+                    End::Incomplete => all = false,
+                    end => failed = failed.or(Some(end)),
+                }
+                self.tell_uncounted(file)?;
             }
             before = Some((file.set_id, file.file));
         }
@@ -194,12 +197,8 @@ impl<R: Progress, P: Write> Run<'_, R, P> {
         Ok(failed.unwrap_or(check_end(Ok(all && found && used))))
     }
 
-    /// Unpacks `file` if it is chosen, or only looks what would become of it, and prints the
-    /// outcome.
+    /// Unpacks `file`, or only looks what would become of it, and prints the outcome.
     fn unpack_file(&mut self, file: &SetFile) -> Ended {
-        if !self.choice.chooses(file) {
-            return Ok(End::Done);
-        }
         if file.differs {
             self.tell(file, UnpackOutcome::Conflict, b"", "")?;
             return Ok(End::Incomplete);
@@ -303,6 +302,8 @@ impl<R: Progress, P: Write> Run<'_, R, P> {
                 set_time(self.rt.host(), out, &file.created);
             }
         } else {
+            self.differing
+                .extend_from_slice(listed.doubtful.as_slice())?;
             self.record_awaited(file, stage, &listed)?;
         }
         Ok(end)
