@@ -8,8 +8,8 @@ seed: formats F, D, S, U, V, VB and VBS, or no HDR2; buffer offsets; padding wit
 or spaces; gaps, pad bytes, user labels. More than half of the tapes are damaged: items that are
 unreadable, lost or doubled, wrong bytes, truncated images, faults of the image.
 
-The model (tape_model.py, normal_form.py, read_model.py, survey_model.py) is written from
-docs/FORMATS.md and docs/REFERENCE.md. `survey --tsv` must print its sections; `unpack` in each
+The model (tape_model.py, normal_form.py, read_model.py, survey_model.py, salvage_model.py) is written
+from docs/FORMATS.md and docs/REFERENCE.md. `survey --tsv` must print its sections; `unpack` in each
 form must report and write its files, byte for byte; `extract --again` of one file must print its
 lines; the stage of an incomplete file must have its records. And the records that were written are
 known: they must be those of the model if a tape is whole, and those of each file that is COMPLETE,
@@ -18,8 +18,8 @@ form counted the records must come back by their lengths.
 
 Prints each wrong result with the seed of its tape (PROGRAM 1 SEED repeats it), and counts; exit
 status 1 if there is one. --plant replaces a function of the model by a wrong one, for which there
-must be wrong results: FAULT is segments, record, padding, ambiguous, spans, sections, descriptor
-or length.
+must be wrong results: FAULT is segments, record, padding, ambiguous, spans, sections, descriptor,
+length or miscounted.
 With TMPDIR=/dev/shm it takes half the time.
 """
 
@@ -29,12 +29,14 @@ import subprocess
 import sys
 import tempfile
 from collections import Counter
+from copy import copy
 from pathlib import Path
 
 import normal_form
 import read_model
 import tape_model as model
 from common import Results
+from containers import simh_image
 from drawn_sets import SET, Tape
 from survey_model import Survey, one_by_one, path_of, printed
 
@@ -90,9 +92,13 @@ class Trial(Results):
         for name, data in zip(self.names, tape.images):
             (self.folder / name).write_bytes(data)
         self.what = f"seed {seed} ({', '.join(tape.damage) or 'whole'})"
-        self.found = Survey([normal_form.normal_form(data)[0] for data in tape.images])
+        # A damaged image may be taken for an image of another format.
+        forms = [normal_form.normal_form(simh_image(data)) for data in tape.images]
+        self.found = Survey([data for data, *_ in forms])
+        self.uncounted = list(dict.fromkeys(key for *_, keys in forms for key in keys))
         self.readers = {key: self.reader(*key) for key in self.found.files}
         self.check_model()
+        self.records = {key: self.whole(key[1], each) for key, each in self.readers.items()}
         self.check_survey()
         for form in FORMS:
             self.check_unpack(form)
@@ -130,6 +136,10 @@ class Trial(Results):
         rows = [line.split("\t") for line in done.stdout.splitlines()]
         told = [row[1:] for row in rows if row[0] == "SECTION"]
         self.same(told, self.found.section_rows(), "survey")
+        told = [row[1:] for row in rows if row[0] == "UNCOUNTED"]
+        want = [[printed(set_id).rstrip(), str(file), str(section)]
+                for set_id, file, section in self.uncounted]
+        self.same(told, want, "survey: not counted")
         states = {(row[1], row[2]): row[5] for row in rows if row[0] == "FILE"}
         for (set_id, file), reader in self.readers.items():
             if reader and reader.done and self.found.is_complete(set_id, file):
@@ -146,17 +156,19 @@ class Trial(Results):
             name = self.found.names.get((set_id, file))
             path = f"{form}/{path_of(set_id, file, name or b'')}"
             line = "NOT FOUND" if name is None else "CONFLICT"
-            records = model.joined(reader.parts) if reader and reader.done else None
-            if reader and not reader.done:
-                records = self.salvaged(file, path, form)
-            if reader:
-                line = f"{self.found.last_line(reader)} {path}.stage"
+            records = self.records[set_id, file]
+            lines = [line]
             if records is not None:
-                line = f"COMPLETE {len(records)} {path}"
+                lines = [f"COMPLETE {len(records)} {path}"]
                 files[path] = text_of(form, records)
-            elif reader and form != "lines":
-                self.check_stage(form, path, file, reader)
-            want.append(f"FILE {printed(set_id)} {file} {line}")
+            elif reader:
+                lines = [f"{self.found.last_line(reader)} {path}.stage"]
+                left_out = self.found.left_out(reader)
+                lines += [f"SECTION DIFFERS {self.names[at]}" for at in left_out]
+                if form != "lines":
+                    self.check_stage(form, path, file, reader)
+            lines += [f"UNCOUNTED {section}" for section in self.sections_not_counted(set_id, file)]
+            want += [f"FILE {printed(set_id)} {file} {line}" for line in lines]
         unread = [name for name, each in zip(self.names, self.found.volumes) if not each.is_read]
         want += [f"INCOMPLETE IMAGE {name}" for name in unread]
         self.same(one_by_one(done.stdout.splitlines()[:-1]), want, "unpack")
@@ -168,22 +180,21 @@ class Trial(Results):
         if done.returncode == 0 and not self.tape.is_silent:
             self.check_written(form, made)
 
-    def salvaged(self, file, path, form):
-        """The records of a file that the model does not complete, if `unpack` does, as `salvage`
-        would: those that were written, unless the damage cannot be noticed."""
-        if not (self.folder / path).exists():
+    def whole(self, file, reader):
+        """The records of a file, if `unpack` writes it: as it is read, or else as by `salvage`."""
+        if reader is None or reader.done:
+            return model.joined(reader.parts) if reader else None
+        reader = copy(reader)
+        if not self.found.salvaged(reader):
             return None
         self.told["salvaged"] += 1
-        data, records = (self.folder / path).read_bytes(), self.tape.files[file - 1].records
+        records = model.joined(reader.parts)
         if not self.tape.is_silent:
-            return records
-        # Bytes may be wrong, but not the lengths of the records.
-        found, at = [], 0
-        for record in records:
-            at += 4 if form == "counted" else 0
-            found.append(data[at:at + len(record)])
-            at += len(record) + (1 if form == "lines" else 0)
-        return found
+            self.same(records, self.tape.files[file - 1].records, "the model of salvage")
+        return records
+
+    def sections_not_counted(self, set_id, file):
+        return [section for *key, section in self.uncounted if key == [set_id, file]]
 
     def check_written(self, form, made):
         """Apart from the model: status 0 means that the files are those that were written."""
@@ -207,7 +218,9 @@ class Trial(Results):
         words = ["--again", "--form", form, SET.decode(), str(file), "out"]
         done = self.run("extract", *words, *self.names)
         reader, lines = self.found.again(SET, file, True)
-        want = [*lines, self.found.last_line(reader)], 0 if reader.done else 3
+        lines.append(self.found.last_line(reader))
+        lines += [f"UNCOUNTED {section}" for section in self.sections_not_counted(SET, file)]
+        want = lines, 0 if reader.done else 3
         if self.found.in_conflict(SET, file):
             want = [], 1
         self.same((done.stdout.splitlines(), done.returncode), want, f"extract of file {file}")
@@ -242,6 +255,8 @@ def plant(fault):
     }
     if fault == "length":  # the length counts its own four bytes
         globals()["length_of"] = lambda record: (len(record) + 4).to_bytes(4, "big")
+    elif fault == "miscounted":  # a copy with a wrong block count is read
+        read_model.Volume.miscounted = frozenset()
     elif fault == "sections":  # a record of format V does not continue in the next section
         read_model.Reader.begun = property(lambda self:
             begun.fget(self) and (self.seen > 0 or self.form[1] == "S"))

@@ -37,6 +37,12 @@ class Volume:
     def is_whole(self):
         return self.is_read and all(each["state"] == "GOOD" for each in self.sections)
 
+    @property
+    def miscounted(self):
+        """The sections with an unreadable block and a wrong block count other than 0."""
+        return {(each["set"], *map(each.get, ("file", "section"))) for each in self.sections
+                if each["state"] == "COUNT" and each["count"] and None in each["blocks"]}
+
     def past(self, place, kind, block):
         """The place after an item out of order."""
         self.identifier = self.identifier or b"(none)"
@@ -122,7 +128,7 @@ class Volume:
             return None
         is_right = fields["count"] == len(section["blocks"]) % 1000000
         is_bad = None in section["blocks"] or "is_spoilt" in section
-        section["eof"] = model.kind_of(block) == "EOF1"
+        section["eof"], section["count"] = model.kind_of(block) == "EOF1", fields["count"]
         section["state"] = "COUNT" if not is_right else "BAD" if is_bad else "GOOD"
         self.closing.append((section, fields))
         return "trailers"
@@ -141,10 +147,14 @@ class Volume:
 
 
 class Reader:
-    """Reads one file, reel after reel: the table in FORMATS.md."""
+    """Reads one file, reel after reel: the table in FORMATS.md.
 
-    def __init__(self, set_id, file, wide):
-        self.set, self.file, self.wide = set_id, file, wide
+    If it is wary, nothing is taken from a copy with an unreadable block and a wrong block count
+    other than 0.
+    """
+
+    def __init__(self, set_id, file, wide, is_wary):
+        self.set, self.file, self.wide, self.is_wary = set_id, file, wide, is_wary
         self.section, self.block, self.done, self.known, self.parts = 1, 0, False, None, []
 
     @property
@@ -165,6 +175,8 @@ class Reader:
         self.delivered = 0
         self.phase = "trailers" if begin else "volume"
         for self.end, (kind, block) in enumerate(volume.items[begin:], (begin or 0) + 1):
+            if self.phase == "data" and self.is_left_out(volume):
+                return "SECTION DIFFERS" if self.block else "REEL ENDED"
             is_wrong = kind == "bad" and self.phase != "data"
             answer = "BAD ITEM" if is_wrong else getattr(self, self.phase)(kind, block or b"")
             is_unended = answer in ("BAD LABEL 1", "BAD LABEL 2") and self.delivered
@@ -175,6 +187,11 @@ class Reader:
                 return answer
         fault = volume.stop.split()[1:] if volume.stop.startswith("FAULT") else []
         return " ".join(["REEL ENDED", *(["IMAGE", *fault] if fault else [])])
+
+    def is_left_out(self, volume):
+        """Whether the section needed begins here, on a volume from which it is not taken."""
+        key = self.set, self.file, self.section
+        return self.is_wary and self.needed and not self.seen and key in volume.miscounted
 
     def volume(self, kind, block):
         self.phase = "labels"

@@ -267,12 +267,14 @@ def cut(reading, line):
 
 def devices(program, folder):
     preload, readings, paths, out = prepared(folder, [1, 800, 20_000, 50_000], 40)
-    tried = 0
+    tried = unreported = 0
     for fail, said, status, line in each_call(program, folder, preload, 'r',
                                               ['merge', out, *paths], out):
         tried += 1
         lines = said.split('\n')[:-1]
-        expect(f'{fail}: a failure is reported', 'FAULT 5' in said, True)
+        # What is read for the kind of an image is read again if that fails once.
+        unreported += 'FAULT 5' not in said
+        expect(f'{fail}: a failure is reported', 'FAULT 5' in said or not fail.endswith('+'), True)
         if len(lines) < len(readings):
             continue
         given = [cut(reading, text) for reading, text in zip(readings, lines)]
@@ -281,6 +283,7 @@ def devices(program, folder):
         expect(f'{fail}: OUT', read(out), data)
         if os.path.exists(out):
             os.remove(out)
+    expect('failures that are not reported', unreported <= 2 * len(readings), True)
     print(f'  {tried} runs')
 
 

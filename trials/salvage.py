@@ -95,9 +95,13 @@ def digits(text):
     return int(text) if text.isdigit() else None
 
 
+def is_label(item, names):
+    return is_block(item) and len(item) == 80 and item[:4] in names
+
+
 def first_label(item, names):
     """The set identifier, file, section and block count of an HDR1, EOF1 or EOV1."""
-    if not is_block(item) or len(item) != 80 or item[:4] not in names:
+    if not is_label(item, names):
         return None
     section, file, count = digits(item[27:31]), digits(item[31:35]), digits(item[54:60])
     if not section or not file or count is None:
@@ -121,12 +125,15 @@ def is_further(item):
     return is_label and (item[:3] == b"UHL" or item[:3] == b"HDR" and item[3:4] in b"3456789")
 
 
+LABELS = (b"VOL1", b"HDR1", b"HDR2", b"EOF1", b"EOF2", b"EOV1", b"EOV2")
+
+
 class Section:
     """A section found on an image."""
 
     def __init__(self, head, image):
         self.head, self.image, self.form, self.data, self.doubt, self.closing = head, image, None, [], None, None
-        self.is_without_second = self.is_doubted = self.is_unnamed = False
+        self.is_without_second = self.is_doubted = self.is_alone = self.is_unnamed = False
 
     def possible(self):
         """How many of its data items may be its blocks."""
@@ -139,6 +146,16 @@ class Section:
 
     def believed(self):
         return self.possible() if self.closing or self.doubt is None else min(self.possible(), self.doubt)
+
+    def is_base(self):
+        """Whether other copies may complete it: no item before its data may be the tape mark, or its trailer label ends it."""
+        return bool(self.closing) or not self.is_doubted
+
+    def is_numbered(self):
+        """Whether it may complete others: also if an unreadable item is the only one before the mark that is no header label,
+        and a block that is no label follows the mark."""
+        first = self.data[0] if self.data else BAD
+        return self.is_base() or self.is_alone and is_block(first) and not is_label(first, LABELS)
 
     def recording(self):
         return self.head["identifier"], self.head["written"]
@@ -235,6 +252,7 @@ def sections_on(items, image):
         section.data, section.start = items[begin + 1:end], begin + 1
         unread = [number for number, it in enumerate(section.data) if it is BAD]
         section.is_doubted = BAD in labels
+        section.is_alone = sum(not (is_further(it) or is_label(it, (b"HDR2",))) for it in labels) == 1
         section.doubt = 0 if BAD in labels else unread[0] if unread else None
         if end + 1 >= len(items):
             break
@@ -286,11 +304,11 @@ def contradiction(copies):
     """The first two copies that close otherwise, or have another block with a number; None if there are none. And for each
     block of the first copy the copy that has it first, or None."""
     base, found = copies[0], []
-    sure = [it for it in copies if it.closing or not it.is_doubted]
+    sure = [it for it in copies if it.is_numbered()]
     for copy in copies[1:]:
         if copy.closes_otherwise(base):
             return (base, copy), []
-    for at in range(base.possible() if base in sure else 0):
+    for at in range(base.possible() if base.is_base() else 0):
         having = [it for it in sure if at < it.possible() and is_block(it.data[at])]
         for copy in having[1:]:
             if copy.data[at] != having[0].data[at]:

@@ -1,6 +1,6 @@
 """A file as `salvage` recovers it, if it recovers all of it, from docs/FORMATS.md alone.
 
-For normal_model.py. The items are those of images in normal form.
+For formats_model.py and normal_model.py. The items are those of images in normal form.
 """
 
 import tape_model as model

@@ -123,22 +123,26 @@ class Survey:
                 if any(other[key] != each[key] for other in group for key in ("blocks", "eof"))}
 
     def order(self, set_id, file, strangers):
-        """The images as `--again` reads them.
+        """The numbers, from 0, of the images as `--again` reads them.
 
         First are those on which section 1, 2, .. begins, up to one that begins on none.
         """
         order, section = {}, 1
         while (set_id, file, section) in self.begin:
-            order |= {at: self.volumes[at] for at in self.begin[set_id, file, section]
-                      if at not in order}
+            order |= dict.fromkeys(self.begin[set_id, file, section])
             section += 1
         others = range(len(self.volumes)) if strangers else self.of_set[set_id]
-        return [*order.values(), *[self.volumes[at] for at in others if at not in order]]
+        return [*(order | dict.fromkeys(others))]
+
+    def reader(self, set_id, file):
+        """A reader of a file. If the file is not complete, its reader is wary."""
+        is_wide, is_wary = self.is_wide(set_id, file), not self.is_complete(set_id, file)
+        return Reader(set_id, file, is_wide, is_wary)
 
     def again(self, set_id, file, strangers):
         """Reads a file until a pass recovers nothing new: the reader, the lines of `extract`."""
-        reader, lines, before = Reader(set_id, file, self.is_wide(set_id, file)), [], None
-        volumes = self.order(set_id, file, strangers)
+        reader, lines, before = self.reader(set_id, file), [], None
+        volumes = [self.volumes[at] for at in self.order(set_id, file, strangers)]
         while not reader.done and reader.position != before:
             before = reader.position
             for volume in volumes:
@@ -147,7 +151,7 @@ class Survey:
 
     def unpacked(self, set_id, file):
         """Reads a file as `unpack` does: each section where it is GOOD first, or else in passes."""
-        reader, at, answer = Reader(set_id, file, self.is_wide(set_id, file)), 1, "SECTION DONE"
+        reader, at, answer = self.reader(set_id, file), 1, "SECTION DONE"
         is_whole = self.is_complete(set_id, file)
         while is_whole and answer == "SECTION DONE":
             section = self.sections[set_id, file, at]
@@ -162,17 +166,26 @@ class Survey:
     def salvaged(self, reader):
         """Whether `salvage` completes what a reader read of a file; the reader then has all of it.
 
-        The labels of the file must be those of one file.
+        It reads the images whose first section belongs to the set of the file, on which a section
+        of the file begins, or that have no label of a set. The labels of the file must be those of
+        one file.
         """
         key = reader.set, reader.file
-        others = self.of_set[b""] if reader.set else []
-        images = [self.volumes[at].items for at in [*self.of_set[reader.set], *others]]
-        salvage = Salvage(images, *key)
+        begin = sum((found for each, found in self.begin.items() if each[:2] == key), [])
+        numbers = sorted({*self.of_set[reader.set], *self.of_set[b""], *begin})
+        salvage = Salvage([self.volumes[at].items for at in numbers], *key)
         parts, is_one = salvage.parts(), salvage.is_one_file() and not self.in_conflict(*key)
         if parts is None or not is_one or parts[:len(reader.parts)] != reader.parts:
             return False
         reader.parts, reader.done = parts, True
         return True
+
+    def left_out(self, reader):
+        """The numbers, from 0, of the images with a copy of the missing section from which a wary
+        reader took nothing."""
+        key, is_wary = (reader.set, reader.file), reader.is_wary and not reader.done
+        return [at for at in self.order(*key, False)
+                if is_wary and (*key, reader.section) in self.volumes[at].miscounted]
 
     def last_line(self, reader):
         if reader.done:
