@@ -8,11 +8,12 @@ on a long image, one for several items with the colour of the worst. A bar below
 section shows that the section is damaged, or that its copies differ. Then a table of the files has the
 state of each section that was found, and what is missing. Names of images may contain any bytes.
 
-It runs `tape survey --tsv` and `tape list --offsets`; TAPE names another program. docs/page.html is the
+It runs `tape survey --json` and `tape list --offsets`; TAPE names another program. docs/page.html is the
 page of three images, which docs/examples.sh draws again and compares.
 """
 import collections
 import html
+import json
 import os
 import re
 import subprocess
@@ -22,14 +23,6 @@ import tempfile
 TAPE = os.environ.get("TAPE", "tape")
 PER_ROW, ROWS, STEP = 100, 20, 10
 
-# The columns of the rows of `tape survey --tsv`; later versions may add others after them.
-COLUMNS = {
-    "IMAGE": "name state volume set system items files bad end owner words",
-    "SECTION": "set file section volume blocks state eof",
-    "FILE": "set file identifier created state section volume conflict sections format block record",
-    "COPIES": "set file section copies name other agree",
-    "UNCOUNTED": "set file section",
-}
 # What an item is drawn as, and what the bar below it says of its section; the worst last.
 KINDS = ("block", "mark", "label", "bad", "end")
 STATES = ("", "GOOD", "CUT", "COUNT", "BAD", "CONFLICT")
@@ -70,16 +63,16 @@ def output_of(*arguments, text=b""):
 
 
 def rows_of(paths):
-    """The rows of the survey of these images, by kind, each as a dictionary."""
+    """The rows of the survey of these images, by kind, each as a dictionary of texts."""
     names = "".join(path + "\0" for path in paths)
-    out, err, status = output_of("survey", "--tsv", "--files-from", "-", "--null", text=names.encode())
+    out, err, status = output_of("survey", "--json", "--files-from", "-", "--null", text=names.encode())
     if status not in (0, 3):
         sys.exit(f"page.py: tape survey failed: {err.strip()}")
     rows = collections.defaultdict(list)
-    for line in out.split("\n"):
-        kind, *cells = line.split("\t")
-        columns = COLUMNS.get(kind, "").split()
-        rows[kind].append(dict(zip(columns, cells + [""] * len(columns))))
+    for line in out.split("\n")[:-1]:
+        row = json.loads(line)
+        row["conflict"] = "CONFLICT" if row.get("conflict") else None
+        rows[row["row"]].append({key: "" if value is None else str(value) for key, value in row.items()})
     return rows
 
 
@@ -188,7 +181,7 @@ def page(names, paths):
     """The lines of the page of images with these names, which are read at these paths."""
     rows = rows_of(paths)
     shown = dict(zip(paths, names))
-    conflicts = [row for row in rows["COPIES"] if row["agree"] == "CONFLICT"]
+    conflicts = [row for row in rows["COPIES"] if row["result"] == "CONFLICT"]
     uncounted = [key_of(row) for row in rows["UNCOUNTED"]]
     for row in conflicts:
         row.update((column, shown.get(row[column], row[column])) for column in ("name", "other"))
