@@ -231,6 +231,11 @@ def links_are_left_alone(t):
     yield run.links == ["d/ABC001.1.PAYROLL.stage"] and "victim" not in run.files, f"a stage that is a link: {run.out!r}"
     run = t([*EXTRACT, "one.tap", "two.tap"], REELS | {"real": b"old\n"}, before=lambda root: (root / "OUT").symlink_to("real"))
     yield run.links == ["OUT"] and run.files["real"] == t.records, "OUT that is a link is written through"
+    for number in range(1, sum(call == "write" for call, _, _ in run.events) + 1):
+        run = t([*EXTRACT, "one.tap", "two.tap"], REELS | {"real": b"old\n"}, inject=[f"write:error=ENOSPC:when={number}+"],
+            before=lambda root: (root / "OUT").symlink_to("real"))
+        left = run.files["real"]
+        yield run.status == 1 and run.links == ["OUT"] and left in (b"old\n", t.records), f"OUT that is a link, a disk full from write {number} on: {run.status} {left[:20]}"
 
 
 def output_that_has_the_lines(t):

@@ -135,8 +135,8 @@ fn extract_named<'n, 'a, R: Progress>(
     awaited: &mut Option<Want>,
     site: &mut FaultSite<'a>,
 ) -> Result<End, Refusal> {
-    let (task, host) = (&order.task, rt.host());
-    let way = way_to_out(host, task.out, task.stage, order.images.list, named)?;
+    let (task, host, target) = (&order.task, rt.host(), &mut String::new(rt.alloc()));
+    let way = way_to_out(host, task.out, task.stage, order.images.list, named, target)?;
     let outs = [task.out, task.stage.unwrap_or(task.out)];
     let mut record = new_record(host, order.provenance, &outs, named, site)?;
     let mut listed = Listed::new(rt.alloc(), record.is_some());
@@ -159,7 +159,7 @@ fn extract_in_order<'n, 'a, R: Progress>(
     rt: &'n R,
     task: &Task<'a>,
     named: &'n [&'n str],
-    way: Way,
+    way: Way<'_>,
     reels: Option<u64>,
     listed: &mut Listed,
     site: &mut FaultSite<'a>,
@@ -203,7 +203,7 @@ fn extract_again<'n, 'a, R: Progress>(
     rt: &'n R,
     order: &ExtractOrder<'a>,
     named: &'n [&'n str],
-    way: (Way, Option<u64>),
+    way: (Way<'_>, Option<u64>),
     record: &mut Option<Record>,
     listed: &mut Listed,
     site: &mut FaultSite<'a>,
@@ -227,7 +227,7 @@ fn extract_planned<'n, 'a, R: Progress>(
     rt: &'n R,
     order: &ExtractOrder<'a>,
     plan: &mut Plan<'n>,
-    way: (Way, Option<u64>),
+    way: (Way<'_>, Option<u64>),
     record: &mut Option<Record>,
     listed: &mut Listed,
     site: &mut FaultSite<'a>,
@@ -266,7 +266,7 @@ fn read_planned<'a, R: Progress>(
     rt: &R,
     task: &Task<'a>,
     plan: &mut Plan<'_>,
-    (way, reels): (Way, Option<u64>),
+    (way, reels): (Way<'_>, Option<u64>),
     listed: &mut Listed,
     site: &mut FaultSite<'a>,
 ) -> Result<End, ToolFault> {

@@ -3,7 +3,7 @@ pub mod show;
 
 use crate::command_spec::{CommandSpec, Kind, Word};
 use crate::explain::FaultSite;
-use crate::extract::{Output, way_to_out};
+use crate::extract::{Output, Way, way_to_out};
 use crate::fault::ToolFault;
 use crate::help;
 use crate::program::{End, stage_end};
@@ -64,24 +64,33 @@ pub fn stage<'a, R: Progress>(
     order: &StageOrder<'a>,
     site: &mut FaultSite<'a>,
 ) -> Result<End, Refusal> {
-    let mut target = None;
-    if let Some(out) = order.out {
-        *site = FaultSite::Out(out);
-        target = Some((
-            out,
-            way_to_out(rt.host(), out, Some(order.stage), None, &[])?,
-        ));
-    }
+    let Some(out) = order.out else {
+        return stage_to(rt, order, None, site);
+    };
+    *site = FaultSite::Out(out);
+    let target = &mut String::new(rt.alloc());
+    let way = way_to_out(rt.host(), out, Some(order.stage), None, &[], target)?;
+    stage_to(rt, order, Some(way), site)
+}
+
+/// Shows the stage, and writes its records to OUT in this way, if OUT is named. On error, `site` says
+/// where it occurred.
+fn stage_to<'a, R: Progress>(
+    rt: &R,
+    order: &StageOrder<'a>,
+    way: Option<Way<'_>>,
+    site: &mut FaultSite<'a>,
+) -> Result<End, Refusal> {
     *site = FaultSite::Stage(order.stage);
     let alloc = rt.alloc();
     let file = open(rt.host(), order.stage)?;
     // No other run may write to it. On a file system without locks, other runs are not excluded.
     locked_stage(file.try_lock_shared())?;
     let disk = buffered_file(alloc, ReadOnly(file)).map_err(|fault| ToolFault::Stage(fault))?;
-    let end = match target {
-        Some((out, way)) => {
-            *site = FaultSite::Out(out);
-            write_stage(rt, order, disk, Output::new(rt, out, way)?)
+    let end = match way {
+        Some(way) => {
+            *site = FaultSite::Out(order.out.unwrap_or("-"));
+            write_stage(rt, order, disk, Output::new(rt, way)?)
         }
         None => {
             *site = FaultSite::Lines;

@@ -9,6 +9,7 @@ use std::fmt::Display;
 use std::fs::{File, Files, Metadata, OpenOptions};
 use std::io;
 use std::io::{BufRead, ErrorKind, Input, Lines, Write};
+use std::path::PathBuf;
 use std::rt::Runtime;
 use std::test::Fail;
 use std::time::{Clock, Duration};
@@ -131,6 +132,10 @@ impl Files for FakeSystem<'_> {
             Odd::Rename => Err(io::Error::from(ErrorKind::Other)),
             _ => self.rt.rename(from, to),
         }
+    }
+
+    fn canonicalize<B: Allocator>(&self, alloc: B, path: &str) -> io::Result<PathBuf<B>> {
+        self.rt.canonicalize(alloc, path)
     }
 
     fn hard_link(&self, original: &str, link: &str) -> io::Result<()> {

@@ -58,6 +58,27 @@ const GUARDED: &str = "
     * comes guard.tap guard.txt
     > REEL 1 COMPLETE
     has guard.txt mine
+    # A file to which a link leads is replaced, too: it stays if that fails, and so does another
+    # name of it. A file that is created through a link is written in place.
+    put guard/linked.txt kept
+    link guard_link.txt guard/linked.txt
+    name guard_name.txt guard/linked.txt
+    file fault 4$ extract ABC001 1 guard_link.txt guard.tap
+    * rename
+    > REEL 1 COMPLETE
+    has guard/linked.txt kept
+    missing guard/.tape-1.part
+    0: extract ABC001 1 guard_link.txt guard.tap
+    length guard/linked.txt 2025
+    has guard_name.txt kept
+    link guard_free.txt guard/free.txt
+    0: extract ABC001 1 guard_free.txt guard.tap
+    length guard/free.txt 2025
+    # The draft of another output is not replaced through a link.
+    put guard/.tape-2.part kept
+    link guard_draft.txt guard/.tape-2.part
+    2: extract ABC001 1 guard_draft.txt guard.tap => unfinished output
+    has guard/.tape-2.part kept
     3$ unpack guard guard.tap
     * comes guard/.tape-1.part guard/ABC001.1.PAYROLL
     > FILE ABC001 1 DIFFERENT guard/ABC001.1.PAYROLL

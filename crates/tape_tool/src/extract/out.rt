@@ -6,7 +6,7 @@ use crate::fault::{FileFault, OUT_OF_MEMORY, ToolFault};
 use crate::help;
 use crate::images::List;
 use crate::program::End;
-use crate::refusal::{FileId, Refusal, open, same_file};
+use crate::refusal::{FileId, Refusal, is_file, open, same_file};
 use crate::screen::{Host, Progress};
 use std::alloc::AllocError;
 use std::fs::{File, Metadata, OpenOptions};
@@ -36,13 +36,14 @@ const FRONTS: &[(usize, &[u8])] = &[
     (144, b"TPCK"),
 ];
 
-/// The way in which an output is to be written, and the file found under its name before.
+/// The way in which an output is to be written: its path, and the file found there before.
 #[derive(Clone, Copy)]
-pub enum Way {
-    /// The output is written to a new file, which gets the output's name when it is complete.
-    Renamed(Option<FileId>),
-    /// The output is written in place, since its name is that of a pipe, a device or a link.
-    InPlace(Option<FileId>),
+pub enum Way<'n> {
+    /// The output is written to a new file, which gets this path when it is complete.
+    Renamed(&'n str, Option<FileId>),
+    /// The output is written in place, since its name is that of a pipe, a device, or a link that
+    /// does not lead to a regular file.
+    InPlace(&'n str, Option<FileId>),
 }
 
 /// The path by which standard input is found as a file.
@@ -52,7 +53,8 @@ const STANDARD_INPUT: &str = "/dev/stdin";
 const STANDARD_OUTPUT: &str = "/dev/stdout";
 
 /// Returns how the output `out`, recovered from `stage` and from `images`, of which some may be in
-/// `list`, is to be written. Nothing is created or changed.
+/// `list`, is to be written. If it is a link to a regular file, `target` gets the path of that
+/// file, which the output replaces. Nothing is created or changed.
 ///
 /// # Errors
 ///
@@ -62,13 +64,14 @@ const STANDARD_OUTPUT: &str = "/dev/stdout";
 /// of them has the name of a draft. Returns `Faulted` with `Exists` if it might be a tape: it is
 /// not empty, and is named `.tap`, begins like an image of any kind, or is compressed, an archive
 /// or a stage; with `NotOpened` or `ReadFailed` if that cannot be determined.
-pub fn way_to_out<R: Host>(
+pub fn way_to_out<'n, R: Host>(
     rt: &R,
-    out: &str,
+    out: &'n str,
     stage: Option<&str>,
     list: Option<List<'_>>,
     images: &[&str],
-) -> Result<Way, Refusal> {
+    target: &'n mut String,
+) -> Result<Way<'n>, Refusal> {
     let mut before = None;
     no_draft(images, list)?;
     no_draft(&[out, stage.unwrap_or(out)], None)?;
@@ -88,11 +91,33 @@ pub fn way_to_out<R: Host>(
             return Err(Refusal::Words(help::OUT_IS_STAGE));
         }
     }
-    // A missing file can be created, and a link is followed.
     match found(fs::symlink_metadata(rt, out))? {
-        Some(named) if !named.is_file() => Ok(Way::InPlace(before)),
-        _ => Ok(Way::Renamed(before)),
+        Some(named) if !named.is_file() => way_over(rt, out, before, target),
+        _ => Ok(Way::Renamed(out, before)),
     }
+}
+
+/// Returns how the output `out` is to be written, which is no regular file, but perhaps a link to
+/// the file `before`. `target` gets the path of that file if it is a regular one.
+///
+/// # Errors
+///
+/// Returns `Words` if that path is one that drafts have.
+fn way_over<'n, R: Host>(
+    rt: &R,
+    out: &'n str,
+    before: Option<FileId>,
+    target: &'n mut String,
+) -> Result<Way<'n>, Refusal> {
+    // A path that is not text can only be followed by the system.
+    if is_file(rt, out)
+        && let Ok(path) = fs::canonicalize(rt, out)
+    {
+        target.push_str(path.as_str())?;
+        no_draft(&[target.as_str()], None)?;
+        return Ok(Way::Renamed(target.as_str(), before));
+    }
+    Ok(Way::InPlace(out, before))
 }
 
 /// Refuses an existing output with metadata `there` that is another file of the run.
@@ -202,13 +227,13 @@ pub enum Output<'a, R: Progress> {
 }
 
 impl<'a, R: Progress> Output<'a, R> {
-    /// Returns the file to write the output at `path` to.
-    pub fn new(rt: &'a R, path: &'a str, way: Way) -> Result<Output<'a, R>, ToolFault> {
-        let before = match way {
-            Way::InPlace(before) => before,
-            Way::Renamed(before) => match Draft::make(rt, path, before)? {
+    /// Returns the file to write an output to in this way.
+    pub fn new(rt: &'a R, way: Way<'a>) -> Result<Output<'a, R>, ToolFault> {
+        let (path, before) = match way {
+            Way::InPlace(path, before) => (path, before),
+            Way::Renamed(path, before) => match Draft::make(rt, path, before)? {
                 Some((draft, out)) => return Ok(Output::New(draft, out)),
-                None => before,
+                None => (path, before),
             },
         };
         let file = OutFile {

@@ -28,7 +28,7 @@ pub fn recover<'a, R, I, L, M, N>(
     task: &Task<'a>,
     images: &mut L,
     openers: (&mut M, &mut N),
-    way: Way,
+    way: Way<'_>,
     listed: &mut Listed,
     site: &mut FaultSite<'a>,
 ) -> Result<End, ToolFault>
@@ -49,7 +49,7 @@ where
         session.widen();
     }
     *site = FaultSite::Out(task.out);
-    let mut output = Output::new(rt, task.out, way)?;
+    let mut output = Output::new(rt, way)?;
     let answer = gather(rt, task, images, opener, &mut output, listed, &mut session);
     let end = output.ended(extract_end(answer));
     if let End::Faulted(ToolFault::Run(_)) = end {
@@ -65,7 +65,7 @@ fn extract_now<R, I, L, M, N>(
     task: &Task<'_>,
     images: &mut L,
     openers: (&mut M, &mut N),
-    way: Way,
+    way: Way<'_>,
     listed: &mut Listed,
 ) -> Result<End, ToolFault>
 where
@@ -76,7 +76,7 @@ where
     N: Opener<OutSink<BufWriter<File>>, I, L>,
 {
     let (opener, streamer) = openers;
-    Ok(match Output::new(rt, task.out, way)? {
+    Ok(match Output::new(rt, way)? {
         Output::New(draft, out) if !task.again => {
             extract_written(rt, task, images, streamer, (draft, out), &mut listed.want)
         }
