@@ -215,13 +215,14 @@ const WRITTEN: &str = "
     file fault 1: write . SND 2500 PAYROLL=s.bin --format F --block 800 --record 80 --form raw
     length SND001.tap 2484
     has SND002.tap kept
-    # A dry run creates nothing, and has the faults of inputs and images.
+    # A dry run creates nothing, and has the faults of inputs, images and the directory.
     0: write . DRY 2500 PAYROLL=s.bin --format F --block 800 --record 80 --form raw --dry-run
     missing DRY001.tap
     file fault 1: write . SND 2500 A=s.bin --format F --block 800 --record 80 --form raw --dry-run
     length SND001.tap 2484
-    file fault 2: write none DRY 2500 A=missing.bin --dry-run
-    0: write none DRY 1042 PAYROLL=s.bin --format S --block 18 --form raw --dry-run
+    file fault 2: write . DRY 2500 A=missing.bin --dry-run
+    file fault 2: write none DRY 9000 A=s.bin --dry-run | write s.bin DRY 9000 A=s.bin --dry-run
+    0: write . DRY 1042 PAYROLL=s.bin --format S --block 18 --form raw --dry-run
     # A creation date.
     0: write . DAY 2500 A=s.bin --format F --block 800 --record 80 --form raw --date 1985-04-23
     at DAY001.tap 133  85113

@@ -57,7 +57,8 @@ pub fn write<'a, R: Progress>(
     Ok(end_of(write_files(rt, order, &plan, files.as_mut_slice(), site)))
 }
 
-/// Writes the files to volumes, and reports these. Removes created images on error.
+/// Writes the files to volumes, and reports these. Removes created images on error. Nothing would
+/// open the directory of a dry plan, so it is looked up.
 fn write_files<'r, 'a: 'r, R: Progress>(
     rt: &'r R,
     order: &WriteOrder<'a>,
@@ -65,6 +66,10 @@ fn write_files<'r, 'a: 'r, R: Progress>(
     files: &mut [Input<InputFile<'r, R::System>>],
     site: &mut FaultSite<'a>,
 ) -> Result<(), ToolFault> {
+    if plan.dry {
+        *site = FaultSite::Images(plan.folder);
+        find_folder(rt.host(), plan.folder)?;
+    }
     match write_in_folder(rt.host(), plan, files) {
         Ok(ended) => {
             *site = FaultSite::Lines;
@@ -76,6 +81,18 @@ fn write_files<'r, 'a: 'r, R: Progress>(
             *site = site_of(rt.host(), order, &plan.shape, begun, &unwritten);
             Err(ToolFault::from(unwritten.fault))
         }
+    }
+}
+
+/// Looks up the directory of the images.
+///
+/// # Errors
+///
+/// Returns `NotOpened` if it does not exist, is no directory, or cannot be looked up.
+fn find_folder<R: Host>(rt: &R, folder: &str) -> Result<(), ToolFault> {
+    match found(fs::metadata(rt, folder))? {
+        Some(found) if found.is_dir() => Ok(()),
+        _ => Err(ToolFault::File(FileFault::NotOpened)),
     }
 }
 
