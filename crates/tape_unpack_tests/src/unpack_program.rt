@@ -151,13 +151,17 @@ const UNPACKED: &str = "
     0: unpack gaps gaps1.tap --salvage
     missing gaps/ABC001.1.PAYROLL.salvaged gaps/ABC001.1.PAYROLL.gaps
     length gaps/ABC001.1.PAYROLL 2025
-    # Files that were changed are not removed, nor is one of the two files alone.
+    # Files that were changed are not removed. A report alone, as a run that is interrupted leaves
+    # it, is replaced if it is unchanged.
     remove gaps/ABC001.1.PAYROLL
     3: unpack gaps gaps1.tap --salvage
     put gaps/ABC001.1.PAYROLL.salvaged changed
     3: unpack gaps gaps1.tap --salvage
     has gaps/ABC001.1.PAYROLL.salvaged changed
     length gaps/ABC001.1.PAYROLL.gaps 190
+    remove gaps/ABC001.1.PAYROLL.salvaged
+    3: unpack gaps gaps1.tap --salvage
+    length gaps/ABC001.1.PAYROLL.salvaged 1620
     remove gaps/ABC001.1.PAYROLL.salvaged
     put gaps/ABC001.1.PAYROLL.gaps mine
     0: unpack gaps gaps2.tap gaps1.tap --salvage

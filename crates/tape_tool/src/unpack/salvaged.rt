@@ -1,6 +1,7 @@
 //! The two files that `unpack --salvage` writes for an incomplete file: its readable records, and
 //! the report of its gaps. The last line of the report contains the checksums of both, so that a
-//! later run replaces or removes them only if they are unchanged.
+//! later run replaces or removes them only if they are unchanged. The records never have their name
+//! without the report, and the report of a run that was interrupted may be alone.
 
 ghost use Rattle.std.specs.Prelude.{None};
 
@@ -24,6 +25,9 @@ use tape_writer::system::found;
 /// The length of the last line of a report: `SUMS`, two checksums of 64 digits, two spaces and a
 /// line feed.
 const SUMS: usize = 135;
+
+/// The place in that line after the first checksum.
+const SUM_OF_LINES: usize = 69;
 
 /// The paths of the salvaged records and of their report.
 #[derive(Drop)]
@@ -102,13 +106,14 @@ impl Salvaged {
         names: &[&str],
         last: &mut LastLine,
     ) -> Result<[u8; 32], ToolFault> {
-        let (records, report) = self.earlier(rt.host())?;
-        let (mut draft, out) = Draft::over(rt, self.records.as_str(), records)?;
+        let (before, report) = self.earlier(rt.host())?;
+        let (mut draft, out) = Draft::over(rt, self.records.as_str(), before)?;
         let mut sum = [0; 32];
         let end = match Draft::over(rt, self.report.as_str(), report) {
             Ok((mut of_report, lines)) => {
                 let done = written(rt, task, names, out, lines, &mut sum, last);
                 let placed = done.and_then(|(records, report)| {
+                    self.clear(rt, before)?;
                     of_report.place(report)?;
                     Ok(draft.place(records)?)
                 });
@@ -122,13 +127,23 @@ impl Salvaged {
         }
     }
 
+    /// Removes the records that an earlier run wrote, unless they are no longer the file `before`.
+    /// The report of an interrupted run is then alone, and not beside records of another run.
+    fn clear<R: Progress>(&self, rt: &R, before: Option<FileId>) -> Result<(), ToolFault> {
+        let now = found(fs::symlink_metadata(rt.host(), self.records.as_str()))?;
+        if now.is_some_and(|now| before == Some(FileId::of(&now))) {
+            remove(rt, self.records.as_str());
+        }
+        Ok(())
+    }
+
     /// Removes the files that an earlier run wrote, unless they have changed since then, or cannot
     /// be read.
     pub fn remove<R: Progress>(&self, rt: &R) -> Result<(), ToolFault> {
         match self.earlier(rt.host()) {
-            Ok((Some(_), _)) => {
-                remove(rt, self.report.as_str());
+            Ok((_, Some(_))) => {
                 remove(rt, self.records.as_str());
+                remove(rt, self.report.as_str());
                 Ok(())
             }
             Ok(_) | Err(ToolFault::File(_)) => Ok(()),
@@ -136,28 +151,39 @@ impl Salvaged {
         }
     }
 
-    /// Returns the files that an earlier run wrote, if the two paths have files. Returns `Exists`
-    /// if they have others, or these were changed: the last line of the report contains the
-    /// checksums of both.
+    /// Returns the files that an earlier run wrote, if the two paths have files, or the report if it
+    /// is alone. Returns `Exists` if they have others, or these were changed: the last line of the
+    /// report contains the checksums of both.
     fn earlier<R: Host>(&self, rt: &R) -> Result<(Option<FileId>, Option<FileId>), ToolFault> {
         let records = found(fs::symlink_metadata(rt, self.records.as_str()))?;
         let report = found(fs::symlink_metadata(rt, self.report.as_str()))?;
         let other = ToolFault::File(FileFault::Exists);
         let (records, report) = match (records, report) {
             (None, None) => return Ok((None, None)),
+            (None, Some(report)) if report.is_file() => (None, report),
             (Some(records), Some(report)) if records.is_file() && report.is_file() => {
-                (records, report)
+                (Some(records), report)
             }
             _ => return Err(other),
         };
-        if !self.has_sums(rt, records.len(), report.len())? {
+        let length = records.as_ref().map(|records| records.len());
+        if !self.has_sums(rt, length, report.len())? {
             return Err(other);
         }
-        Ok((Some(FileId::of(&records)), Some(FileId::of(&report))))
+        Ok((
+            records.as_ref().map(|records| FileId::of(records)),
+            Some(FileId::of(&report)),
+        ))
     }
 
     /// Returns whether the report ends with the checksums of both files, which have these lengths.
-    fn has_sums<R: Host>(&self, rt: &R, records: u64, report: u64) -> Result<bool, ToolFault> {
+    /// Without records only its own checksum is compared.
+    fn has_sums<R: Host>(
+        &self,
+        rt: &R,
+        records: Option<u64>,
+        report: u64,
+    ) -> Result<bool, ToolFault> {
         let Some(lines) = report.checked_sub(SUMS as u64) else {
             return Ok(false);
         };
@@ -166,8 +192,14 @@ impl Salvaged {
         let mut last = [0; SUMS];
         file.read_exact(&mut last)
             .map_err(|_| FileFault::ReadFailed)?;
-        let of_records = sum_of(&mut open(rt, self.records.as_str())?, records)?;
-        Ok(last.as_slice() == sums_line(rt.alloc(), &of_records, &of_lines)?.as_bytes())
+        let (mut of_records, mut from) = ([0; 32], SUM_OF_LINES);
+        if let Some(length) = records {
+            of_records = sum_of(&mut open(rt, self.records.as_str())?, length)?;
+            from = 0;
+        }
+        let line = sums_line(rt.alloc(), &of_records, &of_lines)?;
+        let due = line.as_bytes().get(from..).unwrap_or(&[]);
+        Ok(last.as_slice().get(from..).unwrap_or(&[]) == due)
     }
 }
 
