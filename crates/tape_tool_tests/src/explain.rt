@@ -267,8 +267,9 @@ const MISSING: &str = "
     !   The stage has only a part of the file, or is damaged. After AWAITS, 'tape
     !   extract --stage' continues from it; after TRUNCATED AT, start a new stage.
     3: compare missing1.tap missing2.tap --explain
-    !   The images differ (DIFFER), or the image that they form has unreadable items,
-    !   wrong block counts (COUNT) or no end (CUT): the lines say which.
+    !   The images differ (after DIFFER, 'tape show IMAGE N' shows the item), or the
+    !   image that they form has unreadable items, wrong block counts (COUNT) or no
+    !   end (CUT): the lines say which.
 ";
 
 #[test]

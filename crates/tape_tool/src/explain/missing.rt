@@ -308,8 +308,9 @@ fn general_text(order: &Order<'_>) -> &'static str {
             "The stage has only a part of the file, or is damaged. After AWAITS, 'tape
   extract --stage' continues from it; after TRUNCATED AT, start a new stage.",
         Order::Merge(_) =>
-            "The images differ (DIFFER), or the image that they form has unreadable items,
-  wrong block counts (COUNT) or no end (CUT): the lines say which.",
+            "The images differ (after DIFFER, 'tape show IMAGE N' shows the item), or the
+  image that they form has unreadable items, wrong block counts (COUNT) or no
+  end (CUT): the lines say which.",
         // They do not end so.
         Order::List(_) | Order::Show(_) | Order::Init(_) | Order::Write(_) | Order::Convert(_) =>
             NEVER,
