@@ -321,7 +321,7 @@ const RUN: &str = "
 #1  The recovered data could not be saved: out of memory, or the disk is full or
   failing. Data saved in the stage earlier is safe. Free some space and run it
   again; if the disk is failing, continue with a copy of the stage.
-#5  This stage belongs to another file or set; it was not changed.
+#5  This stage belongs to another file or set; its data were not changed.
   Give the SET and FILE it belongs to, or name another stage.";
 
 const STAGE: &str = "
