@@ -54,7 +54,7 @@ pub struct Normal<R: Progress> {
     /// Whether the image is read for the first time.
     is_first: bool,
     /// The first bytes, which may be read before the items in them. A fault among these items ends
-    /// the image for all who read it, so rules that are applied behind it are not named.
+    /// the image for all who read it, so rules that are applied after it are not named.
     front: Option<Followed>,
     /// The rules that were named.
     named: Rules,

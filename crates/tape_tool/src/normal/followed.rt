@@ -38,7 +38,7 @@ impl Followed {
         self.bytes >= KIND_BYTES as u64
     }
 
-    /// Returns whether a fault or the end-of-medium marker was read: nothing behind it counts.
+    /// Returns whether a fault or the end-of-medium marker was read: nothing after it counts.
     pub fn is_over(&self) -> bool {
         self.over
     }

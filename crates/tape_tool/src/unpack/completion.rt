@@ -54,7 +54,7 @@ struct TakenBlocks {
 #[derive(Drop)]
 pub struct SectionLines {
     last: LastLine,
-    /// The blocks that the image of a section lacks, and another one has.
+    /// The blocks that the image of a section does not have, and another one has.
     fills: Vec<TakenBlocks>,
     /// The blocks of each section, without a gap if the file is complete.
     pub runs: Vec<BlockRun>,
