@@ -80,7 +80,7 @@ const UNCOUNTED: &str = "
     > FILE ABC001 1 UNCOUNTED 1
     > TOTAL 1 complete 0 existing 0 incomplete 0 in conflict 0 not found 0 failed
     !   image 2: a file has no block count
-    at out/MANIFEST.jsonl 232 \"counted\":false,
+    at out/MANIFEST.jsonl 232 \"blocks_counted\":false,
     $ unpack out uncounted.tap
     > FILE ABC001 1 EXISTS out/ABC001.1.PAYROLL
     > FILE ABC001 1 UNCOUNTED 1
@@ -90,7 +90,7 @@ const UNCOUNTED: &str = "
     $ unpack --manifest other worked.tap
     > FILE ABC001 1 COMPLETE 25 other/ABC001.1.PAYROLL
     > TOTAL 1 complete 0 existing 0 incomplete 0 in conflict 0 not found 0 failed
-    at other/MANIFEST.jsonl 232 \"counted\":true,
+    at other/MANIFEST.jsonl 232 \"blocks_counted\":true,
     $ extract --again ABC001 1 again.txt uncounted.tap
     > REEL 1 COMPLETE
     > COMPLETE 25
@@ -102,7 +102,7 @@ const UNCOUNTED: &str = "
     > UNCOUNTED 1
     !   image 1: a file has no block count
     0: salvage ABC001 1 kept.txt uncounted.tap --provenance kept.jsonl
-    at kept.jsonl 224 \"counted\":false,
+    at kept.jsonl 224 \"blocks_counted\":false,
     # Of many images only their number is printed, unless all is wanted.
     0: survey uncounted.tap worked.tap worked.tap worked.tap worked.tap worked.tap
     | 1 section whose blocks are not counted

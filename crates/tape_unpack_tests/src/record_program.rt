@@ -12,7 +12,7 @@ const RECORDED: &str = "
         \"identifier\":\"PAYROLL\",\"generation\":\"0001\",\"version\":\"00\",\"created\":null,\
         \"expires\":null,\"access\":null,\"system\":null,\"format\":\"F\",\"block\":800,\
         \"record\":80,\
-        \"form\":\"lines\",\"counted\":true,\"size\":2025,\
+        \"form\":\"lines\",\"blocks_counted\":true,\"size\":2025,\
         \"sha256\":\"0ea04722dfc11a313781113712bafecee4beb63c00c2448f7cc86ff88949bdcb\",\
         \"program\":\"0.1.0\",\"proved\":null,\"build\":null}\\0A\
         {\"row\":\"BLOCKS\",\"name\":\"ABC001.1.PAYROLL\",\"section\":1,\"block\":0,\"part\":0,\
@@ -32,7 +32,7 @@ const RECORDED: &str = "
         \"identifier\":\"PAYROLL\",\"generation\":\"0001\",\"version\":\"00\",\"created\":null,\
         \"expires\":null,\"access\":null,\"system\":null,\"format\":\"F\",\"block\":400,\
         \"record\":80,\
-        \"form\":\"raw\",\"counted\":true,\"size\":2000,\
+        \"form\":\"raw\",\"blocks_counted\":true,\"size\":2000,\
         \"sha256\":\"9ca721bb0fceb366d3809a5da8042c523cf671155b6366a74de5b02d2f163684\",\
         \"program\":\"0.1.0\",\"proved\":null,\"build\":null}\\0A\
         {\"row\":\"BLOCKS\",\"name\":\"ABC001.1.PAYROLL\",\"section\":1,\"block\":0,\"part\":0,\
@@ -77,13 +77,13 @@ const RECORDED: &str = "
         \"sha256\":\"daf61a346b32d5f3b5ed4c59a4513114b6388172932a914eab267ae0bd4839a2\",\
         \"volume\":\"ABC001\",\"owner\":null,\"system\":null}\\0A
     0: unpack days rec2.tap --manifest --form raw
-    length days/MANIFEST.jsonl 1732
+    length days/MANIFEST.jsonl 1739
     at days/MANIFEST.jsonl 1050 \
         {\"row\":\"FILE\",\"name\":\"ABC001.1.PAYROLL\",\"set\":\"ABC001\",\"file\":1,\
         \"identifier\":\"PAYROLL\",\"generation\":\"0001\",\"version\":\"00\",\"created\":null,\
         \"expires\":null,\"access\":null,\"system\":null,\"format\":\"F\",\"block\":400,\
         \"record\":80,\
-        \"form\":\"raw\",\"counted\":true,\"size\":2000,\
+        \"form\":\"raw\",\"blocks_counted\":true,\"size\":2000,\
         \"sha256\":\"9ca721bb0fceb366d3809a5da8042c523cf671155b6366a74de5b02d2f163684\",\
         \"program\":\"0.1.0\",\"proved\":null,\"build\":null}\\0A\
         {\"row\":\"BLOCKS\",\"name\":\"ABC001.1.PAYROLL\",\"section\":1,\"block\":0,\"part\":0,\
@@ -94,7 +94,7 @@ const RECORDED: &str = "
         \"offset\":1084}\\0A
     # A file that exists and is recorded is not recorded again, and otherwise as if it was joined.
     0: unpack days rec2.tap rec3.tap --manifest --form raw
-    length days/MANIFEST.jsonl 1732
+    length days/MANIFEST.jsonl 1739
     remove days/MANIFEST.jsonl
     0: unpack days rec2.tap rec3.tap --manifest --form raw
     has days/MANIFEST.jsonl \
@@ -102,7 +102,7 @@ const RECORDED: &str = "
         \"identifier\":\"PAYROLL\",\"generation\":\"0001\",\"version\":\"00\",\"created\":null,\
         \"expires\":null,\"access\":null,\"system\":null,\"format\":\"F\",\"block\":400,\
         \"record\":80,\
-        \"form\":\"raw\",\"counted\":true,\"size\":2000,\
+        \"form\":\"raw\",\"blocks_counted\":true,\"size\":2000,\
         \"sha256\":\"9ca721bb0fceb366d3809a5da8042c523cf671155b6366a74de5b02d2f163684\",\
         \"program\":\"0.1.0\",\"proved\":null,\"build\":null}\\0A\
         {\"row\":\"BLOCKS\",\"name\":\"ABC001.1.PAYROLL\",\"section\":1,\"block\":0,\"part\":0,\
@@ -120,10 +120,10 @@ const RECORDED: &str = "
     # Salvaged records.
     folder salvaged
     3: unpack salvaged rec2.tap --manifest --salvage --form raw
-    length salvaged/MANIFEST.jsonl 698
+    length salvaged/MANIFEST.jsonl 705
     at salvaged/MANIFEST.jsonl 282 \
         {\"row\":\"SALVAGED\",\"name\":\"ABC001.1.PAYROLL.salvaged\",\"set\":\"ABC001\",\"file\":1,\
-        \"identifier\":\"PAYROLL\",\"form\":\"raw\",\"counted\":true,\
+        \"identifier\":\"PAYROLL\",\"form\":\"raw\",\"blocks_counted\":true,\
         \"gaps\":\"ABC001.1.PAYROLL.gaps\",\"size\":1600,\
         \"sha256\":\"968794b4732e5d2084d0602307bd8c23910079feb925d8d8494034b7f3742905\"}\\0A
 ";
@@ -162,7 +162,7 @@ const KEPT: &str = "
     missing held1/.tape-1.part
     0: unpack held1 held.tap --manifest
     at held1/MANIFEST.jsonl 0 {\"row\":\"MINE\"}\\0A{\"row\":\"FILE\",\"name\":\"ABC001.1.PAYROLL\",
-    length held1/MANIFEST.jsonl 722
+    length held1/MANIFEST.jsonl 729
     # With --list, and without --manifest, nothing is recorded.
     folder held3
     0: unpack held3 held.tap --manifest --list | unpack held3 held.tap
@@ -183,7 +183,7 @@ const ONE_OUTPUT: &str = "
         {\"row\":\"FILE\",\"name\":\"one.txt\",\"set\":\"ABC001\",\"file\":1,\
         \"identifier\":\"PAYROLL\",\"generation\":\"0001\",\"version\":\"00\",\"created\":null,\
         \"expires\":null,\"access\":null,\"system\":null,\"format\":\"F\",\"block\":400,\
-        \"record\":80,\"form\":\"raw\",\"counted\":true,\"size\":2000,\
+        \"record\":80,\"form\":\"raw\",\"blocks_counted\":true,\"size\":2000,\
         \"sha256\":\"9ca721bb0fceb366d3809a5da8042c523cf671155b6366a74de5b02d2f163684\",\
         \"program\":\"0.1.0\",\"proved\":null,\"build\":null}\\0A\
         {\"row\":\"BLOCKS\",\"name\":\"one.txt\",\"section\":1,\"block\":0,\"part\":0,\
@@ -226,7 +226,8 @@ const ONE_OUTPUT: &str = "
     3: salvage ABC001 1 part.txt one1.tap --provenance part.jsonl
     has part.jsonl \
         {\"row\":\"SALVAGED\",\"name\":\"part.txt\",\"set\":\"ABC001\",\"file\":1,\
-        \"identifier\":\"PAYROLL\",\"form\":\"lines\",\"counted\":true,\"gaps\":null,\"size\":1620,\
+        \"identifier\":\"PAYROLL\",\"form\":\"lines\",\"blocks_counted\":true,\"gaps\":null,\
+        \"size\":1620,\
         \"sha256\":\"ab6db134842b1a0f4e16fcf07818c4aede0685cd639d8cd792dd1b7dfd493a84\"}\\0A\
         {\"row\":\"BLOCKS\",\"name\":\"part.txt\",\"section\":1,\"block\":0,\"part\":0,\
         \"end_section\":1,\"end_block\":5,\"end_part\":0,\"image\":\"one1.tap\",\
@@ -242,7 +243,7 @@ const ONE_OUTPUT: &str = "
         {\"row\":\"FILE\",\"name\":\"full.txt\",\"set\":\"ABC001\",\"file\":1,\
         \"identifier\":\"PAYROLL\",\"generation\":\"0001\",\"version\":\"00\",\"created\":null,\
         \"expires\":null,\"access\":null,\"system\":null,\"format\":\"F\",\"block\":400,\
-        \"record\":80,\"form\":\"lines\",\"counted\":true,\"size\":2025,\
+        \"record\":80,\"form\":\"lines\",\"blocks_counted\":true,\"size\":2025,\
         \"sha256\":\"0ea04722dfc11a313781113712bafecee4beb63c00c2448f7cc86ff88949bdcb\",\
         \"program\":\"0.1.0\",\"proved\":null,\"build\":null}\\0A\
         {\"row\":\"BLOCKS\",\"name\":\"full.txt\",\"section\":1,\"block\":0,\"part\":0,\

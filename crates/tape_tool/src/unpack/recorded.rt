@@ -27,7 +27,7 @@ pub struct WrittenFile {
     pub size: u64,
     pub sum: [u8; 32],
     /// Whether the blocks of each of its sections are counted.
-    pub counted: bool,
+    pub blocks_counted: bool,
 }
 
 /// The name of an output, and its file in a set.
@@ -247,12 +247,12 @@ pub fn written_at<R: Progress>(
 ) -> Result<WrittenFile, ToolFault> {
     let there = found(fs::metadata(rt.host(), path))?;
     let size = there.map_or(0, |there| there.len());
-    let counted = uncounted_of(rt, key.set_id, key.file)?.is_empty();
+    let blocks_counted = uncounted_of(rt, key.set_id, key.file)?.is_empty();
     Ok(WrittenFile {
         form,
         size,
         sum,
-        counted,
+        blocks_counted,
     })
 }
 
