@@ -255,8 +255,8 @@ def plant(fault):
     }
     if fault == "length":  # the length counts its own four bytes
         globals()["length_of"] = lambda record: (len(record) + 4).to_bytes(4, "big")
-    elif fault == "miscounted":  # a copy with a wrong block count is read
-        read_model.Volume.miscounted = frozenset()
+    elif fault == "miscounted":  # a copy with a wrong block count, or with labels, is read
+        read_model.Volume.left_out = frozenset()
     elif fault == "sections":  # a record of format V does not continue in the next section
         read_model.Reader.begun = property(lambda self:
             begun.fget(self) and (self.seen > 0 or self.form[1] == "S"))

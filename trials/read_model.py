@@ -3,7 +3,10 @@
 For formats_model.py and normal_model.py.
 """
 
+from functools import cached_property
+
 import tape_model as model
+from salvage_model import Search
 
 TRAILERS, NUMBERS = ("EOF1", "EOV1"), ("section", "file")
 
@@ -37,11 +40,12 @@ class Volume:
     def is_whole(self):
         return self.is_read and all(each["state"] == "GOOD" for each in self.sections)
 
-    @property
-    def miscounted(self):
-        """The sections with an unreadable block and a wrong block count other than 0."""
-        return {(each["set"], *map(each.get, ("file", "section"))) for each in self.sections
-                if each["state"] == "COUNT" and each["count"] and None in each["blocks"]}
+    @cached_property
+    def left_out(self):
+        """The sections from which a wary reader takes nothing, with the item that begins their
+        data."""
+        return {(*map(each.head.get, ("set", "file", "section")), each.begin)
+                for each in Search(self.items, 0).found if each.is_left_out}
 
     def past(self, place, kind, block):
         """The place after an item out of order."""
@@ -150,7 +154,7 @@ class Reader:
     """Reads one file, reel after reel: the table in FORMATS.md.
 
     If it is wary, nothing is taken from a copy with an unreadable block and a wrong block count
-    other than 0.
+    other than 0, nor from one that may have labels among its data.
     """
 
     def __init__(self, set_id, file, wide, is_wary):
@@ -190,8 +194,8 @@ class Reader:
 
     def is_left_out(self, volume):
         """Whether the section needed begins here, on a volume from which it is not taken."""
-        key = self.set, self.file, self.section
-        return self.is_wary and self.needed and not self.seen and key in volume.miscounted
+        key = self.set, self.file, self.section, self.end - 1
+        return self.is_wary and self.needed and not self.seen and key in volume.left_out
 
     def volume(self, kind, block):
         self.phase = "labels"

@@ -6,6 +6,7 @@ For formats_model.py and normal_model.py. The items are those of images in norma
 import tape_model as model
 
 FIRST, SECOND = ("EOF1", "EOV1"), ("EOF2", "EOV2")
+EBCDIC = [kind.encode("cp037") for kind in FIRST + SECOND]
 
 
 def block_of(item):
@@ -32,11 +33,22 @@ def mark_from(items, at):
     return at
 
 
-class Section:
-    """A section found on an image."""
+def is_header(item):
+    return model.kind_of(block_of(item)) == "HDR2" or model.is_further_header(block_of(item))
 
-    def __init__(self, head, image):
-        self.head, self.image, self.shape, self.data = head, image, None, []
+
+def is_trailer(item):
+    """Whether an item reads as a trailer label in ASCII or EBCDIC."""
+    block = block_of(item)
+    return model.kind_of(block) in FIRST + SECOND or len(block) == 80 and block[:4] in EBCDIC
+
+
+class Section:
+    """A section found on an image, of which the data begin at this item."""
+
+    def __init__(self, head, image, begin):
+        self.head, self.image, self.shape, self.begin = head, image, None, begin
+        self.labels, self.data = [], []
         self.trailer, self.is_absent, self.is_doubtful = None, False, False
 
     def close(self, trailer, items, at):
@@ -50,6 +62,23 @@ class Section:
     @property
     def has_count(self):
         return bool(self.trailer) and self.trailer["count"] == len(self.data) % 1000000
+
+    @property
+    def may_have_labels(self):
+        """Whether labels may be among its data: it does not close, and a block reads as a trailer
+        label, or an item before the data is no header label; one may be unreadable."""
+        others = sum(not is_header(item) for item in self.labels)
+        is_unsure = others > any(kind == "bad" for kind, _ in self.labels)
+        return not self.trailer and bool(self.data) and (
+            is_unsure or any(map(is_trailer, self.data)))
+
+    @property
+    def is_left_out(self):
+        """Whether a wary reader takes nothing from it: labels may be among its data, or it has an
+        unreadable block and a wrong block count other than 0."""
+        is_miscounted = self.trailer and not self.has_count and self.trailer["count"]
+        return self.may_have_labels or bool(is_miscounted) and any(
+            kind == "bad" for kind, _ in self.data)
 
     @property
     def is_complete(self):
@@ -106,11 +135,12 @@ class Search:
 
     def section(self, head, at):
         """A section from the item after its HDR1 on."""
-        section, begin = Section(head, self.image), mark_from(self.items, at)
+        begin = mark_from(self.items, at)
+        section = Section(head, self.image, begin + 1)
         if begin == len(self.items) == at:
             return None
         self.found.append(section)
-        labels = self.items[at:begin]
+        labels = section.labels = self.items[at:begin]
         section.shape = shape_of(labels[0], ("HDR2",)) if labels else None
         has_mark = begin < len(self.items)
         section.is_absent = model.is_further_header(block_of(labels[0])) if labels else has_mark
@@ -133,7 +163,7 @@ class Search:
         trailer = label_of(self.items[end + 1], FIRST) if end + 1 < len(self.items) else None
         if not trailer or trailer["count"] != len(data) % 1000000:
             return end
-        section = Section(trailer, self.image)
+        section = Section(trailer, self.image, first)
         section.data, section.is_doubtful = data, True
         self.found.append(section)
         return self.closed(section, trailer, end + 1)

@@ -185,7 +185,8 @@ class Survey:
         reader took nothing."""
         key, is_wary = (reader.set, reader.file), reader.is_wary and not reader.done
         return [at for at in self.order(*key, False)
-                if is_wary and (*key, reader.section) in self.volumes[at].miscounted]
+                if is_wary and any(each[:3] == (*key, reader.section)
+                                   for each in self.volumes[at].left_out)]
 
     def last_line(self, reader):
         if reader.done:
