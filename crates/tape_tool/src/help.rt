@@ -269,8 +269,8 @@ With --tsv these rows; a column whose value is not known is empty:
            state: COMPLETE, BAD, COUNT or CUT, or MISSING: the section was not
            found, and the one before it is on that volume, or FORMAT: a block
            is not in the format that HDR2 states; sections: all that are damaged
-           or missing, as 2:CUT;4-5:MISSING; format: F, D or S, and the lengths
-           of a block and of a record, as its HDR2 states them
+           or missing, as 2:CUT;4-5:MISSING; format: F, D, S, U or V, and the
+           lengths of a block and of a record, as its HDR2 states them
   COPIES set file section copies name other AGREE
            for a section with several good copies: how many agree with the
            first one, on the image NAME. If one differs, its image is OTHER, and
