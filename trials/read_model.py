@@ -43,9 +43,11 @@ class Volume:
     @cached_property
     def left_out(self):
         """The sections from which a wary reader takes nothing, with the item that begins their
-        data."""
-        return {(*map(each.head.get, ("set", "file", "section")), each.begin)
-                for each in Search(self.items, 0).found if each.is_left_out}
+        data. Of several copies of a section the first counts."""
+        copies = {}
+        for each in Search(self.items, 0).found:
+            copies.setdefault(tuple(map(each.head.get, ("set", "file", "section"))), each)
+        return {(*key, each.begin) for key, each in copies.items() if each.is_left_out}
 
     def past(self, place, kind, block):
         """The place after an item out of order."""

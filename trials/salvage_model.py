@@ -57,6 +57,8 @@ class Section:
         while end < len(items) and items[end][0] == "block":
             self.shape = self.shape or shape_of(items[end], SECOND)
             end += 1
+        if end < len(items) and items[end][0] == "bad":
+            self.is_absent = False  # it may be an EOF2
         return end + 1
 
     @property
