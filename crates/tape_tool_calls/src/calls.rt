@@ -32,7 +32,7 @@
 //!   `modified FILE SECONDS` checks when it was written, in seconds from 1970 on, and `new FILE`
 //!   that this was in this century.
 
-use crate::fake_system::{Odd, Seen, called};
+use crate::fake_system::{Odd, Program, Seen, called};
 use crate::steps::take;
 use std::alloc::{AllocError, Global};
 use std::io::ErrorKind;
@@ -114,9 +114,9 @@ impl<'a> Run<'a> {
         Ok(true)
     }
 
-    /// Runs the program with the arguments in `line`, and fails unless it has the expected results.
-    fn check_one(&self, rt: &HostRuntime, line: &str) -> Result<(), Fail> {
-        let seen = called(rt, line, self.odd)?;
+    /// Runs `program` with the arguments in `line`, and fails unless it has the expected results.
+    fn check_one<P: Program>(&self, rt: &HostRuntime, program: &P, line: &str) -> Result<(), Fail> {
+        let seen = called(rt, program, line, self.odd)?;
         if self.expects(&seen) {
             return Ok(());
         }
@@ -147,10 +147,10 @@ impl<'a> Run<'a> {
         is_status && is_ended && is_out && is_told && is_opened && has_parts
     }
 
-    /// Runs the program with each of the lines.
-    fn check(&self, rt: &HostRuntime) -> Result<(), Fail> {
+    /// Runs `program` with each of the lines.
+    fn check<P: Program>(&self, rt: &HostRuntime, program: &P) -> Result<(), Fail> {
         for line in self.lines.split(" | ") {
-            self.check_one(rt, line)?;
+            self.check_one(rt, program, line)?;
         }
         Ok(())
     }
@@ -214,18 +214,23 @@ fn push_line(page: &mut String, text: &str) -> Result<(), AllocError> {
 /// # Errors
 ///
 /// Those of `follow`, and the system's error if the directory cannot be created.
-pub fn follow_in(rt: &HostRuntime, folder: &str, script: &str) -> Result<(), Fail> {
+pub fn follow_in<P: Program>(
+    rt: &HostRuntime,
+    program: &P,
+    folder: &str,
+    script: &str,
+) -> Result<(), Fail> {
     fs::create_dir(rt, folder)?;
     env::set_current_dir(rt, folder)?;
-    follow(rt, script)
+    follow(rt, program, script)
 }
 
-/// Executes the steps of `script` in order.
+/// Executes the steps of `script` in order, the runs with `program`.
 ///
 /// # Errors
 ///
 /// Fails at the first step that has not its expected result, with its line.
-pub fn follow(rt: &HostRuntime, script: &str) -> Result<(), Fail> {
+pub fn follow<P: Program>(rt: &HostRuntime, program: &P, script: &str) -> Result<(), Fail> {
     let mut run: Option<Run<'_>> = None;
     for line in script.lines() {
         let line = line.trim_start();
@@ -234,7 +239,7 @@ pub fn follow(rt: &HostRuntime, script: &str) -> Result<(), Fail> {
             if run.expect(word, rest)? {
                 continue;
             }
-            run.check(rt)?;
+            run.check(rt, program)?;
         }
         run = None;
         if word.is_empty() || word == "#" {
@@ -246,7 +251,7 @@ pub fn follow(rt: &HostRuntime, script: &str) -> Result<(), Fail> {
         }
     }
     match &run {
-        Some(run) => run.check(rt),
+        Some(run) => run.check(rt, program),
         None => Ok(()),
     }
 }

@@ -1,4 +1,4 @@
-//! The program in a fake system, which provides its arguments and standard input, an image of one
+//! A program in a fake system, which provides its arguments and standard input, an image of one
 //! mark, and records its output and the files that it opens. Files and memory are those of the real
 //! system, except that an image named `FUL001.tap` accepts no bytes, and that `program` is the
 //! program's own file.
@@ -13,7 +13,6 @@ use std::path::PathBuf;
 use std::rt::Runtime;
 use std::test::Fail;
 use std::time::{Clock, Duration};
-use tape_tool::run_on;
 
 /// A peculiarity of the system: what it refuses, or does in addition.
 #[derive(Clone, Copy)]
@@ -41,9 +40,15 @@ pub enum Odd<'a> {
     NoText,
 }
 
+/// A program to test. That it is a parameter lets this crate be proved beside the program.
+pub trait Program {
+    /// Runs the program on `system`, and returns its exit status.
+    fn run(&self, system: &FakeSystem<'_>, is_terminal: bool) -> u8;
+}
+
 /// A system with arguments and streams of its own.
 #[derive(Clone, Copy)]
-struct FakeSystem<'a> {
+pub struct FakeSystem<'a> {
     rt: HostRuntime,
     words: &'a [String],
     odd: Odd<'a>,
@@ -297,13 +302,18 @@ pub struct Seen {
     pub opened: String,
 }
 
-/// Runs the program with the arguments in `line`, on a system with the peculiarity `odd`.
+/// Runs `program` with the arguments in `line`, on a system with the peculiarity `odd`.
 ///
 /// # Errors
 ///
 /// Fails if memory was refused, or if a file is opened before the numbers of the standard streams
 /// were checked.
-pub fn called(rt: &HostRuntime, line: &str, odd: Odd<'_>) -> Result<Seen, Fail> {
+pub fn called<P: Program>(
+    rt: &HostRuntime,
+    program: &P,
+    line: &str,
+    odd: Odd<'_>,
+) -> Result<Seen, Fail> {
     let words = words_of(rt.alloc(), line)?;
     let records = Records {
         out: RefCell::new(String::new(rt.alloc())),
@@ -318,7 +328,7 @@ pub fn called(rt: &HostRuntime, line: &str, odd: Odd<'_>) -> Result<Seen, Fail> 
         odd,
         records: &records,
     };
-    let status = run_on(&system, matches!(odd, Odd::Terminal(_)));
+    let status = program.run(&system, matches!(odd, Odd::Terminal(_)));
     let (opened, texts) = (records.opened.into_inner(), records.told.into_inner());
     // The numbers of the standard streams are checked first.
     let Some(opened) = opened.as_str().strip_prefix("/ ") else {

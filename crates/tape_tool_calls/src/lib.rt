@@ -7,5 +7,5 @@ mod image;
 mod steps;
 
 pub use calls::{follow, follow_in};
-pub use fake_system::{Odd, Seen, called, words_of};
+pub use fake_system::{FakeSystem, Odd, Program, Seen, called, words_of};
 pub use steps::{holds, put};

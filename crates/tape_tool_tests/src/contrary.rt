@@ -1,4 +1,5 @@
 //! Tests of `extract --again` on copies that contradict each other, or their own trailer label.
+use crate::tape::Tape;
 use std::test::Fail;
 use tape_tool_calls::follow_in;
 
@@ -28,5 +29,5 @@ const CONTRARY: &str = "
 
 #[test]
 fn contrary_copies_are_not_read(rt: HostRuntime) -> Result<(), Fail> {
-    follow_in(&rt, "contrary", CONTRARY)
+    follow_in(&rt, &Tape, "contrary", CONTRARY)
 }

@@ -1,5 +1,6 @@
 //! Tests of the explanations that `--explain` prints after the line of a fault, and of what is
 //! missing.
+use crate::tape::Tape;
 use std::test::Fail;
 use tape_image::{ImageCause, ImageFault};
 use tape_run::RunFault;
@@ -110,7 +111,7 @@ const SITES: &str = "
 
 #[test]
 fn faults_have_their_places(rt: HostRuntime) -> Result<(), Fail> {
-    follow_in(&rt, "sites", SITES)
+    follow_in(&rt, &Tape, "sites", SITES)
 }
 
 /// Faults without a run here, and the beginning of their explanation.
@@ -274,5 +275,5 @@ const MISSING: &str = "
 
 #[test]
 fn missing_parts_are_explained(rt: HostRuntime) -> Result<(), Fail> {
-    follow_in(&rt, "missing", MISSING)
+    follow_in(&rt, &Tape, "missing", MISSING)
 }

@@ -1,4 +1,5 @@
 //! Tests of `extract` and `stage`: files, and exit statuses.
+use crate::tape::Tape;
 use std::test::Fail;
 use tape_tool_calls::{follow, follow_in, holds, put};
 
@@ -87,7 +88,7 @@ const FILES: &str = "
 
 #[test]
 fn files(rt: HostRuntime) -> Result<(), Fail> {
-    follow_in(&rt, "files", FILES)
+    follow_in(&rt, &Tape, "files", FILES)
 }
 
 /// The first bytes of files that might be tapes: images, compressed files, archives and stages.
@@ -127,16 +128,20 @@ const PLAIN: &[&[u8]] = &[
 
 #[test]
 fn what_may_keep_a_tape_is_never_the_output(rt: HostRuntime) -> Result<(), Fail> {
-    follow_in(&rt, "held", "worked held.tap")?;
+    follow_in(&rt, &Tape, "held", "worked held.tap")?;
     for bytes in KEPT {
         put(&rt, "kept.bin", *bytes)?;
-        follow(&rt, "file fault 1: extract ABC001 1 kept.bin held.tap")?;
+        follow(
+            &rt,
+            &Tape,
+            "file fault 1: extract ABC001 1 kept.bin held.tap",
+        )?;
         assert!(rt; holds(&rt, "kept.bin", *bytes)?);
     }
     for bytes in PLAIN {
         put(&rt, "kept.bin", *bytes)?;
-        follow(&rt, "0: extract ABC001 1 kept.bin held.tap")?;
-        follow(&rt, "length kept.bin 2025")?;
+        follow(&rt, &Tape, "0: extract ABC001 1 kept.bin held.tap")?;
+        follow(&rt, &Tape, "length kept.bin 2025")?;
     }
     Ok(())
 }
@@ -212,7 +217,7 @@ const AGAIN: &str = "
 
 #[test]
 fn images_are_read_again(rt: HostRuntime) -> Result<(), Fail> {
-    follow_in(&rt, "again", AGAIN)
+    follow_in(&rt, &Tape, "again", AGAIN)
 }
 
 const WARNED: &str = "
@@ -245,7 +250,7 @@ const WARNED: &str = "
 
 #[test]
 fn images_that_differ_are_named(rt: HostRuntime) -> Result<(), Fail> {
-    follow_in(&rt, "warned", WARNED)
+    follow_in(&rt, &Tape, "warned", WARNED)
 }
 
 const STAGED: &str = "
@@ -343,5 +348,5 @@ const STAGED: &str = "
 
 #[test]
 fn stages_and_outputs(rt: HostRuntime) -> Result<(), Fail> {
-    follow_in(&rt, "staged", STAGED)
+    follow_in(&rt, &Tape, "staged", STAGED)
 }

@@ -1,5 +1,6 @@
 //! Tests of the program when the system refuses a call, or files change during a run. No existing
 //! data is lost.
+use crate::tape::Tape;
 use std::test::Fail;
 use tape_tool_calls::follow_in;
 
@@ -138,7 +139,7 @@ const GUARDED: &str = "
 
 #[test]
 fn nothing_is_lost(rt: HostRuntime) -> Result<(), Fail> {
-    follow_in(&rt, "guards", GUARDED)
+    follow_in(&rt, &Tape, "guards", GUARDED)
 }
 
 /// Runs on a terminal, which shows progress. Each read of an image comes later than the pause.
@@ -183,5 +184,5 @@ const SHOWN: &str = "
 
 #[test]
 fn progress(rt: HostRuntime) -> Result<(), Fail> {
-    follow_in(&rt, "progress", SHOWN)
+    follow_in(&rt, &Tape, "progress", SHOWN)
 }

@@ -1,4 +1,5 @@
 //! Tests of lines of JSON: each command that prints them, and odd names.
+use crate::tape::Tape;
 use std::test::Fail;
 use tape_tool_calls::follow_in;
 
@@ -40,7 +41,7 @@ const ITEMS: &str = "
 
 #[test]
 fn items(rt: HostRuntime) -> Result<(), Fail> {
-    follow_in(&rt, "json_items", ITEMS)
+    follow_in(&rt, &Tape, "json_items", ITEMS)
 }
 
 /// Names with a backslash, a control character, DEL, an invisible character, and others.
@@ -80,5 +81,5 @@ const NAMES: &str = "
 
 #[test]
 fn names(rt: HostRuntime) -> Result<(), Fail> {
-    follow_in(&rt, "json_names", NAMES)
+    follow_in(&rt, &Tape, "json_names", NAMES)
 }

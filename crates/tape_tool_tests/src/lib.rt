@@ -19,3 +19,5 @@ mod seen;
 mod show_program;
 #[cfg(test)]
 mod staging;
+#[cfg(test)]
+mod tape;

@@ -1,4 +1,5 @@
 //! Tests of command lines: the request that the program understands, or what it prints.
+use crate::tape::Tape;
 use std::alloc::{AllocError, Global};
 use std::fmt;
 use std::test::Fail;
@@ -318,5 +319,5 @@ const SAID: &str = "
 
 #[test]
 fn help_and_mistakes(rt: HostRuntime) -> Result<(), Fail> {
-    follow_in(&rt, "words", SAID)
+    follow_in(&rt, &Tape, "words", SAID)
 }

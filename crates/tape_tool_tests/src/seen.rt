@@ -1,5 +1,6 @@
 //! Tests of whole runs as a caller sees them: exit status, both streams, and the files that are
 //! opened.
+use crate::tape::Tape;
 use std::test::Fail;
 use tape_tool_calls::{Odd, called, follow_in};
 
@@ -125,7 +126,7 @@ const CALLS: &str = "
 
 #[test]
 fn whole_calls(rt: HostRuntime) -> Result<(), Fail> {
-    follow_in(&rt, "calls", CALLS)
+    follow_in(&rt, &Tape, "calls", CALLS)
 }
 
 /// How the program was built: a note of 128 bytes at the end of its file.
@@ -160,7 +161,7 @@ const NOTED: &str = "
 
 #[test]
 fn notes(rt: HostRuntime) -> Result<(), Fail> {
-    follow_in(&rt, "noted", NOTED)
+    follow_in(&rt, &Tape, "noted", NOTED)
 }
 
 /// Commands that read images: the files opened before the images, and the end of the output for 300
@@ -191,6 +192,7 @@ const READERS: &[(&str, &str, &str)] = &[
 fn many_images(rt: HostRuntime) -> Result<(), Fail> {
     follow_in(
         &rt,
+        &Tape,
         "many_images",
         "folder many\nfill many.names 44 lost.tap\\0A",
     )?;
@@ -200,13 +202,13 @@ fn many_images(rt: HostRuntime) -> Result<(), Fail> {
             line.push_str(" lost.tap")?;
         }
         line.push_str(" --files-from many.names")?;
-        let seen = called(&rt, line.as_str(), Odd::Nothing)?;
+        let seen = called(&rt, &Tape, line.as_str(), Odd::Nothing)?;
         let (opened, out) = (seen.opened.as_str(), seen.out.as_str());
         let looked_for = opened.len() == first.len() + 300 * "lost.tap? ".len();
         let is_last = opened.starts_with(*first) && looked_for && out.ends_with(*last);
         assert!(rt; seen.status == 3 && is_last, "{line}: {out}");
         line.push_str(" lost.tap")?;
-        assert_eq!(rt; called(&rt, line.as_str(), Odd::Nothing)?.status, 2);
+        assert_eq!(rt; called(&rt, &Tape, line.as_str(), Odd::Nothing)?.status, 2);
     }
     Ok(())
 }

@@ -1,4 +1,5 @@
 //! Tests of `show`: labels by their fields, blocks as rows, and damaged images.
+use crate::tape::Tape;
 use std::test::Fail;
 use tape_tool_calls::follow_in;
 
@@ -95,5 +96,5 @@ const ITEMS: &str = "
 
 #[test]
 fn items_are_shown(rt: HostRuntime) -> Result<(), Fail> {
-    follow_in(&rt, "items", ITEMS)
+    follow_in(&rt, &Tape, "items", ITEMS)
 }

@@ -1,4 +1,5 @@
 //! Tests of `stage`, and of two runs that use one stage.
+use crate::tape::Tape;
 use std::fs::File;
 use std::test::Fail;
 use tape_label::Field;
@@ -75,17 +76,18 @@ const SECOND: &str = "
 
 #[test]
 fn stages_are_shown(rt: HostRuntime) -> Result<(), Fail> {
-    follow_in(&rt, "shown", SHOWN)?;
+    follow_in(&rt, &Tape, "shown", SHOWN)?;
     let first = File::open(&rt, "shown.stage")?;
     // A run that only shows the stage excludes others too.
     first.lock_shared()?;
-    follow(&rt, SECOND)?;
+    follow(&rt, &Tape, SECOND)?;
     first.lock()?;
-    follow(&rt, SECOND)?;
-    follow(&rt, "stage fault 7: stage shown.stage")?;
+    follow(&rt, &Tape, SECOND)?;
+    follow(&rt, &Tape, "stage fault 7: stage shown.stage")?;
     drop(first);
     follow(
         &rt,
+        &Tape,
         "3: extract ABC001 1 second.txt shown.tap --stage shown.stage",
     )
 }

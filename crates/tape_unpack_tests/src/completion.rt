@@ -3,6 +3,7 @@
 //! The items of the example image: 0 is VOL1, 1 HDR1, 2 HDR2, 3 a tape mark, 4 to 6 blocks, 7 a
 //! mark, 8 EOF1, 9 EOF2, 10 and 11 marks. The first mark ends at byte 268. The file has 25 records
 //! of 80 bytes, so 2,025 bytes as lines.
+use crate::tape::Tape;
 use std::test::Fail;
 use tape_tool_calls::follow_in;
 
@@ -63,7 +64,7 @@ const COMPLETED: &str = "
 
 #[test]
 fn damaged_labels_do_not_matter(rt: HostRuntime) -> Result<(), Fail> {
-    follow_in(&rt, "completed", COMPLETED)
+    follow_in(&rt, &Tape, "completed", COMPLETED)
 }
 
 const LEFT: &str = "
@@ -137,7 +138,7 @@ const LEFT: &str = "
 
 #[test]
 fn nothing_else_is_completed(rt: HostRuntime) -> Result<(), Fail> {
-    follow_in(&rt, "not_completed", LEFT)
+    follow_in(&rt, &Tape, "not_completed", LEFT)
 }
 
 const CONTRARY: &str = "
@@ -225,5 +226,5 @@ const CONTRARY: &str = "
 
 #[test]
 fn contradictions_are_told(rt: HostRuntime) -> Result<(), Fail> {
-    follow_in(&rt, "contrary", CONTRARY)
+    follow_in(&rt, &Tape, "contrary", CONTRARY)
 }

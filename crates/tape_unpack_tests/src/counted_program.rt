@@ -1,4 +1,5 @@
 //! Tests of the form `counted` in the commands that write records.
+use crate::tape::Tape;
 use std::test::Fail;
 use tape_tool_calls::follow_in;
 
@@ -47,5 +48,5 @@ const COUNTED: &str = "
 
 #[test]
 fn records_follow_their_lengths(rt: HostRuntime) -> Result<(), Fail> {
-    follow_in(&rt, "counted", COUNTED)
+    follow_in(&rt, &Tape, "counted", COUNTED)
 }

@@ -1,4 +1,5 @@
 //! Tests of the commands that read images or create them: files, and exit statuses.
+use crate::tape::Tape;
 use std::test::Fail;
 use tape_tool_calls::follow_in;
 
@@ -31,7 +32,7 @@ const READ: &str = "
 
 #[test]
 fn images_are_read(rt: HostRuntime) -> Result<(), Fail> {
-    follow_in(&rt, "read", READ)
+    follow_in(&rt, &Tape, "read", READ)
 }
 
 const MERGED: &str = "
@@ -111,7 +112,7 @@ const MERGED: &str = "
 
 #[test]
 fn readings_are_merged(rt: HostRuntime) -> Result<(), Fail> {
-    follow_in(&rt, "merged", MERGED)
+    follow_in(&rt, &Tape, "merged", MERGED)
 }
 
 const CONVERTED: &str = "
@@ -148,7 +149,7 @@ const CONVERTED: &str = "
 
 #[test]
 fn images_are_converted(rt: HostRuntime) -> Result<(), Fail> {
-    follow_in(&rt, "converted", CONVERTED)
+    follow_in(&rt, &Tape, "converted", CONVERTED)
 }
 
 const WRITTEN: &str = "
@@ -262,5 +263,5 @@ const WRITTEN: &str = "
 
 #[test]
 fn volumes_are_written(rt: HostRuntime) -> Result<(), Fail> {
-    follow_in(&rt, "written", WRITTEN)
+    follow_in(&rt, &Tape, "written", WRITTEN)
 }

@@ -14,6 +14,8 @@ mod normal_form;
 #[cfg(test)]
 mod record_program;
 #[cfg(test)]
+mod tape;
+#[cfg(test)]
 mod unpack_program;
 #[cfg(test)]
 mod verify_program;

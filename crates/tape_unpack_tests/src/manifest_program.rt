@@ -1,5 +1,6 @@
 //! Tests of `unpack --manifest` and `unpack --verify`. In the scripts `@` and a letter represent
 //! a checksum.
+use crate::tape::Tape;
 use std::alloc::{AllocError, Global};
 use std::test::Fail;
 use tape_tool_calls::follow_in;
@@ -112,7 +113,12 @@ const LISTED: &str = "
 
 #[test]
 fn checksums_are_listed(rt: HostRuntime) -> Result<(), Fail> {
-    follow_in(&rt, "listed_files", with_sums(rt.alloc(), LISTED)?.as_str())
+    follow_in(
+        &rt,
+        &Tape,
+        "listed_files",
+        with_sums(rt.alloc(), LISTED)?.as_str(),
+    )
 }
 
 const KEPT: &str = "
@@ -207,5 +213,10 @@ const KEPT: &str = "
 
 #[test]
 fn lists_are_kept(rt: HostRuntime) -> Result<(), Fail> {
-    follow_in(&rt, "kept_lists", with_sums(rt.alloc(), KEPT)?.as_str())
+    follow_in(
+        &rt,
+        &Tape,
+        "kept_lists",
+        with_sums(rt.alloc(), KEPT)?.as_str(),
+    )
 }

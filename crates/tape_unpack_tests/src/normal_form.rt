@@ -1,5 +1,6 @@
 //! Tests of tapes that are not written as the standard would have them: which commands read them,
 //! and what they say.
+use crate::tape::Tape;
 use std::test::Fail;
 use tape_tool_calls::follow_in;
 
@@ -121,10 +122,10 @@ const UNCOUNTED: &str = "
 
 #[test]
 fn blocks_that_are_not_counted_are_reported(rt: HostRuntime) -> Result<(), Fail> {
-    follow_in(&rt, "not_counted", UNCOUNTED)
+    follow_in(&rt, &Tape, "not_counted", UNCOUNTED)
 }
 
 #[test]
 fn tapes_of_other_systems_are_read(rt: HostRuntime) -> Result<(), Fail> {
-    follow_in(&rt, "normal_form", READ)
+    follow_in(&rt, &Tape, "normal_form", READ)
 }

@@ -1,4 +1,5 @@
 //! Tests of the record of files: `MANIFEST.jsonl` of `unpack --manifest`.
+use crate::tape::Tape;
 use std::test::Fail;
 use tape_tool_calls::follow_in;
 
@@ -130,7 +131,7 @@ const RECORDED: &str = "
 
 #[test]
 fn files_are_recorded(rt: HostRuntime) -> Result<(), Fail> {
-    follow_in(&rt, "recorded_files", RECORDED)
+    follow_in(&rt, &Tape, "recorded_files", RECORDED)
 }
 
 const KEPT: &str = "
@@ -171,7 +172,7 @@ const KEPT: &str = "
 
 #[test]
 fn records_are_kept(rt: HostRuntime) -> Result<(), Fail> {
-    follow_in(&rt, "kept_records", KEPT)
+    follow_in(&rt, &Tape, "kept_records", KEPT)
 }
 
 const ONE_OUTPUT: &str = "
@@ -268,5 +269,5 @@ const ONE_OUTPUT: &str = "
 
 #[test]
 fn one_output_is_recorded(rt: HostRuntime) -> Result<(), Fail> {
-    follow_in(&rt, "one_output", ONE_OUTPUT)
+    follow_in(&rt, &Tape, "one_output", ONE_OUTPUT)
 }

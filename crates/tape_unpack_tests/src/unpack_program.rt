@@ -1,4 +1,5 @@
 //! Tests of `unpack` and `salvage`.
+use crate::tape::Tape;
 use std::io::Write;
 use std::test::Fail;
 use tape_tool::LastLine;
@@ -203,7 +204,7 @@ const UNPACKED: &str = "
 
 #[test]
 fn every_file_is_unpacked(rt: HostRuntime) -> Result<(), Fail> {
-    follow_in(&rt, "unpacked_files", UNPACKED)
+    follow_in(&rt, &Tape, "unpacked_files", UNPACKED)
 }
 
 /// The line that is remembered is not truncated.
@@ -295,7 +296,7 @@ const CHOSEN: &str = "
 
 #[test]
 fn files_are_chosen(rt: HostRuntime) -> Result<(), Fail> {
-    follow_in(&rt, "chosen_files", CHOSEN)
+    follow_in(&rt, &Tape, "chosen_files", CHOSEN)
 }
 
 const SALVAGED: &str = "
@@ -345,5 +346,5 @@ const SALVAGED: &str = "
 
 #[test]
 fn files_are_salvaged(rt: HostRuntime) -> Result<(), Fail> {
-    follow_in(&rt, "salvaged_files", SALVAGED)
+    follow_in(&rt, &Tape, "salvaged_files", SALVAGED)
 }

@@ -1,4 +1,5 @@
 //! Tests of `unpack --form auto`, of `unpack --verify` with images, and of what killed runs left.
+use crate::tape::Tape;
 use std::test::Fail;
 use tape_tool_calls::follow_in;
 
@@ -53,7 +54,7 @@ const CHOSEN: &str = "
 
 #[test]
 fn forms_are_chosen(rt: HostRuntime) -> Result<(), Fail> {
-    follow_in(&rt, "chosen_forms", CHOSEN)
+    follow_in(&rt, &Tape, "chosen_forms", CHOSEN)
 }
 
 const VERIFIED: &str = "
@@ -122,7 +123,7 @@ const VERIFIED: &str = "
 
 #[test]
 fn images_are_verified(rt: HostRuntime) -> Result<(), Fail> {
-    follow_in(&rt, "verified_images", VERIFIED)
+    follow_in(&rt, &Tape, "verified_images", VERIFIED)
 }
 
 const LEFT: &str = "
@@ -169,5 +170,5 @@ const LEFT: &str = "
 
 #[test]
 fn remains_are_removed(rt: HostRuntime) -> Result<(), Fail> {
-    follow_in(&rt, "removed_remains", LEFT)
+    follow_in(&rt, &Tape, "removed_remains", LEFT)
 }
