@@ -2,7 +2,7 @@
 use Rattle.std.proofs.Common.{◌≡◌, ℕ, List, [], ◌++◌, length, map, Bool, false, sym, ap, ◌∙◌, arith}
 use Rattle.std.proofs.{Common.codes, Common.Ok, lemmas.List.length-map}
 use Rattle.tape_tool.specs.Names.{names_in}
-use Rattle.tape_tool.proofs.images.all_names.Reads as all_names
+use Rattle.tape_tool.proofs.names.all_names.Reads as all_names
 
 -- the names in these arguments, and in a list of lines with this text
 named : (names words known : List (List ℕ)) (null : Bool) (text lines : List ℕ)

@@ -3,8 +3,9 @@
 use crate::command_spec::{CommandSpec, Kind, Word};
 use crate::explain::FaultSite;
 use crate::help;
-use crate::images::{Images, Named, names_of};
+use crate::images::Images;
 use crate::json_rows::{Column, JsonRows, RowKind, RowTable, Shape, Span};
+use crate::names::{Named, names_of};
 use crate::normal::NormalImages;
 use crate::program::{End, check_end};
 use crate::refusal::Refusal;

@@ -7,10 +7,10 @@ use crate::command_spec::{CommandSpec, check_numbers, command_of, mistake, wrong
 use crate::convert::{CONVERT, ConvertOrder, convert_order};
 use crate::extract::{EXTRACT, ExtractOrder, extract_order};
 use crate::help;
-use crate::images::Named;
 use crate::init::{INIT, InitOrder, init_order};
 use crate::list::{LIST, ListOrder, list_order};
 use crate::merge::{COMPARE, MERGE, MergeOrder, compare_order, merge_order};
+use crate::names::Named;
 use crate::refusal::Refusal;
 use crate::salvage::{SALVAGE, SalvageOrder, salvage_order};
 use crate::show::{SHOW, ShowOrder, show_order};
@@ -174,7 +174,7 @@ pub fn error_in(alloc: Global, spec: &CommandSpec, value: &str, refusal: Refusal
     }
 }
 
-/// Returns the description of command `name`, or that of the program if there is none.
+/// Returns the description of command `name`, or that of the program if no command has it.
 fn spec_of(name: &str) -> &'static CommandSpec {
     match name {
         "list" => LIST,

@@ -6,7 +6,7 @@ mod missing;
 use crate::fault::{
     FaultLine, FileFault, OUT_OF_MEMORY, ToolFault, number_of_file, number_of_write,
 };
-use crate::images::ImageName;
+use crate::names::ImageName;
 use crate::screen::Progress;
 use crate::shown::Shown;
 use crate::write::failed::OddRecord;

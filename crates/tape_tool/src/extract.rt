@@ -10,7 +10,8 @@ use crate::dates::date_output;
 use crate::explain::FaultSite;
 use crate::fault::ToolFault;
 use crate::help;
-use crate::images::{Images, Named, in_reading_order, names_of, place_of};
+use crate::images::{Images, in_reading_order, place_of};
+use crate::names::{Named, names_of};
 use crate::normal::NormalImages;
 use crate::program::End;
 use crate::recording::{PROVENANCE, ReadImages, new_record, provenance_of, record_extracted};
@@ -24,7 +25,6 @@ use clap::ArgMatches;
 pub use draft::{Draft, no_draft};
 pub use out::{Output, Way, is_one_name, way_to_out};
 pub use recovery::end_as_written;
-use recovery::recover;
 use std::alloc::{AllocError, Global};
 use std::io;
 use tape_blocks::Form;
@@ -171,7 +171,7 @@ fn extract_in_order<'n, 'a, R: Progress>(
         &mut Warned::new(rt.alloc(), task, is_on),
         &mut Warned::new(rt.alloc(), task, is_on),
     );
-    recover(rt, task, images, openers, way, listed, site)
+    recovery::recover(rt, task, images, openers, way, listed, site)
 }
 
 /// How the images of a file are read.
@@ -276,7 +276,7 @@ fn read_planned<'a, R: Progress>(
         images.is_told();
     }
     let openers = (&mut plan.opener, &mut AsTheyAre);
-    recover(rt, task, images, openers, way, listed, site)
+    recovery::recover(rt, task, images, openers, way, listed, site)
 }
 
 /// Returns the names with an empty one, which no file has, for each image that is read only once.

@@ -3,11 +3,13 @@ mod created;
 mod items;
 mod recorded;
 mod recovered;
+mod salvaged;
 
 pub(crate) use created::*;
 pub(crate) use items::*;
 pub(crate) use recorded::*;
 pub(crate) use recovered::*;
+pub(crate) use salvaged::*;
 
 // The program, `list` and `check`: descriptions of arguments and commands.
 pub const ABOUT: &str = "Read and write ANSI-labelled tape volumes (ECMA-13) as SIMH .tap images";

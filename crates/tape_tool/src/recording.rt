@@ -17,7 +17,7 @@ use std::alloc::Global;
 use std::io::Write;
 use std::{fs, io};
 use tape_run::{
-    BlockRun, Content, FileKey, FoundFiles, SalvageTask, find_files, position_of, runs_of,
+    BlockRun, Content, FileKey, FileNote, FoundFiles, SalvageTask, find_files, position_of, runs_of,
 };
 use tape_writer::system::{folder_of, found, name_in_folder};
 
@@ -115,6 +115,17 @@ pub fn record_extracted<R: Progress>(
     Ok(end)
 }
 
+/// Returns the output with this name, and the labels of its file, if some were found.
+fn output_of<'n>(
+    met: &'n FoundFiles,
+    key: FileKey,
+    name: &'n str,
+) -> (RecordedName<'n>, Option<&'n FileNote>) {
+    let note = met.notes.get(&key);
+    let file_id = note.map(|note| note.head.file_id);
+    (RecordedName { name, key, file_id }, note)
+}
+
 /// Adds a complete output with these runs of blocks.
 fn record_complete<R: Progress>(
     rt: &R,
@@ -127,12 +138,9 @@ fn record_complete<R: Progress>(
     let Some(sum) = listed.sum else {
         return Ok(());
     };
-    let (set_id, file, name) = (task.set_id, task.file, task.out);
-    let key = FileKey { set_id, file };
-    let note = images.met.notes.get(&key);
-    let file_id = note.map(|note| note.head.file_id);
-    let output = RecordedName { name, key, file_id };
-    let written = written_at(rt, name, key, form_word(task.form), sum)?;
+    let (set_id, file) = (task.set_id, task.file);
+    let (output, note) = output_of(images.met, FileKey { set_id, file }, task.out);
+    let written = written_at(rt, task.out, output.key, form_word(task.form), sum)?;
     record.add_file(rt.alloc(), &output, written, note)?;
     record.add_runs(rt.host(), images.names, &output, runs)?;
     Ok(())
@@ -151,10 +159,7 @@ fn record_awaited<R: Progress>(
         return Ok(());
     };
     let (set_id, file) = (task.set_id, task.file);
-    let key = FileKey { set_id, file };
-    let note = images.met.notes.get(&key);
-    let file_id = note.map(|note| note.head.file_id);
-    let output = RecordedName { name, key, file_id };
+    let (output, _) = output_of(images.met, FileKey { set_id, file }, name);
     record.add_awaited(rt.host(), images.names, &output, want, runs)?;
     Ok(())
 }
@@ -212,19 +217,12 @@ pub fn record_salvaged<R: Progress, P>(
     }
     let met = find_files(rt.alloc(), &mut NormalImages::again(rt, names))?;
     let (set_id, file) = (task.set_id, task.file);
-    let key = FileKey { set_id, file };
-    let note = met.notes.get(&key);
-    let file_id = note.map(|note| note.head.file_id);
-    let output = RecordedName {
-        name: out,
-        key,
-        file_id,
-    };
+    let (output, note) = output_of(&met, FileKey { set_id, file }, out);
     let form = match task.content {
         Content::Blocks => "blocks",
         Content::Records => form_word(task.form),
     };
-    let written = written_at(rt, out, key, form, sum)?;
+    let written = written_at(rt, out, output.key, form, sum)?;
     if end == End::Done {
         record.add_file(rt.alloc(), &output, written, note)?;
     } else {

@@ -5,7 +5,7 @@ use crate::dates::date_output;
 use crate::explain::FaultSite;
 use crate::extract::{Draft, no_draft};
 use crate::help;
-use crate::images::{Named, names_of};
+use crate::names::{Named, names_of};
 use crate::normal::NormalImages;
 use crate::program::{End, check_end};
 use crate::recording::{PROVENANCE, RecordedReport, new_record, provenance_of, record_salvaged};

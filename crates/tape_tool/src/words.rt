@@ -5,7 +5,7 @@ ghost use Rattle.tape_tool.specs.Words.{IsNoSet, padded_set};
 
 use crate::command_spec::{Kind, Word};
 use crate::help;
-use crate::images::{List, Named};
+use crate::names::{List, Named};
 use crate::refusal::Refusal;
 use clap::ArgMatches;
 use std::alloc::Global;

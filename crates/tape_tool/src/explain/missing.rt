@@ -2,7 +2,8 @@
 use super::container::name_unread;
 use super::{FaultSite, NEVER};
 use crate::command_line::Order;
-use crate::images::{Images, names_of};
+use crate::images::Images;
+use crate::names::names_of;
 use crate::normal::NormalImages;
 use crate::refusal::are_files;
 use crate::screen::Progress;

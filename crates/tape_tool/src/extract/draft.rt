@@ -5,7 +5,7 @@ ghost use Rattle.tape_tool.specs.Guards.{is_written_in_place};
 
 use crate::fault::{FileFault, OUT_OF_MEMORY, ToolFault};
 use crate::help;
-use crate::images::List;
+use crate::names::List;
 use crate::program::End;
 use crate::refusal::{FileId, Refusal, Taking, remove, way_to_take};
 use crate::screen::{Host, Progress};

@@ -4,7 +4,7 @@
 use super::draft::{Draft, HELD, no_draft};
 use crate::fault::{FileFault, OUT_OF_MEMORY, ToolFault};
 use crate::help;
-use crate::images::List;
+use crate::names::List;
 use crate::program::End;
 use crate::refusal::{FileId, Refusal, is_file, open, same_file};
 use crate::screen::{Host, Progress};

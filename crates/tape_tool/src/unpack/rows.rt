@@ -181,8 +181,11 @@ pub fn recorded_file(
     add_head(&mut writer, note.map(|note| &note.head))?;
     add_form(&mut writer, note.and_then(|note| note.form))?;
     add_text(&mut writer, "form", written.form)?;
-    let is_counted = JsonCell::Flag(written.blocks_counted);
-    add_member(&mut writer, "blocks_counted", is_counted)?;
+    add_member(
+        &mut writer,
+        "blocks_counted",
+        JsonCell::Flag(written.blocks_counted),
+    )?;
     add_sum(alloc, &mut writer, written.size, &written.sum)?;
     add_program(&mut writer, build)?;
     ended(writer)
@@ -261,8 +264,11 @@ pub fn salvaged_file(
     let mut writer = begun(alloc, "SALVAGED")?;
     add_names(&mut writer, output)?;
     add_text(&mut writer, "form", written.form)?;
-    let is_counted = JsonCell::Flag(written.blocks_counted);
-    add_member(&mut writer, "blocks_counted", is_counted)?;
+    add_member(
+        &mut writer,
+        "blocks_counted",
+        JsonCell::Flag(written.blocks_counted),
+    )?;
     let gaps = match gaps {
         Some(gaps) => JsonCell::Text(gaps),
         None => JsonCell::Null,

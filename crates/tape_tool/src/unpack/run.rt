@@ -12,7 +12,7 @@ use crate::explain::FaultSite;
 use crate::extract::no_draft;
 use crate::fault::{FileFault, OUT_OF_MEMORY, ToolFault};
 use crate::help;
-use crate::images::names_of;
+use crate::names::names_of;
 use crate::normal::{Normal, NormalImages};
 use crate::program::{End, check_end};
 use crate::refusal::{Refusal, no_pipes};

@@ -2,7 +2,7 @@ use Rattle.std.proofs.lemmas.Iterator.Consumers.{YieldsList-end}
 use Rattle.std.proofs.lemmas.Iterator.Splits.{YieldsList-from_str_split}
 use Rattle.tape_tool.specs.Names.{end_byte}
 use Rattle.tape_tool.proofs.ListedNames.{all_named, end_is_low}
-use Rattle.tape_tool.proofs.images.all_names.Goals as goal
+use Rattle.tape_tool.proofs.names.all_names.Goals as goal
 
 pub returns : goal.returns
 returns c =

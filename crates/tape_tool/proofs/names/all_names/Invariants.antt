@@ -1,6 +1,6 @@
 use Rattle.std.proofs.Common.{◌≡◌, ◌++◌, filter}
 use Rattle.tape_tool.specs.Names.{is_name}
-use Rattle.tape_tool.proofs.images.all_names.Given as goal
+use Rattle.tape_tool.proofs.names.all_names.Given as goal
 
 abbrev pub invariant-loop-piece : goal.invariant-loop-piece
 invariant-loop-piece l = l.names.items
