@@ -4,10 +4,10 @@
     trials/containers.py PROGRAM IMAGES [SEED] [--plant FAULT]
 
 A labelled tape of three files, with blocks of even and odd length, unreadable blocks and gaps, is
-drawn for each image from its own seed and encoded as AWS, E11, SIMH's extended format (with
-descriptions, private records, markers, half gaps and bad records of length 0) or plain SIMH. Half
-of the images then get up to three mutations: bytes or words are changed, removed or put in, or the
-image is cut.
+drawn for each image from its own seed and encoded as AWS (some blocks in several chunks), E11,
+SIMH's extended format (with descriptions, private records, markers, half gaps and bad records of
+length 0) or plain SIMH. Half of the images then get up to three mutations: bytes or words are
+changed, removed or put in, or the image is cut.
 
 The model, written from docs/FORMATS.md, recognises the format and reads the items. Where it reads
 an image to its end, `convert` must create an image of exactly these items, as tape_model.py reads
@@ -34,7 +34,7 @@ from common import Results
 from tape_model import BAD, MARK, encoded, word
 
 FRONT = 36_864
-AWS_MARK, AWS_BLOCK = 0x40, 0xA0
+AWS_BEGIN, AWS_MARK, AWS_END = 0x80, 0x40, 0x20
 BAD_WORD, HALF_GAP = 0x80000000, 0xFFFEFFFF
 
 
@@ -170,17 +170,27 @@ def extended_items(data):
 
 
 def aws_items(data):
-    at, before = 0, 0
+    at, before, block_bytes = 0, 0, None  # the bytes of a block that continues
     while at < len(data):
         length, previous, flags = (number(data, at + each, 2) for each in (0, 2, 4))
-        if data[at:at + 6] == bytes(6):
+        if block_bytes is None and data[at:at + 6] == bytes(6):
             return
-        is_mark, is_block = flags == AWS_MARK and not length, flags == AWS_BLOCK and length
-        if at + 6 + length > len(data) or previous != before or not (is_mark or is_block):
+        begins = AWS_BEGIN if block_bytes is None else 0
+        is_mark = flags == AWS_MARK and not length and block_bytes is None
+        is_chunk = flags & ~AWS_END == begins and length
+        if at + 6 + length > len(data) or previous != before or not (is_mark or is_chunk):
             yield None
             return
-        yield MARK if is_mark else ("block", data[at + 6:at + 6 + length])
         at, before = at + 6 + length, length
+        if is_mark:
+            yield MARK
+            continue
+        block_bytes = (block_bytes or b"") + data[at - length:at]
+        if flags & AWS_END:
+            yield BAD if len(block_bytes) > model.LONGEST else ("block", block_bytes)
+            block_bytes = None
+    if block_bytes is not None:
+        yield None
 
 
 def items_in(kind, data):
@@ -205,18 +215,9 @@ def simh_image(image):
 
 
 def encoding(kind, data, at, before):
-    """What stands for an encoding, where the next one is, and the length of an AWS block."""
+    """What stands for an encoding, where the next one is, and the length of the last AWS chunk."""
     if kind == "aws":
-        length, previous, flags = (number(data, at + each, 2) for each in (0, 2, 4))
-        if data[at:at + 6] == bytes(6):
-            return b"", None, 0
-        content = data[at + 6:at + 6 + length]
-        if previous == before and flags == AWS_MARK and not length:
-            return word(0), at + 6, 0
-        if previous == before and flags == AWS_BLOCK and length:
-            part = word(length) + content + bytes(length % 2) + word(length)
-            return part, at + 6 + len(content), length
-        return word(0x7FFFFFFF), None, 0
+        return aws_encoding(data, at, before)
     lead, size = number(data, at), data[at:at + 4]
     length, rest = lead & 0xFFFFFF, data[at + 4:]
     if lead in (0, model.GAP):
@@ -239,7 +240,45 @@ def encoding(kind, data, at, before):
     return b"", at + 8 + end, 0
 
 
+def aws_encoding(data, at, before):
+    """What stands for a mark or a block, where the next header is, and the length of the chunk."""
+    if data[at:at + 6] == bytes(6):
+        return b"", None, 0
+    content, begins, first = b"", AWS_BEGIN, at
+    while len(data) - at >= 6:
+        length, previous, flags = (number(data, at + each, 2) for each in (0, 2, 4))
+        if previous == before and begins and flags == AWS_MARK and not length:
+            return word(0), at + 6, 0
+        if previous != before or flags & ~AWS_END != begins or not length:
+            return word(0x7FFFFFFF), None, 0
+        chunk = data[at + 6:at + 6 + length]
+        content += chunk
+        if at == first and flags & AWS_END:
+            part = word(length) + chunk + bytes(length % 2) + word(length)
+            return part, at + 6 + len(chunk), length
+        if len(chunk) < length:
+            break
+        at, before, begins = at + 6 + length, length, 0
+        if flags & AWS_END:
+            count = len(content)
+            is_long = count > model.LONGEST
+            return encoded(b"\0", flag=BAD_WORD) if is_long else encoded(content), at, length
+    return b"\0", None, 0
+
+
 # ---- images
+
+def chunks_of(rng, content, before):
+    """An AWS block, some in several chunks, and the length of the last."""
+    out, left = bytearray(), content
+    while left or not out:
+        most = rng.randint(1, len(left)) if left and rng.random() < .3 else len(left)
+        flags = (0 if out else AWS_BEGIN) | (AWS_END if most == len(left) else 0)
+        chunk = left[:most]
+        out += bytes([*most.to_bytes(2, "little"), *before.to_bytes(2, "little"), flags, 0]) + chunk
+        left, before = left[most:], most
+    return out, before
+
 
 def tape_of(rng):
     """A volume of three files, as pairs of a kind and bytes; some of its blocks are unreadable."""
@@ -271,9 +310,11 @@ def image_of(rng, kind, items):
     for name, content in items:
         length = len(content or b"")
         if kind == "aws":
-            out += bytes([*length.to_bytes(2, "little"), *before.to_bytes(2, "little"),
-                          AWS_BLOCK if length else AWS_MARK, 0]) + (content or b"")
-            before = length
+            if length:
+                part, before = chunks_of(rng, content, before)
+            else:
+                part, before = bytes([0, 0, *before.to_bytes(2, "little"), AWS_MARK, 0]), 0
+            out += part
             continue
         if kind == "extended" and rng.random() < .2:
             out += extra(rng)

@@ -1,14 +1,15 @@
 -- Bytes begin with at most one encoding of an AWS image, and the laws over all formats.
 use Rattle.std.proofs.Common.{◌≡◌, ℕ, ◌<◌, ◌^◌, List, [], ◌∷◌, ◌++◌, length, drop, refl, sym}
 use Rattle.std.proofs.Common.{ap, subst, ◌∙◌, arith, append_assoc, length-append}
-use Rattle.std.specs.List.{flat_map}
+use Rattle.std.specs.List.{flat_map, AllByRecursion}
+use Rattle.std.proofs.Common.{◌≢◌, ◌+◌}
 use Rattle.byteorder.specs.Endian.{little_number, little_bytes}
 use Rattle.byteorder.specs.Numbers.{little_number-reads_back}
 use Rattle.tape_image.specs.declared.format.ImageFormat.TheVariants as formats
 use Rattle.tape_image.specs.declared.item.Ending.{Ending}
 use Rattle.tape_image.specs.Tape.{TapeItem, block}
-use Rattle.tape_image.specs.Spelling.{Spelling, Spells, EndsHere}
-use Rattle.tape_image.specs.FormatItems.{IsAws, Encoding}
+use Rattle.tape_image.specs.Spelling.{item_of, Spelling, Spells, EndsHere}
+use Rattle.tape_image.specs.FormatItems.{chunk, chunks, IsChunk, joined, last_len, IsAws, Encoding}
 use Rattle.tape_image.specs.FormatItems as encodings
 use Rattle.tape_image.specs.FormatLaws.{ItemsAreUnique, EncodingsAreUnique}
 use Rattle.tape_image.specs.FormatLaws.{NoEncodingBeginsAnother}
@@ -36,28 +37,68 @@ one_header before m n a b x y h k e = (
   ap (drop 6) e,
 )
 
+-- two lists of chunks at the start of the same bytes
+chunks_once : (first before : ℕ) (cs ds : List (List ℕ)) (x y : List ℕ) → cs ≢ [] → ds ≢ []
+    → AllByRecursion IsChunk cs → AllByRecursion IsChunk ds
+    → chunks first before cs ++ x ≡ chunks first before ds ++ y → cs ≡ ds
+chunks_once first before [] ds x y some more are be e = absurd (some refl)
+chunks_once first before (c ∷ cs) [] x y some more are be e = absurd (more refl)
+chunks_once first before (c ∷ []) (d ∷ []) x y some more ((s, few), _) ((t, less), _) e =
+    let one = one_header before (length c) (length d) (first + 0x20) (first + 0x20) (c ++ x)
+    (d ++ y) few less e in
+    ap (λ (l : List ℕ). l ∷ []) (same_front c d x y one.0 one.2)
+chunks_once first before (c ∷ []) (d ∷ f ∷ ds) x y some more ((s, few), _) ((t, less), _) e =
+    let one = one_header before (length c) (length d) (first + 0x20) first (c ++ x)
+    ((d ++ chunks 0 (length d) (f ∷ ds)) ++ y) few less e in
+    absurd (omega (arith, one.1))
+chunks_once first before (c ∷ g ∷ cs) (d ∷ []) x y some more ((s, few), _) ((t, less), _) e =
+    let one = one_header before (length c) (length d) first (first + 0x20)
+    ((c ++ chunks 0 (length c) (g ∷ cs)) ++ x) (d ++ y) few less e in
+    absurd (omega (arith, one.1))
+chunks_once first before (c ∷ g ∷ cs) (d ∷ f ∷ ds) x y some more ((s, few), are) ((t, less), be) e =
+    let one = one_header before (length c) (length d) first first
+    ((c ++ chunks 0 (length c) (g ∷ cs)) ++ x) ((d ++ chunks 0 (length d) (f ∷ ds)) ++ y) few less
+    e in
+    let parts = sym (append_assoc c (chunks 0 (length c) (g ∷ cs)) x) ∙ one.2
+    ∙ append_assoc d (chunks 0 (length d) (f ∷ ds)) y in
+    let front = same_front c d _ _ one.0 parts in
+    let behind = same_back c d _ _ one.0 parts in
+    let next = chunks_once 0 (length c) (g ∷ cs) (f ∷ ds) x y (λ z. absurd (cc z))
+    (λ z. absurd (cc z)) are be
+    (behind ∙ ap (λ (n : ℕ). chunks 0 n (f ∷ ds) ++ y) (sym one.0)) in
+    cc (front, next)
+
+-- a mark is no block
+mark_apart : (before : ℕ) (cs : List (List ℕ)) (x y : List ℕ) → cs ≢ []
+    → AllByRecursion IsChunk cs → chunk 0x40 before [] ++ x ≡ chunks 0x80 before cs ++ y → ⊥
+mark_apart before [] x y some are e = some refl
+mark_apart before (c ∷ []) x y some ((s, few), _) e =
+    let one = one_header before 0 (length c) 0x40 0xA0 x (c ++ y) (omega arith) few e in
+    omega (arith, one.1)
+mark_apart before (c ∷ d ∷ cs) x y some ((s, few), _) e =
+    let one = one_header before 0 (length c) 0x40 0x80 x
+    ((c ++ chunks 0 (length c) (d ∷ cs)) ++ y) (omega arith) few e in
+    omega (arith, one.1)
+
 one_aws : (before : ℕ) (s t x y : List ℕ) (g h : List TapeItem) (m n : ℕ) → IsAws before s g m
     → IsAws before t h n → s ++ x ≡ t ++ y → (s ≡ t) × (g ≡ h) × (m ≡ n)
 one_aws before s t x y g h m n (encodings.aws_mark a b c) (encodings.aws_mark d e f) same =
     (a ∙ sym d, b ∙ sym e, c ∙ sym f)
-one_aws before s t x y g h m n (encodings.aws_mark a b c) (encodings.aws_block d some few e f k)
-    same =
-    let one = one_header before 0 (length d) 0x40 0xA0 x (d ++ y) (omega arith) few
-    (ap (λ (l : List ℕ). l ++ x) (sym a) ∙ same ∙ ap (λ (l : List ℕ). l ++ y) e) in
-    absurd (omega (arith, one.1))
-one_aws before s t x y g h m n (encodings.aws_block d some few e f k) (encodings.aws_mark a b c)
-    same =
-    let one = one_header before (length d) 0 0xA0 0x40 (d ++ x) y few (omega arith)
-    (ap (λ (l : List ℕ). l ++ x) (sym e) ∙ same ∙ ap (λ (l : List ℕ). l ++ y) a) in
-    absurd (omega (arith, one.1))
-one_aws before s t x y g h m n (encodings.aws_block c some few a b k)
-    (encodings.aws_block d more less e f l) same =
-    let one = one_header before (length c) (length d) 0xA0 0xA0 (c ++ x) (d ++ y) few less
-    (ap (λ (l : List ℕ). l ++ x) (sym a) ∙ same ∙ ap (λ (l : List ℕ). l ++ y) e) in
-    let content : c ≡ d = same_front c d x y one.0 one.2 in (
-      a ∙ ap (λ (l : List ℕ). header (length l) before 0xA0 l) content ∙ sym e,
-      b ∙ ap (λ (l : List ℕ). block l ∷ []) content ∙ sym f,
-      k ∙ one.0 ∙ sym l,
+one_aws before s t x y g h m n (encodings.aws_mark a b c)
+    (encodings.aws_block ds some are d e f) same =
+    absurd (mark_apart before ds x y some are
+    (ap (λ (l : List ℕ). l ++ x) (sym a) ∙ same ∙ ap (λ (l : List ℕ). l ++ y) d))
+one_aws before s t x y g h m n (encodings.aws_block cs some are a b c)
+    (encodings.aws_mark d e f) same =
+    absurd (mark_apart before cs y x some are
+    (ap (λ (l : List ℕ). l ++ y) (sym d) ∙ sym same ∙ ap (λ (l : List ℕ). l ++ x) a))
+one_aws before s t x y g h m n (encodings.aws_block cs some are a b c)
+    (encodings.aws_block ds more be d e f) same =
+    let one = chunks_once 0x80 before cs ds x y some more are be
+    (ap (λ (l : List ℕ). l ++ x) (sym a) ∙ same ∙ ap (λ (l : List ℕ). l ++ y) d) in (
+      a ∙ ap (chunks 0x80 before) one ∙ sym d,
+      b ∙ ap (λ (l : List (List ℕ)). item_of (length (joined l)) (joined l) ∷ []) one ∙ sym e,
+      c ∙ ap last_len one ∙ sym f,
     )
 
 -- ---- all formats

@@ -16,7 +16,7 @@ use Rattle.tape_image.specs.Tape.{TapeItem, bad, mark}
 use Rattle.tape_image.specs.Word.{IsWord, mark_word, gap_word, end_word, block_len}
 use Rattle.tape_image.specs.Written.{written}
 use Rattle.tape_image.specs.Spelling.{IsSpelling, a_mark, a_gap, a_block, item_of, Leads}
-use Rattle.tape_image.specs.Format.{passed, left_out, instead}
+use Rattle.tape_image.specs.Format.{Before, after, passed, left_out, instead}
 use Rattle.tape_image.specs.Format.{class_step, extended_block, looked, bytes_after}
 use Rattle.tape_image.specs.FormatItems.{IsBare, IsE11, e11_mark, e11_gap, IsOther, IsMarker}
 use Rattle.tape_image.specs.FormatItems.{Encoding, IsEncoding, bytes_of, AreEncodings, EndsImage}
@@ -35,13 +35,13 @@ pub passed_all : (body rest : List ℕ) (n : ℕ) (f : List ℕ → List ℕ) �
     ≡ body ++ f rest
 passed_all body rest n f e = rw (take_at body rest n e, drop_at body rest n e) refl
 
-pub block_leads : (before w : ℕ) (content lead pad trail rest : List ℕ) → IsWord lead w
+pub block_leads : (before : Before) (w : ℕ) (content lead pad trail rest : List ℕ) → IsWord lead w
     → IsWord trail w → length pad ≡ length content % 2 → block_len w ≡ Some (length content)
     → Leads (bytes_after formats.Extended before
     (lead ++ ((content ++ (pad ++ trail)) ++ rest)))
-    (item_of w content ∷ []) (bytes_after formats.Extended 0 rest)
+    (item_of w content ∷ []) (bytes_after formats.Extended (after 0) rest)
 block_leads before w content lead pad trail rest a b p n =
-    let f : List ℕ → List ℕ = bytes_after formats.Extended 0 in
+    let f : List ℕ → List ℕ = bytes_after formats.Extended (after 0) in
     let m = length content in
     let body = content ++ (pad ++ trail) in
     let size : length body ≡ m + m % 2 + 4 =
@@ -124,7 +124,7 @@ marker_class w (inr (e, end, gap, half)) =
     (omega (arith, e), λ z. absurd (omega (arith, z, e)))
 
 -- a word that begins no block is looked at by its class
-pub class_looked : (before : ℕ) (lead ys : List ℕ) (w : ℕ) → IsWord lead w → block_len w ≡ None
+pub class_looked : (before : Before) (lead ys : List ℕ) (w : ℕ) → IsWord lead w → block_len w ≡ None
     → looked formats.Extended before (lead ++ ys) ≡ class_step w (take 4 ys)
 class_looked before lead ys w is none =
     extended_looked before lead ys w is ∙ ap (λ o. extended_block w o (take 4 ys)) none
@@ -139,13 +139,14 @@ left_is n w front trail rest f e is =
     is_word (little_number 4 (trail ++ rest)) w (word_in_front trail rest w is) in
     rw (drop_at front (trail ++ rest) n e, long, same) (ap f (drop_at trail rest 4 is.four))
 
-pub record_leads : (before w : ℕ) (content lead pad trail rest : List ℕ) → IsOther w
+pub record_leads : (before : Before) (w : ℕ) (content lead pad trail rest : List ℕ) → IsOther w
     → length content ≡ w % 2 ^ 28 → length pad ≡ length content % 2 → IsWord lead w
     → IsWord trail w
     → Leads (bytes_after formats.Extended before
-    (lead ++ ((content ++ pad) ++ (trail ++ rest)))) [] (bytes_after formats.Extended 0 rest)
+    (lead ++ ((content ++ pad) ++ (trail ++ rest)))) [] (bytes_after formats.Extended
+    (after 0) rest)
 record_leads before w content lead pad trail rest h size p a b =
-    let f : List ℕ → List ℕ = bytes_after formats.Extended 0 in
+    let f : List ℕ → List ℕ = bytes_after formats.Extended (after 0) in
     let n = w % 2 ^ 28 + w % 2 ^ 28 % 2 in
     let ys = (content ++ pad) ++ (trail ++ rest) in
     nothing_by _ (f rest)
@@ -156,18 +157,18 @@ record_leads before w content lead pad trail rest h size p a b =
     (omega (arith, length-append content pad, p, size)) b)
 
 -- nothing stands for the bytes
-pub none_leads : (before : ℕ) (bytes rest : List ℕ) (n : ℕ) → length bytes ≡ n
+pub none_leads : (before : Before) (bytes rest : List ℕ) (n : ℕ) → length bytes ≡ n
     → looked formats.Extended before (bytes ++ rest) ≡ instead pieces.Nothing n
     → Leads (bytes_after formats.Extended before (bytes ++ rest)) []
-    (bytes_after formats.Extended 0 rest)
+    (bytes_after formats.Extended (after 0) rest)
 none_leads before bytes rest n e is =
     nothing_by _ _ (instead_is formats.Extended before bytes rest pieces.Nothing n e is)
 
 -- a bad block stands for the bytes
-pub bad_leads : (before : ℕ) (bytes rest : List ℕ) (n : ℕ) → length bytes ≡ n
+pub bad_leads : (before : Before) (bytes rest : List ℕ) (n : ℕ) → length bytes ≡ n
     → looked formats.Extended before (bytes ++ rest) ≡ instead pieces.Bad n
     → Leads (bytes_after formats.Extended before (bytes ++ rest)) (bad ∷ [])
-    (bytes_after formats.Extended 0 rest)
+    (bytes_after formats.Extended (after 0) rest)
 bad_leads before bytes rest n e is =
     leads_by _ (written bad) _ (bad ∷ []) bad_spelled
     (instead_is formats.Extended before bytes rest pieces.Bad n e is)
@@ -207,18 +208,19 @@ framed a b c d r =
     ∙ ap (λ (l : List ℕ). a ++ l) (append_assoc (b ++ c) d r)
 
 -- the same encoding of other items
-module _ (format : ImageFormat) (before : ℕ) (rest : List ℕ) where
+module _ (format : ImageFormat) (before : Before) (rest : List ℕ) where
   moved : (xs ys : List ℕ) (given : List TapeItem) → xs ≡ ys
-      → Leads (bytes_after format before ys) given (bytes_after format 0 rest)
-      → Leads (bytes_after format before xs) given (bytes_after format 0 rest)
+      → Leads (bytes_after format before ys) given (bytes_after format (after 0) rest)
+      → Leads (bytes_after format before xs) given (bytes_after format (after 0) rest)
   moved xs ys given e h = subst
-      (λ (l : List ℕ). Leads (bytes_after format before l) given (bytes_after format 0 rest))
+      (λ (l : List ℕ). Leads (bytes_after format before l) given (bytes_after format
+      (after 0) rest))
       (sym e) h
 
-pub standard_leads : (before : ℕ) (bytes rest : List ℕ) (given : List TapeItem)
+pub standard_leads : (before : Before) (bytes rest : List ℕ) (given : List TapeItem)
     → IsSpelling bytes given
     → Leads (bytes_after formats.Extended before (bytes ++ rest)) given
-    (bytes_after formats.Extended 0 rest)
+    (bytes_after formats.Extended (after 0) rest)
 standard_leads before bytes rest given (a_mark is e) =
     rw (e) (alone_leads formats.Extended before bytes rest mark_word (mark ∷ []) is.four
     (extended_looked before bytes rest mark_word is) mark_there)
@@ -232,10 +234,10 @@ standard_leads before bytes rest given (a_block w content n f e) =
     ∙ append_assoc f.lead (content ++ (f.pad ++ f.trail)) rest)
     (block_leads before w content f.lead f.pad f.trail rest f.lead_is f.trail_is f.pad_is n))
 
-pub extended_leads : (before : ℕ) (bytes rest : List ℕ) (given : List TapeItem)
+pub extended_leads : (before : Before) (bytes rest : List ℕ) (given : List TapeItem)
     → encodings.IsExtended bytes rest given
     → Leads (bytes_after formats.Extended before (bytes ++ rest)) given
-    (bytes_after formats.Extended 0 rest)
+    (bytes_after formats.Extended (after 0) rest)
 extended_leads before bytes rest given (encodings.standard_item is) =
     standard_leads before bytes rest given is
 extended_leads before bytes rest given (encodings.other_record w content h size f e) =

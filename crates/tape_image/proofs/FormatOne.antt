@@ -10,11 +10,11 @@ use Rattle.tape_image.specs.declared.format.ImageFormat.TheVariants as formats
 use Rattle.tape_image.specs.declared.format.step.Piece.{Piece}
 use Rattle.tape_image.specs.declared.format.step.Piece.TheVariants as pieces
 use Rattle.tape_image.specs.declared.format.step.Step.{Step}
-use Rattle.tape_image.specs.declared.format.step.Step.TheVariants.{Stop, Give, Leave}
+use Rattle.tape_image.specs.declared.format.step.Step.TheVariants.{Stop, Give, Leave, Keep}
 use Rattle.tape_image.specs.Tape.{TapeItem, bad, mark}
 use Rattle.tape_image.specs.Word.{IsWord, mark_word, gap_word, end_word, block_len}
 use Rattle.tape_image.specs.Spelling.{a_mark, a_gap, a_block, item_of}
-use Rattle.tape_image.specs.Format.{instead, extended_block, e11_block, looked}
+use Rattle.tape_image.specs.Format.{after, instead, extended_block, e11_block, looked}
 use Rattle.tape_image.specs.FormatItems.{IsBare, IsE11, IsExtended}
 use Rattle.tape_image.specs.FormatItems as encodings
 use Rattle.tape_image.proofs.Spellings.{framed_long}
@@ -32,6 +32,7 @@ abbrev size_of : Step → ℕ
 size_of (Stop piece) = 0
 size_of (Give g) = g.taken + (g.passed.count + g.passed.last)
 size_of (Leave n w) = 4 + (n + 4)
+size_of (Keep c) = 0
 
 abbrev by_word : ℕ → Option ℕ → List ℕ → List TapeItem
 by_word w None xs = if w == mark_word then mark ∷ [] else []
@@ -48,13 +49,14 @@ abbrev items_of : Step → List ℕ → List TapeItem
 items_of (Stop piece) xs = []
 items_of (Give g) xs = by_piece g.front xs
 items_of (Leave n w) xs = []
+items_of (Keep c) xs = []
 
 record Seen (format : ImageFormat) (xs s : List ℕ) (given : List TapeItem) : Type 0 where
-  size : length s ≡ size_of (looked format 0 xs)
-  items : given ≡ items_of (looked format 0 xs) xs
+  size : length s ≡ size_of (looked format (after 0) xs)
+  items : given ≡ items_of (looked format (after 0) xs) xs
 
 seen_by : (format : ImageFormat) (xs s : List ℕ) (given : List TapeItem) (st : Step)
-    → looked format 0 xs ≡ st → length s ≡ size_of st → given ≡ items_of st xs
+    → looked format (after 0) xs ≡ st → length s ≡ size_of st → given ≡ items_of st xs
     → Seen format xs s given
 seen_by format xs s given st is a b = record {
   size = a ∙ ap size_of (sym is);
@@ -66,10 +68,10 @@ seen_one : (format : ImageFormat) (s t x y : List ℕ) (g h : List TapeItem)
     → Seen format (s ++ x) s g → Seen format (t ++ y) t h → s ++ x ≡ t ++ y → (s ≡ t) × (g ≡ h)
 seen_one format s t x y g h a b e =
     let n : length s ≡ length t =
-    a.size ∙ ap (λ l. size_of (looked format 0 l)) e ∙ sym b.size in (
+    a.size ∙ ap (λ l. size_of (looked format (after 0) l)) e ∙ sym b.size in (
       sym (take_at s x (length s) refl) ∙ ap (λ (l : List ℕ). take (length s) l) e
           ∙ take_at t y (length s) (sym n),
-      a.items ∙ ap (λ l. items_of (looked format 0 l) l) e ∙ sym b.items,
+      a.items ∙ ap (λ l. items_of (looked format (after 0) l) l) e ∙ sym b.items,
     )
 
 -- the content of a block
@@ -92,9 +94,11 @@ block_items w lead content behind xs four n e =
 extended_seen : (s rest : List ℕ) (given : List TapeItem) → IsExtended s rest given
     → Seen formats.Extended (s ++ rest) s given
 extended_seen s rest given (encodings.standard_item (a_mark is e)) =
-    seen_by formats.Extended (s ++ rest) s given _ (extended_looked 0 s rest mark_word is) is.four e
+    seen_by formats.Extended (s ++ rest) s given _ (extended_looked
+    (after 0) s rest mark_word is) is.four e
 extended_seen s rest given (encodings.standard_item (a_gap is e)) =
-    seen_by formats.Extended (s ++ rest) s given _ (extended_looked 0 s rest gap_word is) is.four e
+    seen_by formats.Extended (s ++ rest) s given _ (extended_looked
+    (after 0) s rest gap_word is) is.four e
 extended_seen s rest given (encodings.standard_item (a_block w content n f e)) =
     let m = length content in
     let whole : s ++ rest ≡ f.lead ++ ((content ++ (f.pad ++ f.trail)) ++ rest) =
@@ -104,8 +108,8 @@ extended_seen s rest given (encodings.standard_item (a_block w content n f e)) =
     whole ∙ ap (λ (l : List ℕ). f.lead ++ l) (append_assoc content (f.pad ++ f.trail) rest) in
     seen_by formats.Extended (s ++ rest) s given
     (extended_block w (Some m) (take 4 ((content ++ (f.pad ++ f.trail)) ++ rest)))
-    (ap (looked formats.Extended 0) whole
-    ∙ extended_looked 0 f.lead ((content ++ (f.pad ++ f.trail)) ++ rest) w f.lead_is
+    (ap (looked formats.Extended (after 0)) whole
+    ∙ extended_looked (after 0) f.lead ((content ++ (f.pad ++ f.trail)) ++ rest) w f.lead_is
     ∙ ap (λ o. extended_block w o (take 4 ((content ++ (f.pad ++ f.trail)) ++ rest))) n)
     (omega (arith, framed_long s w content f))
     (e ∙ block_items w f.lead content ((f.pad ++ f.trail) ++ rest) (s ++ rest) f.lead_is.four n
@@ -115,34 +119,37 @@ extended_seen s rest given (encodings.other_record w content h size f e) =
     let whole : s ++ rest ≡ f.lead ++ ys =
     ap (λ (l : List ℕ). l ++ rest) f.whole ∙ framed f.lead content f.pad f.trail rest in
     seen_by formats.Extended (s ++ rest) s given (Leave (w % 2 ^ 28 + w % 2 ^ 28 % 2) w)
-    (ap (looked formats.Extended 0) whole
-    ∙ class_looked 0 f.lead ys w f.lead_is (no_block w h.0 h.3) ∙ other_step w (take 4 ys) h)
+    (ap (looked formats.Extended (after 0)) whole
+    ∙ class_looked (after 0) f.lead ys w f.lead_is (no_block w h.0 h.3) ∙ other_step w
+    (take 4 ys) h)
     (omega (arith, framed_long s w content f, size)) e
 extended_seen s rest given (encodings.a_marker w is h e) =
     let class = marker_class w h in
     seen_by formats.Extended (s ++ rest) s given (instead pieces.Nothing 4)
-    (class_looked 0 s rest w is (no_block w class.0 class.1) ∙ marker_step w (take 4 rest) h)
+    (class_looked (after 0) s rest w is (no_block w class.0 class.1) ∙ marker_step w
+    (take 4 rest) h)
     is.four e
 extended_seen s rest given (encodings.bad_word is h e) =
     seen_by formats.Extended (s ++ rest) s given (instead pieces.Bad 4)
-    (class_looked 0 s rest 0x80000000 is refl
+    (class_looked (after 0) s rest 0x80000000 is refl
     ∙ ap (λ (t : Bool). instead pieces.Bad (if t then 8 else 4))
     (no_again (take 4 rest) (omega (arith, length-take 4 rest)) h)) is.four e
 extended_seen s rest given (encodings.bad_words lead trail whole a b e) =
     seen_by formats.Extended (s ++ rest) s given (instead pieces.Bad 8)
-    (ap (λ (l : List ℕ). looked formats.Extended 0 (l ++ rest)) whole
-    ∙ ap (looked formats.Extended 0) (append_assoc lead trail rest)
-    ∙ class_looked 0 lead (trail ++ rest) 0x80000000 a refl
+    (ap (λ (l : List ℕ). looked formats.Extended (after 0) (l ++ rest)) whole
+    ∙ ap (looked formats.Extended (after 0)) (append_assoc lead trail rest)
+    ∙ class_looked (after 0) lead (trail ++ rest) 0x80000000 a refl
     ∙ ap (λ (t : Bool). instead pieces.Bad (if t then 8 else 4)) (again trail rest b))
     (omega (arith, ap length whole, length-append lead trail, a.four, b.four)) e
 extended_seen s rest given (encodings.half_gap is h e) =
     seen_by formats.Extended (s ++ rest) s given (instead pieces.Nothing 4)
-    (class_looked 0 s rest 0xFFFEFFFF is refl
+    (class_looked (after 0) s rest 0xFFFEFFFF is refl
     ∙ ap (λ (t : Bool). instead pieces.Nothing (if t then 2 else 4)) (starts_same rest ∙ h))
     is.four e
 extended_seen s rest given (encodings.gap_behind more whole behind e) =
     seen_by formats.Extended (s ++ rest) s given (instead pieces.Nothing 2)
-    (rw (whole, behind) (class_looked 0 (255 ∷ 255 ∷ 254 ∷ 255 ∷ []) (255 ∷ 255 ∷ more) 0xFFFEFFFF
+    (rw (whole, behind) (class_looked (after 0) (255 ∷ 255 ∷ 254 ∷ 255 ∷ [])
+    (255 ∷ 255 ∷ more) 0xFFFEFFFF
     (record { four = refl; value = refl }) refl))
     (ap length whole) e
 
@@ -167,15 +174,15 @@ bare_long s w content f = omega (
 e11_seen : (s rest : List ℕ) (given : List TapeItem) → IsE11 s given
     → Seen formats.E11 (s ++ rest) s given
 e11_seen s rest given (encodings.e11_mark is e) =
-    seen_by formats.E11 (s ++ rest) s given _ (e11_looked 0 s rest mark_word is) is.four e
+    seen_by formats.E11 (s ++ rest) s given _ (e11_looked (after 0) s rest mark_word is) is.four e
 e11_seen s rest given (encodings.e11_gap is e) =
-    seen_by formats.E11 (s ++ rest) s given _ (e11_looked 0 s rest gap_word is) is.four e
+    seen_by formats.E11 (s ++ rest) s given _ (e11_looked (after 0) s rest gap_word is) is.four e
 e11_seen s rest given (encodings.e11_block w content n f e) =
     let whole : s ++ rest ≡ f.lead ++ (content ++ (f.trail ++ rest)) =
     ap (λ (l : List ℕ). l ++ rest) f.whole ∙ three f.lead content f.trail rest in
     seen_by formats.E11 (s ++ rest) s given (e11_block w (Some (length content)))
-    (ap (looked formats.E11 0) whole
-    ∙ e11_looked 0 f.lead (content ++ (f.trail ++ rest)) w f.lead_is ∙ ap (e11_block w) n)
+    (ap (looked formats.E11 (after 0)) whole
+    ∙ e11_looked (after 0) f.lead (content ++ (f.trail ++ rest)) w f.lead_is ∙ ap (e11_block w) n)
     (omega (arith, bare_long s w content f))
     (e ∙ block_items w f.lead content (f.trail ++ rest) (s ++ rest) f.lead_is.four n whole)
 
@@ -207,14 +214,14 @@ e11_some s given (encodings.e11_block w content n f e) = omega (arith, bare_long
 ends_by : (format : ImageFormat) (s rest : List ℕ) (given : List TapeItem)
     → Seen format (s ++ rest) s given → 0 < length s
     → ((lead ys : List ℕ) → IsWord lead end_word
-    → looked format 0 (lead ++ ys) ≡ Stop (pieces.Word end_word))
+    → looked format (after 0) (lead ++ ys) ≡ Stop (pieces.Word end_word))
     → (ending : Ending) → EndsHere ending (s ++ rest) → ⊥
 ends_by format s rest given seen some stops Physical e =
     omega (arith, some, ap length e, length-append s rest)
 ends_by format s rest given seen some stops Marked (long, e) =
     let xs = s ++ rest in
-    let is : looked format 0 xs ≡ Stop (pieces.Word end_word) =
-    ap (looked format 0) (sym (take-append-drop 4 xs))
+    let is : looked format (after 0) xs ≡ Stop (pieces.Word end_word) =
+    ap (looked format (after 0)) (sym (take-append-drop 4 xs))
     ∙ stops (take 4 xs) (drop 4 xs) (first_four xs long e) in
     omega (arith, some, seen.size ∙ ap size_of is)
 
@@ -222,9 +229,9 @@ pub extended_ends : (s rest : List ℕ) (given : List TapeItem) → IsExtended s
     → (ending : Ending) → EndsHere ending (s ++ rest) → ⊥
 extended_ends s rest given is = ends_by formats.Extended s rest given
     (extended_seen s rest given is) (extended_some s rest given is)
-    (λ lead ys w. class_looked 0 lead ys end_word w refl)
+    (λ lead ys w. class_looked (after 0) lead ys end_word w refl)
 
 pub e11_ends : (s rest : List ℕ) (given : List TapeItem) → IsE11 s given
     → (ending : Ending) → EndsHere ending (s ++ rest) → ⊥
 e11_ends s rest given is = ends_by formats.E11 s rest given (e11_seen s rest given is)
-    (e11_some s given is) (λ lead ys w. e11_looked 0 lead ys end_word w)
+    (e11_some s given is) (λ lead ys w. e11_looked (after 0) lead ys end_word w)

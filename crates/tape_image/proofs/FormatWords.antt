@@ -14,7 +14,7 @@ use Rattle.tape_image.specs.declared.format.step.Step.{Step}
 use Rattle.tape_image.specs.Tape.{TapeItem, mark}
 use Rattle.tape_image.specs.Word.{IsWord, mark_word, gap_word, block_len}
 use Rattle.tape_image.specs.Spelling.{IsSpelling, a_mark, a_gap, a_block, item_of, Leads}
-use Rattle.tape_image.specs.Format.{piece_bytes, passed, by_step, instead}
+use Rattle.tape_image.specs.Format.{Before, after, piece_bytes, passed, by_step, instead}
 use Rattle.tape_image.specs.Format.{e11_block, extended_block, looked, bytes_after}
 use Rattle.tape_image.specs.FormatItems.{IsBare, IsE11, e11_mark, e11_gap, IsOther, IsMarker}
 use Rattle.tape_image.specs.FormatItems.{Encoding, IsEncoding, bytes_of, AreEncodings, EndsImage}
@@ -48,22 +48,22 @@ number_word lead ys w is =
 pub behind_word : (lead ys : List ℕ) → length lead ≡ 4 → drop 4 (take 8 (lead ++ ys)) ≡ take 4 ys
 behind_word lead ys e = ap (drop 4) (front_word lead ys e) ∙ drop_at lead (take 4 ys) 4 e
 
-pub e11_looked : (before : ℕ) (lead ys : List ℕ) (w : ℕ) → IsWord lead w
+pub e11_looked : (before : Before) (lead ys : List ℕ) (w : ℕ) → IsWord lead w
     → looked formats.E11 before (lead ++ ys) ≡ e11_block w (block_len w)
 e11_looked before lead ys w is = rw (long_word lead ys is.four, number_word lead ys w is) refl
 
-pub extended_looked : (before : ℕ) (lead ys : List ℕ) (w : ℕ) → IsWord lead w
+pub extended_looked : (before : Before) (lead ys : List ℕ) (w : ℕ) → IsWord lead w
     → looked formats.Extended before (lead ++ ys) ≡ extended_block w (block_len w) (take 4 ys)
 extended_looked before lead ys w is =
     rw (long_word lead ys is.four, number_word lead ys w is, behind_word lead ys is.four) refl
 
 -- ---- what stands for an item
 
-pub by_first : (format : ImageFormat) (before : ℕ) (xs : List ℕ) (st : Step)
+pub by_first : (format : ImageFormat) (before : Before) (xs : List ℕ) (st : Step)
     → looked format before xs ≡ st
-    → bytes_after format before xs ≡ by_step st xs (bytes_after format)
+    → bytes_after format before xs ≡ by_step st before.kept xs (bytes_after format)
 by_first format before xs st e =
-    first_item format before xs ∙ ap (λ z. by_step z xs (bytes_after format)) e
+    first_item format before xs ∙ ap (λ z. by_step z before.kept xs (bytes_after format)) e
 
 pub leads_by : (xs out rest : List ℕ) (given : List TapeItem) → IsSpelling out given
     → xs ≡ out ++ rest → Leads xs given rest
@@ -74,19 +74,22 @@ pub nothing_by : (xs rest : List ℕ) → xs ≡ rest → Leads xs [] rest
 nothing_by xs rest e = subst (λ (l : List ℕ). Leads l [] rest) (sym e) (Leads-nil rest)
 
 -- a piece stands for the bytes
-pub instead_is : (format : ImageFormat) (before : ℕ) (bytes rest : List ℕ) (piece : Piece) (n : ℕ)
+pub instead_is : (format : ImageFormat) (before : Before) (bytes rest : List ℕ) (piece : Piece)
+    (n : ℕ)
     → length bytes ≡ n → looked format before (bytes ++ rest) ≡ instead piece n
-    → bytes_after format before (bytes ++ rest) ≡ piece_bytes piece ++ bytes_after format 0 rest
+    → bytes_after format before (bytes ++ rest) ≡ piece_bytes piece ++ bytes_after format
+    (after 0) rest
 instead_is format before bytes rest piece n e is =
     by_first format before (bytes ++ rest) (instead piece n) is
-    ∙ ap (λ (l : List ℕ). piece_bytes piece ++ bytes_after format 0 l) (drop_at bytes rest n e)
+    ∙ ap (λ (l : List ℕ). piece_bytes piece ++ bytes_after format (after 0) l)
+    (drop_at bytes rest n e)
 
 -- the word of a tape mark or an erase gap
-pub alone_leads : (format : ImageFormat) (before : ℕ) (bytes rest : List ℕ) (w : ℕ)
+pub alone_leads : (format : ImageFormat) (before : Before) (bytes rest : List ℕ) (w : ℕ)
     (given : List TapeItem) → length bytes ≡ 4
     → looked format before (bytes ++ rest) ≡ instead (pieces.Word w) 4
     → IsSpelling (little_bytes 4 w) given
-    → Leads (bytes_after format before (bytes ++ rest)) given (bytes_after format 0 rest)
+    → Leads (bytes_after format before (bytes ++ rest)) given (bytes_after format (after 0) rest)
 alone_leads format before bytes rest w given e is spelled =
     leads_by _ (little_bytes 4 w) _ given spelled
     (instead_is format before bytes rest (pieces.Word w) 4 e is)
@@ -146,12 +149,12 @@ pad_size n = go (n % 2 == 1) refl
     go true e = grind (arith, nat_tests)
     go false e = grind (arith, nat_tests)
 
-pub e11_block_leads : (before w : ℕ) (content lead trail rest : List ℕ) → IsWord lead w
+pub e11_block_leads : (before : Before) (w : ℕ) (content lead trail rest : List ℕ) → IsWord lead w
     → IsWord trail w → block_len w ≡ Some (length content)
     → Leads (bytes_after formats.E11 before (lead ++ (content ++ (trail ++ rest))))
-    (item_of w content ∷ []) (bytes_after formats.E11 0 rest)
+    (item_of w content ∷ []) (bytes_after formats.E11 (after 0) rest)
 e11_block_leads before w content lead trail rest a b n =
-    let f : List ℕ → List ℕ = bytes_after formats.E11 0 in
+    let f : List ℕ → List ℕ = bytes_after formats.E11 (after 0) in
     let m = length content in
     let tail : Piece = if m % 2 == 1 then pieces.Zero else pieces.Nothing in
     let ys = content ++ (trail ++ rest) in
@@ -168,9 +171,9 @@ pub three : (a b c r : List ℕ) → (a ++ (b ++ c)) ++ r ≡ a ++ (b ++ (c ++ r
 three a b c r =
     append_assoc a (b ++ c) r ∙ ap (λ (l : List ℕ). a ++ l) (append_assoc b c r)
 
-pub e11_leads : (before : ℕ) (bytes rest : List ℕ) (given : List TapeItem) → IsE11 bytes given
+pub e11_leads : (before : Before) (bytes rest : List ℕ) (given : List TapeItem) → IsE11 bytes given
     → Leads (bytes_after formats.E11 before (bytes ++ rest)) given
-    (bytes_after formats.E11 0 rest)
+    (bytes_after formats.E11 (after 0) rest)
 e11_leads before bytes rest given (encodings.e11_mark is e) =
     rw (e) (alone_leads formats.E11 before bytes rest mark_word (mark ∷ []) is.four
     (e11_looked before bytes rest mark_word is) mark_there)
@@ -179,7 +182,7 @@ e11_leads before bytes rest given (encodings.e11_gap is e) =
     (e11_looked before bytes rest gap_word is) gap_there)
 e11_leads before bytes rest given (encodings.e11_block w content n bare e) =
     rw (e) (subst (λ (l : List ℕ). Leads (bytes_after formats.E11 before l)
-    (item_of w content ∷ []) (bytes_after formats.E11 0 rest))
+    (item_of w content ∷ []) (bytes_after formats.E11 (after 0) rest))
     (sym (ap (λ (l : List ℕ). l ++ rest) bare.whole
     ∙ three bare.lead content bare.trail rest))
     (e11_block_leads before w content bare.lead bare.trail rest bare.lead_is bare.trail_is n))

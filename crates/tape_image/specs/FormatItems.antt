@@ -1,7 +1,8 @@
 -- Items in images of other formats, and that the SIMH images spell the same items.
-use Rattle.std.specs.Prelude.{◌≡◌, ◌≢◌, ◌⊎◌, ℕ, ◌/◌, ◌%◌, ◌^◌, ◌<◌, nat_eq, false, List, [], ◌∷◌}
+use Rattle.std.specs.Prelude.{◌≡◌, ◌≢◌, ◌⊎◌, ◌+◌, ℕ, ◌/◌, ◌%◌}
+use Rattle.std.specs.Prelude.{◌^◌, ◌<◌, nat_eq, false, List, [], ◌∷◌}
 use Rattle.std.specs.Prelude.{◌++◌, length, take, Some, ⊤}
-use Rattle.std.specs.{List.flat_map, List.starts_with}
+use Rattle.std.specs.{List.flat_map, List.starts_with, List.AllByRecursion}
 use Rattle.byteorder.specs.Endian.{little_bytes}
 use Rattle.tape_image.specs.declared.format.ImageFormat.{ImageFormat}
 use Rattle.tape_image.specs.declared.format.ImageFormat.TheVariants as formats
@@ -63,20 +64,45 @@ pub data IsExtended (bytes rest : List ℕ) (given : List TapeItem) : Type 0 whe
 
 -- ---- AWS
 
--- the bytes, after a block of `before` bytes, are one encoding of `given`, a block of `after` bytes
--- or a tape mark
+-- a header after a chunk of `before` bytes, and a chunk
+abbrev pub chunk : ℕ → ℕ → List ℕ → List ℕ
+chunk flags before bytes =
+    little_bytes 2 (length bytes) ++ (little_bytes 2 before ++ flags ∷ 0 ∷ bytes)
+
+-- a chunk has 1 to 65,535 bytes
+abbrev pub IsChunk : List ℕ → Type 0
+IsChunk bytes = (0 < length bytes) × (length bytes < 2 ^ 16)
+
+-- the chunks of a block; `first` is 0x80 before the first of them, and 0 before the others
+abbrev pub chunks : ℕ → ℕ → List (List ℕ) → List ℕ
+chunks first before [] = []
+chunks first before (c ∷ []) = chunk (first + 0x20) before c
+chunks first before (c ∷ d ∷ cs) = chunk first before c ++ chunks 0 (length c) (d ∷ cs)
+
+-- the bytes of a block
+abbrev pub joined : List (List ℕ) → List ℕ
+joined cs = flat_map (λ c. c) cs
+
+-- the length of the last chunk
+abbrev pub last_len : List (List ℕ) → ℕ
+last_len [] = 0
+last_len (c ∷ []) = length c
+last_len (c ∷ d ∷ cs) = last_len (d ∷ cs)
+
+-- The bytes, after a chunk of `before` bytes, are one encoding of `given`: a tape mark, or a block,
+-- whose last chunk has `after` bytes. A block that has more than 99,999 bytes is bad.
 pub data IsAws (before : ℕ) (bytes : List ℕ) (given : List TapeItem) (after : ℕ) : Type 0 where
   aws_mark :
-      bytes ≡ 0 ∷ 0 ∷ (little_bytes 2 before ++ 0x40 ∷ 0 ∷ []) → given ≡ mark ∷ [] → after ≡ 0
+      bytes ≡ chunk 0x40 before [] → given ≡ mark ∷ [] → after ≡ 0
       → IsAws before bytes given after
   aws_block :
-      (content : List ℕ) → 0 < length content → length content < 2 ^ 16
-      → bytes ≡ little_bytes 2 (length content) ++ (little_bytes 2 before ++ 0xA0 ∷ 0 ∷ content)
-      → given ≡ block content ∷ [] → after ≡ length content → IsAws before bytes given after
+      (cs : List (List ℕ)) → cs ≢ [] → AllByRecursion IsChunk cs → bytes ≡ chunks 0x80 before cs
+      → given ≡ item_of (length (joined cs)) (joined cs) ∷ [] → after ≡ last_len cs
+      → IsAws before bytes given after
 
 -- ---- images
 
--- an encoding, the items it gives, at most one, and the length of an AWS block
+-- an encoding, the items it gives, at most one, and the length of the last AWS chunk
 pub record Encoding : Type 0 where
   pub bytes : List ℕ
   pub given : List TapeItem

@@ -6,6 +6,7 @@ ghost use Rattle.tape_image.specs.Convert.{CopiesAll, CopiesFront};
 
 use crate::format::{ImageFormat, SimhImage};
 use crate::put::write_bytes;
+use std::alloc::Global;
 use std::io::{Read, Write};
 use thiserror::Error;
 
@@ -20,14 +21,16 @@ pub enum ConvertFault {
     WriteFailed,
 }
 
-/// Appends to `out` the SIMH image of the image of format `format` that `device` gives. Does not
-/// allocate, and does not judge the image: where it is damaged, so is the SIMH image.
+/// Appends to `out` the SIMH image of the image of format `format` that `device` gives. Allocates
+/// only for blocks in several chunks, and does not judge the image: if it is damaged, so is the
+/// SIMH image.
 ///
 /// # Errors
 ///
-/// Returns `ReadFailed` if the device fails, and `WriteFailed` if `out` fails, is interrupted or
-/// takes no bytes. The beginning of the SIMH image was written.
+/// Returns `ReadFailed` if the device or an allocation fails, and `WriteFailed` if `out` fails, is
+/// interrupted or takes no bytes. The beginning of the SIMH image was written.
 pub fn convert_to<R: Read + Drop, W: Write>(
+    alloc: Global,
     device: R,
     format: ImageFormat,
     out: &mut W,
@@ -37,7 +40,7 @@ pub fn convert_to<R: Read + Drop, W: Write>(
     ensures err { OnErr result (CopiesFront (option_map (simh_bytes format) (R.remaining device))
         (W.contents out.old) (W.contents out.new)) }
 {
-    let mut image = SimhImage::new(device, format);
+    let mut image = SimhImage::new(alloc, device, format);
     copy(&mut image, out)
 }
 

@@ -1,20 +1,24 @@
 //! Images of other formats than SIMH's, read as SIMH images.
 
-ghost use Rattle.std.specs.Prelude.{◌≡◌, ◌<◌, [], length, IfOk, IfSome, option_map};
+ghost use Rattle.std.specs.Prelude.{◌≡◌, ◌∷◌, ◌<◌, [], length, option_map};
 ghost use Rattle.std.specs.{Io.ReadsAtMost, Io.KnownBytes.ReadConsumes};
 ghost use Rattle.std.specs.Io.KnownBytes.{Keeps, prepend_known};
-ghost use Rattle.tape_image.specs.Format.{simh_bytes, bytes_after, by_step, looked};
+ghost use Rattle.tape_image.specs.Format.{simh_bytes, bytes_after, by_step};
 ghost use Rattle.tape_image.specs.FormatState.{simh_remaining, GivesOn, IsWithin};
 ghost use Rattle.byteorder.specs.Endian.{little_bytes};
 
 mod few;
+mod input;
 mod step;
 
+use crate::block::LONGEST_BLOCK;
 use byteorder::{ByteOrder, LittleEndian};
 use few::Few;
+use input::{Input, keep_some};
+use std::alloc::Global;
 use std::io;
 use std::io::{ErrorKind, Read};
-use step::{Passed, Piece, Step, next_step};
+use step::{Chunk, Passed, Piece, Step, word_behind};
 
 /// A format of images that is read as a SIMH image.
 #[derive(Clone, Copy, Debug, PartialEq, Eq)]
@@ -24,7 +28,8 @@ pub enum ImageFormat {
     Extended,
     /// E11's format, which is SIMH's without pad bytes.
     E11,
-    /// The AWS format: a header of six bytes precedes each block and each tape mark.
+    /// The AWS format: a header of six bytes precedes each tape mark, and each of the chunks that a
+    /// block consists of.
     Aws,
 }
 
@@ -37,45 +42,12 @@ pub(crate) enum Course {
     Passing(Passed),
     /// So many are left out, and the word is to follow them.
     Leaving(u64, u32),
+    /// So many, with which the chunk ends, are kept.
+    Keeping(u64, Chunk),
+    /// The bytes that are kept are given, from this one on, and the word after them.
+    Giving(usize, u32),
     /// They are not read.
     Over,
-}
-
-/// The number of bytes by which an item is recognised.
-const SHOWN: usize = 8;
-
-/// A device, and the bytes that were read from it and have not been taken.
-#[derive(Drop)]
-struct Input<R> {
-    device: R,
-    held: Few,
-}
-
-impl<R: Read> Input<R> {
-    /// Looks at the next item, which follows a block of `before` bytes.
-    fn peek(&mut self, format: ImageFormat, before: u32) -> io::Result<Step>
-        ensures keeps { Keeps (prepend_known self.old.held (R.remaining self.old.device))
-            (prepend_known self.new.held (R.remaining self.new.device)) }
-        ensures seen { IfOk result (λ seen. IfSome
-            (prepend_known self.new.held (R.remaining self.new.device))
-            (λ xs. seen ≡ looked format before xs)) }
-        ensures within { IfOk result (λ seen. IsWithin self.new.held seen) }
-    {
-        self.held.fill(&mut self.device, SHOWN)?;
-        let held = self.held.bytes();
-        Ok(next_step(format, before, &held[..held.len().min(SHOWN)]))
-    }
-}
-
-impl<R: Read> Read for Input<R> {
-    ghost remaining = { λ s. prepend_known s.held (R.remaining s.device) };
-
-    fn read(&mut self, buf: &mut [u8]) -> io::Result<usize> {
-        if self.held.bytes().is_empty() {
-            return self.device.read(buf);
-        }
-        Ok(self.held.take(buf))
-    }
 }
 
 /// The SIMH image of an image of another format, read from that image. Each item of the image
@@ -84,16 +56,19 @@ impl<R: Read> Read for Input<R> {
 pub struct SimhImage<R> {
     input: Input<R>,
     format: ImageFormat,
-    /// The length of the AWS block before, or 0.
+    /// The length of the AWS chunk before, or 0.
     before: u32,
     course: Course,
+    /// The bytes of an AWS block that has begun.
+    kept: Vec<u8>,
     /// Bytes that are given before those of the device.
     out: Few,
 }
 
 impl<R: Read> SimhImage<R> {
-    /// Creates the SIMH image of the image of format `format` that `device` gives.
-    pub fn new(device: R, format: ImageFormat) -> SimhImage<R>
+    /// Creates the SIMH image of the image of format `format` that `device` gives. Does not allocate:
+    /// reading does, for blocks in several chunks, and returns an error if there is no memory.
+    pub fn new(alloc: Global, device: R, format: ImageFormat) -> SimhImage<R>
         ensures { simh_remaining R.remaining result
             ≡ option_map (simh_bytes format) (R.remaining device) }
     {
@@ -105,6 +80,7 @@ impl<R: Read> SimhImage<R> {
             format,
             before: 0,
             course: Course::Looking,
+            kept: Vec::new(alloc),
             out: Few::new(),
         }
     }
@@ -116,7 +92,8 @@ impl<R: Read> SimhImage<R> {
         ensures { Keeps (simh_remaining R.remaining self.old)
             (simh_remaining R.remaining self.new) }
     {
-        let step = self.input.peek(self.format, self.before)?;
+        let begun = !self.kept.as_slice().is_empty();
+        let step = self.input.peek(self.format, self.before, begun)?;
         self.follow(step);
         Ok(())
     }
@@ -126,7 +103,7 @@ impl<R: Read> SimhImage<R> {
         requires within { IsWithin self.old.input.held step }
         requires out { self.old.out ≡ [] }
         ensures { simh_remaining R.remaining self.new ≡ option_map
-            (λ xs. by_step step xs (bytes_after self.old.format))
+            (λ xs. by_step step self.old.kept.items xs (bytes_after self.old.format))
             (prepend_known self.old.input.held (R.remaining self.old.input.device)) }
     {
         match step {
@@ -138,7 +115,12 @@ impl<R: Read> SimhImage<R> {
                 self.input.held.skip(given.taken);
                 self.out.put(given.front);
                 self.before = given.before;
+                self.kept.clear();
                 self.course = Course::Passing(given.passed);
+            }
+            Step::Keep(chunk) => {
+                self.input.held.skip(6);
+                self.course = Course::Keeping(u64::from(chunk.count), chunk);
             }
             Step::Leave(count, word) => {
                 self.input.held.skip(4);
@@ -187,11 +169,90 @@ impl<R: Read> SimhImage<R> {
         {
             self.input.held.skip(4);
             self.before = 0;
+            self.kept.clear();
             self.course = Course::Looking;
         } else {
             self.stop(word);
         }
         Ok(())
+    }
+
+    /// Keeps `count` bytes, with which the chunk `chunk` ends. If the device ends before that, the
+    /// image ends with the byte 0.
+    fn keep(&mut self, count: u64, chunk: Chunk) -> io::Result<()>
+        requires on { self.old.course ≡ Course.Keeping count chunk }
+        requires out { self.old.out ≡ [] }
+        ensures { Keeps (simh_remaining R.remaining self.old)
+            (simh_remaining R.remaining self.new) }
+    {
+        let mut left = count;
+        'bytes: while left > 0 {
+            match keep_some(&mut self.input, &mut self.kept, left) {
+                Ok(0) => {
+                    self.cut();
+                    return Ok(());
+                }
+                Ok(read) => left -= read as u64,
+                Err(e) => {
+                    self.course = Course::Keeping(left, chunk);
+                    return Err(e);
+                }
+            }
+        }
+        self.course = Course::Keeping(0, chunk);
+        Ok(())
+    }
+
+    /// Ends a chunk, whose bytes are kept. Gives a block that ends with it, or a bad block instead
+    /// of one that is too long.
+    fn end_chunk(&mut self, chunk: Chunk)
+        requires on { self.old.course ≡ Course.Keeping 0 chunk }
+        requires out { self.old.out ≡ [] }
+        ensures { simh_remaining R.remaining self.new ≡ simh_remaining R.remaining self.old }
+    {
+        self.before = chunk.count;
+        self.course = Course::Looking;
+        if !chunk.last {
+            return;
+        }
+        let len = self.kept.as_slice().len();
+        if len > LONGEST_BLOCK as usize {
+            self.kept.clear();
+            self.out.put(Piece::Bad);
+            return;
+        }
+        self.out.put(Piece::Word(len as u32));
+        self.course = Course::Giving(0, len as u32);
+    }
+
+    /// Gives the next of the bytes that are kept, from `at` on, or the word `word` after them.
+    fn give_kept(&mut self, at: usize, word: u32, buf: &mut [u8]) -> io::Result<Option<usize>>
+        requires on { self.old.course ≡ Course.Giving at word }
+        requires out { self.old.out ≡ [] }
+        requires room { 0 < length buf.old }
+        ensures { GivesOn (simh_remaining R.remaining self.old)
+            (simh_remaining R.remaining self.new) result buf.new }
+    {
+        let kept = self.kept.as_slice();
+        if at < kept.len() {
+            let count = (kept.len() - at).min(buf.len());
+            buf[..count].copy_from_slice(&kept[at..at + count]);
+            self.course = Course::Giving(at + count, word);
+            return Ok(Some(count));
+        }
+        self.kept.clear();
+        self.out.put(word_behind(word));
+        self.course = Course::Looking;
+        Ok(None)
+    }
+
+    /// Ends the image with the byte 0: it is cut off.
+    fn cut(&mut self)
+        ensures { simh_remaining R.remaining self.new ≡ option_map (λ _. 0 ∷ [])
+            (prepend_known self.old.input.held (R.remaining self.old.input.device)) }
+    {
+        self.out.put(Piece::Zero);
+        self.course = Course::Over;
     }
 
     /// Ends the image with the word `word`.
@@ -253,6 +314,9 @@ impl<R: Read> SimhImage<R> {
             Course::Over => return Ok(Some(0)),
             Course::Looking => self.advance()?,
             Course::Passing(passed) => return self.pass(passed, buf),
+            Course::Keeping(0, chunk) => self.end_chunk(chunk),
+            Course::Keeping(count, chunk) => self.keep(count, chunk)?,
+            Course::Giving(at, word) => return self.give_kept(at, word, buf),
             Course::Leaving(0, word) => self.leave_word(word)?,
             Course::Leaving(count, word) => self.leave(count, word)?,
         }

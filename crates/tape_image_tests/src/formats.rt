@@ -12,7 +12,7 @@ use tape_image::{ImageFormat, SimhImage, convert_to};
 struct Row(ImageFormat, &'static [u8], &'static [u8]);
 
 /// A header of AWS with a length, the length before, and flags.
-const ROWS: [Row; 22] = [
+const ROWS: [Row; 32] = [
     // E11: a pad byte follows each block of odd length.
     Row(ImageFormat::E11, b"", b""),
     Row(
@@ -110,6 +110,53 @@ const ROWS: [Row; 22] = [
         b"\0\0\0\0\0",
     ),
     Row(ImageFormat::Aws, b"\x01\0\0\0\xA1\0x", b"\xFF\xFF\xFF\x7F"),
+    // A block in two chunks, and one in three; the header after it has the length of the last.
+    Row(
+        ImageFormat::Aws,
+        b"\x03\0\0\0\x80\0abc\x02\0\x03\0\x20\0de\0\0\x02\0\x40\0",
+        b"\x05\0\0\0abcde\0\x05\0\0\0\0\0\0\0",
+    ),
+    Row(
+        ImageFormat::Aws,
+        b"\x01\0\0\0\x80\0a\x02\0\x01\0\0\0bc\x01\0\x02\0\x20\0d\x01\0\x01\0\xA0\0e",
+        b"\x04\0\0\0abcd\x04\0\0\0\x01\0\0\0e\0\x01\0\0\0",
+    ),
+    // After a chunk that does not end the block comes a mark, a new block, its end without bytes,
+    // or a chunk with a wrong length before.
+    Row(
+        ImageFormat::Aws,
+        b"\x01\0\0\0\x80\0a\0\0\x01\0\x40\0",
+        b"\xFF\xFF\xFF\x7F",
+    ),
+    Row(
+        ImageFormat::Aws,
+        b"\x01\0\0\0\x80\0a\x01\0\x01\0\xA0\0b",
+        b"\xFF\xFF\xFF\x7F",
+    ),
+    Row(
+        ImageFormat::Aws,
+        b"\x01\0\0\0\x80\0a\0\0\x01\0\x20\0",
+        b"\xFF\xFF\xFF\x7F",
+    ),
+    Row(
+        ImageFormat::Aws,
+        b"\0\0\0\0\x40\0\x01\0\0\0\x80\0a\x01\0\x02\0\x20\0b",
+        b"\0\0\0\0\xFF\xFF\xFF\x7F",
+    ),
+    // Zeros do not fill the end within a block, and no block continues that has not begun.
+    Row(
+        ImageFormat::Aws,
+        b"\x01\0\0\0\x80\0a\0\0\0\0\0\0",
+        b"\xFF\xFF\xFF\x7F",
+    ),
+    Row(ImageFormat::Aws, b"\x01\0\0\0\x20\0x", b"\xFF\xFF\xFF\x7F"),
+    // The image ends before a chunk, and in one.
+    Row(ImageFormat::Aws, b"\x01\0\0\0\x80\0a", b"\0"),
+    Row(
+        ImageFormat::Aws,
+        b"\x01\0\0\0\x80\0a\x02\0\x01\0\x20\0b",
+        b"\0",
+    ),
 ];
 
 /// A reader that returns one byte in every second call, and fails in the others.
@@ -157,7 +204,7 @@ fn simh(
     image: &[u8],
     size: usize,
 ) -> Result<Vec<u8>, AllocError> {
-    all_of(alloc, &mut SimhImage::new(image, format), size)
+    all_of(alloc, &mut SimhImage::new(alloc, image, format), size)
 }
 
 #[test]
@@ -168,8 +215,48 @@ fn images_have_these_simh_images(rt: HostRuntime) -> Result<(), Fail> {
             is_so(&rt, row, found.as_slice() == *want);
         }
         let mut found = Vec::new(rt.alloc());
-        is_so(&rt, row, convert_to(*image, *format, &mut found).is_ok());
+        is_so(
+            &rt,
+            row,
+            convert_to(rt.alloc(), *image, *format, &mut found).is_ok(),
+        );
         is_so(&rt, row, found.as_slice() == *want);
+    }
+    Ok(())
+}
+
+/// Appends a chunk of `len` bytes, all of them 7, after one of `before` bytes.
+fn add_chunk(image: &mut Vec<u8>, len: u16, before: u16, flags: u8) -> Result<(), AllocError> {
+    image.extend_from_slice(&len.to_le_bytes())?;
+    image.extend_from_slice(&before.to_le_bytes())?;
+    image.extend_from_slice(&[flags, 0])?;
+    for _ in 0..len {
+        image.push(7)?;
+    }
+    Ok(())
+}
+
+#[test]
+fn a_block_in_chunks_may_have_the_greatest_length(rt: HostRuntime) -> Result<(), Fail> {
+    // The length of the last chunk, and the bytes of the SIMH image of the block and a mark: a
+    // block of 99,999 bytes, its pad byte and words, or a bad block.
+    for (row, (last, bytes)) in [(34_464, 100_012), (34_465, 14), (65_535, 14)]
+        .iter()
+        .enumerate()
+    {
+        let mut image = Vec::new(rt.alloc());
+        add_chunk(&mut image, 65_535, 0, 0x80)?;
+        add_chunk(&mut image, *last, 65_535, 0x20)?;
+        add_chunk(&mut image, 0, *last, 0x40)?;
+        let found = simh(rt.alloc(), ImageFormat::Aws, image.as_slice(), 64)?;
+        is_so(&rt, row, found.len() == *bytes);
+        is_so(&rt, row, found.as_slice().ends_with(b"\0\0\0\0"));
+        let word: [u8; 4] = if *bytes == 14 {
+            [1, 0, 0, 0x80]
+        } else {
+            [0x9F, 0x86, 1, 0]
+        };
+        is_so(&rt, row, found.as_slice().starts_with(&word));
     }
     Ok(())
 }
@@ -181,7 +268,8 @@ fn a_device_that_fails_loses_nothing(rt: HostRuntime) -> Result<(), Fail> {
             bytes: *image,
             fails: false,
         };
-        let found = all_of(rt.alloc(), &mut SimhImage::new(device, *format), 64)?;
+        let image = &mut SimhImage::new(rt.alloc(), device, *format);
+        let found = all_of(rt.alloc(), image, 64)?;
         is_so(&rt, row, found.as_slice() == *want);
     }
     Ok(())

@@ -190,7 +190,7 @@ fn copied<R: Progress, W: Write>(
             return Err(Stop::Image(fault));
         }
     };
-    match convert_to(image, format, out) {
+    match convert_to(alloc, image, format, out) {
         Ok(()) => Ok(()),
         Err(ConvertFault::ReadFailed) => Err(Stop::Image(ToolFault::File(FileFault::ReadFailed))),
         Err(ConvertFault::WriteFailed) => Err(Stop::Out),

@@ -55,9 +55,9 @@ impl<'a, R: Progress> ImageSource<AnyImage<R>> for AnyImages<'a, R> {
         let Some(image) = self.images.mount(number)? else {
             return Ok(None);
         };
-        let mut image = image;
+        let (mut image, alloc) = (image, self.images.rt.alloc());
         Ok(Some(match format_of(container_of(image.front())) {
-            Some(format) => AnyImage::Other(SimhImage::new(image, format)),
+            Some(format) => AnyImage::Other(SimhImage::new(alloc, image, format)),
             None => AnyImage::Simh(image),
         }))
     }

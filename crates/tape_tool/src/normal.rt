@@ -10,7 +10,7 @@ use crate::images::{Image, Images};
 use crate::refusal::is_file;
 use crate::screen::Progress;
 use followed::Followed;
-use std::alloc::AllocError;
+use std::alloc::{AllocError, Global};
 use std::io;
 use std::io::Read;
 use tape_core::normal::{NormalImage, Rules};
@@ -76,10 +76,10 @@ enum Form<R: Progress> {
 
 impl<R: Progress> Form<R> {
     /// Chooses the form by the first bytes of the image, which is unread.
-    fn new(mut image: Image<R>) -> Form<R> {
+    fn new(alloc: Global, mut image: Image<R>) -> Form<R> {
         let kind = container_of(image.front());
         match format_of(kind) {
-            Some(format) => Form::Converted(NormalImage::new(SimhImage::new(image, format))),
+            Some(format) => Form::Converted(NormalImage::new(SimhImage::new(alloc, image, format))),
             None if is_simh(kind) => Form::Normal(NormalImage::new(image)),
             None => Form::Other(image),
         }
@@ -253,6 +253,7 @@ impl<'a, R: Progress> ImageSource<Normal<R>> for NormalImages<'a, R> {
         let Some(image) = self.images.mount(number)? else {
             return Ok(None);
         };
+        let inner = Form::new(rt.alloc(), image);
         // Nothing fails from here on: the source changes only if the image is mounted.
         let is_first = number >= self.read;
         self.read = self.read.max(number.saturating_add(1));
@@ -263,7 +264,7 @@ impl<'a, R: Progress> ImageSource<Normal<R>> for NormalImages<'a, R> {
             front: is_first.then_some(Followed::START),
             named: Rules::NONE,
             seam: None,
-            inner: Form::new(image),
+            inner,
         }))
     }
 }

@@ -3,6 +3,7 @@
 ghost use Rattle.std.specs.Prelude.{◌≡◌, ◌≤◌, length};
 ghost use Rattle.tape_image.specs.Format.{step_of, short, instead, word_alone, e11_step};
 ghost use Rattle.tape_image.specs.Format.{extended_step, class_step, aws_step, aws_block};
+ghost use Rattle.tape_image.specs.Format.{keep, word_behind};
 ghost use Rattle.tape_image.specs.FormatState.{IsWithin};
 ghost use Rattle.tape_image.specs.{Word.block_len};
 
@@ -52,6 +53,15 @@ pub(crate) enum Step {
     Give(Given),
     /// The word, this number of bytes, and the same word again are left out.
     Leave(u64, u32),
+    /// The header of a chunk is left out, and the bytes of the chunk are kept.
+    Keep(Chunk),
+}
+
+/// A chunk of an AWS block: its length, and whether the block ends with it.
+#[derive(Clone, Copy)]
+pub(crate) struct Chunk {
+    pub(crate) count: u32,
+    pub(crate) last: bool,
 }
 
 /// No bytes.
@@ -71,15 +81,16 @@ const BAD_ALONE: u32 = 0x8000_0000;
 const NO_HEADER: u32 = 0x7FFF_FFFF;
 
 /// Returns what is done with the item that the bytes `front` begin with, all that there are or the
-/// first eight, after a block of `before` bytes.
-pub(crate) fn next_step(format: ImageFormat, before: u32, front: &[u8]) -> Step
-    ensures is { result ≡ step_of format before front.now }
+/// first eight, after a chunk of `before` bytes; `begun` says whether the block of that chunk
+/// continues.
+pub(crate) fn next_step(format: ImageFormat, before: u32, begun: bool, front: &[u8]) -> Step
+    ensures is { result ≡ step_of format before begun front.now }
     ensures within { IsWithin front.now result }
 {
     match format {
         ImageFormat::Extended => extended_step(front),
         ImageFormat::E11 => e11_step(front),
-        ImageFormat::Aws => aws_step(before, front),
+        ImageFormat::Aws => aws_step(before, begun, front),
     }
 }
 
@@ -207,47 +218,67 @@ fn class_step(word: u32, next: &[u8]) -> Step
     }
 }
 
-/// Returns what is done with an AWS block of `len` bytes in one piece.
-fn aws_block(len: u32) -> Step
-    ensures { result ≡ aws_block len }
+/// Returns the word after a block of `len` bytes, which a pad byte precedes if their number is odd.
+pub(crate) fn word_behind(len: u32) -> Piece
+    ensures { result ≡ word_behind len }
 {
-    let tail = if len % 2 == 1 {
+    if len % 2 == 1 {
         Piece::ZeroWord(len)
     } else {
         Piece::Word(len)
-    };
+    }
+}
+
+/// Returns what is done with an AWS block of `len` bytes in one chunk.
+fn aws_block(len: u32) -> Step
+    ensures { result ≡ aws_block len }
+{
     Step::Give(Given {
         front: Piece::Word(len),
         taken: 6,
         passed: Passed {
             count: u64::from(len),
-            tail,
+            tail: word_behind(len),
             last: 0,
         },
         before: len,
     })
 }
 
-/// Returns what is done with the AWS header `front` after a block of `before` bytes.
-fn aws_step(before: u32, front: &[u8]) -> Step
-    ensures is { result ≡ aws_step before front.now }
+/// Returns what is done with a chunk of `count` bytes.
+fn keep(count: u32, last: bool) -> Step
+    ensures { result ≡ keep count last }
+{
+    Step::Keep(Chunk { count, last })
+}
+
+/// Returns what is done with the AWS header `front` after a chunk of `before` bytes; `begun` says
+/// whether the block of that chunk continues.
+fn aws_step(before: u32, begun: bool, front: &[u8]) -> Step
+    ensures is { result ≡ aws_step before begun front.now }
     ensures within { IsWithin front.now result }
 {
     if front.len() < 6 {
-        return short(front);
+        return if begun {
+            Step::Stop(Piece::Zero)
+        } else {
+            short(front)
+        };
     }
     let len = u32::from(LittleEndian::read_u16(front));
     let previous = u32::from(LittleEndian::read_u16(&front[2..]));
     let flags = LittleEndian::read_u16(&front[4..]);
-    if len == 0 && previous == 0 && flags == 0 {
+    if !begun && len == 0 && previous == 0 && flags == 0 {
         return Step::Stop(Piece::Nothing);
     }
     if previous != before {
         return Step::Stop(Piece::Word(NO_HEADER));
     }
-    match flags {
-        0x40 if len == 0 => instead(Piece::Word(MARK), 6),
-        0xA0 if len > 0 => aws_block(len),
+    match (begun, flags) {
+        (false, 0x40) if len == 0 => instead(Piece::Word(MARK), 6),
+        (false, 0xA0) if len > 0 => aws_block(len),
+        (false, 0x80) | (true, 0) if len > 0 => keep(len, false),
+        (true, 0x20) if len > 0 => keep(len, true),
         _ => Step::Stop(Piece::Word(NO_HEADER)),
     }
 }

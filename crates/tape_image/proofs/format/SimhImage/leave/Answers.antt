@@ -1,7 +1,7 @@
 use Rattle.std.proofs.Common.{◌≡◌, ◌+◌, ◌++◌, length, take, arith, length-append}
 use Rattle.std.proofs.lemmas.List.{length-take}
 use Rattle.std.proofs.KnownBytes.{Consumes-trans, Consumes-kept}
-use Rattle.tape_image.proofs.Formats.{leaving_keeps}
+use Rattle.tape_image.proofs.Formats.{leaving_keeps, at_chunk}
 use Rattle.tape_image.proofs.format.SimhImage.leave.Goals as goal
 
 pub bytes-preserved : goal.bytes-preserved
@@ -34,7 +34,8 @@ returns-in-Err g c =
     let before = c.bytes.invariant in
     let now = c.args.self.now in
     rw (before.format, before.out)
-    (leaving_keeps _ _ now.format now.before now.out now.course c.args.count c.bytes.left
+    (leaving_keeps _ _ now.format
+    (at_chunk now.before now.kept.items) now.out now.course c.args.count c.bytes.left
     c.args.word before.taken.0 c.requires.on
     (Consumes-kept _ _ _ before.taken.0 before.taken.1 c.in-Err.ensures.bytes) before.taken.2)
 
@@ -45,5 +46,6 @@ returns g c =
     let all : length before.taken.0 + 0 ≡ c.args.count =
     omega (arith, before.taken.2, c.bytes-test.false) in
     rw (before.format, before.out)
-    (leaving_keeps _ _ now.format now.before now.out now.course c.args.count 0 c.args.word
+    (leaving_keeps _ _ now.format
+    (at_chunk now.before now.kept.items) now.out now.course c.args.count 0 c.args.word
     before.taken.0 c.requires.on before.taken.1 all)
