@@ -38,7 +38,7 @@ _tape() {
         survey) word='--files-from --null --all --tsv --json' ;;
         compare) word='--files-from --null --json' ;;
         merge) word='--log --files-from --null' ;;
-        convert) word='--format' ;;
+        convert) word='--format --resync' ;;
         extract) word='--files-from --null --form --stage --again --now --provenance' ;;
         unpack) word='--files-from --null --form --set --file --list --salvage --now --manifest --verify' ;;
         salvage) word='--files-from --null --form --now --provenance' ;;

@@ -83,6 +83,7 @@ complete -c tape -n '__tape_in merge' -l null -d 'Names in LIST end with NUL ('\
 complete -c tape -n '__tape_at merge 1' -a '(__tape_other)'
 complete -c tape -n '__tape_at merge 2 +' -F
 complete -c tape -n '__tape_in convert' -l format -x -a 'auto aws e11 simh' -d 'Format of IMAGE, if it is not recognised: aws, e11 or simh'
+complete -c tape -n '__tape_in convert' -l resync -d 'In a SIMH image, continue after a wrong word'
 complete -c tape -n '__tape_at convert 1' -a '(__tape_other)'
 complete -c tape -n '__tape_at convert 2 +' -F
 complete -c tape -n '__tape_in extract' -l files-from -r -F -d 'More names, one per line ('\''-'\'': standard input)'

@@ -7,7 +7,7 @@ use Rattle.byteorder.specs.Endian.{little_number, little_bytes}
 use Rattle.byteorder.specs.Numbers.{little_number-reads_back}
 use Rattle.tape_image.specs.declared.format.ImageFormat.TheVariants as formats
 use Rattle.tape_image.specs.declared.item.Ending.{Ending}
-use Rattle.tape_image.specs.Tape.{TapeItem, block}
+use Rattle.tape_image.specs.Tape.{TapeItem}
 use Rattle.tape_image.specs.Spelling.{item_of, Spelling, Spells, EndsHere}
 use Rattle.tape_image.specs.FormatItems.{chunk, chunks, IsChunk, joined, last_len, IsAws, Encoding}
 use Rattle.tape_image.specs.FormatItems as encodings

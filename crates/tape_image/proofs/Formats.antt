@@ -30,7 +30,7 @@ use Rattle.tape_image.specs.Format.{piece_bytes, passed, left_out, by_step, shor
 use Rattle.tape_image.specs.Format.{word_alone, e11_block, class_step, extended_block}
 use Rattle.tape_image.specs.Format.{aws_block, aws_header, step_of, first_header, next_header, keep}
 use Rattle.tape_image.specs.Format.{Before, after, with_more, kept_block, kept_in, word_behind}
-use Rattle.tape_image.specs.{Tape.bad, Written.written, Word.longest_block}
+use Rattle.tape_image.specs.{Tape.bad, Written.written}
 use Rattle.tape_image.specs.Format.{looked, bytes_in, bytes_after}
 use Rattle.tape_image.specs.FormatState.{IsWithin, left_in}
 

@@ -23,4 +23,6 @@ pub mod FormatOne
 pub mod FormatsAgree
 pub mod FormatAws
 pub mod Copies
+pub mod Resyncs
+pub mod Unharmed
 mod MistakesOfReading

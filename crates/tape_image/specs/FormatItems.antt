@@ -7,7 +7,7 @@ use Rattle.byteorder.specs.Endian.{little_bytes}
 use Rattle.tape_image.specs.declared.format.ImageFormat.{ImageFormat}
 use Rattle.tape_image.specs.declared.format.ImageFormat.TheVariants as formats
 use Rattle.tape_image.specs.{declared.item.Ending.Ending, Format.simh_bytes}
-use Rattle.tape_image.specs.Tape.{TapeItem, block, bad, mark}
+use Rattle.tape_image.specs.Tape.{TapeItem, bad, mark}
 use Rattle.tape_image.specs.Word.{IsWord, mark_word, gap_word, end_word, block_len}
 use Rattle.tape_image.specs.Spelling.{IsSpelling, IsFramed, item_of, Spells, EndsHere}
 

@@ -14,9 +14,11 @@ pub mod Writer
 pub mod Format
 pub mod Convert
 pub mod FormatItems
+pub mod Resync
 -- laws about these definitions:
 pub mod Laws
 pub mod FormatLaws
+pub mod ResyncLaws
 pub mod Examples
 -- definitions about private code, proved to agree with the definitions above:
 pub mod Device
@@ -25,3 +27,4 @@ pub mod Front
 pub mod State
 pub mod Standing
 pub mod FormatState
+pub mod ResyncState

@@ -7,9 +7,9 @@ ghost use Rattle.tape_image.specs.Format.{simh_bytes, bytes_after, by_step};
 ghost use Rattle.tape_image.specs.FormatState.{simh_remaining, GivesOn, IsWithin};
 ghost use Rattle.byteorder.specs.Endian.{little_bytes};
 
-mod few;
+pub(crate) mod few;
 mod input;
-mod step;
+pub(crate) mod step;
 
 use crate::block::LONGEST_BLOCK;
 use byteorder::{ByteOrder, LittleEndian};
@@ -66,8 +66,9 @@ pub struct SimhImage<R> {
 }
 
 impl<R: Read> SimhImage<R> {
-    /// Creates the SIMH image of the image of format `format` that `device` gives. Does not allocate:
-    /// reading does, for blocks in several chunks, and returns an error if there is no memory.
+    /// Creates the SIMH image of the image of format `format` that `device` gives. Does not
+    /// allocate: reading does, for blocks in several chunks, and returns an error if there is no
+    /// memory.
     pub fn new(alloc: Global, device: R, format: ImageFormat) -> SimhImage<R>
         ensures { simh_remaining R.remaining result
             ≡ option_map (simh_bytes format) (R.remaining device) }

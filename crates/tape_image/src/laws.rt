@@ -11,6 +11,7 @@ ghost use Rattle.tape_image.specs.FormatItems.{SimhImagesKeepItems};
 ghost use Rattle.tape_image.specs.FormatLaws.{ItemsAreUnique, EncodingsAreUnique};
 ghost use Rattle.tape_image.specs.FormatLaws.{NoEncodingBeginsAnother, SimhIsExtended};
 ghost use Rattle.tape_image.specs.FormatLaws.{E11AndSimhAgree, E11AndSimhAreApart, EvenE11IsSimh};
+ghost use Rattle.tape_image.specs.ResyncLaws.{FrontStays, WholeImagesStay};
 ghost use Rattle.tape_image.specs.Examples.{ImagesAreHeld, AnswersAreHeld, TakingIsHeld};
 ghost use Rattle.tape_image.specs.Examples.{LawsAreHeld, WritingIsHeld};
 
@@ -85,6 +86,13 @@ pub fn simh_formats_agree()
     ensures apart { E11AndSimhAreApart }
     ensures agree { E11AndSimhAgree }
     ensures even { EvenE11IsSimh }
+{}
+
+/// Where reading continues after a wrong word, the items before that word stay as they are. An
+/// image that can be read to its end stays as it is.
+pub fn resynced_images_keep_items()
+    ensures front { FrontStays }
+    ensures whole { WholeImagesStay }
 {}
 
 /// Test cases for the definitions: small images and results.

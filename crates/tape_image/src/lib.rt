@@ -9,6 +9,7 @@ mod item;
 pub mod laws;
 mod put;
 mod reader;
+mod resync;
 mod writer;
 
 pub use block::{ImageBuffer, fill};
@@ -17,4 +18,5 @@ pub use format::{ImageFormat, SimhImage};
 pub use item::{Ending, ImageCause, ImageFault, ImageWriteFault, Item};
 pub use put::write_bytes;
 pub use reader::ImageReader;
+pub use resync::{Lost, Resynced};
 pub use writer::ImageWriter;

@@ -23,6 +23,8 @@ mod long;
 #[cfg(test)]
 mod readers;
 #[cfg(test)]
+mod resync;
+#[cfg(test)]
 mod takers;
 #[cfg(test)]
 mod worked;

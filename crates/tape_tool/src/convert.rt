@@ -15,7 +15,7 @@ use std::alloc::Global;
 use std::fs::File;
 use std::io;
 use std::io::{BufWriter, Read, Write};
-use tape_image::{ConvertFault, ImageFormat, ImageReader, convert_to};
+use tape_image::{ConvertFault, ImageFormat, ImageReader, Lost, Resynced, convert_to};
 use tape_run::{Container, ImageSource, Place, container_of, write_text};
 
 /// The request to `convert`: the image to create, and the image at a path, or on standard input.
@@ -27,6 +27,8 @@ pub struct ConvertOrder<'a> {
     pub image: Option<&'a str>,
     /// The format of the image, or `None` if it is to be recognised.
     pub format: Option<ImageFormat>,
+    /// Whether reading continues after a wrong word.
+    pub resync: bool,
 }
 
 pub const CONVERT: &CommandSpec = &CommandSpec {
@@ -37,7 +39,7 @@ pub const CONVERT: &CommandSpec = &CommandSpec {
         Word("OUT", Kind::Text, help::MERGED_OUT),
         Word(
             "IMAGE",
-            Kind::AtMostOne("tape convert [--format FORMAT] OUT [IMAGE]"),
+            Kind::AtMostOne("tape convert [--format FORMAT] [--resync] OUT [IMAGE]"),
             help::IMAGE_TO_CONVERT,
         ),
         Word(
@@ -45,6 +47,7 @@ pub const CONVERT: &CommandSpec = &CommandSpec {
             Kind::NameOption("FORMAT", &["auto", "aws", "e11", "simh"], &["auto"]),
             help::FORMAT_TO_CONVERT,
         ),
+        Word("resync", Kind::Flag, help::RESYNC),
     ],
 };
 
@@ -58,6 +61,7 @@ pub fn convert_order<'a>(matches: &ArgMatches<'a>) -> Result<ConvertOrder<'a>, R
             "simh" => Some(ImageFormat::Extended),
             _ => None,
         },
+        resync: matches.get_flag("resync"),
     })
 }
 
@@ -90,36 +94,39 @@ pub fn convert_image<'a, R: Progress>(
     *site = FaultSite::New(order.out);
     no_draft(&[order.out, order.image.unwrap_or(order.out)], None)?;
     let (mut draft, out) = Draft::new(rt, order.out)?;
-    let end = match written(rt, order, &mut draft, out, site) {
-        Ok(items) => told(rt, items, site),
+    let mut lost = None;
+    let end = match written(rt, order, &mut lost, &mut draft, out, site) {
+        Ok(items) => told(rt, items, lost.is_some(), site),
         Err(fault) => End::Faulted(fault),
     };
     Ok(draft.ended(end))
 }
 
 /// Prints the number of items.
-fn told<R: Progress>(rt: &R, items: u64, site: &mut FaultSite<'_>) -> End {
+fn told<R: Progress>(rt: &R, items: u64, is_broken: bool, site: &mut FaultSite<'_>) -> End {
     *site = FaultSite::Lines;
     let Ok(line) = format!(in rt.alloc(); "CONVERTED {items}\n") else {
         return End::Faulted(OUT_OF_MEMORY);
     };
     match write_text(&mut io::writer(rt), line.as_bytes()) {
+        Ok(()) if is_broken => End::Incomplete,
         Ok(()) => End::Done,
         Err(fault) => End::Faulted(ToolFault::from(fault)),
     }
 }
 
 /// Writes the SIMH image to the draft, reads it again to its end, and gives it its name. Returns
-/// the number of its items.
+/// the number of its items, and in `lost` the bytes that were lost last.
 fn written<'a, R: Progress>(
     rt: &R,
     order: ConvertOrder<'a>,
+    lost: &mut Option<Lost>,
     draft: &mut Draft<'_, R>,
     out: BufWriter<File>,
     site: &mut FaultSite<'a>,
 ) -> Result<u64, ToolFault> {
     let mut out = out;
-    copy_image(rt, order, &mut out, site)?;
+    copy_image(rt, order, lost, &mut out, site)?;
     let items = items_of(rt, draft.path())?;
     *site = FaultSite::New(order.out);
     draft.place(out)?;
@@ -130,6 +137,7 @@ fn written<'a, R: Progress>(
 fn copy_image<'a, R: Progress, W: Write>(
     rt: &R,
     order: ConvertOrder<'a>,
+    lost: &mut Option<Lost>,
     out: &mut W,
     site: &mut FaultSite<'a>,
 ) -> Result<(), ToolFault> {
@@ -142,7 +150,7 @@ fn copy_image<'a, R: Progress, W: Write>(
     let Some(image) = images.mount(0).map_err(|_| OUT_OF_MEMORY)? else {
         return Err(ToolFault::File(FileFault::NotOpened));
     };
-    match copied(rt.alloc(), image, order.format, out) {
+    match copied(rt, image, order, lost, out) {
         Ok(()) => Ok(()),
         Err(Stop::Image(fault)) => Err(fault),
         Err(Stop::Out) => {
@@ -168,17 +176,43 @@ enum Stop {
     Out,
 }
 
+/// An image in which reading continues after a wrong word. The place is named on standard error.
+#[derive(Drop)]
+struct Resync<'t, R: Progress> {
+    rt: R,
+    image: Resynced<Image<R>>,
+    /// The bytes that were lost last.
+    lost: &'t mut Option<Lost>,
+}
+
+impl<R: Progress> Read for Resync<'_, R> {
+    fn read(&mut self, buf: &mut [u8]) -> io::Result<usize> {
+        let read = self.image.read(buf);
+        let lost = self.image.lost();
+        if lost != *self.lost {
+            *self.lost = lost;
+            if let Some(Lost { from, to }) = lost {
+                let _ = self.rt.eprint(format_args!(
+                    "  reading broke off at byte {from} and continued at byte {to}\n"
+                ));
+            }
+        }
+        read
+    }
+}
+
 /// Writes the SIMH image of an unread image of a format, or of one that is recognised. An image of
 /// a kind that is not read is refused with the fault that it has as a SIMH image.
 fn copied<R: Progress, W: Write>(
-    alloc: Global,
+    rt: &R,
     image: Image<R>,
-    format: Option<ImageFormat>,
+    order: ConvertOrder<'_>,
+    lost: &mut Option<Lost>,
     out: &mut W,
 ) -> Result<(), Stop> {
-    let mut image = image;
+    let (mut image, alloc) = (image, rt.alloc());
     let kind = container_of(image.front());
-    let format = match format.or(format_of(kind)) {
+    let format = match order.format.or(format_of(kind)) {
         Some(format) => format,
         // What is only in the extended format may come later.
         None if is_simh(kind) => ImageFormat::Extended,
@@ -190,7 +224,15 @@ fn copied<R: Progress, W: Write>(
             return Err(Stop::Image(fault));
         }
     };
-    match convert_to(alloc, image, format, out) {
+    let is_standard = format == ImageFormat::Extended && kind != Container::Extended;
+    let converted = if order.resync && is_standard {
+        let rt = rt.clone().map_err(|_| Stop::Image(OUT_OF_MEMORY))?;
+        let image = Resynced::new(alloc, image);
+        convert_to(alloc, Resync { rt, image, lost }, format, out)
+    } else {
+        convert_to(alloc, image, format, out)
+    };
+    match converted {
         Ok(()) => Ok(()),
         Err(ConvertFault::ReadFailed) => Err(Stop::Image(ToolFault::File(FileFault::ReadFailed))),
         Err(ConvertFault::WriteFailed) => Err(Stop::Out),

@@ -286,10 +286,10 @@ const IMAGE: &str = "
   'extract' with this and other copies.
 #2  The lengths before and after a block differ: damage, no pad bytes (E11), a
   copy made as text, or an older recording after the end. All items before that
-  were listed. Copy the image again, or use 'extract' with other copies too.
+  were listed. Copy it again, use other copies, or see 'tape convert --resync'.
 #3  The bytes there are not a record length: damage, a record or marker of SIMH's
   extended format, or an older recording after the end. All items before that
-  were listed. Copy the image again, or use 'extract' with other copies too.
+  were listed. Copy it again, use other copies, or see 'tape convert --resync'.
 #4  The image is longer than 4,294,967,295 bytes; tape reads no further.
   All items before that were listed.
 #5  The image could not be read there: is it a directory, or is the disk failing?

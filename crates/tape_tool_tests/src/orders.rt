@@ -71,8 +71,9 @@ const REQUESTS: &str = "
     merge out a.tap b.tap => merge out log=none a.tap b.tap
     merge out --log kept a --files-from l => merge out log=kept a lines of l
     compare a.tap b.tap => compare json=false a.tap b.tap
-    convert a.tap b.aws => convert a.tap image=b.aws None
-    convert a.tap --format e11 => convert a.tap image=none Some(E11)
+    convert a.tap b.aws => convert a.tap image=b.aws None resync=false
+    convert a.tap --format e11 => convert a.tap image=none Some(E11) resync=false
+    convert --resync a.tap => convert a.tap image=none None resync=true
     compare --json a.tap b.tap => compare json=true a.tap b.tap
 ";
 
@@ -152,7 +153,8 @@ impl fmt::Display for Request<'_> {
             }
             Order::Convert(order) => {
                 let image = order.image.unwrap_or("none");
-                write!(f, "convert {} image={image} {:?}", order.out, order.format)
+                let (out, format, resync) = (order.out, order.format, order.resync);
+                write!(f, "convert {out} image={image} {format:?} resync={resync}")
             }
             order => write_recovery(f, order),
         }

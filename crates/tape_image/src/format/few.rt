@@ -31,7 +31,7 @@ impl Model for Few {
 
 impl Few {
     /// Holds nothing.
-    pub(super) fn new() -> Few
+    pub(crate) fn new() -> Few
         ensures { result ≡ [] }
     {
         Few {
@@ -41,14 +41,14 @@ impl Few {
     }
 
     /// Returns the bytes.
-    pub(super) fn bytes(&self) -> &[u8]
+    pub(crate) fn bytes(&self) -> &[u8]
         ensures { result.now ≡ self.now }
     {
         &self.bytes[..self.end]
     }
 
     /// Holds a piece of an image.
-    pub(super) fn put(&mut self, piece: Piece)
+    pub(crate) fn put(&mut self, piece: Piece)
         ensures { self.new ≡ piece_bytes piece }
     {
         match piece {
@@ -75,7 +75,7 @@ impl Few {
     }
 
     /// Moves bytes to the start of `buf`, as many as it has room for, and returns their number.
-    pub(super) fn take(&mut self, buf: &mut [u8]) -> usize
+    pub(crate) fn take(&mut self, buf: &mut [u8]) -> usize
         ensures bound { result ≤ length buf.new }
         ensures bytes { self.old ≡ take result buf.new ++ self.new }
         ensures some { 0 < length self.old → 0 < length buf.new → 0 < result }
@@ -88,7 +88,7 @@ impl Few {
     }
 
     /// Drops the first `count` bytes.
-    pub(super) fn skip(&mut self, count: usize)
+    pub(crate) fn skip(&mut self, count: usize)
         requires { count ≤ length self.old }
         ensures { self.new ≡ drop count self.old }
     {
@@ -102,7 +102,7 @@ impl Few {
     /// # Errors
     ///
     /// Returns the error of the device.
-    pub(super) fn fill<R: Read>(&mut self, device: &mut R, count: usize) -> io::Result<bool>
+    pub(crate) fn fill<R: Read>(&mut self, device: &mut R, count: usize) -> io::Result<bool>
         requires { count ≤ 10 }
         ensures keeps { Keeps (prepend_known self.old (R.remaining device.old))
             (prepend_known self.new (R.remaining device.new)) }

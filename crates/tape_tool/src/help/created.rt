@@ -200,6 +200,8 @@ pub const IMAGE_TO_CONVERT: &str = "Image to convert [default: standard input]";
 pub const FORMAT_TO_CONVERT: &str = "Format of IMAGE, if it is not recognised: aws, e11 or
 simh";
 
+pub const RESYNC: &str = "In a SIMH image, continue after a wrong word";
+
 pub const ONE_TO_CONVERT: &str = "convert takes one IMAGE after OUT";
 
 pub const AFTER_CONVERT: &str = "Examples:
@@ -208,7 +210,7 @@ pub const AFTER_CONVERT: &str = "Examples:
 
 The format is recognised by the first 36,864 bytes of IMAGE, unless --format
 says it:
-  AWS      a header before each block
+  AWS      a header before each chunk of a block
   E11      SIMH without pad bytes after blocks of odd length
   SIMH, extended format
            descriptions, private records and markers are left out, and a bad
@@ -218,12 +220,19 @@ An image of another format is refused, as 'tape list' refuses it: with --explain
 it is named, and the program that converts it.
 
 OUT has the items of IMAGE, and all bytes of its blocks, also of unreadable
-ones. If IMAGE is damaged, the byte offset of the fault is that in the SIMH
-image, and there is no OUT.
+ones, except AWS blocks of several chunks with more than 99,999 bytes, which
+become unreadable. If IMAGE is damaged, the byte offset of the fault is that in
+the SIMH image, and there is no OUT.
   CONVERTED 1284
            the number of items of OUT
+
+With --resync, reading of a SIMH image continues after a wrong word at the next
+block that another one, a tape mark, a gap or the end follows. OUT has one
+unreadable block for the bytes before it, and standard error names them:
+  reading broke off at byte 268 and continued at byte 512
+Bytes in a damaged block that look like blocks are taken for blocks.
 
 An existing OUT is never overwritten ('tape: file fault 1'), and OUT appears
 only when it is complete.
 
-Exit status: 0 OUT is complete, 1 error, 2 usage error";
+Exit status: 0 OUT is complete, 1 error, 2 usage error, 3 bytes were lost";

@@ -1,4 +1,4 @@
-use Rattle.std.proofs.Common.{◌≡◌, ◌+◌, ◌-◌, ◌≤◌, ◌<◌, ◌++◌, ◌∙◌, ap, ℕ, List, length, take, drop}
+use Rattle.std.proofs.Common.{◌≡◌, ◌+◌, ◌-◌, ◌++◌, ◌∙◌, ap, ℕ, List, length, take, drop}
 use Rattle.std.proofs.Common.{rules, arith, length-append}
 use lib.Seq.{take_at}
 use Rattle.tape_image.proofs.Formats.{kept_gives}
