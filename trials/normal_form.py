@@ -75,6 +75,19 @@ class Normal:
     def over(self, *_):
         self.place = "over"
 
+    def left(self, place):
+        """Leaves the rest unchanged; but labels in EBCDIC are still looked for, from `place` on."""
+        self.place = place if self.code == "ebcdic" else "over"
+        self.file, self.is_filled, self.blocks = 9999, False, None
+
+    def other(self, label):
+        """A block that is not the label expected there: an HDR1, or data."""
+        self.left("data")
+        if self.place == "over" or kind_of(label) != "HDR1":
+            return None
+        self.place = "second"
+        return [("block", self.header(label))]
+
     def drop(self, rule):
         """Leaves an item out, unless there were too many."""
         self.dropped += 1
@@ -99,8 +112,10 @@ class Normal:
         return self.drop("before")
 
     def labels(self, kind, _, label):
-        if kind != "block":
-            self.place = "blank" if kind == "mark" else "over"
+        if kind == "bad":
+            return self.left("headers")
+        if kind == "mark":
+            self.place = "blank"
             return None
         if model.is_volume_label(label):
             return [("block", label)]
@@ -127,12 +142,14 @@ class Normal:
         self.place = "ended" if kind == "mark" else "over"
 
     def second(self, kind, _, label):
+        if kind == "bad":
+            return self.left("headers")
         if kind == "mark" or model.is_further_header(label):
             self.place = "data" if kind == "mark" else "headers"
             self.rules.add("second")
             return None if kind == "mark" else [("block", label)]
         if kind_of(label) != "HDR2":
-            return self.over()
+            return self.other(label)
         self.place = "headers"
         return [("block", self.with_numbers(label))]
 
@@ -149,8 +166,13 @@ class Normal:
         return label
 
     def headers(self, kind, _, label):
-        self.place = {"mark": "data", "block": "headers", "bad": "over"}[kind]
-        return [("block", label)] if kind == "block" else None
+        if kind == "bad":
+            return self.left("headers")
+        if kind == "mark":
+            self.place = "data"
+            return None
+        is_header = kind_of(label) == "HDR2" or model.is_further_header(label)
+        return [("block", label)] if is_header or self.code == "ascii" else self.other(label)
 
     def data(self, kind, *_):
         self.place = "trailer" if kind == "mark" else "data"
@@ -159,9 +181,11 @@ class Normal:
         elif kind == "block":
             self.blocks += 1
 
-    def trailer(self, _, __, label):
+    def trailer(self, kind, _, label):
+        if kind != "block":
+            return self.left("trailer")
         if kind_of(label) not in ("EOF1", "EOV1"):
-            return self.over()
+            return self.other(label)
         self.place = "trailers"
         return [("block", self.trailing(label))]
 
@@ -187,12 +211,19 @@ class Normal:
         return better
 
     def trailers(self, kind, _, label):
-        self.place = {"mark": "next", "block": "trailers", "bad": "over"}[kind]
-        return [("block", label)] if kind == "block" else None
+        if kind == "bad":
+            return self.left("trailers")
+        if kind == "mark":
+            self.place = "next"
+            return None
+        is_lost = self.code == "ebcdic" and kind_of(label) == "HDR1"
+        return self.other(label) if is_lost else [("block", label)]
 
     def next(self, kind, _, label):
+        if kind == "bad":
+            return self.left("headers")
         if kind != "mark" and kind_of(label) != "HDR1":
-            return self.over()
+            return self.other(label)
         self.place = "ended" if kind == "mark" else "second"
         return None if kind == "mark" else [("block", self.header(label))]
 

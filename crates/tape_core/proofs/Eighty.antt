@@ -6,8 +6,9 @@ use Rattle.tape_core.specs.declared.normal.code.Code.{Code}
 use Rattle.tape_core.specs.declared.normal.numbers.FileSeen.{FileSeen}
 use Rattle.tape_core.specs.declared.normal.code.Code.TheVariants.{Ascii, Ebcdic}
 use Rattle.tape_core.specs.NormalForm.{Codes.in_ascii, Steps.begin_at}
-use Rattle.tape_core.specs.NormalForm.Steps.{second_at, same}
-use Rattle.tape_core.specs.declared.normal.machine.TapePlace.TheVariants.{Over}
+use Rattle.tape_core.specs.NormalForm.{Mended.lost}
+use Rattle.tape_core.specs.NormalForm.Steps.{second_at, other_at, left_at, same}
+use Rattle.tape_core.specs.declared.normal.machine.TapePlace.TheVariants.{Data}
 
 pub not_80 : (b : List ℕ) → length b ≢ 80 → (length b == 80) ≡ false
 not_80 b n = grind (arith, n)
@@ -42,7 +43,14 @@ not_further_of code b n = ap (λ v. is_further_header v) (same_of code b n) ∙ 
 pub no_beginning : (b : List ℕ) → length b ≢ 80 → begin_at b ≡ None
 no_beginning b n = rw (no_kind_of Ascii b n, no_kind_of Ebcdic b n) refl
 
--- where a second label is expected, such a block is left as it is
-pub second_over : (code : Code) (seen : FileSeen) (b : List ℕ) → length b ≢ 80
-    → second_at code seen (in_ascii code b) ≡ (Over, same)
-second_over code seen b n = rw (no_kind_of code b n, not_further_of code b n) refl
+-- where a second label is expected, such a block is not one
+pub second_other : (code : Code) (seen : FileSeen) (b : List ℕ) → length b ≢ 80
+    → second_at code seen (in_ascii code b) ≡ other_at code seen (in_ascii code b)
+second_other Ascii seen b n = rw (no_kind_of Ascii b n, not_further_of Ascii b n) refl
+second_other Ebcdic seen b n = rw (no_kind_of Ebcdic b n, not_further_of Ebcdic b n) refl
+
+-- no label, so data, if labels are looked for
+pub other_data : (code : Code) (seen : FileSeen) (b : List ℕ) → length b ≢ 80
+    → other_at code seen (in_ascii code b) ≡ (left_at code (Data code (lost seen)), same)
+other_data Ascii seen b n = refl
+other_data Ebcdic seen b n = rw (no_kind_of Ebcdic b n) refl

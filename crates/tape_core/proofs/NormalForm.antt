@@ -5,6 +5,7 @@ pub mod AheadFacts
 pub mod AheadRules
 pub mod Ahead
 pub mod Data
+pub mod Found
 pub mod KindKept
 pub mod Numbers
 pub mod Plain

@@ -1,6 +1,6 @@
 -- The normal form of a tape: the tape as the standard would have it. Each part of a tape has its
 -- own function, which takes the items from that part on. From an item that should not be there the
--- rest of the tape is left as it is.
+-- rest of the tape is left as it is, unless its labels are in EBCDIC: these are still looked for.
 pub mod Codes
 pub mod Mended
 pub mod Laws
@@ -10,8 +10,8 @@ pub mod Steps
 -- The bytes of images in normal form, and what is left of one.
 pub mod Bytes
 pub mod Image
-use Rattle.std.specs.Prelude.{ℕ, ◌+◌, nat_lt, ◌&&◌, ◌||◌, not, Bool, List, [], ◌∷◌, length}
-use Rattle.std.specs.Prelude.{if◌then◌else◌}
+use Rattle.std.specs.Prelude.{ℕ, ◌+◌, nat_lt, ◌&&◌, ◌||◌, not, Bool, true, false, List, [], ◌∷◌}
+use Rattle.std.specs.Prelude.{length, if◌then◌else◌}
 use Rattle.tape_image.specs.Tape.{TapeItem, block, bad, mark}
 use Rattle.tape_label.specs.{Kinds.kind_at, VolumeLabels.is_volume_label}
 use Rattle.tape_label.specs.WideHead2.{is_further_header}
@@ -21,7 +21,7 @@ use Rattle.tape_core.specs.NormalForm.{Codes.in_ascii, Mended.is_vol1, Mended.is
 use Rattle.tape_core.specs.NormalForm.{Mended.is_hdr2}
 use Rattle.tape_core.specs.NormalForm.Mended.{is_first_trailer, is_dummy, mended}
 use Rattle.tape_core.specs.NormalForm.Mended.{no_volume_label, no_file, headed, trailed}
-use Rattle.tape_core.specs.NormalForm.Mended.{counted, uncounted}
+use Rattle.tape_core.specs.NormalForm.Mended.{counted, uncounted, lost}
 use Rattle.tape_core.specs.declared.normal.numbers.FileSeen.{FileSeen}
 
 -- the greatest number of items that are dropped before VOL1, or between VOL1 and HDR1
@@ -35,6 +35,31 @@ is_noise bytes = nat_lt (length bytes) 14
 -- a label with which a tape begins, in either code
 abbrev pub begins_tape : Code → List ℕ → Bool
 begins_tape code b = is_vol1 (kind_at (in_ascii code b)) || is_hdr1 (kind_at (in_ascii code b))
+
+-- what follows an item that is not expected: the rest as it is or, in EBCDIC, this part of a tape
+abbrev pub of_left : Code → FileSeen → List TapeItem → (FileSeen → List TapeItem) → List TapeItem
+of_left Ascii seen xs part = xs
+of_left Ebcdic seen xs part = part (lost seen)
+
+-- whether a label that is not expected begins a file
+abbrev pub is_lost_header : Code → List ℕ → Bool
+is_lost_header Ascii text = false
+is_lost_header Ebcdic text = is_hdr1 (kind_at text)
+
+-- whether header labels go on with this one
+abbrev pub is_next_header : Code → List ℕ → Bool
+is_next_header Ascii text = true
+is_next_header Ebcdic text = is_hdr2 (kind_at text) || is_further_header text
+
+-- a block that is not the label expected there, and the rest, which is `second` if the block begins
+-- a file; any other is taken for data in EBCDIC
+abbrev pub of_other : Code → FileSeen → List ℕ → List TapeItem → (FileSeen → List TapeItem)
+    → (FileSeen → List TapeItem) → List TapeItem
+of_other code seen b xs second data' =
+    if is_lost_header code (in_ascii code b)
+    then block (headed (lost seen) (in_ascii code b)).0
+    ∷ second (headed (lost seen) (in_ascii code b)).1
+    else block b ∷ of_left code seen xs data'
 
 abbrev mutual
   -- VOL1, or HDR1 if there is none; marks and noise before it are dropped. If it is in EBCDIC, so
@@ -66,7 +91,7 @@ abbrev mutual
       else if nat_lt n most_dropped then of_labels code (n + 1) xs
       else block b ∷ xs
   of_labels code n (mark ∷ xs) = mark ∷ of_blank xs
-  of_labels code n (bad ∷ xs) = bad ∷ xs
+  of_labels code n (bad ∷ xs) = bad ∷ of_left code no_file xs (λ s. of_headers code s xs)
 
   -- the second mark of a volume without files
   pub of_blank : List TapeItem → List TapeItem
@@ -83,16 +108,19 @@ abbrev mutual
       then block (mended (in_ascii code b)) ∷ of_headers code seen xs
       else if is_further_header (in_ascii code b)
       then block (in_ascii code b) ∷ of_headers code seen xs
-      else block b ∷ xs
+      else of_other code seen b xs (λ s. of_second code s xs) (λ s. of_data code s xs)
   of_second code seen (mark ∷ xs) = mark ∷ of_data code seen xs
-  of_second code seen (bad ∷ xs) = bad ∷ xs
+  of_second code seen (bad ∷ xs) = bad ∷ of_left code seen xs (λ s. of_headers code s xs)
 
   -- further header labels, up to a mark
   pub of_headers : Code → FileSeen → List TapeItem → List TapeItem
   of_headers code seen [] = []
-  of_headers code seen (block b ∷ xs) = block (in_ascii code b) ∷ of_headers code seen xs
+  of_headers code seen (block b ∷ xs) =
+      if is_next_header code (in_ascii code b)
+      then block (in_ascii code b) ∷ of_headers code seen xs
+      else of_other code seen b xs (λ s. of_second code s xs) (λ s. of_data code s xs)
   of_headers code seen (mark ∷ xs) = mark ∷ of_data code seen xs
-  of_headers code seen (bad ∷ xs) = bad ∷ xs
+  of_headers code seen (bad ∷ xs) = bad ∷ of_left code seen xs (λ s. of_headers code s xs)
 
   -- data, up to a mark: never changed
   pub of_data : Code → FileSeen → List TapeItem → List TapeItem
@@ -108,16 +136,20 @@ abbrev mutual
       if is_first_trailer (kind_at (in_ascii code b))
       then block (trailed seen (in_ascii code b)).0
       ∷ of_trailers code (trailed seen (in_ascii code b)).1 xs
-      else block b ∷ xs
-  of_trailer code seen (mark ∷ xs) = mark ∷ xs
-  of_trailer code seen (bad ∷ xs) = bad ∷ xs
+      else of_other code seen b xs (λ s. of_second code s xs) (λ s. of_data code s xs)
+  of_trailer code seen (mark ∷ xs) = mark ∷ of_left code seen xs (λ s. of_trailer code s xs)
+  of_trailer code seen (bad ∷ xs) = bad ∷ of_left code seen xs (λ s. of_trailer code s xs)
 
   -- further trailer labels, up to a mark
   pub of_trailers : Code → FileSeen → List TapeItem → List TapeItem
   of_trailers code seen [] = []
-  of_trailers code seen (block b ∷ xs) = block (in_ascii code b) ∷ of_trailers code seen xs
+  of_trailers code seen (block b ∷ xs) =
+      if is_lost_header code (in_ascii code b)
+      then block (headed (lost seen) (in_ascii code b)).0
+      ∷ of_second code (headed (lost seen) (in_ascii code b)).1 xs
+      else block (in_ascii code b) ∷ of_trailers code seen xs
   of_trailers code seen (mark ∷ xs) = mark ∷ of_next code seen xs
-  of_trailers code seen (bad ∷ xs) = bad ∷ xs
+  of_trailers code seen (bad ∷ xs) = bad ∷ of_left code seen xs (λ s. of_trailers code s xs)
 
   -- the HDR1 of the next file, or the second mark
   pub of_next : Code → FileSeen → List TapeItem → List TapeItem
@@ -126,9 +158,9 @@ abbrev mutual
       if is_hdr1 (kind_at (in_ascii code b))
       then block (headed seen (in_ascii code b)).0
       ∷ of_second code (headed seen (in_ascii code b)).1 xs
-      else block b ∷ xs
+      else of_other code seen b xs (λ s. of_second code s xs) (λ s. of_data code s xs)
   of_next code seen (mark ∷ xs) = mark ∷ of_ended xs
-  of_next code seen (bad ∷ xs) = bad ∷ xs
+  of_next code seen (bad ∷ xs) = bad ∷ of_left code seen xs (λ s. of_headers code s xs)
 
   -- what follows the end of the volume is dropped, up to a label with which a tape begins
   pub of_ended : List TapeItem → List TapeItem

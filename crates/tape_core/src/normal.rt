@@ -11,6 +11,7 @@ mod looking;
 mod machine;
 mod mend;
 mod numbers;
+mod other;
 mod rules;
 
 pub use code::{Code, to_ascii};

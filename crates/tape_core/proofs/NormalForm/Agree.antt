@@ -19,15 +19,17 @@ use Rattle.tape_core.specs.declared.normal.machine.Missing.TheVariants.{SecondLa
 use Rattle.tape_core.specs.NormalForm.{Codes.in_ascii, Mended.is_vol1, Mended.is_hdr1}
 use Rattle.tape_core.specs.NormalForm.{Mended.is_hdr2}
 use Rattle.tape_core.specs.NormalForm.Mended.{is_first_trailer, is_dummy, mended, headed, trailed}
-use Rattle.tape_core.specs.NormalForm.Mended.{no_file}
+use Rattle.tape_core.specs.NormalForm.Mended.{no_file, lost}
 use Rattle.tape_core.specs.declared.normal.numbers.FileSeen.{FileSeen}
-use Rattle.tape_core.specs.NormalForm.{is_noise, most_dropped, of_labels, of_second}
-use Rattle.tape_core.specs.NormalForm.{of_trailers, of_headers}
+use Rattle.tape_core.specs.NormalForm.{is_noise, most_dropped, of_labels, of_second, of_data}
+use Rattle.tape_core.specs.NormalForm.{of_trailers, of_headers, of_left, of_other}
+use Rattle.tape_core.specs.NormalForm.{is_next_header, is_lost_header}
 use Rattle.tape_core.specs.NormalForm.Steps.{Gives, step_of, from, given, instead, instead_in}
 use Rattle.tape_core.specs.NormalForm.Steps.{translated_with, mended_with, replaced_with, header_at}
 use Rattle.tape_core.specs.NormalForm.Steps.{inserted, begin_at, ended_at, start_at, labels_at}
 use Rattle.tape_core.specs.NormalForm.Steps.{second_at}
-use Rattle.tape_core.specs.NormalForm.Steps.{any_at, trailer_at, next_at, drop_first}
+use Rattle.tape_core.specs.NormalForm.Steps.{any_at, trailer_at, next_at, drop_first, left_at}
+use Rattle.tape_core.specs.NormalForm.Steps.{other_at, headers_at, trailers_at}
 
 -- a label in either code becomes its characters in ASCII
 instead_is : (code : Code) (b : List ℕ)
@@ -84,16 +86,53 @@ any_behind code b xs true e = rw (e) (sym (ap (λ v. v ++ xs) (any_own code b e)
 any_behind Ascii b xs false e = rw (e) refl
 any_behind Ebcdic b xs false e = rw (e) refl
 
+-- after an item that is not expected
+left_behind : (code : Code) (seen : FileSeen) (place : FileSeen → TapePlace) (xs : List TapeItem)
+    → of_left code seen xs (λ s. from (place s) xs) ≡ from (left_at code (place (lost seen))) xs
+left_behind Ascii seen place xs = refl
+left_behind Ebcdic seen place xs = refl
+
 -- ---- each place
 
 module _ (b : List ℕ) (xs : List TapeItem) where
+  other_by : (code : Code) (seen : FileSeen) (t : Bool) → is_lost_header code (in_ascii code b) ≡ t
+      → of_other code seen b xs (λ s. of_second code s xs) (λ s. of_data code s xs)
+      ≡ given (other_at code seen (in_ascii code b)).1 (block b)
+      ++ from (other_at code seen (in_ascii code b)).0 xs
+  other_by code seen true e = rw (e) (header_is Nothing code (lost seen) b xs)
+  other_by code seen false e =
+      rw (e) (ap (λ v. block b ∷ v) (left_behind code seen (λ s. Data code s) xs))
+
+  other_gives : (code : Code) (seen : FileSeen)
+      → of_other code seen b xs (λ s. of_second code s xs) (λ s. of_data code s xs)
+      ≡ given (other_at code seen (in_ascii code b)).1 (block b)
+      ++ from (other_at code seen (in_ascii code b)).0 xs
+  other_gives code seen = other_by code seen (is_lost_header code (in_ascii code b)) refl
+
+  headers_gives : (code : Code) (seen : FileSeen) (t : Bool)
+      → is_next_header code (in_ascii code b) ≡ t
+      → from (Headers code seen) (block b ∷ xs)
+      ≡ given (headers_at code seen b).1 (block b) ++ from (headers_at code seen b).0 xs
+  headers_gives code seen true e =
+      rw (e) (any_behind code b (of_headers code seen xs) (length b == 80) refl)
+  headers_gives code seen false e = rw (e) (other_gives code seen)
+
+  trailers_gives : (code : Code) (seen : FileSeen) (t : Bool)
+      → is_lost_header code (in_ascii code b) ≡ t
+      → from (Trailers code seen) (block b ∷ xs)
+      ≡ given (trailers_at code seen b).1 (block b) ++ from (trailers_at code seen b).0 xs
+  trailers_gives code seen true e = rw (e) (header_is Nothing code (lost seen) b xs)
+  trailers_gives code seen false e =
+      rw (e) (any_behind code b (of_trailers code seen xs) (length b == 80) refl)
+
   next_gives : (code : Code) (seen : FileSeen) (t : Bool)
       → is_hdr1 (kind_at (in_ascii code b)) ≡ t
       → from (Next code seen) (block b ∷ xs)
       ≡ given (next_at code seen (in_ascii code b)).1 (block b)
       ++ from (next_at code seen (in_ascii code b)).0 xs
   next_gives code seen true e = rw (e) (header_is Nothing code seen b xs)
-  next_gives code seen false e = rw (e) refl
+  next_gives Ascii seen false e = rw (e) refl
+  next_gives Ebcdic seen false e = rw (e) refl
 
   trailer_gives : (code : Code) (seen : FileSeen) (t : Bool)
       → is_first_trailer (kind_at (in_ascii code b)) ≡ t
@@ -103,7 +142,7 @@ module _ (b : List ℕ) (xs : List TapeItem) where
   trailer_gives code seen true e =
       rw (e) (sym (replaced_is Nothing code b (trailed seen (in_ascii code b)).0
       (of_trailers code (trailed seen (in_ascii code b)).1 xs) _ refl))
-  trailer_gives code seen false e = rw (e) refl
+  trailer_gives code seen false e = rw (e) (other_gives code seen)
 
   second_gives : (code : Code) (seen : FileSeen) (t u : Bool)
       → is_hdr2 (kind_at (in_ascii code b)) ≡ t
@@ -115,7 +154,7 @@ module _ (b : List ℕ) (xs : List TapeItem) where
       rw (e) (sym (second_is code b (of_headers code seen xs) _ refl))
   second_gives code seen false true e f =
       rw (e, f) (sym (behind SecondLabel code b (of_headers code seen xs)))
-  second_gives code seen false false e f = rw (e, f) refl
+  second_gives code seen false false e f = rw (e, f) (other_gives code seen)
 
   labels_gives : (code : Code) (n : ℕ) (v h t : Bool) → is_volume_label (in_ascii code b) ≡ v
       → (is_hdr1 (kind_at (in_ascii code b)) && not (is_dummy (in_ascii code b))) ≡ h
@@ -175,7 +214,8 @@ table_gives (Labels code n) (block b) xs =
     (is_hdr1 (kind_at (in_ascii code b)) && not (is_dummy (in_ascii code b)))
     (nat_lt n most_dropped) refl refl refl
 table_gives (Labels code n) mark xs = refl
-table_gives (Labels code n) bad xs = refl
+table_gives (Labels code n) bad xs =
+    ap (λ v. bad ∷ v) (left_behind code no_file (λ s. Headers code s) xs)
 table_gives Blank (block b) xs = refl
 table_gives Blank mark xs = refl
 table_gives Blank bad xs = refl
@@ -184,26 +224,32 @@ table_gives (Second code seen) (block b) xs =
     (is_further_header (in_ascii code b))
     refl refl
 table_gives (Second code seen) mark xs = refl
-table_gives (Second code seen) bad xs = refl
+table_gives (Second code seen) bad xs =
+    ap (λ v. bad ∷ v) (left_behind code seen (λ s. Headers code s) xs)
 table_gives (Headers code seen) (block b) xs =
-    any_behind code b (of_headers code seen xs) (length b == 80) refl
+    headers_gives b xs code seen (is_next_header code (in_ascii code b)) refl
 table_gives (Headers code seen) mark xs = refl
-table_gives (Headers code seen) bad xs = refl
+table_gives (Headers code seen) bad xs =
+    ap (λ v. bad ∷ v) (left_behind code seen (λ s. Headers code s) xs)
 table_gives (Data code seen) (block b) xs = refl
 table_gives (Data code seen) mark xs = refl
 table_gives (Data code seen) bad xs = refl
 table_gives (Trailer code seen) (block b) xs =
     trailer_gives b xs code seen (is_first_trailer (kind_at (in_ascii code b))) refl
-table_gives (Trailer code seen) mark xs = refl
-table_gives (Trailer code seen) bad xs = refl
+table_gives (Trailer code seen) mark xs =
+    ap (λ v. mark ∷ v) (left_behind code seen (λ s. Trailer code s) xs)
+table_gives (Trailer code seen) bad xs =
+    ap (λ v. bad ∷ v) (left_behind code seen (λ s. Trailer code s) xs)
 table_gives (Trailers code seen) (block b) xs =
-    any_behind code b (of_trailers code seen xs) (length b == 80) refl
+    trailers_gives b xs code seen (is_lost_header code (in_ascii code b)) refl
 table_gives (Trailers code seen) mark xs = refl
-table_gives (Trailers code seen) bad xs = refl
+table_gives (Trailers code seen) bad xs =
+    ap (λ v. bad ∷ v) (left_behind code seen (λ s. Trailers code s) xs)
 table_gives (Next code seen) (block b) xs =
     next_gives b xs code seen (is_hdr1 (kind_at (in_ascii code b))) refl
 table_gives (Next code seen) mark xs = refl
-table_gives (Next code seen) bad xs = refl
+table_gives (Next code seen) bad xs =
+    ap (λ v. bad ∷ v) (left_behind code seen (λ s. Headers code s) xs)
 table_gives Ended (block b) xs =
     ended_gives b xs (is_vol1 (kind_at b)) (is_hdr1 (kind_at b))
     (is_vol1 (kind_at (in_ascii Ebcdic b))) (is_hdr1 (kind_at (in_ascii Ebcdic b))) refl refl refl

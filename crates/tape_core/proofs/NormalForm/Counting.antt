@@ -18,15 +18,17 @@ use Rattle.tape_core.specs.declared.normal.machine.TapePlace.TheVariants.{Ended,
 use Rattle.tape_core.specs.declared.normal.machine.Replacement.TheVariants.{Same, Dropped, Label}
 use Rattle.tape_core.specs.declared.normal.machine.Missing.TheVariants.{Nothing, VolumeLabel}
 use Rattle.tape_core.specs.declared.normal.machine.Missing.TheVariants.{SecondLabel, Digits}
-use Rattle.tape_core.specs.NormalForm.{is_noise, most_dropped, Codes.in_ascii}
+use Rattle.tape_core.specs.NormalForm.{is_noise, most_dropped, Codes.in_ascii, is_next_header}
+use Rattle.tape_core.specs.NormalForm.{is_lost_header}
 use Rattle.tape_core.specs.NormalForm.Mended.{is_vol1, is_hdr1, is_hdr2, is_first_trailer}
 use Rattle.tape_core.specs.NormalForm.Mended.{is_dummy, mended, headed, trailed, counted}
-use Rattle.tape_core.specs.NormalForm.Mended.{uncounted, no_file}
+use Rattle.tape_core.specs.NormalForm.Mended.{uncounted, no_file, lost}
 use Rattle.tape_core.specs.declared.normal.numbers.FileSeen.{FileSeen}
 use Rattle.tape_core.specs.NormalForm.Steps.{step_of, from, given, inserted, instead, instead_in}
 use Rattle.tape_core.specs.NormalForm.Steps.{begin_in, begin_at, either, start_at, drop_first}
 use Rattle.tape_core.specs.NormalForm.Steps.{drop_block, labels_at, second_at, any_at, trailer_at}
-use Rattle.tape_core.specs.NormalForm.Steps.{next_at, ended_at, replaced_with}
+use Rattle.tape_core.specs.NormalForm.Steps.{next_at, ended_at, replaced_with, left_at, other_at}
+use Rattle.tape_core.specs.NormalForm.Steps.{same, headers_at, trailers_at, header_at}
 use Rattle.tape_core.proofs.NormalForm.{Agree.table_gives, Ahead.from_nil}
 
 -- ---- how many items a step gives
@@ -75,7 +77,28 @@ drop_block_fits code n true e =
     rw (e) (leaf 0 (Labels code (n + 1)) Nothing Dropped refl (omega arith))
 drop_block_fits code n false e = rw (e) (leaf 0 Over Nothing Same refl (omega arith))
 
+-- after an item that is not expected
+left_fits : (code : Code) (place : TapePlace) → grown place ≡ 0
+    → FitsIn 0 (left_at code place, same)
+left_fits Ascii place g = leaf 0 Over Nothing Same refl (omega arith)
+left_fits Ebcdic place g = leaf 0 place Nothing Same g (omega arith)
+
 module _ (b : List ℕ) where
+  header_fits : (code : Code) (before : FileSeen)
+      → FitsIn 0 (header_at code Nothing before (in_ascii code b))
+  header_fits code before =
+      leaf 0 (Second code (headed before (in_ascii code b)).1) Nothing
+      (replaced_with Nothing code (headed before (in_ascii code b)).0 (in_ascii code b)).instead refl
+      (omega arith)
+
+  other_by : (code : Code) (seen : FileSeen) (t : Bool) → is_lost_header code (in_ascii code b) ≡ t
+      → FitsIn 0 (other_at code seen (in_ascii code b))
+  other_by code seen true p = rw (p) (header_fits code (lost seen))
+  other_by code seen false p = rw (p) (left_fits code (Data code (lost seen)) refl)
+
+  other_fits : (code : Code) (seen : FileSeen) → FitsIn 0 (other_at code seen (in_ascii code b))
+  other_fits code seen = other_by code seen (is_lost_header code (in_ascii code b)) refl
+
   begun_fits : (code : Code) (v h : Bool) → is_vol1 (kind_at (in_ascii code b)) ≡ v
       → is_hdr1 (kind_at (in_ascii code b)) ≡ h → AllFit 1 (begin_in code (in_ascii code b))
   begun_fits code true h f k =
@@ -130,14 +153,23 @@ module _ (b : List ℕ) where
   second_fits code seen false true m p q r =
       rw (p, q) (leaf 0 (Headers code seen) SecondLabel (instead_in code (in_ascii code b)) refl
       (omega arith))
-  second_fits code seen false false m p q r =
-      rw (p, q) (leaf 0 Over Nothing Same refl (omega arith))
+  second_fits code seen false false m p q r = rw (p, q) (other_fits code seen)
 
   any_fits : (next : TapePlace) (code : Code) (t : Bool) → grown next ≡ 0 → (length b == 80) ≡ t
       → FitsIn 0 (next, any_at code b)
   any_fits next code true g e =
       rw (e) (leaf 0 next Nothing (instead_in code (in_ascii code b)) g (omega arith))
   any_fits next code false g e = rw (e) (leaf 0 next Nothing Same g (omega arith))
+
+  headers_fit : (code : Code) (seen : FileSeen) (t : Bool)
+      → is_next_header code (in_ascii code b) ≡ t → FitsIn 0 (headers_at code seen b)
+  headers_fit code seen true p = rw (p) (any_fits (Headers code seen) code _ refl refl)
+  headers_fit code seen false p = rw (p) (other_fits code seen)
+
+  trailers_fit : (code : Code) (seen : FileSeen) (t : Bool)
+      → is_lost_header code (in_ascii code b) ≡ t → FitsIn 0 (trailers_at code seen b)
+  trailers_fit code seen true p = rw (p) (header_fits code (lost seen))
+  trailers_fit code seen false p = rw (p) (any_fits (Trailers code seen) code _ refl refl)
 
   trailer_fits : (code : Code) (seen : FileSeen) (k : Bool)
       → is_first_trailer (kind_at (in_ascii code b)) ≡ k
@@ -146,7 +178,7 @@ module _ (b : List ℕ) where
       rw (p) (leaf 0 (Trailers code (trailed seen (in_ascii code b)).1) Nothing
       (replaced_with Nothing code (trailed seen (in_ascii code b)).0 (in_ascii code b)).instead refl
       (omega arith))
-  trailer_fits code seen false p = rw (p) (leaf 0 Over Nothing Same refl (omega arith))
+  trailer_fits code seen false p = rw (p) (other_fits code seen)
 
   next_fits : (code : Code) (last : FileSeen) (k : Bool) → is_hdr1 (kind_at (in_ascii code b)) ≡ k
       → FitsIn 0 (next_at code last (in_ascii code b))
@@ -154,7 +186,9 @@ module _ (b : List ℕ) where
       rw (p) (leaf 0 (Second code (headed last (in_ascii code b)).1) Nothing
       (replaced_with Nothing code (headed last (in_ascii code b)).0 (in_ascii code b)).instead refl
       (omega arith))
-  next_fits code last false p = rw (p) (leaf 0 Over Nothing Same refl (omega arith))
+  next_fits Ascii last false p = rw (p) (leaf 0 Over Nothing Same refl (omega arith))
+  next_fits Ebcdic last false p =
+      rw (p) (leaf 0 (Data Ebcdic (lost last)) Nothing Same refl (omega arith))
 
 pub step_fits : (place : TapePlace) (x : TapeItem) → FitsIn (grown place) (step_of place x)
 step_fits (Start n) (block b) = start_fits b n (begin_at b) (begin_fits b) _ refl
@@ -162,29 +196,29 @@ step_fits (Start n) mark = drop_fits n _ refl
 step_fits (Start n) bad = leaf 1 Over Nothing Same refl (omega arith)
 step_fits (Labels code n) (block b) = labels_fit b code n _ _ refl refl
 step_fits (Labels code n) mark = leaf 0 Blank Nothing Same refl (omega arith)
-step_fits (Labels code n) bad = leaf 0 Over Nothing Same refl (omega arith)
+step_fits (Labels code n) bad = left_fits code (Headers code (lost no_file)) refl
 step_fits Blank (block b) = leaf 0 Over Nothing Same refl (omega arith)
 step_fits Blank mark = leaf 0 Ended Nothing Same refl (omega arith)
 step_fits Blank bad = leaf 0 Over Nothing Same refl (omega arith)
 step_fits (Second code seen) (block b) = second_fits b code seen _ _ _ refl refl refl
 step_fits (Second code seen) mark = leaf 0 (Data code seen) SecondLabel Same refl (omega arith)
-step_fits (Second code seen) bad = leaf 0 Over Nothing Same refl (omega arith)
-step_fits (Headers code seen) (block b) = any_fits b (Headers code seen) code _ refl refl
+step_fits (Second code seen) bad = left_fits code (Headers code (lost seen)) refl
+step_fits (Headers code seen) (block b) = headers_fit b code seen _ refl
 step_fits (Headers code seen) mark = leaf 0 (Data code seen) Nothing Same refl (omega arith)
-step_fits (Headers code seen) bad = leaf 0 Over Nothing Same refl (omega arith)
+step_fits (Headers code seen) bad = left_fits code (Headers code (lost seen)) refl
 step_fits (Data code seen) (block b) =
     leaf 0 (Data code (counted seen)) Nothing Same refl (omega arith)
 step_fits (Data code seen) mark = leaf 0 (Trailer code seen) Nothing Same refl (omega arith)
 step_fits (Data code seen) bad = leaf 0 (Data code (uncounted seen)) Nothing Same refl (omega arith)
 step_fits (Trailer code seen) (block b) = trailer_fits b code seen _ refl
-step_fits (Trailer code seen) mark = leaf 0 Over Nothing Same refl (omega arith)
-step_fits (Trailer code seen) bad = leaf 0 Over Nothing Same refl (omega arith)
-step_fits (Trailers code seen) (block b) = any_fits b (Trailers code seen) code _ refl refl
+step_fits (Trailer code seen) mark = left_fits code (Trailer code (lost seen)) refl
+step_fits (Trailer code seen) bad = left_fits code (Trailer code (lost seen)) refl
+step_fits (Trailers code seen) (block b) = trailers_fit b code seen _ refl
 step_fits (Trailers code seen) mark = leaf 0 (Next code seen) Nothing Same refl (omega arith)
-step_fits (Trailers code seen) bad = leaf 0 Over Nothing Same refl (omega arith)
+step_fits (Trailers code seen) bad = left_fits code (Trailers code (lost seen)) refl
 step_fits (Next code seen) (block b) = next_fits b code seen _ refl
 step_fits (Next code seen) mark = leaf 0 Ended Nothing Same refl (omega arith)
-step_fits (Next code seen) bad = leaf 0 Over Nothing Same refl (omega arith)
+step_fits (Next code seen) bad = left_fits code (Headers code (lost seen)) refl
 step_fits Ended (block b) = ended_fits b (begin_at b)
 step_fits Ended mark = leaf 0 Ended Nothing Dropped refl (omega arith)
 step_fits Ended bad = leaf 0 Ended Nothing Dropped refl (omega arith)

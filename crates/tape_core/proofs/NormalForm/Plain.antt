@@ -17,9 +17,10 @@ use Rattle.tape_core.specs.declared.normal.machine.TapePlace.TheVariants.{Traile
 use Rattle.tape_core.specs.declared.normal.machine.TapePlace.TheVariants.{Ended, Over}
 use Rattle.tape_core.specs.declared.normal.machine.Replacement.TheVariants.{Same, Dropped, Label}
 use Rattle.tape_core.specs.NormalForm.{Codes.in_ascii, Codes.to_ascii, is_noise, most_dropped}
+use Rattle.tape_core.specs.NormalForm.{is_next_header, is_lost_header}
 use Rattle.tape_core.specs.NormalForm.Mended.{is_vol1, is_hdr1, is_hdr2, is_first_trailer}
 use Rattle.tape_core.specs.NormalForm.Mended.{is_dummy, mended, filled, is_ok, headed, trailed}
-use Rattle.tape_core.specs.NormalForm.Mended.{counted, no_file}
+use Rattle.tape_core.specs.NormalForm.Mended.{counted, no_file, lost}
 use Rattle.tape_core.specs.declared.normal.numbers.FileSeen.{FileSeen}
 use Rattle.tape_core.specs.declared.normal.machine.Missing.{Missing}
 use Rattle.tape_core.specs.declared.normal.machine.Missing.TheVariants.{Nothing, VolumeLabel}
@@ -27,39 +28,57 @@ use Rattle.tape_core.specs.NormalForm.Steps.{step_of, same, dropped, drop_first,
 use Rattle.tape_core.specs.NormalForm.Steps.{begin_in, begin_at, either, start_at, instead_in}
 use Rattle.tape_core.specs.NormalForm.Steps.{labels_at, second_at, mended_with, ended_at}
 use Rattle.tape_core.specs.NormalForm.Steps.{trailer_at, next_at, replaced_with, header_at}
+use Rattle.tape_core.specs.NormalForm.Steps.{left_at, other_at, headers_at, trailers_at}
 use Rattle.tape_core.specs.NormalForm.Bytes.{unlabelled, unlabelled_instead}
 use Rattle.tape_core.proofs.Eighty.{not_80, no_kind_of, no_volume_label_of, no_beginning}
-use Rattle.tape_core.proofs.Eighty.{second_over}
+use Rattle.tape_core.proofs.Eighty.{second_other, other_data, not_further_of}
 use Rattle.tape_core.proofs.NormalForm.{KindKept.filled_alike, Numbers.headed_80}
 use Rattle.tape_core.proofs.NormalForm.{Numbers.trailed_80}
 
 -- ---- blocks that are not labels
+
+-- where a further header label may be, a block of another length is one only in ASCII
+abbrev pub behind_header : Code → FileSeen → TapePlace
+behind_header Ascii seen = Headers Ascii seen
+behind_header Ebcdic seen = Data Ebcdic (lost seen)
 
 -- what the machine does with a block of another length, by whether it is noise
 abbrev pub plain_of : TapePlace → Bool → TapePlace × Change
 plain_of (Start n) z = cond z (drop_first n) (Over, same)
 plain_of (Labels code n) z = drop_block code n
 plain_of Blank z = (Over, same)
-plain_of (Second code seen) z = (Over, same)
-plain_of (Headers code seen) z = (Headers code seen, same)
+plain_of (Second code seen) z = (left_at code (Data code (lost seen)), same)
+plain_of (Headers code seen) z = (behind_header code seen, same)
 plain_of (Data code seen) z = (Data code (counted seen), same)
-plain_of (Trailer code seen) z = (Over, same)
+plain_of (Trailer code seen) z = (left_at code (Data code (lost seen)), same)
 plain_of (Trailers code seen) z = (Trailers code seen, same)
-plain_of (Next code seen) z = (Over, same)
+plain_of (Next code seen) z = (left_at code (Data code (lost seen)), same)
 plain_of Ended z = (Ended, dropped)
 plain_of Over z = (Over, same)
+
+headers_plain : (code : Code) (seen : FileSeen) (b : List ℕ) → length b ≢ 80
+    → headers_at code seen b ≡ (behind_header code seen, same)
+headers_plain Ascii seen b h = rw (not_80 b h) refl
+headers_plain Ebcdic seen b h = rw (no_kind_of Ebcdic b h, not_further_of Ebcdic b h) refl
+
+pub trailers_plain : (code : Code) (seen : FileSeen) (b : List ℕ) → length b ≢ 80
+    → trailers_at code seen b ≡ (Trailers code seen, same)
+trailers_plain Ascii seen b h = rw (not_80 b h) refl
+trailers_plain Ebcdic seen b h = rw (no_kind_of Ebcdic b h, not_80 b h) refl
 
 pub plain_step : (place : TapePlace) (b : List ℕ) → length b ≢ 80
     → step_of place (block b) ≡ plain_of place (is_noise b)
 plain_step (Start n) b h = rw (no_beginning b h) refl
 plain_step (Labels code n) b h = rw (no_volume_label_of code b h, no_kind_of code b h) refl
 plain_step Blank b h = refl
-plain_step (Second code seen) b h = second_over code seen b h
-plain_step (Headers code seen) b h = rw (not_80 b h) refl
+plain_step (Second code seen) b h = second_other code seen b h ∙ other_data code seen b h
+plain_step (Headers code seen) b h = headers_plain code seen b h
 plain_step (Data code seen) b h = refl
-plain_step (Trailer code seen) b h = rw (no_kind_of code b h) refl
-plain_step (Trailers code seen) b h = rw (not_80 b h) refl
-plain_step (Next code seen) b h = rw (no_kind_of code b h) refl
+plain_step (Trailer Ascii seen) b h = rw (no_kind_of Ascii b h) refl
+plain_step (Trailer Ebcdic seen) b h = rw (no_kind_of Ebcdic b h) refl
+plain_step (Trailers code seen) b h = trailers_plain code seen b h
+plain_step (Next Ascii seen) b h = rw (no_kind_of Ascii b h) refl
+plain_step (Next Ebcdic seen) b h = rw (no_kind_of Ebcdic b h) refl
 plain_step Ended b h = rw (no_beginning b h) refl
 plain_step Over b h = refl
 
@@ -169,6 +188,15 @@ module _ (b : List ℕ) (e : length b ≡ 80) where
       replaced_labelled adds code (headed last (in_ascii code b)).0
       (headed_80 last (in_ascii code b) (text_80 code))
 
+  other_by : (code : Code) (seen : FileSeen) (t : Bool) → is_lost_header code (in_ascii code b) ≡ t
+      → Labelled (other_at code seen (in_ascii code b)).1.instead
+  other_by code seen true p = rw (p) (header_labelled Nothing code (lost seen))
+  other_by code seen false p = rw (p) tt
+
+  other_labelled : (code : Code) (seen : FileSeen)
+      → Labelled (other_at code seen (in_ascii code b)).1.instead
+  other_labelled code seen = other_by code seen (is_lost_header code (in_ascii code b)) refl
+
   begun_labelled : (code : Code) → AllLabelled (begin_in code (in_ascii code b))
   begun_labelled code =
       go (is_vol1 (kind_at (in_ascii code b))) (is_hdr1 (kind_at (in_ascii code b))) refl refl
@@ -216,7 +244,17 @@ module _ (b : List ℕ) (e : length b ≡ 80) where
       → Labelled (second_at code seen (in_ascii code b)).1.instead
   second_labelled code seen true f p q = rw (p) (second_kept code _ refl)
   second_labelled code seen false true p q = rw (p, q) (instead_labelled code)
-  second_labelled code seen false false p q = rw (p, q) tt
+  second_labelled code seen false false p q = rw (p, q) (other_labelled code seen)
+
+  headers_labelled : (code : Code) (seen : FileSeen) (t : Bool)
+      → is_next_header code (in_ascii code b) ≡ t → Labelled (headers_at code seen b).1.instead
+  headers_labelled code seen true p = rw (p, is_80) (instead_labelled code)
+  headers_labelled code seen false p = rw (p) (other_labelled code seen)
+
+  trailers_labelled : (code : Code) (seen : FileSeen) (t : Bool)
+      → is_lost_header code (in_ascii code b) ≡ t → Labelled (trailers_at code seen b).1.instead
+  trailers_labelled code seen true p = rw (p) (header_labelled Nothing code (lost seen))
+  trailers_labelled code seen false p = rw (p, is_80) (instead_labelled code)
 
   trailer_labelled : (code : Code) (seen : FileSeen) (k : Bool)
       → is_first_trailer (kind_at (in_ascii code b)) ≡ k
@@ -224,12 +262,13 @@ module _ (b : List ℕ) (e : length b ≡ 80) where
   trailer_labelled code seen true p =
       rw (p) (replaced_labelled Nothing code (trailed seen (in_ascii code b)).0
       (trailed_80 seen (in_ascii code b) (text_80 code)))
-  trailer_labelled code seen false p = rw (p) tt
+  trailer_labelled code seen false p = rw (p) (other_labelled code seen)
 
   next_labelled : (code : Code) (last : FileSeen) (k : Bool) → is_hdr1 (kind_at (in_ascii code b)) ≡ k
       → Labelled (next_at code last (in_ascii code b)).1.instead
   next_labelled code last true p = rw (p) (header_labelled Nothing code last)
-  next_labelled code last false p = rw (p) tt
+  next_labelled Ascii last false p = rw (p) tt
+  next_labelled Ebcdic last false p = rw (p) tt
 
   eighty_labelled : (place : TapePlace) → Labelled (step_of place (block b)).1.instead
   eighty_labelled (Start n) = start_labelled n (begin_at b)
@@ -237,10 +276,10 @@ module _ (b : List ℕ) (e : length b ≡ 80) where
   eighty_labelled (Labels code n) = labels_labelled code n _ _ refl refl
   eighty_labelled Blank = tt
   eighty_labelled (Second code seen) = second_labelled code seen _ _ refl refl
-  eighty_labelled (Headers code seen) = rw (is_80) (instead_labelled code)
+  eighty_labelled (Headers code seen) = headers_labelled code seen _ refl
   eighty_labelled (Data code seen) = tt
   eighty_labelled (Trailer code seen) = trailer_labelled code seen _ refl
-  eighty_labelled (Trailers code seen) = rw (is_80) (instead_labelled code)
+  eighty_labelled (Trailers code seen) = trailers_labelled code seen _ refl
   eighty_labelled (Next code seen) = next_labelled code seen _ refl
   eighty_labelled Ended = ended_labelled (begin_at b)
   eighty_labelled Over = tt

@@ -1,14 +1,17 @@
 -- Laws about the normal form. Each is the contract of a function of the module `laws`.
-use Rattle.std.specs.Prelude.{◌≡◌, ◌≤◌, ℕ, Bool, List, [], ◌∷◌, ◌++◌, length}
+use Rattle.std.specs.Prelude.{◌≡◌, ◌≢◌, ◌≤◌, ℕ, Bool, List, [], ◌∷◌, ◌++◌, length, Some}
 use Rattle.std.specs.List.{AllByRecursion}
-use Rattle.tape_image.specs.Tape.{TapeItem, block, mark}
+use Rattle.tape_image.specs.Tape.{TapeItem, block, bad, mark}
 use Rattle.tape_image.specs.{Begins.image_limit, Spelling.Spells}
 use Rattle.tape_set.specs.Layout.{FileSet, items}
 use Rattle.tape_set.specs.Reading.{as_read}
+use Rattle.tape_label.specs.{Kinds.kind_at, declared.values.Kind.TheVariants.Hdr1}
 use Rattle.tape_core.specs.declared.normal.code.Code.{Code}
+use Rattle.tape_core.specs.declared.normal.code.Code.TheVariants.{Ebcdic}
 use Rattle.tape_core.specs.declared.normal.numbers.FileSeen.{FileSeen}
-use Rattle.tape_core.specs.NormalForm.{normal, of_data, of_trailer, Bytes.normal_bytes}
-use Rattle.tape_core.specs.NormalForm.Mended.{counted, uncounted}
+use Rattle.tape_core.specs.NormalForm.{normal, of_second, of_headers, of_data, of_trailer}
+use Rattle.tape_core.specs.NormalForm.{of_trailers, of_next, Codes.in_ascii, Bytes.normal_bytes}
+use Rattle.tape_core.specs.NormalForm.Mended.{counted, uncounted, lost, headed}
 
 -- A copy of a volume of a valid set is its own normal form, however damaged it is, and wherever it
 -- ends.
@@ -36,6 +39,32 @@ DataKept =
     × ((rest : List TapeItem)
     → of_data code seen (data' ++ mark ∷ rest)
     ≡ data' ++ mark ∷ of_trailer code (seen_behind seen data') rest)
+
+-- a file that begins with this label in EBCDIC after an item that is not expected, and the rest
+abbrev pub file_found : FileSeen → List ℕ → List TapeItem → List TapeItem
+file_found seen b rest =
+    block (headed (lost seen) (in_ascii Ebcdic b)).0
+    ∷ of_second Ebcdic (headed (lost seen) (in_ascii Ebcdic b)).1 rest
+
+-- On a tape with labels in EBCDIC no unreadable or lost label or mark behind a file hides the next
+-- file, and none before its data hides its trailer labels.
+pub record FilesFound (seen : FileSeen) (rest : List TapeItem) : Type 0 where
+  pub behind_trailer : (b : List ℕ) → kind_at (in_ascii Ebcdic b) ≡ Some Hdr1
+      → of_trailer Ebcdic seen (bad ∷ mark ∷ block b ∷ rest) ≡ bad ∷ mark ∷ file_found seen b rest
+  pub behind_trailers : (b : List ℕ) → kind_at (in_ascii Ebcdic b) ≡ Some Hdr1
+      → of_trailers Ebcdic seen (bad ∷ mark ∷ block b ∷ rest) ≡ bad ∷ mark ∷ file_found seen b rest
+  pub behind_mark : (b : List ℕ) → kind_at (in_ascii Ebcdic b) ≡ Some Hdr1
+      → of_trailers Ebcdic seen (bad ∷ block b ∷ rest) ≡ bad ∷ file_found seen b rest
+  pub no_mark : (b : List ℕ) → kind_at (in_ascii Ebcdic b) ≡ Some Hdr1
+      → of_trailers Ebcdic seen (block b ∷ rest) ≡ file_found seen b rest
+  pub no_trailer : (b : List ℕ) → kind_at (in_ascii Ebcdic b) ≡ Some Hdr1
+      → of_trailer Ebcdic seen (block b ∷ rest) ≡ file_found seen b rest
+  pub bad_header : of_next Ebcdic seen (bad ∷ mark ∷ rest)
+      ≡ bad ∷ mark ∷ of_data Ebcdic (lost seen) rest
+  pub bad_second : of_second Ebcdic seen (bad ∷ mark ∷ rest)
+      ≡ bad ∷ mark ∷ of_data Ebcdic (lost seen) rest
+  pub no_data_mark : (b : List ℕ) → length b ≢ 80
+      → of_headers Ebcdic seen (block b ∷ rest) ≡ block b ∷ of_data Ebcdic (lost seen) rest
 
 -- An image of at most 4,294,967,295 bytes that encodes the items of a tape, up to the end of the
 -- medium, gives one that encodes those of the tape in normal form.

@@ -161,6 +161,17 @@ uncounted seen = record {
   counts = seen.counts;
 }
 
+-- After an item that is not expected it is not known which file comes next, nor how many blocks it
+-- has, so nothing is filled in.
+abbrev pub lost : FileSeen → FileSeen
+lost seen = record {
+  sequence = 9999;
+  is_filled = false;
+  blocks = None;
+  has_no_count = false;
+  counts = seen.counts;
+}
+
 -- the blocks were counted instead of the trailer label
 abbrev pub without_count : Bool → FileSeen → FileSeen
 without_count is seen = record {

@@ -11,7 +11,7 @@ use Rattle.tape_core.specs.declared.normal.code.Code.TheVariants.{Ascii, Ebcdic}
 use Rattle.tape_core.specs.NormalForm.{Codes.in_ascii, Mended.is_vol1, Mended.is_hdr1}
 use Rattle.tape_core.specs.NormalForm.{Mended.is_hdr2}
 use Rattle.tape_core.specs.NormalForm.Mended.{is_first_trailer, is_dummy, mended}
-use Rattle.tape_core.specs.NormalForm.{is_noise, most_dropped}
+use Rattle.tape_core.specs.NormalForm.{is_noise, most_dropped, is_next_header, is_lost_header}
 use Rattle.tape_core.specs.declared.normal.machine.{TapePlace.TapePlace, Missing.Missing}
 use Rattle.tape_core.specs.declared.normal.machine.{Replacement.Replacement, Change.Change}
 use Rattle.tape_core.specs.declared.normal.machine.TapePlace.TheVariants.{Start, Labels, Blank}
@@ -26,7 +26,7 @@ use Rattle.tape_core.specs.NormalForm.{of_start, of_labels, of_blank, of_second,
 use Rattle.tape_core.specs.NormalForm.{of_data}
 use Rattle.tape_core.specs.NormalForm.{of_trailer, of_trailers, of_next, of_ended}
 use Rattle.tape_core.specs.NormalForm.Mended.{no_volume_label, no_file, headed, trailed}
-use Rattle.tape_core.specs.NormalForm.Mended.{counted, uncounted}
+use Rattle.tape_core.specs.NormalForm.Mended.{counted, uncounted, lost}
 use Rattle.tape_core.specs.declared.normal.numbers.FileSeen.{FileSeen}
 
 -- the normal form of the items from this place on
@@ -133,6 +133,17 @@ labels_at code n text =
     then header_at code Nothing no_file text
     else drop_block code n
 
+-- the place after an item that is not expected
+abbrev pub left_at : Code → TapePlace → TapePlace
+left_at Ascii place = Over
+left_at Ebcdic place = place
+
+-- a block that is not the label expected there
+abbrev pub other_at : Code → FileSeen → List ℕ → TapePlace × Change
+other_at code seen text =
+    if is_lost_header code text then header_at code Nothing (lost seen) text
+    else (left_at code (Data code (lost seen)), same)
+
 -- a second label whose numbers are filled, if that is needed
 abbrev pub mended_with : Code → List ℕ → Change
 mended_with code text =
@@ -144,11 +155,17 @@ second_at code seen text =
     if is_hdr2 (kind_at text)
     then (Headers code seen, mended_with code text)
     else if is_further_header text then (Headers code seen, translated_with SecondLabel code text)
-    else (Over, same)
+    else other_at code seen text
 
 -- any label; a block of another length is not one
 abbrev pub any_at : Code → List ℕ → Change
 any_at code b = if length b == 80 then translated_with Nothing code (in_ascii code b) else same
+
+-- a further header label
+abbrev pub headers_at : Code → FileSeen → List ℕ → TapePlace × Change
+headers_at code seen b =
+    if is_next_header code (in_ascii code b) then (Headers code seen, any_at code b)
+    else other_at code seen (in_ascii code b)
 
 abbrev pub trailer_at : Code → FileSeen → List ℕ → TapePlace × Change
 trailer_at code seen text =
@@ -157,12 +174,20 @@ trailer_at code seen text =
       Trailers code (trailed seen text).1,
       replaced_with Nothing code (trailed seen text).0 text,
     )
-    else (Over, same)
+    else other_at code seen text
+
+-- a further trailer label
+abbrev pub trailers_at : Code → FileSeen → List ℕ → TapePlace × Change
+trailers_at code seen b =
+    if is_lost_header code (in_ascii code b)
+    then header_at code Nothing (lost seen) (in_ascii code b)
+    else (Trailers code seen, any_at code b)
 
 -- the header label of the file after this one
 abbrev pub next_at : Code → FileSeen → List ℕ → TapePlace × Change
 next_at code before text =
-    if is_hdr1 (kind_at text) then header_at code Nothing before text else (Over, same)
+    if is_hdr1 (kind_at text) then header_at code Nothing before text
+    else other_at code before text
 
 abbrev pub ended_at : Option (TapePlace × Change) → TapePlace × Change
 ended_at (Some begun) = (Over, same)
@@ -180,26 +205,26 @@ step_of (Start n) mark = drop_first n
 step_of (Start n) bad = (Over, same)
 step_of (Labels code n) (block b) = labels_at code n (in_ascii code b)
 step_of (Labels code n) mark = (Blank, same)
-step_of (Labels code n) bad = (Over, same)
+step_of (Labels code n) bad = (left_at code (Headers code (lost no_file)), same)
 step_of Blank mark = (Ended, same)
 step_of Blank _ = (Over, same)
 step_of (Second code seen) (block b) = second_at code seen (in_ascii code b)
 step_of (Second code seen) mark = (Data code seen, record { missing = SecondLabel; instead = Same })
-step_of (Second code seen) bad = (Over, same)
-step_of (Headers code seen) (block b) = (Headers code seen, any_at code b)
+step_of (Second code seen) bad = (left_at code (Headers code (lost seen)), same)
+step_of (Headers code seen) (block b) = headers_at code seen b
 step_of (Headers code seen) mark = (Data code seen, same)
-step_of (Headers code seen) bad = (Over, same)
+step_of (Headers code seen) bad = (left_at code (Headers code (lost seen)), same)
 step_of (Data code seen) mark = (Trailer code seen, same)
 step_of (Data code seen) (block b) = (Data code (counted seen), same)
 step_of (Data code seen) bad = (Data code (uncounted seen), same)
 step_of (Trailer code seen) (block b) = trailer_at code seen (in_ascii code b)
-step_of (Trailer code seen) _ = (Over, same)
-step_of (Trailers code seen) (block b) = (Trailers code seen, any_at code b)
+step_of (Trailer code seen) _ = (left_at code (Trailer code (lost seen)), same)
+step_of (Trailers code seen) (block b) = trailers_at code seen b
 step_of (Trailers code seen) mark = (Next code seen, same)
-step_of (Trailers code seen) bad = (Over, same)
+step_of (Trailers code seen) bad = (left_at code (Trailers code (lost seen)), same)
 step_of (Next code seen) (block b) = next_at code seen (in_ascii code b)
 step_of (Next code seen) mark = (Ended, same)
-step_of (Next code seen) bad = (Over, same)
+step_of (Next code seen) bad = (left_at code (Headers code (lost seen)), same)
 step_of Ended (block b) = ended_at (begin_at b)
 step_of Ended _ = (Ended, dropped)
 step_of Over _ = (Over, same)

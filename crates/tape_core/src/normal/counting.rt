@@ -46,7 +46,6 @@ impl Counting {
             return;
         };
         match (place, next) {
-            (TapePlace::Second(_, _), _) => {}
             (_, TapePlace::Second(_, _)) => {
                 self.begun = match &change.instead {
                     Replacement::Label(better) => read_head1(better).ok(),

@@ -1,9 +1,12 @@
 //! Laws about the normal form, each the contract of a function that does nothing.
 
+ghost use Rattle.std.specs.Prelude.{List};
+ghost use Rattle.tape_image.specs.Tape.{TapeItem};
 ghost use Rattle.tape_set.specs.{Layout.FileSet, Lawful.IsLawful};
+ghost use Rattle.tape_core.specs.declared.normal.numbers.FileSeen.{FileSeen};
 ghost use Rattle.tape_core.specs.NormalForm.{Ahead.NormalIsAhead, Ahead.BehindIsAhead};
 ghost use Rattle.tape_core.specs.NormalForm.Laws.{NormalKeeps, DataKept, NormalSpells, CopySpells};
-ghost use Rattle.tape_core.specs.NormalForm.Laws.{BytesKept, CopyBytesKept};
+ghost use Rattle.tape_core.specs.NormalForm.Laws.{BytesKept, CopyBytesKept, FilesFound};
 
 /// A copy of a volume of a valid set is its own normal form, however damaged it is, and wherever it
 /// ends.
@@ -15,6 +18,12 @@ pub fn normal_keeps()
 /// The data of a file are the same in the normal form, whatever they look like.
 pub fn data_kept()
     ensures { DataKept }
+{}
+
+/// On a tape with labels in EBCDIC no unreadable or lost label or mark hides the file after it.
+#[tactic(auto, using(crate::proofs::NormalForm::Found::files_found))]
+pub fn files_found()
+    ensures { (seen : FileSeen) (rest : List TapeItem) → FilesFound seen rest }
 {}
 
 /// A reader takes from the normal form of any tape all that it takes from the tape, and comes to

@@ -6,13 +6,14 @@ ghost use Rattle.tape_image.specs.{Tape.TapeItem, Tape.block, Reader.tape_item};
 ghost use Rattle.tape_core.specs.NormalForm.Codes.{in_ascii as in_ascii'};
 ghost use Rattle.tape_core.specs.NormalForm.Steps.{Gives, inserted_label, step_of, begin_at};
 ghost use Rattle.tape_core.specs.NormalForm.Steps.{begin_in, labels_at, header_at};
-ghost use Rattle.tape_core.specs.NormalForm.Steps.{any_at, second_at, next_at, trailer_at};
+ghost use Rattle.tape_core.specs.NormalForm.Steps.{second_at, next_at, trailer_at};
 ghost use Rattle.tape_core.specs.NormalForm.Steps.{translated_with, instead_in, replaced_with};
 ghost use Rattle.tape_core.specs.NormalForm.Steps.{drop_block, drop_first};
 
 use crate::normal::code::{Code, eighty, in_ascii};
 use crate::normal::mend::mended;
 use crate::normal::numbers::{FileSeen, NO_FILE, headed, is_dummy, trailed};
+use crate::normal::other::{further_header, further_trailer, left, other_block, step_at_bad};
 use tape_image::Item;
 use tape_label::{Kind, is_further_header, is_volume_label, kind};
 
@@ -39,7 +40,7 @@ pub enum TapePlace {
     Next(Code, FileSeen),
     /// Nothing: the volume has ended.
     Ended,
-    /// Anything: after an unexpected item the rest of the tape is left unchanged.
+    /// Anything: after an item that is not expected the rest of the tape is left unchanged.
     Over,
 }
 
@@ -105,7 +106,7 @@ pub(crate) const SAME: Change = Change {
 };
 
 /// Nothing instead of the item.
-const DROPPED: Change = Change {
+pub(crate) const DROPPED: Change = Change {
     missing: Missing::Nothing,
     instead: Replacement::Dropped,
 };
@@ -121,7 +122,7 @@ fn instead_in(code: Code, label: [u8; 80]) -> Replacement
 }
 
 /// Returns the change that translates a label to ASCII.
-fn translated(code: Code, label: [u8; 80]) -> Change
+pub(crate) fn translated(code: Code, label: [u8; 80]) -> Change
     ensures { result ≡ translated_with Missing.Nothing code label }
 {
     Change {
@@ -143,7 +144,12 @@ fn replaced(code: Code, missing: Missing, better: [u8; 80], label: [u8; 80]) -> 
 }
 
 /// Takes the first header label of the file after `before`.
-fn header(code: Code, missing: Missing, before: FileSeen, label: [u8; 80]) -> (TapePlace, Change)
+pub(crate) fn header(
+    code: Code,
+    missing: Missing,
+    before: FileSeen,
+    label: [u8; 80],
+) -> (TapePlace, Change)
     ensures { result ≡ header_at code missing before label }
 {
     let (better, seen) = headed(before, &label);
@@ -215,12 +221,12 @@ fn drop_first(dropped: u8) -> (TapePlace, Change)
 }
 
 /// Takes a block after an `HDR1`.
-#[tactic(auto, using(crate::proofs::Eighty::second_over))]
+#[tactic(auto, using(crate::proofs::Eighty::second_other))]
 fn second_label(code: Code, seen: FileSeen, bytes: &[u8]) -> (TapePlace, Change)
     ensures { result ≡ second_at code seen (in_ascii' code bytes.now) }
 {
     let Some(label) = eighty(bytes) else {
-        return (TapePlace::Over, SAME);
+        return other_block(code, seen, bytes);
     };
     let text = in_ascii(code, label);
     if let Some(Kind::Hdr2) = kind(&text) {
@@ -241,17 +247,7 @@ fn second_label(code: Code, seen: FileSeen, bytes: &[u8]) -> (TapePlace, Change)
         };
         return (TapePlace::Headers(code, seen), change);
     }
-    (TapePlace::Over, SAME)
-}
-
-/// Takes a block where any label may be.
-fn any_label(code: Code, bytes: &[u8]) -> Change
-    ensures { result ≡ any_at code bytes.now }
-{
-    match eighty(bytes) {
-        Some(label) => translated(code, in_ascii(code, label)),
-        None => SAME,
-    }
+    other_block(code, seen, bytes)
 }
 
 /// Takes a block where the `HDR1` of the next file may be.
@@ -260,12 +256,12 @@ fn next_header(code: Code, before: FileSeen, bytes: &[u8]) -> (TapePlace, Change
     ensures { result ≡ next_at code before (in_ascii' code bytes.now) }
 {
     let Some(label) = eighty(bytes) else {
-        return (TapePlace::Over, SAME);
+        return other_block(code, before, bytes);
     };
     let text = in_ascii(code, label);
     match kind(&text) {
         Some(Kind::Hdr1) => header(code, Missing::Nothing, before, text),
-        _ => (TapePlace::Over, SAME),
+        _ => other_block(code, before, bytes),
     }
 }
 
@@ -275,7 +271,7 @@ fn first_trailer(code: Code, seen: FileSeen, bytes: &[u8]) -> (TapePlace, Change
     ensures { result ≡ trailer_at code seen (in_ascii' code bytes.now) }
 {
     let Some(label) = eighty(bytes) else {
-        return (TapePlace::Over, SAME);
+        return other_block(code, seen, bytes);
     };
     let text = in_ascii(code, label);
     match kind(&text) {
@@ -284,7 +280,7 @@ fn first_trailer(code: Code, seen: FileSeen, bytes: &[u8]) -> (TapePlace, Change
             let change = replaced(code, Missing::Nothing, better, text);
             (TapePlace::Trailers(code, seen), change)
         }
-        _ => (TapePlace::Over, SAME),
+        _ => other_block(code, seen, bytes),
     }
 }
 
@@ -300,10 +296,10 @@ fn step_at_block(place: TapePlace, bytes: &[u8]) -> (TapePlace, Change)
         },
         TapePlace::Labels(code, dropped) => label_of_volume(code, dropped, bytes),
         TapePlace::Second(code, seen) => second_label(code, seen, bytes),
-        TapePlace::Headers(code, seen) => (place, any_label(code, bytes)),
+        TapePlace::Headers(code, seen) => further_header(code, seen, bytes),
         TapePlace::Data(code, seen) => (TapePlace::Data(code, seen.counted()), SAME),
         TapePlace::Trailer(code, seen) => first_trailer(code, seen, bytes),
-        TapePlace::Trailers(code, seen) => (place, any_label(code, bytes)),
+        TapePlace::Trailers(code, seen) => further_trailer(code, seen, bytes),
         TapePlace::Next(code, seen) => next_header(code, seen, bytes),
         TapePlace::Ended => match begin(bytes) {
             Some(_) => (TapePlace::Over, SAME),
@@ -323,11 +319,7 @@ pub fn step(place: TapePlace, item: Item<'_>) -> (TapePlace, Change)
 {
     match item {
         Item::Block(bytes) => step_at_block(place, bytes),
-        Item::Bad => match place {
-            TapePlace::Data(code, seen) => (TapePlace::Data(code, seen.uncounted()), SAME),
-            TapePlace::Ended => (TapePlace::Ended, DROPPED),
-            _ => (TapePlace::Over, SAME),
-        },
+        Item::Bad => step_at_bad(place),
         Item::Mark => match place {
             TapePlace::Start(dropped) => drop_first(dropped),
             TapePlace::Labels(_, _) => (TapePlace::Blank, SAME),
@@ -343,7 +335,10 @@ pub fn step(place: TapePlace, item: Item<'_>) -> (TapePlace, Change)
             TapePlace::Trailers(code, seen) => (TapePlace::Next(code, seen), SAME),
             TapePlace::Next(_, _) | TapePlace::Blank => (TapePlace::Ended, SAME),
             TapePlace::Ended => (TapePlace::Ended, DROPPED),
-            TapePlace::Trailer(_, _) | TapePlace::Over => (TapePlace::Over, SAME),
+            TapePlace::Trailer(code, seen) => {
+                (left(code, TapePlace::Trailer(code, seen.lost())), SAME)
+            }
+            TapePlace::Over => (TapePlace::Over, SAME),
         },
     }
 }

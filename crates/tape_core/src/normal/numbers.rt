@@ -6,7 +6,7 @@ ghost use Rattle.tape_core.specs.NormalForm.Mended.{headed, trailed, seen_of, co
 ghost use Rattle.tape_core.specs.NormalForm.Mended.{one_more, count_or, count_at_or, with_count};
 ghost use Rattle.tape_core.specs.NormalForm.Mended.{with_numbers, completed, without_count};
 ghost use Rattle.tape_core.specs.NormalForm.Mended.{is_recounted, is_some_count, is_uncounted};
-ghost use Rattle.tape_core.specs.NormalForm.Mended.{told, recounted};
+ghost use Rattle.tape_core.specs.NormalForm.Mended.{told, recounted, lost};
 
 use crate::normal::mend::fill;
 use tape_label::{digits_of, read_head1, read_trail1};
@@ -91,6 +91,19 @@ impl FileSeen {
         ensures { result ≡ is_uncounted self blocks }
     {
         !self.counts && blocks == 0 && is_some_count(self.blocks)
+    }
+
+    /// Forgets what would be filled in, since an item was not expected.
+    pub(crate) fn lost(self) -> FileSeen
+        ensures { result ≡ lost self }
+    {
+        FileSeen {
+            sequence: 9_999,
+            is_filled: false,
+            blocks: None,
+            has_no_count: false,
+            counts: self.counts,
+        }
     }
 
     /// Counts no more, since an item among the data could not be read.
