@@ -80,9 +80,12 @@ def tape_of(rng, set_id, has_trailers):
         data = [noise(rng, 14, 80, 512) for _ in range(4)]
         return [model.MARK] * rng.randint(0, 2) + data + [model.MARK] * 2
     is_ebcdic, counts = rng.random() < .4, rng.random() < .9
+    padding = rng.choice([b" ", b"\0", b"@", b"^"]) * rng.choice([1, 4, 40, 41])
+    padding = padding if rng.random() < .15 else b""
 
     def coded(items):
-        return [(kind, to_ebcdic(block) if block and is_ebcdic else block) for kind, block in items]
+        return [(kind, (to_ebcdic(block) if is_ebcdic else block) + padding if block else block)
+                for kind, block in items]
     items = coded([label(f"VOL1{set_id}".ljust(37) + "OWNER".ljust(42) + "3")])
     items += coded([label(rng.choice(["VOL2", "UVL1"]))]) * (rng.random() < .1)
     if rng.random() < .15:

@@ -6,6 +6,7 @@ from tape_model import first_label, kind_of, second_label
 EBCDIC = bytes(range(256)).decode("cp037").encode("latin-1")
 RULES = {
     "ebcdic": "labels in EBCDIC",
+    "padded": "labels with padding",
     "volume": "no volume label",
     "second": "a file has no HDR2",
     "numbers": "numbers in HDR2 begin with blanks or NULs",
@@ -15,17 +16,27 @@ RULES = {
     "after": "something after the end of the volume is ignored",
 }
 NO_VOLUME = b"VOL1".ljust(80)
-MOST, SHORTEST = 64, 14
+MOST, SHORTEST, LONGEST = 64, 14, 120
 ITEMS = ("mark", "gap", "bad", "block")
+# the ways in which labels are written: whether they are in EBCDIC, and whether they have padding
+CODES = [(False, False), (True, False), (False, True), (True, True)]
+
+
+def unpadded(block):
+    """The 80 characters of a label, without the padding behind them; any other block as it is."""
+    is_padded = 80 <= len(block) <= LONGEST and len(set(block[80:])) < 2
+    return block[:80] if is_padded else block
 
 
 def in_ascii(code, block):
-    return block.translate(EBCDIC) if code == "ebcdic" and len(block) == 80 else block
+    is_ebcdic, has_padding = code
+    label = unpadded(block) if has_padding else block
+    return label.translate(EBCDIC) if is_ebcdic and len(label) == 80 else label
 
 
 def begins_tape(block):
     """The code in which a block is a VOL1 or HDR1, and that label; or None twice."""
-    for code in ("ascii", "ebcdic"):
+    for code in CODES:
         label = in_ascii(code, block)
         if kind_of(label) in ("VOL1", "HDR1"):
             return code, label
@@ -62,7 +73,7 @@ class Normal:
     """
 
     def __init__(self):
-        self.place, self.code, self.dropped, self.rules = "start", "ascii", 0, set()
+        self.place, self.code, self.dropped, self.rules = "start", CODES[0], 0, set()
         self.file, self.is_filled, self.blocks, self.counts = 0, False, None, False
         self.head, self.uncounted = None, []
 
@@ -76,8 +87,9 @@ class Normal:
         self.place = "over"
 
     def left(self, place):
-        """Leaves the rest unchanged; but labels in EBCDIC are still looked for, from `place` on."""
-        self.place = place if self.code == "ebcdic" else "over"
+        """Leaves the rest unchanged; but labels in EBCDIC or with padding are still looked for, from
+        `place` on."""
+        self.place = "over" if self.code == CODES[0] else place
         self.file, self.is_filled, self.blocks = 9999, False, None
 
     def other(self, label):
@@ -102,7 +114,8 @@ class Normal:
             self.code, self.dropped = code, 0
             has_volume = kind_of(label) == "VOL1"
             self.place = "labels" if has_volume else "second"
-            self.rules |= {"ebcdic"} if code == "ebcdic" else set()
+            self.rules |= {"ebcdic"} if code[0] else set()
+            self.rules |= {"padded"} if code[1] else set()
             self.rules |= set() if has_volume else {"volume"}
             if has_volume:
                 return [("block", label)]
@@ -172,7 +185,7 @@ class Normal:
             self.place = "data"
             return None
         is_header = kind_of(label) == "HDR2" or model.is_further_header(label)
-        return [("block", label)] if is_header or self.code == "ascii" else self.other(label)
+        return [("block", label)] if is_header or self.code == CODES[0] else self.other(label)
 
     def data(self, kind, *_):
         self.place = "trailer" if kind == "mark" else "data"
@@ -216,7 +229,7 @@ class Normal:
         if kind == "mark":
             self.place = "next"
             return None
-        is_lost = self.code == "ebcdic" and kind_of(label) == "HDR1"
+        is_lost = self.code != CODES[0] and kind_of(label) == "HDR1"
         return self.other(label) if is_lost else [("block", label)]
 
     def next(self, kind, _, label):
@@ -245,7 +258,7 @@ def normal_form(data):
     while machine.place != "over":
         kind, length, end = model.head_at(data, at)
         is_right = kind in ITEMS and is_complete(data, at, kind, end)
-        is_label = kind == "block" and length == 80 and machine.place != "data"
+        is_label = kind == "block" and 80 <= length <= LONGEST and machine.place != "data"
         if kind not in ITEMS or (is_label and not is_right):
             break
         # of a block that is cut off only the length matters: it is no label

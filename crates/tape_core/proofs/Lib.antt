@@ -32,7 +32,7 @@ pub mod WideCopies
 pub mod Laid
 pub mod Crashes
 pub mod Overlap
-pub mod Eighty
+pub mod Labels
 pub mod NormalForm
 mod Cases
 mod Examples

@@ -6,6 +6,7 @@ pub mod AheadRules
 pub mod Ahead
 pub mod Data
 pub mod Found
+pub mod Begun
 pub mod KindKept
 pub mod Numbers
 pub mod Plain
@@ -17,3 +18,4 @@ pub mod Giving
 pub mod Holding
 pub mod Counting
 pub mod Kept
+pub mod Cut

@@ -1,6 +1,7 @@
 -- The normal form of a tape: the tape as the standard would have it. Each part of a tape has its
 -- own function, which takes the items from that part on. From an item that should not be there the
--- rest of the tape is left as it is, unless its labels are in EBCDIC: these are still looked for.
+-- rest of the tape is left as it is, unless its labels are in another code than ASCII or have
+-- padding: these are still looked for.
 pub mod Codes
 pub mod Mended
 pub mod Laws
@@ -11,12 +12,14 @@ pub mod Steps
 pub mod Bytes
 pub mod Image
 use Rattle.std.specs.Prelude.{ℕ, ◌+◌, nat_lt, ◌&&◌, ◌||◌, not, Bool, true, false, List, [], ◌∷◌}
-use Rattle.std.specs.Prelude.{length, if◌then◌else◌}
+use Rattle.std.specs.Prelude.{length, if◌then◌else◌, Option, Some, None, is_some}
+use Rattle.std.specs.{List.find}
 use Rattle.tape_image.specs.Tape.{TapeItem, block, bad, mark}
 use Rattle.tape_label.specs.{Kinds.kind_at, VolumeLabels.is_volume_label}
 use Rattle.tape_label.specs.WideHead2.{is_further_header}
 use Rattle.tape_core.specs.declared.normal.code.Code.{Code}
-use Rattle.tape_core.specs.declared.normal.code.Code.TheVariants.{Ascii, Ebcdic}
+use Rattle.tape_core.specs.declared.normal.code.Code.TheVariants.{Ascii, Ebcdic, PaddedAscii}
+use Rattle.tape_core.specs.declared.normal.code.Code.TheVariants.{PaddedEbcdic}
 use Rattle.tape_core.specs.NormalForm.{Codes.in_ascii, Mended.is_vol1, Mended.is_hdr1}
 use Rattle.tape_core.specs.NormalForm.{Mended.is_hdr2}
 use Rattle.tape_core.specs.NormalForm.Mended.{is_first_trailer, is_dummy, mended}
@@ -32,27 +35,44 @@ most_dropped = 64
 abbrev pub is_noise : List ℕ → Bool
 is_noise bytes = nat_lt (length bytes) 14
 
--- a label with which a tape begins, in either code
+-- a label with which a tape begins, in this code
 abbrev pub begins_tape : Code → List ℕ → Bool
 begins_tape code b = is_vol1 (kind_at (in_ascii code b)) || is_hdr1 (kind_at (in_ascii code b))
 
--- what follows an item that is not expected: the rest as it is or, in EBCDIC, this part of a tape
+-- the code in which a block is such a label
+abbrev pub code_of : List ℕ → Option Code
+code_of b =
+    find (λ code. begins_tape code b) (Ascii ∷ Ebcdic ∷ PaddedAscii ∷ PaddedEbcdic ∷ [])
+
+-- the first label of the tape, if the block is one in a code, and the rest, which is `labels` after
+-- VOL1, and `second` after HDR1; or else `later` after a block that is dropped
+abbrev pub of_first : ℕ → List ℕ → List TapeItem → (Code → List TapeItem)
+    → (Code → FileSeen → List TapeItem) → List TapeItem → Option Code → List TapeItem
+of_first n b xs labels second later (Some code) =
+    if is_vol1 (kind_at (in_ascii code b)) then block (in_ascii code b) ∷ labels code
+    else block no_volume_label ∷ block (headed no_file (in_ascii code b)).0
+    ∷ second code (headed no_file (in_ascii code b)).1
+of_first n b xs labels second later None =
+    if is_noise b && nat_lt n most_dropped then later else block b ∷ xs
+
+-- what follows an item that is not expected: the rest as it is or, in another code, this part of a
+-- tape
 abbrev pub of_left : Code → FileSeen → List TapeItem → (FileSeen → List TapeItem) → List TapeItem
 of_left Ascii seen xs part = xs
-of_left Ebcdic seen xs part = part (lost seen)
+of_left code seen xs part = part (lost seen)
 
 -- whether a label that is not expected begins a file
 abbrev pub is_lost_header : Code → List ℕ → Bool
 is_lost_header Ascii text = false
-is_lost_header Ebcdic text = is_hdr1 (kind_at text)
+is_lost_header code text = is_hdr1 (kind_at text)
 
 -- whether header labels go on with this one
 abbrev pub is_next_header : Code → List ℕ → Bool
 is_next_header Ascii text = true
-is_next_header Ebcdic text = is_hdr2 (kind_at text) || is_further_header text
+is_next_header code text = is_hdr2 (kind_at text) || is_further_header text
 
 -- a block that is not the label expected there, and the rest, which is `second` if the block begins
--- a file; any other is taken for data in EBCDIC
+-- a file; any other is taken for data in another code than ASCII
 abbrev pub of_other : Code → FileSeen → List ℕ → List TapeItem → (FileSeen → List TapeItem)
     → (FileSeen → List TapeItem) → List TapeItem
 of_other code seen b xs second data' =
@@ -62,21 +82,13 @@ of_other code seen b xs second data' =
     else block b ∷ of_left code seen xs data'
 
 abbrev mutual
-  -- VOL1, or HDR1 if there is none; marks and noise before it are dropped. If it is in EBCDIC, so
-  -- are all labels of the tape.
+  -- VOL1, or HDR1 if there is none; marks and noise before it are dropped. All labels of the tape
+  -- are in the code of the first.
   pub of_start : ℕ → List TapeItem → List TapeItem
   of_start n [] = []
   of_start n (block b ∷ xs) =
-      if is_vol1 (kind_at b) then block b ∷ of_labels Ascii 0 xs
-      else if is_hdr1 (kind_at b)
-      then block no_volume_label ∷ block (headed no_file b).0 ∷ of_second Ascii (headed no_file b).1 xs
-      else if is_vol1 (kind_at (in_ascii Ebcdic b))
-      then block (in_ascii Ebcdic b) ∷ of_labels Ebcdic 0 xs
-      else if is_hdr1 (kind_at (in_ascii Ebcdic b))
-      then block no_volume_label ∷ block (headed no_file (in_ascii Ebcdic b)).0
-      ∷ of_second Ebcdic (headed no_file (in_ascii Ebcdic b)).1 xs
-      else if is_noise b && nat_lt n most_dropped then of_start (n + 1) xs
-      else block b ∷ xs
+      of_first n b xs (λ code. of_labels code 0 xs) (λ code seen. of_second code seen xs)
+      (of_start (n + 1) xs) (code_of b)
   of_start n (mark ∷ xs) = if nat_lt n most_dropped then of_start (n + 1) xs else mark ∷ xs
   of_start n (bad ∷ xs) = bad ∷ xs
 
@@ -166,7 +178,7 @@ abbrev mutual
   pub of_ended : List TapeItem → List TapeItem
   of_ended [] = []
   of_ended (block b ∷ xs) =
-      if begins_tape Ascii b || begins_tape Ebcdic b then block b ∷ xs else of_ended xs
+      if is_some (code_of b) then block b ∷ xs else of_ended xs
   of_ended (mark ∷ xs) = of_ended xs
   of_ended (bad ∷ xs) = of_ended xs
 

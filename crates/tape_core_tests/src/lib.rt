@@ -13,6 +13,8 @@ mod normal_form;
 #[cfg(test)]
 mod normal_image;
 #[cfg(test)]
+mod padding;
+#[cfg(test)]
 mod parts;
 #[cfg(test)]
 mod passed_over;

@@ -4,16 +4,16 @@ use std::process::Abort;
 use tape_core::normal::{Change, Missing, Replacement, TapePlace, step};
 use tape_image::Item;
 
-const VOL1: &[u8; 80] =
+pub(crate) const VOL1: &[u8; 80] =
     b"VOL1ABC001                           SMITH                                     4";
 
-const HDR1: &[u8; 80] =
+pub(crate) const HDR1: &[u8; 80] =
     b"HDR1PAYROLL          ABC00100010001000100 85113 00000 000000SYSTEM              ";
 
-const HDR2: &[u8; 80] =
+pub(crate) const HDR2: &[u8; 80] =
     b"HDR2F0080000080                                   00                            ";
 
-const BLANK2: &[u8; 80] =
+pub(crate) const BLANK2: &[u8; 80] =
     b"HDR2F00800   80                                                                 ";
 
 /// A label of format V whose numbers begin with blanks and NULs.
@@ -34,7 +34,7 @@ const NO_NUMBER2: &[u8; 80] =
 const HDR3: &[u8; 80] =
     b"HDR3                                                                            ";
 
-const EOF1: &[u8; 80] =
+pub(crate) const EOF1: &[u8; 80] =
     b"EOF1PAYROLL          ABC00100010001000100 85113 00000 000002SYSTEM              ";
 
 /// Labels without numbers, and the same ones with those of the second file.
@@ -91,7 +91,7 @@ fn in_ebcdic(character: u8) -> u8 {
 }
 
 /// Returns a label in code page 037.
-fn ebcdic(label: &[u8; 80]) -> [u8; 80] {
+pub(crate) fn ebcdic(label: &[u8; 80]) -> [u8; 80] {
     let mut text = *label;
     for at in 0..80 {
         text[at] = in_ebcdic(label[at]);

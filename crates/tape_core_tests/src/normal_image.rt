@@ -18,10 +18,18 @@ fn push_eighty(image: &mut Vec<u8>, text: &[u8; 80]) -> Result<(), AllocError> {
     image.extend_from_slice(&[80, 0, 0, 0])
 }
 
+/// Appends the label of a letter in a block of 83 bytes, with a pad byte.
+fn push_padded(image: &mut Vec<u8>, letter: u8) -> Result<(), AllocError> {
+    image.extend_from_slice(&[83, 0, 0, 0])?;
+    image.extend_from_slice(&label(letter).unwrap_or([0; 80]))?;
+    image.extend_from_slice(&[0, 0, 0, 7, 83, 0, 0, 0])
+}
+
 /// Appends what a letter represents: a label as in the tests of the normal form, `W` the volume
-/// label of a tape that has none, `D` a block of 4 bytes, `O` one of 3 bytes with a pad byte, `d`
-/// one that is a volume label in EBCDIC, `L` one of 512 bytes, `c` the first 8 bytes of that block,
-/// `b` an unreadable block, `m` a mark, `g` a gap, `.` an end-of-medium marker, `0` the byte 0.
+/// label of a tape that has none, `B`, `A` and `C` the labels `V`, `H` and `E` in blocks of 83 bytes,
+/// `D` a block of 4 bytes, `O` one of 3 bytes with a pad byte, `d` one that is a volume label in
+/// EBCDIC, `L` one of 512 bytes, `c` the first 8 bytes of that block, `b` an unreadable block, `m` a
+/// mark, `g` a gap, `.` an end-of-medium marker, `0` the byte 0.
 fn push(image: &mut Vec<u8>, letter: u8) -> Result<(), AllocError> {
     match (letter, label(letter)) {
         (b'm', _) => image.extend_from_slice(&[0, 0, 0, 0]),
@@ -38,6 +46,9 @@ fn push(image: &mut Vec<u8>, letter: u8) -> Result<(), AllocError> {
             image.extend_from_slice(&[0, 2, 0, 0])
         }
         (b'W', _) => push_eighty(image, NO_VOLUME),
+        (b'B', _) => push_padded(image, b'V'),
+        (b'A', _) => push_padded(image, b'H'),
+        (b'C', _) => push_padded(image, b'E'),
         (b'd', _) => push_eighty(image, &label(b'v').unwrap_or([0; 80])),
         (_, Some(text)) => push_eighty(image, &text),
         _ => Ok(()),
@@ -92,7 +103,7 @@ fn all_of<R: Read>(alloc: Global, reader: &mut R) -> Result<Vec<u8>, AllocError>
 }
 
 /// The images, and what they become.
-const IMAGES: [(&str, &str); 16] = [
+const IMAGES: [(&str, &str); 19] = [
     ("VHSmDOgbdmEmm.", "VHSmDOgbdmEmm."),
     ("gVgHSgmgDmEmm", "gVgHSgmgDmEmm"),
     ("vhsmDdmemm.", "VHSmDdmEmm."),
@@ -109,6 +120,9 @@ const IMAGES: [(&str, &str); 16] = [
     ("bvhsm.", "bvhsm."),
     ("VHc", "VHc"),
     ("VLc", "V0"),
+    ("BAmDAmCmm.", "VHmDAmEmm."),
+    ("gBgAgmOmCmmA.", "gVgHgmOmEmmA."),
+    ("BAmDmCmmDD.", "VHmDmEmm."),
 ];
 
 #[test]
@@ -144,6 +158,7 @@ fn rules_are_known(rt: HostRuntime) -> Result<(), AllocError> {
     let rules = rules_of(rt.alloc(), "mhmDmemmDD.")?;
     let wanted = Rules {
         ebcdic: true,
+        padded: false,
         no_volume_label: true,
         no_second_label: true,
         blank_numbers: false,
@@ -180,6 +195,12 @@ fn rules_are_known(rt: HostRuntime) -> Result<(), AllocError> {
     assert_eq!(rt; rules_of(rt.alloc(), "VHSmDbmKmm.")?, Rules::NONE);
     assert_eq!(rt; rules_of(rt.alloc(), "VHSmDmJmm.")?, uncounted);
     assert_eq!(rt; rules_of(rt.alloc(), "VHSmmJmm.")?, Rules::NONE);
+    let padded = Rules {
+        padded: true,
+        no_second_label: true,
+        ..Rules::NONE
+    };
+    assert_eq!(rt; rules_of(rt.alloc(), "BAmDmCmm.")?, padded);
     let unnamed = Rules {
         no_volume_label: true,
         ..numbered

@@ -1,7 +1,7 @@
 //! Images in normal form. The rules by which they differ from the images are named on standard
 //! error.
 
-ghost use Rattle.std.specs.Prelude.{⊤, ◌≤◌, length, IfOk};
+ghost use Rattle.std.specs.Prelude.{⊤, ◌≤◌, length, IfOk, IfSome};
 
 mod followed;
 
@@ -19,8 +19,9 @@ use tape_label::Head1;
 use tape_run::{ImageSource, container_of};
 
 /// The rules that may be applied to an image, in the order in which they are named.
-const TEXTS: [&str; 8] = [
+const TEXTS: [&str; 9] = [
     "labels in EBCDIC",
+    "labels with padding",
     "no volume label",
     "a file has no HDR2",
     "numbers in HDR2 begin with blanks or NULs",
@@ -31,9 +32,10 @@ const TEXTS: [&str; 8] = [
 ];
 
 /// Returns which of the rules of `TEXTS` were applied.
-fn applied(rules: Rules) -> [bool; 8] {
+fn applied(rules: Rules) -> [bool; 9] {
     [
         rules.ebcdic,
+        rules.padded,
         rules.no_volume_label,
         rules.no_second_label,
         rules.blank_numbers,
@@ -103,10 +105,21 @@ impl<R: Progress> Form<R> {
             Form::Other(_) => None,
         }
     }
+
+    /// Reads bytes where no rule can be applied. Returns `None` if one may be.
+    #[inline(always)]
+    fn read_plain(&mut self, buf: &mut [u8]) -> io::Result<Option<usize>>
+        ensures bound { IfOk result (λ read. IfSome read (λ count. count ≤ length buf.new)) }
+    {
+        match self {
+            Form::Normal(image) => image.read_plain(buf),
+            Form::Converted(image) => image.read_plain(buf),
+            Form::Other(image) => Ok(Some(image.read(buf)?)),
+        }
+    }
 }
 
 impl<R: Progress> Read for Form<R> {
-    #[inline(always)]
     fn read(&mut self, buf: &mut [u8]) -> io::Result<usize> {
         match self {
             Form::Normal(image) => image.read(buf),
@@ -162,6 +175,22 @@ impl<R: Progress> Normal<R> {
         }
     }
 
+    /// Reads bytes, and names the rules that are applied to the items before them.
+    #[cold]
+    fn read_other(&mut self, buf: &mut [u8]) -> io::Result<usize>
+        ensures bound { IfOk result (λ count. count ≤ length buf.new) }
+    {
+        let read = self.inner.read(buf);
+        let rules = self.inner.rules();
+        if self.is_first && rules != self.named {
+            self.name_rules(rules);
+        }
+        if let Some(head) = self.inner.take_uncounted() {
+            self.note_uncounted(&head);
+        }
+        read
+    }
+
     /// Names the rules that were applied since the last call.
     #[cold]
     fn name_rules(&mut self, rules: Rules) {
@@ -185,14 +214,10 @@ impl<R: Progress> Read for Normal<R> {
         if let Some((before, mark)) = self.seam {
             return self.read_to_mark(buf, before, mark);
         }
-        let read = self.inner.read(buf);
-        let rules = self.inner.rules();
-        if self.is_first && rules != self.named {
-            self.name_rules(rules);
-        }
-        if let Some(head) = self.inner.take_uncounted() {
-            self.note_uncounted(&head);
-        }
+        let read = match self.inner.read_plain(buf)? {
+            Some(count) => Ok(count),
+            None => self.read_other(buf),
+        };
         if self.front.is_some() {
             self.follow(buf, &read);
         }

@@ -1,13 +1,14 @@
 -- The machine's table gives the normal form.
-use Rattle.std.proofs.Common.{◌≡◌, ℕ, List, [], ◌∷◌, ◌++◌, Bool, true, false}
-use Rattle.std.proofs.Common.{length, ◌==◌, refl, sym, ap, ◌∙◌, nat_lt, ◌&&◌, not, append_assoc}
+use Rattle.std.proofs.Common.{◌≡◌, ℕ, List, [], ◌∷◌, ◌++◌, Bool, true, false, Option, Some, None}
+use Rattle.std.proofs.Common.{◌+◌, length, ◌==◌, refl, sym, ap, ◌∙◌, nat_lt, ◌&&◌, not, append_assoc}
 use Rattle.std.proofs.lemmas.Slice.Eq.{bytes_eq-Decides}
 use Rattle.std.specs.Str.{bytes_eq}
 use Rattle.tape_image.specs.Tape.{TapeItem, block, bad, mark}
 use Rattle.tape_label.specs.{Kinds.kind_at, VolumeLabels.is_volume_label}
 use Rattle.tape_label.specs.WideHead2.{is_further_header}
 use Rattle.tape_core.specs.declared.normal.code.Code.{Code}
-use Rattle.tape_core.specs.declared.normal.code.Code.TheVariants.{Ascii, Ebcdic}
+use Rattle.tape_core.specs.declared.normal.code.Code.TheVariants.{Ascii, Ebcdic, PaddedAscii}
+use Rattle.tape_core.specs.declared.normal.code.Code.TheVariants.{PaddedEbcdic}
 use Rattle.tape_core.specs.declared.normal.machine.{TapePlace.TapePlace, Missing.Missing}
 use Rattle.tape_core.specs.declared.normal.machine.TapePlace.TheVariants.{Start, Labels, Blank}
 use Rattle.tape_core.specs.declared.normal.machine.TapePlace.TheVariants.{Second}
@@ -21,12 +22,14 @@ use Rattle.tape_core.specs.NormalForm.{Mended.is_hdr2}
 use Rattle.tape_core.specs.NormalForm.Mended.{is_first_trailer, is_dummy, mended, headed, trailed}
 use Rattle.tape_core.specs.NormalForm.Mended.{no_file, lost}
 use Rattle.tape_core.specs.declared.normal.numbers.FileSeen.{FileSeen}
-use Rattle.tape_core.specs.NormalForm.{is_noise, most_dropped, of_labels, of_second, of_data}
-use Rattle.tape_core.specs.NormalForm.{of_trailers, of_headers, of_left, of_other}
+use Rattle.tape_core.specs.NormalForm.{is_noise, most_dropped, of_labels, of_second, of_first}
+use Rattle.tape_core.specs.NormalForm.{of_start, of_data, of_left, of_other, code_of}
 use Rattle.tape_core.specs.NormalForm.{is_next_header, is_lost_header}
+use Rattle.tape_core.proofs.Labels.{plain_text}
+use Rattle.tape_core.specs.NormalForm.{of_trailers, of_headers}
 use Rattle.tape_core.specs.NormalForm.Steps.{Gives, step_of, from, given, instead, instead_in}
 use Rattle.tape_core.specs.NormalForm.Steps.{translated_with, mended_with, replaced_with, header_at}
-use Rattle.tape_core.specs.NormalForm.Steps.{inserted, begin_at, ended_at, start_at, labels_at}
+use Rattle.tape_core.specs.NormalForm.Steps.{inserted, begin_in, ended_at, start_at, labels_at}
 use Rattle.tape_core.specs.NormalForm.Steps.{second_at}
 use Rattle.tape_core.specs.NormalForm.Steps.{any_at, trailer_at, next_at, drop_first, left_at}
 use Rattle.tape_core.specs.NormalForm.Steps.{other_at, headers_at, trailers_at}
@@ -36,6 +39,8 @@ instead_is : (code : Code) (b : List ℕ)
     → instead (instead_in code (in_ascii code b)) (block b) ≡ block (in_ascii code b) ∷ []
 instead_is Ascii b = refl
 instead_is Ebcdic b = refl
+instead_is PaddedAscii b = refl
+instead_is PaddedEbcdic b = refl
 
 -- the rest after a label
 behind : (adds : Missing) (code : Code) (b : List ℕ) (xs : List TapeItem)
@@ -76,21 +81,17 @@ header_is adds code before b xs =
     sym (replaced_is adds code b (headed before (in_ascii code b)).0
     (of_second code (headed before (in_ascii code b)).1 xs) _ refl)
 
-any_behind : (code : Code) (b : List ℕ) (xs : List TapeItem) (t : Bool) → (length b == 80) ≡ t
-    → block (in_ascii code b) ∷ xs ≡ given (any_at code b) (block b) ++ xs
-any_behind code b xs true e = rw (e) (sym (ap (λ v. v ++ xs) (any_own code b e)))
-  where
-    any_own : (code : Code) (b : List ℕ) → (length b == 80) ≡ true
-        → instead (instead_in code (in_ascii code b)) (block b) ≡ block (in_ascii code b) ∷ []
-    any_own code b e = instead_is code b
-any_behind Ascii b xs false e = rw (e) refl
-any_behind Ebcdic b xs false e = rw (e) refl
+any_behind : (code : Code) (b : List ℕ) (xs : List TapeItem) (t : Bool)
+    → (length (in_ascii code b) == 80) ≡ t
+    → block (in_ascii code b) ∷ xs ≡ given (any_at code (in_ascii code b)) (block b) ++ xs
+any_behind code b xs true e = rw (e) (sym (ap (λ v. v ++ xs) (instead_is code b)))
+any_behind code b xs false e = rw (e) (ap (λ v. block v ∷ xs) (plain_text code b e))
 
 -- after an item that is not expected
 left_behind : (code : Code) (seen : FileSeen) (place : FileSeen → TapePlace) (xs : List TapeItem)
     → of_left code seen xs (λ s. from (place s) xs) ≡ from (left_at code (place (lost seen))) xs
 left_behind Ascii seen place xs = refl
-left_behind Ebcdic seen place xs = refl
+left_behind code seen place xs = refl
 
 -- ---- each place
 
@@ -112,18 +113,20 @@ module _ (b : List ℕ) (xs : List TapeItem) where
   headers_gives : (code : Code) (seen : FileSeen) (t : Bool)
       → is_next_header code (in_ascii code b) ≡ t
       → from (Headers code seen) (block b ∷ xs)
-      ≡ given (headers_at code seen b).1 (block b) ++ from (headers_at code seen b).0 xs
+      ≡ given (headers_at code seen (in_ascii code b)).1 (block b)
+      ++ from (headers_at code seen (in_ascii code b)).0 xs
   headers_gives code seen true e =
-      rw (e) (any_behind code b (of_headers code seen xs) (length b == 80) refl)
+      rw (e) (any_behind code b (of_headers code seen xs) (length (in_ascii code b) == 80) refl)
   headers_gives code seen false e = rw (e) (other_gives code seen)
 
   trailers_gives : (code : Code) (seen : FileSeen) (t : Bool)
       → is_lost_header code (in_ascii code b) ≡ t
       → from (Trailers code seen) (block b ∷ xs)
-      ≡ given (trailers_at code seen b).1 (block b) ++ from (trailers_at code seen b).0 xs
+      ≡ given (trailers_at code seen (in_ascii code b)).1 (block b)
+      ++ from (trailers_at code seen (in_ascii code b)).0 xs
   trailers_gives code seen true e = rw (e) (header_is Nothing code (lost seen) b xs)
   trailers_gives code seen false e =
-      rw (e) (any_behind code b (of_trailers code seen xs) (length b == 80) refl)
+      rw (e) (any_behind code b (of_trailers code seen xs) (length (in_ascii code b) == 80) refl)
 
   next_gives : (code : Code) (seen : FileSeen) (t : Bool)
       → is_hdr1 (kind_at (in_ascii code b)) ≡ t
@@ -132,7 +135,7 @@ module _ (b : List ℕ) (xs : List TapeItem) where
       ++ from (next_at code seen (in_ascii code b)).0 xs
   next_gives code seen true e = rw (e) (header_is Nothing code seen b xs)
   next_gives Ascii seen false e = rw (e) refl
-  next_gives Ebcdic seen false e = rw (e) refl
+  next_gives code seen false e = rw (e) refl
 
   trailer_gives : (code : Code) (seen : FileSeen) (t : Bool)
       → is_first_trailer (kind_at (in_ascii code b)) ≡ t
@@ -169,38 +172,35 @@ module _ (b : List ℕ) (xs : List TapeItem) where
   labels_gives code n false false true e f g = rw (e, f, g) refl
   labels_gives code n false false false e f g = rw (e, f, g) refl
 
-  start_gives : (n : ℕ) (v h w g z t : Bool) → is_vol1 (kind_at b) ≡ v → is_hdr1 (kind_at b) ≡ h
-      → is_vol1 (kind_at (in_ascii Ebcdic b)) ≡ w → is_hdr1 (kind_at (in_ascii Ebcdic b)) ≡ g
-      → is_noise b ≡ z → nat_lt n most_dropped ≡ t
-      → from (Start n) (block b ∷ xs)
-      ≡ given (start_at n b (begin_at b)).1 (block b) ++ from (start_at n b (begin_at b)).0 xs
-  start_gives n true h w g z t a c d e f i = rw (a) refl
-  start_gives n false true w g z t a c d e f i = rw (a, c) (header_is VolumeLabel Ascii no_file b xs)
-  start_gives n false false true g z t a c d e f i = rw (a, c, d) refl
-  start_gives n false false false true z t a c d e f i =
-      rw (a, c, d, e) (header_is VolumeLabel Ebcdic no_file b xs)
-  start_gives n false false false false true true a c d e f i = rw (a, c, d, e, f, i) refl
-  start_gives n false false false false true false a c d e f i = rw (a, c, d, e, f, i) refl
-  start_gives n false false false false false t a c d e f i = rw (a, c, d, e, f) refl
+  first_gives : (n : ℕ) (code : Code) (v : Bool) → is_vol1 (kind_at (in_ascii code b)) ≡ v
+      → of_first n b xs (λ c. of_labels c 0 xs) (λ c seen. of_second c seen xs)
+      (of_start (n + 1) xs) (Some code)
+      ≡ given (begin_in code (in_ascii code b)).1 (block b)
+      ++ from (begin_in code (in_ascii code b)).0 xs
+  first_gives n code true e = rw (e) (sym (behind Nothing code b (of_labels code 0 xs)))
+  first_gives n code false e = rw (e) (header_is VolumeLabel code no_file b xs)
 
-  ended_gives : (v h w g : Bool) → is_vol1 (kind_at b) ≡ v → is_hdr1 (kind_at b) ≡ h
-      → is_vol1 (kind_at (in_ascii Ebcdic b)) ≡ w → is_hdr1 (kind_at (in_ascii Ebcdic b)) ≡ g
+  start_gives : (n : ℕ) (o : Option Code) (z t : Bool) → code_of b ≡ o → is_noise b ≡ z
+      → nat_lt n most_dropped ≡ t
+      → from (Start n) (block b ∷ xs)
+      ≡ given (start_at n b (code_of b)).1 (block b) ++ from (start_at n b (code_of b)).0 xs
+  start_gives n (Some code) z t e f g = rw (e) (first_gives n code _ refl)
+  start_gives n None true true e f g = rw (e, f, g) refl
+  start_gives n None true false e f g = rw (e, f, g) refl
+  start_gives n None false t e f g = rw (e, f) refl
+
+  ended_gives : (o : Option Code) → code_of b ≡ o
       → from Ended (block b ∷ xs)
-      ≡ given (ended_at (begin_at b)).1 (block b) ++ from (ended_at (begin_at b)).0 xs
-  ended_gives true h w g a c d e = rw (a) refl
-  ended_gives false true w g a c d e = rw (a, c) refl
-  ended_gives false false true g a c d e = rw (a, c, d) refl
-  ended_gives false false false true a c d e = rw (a, c, d, e) refl
-  ended_gives false false false false a c d e = rw (a, c, d, e) refl
+      ≡ given (ended_at (code_of b)).1 (block b) ++ from (ended_at (code_of b)).0 xs
+  ended_gives (Some code) e = rw (e) refl
+  ended_gives None e = rw (e) refl
 
 -- ---- all of them
 
 pub table_gives : (place : TapePlace) (item : TapeItem)
     → Gives place item (step_of place item).0 (step_of place item).1
 table_gives (Start n) (block b) xs =
-    start_gives b xs n (is_vol1 (kind_at b)) (is_hdr1 (kind_at b))
-    (is_vol1 (kind_at (in_ascii Ebcdic b))) (is_hdr1 (kind_at (in_ascii Ebcdic b))) (is_noise b)
-    (nat_lt n most_dropped) refl refl refl refl refl refl
+    start_gives b xs n (code_of b) (is_noise b) (nat_lt n most_dropped) refl refl refl
 table_gives (Start n) mark xs = go (nat_lt n most_dropped) refl
   where
     go : (t : Bool) → nat_lt n most_dropped ≡ t
@@ -251,9 +251,7 @@ table_gives (Next code seen) mark xs = refl
 table_gives (Next code seen) bad xs =
     ap (λ v. bad ∷ v) (left_behind code seen (λ s. Headers code s) xs)
 table_gives Ended (block b) xs =
-    ended_gives b xs (is_vol1 (kind_at b)) (is_hdr1 (kind_at b))
-    (is_vol1 (kind_at (in_ascii Ebcdic b))) (is_hdr1 (kind_at (in_ascii Ebcdic b))) refl refl refl
-    refl
+    ended_gives b xs (code_of b) refl
 table_gives Ended mark xs = refl
 table_gives Ended bad xs = refl
 table_gives Over item xs = refl

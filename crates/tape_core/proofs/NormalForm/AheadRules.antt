@@ -15,6 +15,7 @@ use Rattle.tape_label.proofs.{First.head1_found, First.trail1_found, Apart.kind_
 use Rattle.tape_core.proofs.NormalForm.{Same.first_trailer, Same.ok_no_dummy, KindKept.kind_mended}
 use Rattle.tape_core.proofs.NormalForm.Numbers.{headed_ok, trailed_ok, uncounted_is, counted_read}
 use Rattle.tape_core.proofs.NormalForm.{Numbers.trailed_counted, Enough.less_is, Enough.less_no}
+use Rattle.tape_core.proofs.{Labels.code_vol1}
 use Rattle.tape_set.specs.declared.position.Position.{Position}
 use Rattle.tape_set.specs.declared.position.Position.TheVariants.{Awaits, Finished}
 use Rattle.tape_set.specs.Position.{next_block, next_section, block_of, sect_of, part_of}
@@ -98,7 +99,7 @@ module _ (core : State) (w : is_finished core.position ≡ false) where
   pub volume : (n : ℕ) (b : List ℕ) (k : Option Kind) → kind_at b ≡ k
       → Fact core (places.Start n) (block b) (first_label core k)
   volume n b (Some kinds.Vol1) e =
-      kept (places.Labels Ascii 0) (λ xs. rw (e) refl)
+      kept (places.Labels Ascii 0) (λ xs. rw (code_vol1 b e, e) refl)
       (λ g. stays (places.Labels Ascii 0) phases.VolumeLabels tt)
   volume n b k e = ends tt
 

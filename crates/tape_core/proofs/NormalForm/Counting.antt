@@ -8,7 +8,7 @@ use Rattle.tape_image.specs.Tape.{TapeItem, block, bad, mark}
 use Rattle.tape_label.specs.{Kinds.kind_at, VolumeLabels.is_volume_label}
 use Rattle.tape_label.specs.WideHead2.{is_further_header}
 use Rattle.tape_core.specs.declared.normal.code.Code.{Code}
-use Rattle.tape_core.specs.declared.normal.code.Code.TheVariants.{Ascii, Ebcdic}
+use Rattle.tape_core.specs.declared.normal.code.Code.TheVariants.{Ascii}
 use Rattle.tape_core.specs.declared.normal.machine.{TapePlace.TapePlace, Change.Change}
 use Rattle.tape_core.specs.declared.normal.machine.{Replacement.Replacement, Missing.Missing}
 use Rattle.tape_core.specs.declared.normal.machine.TapePlace.TheVariants.{Start, Labels, Blank}
@@ -18,14 +18,14 @@ use Rattle.tape_core.specs.declared.normal.machine.TapePlace.TheVariants.{Ended,
 use Rattle.tape_core.specs.declared.normal.machine.Replacement.TheVariants.{Same, Dropped, Label}
 use Rattle.tape_core.specs.declared.normal.machine.Missing.TheVariants.{Nothing, VolumeLabel}
 use Rattle.tape_core.specs.declared.normal.machine.Missing.TheVariants.{SecondLabel, Digits}
-use Rattle.tape_core.specs.NormalForm.{is_noise, most_dropped, Codes.in_ascii, is_next_header}
-use Rattle.tape_core.specs.NormalForm.{is_lost_header}
+use Rattle.tape_core.specs.NormalForm.{is_noise, most_dropped, code_of, Codes.in_ascii}
+use Rattle.tape_core.specs.NormalForm.{is_next_header, is_lost_header}
 use Rattle.tape_core.specs.NormalForm.Mended.{is_vol1, is_hdr1, is_hdr2, is_first_trailer}
 use Rattle.tape_core.specs.NormalForm.Mended.{is_dummy, mended, headed, trailed, counted}
 use Rattle.tape_core.specs.NormalForm.Mended.{uncounted, no_file, lost}
 use Rattle.tape_core.specs.declared.normal.numbers.FileSeen.{FileSeen}
 use Rattle.tape_core.specs.NormalForm.Steps.{step_of, from, given, inserted, instead, instead_in}
-use Rattle.tape_core.specs.NormalForm.Steps.{begin_in, begin_at, either, start_at, drop_first}
+use Rattle.tape_core.specs.NormalForm.Steps.{begin_in, start_at, drop_first}
 use Rattle.tape_core.specs.NormalForm.Steps.{drop_block, labels_at, second_at, any_at, trailer_at}
 use Rattle.tape_core.specs.NormalForm.Steps.{next_at, ended_at, replaced_with, left_at, other_at}
 use Rattle.tape_core.specs.NormalForm.Steps.{same, headers_at, trailers_at, header_at}
@@ -63,10 +63,6 @@ leaf g next m r e h = record {
   one = omega (arith, e, kept_few r);
 }
 
-abbrev AllFit : ℕ → Option (TapePlace × Change) → Type 0
-AllFit g None = Unit {0}
-AllFit g (Some step) = FitsIn g step
-
 drop_fits : (n : ℕ) (t : Bool) → nat_lt n most_dropped ≡ t → FitsIn 1 (drop_first n)
 drop_fits n true e = rw (e) (record { few = omega arith; one = omega arith })
 drop_fits n false e = rw (e) (leaf 1 Over Nothing Same refl (omega arith))
@@ -81,7 +77,7 @@ drop_block_fits code n false e = rw (e) (leaf 0 Over Nothing Same refl (omega ar
 left_fits : (code : Code) (place : TapePlace) → grown place ≡ 0
     → FitsIn 0 (left_at code place, same)
 left_fits Ascii place g = leaf 0 Over Nothing Same refl (omega arith)
-left_fits Ebcdic place g = leaf 0 place Nothing Same g (omega arith)
+left_fits code place g = leaf 0 place Nothing Same g (omega arith)
 
 module _ (b : List ℕ) where
   header_fits : (code : Code) (before : FileSeen)
@@ -99,33 +95,22 @@ module _ (b : List ℕ) where
   other_fits : (code : Code) (seen : FileSeen) → FitsIn 0 (other_at code seen (in_ascii code b))
   other_fits code seen = other_by code seen (is_lost_header code (in_ascii code b)) refl
 
-  begun_fits : (code : Code) (v h : Bool) → is_vol1 (kind_at (in_ascii code b)) ≡ v
-      → is_hdr1 (kind_at (in_ascii code b)) ≡ h → AllFit 1 (begin_in code (in_ascii code b))
-  begun_fits code true h f k =
+  begun_fits : (code : Code) (v : Bool) → is_vol1 (kind_at (in_ascii code b)) ≡ v
+      → FitsIn 1 (begin_in code (in_ascii code b))
+  begun_fits code true f =
       rw (f) (leaf 1 (Labels code 0) Nothing (instead_in code (in_ascii code b)) refl (omega arith))
-  begun_fits code false true f k =
-      rw (f, k) (leaf 1 (Second code (headed no_file (in_ascii code b)).1) VolumeLabel
-      (replaced_with VolumeLabel code (headed no_file (in_ascii code b)).0 (in_ascii code b)).instead refl
-      (omega arith))
-  begun_fits code false false f k = rw (f, k) tt
+  begun_fits code false f =
+      rw (f) (leaf 1 (Second code (headed no_file (in_ascii code b)).1) VolumeLabel
+      (replaced_with VolumeLabel code (headed no_file (in_ascii code b)).0
+      (in_ascii code b)).instead refl (omega arith))
 
-  either_fits : (x y : Option (TapePlace × Change)) → AllFit 1 x → AllFit 1 y
-      → AllFit 1 (either x y)
-  either_fits (Some x) y p q = p
-  either_fits None y p q = q
+  start_fits : (n : ℕ) (o : Option Code) (z : Bool) → is_noise b ≡ z → FitsIn 1 (start_at n b o)
+  start_fits n (Some code) z e = begun_fits code _ refl
+  start_fits n None true e = rw (e) (drop_fits n _ refl)
+  start_fits n None false e = rw (e) (leaf 1 Over Nothing Same refl (omega arith))
 
-  begin_fits : AllFit 1 (begin_at b)
-  begin_fits = either_fits (begin_in Ascii (in_ascii Ascii b)) (begin_in Ebcdic (in_ascii Ebcdic b))
-      (begun_fits Ascii _ _ refl refl) (begun_fits Ebcdic _ _ refl refl)
-
-  start_fits : (n : ℕ) (o : Option (TapePlace × Change)) → AllFit 1 o → (z : Bool)
-      → is_noise b ≡ z → FitsIn 1 (start_at n b o)
-  start_fits n (Some s) p z e = p
-  start_fits n None p true e = rw (e) (drop_fits n _ refl)
-  start_fits n None p false e = rw (e) (leaf 1 Over Nothing Same refl (omega arith))
-
-  ended_fits : (o : Option (TapePlace × Change)) → FitsIn 0 (ended_at o)
-  ended_fits (Some s) = leaf 0 Over Nothing Same refl (omega arith)
+  ended_fits : (o : Option Code) → FitsIn 0 (ended_at o)
+  ended_fits (Some code) = leaf 0 Over Nothing Same refl (omega arith)
   ended_fits None = leaf 0 Ended Nothing Dropped refl (omega arith)
 
   labels_fit : (code : Code) (n : ℕ) (v h : Bool) → is_volume_label (in_ascii code b) ≡ v
@@ -155,19 +140,21 @@ module _ (b : List ℕ) where
       (omega arith))
   second_fits code seen false false m p q r = rw (p, q) (other_fits code seen)
 
-  any_fits : (next : TapePlace) (code : Code) (t : Bool) → grown next ≡ 0 → (length b == 80) ≡ t
-      → FitsIn 0 (next, any_at code b)
+  any_fits : (next : TapePlace) (code : Code) (t : Bool) → grown next ≡ 0
+      → (length (in_ascii code b) == 80) ≡ t → FitsIn 0 (next, any_at code (in_ascii code b))
   any_fits next code true g e =
       rw (e) (leaf 0 next Nothing (instead_in code (in_ascii code b)) g (omega arith))
   any_fits next code false g e = rw (e) (leaf 0 next Nothing Same g (omega arith))
 
   headers_fit : (code : Code) (seen : FileSeen) (t : Bool)
-      → is_next_header code (in_ascii code b) ≡ t → FitsIn 0 (headers_at code seen b)
+      → is_next_header code (in_ascii code b) ≡ t
+      → FitsIn 0 (headers_at code seen (in_ascii code b))
   headers_fit code seen true p = rw (p) (any_fits (Headers code seen) code _ refl refl)
   headers_fit code seen false p = rw (p) (other_fits code seen)
 
   trailers_fit : (code : Code) (seen : FileSeen) (t : Bool)
-      → is_lost_header code (in_ascii code b) ≡ t → FitsIn 0 (trailers_at code seen b)
+      → is_lost_header code (in_ascii code b) ≡ t
+      → FitsIn 0 (trailers_at code seen (in_ascii code b))
   trailers_fit code seen true p = rw (p) (header_fits code (lost seen))
   trailers_fit code seen false p = rw (p) (any_fits (Trailers code seen) code _ refl refl)
 
@@ -187,11 +174,11 @@ module _ (b : List ℕ) where
       (replaced_with Nothing code (headed last (in_ascii code b)).0 (in_ascii code b)).instead refl
       (omega arith))
   next_fits Ascii last false p = rw (p) (leaf 0 Over Nothing Same refl (omega arith))
-  next_fits Ebcdic last false p =
-      rw (p) (leaf 0 (Data Ebcdic (lost last)) Nothing Same refl (omega arith))
+  next_fits code last false p =
+      rw (p) (leaf 0 (Data code (lost last)) Nothing Same refl (omega arith))
 
 pub step_fits : (place : TapePlace) (x : TapeItem) → FitsIn (grown place) (step_of place x)
-step_fits (Start n) (block b) = start_fits b n (begin_at b) (begin_fits b) _ refl
+step_fits (Start n) (block b) = start_fits b n (code_of b) _ refl
 step_fits (Start n) mark = drop_fits n _ refl
 step_fits (Start n) bad = leaf 1 Over Nothing Same refl (omega arith)
 step_fits (Labels code n) (block b) = labels_fit b code n _ _ refl refl
@@ -219,7 +206,7 @@ step_fits (Trailers code seen) bad = left_fits code (Trailers code (lost seen)) 
 step_fits (Next code seen) (block b) = next_fits b code seen _ refl
 step_fits (Next code seen) mark = leaf 0 Ended Nothing Same refl (omega arith)
 step_fits (Next code seen) bad = left_fits code (Headers code (lost seen)) refl
-step_fits Ended (block b) = ended_fits b (begin_at b)
+step_fits Ended (block b) = ended_fits b (code_of b)
 step_fits Ended mark = leaf 0 Ended Nothing Dropped refl (omega arith)
 step_fits Ended bad = leaf 0 Ended Nothing Dropped refl (omega arith)
 step_fits Over (block b) = leaf 0 Over Nothing Same refl (omega arith)

@@ -1,5 +1,6 @@
 -- Steps enough for the bytes of an image in normal form, and what is looked at.
-use Rattle.std.proofs.Common.{◌≡◌, ℕ, zero, suc, ◌-◌, ◌≤◌, ◌<◌, Bool, true, false, ◌==◌}
+use Rattle.std.proofs.Common.{◌≡◌, ℕ, zero, suc, ◌+◌, ◌-◌, ◌%◌, ◌≤◌, ◌<◌, Bool, true, false}
+use Rattle.std.proofs.Common.{◌==◌}
 use Rattle.std.proofs.Common.{nat_lt, List, ◌++◌}
 use Rattle.std.proofs.Common.{length, take, drop, Option, Some, None, refl, sym, ap, subst, ◌∙◌}
 use Rattle.std.proofs.Common.{arith}
@@ -50,12 +51,15 @@ block_sized room place w None = tt
 block_sized room place w (Some n) =
     within_sized room (block_extent n) (block_step place w n) (omega arith)
 
-label_sized : (room : ℕ) (place : TapePlace) (xs : List ℕ) (t u : Bool) → nat_lt (length xs) 88 ≡ t
-    → (little_number 4 (drop 84 xs) == 80) ≡ u → Sized room (looked_label room place xs)
-label_sized room place xs true u e f = rw (e) tt
-label_sized room place xs false true e f =
-    rw (e, f) (within_sized room 88 (step_of place (block (take 80 (drop 4 xs)))) (omega arith))
-label_sized room place xs false false e f = rw (e, f) tt
+label_sized : (room : ℕ) (place : TapePlace) (w : ℕ) (xs : List ℕ) (t u : Bool)
+    → nat_lt (length xs) (block_extent w) ≡ t
+    → (little_number 4 (drop (4 + w + w % 2) xs) == w) ≡ u
+    → Sized room (looked_label room place w xs)
+label_sized room place w xs true u e f = rw (e) tt
+label_sized room place w xs false true e f =
+    rw (e, f) (within_sized room (block_extent w) (step_of place (block (take w (drop 4 xs))))
+    (omega arith))
+label_sized room place w xs false false e f = rw (e, f) tt
 
 word_sized : (room : ℕ) (place : TapePlace) (w : ℕ) (xs : List ℕ) (m g b : Bool)
     → (w == mark_word) ≡ m → (w == gap_word) ≡ g → begins_label place xs ≡ b
@@ -65,7 +69,7 @@ word_sized room place w xs true g b d e f =
 word_sized room place w xs false true b d e f =
     rw (d, e) (within_sized room 4 (place, same) (omega arith))
 word_sized room place w xs false false true d e f =
-    rw (d, e, f) (label_sized room place xs _ _ refl refl)
+    rw (d, e, f) (label_sized room place w xs _ _ refl refl)
 word_sized room place w xs false false false d e f =
     rw (d, e, f) (block_sized room place w (block_len w))
 

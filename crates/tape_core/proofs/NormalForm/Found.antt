@@ -4,7 +4,8 @@ use Rattle.tape_image.specs.Tape.{TapeItem}
 use Rattle.tape_core.specs.declared.normal.code.Code.TheVariants.{Ebcdic}
 use Rattle.tape_core.specs.declared.normal.numbers.FileSeen.{FileSeen}
 use Rattle.tape_core.specs.NormalForm.{Laws.FilesFound}
-use Rattle.tape_core.proofs.Eighty.{no_kind_of, not_further_of}
+use Rattle.tape_core.specs.NormalForm.{Codes.in_ascii}
+use Rattle.tape_core.proofs.Labels.{no_kind, not_further, turned_none}
 
 pub files_found : (seen : FileSeen) (rest : List TapeItem) → FilesFound seen rest
 files_found seen rest = record {
@@ -15,5 +16,8 @@ files_found seen rest = record {
   no_trailer = λ b e. rw (e) refl;
   bad_header = refl;
   bad_second = refl;
-  no_data_mark = λ b n. rw (no_kind_of Ebcdic b n, not_further_of Ebcdic b n) refl;
+  no_data_mark = λ b n. rw (
+    no_kind (in_ascii Ebcdic b) (turned_none b n),
+    not_further (in_ascii Ebcdic b) (turned_none b n),
+  ) refl;
 }

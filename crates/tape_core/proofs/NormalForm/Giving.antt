@@ -2,7 +2,7 @@
 use Rattle.std.proofs.Common.{◌≡◌, ℕ, zero, suc, ◌+◌, ◌-◌, ◌≤◌, ◌<◌, Bool, true, false, nat_lt}
 use Rattle.std.proofs.Common.{◌==◌, ◌&&◌, List, [], ◌∷◌, ◌++◌}
 use Rattle.std.proofs.Common.{length, take, drop, min, replicate, Option, Some, None, IfSome, refl}
-use Rattle.std.proofs.Common.{sym, ap, ◌∙◌, arith}
+use Rattle.std.proofs.Common.{sym, ap, subst, ◌∙◌, arith, ◌%◌}
 use Rattle.std.proofs.Common.{option_map, append_assoc, append-nil, length-append, length-drop}
 use lib.Seq.{take-append-le, drop-append-le, drop_at, take_at, take-add, drop-drop}
 use Rattle.std.proofs.lemmas.Bool.Decides.{nat_tests}
@@ -24,6 +24,7 @@ use Rattle.tape_core.specs.declared.normal.image.Course.TheVariants.{Looking, Pa
 use Rattle.tape_core.specs.NormalForm.Image.{left_in}
 use Rattle.tape_core.specs.NormalForm.Bytes.{looked, looked_word, looked_label, is_over}
 use Rattle.tape_core.specs.NormalForm.Bytes.{begins_label, reads_labels}
+use Rattle.tape_core.specs.NormalForm.{Codes.is_label_length}
 use Rattle.tape_core.specs.NormalForm.Bytes.{by_looked, normal_from, skipped, IsHeld, IsShort}
 use Rattle.tape_core.proofs.NormalForm.Enough.{first_item, is_less, no_less, less_is, less_no}
 use Rattle.tape_core.proofs.NormalForm.LookedAt.{looked_is, len_of}
@@ -33,30 +34,35 @@ use Rattle.tape_core.proofs.NormalForm.LookedAt.{looked_is, len_of}
 -- whether a label begins does not depend on more bytes
 pub begins_more : (place : TapePlace) (xs more : List ℕ) → 4 ≤ length xs
     → begins_label place (xs ++ more) ≡ begins_label place xs
-begins_more place xs more h = ap (λ w. reads_labels place && (w == 80)) (word-append xs more h)
+begins_more place xs more h =
+    ap (λ w. reads_labels place && is_label_length w) (word-append xs more h)
 
-label_more : (room : ℕ) (place : TapePlace) (xs more : List ℕ) → 88 ≤ length xs
-    → looked_label room place (xs ++ more) ≡ looked_label room place xs
-label_more room place xs more h =
-    let long : 4 ≤ length (drop 84 xs) = omega (arith, h, length-drop 84 xs) in
-    let wide : 80 ≤ length (drop 4 xs) = omega (arith, h, length-drop 4 xs) in
+label_more : (room : ℕ) (place : TapePlace) (w : ℕ) (xs more : List ℕ)
+    → block_extent w ≤ length xs
+    → looked_label room place w (xs ++ more) ≡ looked_label room place w xs
+label_more room place w xs more h =
+    let trail : ℕ = 4 + w + w % 2 in
+    let long : 4 ≤ length (drop trail xs) = omega (arith, h, length-drop trail xs) in
+    let wide : w ≤ length (drop 4 xs) = omega (arith, h, length-drop 4 xs) in
     rw (
-      no_less (length xs) 88 h,
-      no_less (length (xs ++ more)) 88 (omega (arith, h, length-append xs more)),
-      drop-append-le 84 xs more (omega (arith, h)),
-      word-append (drop 84 xs) more long,
+      no_less (length xs) (block_extent w) h,
+      no_less (length (xs ++ more)) (block_extent w) (omega (arith, h, length-append xs more)),
+      drop-append-le trail xs more (omega (arith, h)),
+      word-append (drop trail xs) more long,
       drop-append-le 4 xs more (omega (arith, h)),
-      take-append-le 80 (drop 4 xs) more wide,
+      take-append-le w (drop 4 xs) more wide,
     ) refl
 
 word_more : (room : ℕ) (place : TapePlace) (w : ℕ) (xs more : List ℕ) (m g b : Bool)
-    → IsHeld place xs → (w == mark_word) ≡ m → (w == gap_word) ≡ g → begins_label place xs ≡ b
+    → IsHeld place xs → little_number 4 xs ≡ w → (w == mark_word) ≡ m → (w == gap_word) ≡ g
+    → begins_label place xs ≡ b
     → looked_word room place w (xs ++ more) ≡ looked_word room place w xs
-word_more room place w xs more true g b h d e f = rw (d) refl
-word_more room place w xs more false true b h d e f = rw (d, e) refl
-word_more room place w xs more false false true h d e f =
-    rw (d, e, begins_more place xs more h.0, f) (label_more room place xs more (h.1 f))
-word_more room place w xs more false false false h d e f =
+word_more room place w xs more true g b h i d e f = rw (d) refl
+word_more room place w xs more false true b h i d e f = rw (d, e) refl
+word_more room place w xs more false false true h i d e f =
+    rw (d, e, begins_more place xs more h.0, f) (label_more room place w xs more
+    (subst (λ v. block_extent v ≤ length xs) i (h.1 f)))
+word_more room place w xs more false false false h i d e f =
     rw (d, e, begins_more place xs more h.0, f) refl
 
 -- what is looked at in the held bytes is what is looked at in all of them
@@ -81,20 +87,28 @@ looked_more room place xs more h = go (is_over place) refl
 
     go : (o : Bool) → is_over place ≡ o → looked room place (xs ++ more) ≡ looked room place xs
     go true e = rw (e) refl
-    go false e = first e ∙ word_more room place (little_number 4 xs) xs more _ _ _ h refl refl refl
+    go false e = first e ∙ word_more room place (little_number 4 xs) xs more _ _ _ h refl refl
+        refl refl
         ∙ sym (second e)
 
 begun_word : (place : TapePlace) (xs : List ℕ) → begins_label place xs ≡ true
-    → little_number 4 xs ≡ 80
+    → is_label_length (little_number 4 xs) ≡ true
 begun_word place xs e = go (reads_labels place) e
   where
-    go : (r : Bool) → (r && (little_number 4 xs == 80)) ≡ true → little_number 4 xs ≡ 80
-    go true e = grind (arith, nat_tests)
+    go : (r : Bool) → (r && is_label_length (little_number 4 xs)) ≡ true
+        → is_label_length (little_number 4 xs) ≡ true
+    go true e = e
     go false e = absurd (cc e)
 
-label_few : (room : ℕ) (place : TapePlace) (w : ℕ) (xs : List ℕ) → length xs < 88 → w ≡ 80
-    → begins_label place xs ≡ true → looked_word room place w xs ≡ None
-label_few room place w xs h e b = rw (e, b, is_less (length xs) 88 h) refl
+-- a block that can be a label is no mark, and no gap
+pub label_word : (w : ℕ) → is_label_length w ≡ true
+    → ((w == mark_word) ≡ false) × ((w == gap_word) ≡ false)
+label_word w e = (grind (arith, nat_tests), grind (arith, nat_tests))
+
+label_few : (room : ℕ) (place : TapePlace) (w : ℕ) (xs : List ℕ) → length xs < block_extent w
+    → is_label_length w ≡ true → begins_label place xs ≡ true → looked_word room place w xs ≡ None
+label_few room place w xs h e b =
+    rw ((label_word w e).0, (label_word w e).1, b, is_less (length xs) (block_extent w) h) refl
 
 -- nothing is looked at if too few bytes are left
 pub looked_few : (room : ℕ) (place : TapePlace) (xs : List ℕ) → IsShort place xs
@@ -105,9 +119,9 @@ looked_few room place xs h = go (is_over place) (nat_lt (length xs) 4) refl refl
     go true t e f = rw (e) refl
     go false true e f = rw (e, f) refl
     go false false e f =
-        let begins = h.1 (less_no (length xs) 4 f) in
-        let word = begun_word place xs begins in
-        rw (e, f) (label_few room place (little_number 4 xs) xs h.0 word begins)
+        let short = h (less_no (length xs) 4 f) in
+        rw (e, f) (label_few room place (little_number 4 xs) xs short.1
+        (begun_word place xs short.0) short.0)
 
 -- what is held is looked at
 pub seen_front : (a : Option (List ℕ)) (room : ℕ) (place : TapePlace) (held : List ℕ)
@@ -126,8 +140,8 @@ seen_few (Some ys) room place held h e =
     rw (whole) (sym (looked_few room place held h))
 
 -- a block that is not a label
-pub block_shown : (place : TapePlace) (w n k : ℕ) → w ≤ longest_block → k ≡ min n 81
-    → unlabelled (step_of place (block (take k (replicate 81 0)))) ≡ block_step place w n
+pub block_shown : (place : TapePlace) (w n k : ℕ) → w ≤ longest_block → k ≡ min n 121
+    → unlabelled (step_of place (block (take k (replicate 121 0)))) ≡ block_step place w n
 block_shown place w n k h e = rw (no_less longest_block w h, e) refl
 
 -- ---- one step

@@ -8,7 +8,7 @@ use Rattle.tape_image.specs.Written.{written_block}
 use Rattle.std.specs.Io.KnownBytes.{Consumes, Keeps, prepend_known}
 use Rattle.std.proofs.lemmas.Slice.{take-put_mid_below}
 use borrow.Rule.Slice.PartMut.{put_mid, post_of}
-use lib.Seq.{take-add, take-append-le, take_at, take_all, paste}
+use lib.Seq.{take-add, take-append-le, take_at, paste}
 
 -- bytes that a device gave are held
 pub held_more : (a b : Option (List ℕ)) (xs bs : List ℕ) → Consumes a b bs
@@ -46,13 +46,16 @@ worded : ℕ → List ℕ → List ℕ
 worded n xs = little_bytes 4 n ++ (xs ++ (replicate (n % 2) 0 ++ little_bytes 4 n))
 
 -- a label between its two words is its block
-pub label_block : (xs : List ℕ) → length xs ≡ 80
-    → 80 ∷ 0 ∷ 0 ∷ 0 ∷ take 84 (xs ++ 80 ∷ 0 ∷ 0 ∷ 0 ∷ []) ≡ written_block xs
+pub label_block : (xs rest : List ℕ) → length xs ≡ 80
+    → 80 ∷ 0 ∷ 0 ∷ 0 ∷ take 84 (xs ++ 80 ∷ 0 ∷ 0 ∷ 0 ∷ rest) ≡ written_block xs
 unfolding worded
-label_block xs e =
+label_block xs rest e =
     let whole : List ℕ = xs ++ 80 ∷ 0 ∷ 0 ∷ 0 ∷ [] in
-    ap (λ (l : List ℕ). 80 ∷ 0 ∷ 0 ∷ 0 ∷ l)
-    (take_all 84 whole (omega (arith, length-append xs (80 ∷ 0 ∷ 0 ∷ 0 ∷ []), e)))
+    let apart : xs ++ 80 ∷ 0 ∷ 0 ∷ 0 ∷ rest ≡ whole ++ rest =
+    sym (append_assoc xs (80 ∷ 0 ∷ 0 ∷ 0 ∷ []) rest) in
+    ap (λ (l : List ℕ). 80 ∷ 0 ∷ 0 ∷ 0 ∷ take 84 l) apart
+    ∙ ap (λ (l : List ℕ). 80 ∷ 0 ∷ 0 ∷ 0 ∷ l)
+    (take_at whole rest 84 (omega (arith, length-append xs (80 ∷ 0 ∷ 0 ∷ 0 ∷ []), e)))
     ∙ ap (λ n. worded n xs) (sym e)
 
 -- bytes put in place of as many

@@ -28,10 +28,11 @@ use Rattle.tape_core.specs.NormalForm.Steps.{step_of, from, inserted, instead}
 use Rattle.tape_core.specs.NormalForm.Bytes.{normal_from, normal_bytes, inserted_bytes, is_over}
 use Rattle.tape_core.specs.NormalForm.Bytes.{instead_bytes, skipped}
 use Rattle.tape_core.specs.NormalForm.Laws.{BytesKept, CopyBytesKept}
+use Rattle.tape_core.proofs.{Labels.code_vol1}
 use Rattle.tape_core.proofs.NormalForm.{Agree.table_gives, Same.normal_keeps, Giving.over_left}
 use Rattle.tape_core.proofs.NormalForm.LookedAt.{stepped, len_is}
 use Rattle.tape_core.proofs.NormalForm.{Enough.no_less, Plain.step_labelled, Plain.Labelled}
-use Rattle.tape_core.proofs.NormalForm.Spelled.{bytes_of, items_of, end_left, first_left, one_item}
+use Rattle.tape_core.proofs.NormalForm.Spelled.{bytes_of, items_of, end_left, first_more, one_item}
 use Rattle.tape_core.proofs.NormalForm.Spelled.{over_is}
 use Rattle.tape_core.proofs.NormalForm.Counting.{grown, added, step_fits, step_size, shorter}
 
@@ -49,7 +50,7 @@ quiet_of place x e =
 
 quiet_start : (n : ℕ) (b : List ℕ) → kind_at b ≡ Some kinds.Vol1
     → Quiet (step_of (Start n) (block b))
-quiet_start n b e = rw (e) (record { none = refl; past = refl })
+quiet_start n b e = rw (code_vol1 b e, e) (record { none = refl; past = refl })
 
 vol_kind : kind_at no_volume_label ≡ Some kinds.Vol1
 unfolding kind_at
@@ -102,14 +103,14 @@ first_new n (x ∷ rest) y ys e h = go (step_of (Start n) x).1.missing refl
 
 -- ---- a step that changes no item
 
-record Stays (place : TapePlace) (x : TapeItem) (rest : List TapeItem) : Type 0 where
+pub record Stays (place : TapePlace) (x : TapeItem) (rest : List TapeItem) : Type 0 where
   pub none : inserted (step_of place x).1.missing ≡ []
   pub next : from (step_of place x).0 rest ≡ rest
   pub is :
       ((step_of place x).1.instead ≡ Same)
       ⊎ ((text : List ℕ) × ((step_of place x).1.instead ≡ Label text) × (x ≡ block text))
 
-stays : (place : TapePlace) (x : TapeItem) (rest : List TapeItem)
+pub stays : (place : TapePlace) (x : TapeItem) (rest : List TapeItem)
     → from place (x ∷ rest) ≡ x ∷ rest → Stays place x rest
 stays place x rest e = go (step_of place x).1.missing refl
   where
@@ -232,56 +233,44 @@ label_bytes bytes text given' (a_block w content len f e) g n = go (nat_le w lon
 -- ---- all bytes
 
 -- the first encoding is kept, if the rest is
-first_kept : (s : Spelling) (ss : List Spelling) (room : ℕ) (place : TapePlace) (rest : List ℕ)
-    → length (bytes_of (s ∷ ss) ++ rest) ≤ room
+pub first_kept : (s : Spelling) (ss : List Spelling) (room : ℕ) (place : TapePlace)
+    (more : List ℕ) → length (s.bytes ++ more) ≤ room
     → from place (items_of (s ∷ ss)) ≡ items_of (s ∷ ss) → (o : Bool) → is_over place ≡ o
-    → ((next : TapePlace) (n : ℕ) → length (bytes_of ss ++ rest) ≤ n
-    → from next (items_of ss) ≡ items_of ss
-    → normal_from n next (bytes_of ss ++ rest) ≡ bytes_of ss ++ rest)
-    → normal_from room place (bytes_of (s ∷ ss) ++ rest) ≡ bytes_of (s ∷ ss) ++ rest
-first_kept s ss room place rest h k true o next =
-    let all : List ℕ = bytes_of (s ∷ ss) ++ rest in
-    subst (λ q. normal_from room q all ≡ all) (over_is place o) (over_left room all)
-first_kept s ss room place rest h k false o next =
-    first_left s ss room place rest h o ∙ by_item (one_item s.bytes s.given s.spelled)
+    → ((next : TapePlace) → from next (items_of ss) ≡ items_of ss
+    → normal_from (room - length s.bytes) next more ≡ more)
+    → normal_from room place (s.bytes ++ more) ≡ s.bytes ++ more
+first_kept s ss room place more h k true o next =
+    subst (λ q. normal_from room q (s.bytes ++ more) ≡ s.bytes ++ more) (over_is place o)
+    (over_left room (s.bytes ++ more))
+first_kept s ss room place more h k false o next =
+    first_more s room place more h o ∙ by_item (one_item s.bytes s.given s.spelled)
   where
-    assoc : bytes_of (s ∷ ss) ++ rest ≡ s.bytes ++ (bytes_of ss ++ rest)
-    assoc = append_assoc s.bytes (bytes_of ss) rest
-
-    long : length s.bytes + length (bytes_of ss ++ rest) ≤ room
-    long = omega (arith, h, ap length assoc, length-append s.bytes (bytes_of ss ++ rest))
-
     -- the item stays
-    same_kept : (left : List ℕ) → left ≡ bytes_of ss ++ rest
-        → take (length s.bytes) (s.bytes ++ (bytes_of ss ++ rest)) ++ left
-        ≡ bytes_of (s ∷ ss) ++ rest
+    same_kept : (left : List ℕ) → left ≡ more
+        → take (length s.bytes) (s.bytes ++ more) ++ left ≡ s.bytes ++ more
     same_kept left is =
-        ap (λ (l : List ℕ). l ++ left) (take_at s.bytes (bytes_of ss ++ rest) (length s.bytes) refl)
-        ∙ ap (λ (l : List ℕ). s.bytes ++ l) is ∙ sym assoc
+        ap (λ (l : List ℕ). l ++ left) (take_at s.bytes more (length s.bytes) refl)
+        ∙ ap (λ (l : List ℕ). s.bytes ++ l) is
 
     -- the item is replaced by itself
-    label_kept : (text left : List ℕ) → left ≡ bytes_of ss ++ rest → s.bytes ≡ written_block text
-        → written_block text ++ skipped (length s.bytes) (s.bytes ++ (bytes_of ss ++ rest)) left
-        ≡ bytes_of (s ∷ ss) ++ rest
+    label_kept : (text left : List ℕ) → left ≡ more → s.bytes ≡ written_block text
+        → written_block text ++ skipped (length s.bytes) (s.bytes ++ more) left ≡ s.bytes ++ more
     label_kept text left is b =
-        rw (no_less (length (s.bytes ++ (bytes_of ss ++ rest))) (length s.bytes)
-        (omega (arith, length-append s.bytes (bytes_of ss ++ rest))))
-        (ap (λ (l : List ℕ). l ++ left) (sym b)
-        ∙ ap (λ (l : List ℕ). s.bytes ++ l) is ∙ sym assoc)
+        rw (no_less (length (s.bytes ++ more)) (length s.bytes)
+        (omega (arith, length-append s.bytes more)))
+        (ap (λ (l : List ℕ). l ++ left) (sym b) ∙ ap (λ (l : List ℕ). s.bytes ++ l) is)
 
     left_is : (q : TapePlace) → from q (items_of ss) ≡ items_of ss
-        → normal_from (room - length s.bytes) q (bytes_of ss ++ rest) ≡ bytes_of ss ++ rest
-    left_is q j = next q (room - length s.bytes) (omega (arith, long)) j
+        → normal_from (room - length s.bytes) q more ≡ more
+    left_is q j = next q j
 
     by_instead : (x : TapeItem) → s.given ≡ x ∷ []
-        → normal_from (room - length s.bytes) (step_of place x).0 (bytes_of ss ++ rest)
-        ≡ bytes_of ss ++ rest
+        → normal_from (room - length s.bytes) (step_of place x).0 more ≡ more
         → ((step_of place x).1.instead ≡ Same)
         ⊎ ((text : List ℕ) × ((step_of place x).1.instead ≡ Label text) × (x ≡ block text))
-        → instead_bytes (step_of place x).1.instead (length s.bytes)
-        (s.bytes ++ (bytes_of ss ++ rest))
-        (normal_from (room - length s.bytes) (step_of place x).0 (bytes_of ss ++ rest))
-        ≡ bytes_of (s ∷ ss) ++ rest
+        → instead_bytes (step_of place x).1.instead (length s.bytes) (s.bytes ++ more)
+        (normal_from (room - length s.bytes) (step_of place x).0 more)
+        ≡ s.bytes ++ more
     by_instead x g left (inl q) = rw (q) (same_kept _ left)
     by_instead x g left (inr (text, q, i)) =
         let size : length text ≡ 80 = subst Labelled q (step_labelled place x) in
@@ -290,15 +279,13 @@ first_kept s ss room place rest h k false o next =
 
     by_item : (s.given ≡ []) ⊎ ((x : TapeItem) × (s.given ≡ x ∷ []))
         → inserted_bytes (stepped place s.given).1.missing
-        ++ instead_bytes (stepped place s.given).1.instead (length s.bytes)
-        (s.bytes ++ (bytes_of ss ++ rest))
-        (normal_from (room - length s.bytes) (stepped place s.given).0 (bytes_of ss ++ rest))
-        ≡ bytes_of (s ∷ ss) ++ rest
+        ++ instead_bytes (stepped place s.given).1.instead (length s.bytes) (s.bytes ++ more)
+        (normal_from (room - length s.bytes) (stepped place s.given).0 more)
+        ≡ s.bytes ++ more
     by_item (inl g) =
         let j : from place (items_of ss) ≡ items_of ss = subst
         (λ (l : List TapeItem). from place (l ++ items_of ss) ≡ l ++ items_of ss) g k in
-        rw (g) (same_kept (normal_from (room - length s.bytes) place (bytes_of ss ++ rest))
-        (left_is place j))
+        rw (g) (same_kept (normal_from (room - length s.bytes) place more) (left_is place j))
     by_item (inr (x, g)) =
         let j : from place (x ∷ items_of ss) ≡ x ∷ items_of ss = subst
         (λ (l : List TapeItem). from place (l ++ items_of ss) ≡ l ++ items_of ss) g k in
@@ -311,8 +298,13 @@ kept_from : (ss : List Spelling) (room : ℕ) (place : TapePlace) (rest : List �
     → normal_from room place (bytes_of ss ++ rest) ≡ bytes_of ss ++ rest
 kept_from [] room place rest ending h e k = end_left room place rest ending e
 kept_from (s ∷ ss) room place rest ending h e k =
-    first_kept s ss room place rest h k (is_over place) refl
-    (λ next n j l. kept_from ss n next rest ending j e l)
+    let more : List ℕ = bytes_of ss ++ rest in
+    let assoc : bytes_of (s ∷ ss) ++ rest ≡ s.bytes ++ more =
+    append_assoc s.bytes (bytes_of ss) rest in
+    ap (λ (l : List ℕ). normal_from room place l) assoc
+    ∙ first_kept s ss room place more (omega (arith, h, ap length assoc)) k (is_over place) refl
+    (λ next l. kept_from ss (room - length s.bytes) next rest ending
+    (omega (arith, h, ap length assoc, length-append s.bytes more)) e l) ∙ sym assoc
 
 pub bytes_kept : BytesKept
 bytes_kept xs items h s k =

@@ -1,13 +1,13 @@
 -- What is looked at in an encoding of an item.
-use Rattle.std.proofs.Common.{◌≡◌, ◌≢◌, ℕ, ◌≤◌, ◌%◌, Bool, true, false, ◌==◌, ◌&&◌}
+use Rattle.std.proofs.Common.{◌≡◌, ℕ, ◌+◌, ◌≤◌, ◌%◌, Bool, true, false, ◌==◌, ◌&&◌}
 use Rattle.std.proofs.Common.{nat_lt, min}
 use Rattle.std.proofs.Common.{nat_le, List, [], ◌∷◌, ◌++◌, length, take, drop, replicate, Option}
 use Rattle.std.proofs.Common.{Some, None}
-use Rattle.std.proofs.Common.{refl, sym, ap, subst, ◌∙◌, arith, append_assoc}
+use Rattle.std.proofs.Common.{refl, sym, ap, ◌∙◌, arith, append_assoc}
 use Rattle.std.proofs.Common.{length-append, drop_at}
-use lib.Seq.{take_at, drop-drop}
+use lib.Seq.{take_at, take_all, drop-drop}
+use Rattle.std.proofs.Common.{◌-◌, length-drop}
 use Rattle.std.proofs.Common.{◌<◌}
-use Rattle.tape_image.proofs.Spellings.{empty}
 use Rattle.std.proofs.lemmas.{Bool.Decides.nat_tests, List.length-take}
 use Rattle.byteorder.specs.{Endian.little_number}
 use Rattle.tape_image.specs.Tape.{TapeItem, block, mark}
@@ -18,7 +18,7 @@ use Rattle.tape_image.proofs.Words.{word_in_front, block_len-bounds}
 use Rattle.tape_core.specs.declared.normal.machine.{TapePlace.TapePlace, Change.Change}
 use Rattle.tape_core.specs.declared.normal.machine.TapePlace.TheVariants as places
 use Rattle.tape_core.specs.declared.normal.looking.Looked.{Looked}
-use Rattle.tape_core.specs.NormalForm.{is_noise}
+use Rattle.tape_core.specs.NormalForm.{is_noise, Codes.is_label_length}
 use Rattle.tape_core.specs.NormalForm.Steps.{step_of, same, given}
 use Rattle.tape_core.specs.NormalForm.Bytes.{looked, looked_word, looked_label, looked_block}
 use Rattle.tape_core.specs.NormalForm.Bytes.{within}
@@ -47,8 +47,12 @@ pub looked_is : (room : ℕ) (place : TapePlace) (xs : List ℕ) (w : ℕ) → i
 looked_is room place xs w o h e =
     rw (o, no_less (length xs) 4 h) (ap (λ v. looked_word room place v xs) e)
 
-noise_same : (n m : ℕ) → m ≡ min n 81 → nat_lt m 14 ≡ nat_lt n 14
+noise_same : (n m : ℕ) → m ≡ min n 121 → nat_lt m 14 ≡ nat_lt n 14
 noise_same n m e = grind (arith, nat_tests)
+
+-- nor is what is shown of it
+shown_no : (n m : ℕ) → m ≡ min n 121 → is_label_length n ≡ false → is_label_length m ≡ false
+shown_no n m e f = grind (arith, nat_tests)
 
 pub len_of : (w : ℕ) → 0 < w → w ≤ 99999 → block_len w ≡ Some w
 len_of w some few = grind (arith, nat_tests)
@@ -58,9 +62,9 @@ len_is w n e few =
     let bounds = block_len-bounds w n e in
     cc (e, len_of w (omega (arith, bounds.0, bounds.2)) few)
 
--- a block of another length than 80 counts by its length alone
-plain_same : (place : TapePlace) (a b : List ℕ) → length a ≢ 80 → length b ≢ 80
-    → is_noise a ≡ is_noise b → unlabelled (step_of place (block a)) ≡ step_of place (block b)
+-- a block that is not a label by its length counts by its length alone
+plain_same : (place : TapePlace) (a b : List ℕ) → is_label_length (length a) ≡ false
+    → is_label_length (length b) ≡ false → is_noise a ≡ is_noise b → unlabelled (step_of place (block a)) ≡ step_of place (block b)
 plain_same place a b h k e =
     ap unlabelled (plain_step place a h) ∙ plain_unlabelled place (is_noise a)
     ∙ ap (plain_of place) e ∙ sym (plain_step place b k)
@@ -81,21 +85,21 @@ data_same (places.Next code seen) a b e = absurd (cc e)
 data_same places.Ended a b e = absurd (cc e)
 
 -- a block that is not a label, by its length
-other_step : (place : TapePlace) (w : ℕ) (content : List ℕ) → block_len w ≡ Some (length content)
-    → (reads_labels place && (w == 80)) ≡ false
+pub other_step : (place : TapePlace) (w : ℕ) (content : List ℕ) → block_len w ≡ Some (length content)
+    → (reads_labels place && is_label_length w) ≡ false
     → block_step place w (length content) ≡ step_of place (item_of w content)
 other_step place w content e a =
-    go (nat_lt longest_block w) (nat_le w longest_block) (reads_labels place) (w == 80) refl refl
-    refl refl a
+    go (nat_lt longest_block w) (nat_le w longest_block) (reads_labels place) (is_label_length w)
+    refl refl refl refl a
   where
     shown : List ℕ
-    shown = take (min (length content) 81) (replicate 81 0)
+    shown = take (min (length content) 121) (replicate 121 0)
 
-    size : length shown ≡ min (length content) 81
-    size = length-take (min (length content) 81) (replicate 81 0) ∙ omega arith
+    size : length shown ≡ min (length content) 121
+    size = length-take (min (length content) 121) (replicate 121 0) ∙ omega arith
 
     go : (g l r t : Bool) → nat_lt longest_block w ≡ g → nat_le w longest_block ≡ l
-        → reads_labels place ≡ r → (w == 80) ≡ t → (r && t) ≡ false
+        → reads_labels place ≡ r → is_label_length w ≡ t → (r && t) ≡ false
         → block_step place w (length content) ≡ step_of place (item_of w content)
     go true true r t g l p q b = absurd (grind (arith, nat_tests))
     go true false r t g l p q b = rw (g, l) (bad_unlabelled place)
@@ -104,14 +108,14 @@ other_step place w content e a =
     go false true true true g l p q b = absurd (cc b)
     go false true true false g l p q b =
         let few : w ≤ 99999 = grind (arith, nat_tests) in
-        let no : w ≢ 80 = grind (arith, nat_tests) in
         let is = len_is w (length content) e few in
-        rw (g, l) (plain_same place shown content (omega (arith, size, is, no))
-        (omega (arith, is, no)) (noise_same (length content) (length shown) size))
+        let no : is_label_length (length content) ≡ false = ap is_label_length is ∙ q in
+        rw (g, l) (plain_same place shown content (shown_no (length content) (length shown) size no)
+        no (noise_same (length content) (length shown) size))
 
 -- ---- blocks
 
-framed_size : (bytes : List ℕ) (w : ℕ) (content : List ℕ) → IsFramed bytes w content
+pub framed_size : (bytes : List ℕ) (w : ℕ) (content : List ℕ) → IsFramed bytes w content
     → length bytes ≡ block_extent (length content)
 framed_size bytes w content f = omega (
   arith,
@@ -124,7 +128,7 @@ framed_size bytes w content f = omega (
   f.trail_is.four,
 )
 
-framed_word : (bytes more : List ℕ) (w : ℕ) (content : List ℕ) → IsFramed bytes w content
+pub framed_word : (bytes more : List ℕ) (w : ℕ) (content : List ℕ) → IsFramed bytes w content
     → little_number 4 (bytes ++ more) ≡ w
 framed_word bytes more w content f =
     let rest : List ℕ = content ++ (f.pad ++ f.trail) in
@@ -133,10 +137,11 @@ framed_word bytes more w content f =
     ∙ word_in_front f.lead (rest ++ more) w f.lead_is
 
 -- a label
-label_looked : (room : ℕ) (place : TapePlace) (bytes content more : List ℕ) → 88 ≤ room
-    → length content ≡ 80 → IsFramed bytes 80 content
-    → looked_label room place (bytes ++ more) ≡ seen 88 (step_of place (block content))
-label_looked room place bytes content more h e f =
+label_looked : (room : ℕ) (place : TapePlace) (w : ℕ) (bytes content more : List ℕ)
+    → block_extent w ≤ room → length content ≡ w → IsFramed bytes w content
+    → looked_label room place w (bytes ++ more)
+    ≡ seen (block_extent w) (step_of place (block content))
+label_looked room place w bytes content more h e f =
     let behind : List ℕ = (f.pad ++ f.trail) ++ more in
     let whole : bytes ++ more ≡ f.lead ++ (content ++ behind) =
     ap (λ (b : List ℕ). b ++ more) f.whole
@@ -144,27 +149,57 @@ label_looked room place bytes content more h e f =
     ∙ ap (λ (b : List ℕ). f.lead ++ b) (append_assoc content (f.pad ++ f.trail) more) in
     let four : drop 4 (bytes ++ more) ≡ content ++ behind =
     ap (drop 4) whole ∙ drop_at f.lead (content ++ behind) 4 f.lead_is.four in
-    let text : take 80 (drop 4 (bytes ++ more)) ≡ content =
-    ap (take 80) four ∙ take_at content behind 80 e in
-    let last : drop 84 (bytes ++ more) ≡ behind =
-    sym (drop-drop 80 4 (bytes ++ more)) ∙ ap (drop 80) four ∙ drop_at content behind 80 e in
-    let none : f.pad ≡ [] = empty f.pad (f.pad_is ∙ ap (λ n. n % 2) e) in
-    let word : little_number 4 (drop 84 (bytes ++ more)) ≡ 80 =
-    ap (little_number 4) last
-    ∙ ap (λ (p : List ℕ). little_number 4 ((p ++ f.trail) ++ more)) none
-    ∙ word_in_front f.trail more 80 f.trail_is in
-    let long : 88 ≤ length (bytes ++ more) =
-    omega (arith, framed_size bytes 80 content f, e, length-append bytes more) in
-    rw (no_less (length (bytes ++ more)) 88 long, word, text)
-    (within_is room 88 (step_of place (block content)) h)
+    let text : take w (drop 4 (bytes ++ more)) ≡ content =
+    ap (take w) four ∙ take_at content behind w e in
+    let padded : length (content ++ f.pad) ≡ w + w % 2 =
+    omega (arith, length-append content f.pad, e, f.pad_is ∙ ap (λ n. n % 2) e) in
+    let last : drop (4 + w + w % 2) (bytes ++ more) ≡ f.trail ++ more =
+    ap (λ n. drop n (bytes ++ more)) {x = 4 + w + w % 2} {y = 4 + (w + w % 2)} (omega arith)
+    ∙ sym (drop-drop (w + w % 2) 4 (bytes ++ more)) ∙ ap (drop (w + w % 2)) four
+    ∙ ap (drop (w + w % 2)) (ap (λ (l : List ℕ). content ++ l) (append_assoc f.pad f.trail more)
+    ∙ sym (append_assoc content f.pad (f.trail ++ more)))
+    ∙ drop_at (content ++ f.pad) (f.trail ++ more) (w + w % 2) padded in
+    let word : little_number 4 (drop (4 + w + w % 2) (bytes ++ more)) ≡ w =
+    ap (little_number 4) last ∙ word_in_front f.trail more w f.trail_is in
+    let same : (little_number 4 (drop (4 + w + w % 2) (bytes ++ more)) == w) ≡ true =
+    grind (arith, nat_tests) in
+    let long : block_extent w ≤ length (bytes ++ more) =
+    omega (arith, framed_size bytes w content f, e, length-append bytes more) in
+    rw (no_less (length (bytes ++ more)) (block_extent w) long, same, text)
+    (within_is room (block_extent w) (step_of place (block content)) h)
 
-no_mark : (w n : ℕ) → block_len w ≡ Some n → (w == mark_word) ≡ false
+is_same : (a w : ℕ) → a ≡ w → (a == w) ≡ true
+is_same a w e = grind (arith, nat_tests)
+
+-- a label of which all bytes are held, and the two words agree
+pub label_shown : (room : ℕ) (place : TapePlace) (w word : ℕ) (xs : List ℕ)
+    → 4 + w + w % 2 + 4 ≤ length xs
+    → word ≡ little_number 4 (take (length xs - (4 + w + w % 2)) (drop (4 + w + w % 2) xs))
+    → word ≡ w
+    → within room (4 + w + w % 2 + 4) (step_of place (block (take (4 + w - 4) (drop 4 xs))))
+    ≡ looked_label room place w xs
+label_shown room place w word xs h e f =
+    let trail : ℕ = 4 + w + w % 2 in
+    let all : take (length xs - trail) (drop trail xs) ≡ drop trail xs =
+    take_all (length xs - trail) (drop trail xs) (omega (arith, length-drop trail xs)) in
+    let same : little_number 4 (drop trail xs) ≡ w =
+    ap (little_number 4) (sym all) ∙ sym e ∙ f in
+    let size : 4 + w + w % 2 + 4 ≡ block_extent w = omega arith in
+    let text : 4 + w - 4 ≡ w = omega arith in
+    rw (
+      size,
+      text,
+      no_less (length xs) (block_extent w) (omega (arith, h)),
+      is_same (little_number 4 (drop trail xs)) w same,
+    ) refl
+
+pub no_mark : (w n : ℕ) → block_len w ≡ Some n → (w == mark_word) ≡ false
 no_mark w n e =
     let bounds = block_len-bounds w n e in
     let some : 0 < w = omega (arith, bounds.0, bounds.2) in
     grind (arith, nat_tests)
 
-no_gap : (w n : ℕ) → block_len w ≡ Some n → (w == gap_word) ≡ false
+pub no_gap : (w n : ℕ) → block_len w ≡ Some n → (w == gap_word) ≡ false
 no_gap w n e = go (w == gap_word) refl
   where
     none : block_len gap_word ≡ None
@@ -179,13 +214,13 @@ no_gap w n e = go (w == gap_word) refl
 -- a block that is not a label
 other_looked : (room : ℕ) (place : TapePlace) (bytes content more : List ℕ) (w : ℕ)
     → length bytes ≤ room → block_len w ≡ Some (length content) → IsFramed bytes w content
-    → (reads_labels place && (w == 80)) ≡ false
+    → (reads_labels place && is_label_length w) ≡ false
     → looked_word room place w (bytes ++ more)
     ≡ seen (block_extent (length content)) (step_of place (item_of w content))
 other_looked room place bytes content more w h e f a =
     let n = length content in
     let begins : begins_label place (bytes ++ more) ≡ false =
-    ap (λ v. reads_labels place && (v == 80)) (framed_word bytes more w content f) ∙ a in
+    ap (λ v. reads_labels place && is_label_length v) (framed_word bytes more w content f) ∙ a in
     let room_is : block_extent n ≤ room = omega (arith, h, framed_size bytes w content f) in
     rw (no_mark w n e, no_gap w n e, begins)
     (ap (looked_block room place w) e
@@ -194,24 +229,24 @@ other_looked room place bytes content more w h e f a =
 
 block_looked : (room : ℕ) (place : TapePlace) (bytes content more : List ℕ) (w : ℕ) (r t : Bool)
     → length bytes ≤ room → block_len w ≡ Some (length content) → IsFramed bytes w content
-    → reads_labels place ≡ r → (w == 80) ≡ t
+    → reads_labels place ≡ r → is_label_length w ≡ t
     → looked_word room place w (bytes ++ more)
     ≡ seen (block_extent (length content)) (step_of place (item_of w content))
 block_looked room place bytes content more w true true h e f p q =
-    let is : w ≡ 80 = grind (arith, nat_tests) in
-    let n : length content ≡ 80 = len_is w (length content) e (omega (arith, is)) ∙ is in
+    let few : w ≤ 99999 = grind (arith, nat_tests) in
+    let n : length content ≡ w = len_is w (length content) e few in
+    let good : nat_le w longest_block ≡ true = grind (arith, nat_tests) in
     let begins : begins_label place (bytes ++ more) ≡ true =
-    ap (λ v. reads_labels place && (v == 80)) (framed_word bytes more w content f)
+    ap (λ v. reads_labels place && is_label_length v) (framed_word bytes more w content f)
     ∙ ap (λ v. reads_labels place && v) q ∙ ap (λ v. v && true) p in
-    let framed : IsFramed bytes 80 content = subst (λ v. IsFramed bytes v content) is f in
-    rw (no_mark w (length content) e, no_gap w (length content) e, begins, is, n)
-    (label_looked room place bytes content more
-    (omega (arith, h, framed_size bytes w content f, n)) n framed)
+    rw (no_mark w (length content) e, no_gap w (length content) e, begins, n, good)
+    (label_looked room place w bytes content more
+    (omega (arith, h, framed_size bytes w content f, n)) n f)
 block_looked room place bytes content more w true false h e f p q =
     other_looked room place bytes content more w h e f
     (ap (λ v. reads_labels place && v) q ∙ ap (λ v. v && false) p)
 block_looked room place bytes content more w false t h e f p q =
-    other_looked room place bytes content more w h e f (ap (λ v. v && (w == 80)) p)
+    other_looked room place bytes content more w h e f (ap (λ v. v && is_label_length w) p)
 
 pub looked_spelled : (room : ℕ) (place : TapePlace) (bytes more : List ℕ) (given : List TapeItem)
     → is_over place ≡ false → length bytes ≤ room → IsSpelling bytes given

@@ -34,7 +34,7 @@ use Rattle.tape_core.specs.NormalForm.Mended.{seen_as, trailed, counted, uncount
 use Rattle.tape_core.specs.NormalForm.Mended.{is_uncounted, no_file}
 use Rattle.tape_core.proofs.NormalForm.Numbers.{headed_ok, trailed_ok, trailed_same}
 use Rattle.tape_core.proofs.NormalForm.Numbers.{same_uncounted, none_uncounted}
-use Rattle.tape_core.proofs.NormalForm.Enough.{is_less}
+use Rattle.tape_core.proofs.{NormalForm.Enough.is_less, Labels.code_vol1}
 use Rattle.tape_core.specs.NormalForm.{of_start, of_labels, of_second, of_headers, of_data}
 use Rattle.tape_core.specs.NormalForm.{of_trailer, of_trailers, of_next, normal}
 use Rattle.tape_core.specs.NormalForm.Laws.{NormalKeeps}
@@ -321,7 +321,8 @@ volume_kept : (v : Volume) (k : List TapeItem) → IsVolume v → Keeps (of_labe
 volume_kept v k is d [] = refl
 volume_kept v k is d (true ∷ gs) =
     let first : kind_at v.vol1 ≡ Some kinds.Vol1 = kind_again v.vol1 kinds.Vol1 is.vol1 in
-    rw (first) (ap (λ w. block v.vol1 ∷ w) (labels_run v.labels k is.labels d gs))
+    rw (code_vol1 v.vol1 first, first)
+    (ap (λ w. block v.vol1 ∷ w) (labels_run v.labels k is.labels d gs))
 volume_kept v k is d (false ∷ gs) = refl
 
 -- ---- the items of a volume are these

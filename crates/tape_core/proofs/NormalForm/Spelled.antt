@@ -1,5 +1,5 @@
 -- An image that encodes the items of a tape gives one that encodes those of its normal form.
-use Rattle.std.proofs.Common.{◌≡◌, ℕ, ◌+◌, ◌-◌, ◌≤◌, Bool, true, false, ◌==◌, ◌&&◌}
+use Rattle.std.proofs.Common.{◌≡◌, ℕ, ◌+◌, ◌-◌, ◌≤◌, Bool, true, false, ◌&&◌}
 use Rattle.std.proofs.Common.{List, [], ◌∷◌, ◌++◌, length, Option}
 use Rattle.std.proofs.Common.{None}
 use Rattle.std.proofs.Common.{refl, sym, ap, subst, ◌∙◌, arith, append_assoc, append-nil}
@@ -25,7 +25,8 @@ use Rattle.tape_core.specs.declared.normal.machine.Missing.TheVariants.{SecondLa
 use Rattle.tape_core.specs.declared.normal.machine.Replacement.TheVariants.{Same, Dropped, Label}
 use Rattle.tape_core.specs.declared.normal.machine.TapePlace.TheVariants as places
 use Rattle.tape_core.specs.declared.normal.looking.Looked.{Looked}
-use Rattle.tape_core.specs.NormalForm.{Mended.no_volume_label, Laws.NormalSpells}
+use Rattle.tape_core.specs.NormalForm.{Codes.is_label_length, Mended.no_volume_label}
+use Rattle.tape_core.specs.NormalForm.{Laws.NormalSpells}
 use Rattle.tape_core.specs.NormalForm.{Laws.CopySpells}
 use Rattle.tape_set.specs.{Layout.FileSet, Layout.items as set_items, Lawful.IsLawful}
 use Rattle.tape_set.specs.{Reading.as_read}
@@ -111,7 +112,7 @@ end_left room place rest Marked e =
   where
     begins : (r : Bool) → reads_labels place ≡ r → begins_label place rest ≡ false
     begins r p =
-        ap (λ v. reads_labels place && (v == 80)) e.1 ∙ ap (λ v. v && false) p ∙ none r
+        ap (λ v. reads_labels place && is_label_length v) e.1 ∙ ap (λ v. v && false) p ∙ none r
       where
         none : (r : Bool) → (r && false) ≡ false
         none true = refl
@@ -146,7 +147,24 @@ stepped_items place items rest (inr (x, e)) =
     (one_instead step.1.instead x))
 
 -- the bytes in normal form, by the first encoding
-pub first_left : (s : Spelling) (ss : List Spelling) (room : ℕ) (place : TapePlace)
+pub first_more : (s : Spelling) (room : ℕ) (place : TapePlace) (more : List ℕ)
+    → length (s.bytes ++ more) ≤ room → is_over place ≡ false
+    → normal_from room place (s.bytes ++ more)
+    ≡ inserted_bytes (stepped place s.given).1.missing
+    ++ instead_bytes (stepped place s.given).1.instead (length s.bytes) (s.bytes ++ more)
+    (normal_from (room - length s.bytes) (stepped place s.given).0 more)
+first_more s room place more h o =
+    let n = length s.bytes in
+    let step = stepped place s.given in
+    let looks = looked_spelled room place s.bytes more s.given o
+    (omega (arith, h, length-append s.bytes more)) s.spelled in
+    first_item room place (s.bytes ++ more)
+    ∙ ap (λ (p : Option Looked). by_looked p room (s.bytes ++ more) normal_from) looks
+    ∙ ap (λ (l : List ℕ). inserted_bytes step.1.missing
+    ++ instead_bytes step.1.instead n (s.bytes ++ more) (normal_from (room - n) step.0 l))
+    (drop_at s.bytes more n refl)
+
+first_left : (s : Spelling) (ss : List Spelling) (room : ℕ) (place : TapePlace)
     (rest : List ℕ) → length (bytes_of (s ∷ ss) ++ rest) ≤ room → is_over place ≡ false
     → normal_from room place (bytes_of (s ∷ ss) ++ rest)
     ≡ inserted_bytes (stepped place s.given).1.missing
@@ -154,18 +172,10 @@ pub first_left : (s : Spelling) (ss : List Spelling) (room : ℕ) (place : TapeP
     (s.bytes ++ (bytes_of ss ++ rest))
     (normal_from (room - length s.bytes) (stepped place s.given).0 (bytes_of ss ++ rest))
 first_left s ss room place rest h o =
-    let more : List ℕ = bytes_of ss ++ rest in
-    let n = length s.bytes in
-    let step = stepped place s.given in
-    let assoc : bytes_of (s ∷ ss) ++ rest ≡ s.bytes ++ more =
+    let assoc : bytes_of (s ∷ ss) ++ rest ≡ s.bytes ++ (bytes_of ss ++ rest) =
     append_assoc s.bytes (bytes_of ss) rest in
-    let looks = looked_spelled room place s.bytes more s.given o
-    (omega (arith, h, ap length assoc, length-append s.bytes more)) s.spelled in
-    ap (λ (l : List ℕ). normal_from room place l) assoc ∙ first_item room place (s.bytes ++ more)
-    ∙ ap (λ (p : Option Looked). by_looked p room (s.bytes ++ more) normal_from) looks
-    ∙ ap (λ (l : List ℕ). inserted_bytes step.1.missing
-    ++ instead_bytes step.1.instead n (s.bytes ++ more) (normal_from (room - n) step.0 l))
-    (drop_at s.bytes more n refl)
+    ap (λ (l : List ℕ). normal_from room place l) assoc
+    ∙ first_more s room place (bytes_of ss ++ rest) (omega (arith, h, ap length assoc)) o
 
 spelled_first : (s : Spelling) (ss : List Spelling) (room : ℕ) (place : TapePlace) (rest : List ℕ)
     → length (bytes_of (s ∷ ss) ++ rest) ≤ room → (o : Bool) → is_over place ≡ o

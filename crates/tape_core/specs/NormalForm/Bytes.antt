@@ -1,6 +1,6 @@
 -- The bytes of the image of a tape in normal form. What is not replaced keeps its bytes: gaps, pad
 -- bytes, blocks that cannot be read, and everything from a fault or the end of the medium on.
-use Rattle.std.specs.Prelude.{◌≡◌, ◌≤◌, ◌<◌, ℕ, zero, suc, ◌-◌, ◌==◌, nat_lt}
+use Rattle.std.specs.Prelude.{◌≡◌, ◌≤◌, ◌<◌, ℕ, zero, suc, ◌+◌, ◌-◌, ◌%◌, ◌==◌, nat_lt}
 use Rattle.std.specs.Prelude.{min, take, drop}
 use Rattle.std.specs.Prelude.{◌&&◌, Bool, true, false, List, [], ◌∷◌, ◌++◌, length}
 use Rattle.std.specs.Prelude.{replicate, Option, Some, None, if◌then◌else◌}
@@ -14,6 +14,7 @@ use Rattle.tape_core.specs.declared.normal.machine.{Replacement.Replacement, Mis
 use Rattle.tape_core.specs.declared.normal.machine.TapePlace.TheVariants.{Start, Data, Over}
 use Rattle.tape_core.specs.declared.normal.machine.Replacement.TheVariants.{Same, Dropped, Label}
 use Rattle.tape_core.specs.declared.normal.looking.Looked.{Looked}
+use Rattle.tape_core.specs.NormalForm.{Codes.is_label_length}
 use Rattle.tape_core.specs.NormalForm.Steps.{step_of, same, inserted}
 
 -- ---- the item that bytes begin with
@@ -24,9 +25,9 @@ reads_labels (Data code seen) = false
 reads_labels Over = false
 reads_labels place = true
 
--- whether a label is read, and the bytes begin with its word
+-- whether a label is read, and the bytes begin with the word of a block that can be one
 abbrev pub begins_label : TapePlace → List ℕ → Bool
-begins_label place bytes = reads_labels place && (little_number 4 bytes == 80)
+begins_label place bytes = reads_labels place && is_label_length (little_number 4 bytes)
 
 -- a block that is not a label stays as it is, or is dropped
 abbrev pub unlabelled_instead : Replacement → Replacement
@@ -40,11 +41,11 @@ unlabelled step = (
 )
 
 -- what the machine does with a block of which the first word and the length are known. A block that
--- is not a label counts by its length alone, and up to 81 bytes of it.
+-- is not a label counts by its length alone, and up to 121 bytes of it.
 abbrev pub block_step : TapePlace → ℕ → ℕ → TapePlace × Change
 block_step place w n =
     if nat_lt longest_block w then unlabelled (step_of place bad)
-    else unlabelled (step_of place (block (take (min n 81) (replicate 81 0))))
+    else unlabelled (step_of place (block (take (min n 121) (replicate 121 0))))
 
 -- the item takes so many bytes, if they are within the limit
 abbrev pub within : ℕ → ℕ → TapePlace × Change → Option Looked
@@ -52,12 +53,12 @@ within room size step =
     if nat_lt room size then None
     else Some (record { size = size; next = step.0; change = step.1 })
 
--- the label that the bytes begin with, if its two words agree
-abbrev pub looked_label : ℕ → TapePlace → List ℕ → Option Looked
-looked_label room place xs =
-    if nat_lt (length xs) 88 then None
-    else if little_number 4 (drop 84 xs) == 80
-    then within room 88 (step_of place (block (take 80 (drop 4 xs))))
+-- the label of w bytes that the bytes begin with, if its two words agree
+abbrev pub looked_label : ℕ → TapePlace → ℕ → List ℕ → Option Looked
+looked_label room place w xs =
+    if nat_lt (length xs) (block_extent w) then None
+    else if little_number 4 (drop (4 + w + w % 2) xs) == w
+    then within room (block_extent w) (step_of place (block (take w (drop 4 xs))))
     else None
 
 abbrev pub looked_block : ℕ → TapePlace → ℕ → Option ℕ → Option Looked
@@ -68,7 +69,7 @@ abbrev pub looked_word : ℕ → TapePlace → ℕ → List ℕ → Option Looke
 looked_word room place w xs =
     if w == mark_word then within room 4 (step_of place mark)
     else if w == gap_word then within room 4 (place, same)
-    else if begins_label place xs then looked_label room place xs
+    else if begins_label place xs then looked_label room place w xs
     else looked_block room place w (block_len w)
 
 abbrev pub is_over : TapePlace → Bool
@@ -125,9 +126,10 @@ normal_bytes xs = normal_from image_limit (Start 0) xs
 
 -- enough is held
 abbrev pub IsHeld : TapePlace → List ℕ → Type 0
-IsHeld place held = (4 ≤ length held) × (begins_label place held ≡ true → 88 ≤ length held)
+IsHeld place held = (4 ≤ length held)
+    × (begins_label place held ≡ true → block_extent (little_number 4 held) ≤ length held)
 
 -- there is no more, and it is not enough
 abbrev pub IsShort : TapePlace → List ℕ → Type 0
-IsShort place held =
-    (length held < 88) × (4 ≤ length held → begins_label place held ≡ true)
+IsShort place held = 4 ≤ length held
+    → (begins_label place held ≡ true) × (length held < block_extent (little_number 4 held))

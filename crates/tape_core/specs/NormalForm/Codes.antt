@@ -1,7 +1,9 @@
 -- The codes of the characters in labels.
-use Rattle.std.specs.Prelude.{ℕ, ◌==◌, List, [], ◌∷◌, length, map, slice_index, if◌then◌else◌}
+use Rattle.std.specs.Prelude.{ℕ, ◌==◌, nat_le, ◌&&◌, Bool, true, List, [], ◌∷◌, length, map, take}
+use Rattle.std.specs.Prelude.{drop, slice_index, if◌then◌else◌}
 use Rattle.tape_core.specs.declared.normal.code.Code.{Code}
-use Rattle.tape_core.specs.declared.normal.code.Code.TheVariants.{Ascii, Ebcdic}
+use Rattle.tape_core.specs.declared.normal.code.Code.TheVariants.{Ascii, Ebcdic, PaddedAscii}
+use Rattle.tape_core.specs.declared.normal.code.Code.TheVariants.{PaddedEbcdic}
 
 -- for each byte, as a character of code page 037, the same character in ISO 8859-1
 abbrev pub ebcdic_table : List ℕ
@@ -27,7 +29,36 @@ ebcdic_table =
 abbrev pub to_ascii : ℕ → ℕ
 to_ascii byte = slice_index ebcdic_table byte
 
--- the label with its characters in ASCII; only a block of 80 bytes can be a label
+-- the characters of a label in EBCDIC; only a block of 80 bytes can be a label
+abbrev pub turned : List ℕ → List ℕ
+turned label = if length label == 80 then map to_ascii label else label
+
+-- the greatest number of bytes of a label with its padding
+abbrev pub longest_label : ℕ
+longest_label = 120
+
+-- whether a block of this length can be a label
+abbrev pub is_label_length : ℕ → Bool
+is_label_length n = nat_le 80 n && nat_le n longest_label
+
+-- whether each of the bytes is c
+abbrev pub repeats : ℕ → List ℕ → Bool
+repeats c [] = true
+repeats c (d ∷ ds) = (d == c) && repeats c ds
+
+-- whether the bytes are one byte over and over, or none
+abbrev pub is_padding : List ℕ → Bool
+is_padding [] = true
+is_padding (c ∷ cs) = repeats c cs
+
+-- the 80 characters of a label, without the padding behind them; any other block as it is
+abbrev pub unpadded : List ℕ → List ℕ
+unpadded block =
+    if is_label_length (length block) && is_padding (drop 80 block) then take 80 block else block
+
+-- the label with its characters in ASCII, without padding
 abbrev pub in_ascii : Code → List ℕ → List ℕ
 in_ascii Ascii label = label
-in_ascii Ebcdic label = if length label == 80 then map to_ascii label else label
+in_ascii Ebcdic label = turned label
+in_ascii PaddedAscii label = unpadded label
+in_ascii PaddedEbcdic label = turned (unpadded label)

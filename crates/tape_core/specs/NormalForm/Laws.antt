@@ -1,5 +1,5 @@
 -- Laws about the normal form. Each is the contract of a function of the module `laws`.
-use Rattle.std.specs.Prelude.{◌≡◌, ◌≢◌, ◌≤◌, ℕ, Bool, List, [], ◌∷◌, ◌++◌, length, Some}
+use Rattle.std.specs.Prelude.{◌≡◌, ◌≢◌, ◌≤◌, ℕ, Bool, List, [], ◌∷◌, ◌++◌, length, take, Some}
 use Rattle.std.specs.List.{AllByRecursion}
 use Rattle.tape_image.specs.Tape.{TapeItem, block, bad, mark}
 use Rattle.tape_image.specs.{Begins.image_limit, Spelling.Spells}
@@ -86,3 +86,13 @@ BytesKept = (xs : List ℕ) (items : List TapeItem) → length xs ≤ image_limi
 abbrev pub CopyBytesKept : FileSet → Type 0
 CopyBytesKept set = (k : ℕ) (good : List Bool) (xs : List ℕ) → length xs ≤ image_limit
     → Spells xs (as_read (items set k) good) → normal_bytes xs ≡ xs
+
+-- So is the beginning of such an image, wherever it is cut off.
+abbrev pub CutBytesKept : Type 0
+CutBytesKept = (xs : List ℕ) (items : List TapeItem) (m : ℕ) → length xs ≤ image_limit
+    → Spells xs items → normal items ≡ items → normal_bytes (take m xs) ≡ take m xs
+
+-- So is that of an image of a copy of a volume of a valid set.
+abbrev pub CopyCutBytesKept : FileSet → Type 0
+CopyCutBytesKept set = (k : ℕ) (good : List Bool) (xs : List ℕ) (m : ℕ) → length xs ≤ image_limit
+    → Spells xs (as_read (items set k) good) → normal_bytes (take m xs) ≡ take m xs

@@ -7,11 +7,12 @@ use Rattle.tape_image.specs.Tape.{TapeItem, block, bad, mark}
 use Rattle.tape_label.specs.{Kinds.kind_at, VolumeLabels.is_volume_label}
 use Rattle.tape_label.specs.WideHead2.{is_further_header}
 use Rattle.tape_core.specs.declared.normal.code.Code.{Code}
-use Rattle.tape_core.specs.declared.normal.code.Code.TheVariants.{Ascii, Ebcdic}
+use Rattle.tape_core.specs.declared.normal.code.Code.TheVariants.{Ascii}
 use Rattle.tape_core.specs.NormalForm.{Codes.in_ascii, Mended.is_vol1, Mended.is_hdr1}
 use Rattle.tape_core.specs.NormalForm.{Mended.is_hdr2}
 use Rattle.tape_core.specs.NormalForm.Mended.{is_first_trailer, is_dummy, mended}
-use Rattle.tape_core.specs.NormalForm.{is_noise, most_dropped, is_next_header, is_lost_header}
+use Rattle.tape_core.specs.NormalForm.{is_noise, most_dropped, code_of, is_next_header}
+use Rattle.tape_core.specs.NormalForm.{is_lost_header}
 use Rattle.tape_core.specs.declared.normal.machine.{TapePlace.TapePlace, Missing.Missing}
 use Rattle.tape_core.specs.declared.normal.machine.{Replacement.Replacement, Change.Change}
 use Rattle.tape_core.specs.declared.normal.machine.TapePlace.TheVariants.{Start, Labels, Blank}
@@ -80,7 +81,7 @@ dropped = record { missing = Nothing; instead = Dropped }
 -- a label in this code
 abbrev pub instead_in : Code → List ℕ → Replacement
 instead_in Ascii text = Same
-instead_in Ebcdic text = Label text
+instead_in _ text = Label text
 
 -- the label in ASCII, preceded by one that is missing
 abbrev pub translated_with : Missing → Code → List ℕ → Change
@@ -100,27 +101,17 @@ header_at code adds before text =
     (Second code (headed before text).1, replaced_with adds code (headed before text).0 text)
 
 -- after a label with which a tape begins
-abbrev pub begin_in : Code → List ℕ → Option (TapePlace × Change)
+abbrev pub begin_in : Code → List ℕ → TapePlace × Change
 begin_in code text =
-    if is_vol1 (kind_at text) then Some (Labels code 0, translated_with Nothing code text)
-    else if is_hdr1 (kind_at text)
-    then Some (header_at code VolumeLabel no_file text)
-    else None
-
--- the first of two that there is
-abbrev pub either : {A : Type 0} → Option A → Option A → Option A
-either (Some x) other = Some x
-either None other = other
-
-abbrev pub begin_at : List ℕ → Option (TapePlace × Change)
-begin_at b = either (begin_in Ascii (in_ascii Ascii b)) (begin_in Ebcdic (in_ascii Ebcdic b))
+    if is_vol1 (kind_at text) then (Labels code 0, translated_with Nothing code text)
+    else header_at code VolumeLabel no_file text
 
 -- an item before the first label is dropped, unless there were too many
 abbrev pub drop_first : ℕ → TapePlace × Change
 drop_first n = if nat_lt n most_dropped then (Start (n + 1), dropped) else (Over, same)
 
-abbrev pub start_at : ℕ → List ℕ → Option (TapePlace × Change) → TapePlace × Change
-start_at n b (Some begun) = begun
+abbrev pub start_at : ℕ → List ℕ → Option Code → TapePlace × Change
+start_at n b (Some code) = begin_in code (in_ascii code b)
 start_at n b None = if is_noise b then drop_first n else (Over, same)
 
 abbrev pub drop_block : Code → ℕ → TapePlace × Change
@@ -136,7 +127,7 @@ labels_at code n text =
 -- the place after an item that is not expected
 abbrev pub left_at : Code → TapePlace → TapePlace
 left_at Ascii place = Over
-left_at Ebcdic place = place
+left_at code place = place
 
 -- a block that is not the label expected there
 abbrev pub other_at : Code → FileSeen → List ℕ → TapePlace × Change
@@ -159,13 +150,13 @@ second_at code seen text =
 
 -- any label; a block of another length is not one
 abbrev pub any_at : Code → List ℕ → Change
-any_at code b = if length b == 80 then translated_with Nothing code (in_ascii code b) else same
+any_at code text = if length text == 80 then translated_with Nothing code text else same
 
 -- a further header label
 abbrev pub headers_at : Code → FileSeen → List ℕ → TapePlace × Change
-headers_at code seen b =
-    if is_next_header code (in_ascii code b) then (Headers code seen, any_at code b)
-    else other_at code seen (in_ascii code b)
+headers_at code seen text =
+    if is_next_header code text then (Headers code seen, any_at code text)
+    else other_at code seen text
 
 abbrev pub trailer_at : Code → FileSeen → List ℕ → TapePlace × Change
 trailer_at code seen text =
@@ -178,10 +169,9 @@ trailer_at code seen text =
 
 -- a further trailer label
 abbrev pub trailers_at : Code → FileSeen → List ℕ → TapePlace × Change
-trailers_at code seen b =
-    if is_lost_header code (in_ascii code b)
-    then header_at code Nothing (lost seen) (in_ascii code b)
-    else (Trailers code seen, any_at code b)
+trailers_at code seen text =
+    if is_lost_header code text then header_at code Nothing (lost seen) text
+    else (Trailers code seen, any_at code text)
 
 -- the header label of the file after this one
 abbrev pub next_at : Code → FileSeen → List ℕ → TapePlace × Change
@@ -189,8 +179,8 @@ next_at code before text =
     if is_hdr1 (kind_at text) then header_at code Nothing before text
     else other_at code before text
 
-abbrev pub ended_at : Option (TapePlace × Change) → TapePlace × Change
-ended_at (Some begun) = (Over, same)
+abbrev pub ended_at : Option Code → TapePlace × Change
+ended_at (Some code) = (Over, same)
 ended_at None = (Ended, dropped)
 
 -- the place after a block of data
@@ -200,7 +190,7 @@ counted_at place = place
 
 -- what comes after an item, and what replaces it
 abbrev pub step_of : TapePlace → TapeItem → TapePlace × Change
-step_of (Start n) (block b) = start_at n b (begin_at b)
+step_of (Start n) (block b) = start_at n b (code_of b)
 step_of (Start n) mark = drop_first n
 step_of (Start n) bad = (Over, same)
 step_of (Labels code n) (block b) = labels_at code n (in_ascii code b)
@@ -211,7 +201,7 @@ step_of Blank _ = (Over, same)
 step_of (Second code seen) (block b) = second_at code seen (in_ascii code b)
 step_of (Second code seen) mark = (Data code seen, record { missing = SecondLabel; instead = Same })
 step_of (Second code seen) bad = (left_at code (Headers code (lost seen)), same)
-step_of (Headers code seen) (block b) = headers_at code seen b
+step_of (Headers code seen) (block b) = headers_at code seen (in_ascii code b)
 step_of (Headers code seen) mark = (Data code seen, same)
 step_of (Headers code seen) bad = (left_at code (Headers code (lost seen)), same)
 step_of (Data code seen) mark = (Trailer code seen, same)
@@ -219,13 +209,13 @@ step_of (Data code seen) (block b) = (Data code (counted seen), same)
 step_of (Data code seen) bad = (Data code (uncounted seen), same)
 step_of (Trailer code seen) (block b) = trailer_at code seen (in_ascii code b)
 step_of (Trailer code seen) _ = (left_at code (Trailer code (lost seen)), same)
-step_of (Trailers code seen) (block b) = trailers_at code seen b
+step_of (Trailers code seen) (block b) = trailers_at code seen (in_ascii code b)
 step_of (Trailers code seen) mark = (Next code seen, same)
 step_of (Trailers code seen) bad = (left_at code (Trailers code (lost seen)), same)
 step_of (Next code seen) (block b) = next_at code seen (in_ascii code b)
 step_of (Next code seen) mark = (Ended, same)
 step_of (Next code seen) bad = (left_at code (Headers code (lost seen)), same)
-step_of Ended (block b) = ended_at (begin_at b)
+step_of Ended (block b) = ended_at (code_of b)
 step_of Ended _ = (Ended, dropped)
 step_of Over _ = (Over, same)
 

@@ -1,15 +1,21 @@
 //! The codes of the characters in labels.
 
 ghost use Rattle.std.specs.Prelude.{◌≡◌, ◌≢◌, ◌<◌, ◌≤◌, map, length, IfSome, None};
-ghost use Rattle.tape_core.specs.NormalForm.Codes.{ebcdic_table, to_ascii, in_ascii};
+ghost use Rattle.tape_core.specs.NormalForm.Codes.{ebcdic_table, to_ascii, in_ascii, repeats};
+ghost use Rattle.tape_core.specs.NormalForm.Codes.{is_label_length, is_padding, unpadded, turned};
 
-/// The code in which the labels of a tape are written.
+/// The code in which the labels of a tape are written. In blocks with padding, up to 40 bytes
+/// follow the 80 characters, all of them the same.
 #[derive(Clone, Copy, Debug, PartialEq, Eq)]
 pub enum Code {
     /// ASCII, required by the standard.
     Ascii,
     /// EBCDIC, code page 037.
     Ebcdic,
+    /// ASCII, in blocks with padding.
+    PaddedAscii,
+    /// EBCDIC, in blocks with padding.
+    PaddedEbcdic,
 }
 
 /// For each byte, as a character of code page 037, the same character in ISO 8859-1.
@@ -52,20 +58,83 @@ fn turn(text: &mut [u8; 80])
 }
 
 /// Returns the bytes of a block of 80.
-pub(crate) fn eighty(bytes: &[u8]) -> Option<&[u8; 80]>
+fn eighty(bytes: &[u8]) -> Option<&[u8; 80]>
     ensures some { IfSome result (λ label. label.now ≡ bytes.now) }
     ensures none { result ≡ None → length bytes.now ≢ 80 }
 {
     bytes.try_into().ok()
 }
 
-/// Returns the characters of a label in ASCII.
-pub(crate) fn in_ascii(code: Code, label: &[u8; 80]) -> [u8; 80]
-    ensures { result ≡ in_ascii code label.now }
+/// The greatest number of bytes of a label with its padding.
+pub(crate) const LONGEST_LABEL: u64 = 120;
+
+/// Returns whether a block of `len` bytes can be a label.
+pub(crate) fn is_label_length(len: u64) -> bool
+    ensures { result ≡ is_label_length len }
 {
-    let mut text = *label;
-    if let Code::Ebcdic = code {
-        turn(&mut text);
+    len >= 80 && len <= LONGEST_LABEL
+}
+
+/// Returns whether each of the bytes is `byte`.
+fn repeats(byte: u8, bytes: &[u8]) -> bool
+    ensures { result ≡ repeats byte bytes.now }
+{
+    match bytes {
+        [first, rest @ ..] => *first == byte && repeats(byte, rest),
+        [] => true,
     }
-    text
+}
+
+/// Returns whether the bytes are one byte over and over, or none.
+fn is_padding(bytes: &[u8]) -> bool
+    ensures { result ≡ is_padding bytes.now }
+{
+    match bytes {
+        [first, rest @ ..] => repeats(*first, rest),
+        [] => true,
+    }
+}
+
+/// Returns the 80 characters of a label, without the padding after them; any other block as it is.
+fn unpadded(block: &[u8]) -> &[u8]
+    ensures { result.now ≡ unpadded block.now }
+{
+    if block.len() >= 80 && block.len() as u64 <= LONGEST_LABEL && is_padding(&block[80..]) {
+        return &block[..80];
+    }
+    block
+}
+
+/// Returns the characters of a label, or `None` if the block does not have 80 bytes.
+fn plain(block: &[u8]) -> Option<[u8; 80]>
+    ensures some { IfSome result (λ text. text ≡ block.now) }
+    ensures none { result ≡ None → length block.now ≢ 80 }
+{
+    let label = eighty(block)?;
+    Some(*label)
+}
+
+/// Returns the characters of a label in EBCDIC, or `None` if the block does not have 80 bytes.
+#[tactic(auto, using(crate::proofs::Labels::turned_none))]
+fn turned(block: &[u8]) -> Option<[u8; 80]>
+    ensures some { IfSome result (λ text. text ≡ turned block.now) }
+    ensures none { result ≡ None → length (turned block.now) ≢ 80 }
+{
+    let label = eighty(block)?;
+    let mut text = *label;
+    turn(&mut text);
+    Some(text)
+}
+
+/// Returns the characters of a label in ASCII, or `None` if the block is not one by its length.
+pub(crate) fn label_in(code: Code, block: &[u8]) -> Option<[u8; 80]>
+    ensures some { IfSome result (λ text. text ≡ in_ascii code block.now) }
+    ensures none { result ≡ None → length (in_ascii code block.now) ≢ 80 }
+{
+    match code {
+        Code::Ascii => plain(block),
+        Code::Ebcdic => turned(block),
+        Code::PaddedAscii => plain(unpadded(block)),
+        Code::PaddedEbcdic => turned(unpadded(block)),
+    }
 }

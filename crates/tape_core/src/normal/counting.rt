@@ -5,7 +5,7 @@ ghost use Rattle.std.specs.Str.{bytes_eq};
 ghost use Rattle.tape_label.specs.Positions.{positions};
 ghost use Rattle.tape_core.specs.NormalForm.{Mended.filled_number, Image.normal_remaining};
 
-use crate::normal::code::{eighty, in_ascii};
+use crate::normal::code::label_in;
 use crate::normal::image::NormalImage;
 use crate::normal::machine::{Change, Replacement, TapePlace};
 use crate::normal::mend::fill;
@@ -42,7 +42,7 @@ impl Counting {
     /// Notes the item at `place`, of which `held` are the bytes, if it is a first header or trailer
     /// label.
     pub(crate) fn note(&mut self, place: TapePlace, next: TapePlace, change: &Change, held: &[u8]) {
-        let Some(label) = held.get(4..84).and_then(eighty) else {
+        let Some(label) = held.get(4..84) else {
             return;
         };
         match (place, next) {
@@ -53,7 +53,7 @@ impl Counting {
                 };
             }
             (TapePlace::Trailer(code, _), TapePlace::Trailers(_, seen)) if seen.has_no_count => {
-                if counts_nothing(&in_ascii(code, label)) {
+                if label_in(code, label).is_some_and(|text| counts_nothing(&text)) {
                     self.uncounted = self.begun.or(match &change.instead {
                         Replacement::Label(better) => read_trail1(better).ok().map(|t| t.head),
                         _ => None,

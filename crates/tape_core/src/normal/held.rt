@@ -10,13 +10,19 @@ use std::io::Read;
 use std::marker::Model;
 
 /// The number of bytes of a label as a block: 80 characters between two words.
-pub(crate) const LABEL: usize = 88;
+const LABEL: usize = 88;
 
-/// A label of zeros as a block.
-const EMPTY: &[u8; LABEL] = &[
+/// The greatest number of bytes that are held: those of the longest label with its padding, as a
+/// block.
+const MOST: usize = 128;
+
+/// A label of zeros as a block, and zeros after it.
+const EMPTY: &[u8; MOST] = &[
     80, 0, 0, 0, 0, 0, 0, 0, 0, 0, 0, 0, 0, 0, 0, 0, 0, 0, 0, 0, 0, 0, 0, 0, 0, 0, 0, 0, 0, 0, 0,
     0, 0, 0, 0, 0, 0, 0, 0, 0, 0, 0, 0, 0, 0, 0, 0, 0, 0, 0, 0, 0, 0, 0, 0, 0, 0, 0, 0, 0, 0, 0, 0,
-    0, 0, 0, 0, 0, 0, 0, 0, 0, 0, 0, 0, 0, 0, 0, 0, 0, 0, 0, 0, 0, 80, 0, 0, 0,
+    0, 0, 0, 0, 0, 0, 0, 0, 0, 0, 0, 0, 0, 0, 0, 0, 0, 0, 0, 0, 0, 80, 0, 0, 0, 0, 0, 0, 0, 0, 0,
+    0, 0, 0, 0, 0, 0, 0, 0, 0, 0, 0, 0, 0, 0, 0, 0, 0, 0, 0, 0, 0, 0, 0, 0, 0, 0, 0, 0, 0, 0, 0, 0,
+    0, 0,
 ];
 
 /// Copies bytes to the start of `buf`, as many as it has room for, and returns their number and the
@@ -31,10 +37,10 @@ pub(crate) fn copy_front(bytes: &'static [u8], buf: &mut [u8]) -> (usize, &'stat
     (count, &bytes[count..])
 }
 
-/// Up to 88 bytes.
+/// Up to 128 bytes.
 #[derive(Drop)]
 pub(crate) struct Held {
-    bytes: [u8; LABEL],
+    bytes: [u8; MOST],
     end: usize,
 }
 
@@ -45,7 +51,7 @@ impl Model for Held {
 
     ghost view = { λ h. take h.end h.bytes };
 
-    ghost invariant = { λ h. h.end ≤ 88 };
+    ghost invariant = { λ h. h.end ≤ 128 };
 }
 
 impl Held {
@@ -54,7 +60,7 @@ impl Held {
         ensures { result ≡ [] }
     {
         Held {
-            bytes: [0; LABEL],
+            bytes: [0; MOST],
             end: 0,
         }
     }
@@ -70,7 +76,7 @@ impl Held {
     pub(crate) fn cut(&mut self)
         ensures { self.new ≡ 0 ∷ [] }
     {
-        self.bytes = [0; LABEL];
+        self.bytes = [0; MOST];
         self.end = 1;
     }
 
@@ -85,7 +91,7 @@ impl Held {
 
     /// Holds `bytes`.
     pub(crate) fn keep(&mut self, bytes: &[u8])
-        requires { length bytes.now ≤ 88 }
+        requires { length bytes.now ≤ 128 }
         ensures { self.new ≡ bytes.now }
     {
         self.bytes[..bytes.len()].copy_from_slice(bytes);
@@ -112,7 +118,7 @@ impl Held {
     ///
     /// Returns the error of the device.
     pub(crate) fn fill<R: Read>(&mut self, device: &mut R, count: usize) -> io::Result<bool>
-        requires { count ≤ 88 }
+        requires { count ≤ 128 }
         ensures keeps { Keeps (prepend_known self.old (R.remaining device.old))
             (prepend_known self.new (R.remaining device.new)) }
         ensures grows { (more : List ℕ) × (self.new ≡ self.old ++ more) }

@@ -7,12 +7,12 @@ ghost use Rattle.std.specs.{Io.ReadsAtMost, Io.KnownBytes.ReadConsumes};
 ghost use Rattle.std.specs.Io.KnownBytes.{Keeps, IsAtEnd, prepend_known};
 ghost use Rattle.tape_core.specs.NormalForm.Bytes.{looked, reads_labels};
 ghost use Rattle.tape_core.specs.NormalForm.Bytes.{normal_bytes, normal_from, by_looked, is_over};
-ghost use Rattle.tape_core.specs.NormalForm.{Bytes.IsHeld, Bytes.IsShort, Steps.counted_at};
+ghost use Rattle.tape_core.specs.NormalForm.{Bytes.IsHeld, Bytes.IsShort};
 ghost use Rattle.tape_core.specs.NormalForm.Image.{normal_remaining, steps_left, GivesOn};
 
 use crate::normal::counting::Counting;
-use crate::normal::held::{Held, LABEL, copy_front};
-use crate::normal::looking::{Looked, begins_label, block_size, look};
+use crate::normal::held::{Held, copy_front};
+use crate::normal::looking::{Looked, block_size, counted, look, size_looked_at};
 use crate::normal::machine::{Missing, Replacement, TapePlace};
 use crate::normal::rules::Rules;
 use byteorder::{ByteOrder, LittleEndian};
@@ -37,16 +37,6 @@ const VOLUME_LABEL: &[u8; 88] = b"P\0\0\0VOL1                                   
 /// The greatest byte offset at which an item may end.
 const IMAGE_LIMIT: u64 = 4_294_967_295;
 
-/// Returns the place after a block of data.
-fn counted(place: TapePlace) -> TapePlace
-    ensures { result ≡ counted_at place }
-{
-    match place {
-        TapePlace::Data(code, seen) => TapePlace::Data(code, seen.counted()),
-        place => place,
-    }
-}
-
 /// A device, and the bytes that were read from it and have not been taken.
 #[derive(Drop)]
 struct Input<R> {
@@ -66,10 +56,8 @@ impl<R: Read> Input<R> {
         if !self.held.fill(&mut self.device, 4)? {
             return Ok(false);
         }
-        if !begins_label(place, self.held.bytes()) {
-            return Ok(true);
-        }
-        self.held.fill(&mut self.device, LABEL)
+        let size = size_looked_at(place, self.held.bytes());
+        self.held.fill(&mut self.device, size)
     }
 
     /// Looks at the next item. Returns `None` if there is none.
@@ -292,28 +280,35 @@ impl<R: Read> NormalImage<R> {
         Ok(None)
     }
 
-    /// Gives on the next bytes of an item that stays as it is, or the word of a block of data.
-    /// Returns `None` if something else is next.
+    /// Reads the next bytes of an item that stays as it is, or the word of a block of data. Returns
+    /// `None` if something else is next, or if `buf` is empty. No further rules are applied.
+    ///
+    /// # Errors
+    ///
+    /// Returns the error of the device.
     #[inline(always)]
-    fn give_plain(&mut self, buf: &mut [u8]) -> io::Result<Option<usize>>
-        requires { 0 < length buf.old }
+    pub fn read_plain(&mut self, buf: &mut [u8]) -> io::Result<Option<usize>>
         ensures { GivesOn (normal_remaining R.remaining self.old)
             (normal_remaining R.remaining self.new) result buf.new }
     {
         if !self.inserted.is_empty() || !self.label.bytes().is_empty() {
             return Ok(None);
         }
-        match (self.course, self.place) {
-            (Course::Passing(count), _) if count > 0 => {
+        match self.course {
+            Course::Passing(count) if count > 0 => {
                 let most = count.min(buf.len() as u64) as usize;
+                if most == 0 {
+                    return Ok(None);
+                }
                 let read = self.input.read(&mut buf[..most])?;
                 self.course = Course::Passing(count - read as u64);
-                Ok(Some(read))
+                return Ok(Some(read));
             }
-            (Course::Passing(_) | Course::Looking, TapePlace::Data(_, _)) => {
-                self.course = Course::Looking;
-                self.give_word(buf)
-            }
+            Course::Skipping(_) => return Ok(None),
+            Course::Passing(_) | Course::Looking => self.course = Course::Looking,
+        }
+        match self.place {
+            TapePlace::Data(_, _) => self.give_word(buf),
             _ => Ok(None),
         }
     }
@@ -341,7 +336,7 @@ impl<R: Read> Read for NormalImage<R> {
         if buf.is_empty() {
             return Ok(0);
         }
-        match self.give_plain(buf)? {
+        match self.read_plain(buf)? {
             Some(count) => Ok(count),
             None => self.give_next(buf),
         }

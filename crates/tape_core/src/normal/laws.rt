@@ -7,6 +7,7 @@ ghost use Rattle.tape_core.specs.declared.normal.numbers.FileSeen.{FileSeen};
 ghost use Rattle.tape_core.specs.NormalForm.{Ahead.NormalIsAhead, Ahead.BehindIsAhead};
 ghost use Rattle.tape_core.specs.NormalForm.Laws.{NormalKeeps, DataKept, NormalSpells, CopySpells};
 ghost use Rattle.tape_core.specs.NormalForm.Laws.{BytesKept, CopyBytesKept, FilesFound};
+ghost use Rattle.tape_core.specs.NormalForm.Laws.{CutBytesKept, CopyCutBytesKept};
 
 /// A copy of a volume of a valid set is its own normal form, however damaged it is, and wherever it
 /// ends.
@@ -61,4 +62,14 @@ pub fn bytes_kept()
 /// So does such an image of a copy of a volume of a valid set.
 pub fn copy_bytes_kept()
     ensures { (set : FileSet) → IsLawful set → CopyBytesKept set }
+{}
+
+/// An image that begins so keeps its bytes too, wherever it is cut off.
+pub fn cut_bytes_kept()
+    ensures { CutBytesKept }
+{}
+
+/// So does one of a copy of a volume of a valid set.
+pub fn copy_cut_bytes_kept()
+    ensures { (set : FileSet) → IsLawful set → CopyCutBytesKept set }
 {}

@@ -4,15 +4,17 @@ ghost use Rattle.std.specs.Prelude.{◌≡◌, ◌≤◌, ◌<◌, length, IfSom
 ghost use Rattle.tape_image.specs.Word.{block_len, block_extent, longest_block};
 ghost use Rattle.tape_core.specs.NormalForm.Bytes.{reads_labels, begins_label, unlabelled};
 ghost use Rattle.tape_core.specs.NormalForm.Bytes.{block_step, looked, looked_label, looked_block};
-ghost use Rattle.tape_core.specs.NormalForm.Bytes.{within};
+ghost use Rattle.tape_core.specs.NormalForm.{Bytes.within, Steps.counted_at};
+ghost use Rattle.byteorder.specs.Endian.{little_number};
+ghost use Rattle.std.specs.Prelude.{true, false};
 
-use crate::normal::held::LABEL;
+use crate::normal::code::is_label_length;
 use crate::normal::machine::{Change, Replacement, SAME, TapePlace, step};
 use byteorder::{ByteOrder, LittleEndian};
 use tape_image::Item;
 
 /// The blocks whose content need not be known, by their length. Longer ones are like the longest.
-const OTHER: &[u8; 81] = &[0; 81];
+const OTHER: &[u8; 121] = &[0; 121];
 
 /// The word of an erase gap.
 const GAP: u32 = 0xFFFF_FFFE;
@@ -28,6 +30,16 @@ pub(crate) struct Looked {
     pub(crate) change: Change,
 }
 
+/// Returns the place after a block of data.
+pub(crate) fn counted(place: TapePlace) -> TapePlace
+    ensures { result ≡ counted_at place }
+{
+    match place {
+        TapePlace::Data(code, seen) => TapePlace::Data(code, seen.counted()),
+        place => place,
+    }
+}
+
 /// Returns whether labels are read at the place.
 fn reads_labels(place: TapePlace) -> bool
     ensures { result ≡ reads_labels place }
@@ -35,12 +47,29 @@ fn reads_labels(place: TapePlace) -> bool
     !matches!(place, TapePlace::Data(_, _) | TapePlace::Over)
 }
 
-/// Returns whether the bytes begin with the word of a label, where labels are read.
-pub(crate) fn begins_label(place: TapePlace, bytes: &[u8]) -> bool
+/// Returns whether the bytes begin with the word of a block that can be a label, where labels are
+/// read.
+fn begins_label(place: TapePlace, bytes: &[u8]) -> bool
     requires { 4 ≤ length bytes.now }
     ensures { result ≡ begins_label place bytes.now }
 {
-    reads_labels(place) && LittleEndian::read_u32(bytes) == 80
+    reads_labels(place) && is_label_length(u64::from(LittleEndian::read_u32(bytes)))
+}
+
+/// Returns how many bytes of the item that these bytes begin with must be known.
+pub(crate) fn size_looked_at(place: TapePlace, bytes: &[u8]) -> usize
+    requires { 4 ≤ length bytes.now }
+    ensures label { begins_label place bytes.now ≡ true
+        → result ≡ block_extent (little_number 4 bytes.now) }
+    ensures other { begins_label place bytes.now ≡ false → result ≡ 4 }
+    ensures most { result ≤ 128 }
+{
+    if begins_label(place, bytes) {
+        let len = LittleEndian::read_u32(bytes) as usize;
+        8 + len + len % 2
+    } else {
+        4
+    }
 }
 
 /// Returns what is done with an item whose content is not known: no label replaces it.
@@ -66,7 +95,7 @@ fn step_block(place: TapePlace, word: u32, len: u64) -> (TapePlace, Change)
     if word > LONGEST_BLOCK {
         return unlabelled(step(place, Item::Bad));
     }
-    let shown = len.min(81) as usize;
+    let shown = len.min(121) as usize;
     unlabelled(step(place, Item::Block(&OTHER[..shown])))
 }
 
@@ -81,14 +110,21 @@ fn within(room: u64, size: u64, step: (TapePlace, Change)) -> Option<Looked>
     Some(Looked { size, next, change })
 }
 
-/// Looks at the label that the bytes begin with, if its two words agree.
-fn look_label(room: u64, place: TapePlace, bytes: &[u8]) -> Option<Looked>
-    ensures { result ≡ looked_label room place bytes.now }
+/// Looks at the label of `word` bytes that the bytes begin with, if its two words agree.
+fn look_label(room: u64, place: TapePlace, word: u32, bytes: &[u8]) -> Option<Looked>
+    requires { word ≤ 120 }
+    ensures { result ≡ looked_label room place word bytes.now }
 {
-    if bytes.len() < LABEL || LittleEndian::read_u32(&bytes[84..]) != 80 {
+    let len = word as usize;
+    let trail = 4 + len + len % 2;
+    if bytes.len() < trail + 4 || LittleEndian::read_u32(&bytes[trail..]) != word {
         return None;
     }
-    within(room, 88, step(place, Item::Block(&bytes[4..84])))
+    within(
+        room,
+        trail as u64 + 4,
+        step(place, Item::Block(&bytes[4..4 + len])),
+    )
 }
 
 /// Returns the length of the block that a word begins.
@@ -143,7 +179,7 @@ pub(crate) fn look(room: u64, place: TapePlace, bytes: &[u8]) -> Option<Looked>
         return within(room, 4, (place, SAME));
     }
     if begins_label(place, bytes) {
-        return look_label(room, place, bytes);
+        return look_label(room, place, word, bytes);
     }
     look_block(room, place, word)
 }

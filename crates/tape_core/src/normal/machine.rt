@@ -1,16 +1,15 @@
 //! The machine that turns a tape into its normal form, one item at a time.
 
 ghost use Rattle.std.specs.Prelude.{◌≡◌, ◌≢◌, ◌||◌, ℕ, IfSome, IfNone, is_some, option_map, length};
-ghost use Rattle.std.specs.Prelude.{true, false};
+ghost use Rattle.std.specs.Prelude.{true, false, Some, None, if◌then◌else◌};
 ghost use Rattle.tape_image.specs.{Tape.TapeItem, Tape.block, Reader.tape_item};
-ghost use Rattle.tape_core.specs.NormalForm.Codes.{in_ascii as in_ascii'};
-ghost use Rattle.tape_core.specs.NormalForm.Steps.{Gives, inserted_label, step_of, begin_at};
-ghost use Rattle.tape_core.specs.NormalForm.Steps.{begin_in, labels_at, header_at};
-ghost use Rattle.tape_core.specs.NormalForm.Steps.{second_at, next_at, trailer_at};
-ghost use Rattle.tape_core.specs.NormalForm.Steps.{translated_with, instead_in, replaced_with};
-ghost use Rattle.tape_core.specs.NormalForm.Steps.{drop_block, drop_first};
+ghost use Rattle.tape_core.specs.NormalForm.{Codes.in_ascii, begins_tape, code_of};
+ghost use Rattle.tape_core.specs.NormalForm.Steps.{Gives, begin_in, drop_block, drop_first};
+ghost use Rattle.tape_core.specs.NormalForm.Steps.{header_at, inserted_label, instead_in, labels_at};
+ghost use Rattle.tape_core.specs.NormalForm.Steps.{next_at, replaced_with, second_at, step_of};
+ghost use Rattle.tape_core.specs.NormalForm.Steps.{trailer_at, translated_with};
 
-use crate::normal::code::{Code, eighty, in_ascii};
+use crate::normal::code::{Code, label_in};
 use crate::normal::mend::mended;
 use crate::normal::numbers::{FileSeen, NO_FILE, headed, is_dummy, trailed};
 use crate::normal::other::{further_header, further_trailer, left, other_block, step_at_bad};
@@ -117,7 +116,7 @@ fn instead_in(code: Code, label: [u8; 80]) -> Replacement
 {
     match code {
         Code::Ascii => Replacement::Same,
-        Code::Ebcdic => Replacement::Label(label),
+        Code::Ebcdic | Code::PaddedAscii | Code::PaddedEbcdic => Replacement::Label(label),
     }
 }
 
@@ -159,20 +158,13 @@ pub(crate) fn header(
     )
 }
 
-/// Takes a block as the first label, in either code.
-#[tactic(auto, using(crate::proofs::Eighty::no_beginning))]
-fn begin(bytes: &[u8]) -> Option<(TapePlace, Change)>
-    ensures { result ≡ begin_at bytes.now }
-{
-    let label = eighty(bytes)?;
-    begin_in(Code::Ascii, label).or(begin_in(Code::Ebcdic, label))
-}
-
 /// Takes a block as the first label, in the given code.
-fn begin_in(code: Code, label: &[u8; 80]) -> Option<(TapePlace, Change)>
-    ensures { result ≡ begin_in code (in_ascii' code label.now) }
+#[tactic(auto, using(crate::proofs::Labels::no_kind))]
+fn begin_in(code: Code, bytes: &[u8]) -> Option<(TapePlace, Change)>
+    ensures { result ≡ if begins_tape code bytes.now
+        then Some (begin_in code (in_ascii code bytes.now)) else None }
 {
-    let text = in_ascii(code, label);
+    let text = label_in(code, bytes)?;
     match kind(&text) {
         Some(Kind::Vol1) => Some((TapePlace::Labels(code, 0), translated(code, text))),
         Some(Kind::Hdr1) => Some(header(code, Missing::VolumeLabel, NO_FILE, text)),
@@ -180,15 +172,25 @@ fn begin_in(code: Code, label: &[u8; 80]) -> Option<(TapePlace, Change)>
     }
 }
 
-/// Takes a block after the volume label: a label, or a block to be dropped.
-#[tactic(auto, using(crate::proofs::Eighty::no_kind_of, crate::proofs::Eighty::no_volume_label_of))]
-fn label_of_volume(code: Code, dropped: u8, bytes: &[u8]) -> (TapePlace, Change)
-    ensures { result ≡ labels_at code dropped (in_ascii' code bytes.now) }
+/// Takes a block as the first label, in any code.
+fn begin(bytes: &[u8]) -> Option<(TapePlace, Change)>
+    ensures { result ≡ option_map (λ code. begin_in code (in_ascii code bytes.now))
+        (code_of bytes.now) }
 {
-    let Some(label) = eighty(bytes) else {
+    begin_in(Code::Ascii, bytes)
+        .or(begin_in(Code::Ebcdic, bytes))
+        .or(begin_in(Code::PaddedAscii, bytes))
+        .or(begin_in(Code::PaddedEbcdic, bytes))
+}
+
+/// Takes a block after the volume label: a label, or a block to be dropped.
+#[tactic(auto, using(crate::proofs::Labels::no_kind, crate::proofs::Labels::no_volume_label))]
+fn label_of_volume(code: Code, dropped: u8, bytes: &[u8]) -> (TapePlace, Change)
+    ensures { result ≡ labels_at code dropped (in_ascii code bytes.now) }
+{
+    let Some(text) = label_in(code, bytes) else {
         return drop_block(code, dropped);
     };
-    let text = in_ascii(code, label);
     if is_volume_label(&text) {
         return (TapePlace::Labels(code, dropped), translated(code, text));
     }
@@ -221,14 +223,13 @@ fn drop_first(dropped: u8) -> (TapePlace, Change)
 }
 
 /// Takes a block after an `HDR1`.
-#[tactic(auto, using(crate::proofs::Eighty::second_other))]
+#[tactic(auto, using(crate::proofs::Labels::second_other))]
 fn second_label(code: Code, seen: FileSeen, bytes: &[u8]) -> (TapePlace, Change)
-    ensures { result ≡ second_at code seen (in_ascii' code bytes.now) }
+    ensures { result ≡ second_at code seen (in_ascii code bytes.now) }
 {
-    let Some(label) = eighty(bytes) else {
+    let Some(text) = label_in(code, bytes) else {
         return other_block(code, seen, bytes);
     };
-    let text = in_ascii(code, label);
     if let Some(Kind::Hdr2) = kind(&text) {
         let filled = mended(&text);
         if filled == text {
@@ -251,14 +252,13 @@ fn second_label(code: Code, seen: FileSeen, bytes: &[u8]) -> (TapePlace, Change)
 }
 
 /// Takes a block where the `HDR1` of the next file may be.
-#[tactic(auto, using(crate::proofs::Eighty::no_kind_of))]
+#[tactic(auto, using(crate::proofs::Labels::no_kind))]
 fn next_header(code: Code, before: FileSeen, bytes: &[u8]) -> (TapePlace, Change)
-    ensures { result ≡ next_at code before (in_ascii' code bytes.now) }
+    ensures { result ≡ next_at code before (in_ascii code bytes.now) }
 {
-    let Some(label) = eighty(bytes) else {
+    let Some(text) = label_in(code, bytes) else {
         return other_block(code, before, bytes);
     };
-    let text = in_ascii(code, label);
     match kind(&text) {
         Some(Kind::Hdr1) => header(code, Missing::Nothing, before, text),
         _ => other_block(code, before, bytes),
@@ -266,14 +266,13 @@ fn next_header(code: Code, before: FileSeen, bytes: &[u8]) -> (TapePlace, Change
 }
 
 /// Takes a block where the first trailer label is expected.
-#[tactic(auto, using(crate::proofs::Eighty::no_kind_of))]
+#[tactic(auto, using(crate::proofs::Labels::no_kind))]
 fn first_trailer(code: Code, seen: FileSeen, bytes: &[u8]) -> (TapePlace, Change)
-    ensures { result ≡ trailer_at code seen (in_ascii' code bytes.now) }
+    ensures { result ≡ trailer_at code seen (in_ascii code bytes.now) }
 {
-    let Some(label) = eighty(bytes) else {
+    let Some(text) = label_in(code, bytes) else {
         return other_block(code, seen, bytes);
     };
-    let text = in_ascii(code, label);
     match kind(&text) {
         Some(Kind::Eof1 | Kind::Eov1) => {
             let (better, seen) = trailed(seen, &text);

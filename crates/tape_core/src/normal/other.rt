@@ -1,14 +1,15 @@
-//! Items that are not expected. From such an item on a tape is left unchanged, unless its labels
-//! are in EBCDIC: no reader knows these, so they are still looked for.
+//! Items that are not expected. From such an item on a tape is left unchanged, unless its labels are
+//! in EBCDIC or have padding: no reader knows these, so they are still looked for.
 
-ghost use Rattle.std.specs.Prelude.{◌≡◌};
+ghost use Rattle.std.specs.Prelude.{◌≡◌, if◌then◌else◌};
 ghost use Rattle.tape_image.specs.Tape.{bad};
+ghost use Rattle.tape_label.specs.{Kinds.kind_at};
+ghost use Rattle.tape_core.specs.NormalForm.{Codes.in_ascii, Mended.is_hdr1, Mended.lost};
 ghost use Rattle.tape_core.specs.NormalForm.{is_next_header};
-ghost use Rattle.tape_core.specs.NormalForm.Codes.{in_ascii as in_ascii'};
-ghost use Rattle.tape_core.specs.NormalForm.Steps.{left_at, other_at, headers_at, trailers_at};
-ghost use Rattle.tape_core.specs.NormalForm.Steps.{any_at, step_of};
+ghost use Rattle.tape_core.specs.NormalForm.Steps.{any_at, header_at, headers_at, left_at, other_at};
+ghost use Rattle.tape_core.specs.NormalForm.Steps.{same, step_of, trailers_at};
 
-use crate::normal::code::{Code, eighty, in_ascii};
+use crate::normal::code::{Code, label_in};
 use crate::normal::machine::{Change, DROPPED, Missing, SAME, TapePlace, header, translated};
 use crate::normal::numbers::{FileSeen, NO_FILE};
 use tape_label::{Kind, is_further_header, kind};
@@ -19,64 +20,70 @@ pub(crate) fn left(code: Code, place: TapePlace) -> TapePlace
 {
     match code {
         Code::Ascii => TapePlace::Over,
-        Code::Ebcdic => place,
+        Code::Ebcdic | Code::PaddedAscii | Code::PaddedEbcdic => place,
     }
 }
 
-/// Takes a block that is not the label expected there, where labels are looked for: the `HDR1` of a
-/// file, or else data.
-#[tactic(auto, using(crate::proofs::Eighty::no_kind_of))]
-fn header_or_data(seen: FileSeen, bytes: &[u8]) -> (TapePlace, Change)
-    ensures { result ≡ other_at Code.Ebcdic seen (in_ascii' Code.Ebcdic bytes.now) }
+/// Takes a block as the first label of a file, or else as what `other` says.
+#[tactic(auto, using(crate::proofs::Labels::no_kind))]
+fn header_or(
+    code: Code,
+    seen: FileSeen,
+    bytes: &[u8],
+    other: (TapePlace, Change),
+) -> (TapePlace, Change)
+    ensures { result ≡ if is_hdr1 (kind_at (in_ascii code bytes.now))
+        then header_at code Missing.Nothing (lost seen) (in_ascii code bytes.now) else other }
 {
-    let Some(label) = eighty(bytes) else {
-        return (TapePlace::Data(Code::Ebcdic, seen.lost()), SAME);
+    let Some(text) = label_in(code, bytes) else {
+        return other;
     };
-    let text = in_ascii(Code::Ebcdic, label);
     match kind(&text) {
-        Some(Kind::Hdr1) => header(Code::Ebcdic, Missing::Nothing, seen.lost(), text),
-        _ => (TapePlace::Data(Code::Ebcdic, seen.lost()), SAME),
+        Some(Kind::Hdr1) => header(code, Missing::Nothing, seen.lost(), text),
+        _ => other,
     }
 }
 
-/// Takes a block that is not the label expected there.
+/// Takes a block that is not the label expected there: the `HDR1` of a file, or else data.
 pub(crate) fn other_block(code: Code, seen: FileSeen, bytes: &[u8]) -> (TapePlace, Change)
-    ensures { result ≡ other_at code seen (in_ascii' code bytes.now) }
+    ensures { result ≡ other_at code seen (in_ascii code bytes.now) }
 {
     match code {
         Code::Ascii => (TapePlace::Over, SAME),
-        Code::Ebcdic => header_or_data(seen, bytes),
+        Code::Ebcdic | Code::PaddedAscii | Code::PaddedEbcdic => {
+            let data = (TapePlace::Data(code, seen.lost()), SAME);
+            header_or(code, seen, bytes, data)
+        }
     }
 }
 
 /// Takes a block where any label may be.
 fn any_label(code: Code, bytes: &[u8]) -> Change
-    ensures { result ≡ any_at code bytes.now }
+    ensures { result ≡ any_at code (in_ascii code bytes.now) }
 {
-    match eighty(bytes) {
-        Some(label) => translated(code, in_ascii(code, label)),
+    match label_in(code, bytes) {
+        Some(text) => translated(code, text),
         None => SAME,
     }
 }
 
 /// Returns whether a block continues the header labels. In ASCII any block does.
-#[tactic(auto, using(crate::proofs::Eighty::no_kind_of, crate::proofs::Eighty::not_further_of))]
+#[tactic(auto, using(crate::proofs::Labels::no_kind, crate::proofs::Labels::not_further))]
 fn is_next_header(code: Code, bytes: &[u8]) -> bool
-    ensures { result ≡ is_next_header code (in_ascii' code bytes.now) }
+    ensures { result ≡ is_next_header code (in_ascii code bytes.now) }
 {
-    let Code::Ebcdic = code else {
+    if let Code::Ascii = code {
         return true;
-    };
-    let Some(label) = eighty(bytes) else {
+    }
+    let Some(text) = label_in(code, bytes) else {
         return false;
     };
-    let text = in_ascii(Code::Ebcdic, label);
     matches!(kind(&text), Some(Kind::Hdr2)) || is_further_header(&text)
 }
 
 /// Takes a block where a further header label may be.
 pub(crate) fn further_header(code: Code, seen: FileSeen, bytes: &[u8]) -> (TapePlace, Change)
-    ensures { result ≡ headers_at code seen bytes.now }
+    ensures { result ≡ headers_at code seen (in_ascii code bytes.now) }
 {
     if is_next_header(code, bytes) {
         return (TapePlace::Headers(code, seen), any_label(code, bytes));
@@ -84,31 +91,16 @@ pub(crate) fn further_header(code: Code, seen: FileSeen, bytes: &[u8]) -> (TapeP
     other_block(code, seen, bytes)
 }
 
-/// Takes a block where a further trailer label may be, in EBCDIC.
-#[tactic(auto, using(crate::proofs::Eighty::no_kind_of, crate::proofs::Eighty::not_80))]
-fn trailer_or_header(seen: FileSeen, bytes: &[u8]) -> (TapePlace, Change)
-    ensures { result ≡ trailers_at Code.Ebcdic seen bytes.now }
-{
-    let Some(label) = eighty(bytes) else {
-        return (TapePlace::Trailers(Code::Ebcdic, seen), SAME);
-    };
-    let text = in_ascii(Code::Ebcdic, label);
-    match kind(&text) {
-        Some(Kind::Hdr1) => header(Code::Ebcdic, Missing::Nothing, seen.lost(), text),
-        _ => (
-            TapePlace::Trailers(Code::Ebcdic, seen),
-            translated(Code::Ebcdic, text),
-        ),
-    }
-}
-
 /// Takes a block where a further trailer label may be.
 pub(crate) fn further_trailer(code: Code, seen: FileSeen, bytes: &[u8]) -> (TapePlace, Change)
-    ensures { result ≡ trailers_at code seen bytes.now }
+    ensures { result ≡ trailers_at code seen (in_ascii code bytes.now) }
 {
+    let trailer = (TapePlace::Trailers(code, seen), any_label(code, bytes));
     match code {
-        Code::Ascii => (TapePlace::Trailers(code, seen), any_label(code, bytes)),
-        Code::Ebcdic => trailer_or_header(seen, bytes),
+        Code::Ascii => trailer,
+        Code::Ebcdic | Code::PaddedAscii | Code::PaddedEbcdic => {
+            header_or(code, seen, bytes, trailer)
+        }
     }
 }
 

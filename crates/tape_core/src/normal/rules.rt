@@ -8,6 +8,8 @@ use crate::normal::machine::{Change, Missing, Replacement, TapePlace};
 pub struct Rules {
     /// Whether labels are in EBCDIC.
     pub ebcdic: bool,
+    /// Whether labels are in blocks with padding.
+    pub padded: bool,
     /// Whether the volume label is missing.
     pub no_volume_label: bool,
     /// Whether a file has no second header label.
@@ -28,6 +30,7 @@ impl Rules {
     /// No rule.
     pub const NONE: Rules = Rules {
         ebcdic: false,
+        padded: false,
         no_volume_label: false,
         no_second_label: false,
         blank_numbers: false,
@@ -51,15 +54,28 @@ impl Rules {
             (Replacement::Same | Replacement::Label(_), _) => {}
         }
         match next {
-            TapePlace::Labels(Code::Ebcdic, _) => self.ebcdic = true,
+            TapePlace::Labels(code, _) => self.note_code(code),
             TapePlace::Second(code, seen) => {
-                self.ebcdic = self.ebcdic || code == Code::Ebcdic;
+                self.note_code(code);
                 self.no_file_numbers = self.no_file_numbers || seen.is_filled;
             }
             TapePlace::Trailers(_, seen) => {
                 self.no_block_count = self.no_block_count || seen.has_no_count;
             }
             _ => {}
+        }
+    }
+
+    /// Notes the code of labels.
+    fn note_code(&mut self, code: Code) {
+        match code {
+            Code::Ascii => {}
+            Code::Ebcdic => self.ebcdic = true,
+            Code::PaddedAscii => self.padded = true,
+            Code::PaddedEbcdic => {
+                self.ebcdic = true;
+                self.padded = true;
+            }
         }
     }
 }

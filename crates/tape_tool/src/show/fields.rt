@@ -2,13 +2,22 @@
 
 use std::fmt;
 use std::io::Write;
-use tape_core::normal::{Code, to_ascii};
+use tape_core::normal::to_ascii;
 use tape_label::Field;
 use tape_run::text::write_line;
 use tape_run::{WriteFailed, date_of};
 
 /// The number of characters in a label.
 pub const SIZE: usize = 80;
+
+/// The code of the text of a block.
+#[derive(Clone, Copy, PartialEq, Eq)]
+pub enum TextCode {
+    /// ASCII.
+    Ascii,
+    /// EBCDIC, code page 037.
+    Ebcdic,
+}
 
 /// The fields of a label, in their order: their names and widths.
 type Fields = &'static [(&'static str, usize)];
@@ -71,7 +80,7 @@ fn fields_of(name: [u8; 4]) -> Fields {
 }
 
 /// Returns the character of a byte in the code `code`, if it is a printable one of ASCII.
-pub fn shown_char(code: Code, byte: u8) -> Option<char> {
+pub fn shown_char(code: TextCode, byte: u8) -> Option<char> {
     match in_code(code, byte) {
         byte @ b' '..=b'~' => Some(char::from(byte)),
         _ => None,
@@ -79,17 +88,17 @@ pub fn shown_char(code: Code, byte: u8) -> Option<char> {
 }
 
 /// Returns the character of a byte in the code `code`, in ISO 8859-1.
-fn in_code(code: Code, byte: u8) -> u8 {
+fn in_code(code: TextCode, byte: u8) -> u8 {
     match code {
-        Code::Ascii => byte,
-        Code::Ebcdic => to_ascii(byte),
+        TextCode::Ascii => byte,
+        TextCode::Ebcdic => to_ascii(byte),
     }
 }
 
 /// Returns the code of a block of 80 characters, if it begins as a label: with `VOL`, `UVL`, `HDR`,
 /// `UHL`, `EOF`, `EOV` or `UTL` and a digit or a letter.
-pub fn code_of(block: &[u8; SIZE]) -> Option<Code> {
-    for code in [Code::Ascii, Code::Ebcdic] {
+pub fn code_of(block: &[u8; SIZE]) -> Option<TextCode> {
+    for code in [TextCode::Ascii, TextCode::Ebcdic] {
         let [a, b, c, d, ..] = block;
         let name = [in_code(code, *a), in_code(code, *b), in_code(code, *c)];
         let is_name = matches!(
@@ -107,7 +116,7 @@ pub fn code_of(block: &[u8; SIZE]) -> Option<Code> {
 /// printable character of ASCII in the code `code` is shown in hexadecimal, after `\x`.
 pub fn write_fields<W: Write>(
     writer: &mut W,
-    code: Code,
+    code: TextCode,
     label: &[u8; SIZE],
 ) -> Result<(), WriteFailed> {
     let [a, b, c, d, ..] = label;
@@ -138,7 +147,7 @@ struct FieldLine<'a> {
     first: usize,
     name: &'static str,
     value: &'a [u8],
-    code: Code,
+    code: TextCode,
 }
 
 impl fmt::Display for FieldLine<'_> {

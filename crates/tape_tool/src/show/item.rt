@@ -3,11 +3,10 @@
 ghost use Rattle.std.specs.Prelude.{◌≤◌, length, IfOk};
 
 use super::ShowOrder;
-use super::fields::{SIZE, code_of, shown_char, write_fields};
+use super::fields::{SIZE, TextCode, code_of, shown_char, write_fields};
 use crate::fault::{FileFault, ToolFault};
 use std::fmt;
 use std::io::{Read, Seek, SeekFrom, Write};
-use tape_core::normal::Code;
 use tape_image::fill;
 use tape_run::text::write_line;
 use tape_run::{WriteFailed, write_text};
@@ -35,7 +34,7 @@ pub struct Look {
     /// Whether the bytes are written as they are.
     raw: bool,
     /// The code of the text of blocks.
-    code: Code,
+    code: TextCode,
 }
 
 impl Look {
@@ -44,9 +43,9 @@ impl Look {
         Look {
             raw: order.raw,
             code: if order.ebcdic {
-                Code::Ebcdic
+                TextCode::Ebcdic
             } else {
-                Code::Ascii
+                TextCode::Ascii
             },
         }
     }
@@ -77,8 +76,8 @@ pub fn show_item<F: Read + Seek, W: Write>(
         read(file, &mut label)?;
         if let Some(code) = code_of(&label) {
             let name = match code {
-                Code::Ascii => "label",
-                Code::Ebcdic => "label in EBCDIC",
+                TextCode::Ascii => "label",
+                TextCode::Ebcdic => "label in EBCDIC",
             };
             write_line(
                 writer,
@@ -142,7 +141,7 @@ fn find_bytes<F: Read + Seek>(file: &mut F, from: u64) -> Result<Option<(u64, u6
 fn show_bytes<F: Read, W: Write>(
     file: &mut F,
     length: u64,
-    code: Option<Code>,
+    code: Option<TextCode>,
     writer: &mut W,
 ) -> Result<(), ToolFault> {
     let mut bytes = [0; 4_096];
@@ -165,7 +164,7 @@ fn show_bytes<F: Read, W: Write>(
 /// Writes rows of the bytes of a block, which follow `from` others.
 fn write_rows<W: Write>(
     writer: &mut W,
-    code: Code,
+    code: TextCode,
     from: u64,
     bytes: &[u8],
 ) -> Result<(), WriteFailed> {
@@ -185,7 +184,7 @@ const ROW: usize = 16;
 struct Row<'a> {
     place: u64,
     bytes: &'a [u8],
-    code: Code,
+    code: TextCode,
 }
 
 impl fmt::Display for Row<'_> {

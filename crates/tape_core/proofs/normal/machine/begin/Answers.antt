@@ -1,8 +1,14 @@
-use Rattle.std.proofs.Common.{sym, ◌∙◌}
-use Rattle.tape_core.proofs.Eighty.{no_beginning}
+use Rattle.tape_core.proofs.NormalForm.Begun.{begun_any}
 use Rattle.tape_core.proofs.normal.machine.begin.Goals as goal
 
-pub returns-in_err-label : goal.returns-in_err-label
-returns-in_err-label c =
-    c.from_residual.ensures
-    ∙ sym (no_beginning c.args.bytes.now (c.eighty.ensures.none c.in_err-label.was))
+pub returns : goal.returns
+returns c =
+    rw (
+      c.or-3.ensures,
+      c.or-2.ensures,
+      c.or.ensures,
+      c.begin_in.ensures,
+      c.begin_in-2.ensures,
+      c.begin_in-3.ensures,
+      c.begin_in-4.ensures,
+    ) (begun_any c.args.bytes.now)

@@ -4,8 +4,8 @@ use Rattle.tape_core.proofs.normal.held.Held.fill.Given as goal
 
 abbrev pub invariant-bytes : goal.invariant-bytes
 invariant-bytes g l = record {
-  size : length l.self-inside.bytes ≡ 88;
-  within : l.self-inside.end ≤ 88;
+  size : length l.self-inside.bytes ≡ 128;
+  within : l.self-inside.end ≤ 128;
   grows : (more : List ℕ)
       × (take l.self-inside.end l.self-inside.bytes
       ≡ take l.initial.self-inside.end l.initial.self-inside.bytes ++ more);
