@@ -25,7 +25,7 @@ fn push_padded(image: &mut Vec<u8>, letter: u8) -> Result<(), AllocError> {
     image.extend_from_slice(&[0, 0, 0, 7, 83, 0, 0, 0])
 }
 
-/// Appends what a letter represents: a label as in the tests of the normal form, `W` the volume
+/// Appends what a letter represents: a label as in the tests of the normal form, `w` the volume
 /// label of a tape that has none, `B`, `A` and `C` the labels `V`, `H` and `E` in blocks of 83 bytes,
 /// `D` a block of 4 bytes, `O` one of 3 bytes with a pad byte, `d` one that is a volume label in
 /// EBCDIC, `L` one of 512 bytes, `c` the first 8 bytes of that block, `b` an unreadable block, `m` a
@@ -45,7 +45,7 @@ fn push(image: &mut Vec<u8>, letter: u8) -> Result<(), AllocError> {
             image.extend_from_slice(&[b'B'; 512])?;
             image.extend_from_slice(&[0, 2, 0, 0])
         }
-        (b'W', _) => push_eighty(image, NO_VOLUME),
+        (b'w', _) => push_eighty(image, NO_VOLUME),
         (b'B', _) => push_padded(image, b'V'),
         (b'A', _) => push_padded(image, b'H'),
         (b'C', _) => push_padded(image, b'E'),
@@ -109,8 +109,8 @@ const IMAGES: [(&str, &str); 19] = [
     ("vhsmDdmemm.", "VHSmDdmEmm."),
     ("mVHSmDmEmm.", "VHSmDmEmm."),
     ("VLHSmDmEmm.", "VHSmDmEmm."),
-    ("HSmDmEmm.", "WHSmDmEmm."),
-    ("hsmDmemm.", "WHSmDmEmm."),
+    ("HSmDmEmm.", "wHSmDmEmm."),
+    ("hsmDmemm.", "wHSmDmEmm."),
     ("VHPmDmEmm.", "VHSmDmEmm."),
     ("vhpmDmemm.", "VHSmDmEmm."),
     ("VHXmDmEmm.", "VHXmDmEmm."),
