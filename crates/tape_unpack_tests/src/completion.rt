@@ -204,6 +204,16 @@ const CONTRARY: &str = "
     > TOTAL 0 complete 0 existing 1 incomplete 0 in conflict 0 not found 0 failed
     3: extract ABC001 1 labels.txt marks.tap unread.tap --again
     missing labels.txt labels/ABC001.1.PAYROLL
+    # A copy that ends before its first block has no labels among its data.
+    folder short
+    front short.tap 300
+    3$ unpack short short.tap
+    > FILE ABC001 1 AWAITS 1 1 0 short/ABC001.1.PAYROLL.stage
+    > INCOMPLETE IMAGE short.tap
+    > TOTAL 0 complete 0 existing 1 incomplete 0 in conflict 0 not found 0 failed
+    3$ extract ABC001 1 short.txt short.tap --again
+    > REEL 1 REEL ENDED IMAGE 1 268
+    > AWAITS 1 1 0
     # Salvaged records are kept with a stage that has other data than the complete file.
     folder four days
     0: write four DAY 100000 A=other.bin --format F --record 80 --block 400 --form raw

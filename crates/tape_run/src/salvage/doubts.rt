@@ -93,7 +93,8 @@ fn add_doubtful<R: Read + Drop, L: ImageSource<R>>(
     doubtful: &mut Vec<DoubtfulCopy>,
 ) -> Result<(), AllocError> {
     for copy in copies {
-        if copy.closed.is_none() || is_miscounted(copy) {
+        let has_data = copy.section.blocks > 0;
+        if has_data && (copy.closed.is_none() || is_miscounted(copy)) {
             if let Some(place) = doubtful_place(alloc, copy, images)? {
                 let (image, sect) = (copy.image, copy.section.key.sect);
                 doubtful.push(DoubtfulCopy { image, sect, place })?;
