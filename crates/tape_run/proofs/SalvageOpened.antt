@@ -6,6 +6,7 @@ use Rattle.tape_image.specs.Tape.{block}
 use Rattle.tape_label.specs.declared.values.{Kind.Kind, Head1.Head1, Head2.Head2, Trail1.Trail1}
 use Rattle.tape_label.specs.declared.label.LabelFault.{LabelFault}
 use Rattle.tape_label.specs.Reading.{head1_at, wide_head2_at, trail1_at}
+use Rattle.tape_label.specs.Kinds.{kind_at}
 use Rattle.tape_label.specs.declared.values.Kind.TheVariants as kinds
 use Rattle.tape_set.specs.Lawful.{FileForm}
 use Rattle.tape_run.specs.declared.salvage.walk.{OpenSection.OpenSection}
@@ -16,6 +17,7 @@ use Rattle.tape_run.specs.declared.salvage.walk.Expected.TheVariants.{Trailer, T
 use Rattle.tape_run.specs.SalvageWalk.{step, section_by, begun_by, with_item, with_data}
 use Rattle.tape_run.specs.SalvageWalk.{with_unreadable, doubted, closes, closed_by, second_by}
 use Rattle.tape_run.specs.SalvageWalk.{unclosed_by, with_trailer, unnamed_after, one_read, form_by}
+use Rattle.tape_run.specs.SalvageWalk.{trailer_form}
 use Rattle.tape_run.specs.SalvageWalk.{form_or, with_second}
 use Rattle.tape_run.specs.SalvageWhole.{Blocks, not_read}
 use Rattle.tape_run.specs.SalvageSections.{Labels, filled_of, MayBegin, after_trailers}
@@ -224,32 +226,33 @@ long (b ∷ bs) = ap suc (long bs)
 -- after these labels following its trailer label, up to the first unreadable one
 unfoldable pub trailed : OpenSection → Labels → OpenSection
 trailed u [] = u
-trailed u ((true, b) ∷ ls) = trailed (with_trailer u (wide_head2_at b)) ls
+trailed u ((true, b) ∷ ls) = trailed (with_trailer u (kind_at b) (wide_head2_at b)) ls
 trailed u ((false, b) ∷ ls) = with_second false u
 
 pub same_trailed : (u : OpenSection) (ls : Labels) → (trailed u ls).key ≡ u.key
 unfolding trailed
 same_trailed u [] = refl
-same_trailed u ((true, b) ∷ ls) = same_trailed (with_trailer u (wide_head2_at b)) ls
+same_trailed u ((true, b) ∷ ls) = same_trailed (with_trailer u (kind_at b) (wide_head2_at b)) ls
 same_trailed u ((false, b) ∷ ls) = refl
 
 pub counted_trailed : (u : OpenSection) (ls : Labels) → (trailed u ls).blocks ≡ u.blocks
 unfolding trailed
 counted_trailed u [] = refl
-counted_trailed u ((true, b) ∷ ls) = counted_trailed (with_trailer u (wide_head2_at b)) ls
+counted_trailed u ((true, b) ∷ ls) =
+    counted_trailed (with_trailer u (kind_at b) (wide_head2_at b)) ls
 counted_trailed u ((false, b) ∷ ls) = refl
 
 pub unread_trailed : (u : OpenSection) (ls : Labels)
     → ((trailed u ls).unreadable ≡ u.unreadable) × ((trailed u ls).certain ≡ u.certain)
 unfolding trailed
 unread_trailed u [] = (refl, refl)
-unread_trailed u ((true, b) ∷ ls) = unread_trailed (with_trailer u (wide_head2_at b)) ls
+unread_trailed u ((true, b) ∷ ls) = unread_trailed (with_trailer u (kind_at b) (wide_head2_at b)) ls
 unread_trailed u ((false, b) ∷ ls) = (refl, refl)
 
 pub after_trailed : (u : OpenSection) (ls : Labels) → u.after ≡ None → (trailed u ls).after ≡ None
 unfolding trailed
 after_trailed u [] e = e
-after_trailed u ((true, b) ∷ ls) e = after_trailed (with_trailer u (wide_head2_at b)) ls
+after_trailed u ((true, b) ∷ ls) e = after_trailed (with_trailer u (kind_at b) (wide_head2_at b)) ls
     (ap (option_map (λ n. min (n + 1) 4294967295)) e)
 after_trailed u ((false, b) ∷ ls) e = e
 
@@ -257,6 +260,7 @@ pub form_trailed : (u : OpenSection) (ls : Labels) (f : FileForm) → u.form ≡
     → (trailed u ls).form ≡ Some f
 unfolding trailed
 form_trailed u [] f e = e
-form_trailed u ((true, b) ∷ ls) f e = form_trailed (with_trailer u (wide_head2_at b)) ls f
-    (ap (λ o. form_or o (form_by u.file_id (wide_head2_at b))) e)
+form_trailed u ((true, b) ∷ ls) f e =
+    form_trailed (with_trailer u (kind_at b) (wide_head2_at b)) ls f
+    (ap (λ o. form_or o (trailer_form u.file_id (kind_at b) (wide_head2_at b))) e)
 form_trailed u ((false, b) ∷ ls) f e = e

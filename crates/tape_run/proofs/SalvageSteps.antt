@@ -199,7 +199,7 @@ module _ {A : Type 0} (act : Expected → A → TapeItem → A) where
   unfolding trailed
   trailers q u k a ends [] none m n = one (Trailers u k) Next a (ends u) mark refl (m u)
   trailers q u k a ends ((true, x) ∷ ls) none m n =
-      let v = with_trailer u (wide_head2_at x) in
+      let v = with_trailer u (kind_at x) (wide_head2_at x) in
       first (Trailers u k) (Trailers v k) (after_trailers ls) a a (ends (trailed v ls)) (block x)
       (read_labels ls ++ mark ∷ []) refl (q.trailers u k a x) (trailers q v k a ends ls none m n)
   trailers q u k a ends ((false, x) ∷ ls) none m n =

@@ -126,10 +126,17 @@ abbrev pub form_or : Option FileForm → Option FileForm → Option FileForm
 form_or None other = other
 form_or (Some form) other = Some form
 
--- a label after the trailer label: EOF2 and EOV2 record the form too
-abbrev pub with_trailer : OpenSection → Result Head2 LabelFault → OpenSection
-with_trailer u g = record u {
-  form = form_or u.form (form_by u.file_id g);
+-- the form that a label of this kind after the trailer label records, if it is EOF2 or EOV2; an
+-- HDR2 there belongs to another file, since the tape mark between them is lost
+abbrev pub trailer_form : List ℕ → Option Kind → Result Head2 LabelFault → Option FileForm
+trailer_form file_id (Some kinds.Eof2) g = form_by file_id g
+trailer_form file_id (Some kinds.Eov2) g = form_by file_id g
+trailer_form file_id _ g = None
+
+-- a label of this kind after the trailer label
+abbrev pub with_trailer : OpenSection → Option Kind → Result Head2 LabelFault → OpenSection
+with_trailer u kind g = record u {
+  form = form_or u.form (trailer_form u.file_id kind g);
   after = option_map (λ n. min (n + 1) 4294967295) u.after;
 }
 
@@ -226,7 +233,8 @@ step (Data u) mark = (Trailer u, None)
 step (Trailer u) (block b) = closed_by u (trail1_at b) (head1_at b)
 step (Trailer u) bad = (Outside 0, Some (u, None))
 step (Trailer u) mark = (Outside 1, Some (u, None))
-step (Trailers u k) (block b) = (Trailers (with_trailer u (wide_head2_at b)) k, None)
+step (Trailers u k) (block b) =
+    (Trailers (with_trailer u (kind_at b) (wide_head2_at b)) k, None)
 step (Trailers u k) bad = (Outside 0, Some (with_second false u, Some k))
 step (Trailers u k) mark = (Next, Some (u, Some k))
 step Next (block b) = (begun_by (head1_at b) (Outside 0), None)

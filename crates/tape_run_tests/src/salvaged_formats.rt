@@ -91,6 +91,19 @@ const UNDEFINED_ROWS: &[Row] = &[
         "COMPLETE 1\n",
         b"abc\n",
     ),
+    // No HDR2, and the tape mark before the next file, which has one, is lost.
+    (
+        &[],
+        &[b"0007abc"],
+        &[
+            EOF_ONE,
+            "HDR1LEDGER           ABC00100010002000100 00000 00000 000000",
+            "HDR2D0000000000                                   00",
+        ],
+        true,
+        "COMPLETE 1\n",
+        b"0007abc\n",
+    ),
     // HDR2 is not supported: that is not the same as no HDR2.
     (
         &["HDR2X0000000000                                   00"],

@@ -23,6 +23,21 @@ pub fn form_by(file_id: Field<17>, read: Result<Head2, LabelFault>) -> Option<Kn
     }
 }
 
+/// Returns the form that a label after a section's trailer label records, if it is EOF2 or EOV2. An
+/// HDR2 there belongs to another file, since the tape mark between them is lost.
+pub fn trailer_form(
+    file_id: Field<17>,
+    kind: Option<Kind>,
+    read: Result<Head2, LabelFault>,
+) -> Option<Known>
+    ensures { result ≡ Walk.trailer_form file_id kind read }
+{
+    match kind {
+        Some(Kind::Eof2) | Some(Kind::Eov2) => form_by(file_id, read),
+        _ => None,
+    }
+}
+
 /// Returns what is expected after a block in place of a section's second label. Some systems did
 /// not write this label.
 pub fn second_by(

@@ -6,14 +6,14 @@ ghost use Rattle.tape_image.specs.{Reader.tape_item, Tape.block, Tape.bad, Tape.
 ghost use Rattle.tape_run.specs.SalvageWalk as Walk;
 
 use crate::salvage::outside::{begun_by, outside_by, unnamed_after};
-use crate::salvage::second::{form_by, second_by};
+use crate::salvage::second::{second_by, trailer_form};
 use crate::section::SectionKey;
 use crate::survey::digest::digest_with;
 use tape_core::Known;
 use tape_image::Item;
 use tape_label::{
-    Field, Head1, Head2, LabelFault, Trail1, is_further_header, kind, read_head1, read_trail1,
-    read_wide_head2,
+    Field, Head1, Head2, Kind, LabelFault, Trail1, is_further_header, kind, read_head1,
+    read_trail1, read_wide_head2,
 };
 
 /// A section whose first label was read.
@@ -161,14 +161,14 @@ impl OpenSection {
     }
 
     /// Processes a label after its trailer label: EOF2 and EOV2 record the form of its blocks too.
-    fn with_trailer(self, read: Result<Head2, LabelFault>) -> OpenSection
-        ensures { result ≡ Walk.with_trailer self read }
+    fn with_trailer(self, found: Option<Kind>, read: Result<Head2, LabelFault>) -> OpenSection
+        ensures { result ≡ Walk.with_trailer self found read }
     {
         let after = self.after.map(|count| count.saturating_add(1));
         match self.form {
             Some(_) => OpenSection { after, ..self },
             None => OpenSection {
-                form: form_by(self.file_id, read),
+                form: trailer_form(self.file_id, found, read),
                 after,
                 ..self
             },
@@ -252,7 +252,7 @@ fn block_step(expected: Expected, bytes: &[u8]) -> (Expected, Option<FoundSectio
         Expected::Data(section) => (Expected::Data(section.with_data(bytes)), None),
         Expected::Trailer(section) => closed_by(section, read_trail1(bytes), read_head1(bytes)),
         Expected::Trailers(section, closed) => {
-            let section = section.with_trailer(read_wide_head2(bytes));
+            let section = section.with_trailer(kind(bytes), read_wide_head2(bytes));
             (Expected::Trailers(section, closed), None)
         }
         Expected::Next => (begun_by(read_head1(bytes), Expected::Outside(0)), None),
