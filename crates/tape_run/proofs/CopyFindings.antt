@@ -19,6 +19,7 @@ use Rattle.tape_run.specs.declared.survey.{files.FileKey.FileKey, files.FileNote
 use Rattle.tape_run.specs.declared.survey.{files.FirstHead.FirstHead, forms.FirstForm.FirstForm}
 use Rattle.tape_run.specs.declared.survey.{copies.CopyNote.CopyNote, fits.Fit.Fit}
 use Rattle.tape_run.specs.declared.survey.{forms.FormNote.FormNote, fits.Misfit.Misfit}
+use Rattle.tape_run.specs.declared.survey.padding.Padding.{Padding}
 use Rattle.tape_run.specs.declared.survey.forms.FormNote.TheVariants.{Stated, Absent, Trailer}
 use Rattle.tape_run.specs.declared.passing.Phase.{Phase}
 use Rattle.tape_run.specs.{Passing.Told, Noted.same_key, Noted.is_good, Onward.step}
@@ -26,10 +27,12 @@ use Rattle.tape_run.specs.SurveyFiles.{Filed, Labelled, same_file, file_key, is_
 use Rattle.tape_run.specs.SurveyFiles.{other_section, note_of, note_at, first_in, with_first}
 use Rattle.tape_run.specs.SurveyFiles.{with_met, form_conflict, is_other_form}
 use Rattle.tape_run.specs.SurveyFiles.{first_form, with_first_form, with_form_of, with_absent}
-use Rattle.tape_run.specs.SurveyFiles.{with_trailer_of, with_trailer, with_form, with_misfit_of}
-use Rattle.tape_run.specs.SurveyFiles.{with_misfit_in, with_misfit, with_fit, any_differs, with_label}
+use Rattle.tape_run.specs.SurveyFiles.{with_trailer_of, with_trailer, with_form, with_blocks_of}
+use Rattle.tape_run.specs.SurveyFiles.{with_blocks_in, with_blocks, with_fit, any_differs}
+use Rattle.tape_run.specs.SurveyFiles.{with_label}
 use Rattle.tape_run.specs.SurveyFiles.{form_in, section_of as key_of}
 use Rattle.tape_run.specs.{SurveyFits.misfit_of, SurveyFits.fit_in, SurveyGlance.label_in}
+use Rattle.tape_run.specs.{SurveyFits.misfit_in, SurveyPadding.padding_in}
 use Rattle.tape_run.specs.SurveyCopies.{Copy, Copied, copy_note, noted_at, with_agreed}
 use Rattle.tape_run.specs.SurveyCopies.{with_good, with_conflict, with_copies, opponent_of}
 use Rattle.tape_run.specs.SurveyDigest.{digest_of}
@@ -255,25 +258,21 @@ module _ (set : FileSet) (lawful : IsLawful set) where
     forms = fine.forms;
   }
     where
-      misfitted : (key : FileKey) (o : Option FileNote) (m : Misfit)
+      noted : (key : FileKey) (o : Option FileNote) (m : Option Misfit) (p : Option Padding)
           → lookup (same_file key) files.notes ≡ o
-          → AllByRecursion (λ e. IsFineNote e.0 e.1) (with_misfit_of files.notes key o m)
-      misfitted key None m is = fine.notes
-      misfitted key (Some n) m is = same_note files.notes key n _ is fine.notes refl (λ e. e)
-
-      in_section : (key : SectionKey) (o : Option ℕ)
-          → AllByRecursion (λ e. IsFineNote e.0 e.1) (with_misfit_in files.notes key o)
-      in_section key None = fine.notes
-      in_section key (Some b) = misfitted (file_key key.set_id key.file) _
-          (record { sect = key.sect; block = b }) refl
+          → AllByRecursion (λ e. IsFineNote e.0 e.1) (with_blocks_of files.notes key o m p)
+      noted key None m p is = fine.notes
+      noted key (Some n) m p is = same_note files.notes key n _ is fine.notes refl (λ e. e)
 
       if_good : (b : Bool) (t : Told) (fit : Fit) → AllByRecursion (λ e. IsFineNote e.0 e.1)
-          (if b then with_misfit_in files.notes t.0 (misfit_of fit t.1) else files.notes)
-      if_good true t fit = in_section t.0 (misfit_of fit t.1)
+          (if b then with_blocks_in files.notes t.0 (misfit_in t.0.sect (misfit_of fit t.1))
+          (padding_in fit t.1) else files.notes)
+      if_good true t fit = noted (file_key t.0.set_id t.0.file) _
+          (misfit_in t.0.sect (misfit_of fit t.1)) (padding_in fit t.1) refl
       if_good false t fit = fine.notes
 
       fitted : (t : Option Told) (fit : Fit)
-          → AllByRecursion (λ e. IsFineNote e.0 e.1) (with_misfit files.notes t fit)
+          → AllByRecursion (λ e. IsFineNote e.0 e.1) (with_blocks files.notes t fit)
       fitted None fit = fine.notes
       fitted (Some t) fit = if_good (is_good t.1.state) t fit
 

@@ -61,6 +61,7 @@ pub mod ContainerText
 pub mod SurveyGaps
 pub mod SurveyGlance
 pub mod SurveyFiles
+pub mod SurveyPadding
 pub mod SurveyFits
 pub mod SurveyDigest
 pub mod SurveyCopies

@@ -17,7 +17,8 @@ use Rattle.tape_run.specs.declared.survey.forms.FirstForm.{FirstForm}
 use Rattle.tape_label.specs.Formats.{letter}
 use Rattle.tape_run.specs.{Onward.step, Noted.same_key, Noted.is_good, Lacks.key_at}
 use Rattle.tape_run.specs.{Passing.Told, SurveyFits.no_fit, SurveyFits.fit_in}
-use Rattle.tape_run.specs.{SurveyFits.misfit_of, declared.survey.fits.Fit.Fit}
+use Rattle.tape_run.specs.{SurveyFits.misfit_of, SurveyFits.misfit_in, SurveyPadding.padding_in}
+use Rattle.tape_run.specs.declared.survey.{fits.Fit.Fit, padding.Padding.Padding}
 use Rattle.tape_run.specs.declared.survey.fits.{Misfit.Misfit, Flaw.Flaw}
 use Rattle.tape_run.specs.declared.survey.fits.Flaw.TheVariants.{Lost, Unsupported, Misfits}
 use Rattle.tape_run.specs.declared.section.SectionKey.{SectionKey}
@@ -84,6 +85,7 @@ note_of None first image head = record {
   absent = false;
   trailers = false;
   misfit = None;
+  padding = None;
   conflict = None;
 }
 note_of (Some note) first image head = record note {
@@ -252,31 +254,35 @@ with_form files image (Some Trailer) = record {
 abbrev pub reads_wide : FileNote → Bool
 reads_wide note = not (note.absent && (is_some note.form || note.trailers))
 
--- the record of a file of which a block is not in its format, unless one was found before
-abbrev pub with_misfit_of : List Filed → FileKey → Option FileNote → Misfit → List Filed
-with_misfit_of notes key None misfit = notes
-with_misfit_of notes key (Some note) misfit = insert_entry same_file notes key (record note {
-  misfit = option_or note.misfit (Some misfit);
-})
+-- the record of a file after a section of which a block is not in its format, or which has padding,
+-- if it is so; what was found before is kept
+abbrev pub with_blocks_of : List Filed → FileKey → Option FileNote → Option Misfit → Option Padding
+    → List Filed
+with_blocks_of notes key None misfit padding = notes
+with_blocks_of notes key (Some note) misfit padding =
+    insert_entry same_file notes key (record note {
+      misfit = option_or note.misfit misfit;
+      padding = option_or note.padding padding;
+    })
 
--- the same for the block of a section with this number, if there is one
-abbrev pub with_misfit_in : List Filed → SectionKey → Option ℕ → List Filed
-with_misfit_in notes key None = notes
-with_misfit_in notes key (Some b) =
+-- the same for the file of a section
+abbrev pub with_blocks_in : List Filed → SectionKey → Option Misfit → Option Padding → List Filed
+with_blocks_in notes key misfit padding =
     let file = file_key key.set_id key.file in
-    with_misfit_of notes file (lookup (same_file file) notes)
-    (record { sect = key.sect; block = b })
+    with_blocks_of notes file (lookup (same_file file) notes) misfit padding
 
 -- the records after the section that was completed, if it is good
-abbrev pub with_misfit : List Filed → Option Told → Fit → List Filed
-with_misfit notes None fit = notes
-with_misfit notes (Some t) fit =
-    if is_good t.1.state then with_misfit_in notes t.0 (misfit_of fit t.1) else notes
+abbrev pub with_blocks : List Filed → Option Told → Fit → List Filed
+with_blocks notes None fit = notes
+with_blocks notes (Some t) fit =
+    if is_good t.1.state
+    then with_blocks_in notes t.0 (misfit_in t.0.sect (misfit_of fit t.1)) (padding_in fit t.1)
+    else notes
 
 -- the files after an item in this phase, and the section that it completes
 abbrev pub with_fit : Labelled → Phase → TapeItem → Option Told → Labelled
 with_fit files p x told = let fit = fit_in files.fit p x in record {
-  notes = with_misfit files.notes told fit;
+  notes = with_blocks files.notes told fit;
   heads = files.heads;
   forms = files.forms;
   reading = files.reading;

@@ -1,6 +1,6 @@
 -- Whether the blocks of sections are in the format that their second labels state.
-use Rattle.std.specs.Prelude.{ℕ, ◌==◌, ◌-◌, nat_le, if◌then◌else◌, Bool, true, false, List, Option}
-use Rattle.std.specs.Prelude.{Some, None, option_map, Result, Ok, Err}
+use Rattle.std.specs.Prelude.{ℕ, ◌==◌, ◌-◌, ◌&&◌, nat_le, if◌then◌else◌, Bool, true, false, List}
+use Rattle.std.specs.Prelude.{Option, Some, None, option_map, Result, Ok, Err}
 use Rattle.std.specs.Option.{option_or}
 use Rattle.tape_image.specs.Tape.{TapeItem, block, mark, bad}
 use Rattle.tape_label.specs.{declared.values.Head2.Head2, declared.label.LabelFault.LabelFault}
@@ -12,42 +12,43 @@ use Rattle.tape_blocks.specs.{Content.content_in, Judged.judged}
 use Rattle.tape_blocks.specs.declared.check.BlockFault.{BlockFault}
 use Rattle.tape_run.specs.declared.{met.Met.Met, passing.Phase.Phase, section.Entry.Entry}
 use Rattle.tape_run.specs.declared.passing.Phase.TheVariants.{Second, Data}
-use Rattle.tape_run.specs.declared.survey.fits.Fit.{Fit}
+use Rattle.tape_run.specs.declared.survey.{fits.Fit.Fit, fits.BlockEnd.BlockEnd, fits.Misfit.Misfit}
+use Rattle.tape_run.specs.SurveyPadding.{padding_after}
 
 -- no section is being read
 abbrev pub no_fit : Fit
-no_fit = record { form = None; begun = None; misfit = None }
+no_fit = record { form = None; begun = None; misfit = None; padding = None }
 
--- the value, unless there is a fault
-abbrev pub unless_fault : Result Bool BlockFault → Option Bool
-unless_fault (Ok end) = Some end
-unless_fault (Err f) = None
+-- how a block ends of which padding was left out or not, unless there is a fault
+abbrev pub unless_fault : Bool → Result Bool BlockFault → Option BlockEnd
+unless_fault padded (Ok end) = Some (record { begun = Some end; padded = padded })
+unless_fault padded (Err f) = None
 
--- whether a record is unfinished after all bytes of the block; `None` if they are not in this
+-- how these bytes of a block end, whether they are all of it or not; `None` if they are not in this
 -- format
-abbrev pub end_in : Head2 → Bool → List ℕ → Option Bool
-end_in form begun b = unless_fault (judged form.format form.rec_len form.offset begun b)
+abbrev pub end_in : Head2 → Bool → Bool → List ℕ → Option BlockEnd
+end_in form begun padded b =
+    unless_fault padded (judged form.format form.rec_len form.offset begun b)
 
--- whether a record is unfinished after the block, as it is or without padding of NULs or spaces;
--- `None` if the block is not in this format, or in format F has no record length
-abbrev pub end_of : Head2 → Bool → List ℕ → Option Bool
+-- how the block ends, as it is or without padding of NULs or spaces; `None` if the block is not in
+-- this format, or in format F has no record length
+abbrev pub end_of : Head2 → Bool → List ℕ → Option BlockEnd
 end_of form begun b =
     if nat_le (least_record form.format) form.rec_len
-    then option_or (end_in form begun b)
-    (end_in form begun (content_in form.format form.rec_len form.offset b))
+    then option_or (end_in form begun false b)
+    (end_in form begun true (content_in form.format form.rec_len form.offset b))
     else None
 
--- whether a record is unfinished after a block, if that is known: what follows if none is
--- unfinished before it, and if one is
-abbrev pub either_end : Option Bool → Option Bool → Option (Option Bool)
+-- how a block ends: what follows if no record is unfinished before it, and if one is
+abbrev pub either_end : Option BlockEnd → Option BlockEnd → Option BlockEnd
 either_end None None = None
-either_end (Some a) (Some b) = Some None
-either_end (Some end) None = Some (Some end)
-either_end None (Some end) = Some (Some end)
+either_end (Some a) (Some b) = Some (record { begun = None; padded = a.padded && b.padded })
+either_end (Some end) None = Some end
+either_end None (Some end) = Some end
 
--- the same after a block before which a record is unfinished or not, if that is known
-abbrev pub end_at : Head2 → Option Bool → List ℕ → Option (Option Bool)
-end_at form (Some begun) b = option_map (λ end. Some end) (end_of form begun b)
+-- the same for a block before which a record is unfinished or not, if that is known
+abbrev pub end_at : Head2 → Option Bool → List ℕ → Option BlockEnd
+end_at form (Some begun) b = end_of form begun b
 end_at form None b = either_end (end_of form false b) (end_of form true b)
 
 -- that of format U, if the section has no second label
@@ -72,16 +73,21 @@ fit_from met x = record {
   form = form_at x;
   begun = if met.key.sect == 1 then Some false else None;
   misfit = None;
+  padding = None;
 }
 
--- after a block with this number, at which a record is unfinished or not
-abbrev pub with_end : Fit → ℕ → Option (Option Bool) → Fit
-with_end fit number (Some begun) = record fit { begun = begun }
-with_end fit number None = record fit { misfit = Some number }
+-- after this block with this number, which ends so
+abbrev pub with_end : Fit → ℕ → Head2 → List ℕ → Option BlockEnd → Fit
+with_end fit number form b (Some end) = record fit {
+  begun = end.begun;
+  padding = padding_after fit.padding end.padded form b;
+}
+with_end fit number form b None = record fit { misfit = Some number }
 
 -- the same with the label and the misfit so far
 abbrev pub with_block_by : Fit → ℕ → List ℕ → Option Head2 → Option ℕ → Fit
-with_block_by fit number b (Some form) None = with_end fit number (end_at form fit.begun b)
+with_block_by fit number b (Some form) None =
+    with_end fit number form b (end_at form fit.begun b)
 with_block_by fit number b _ _ = fit
 
 -- what is known after one more block
@@ -102,3 +108,7 @@ open_end eof blocks begun = None
 -- the first block of a complete section that is not in the format
 abbrev pub misfit_of : Fit → Entry → Option ℕ
 misfit_of fit entry = option_or fit.misfit (open_end entry.eof entry.blocks fit.begun)
+
+-- the same block, with the number of its section
+abbrev pub misfit_in : ℕ → Option ℕ → Option Misfit
+misfit_in sect block = option_map (λ b. record { sect = sect; block = b }) block

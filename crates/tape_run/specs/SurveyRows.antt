@@ -7,6 +7,7 @@ use Rattle.tape_label.specs.Formats.{letter}
 use Rattle.tape_label.specs.declared.values.{Head1.Head1, Head2.Head2}
 use Rattle.tape_run.specs.declared.survey.glance.First.{First}
 use Rattle.tape_run.specs.declared.survey.{files.FileNote.FileNote, sets.Standing.Standing}
+use Rattle.tape_run.specs.declared.survey.{files.FileKey.FileKey, padding.Padding.Padding}
 use Rattle.tape_run.specs.declared.survey.view.ImageSurvey.{ImageSurvey}
 use Rattle.tape_run.specs.declared.section.SectionKey.{SectionKey}
 use Rattle.tape_run.specs.declared.survey.glance.First.TheVariants as firsts
@@ -15,6 +16,7 @@ use Rattle.tape_run.specs.declared.survey.sets.Standing.TheVariants.{Missing, Mi
 use Rattle.tape_run.specs.{CheckLine.state_text, CheckLine.stop_text, Dates.date_of}
 use Rattle.tape_run.specs.{Dates.date_cell, Passing.Told, SurveyCopies.dispute_at}
 use Rattle.tape_run.specs.{SurveyFiles.note_at, SurveyFiles.file_key, Quoting.name_text}
+use Rattle.tape_run.specs.{SurveyFiles.Filed, SurveyPadding.padding_text}
 use Rattle.tape_run.specs.{SurveyLine.trimmed_text, SurveyLine.seen_text, SurveyRead.Found}
 use Rattle.tape_run.specs.{SurveyWhole.is_sound, SurveyCompared.copies_rows}
 use Rattle.tape_run.specs.SurveySets.{standing_of, clear_standing, flaw_in, is_mixed, file_problems}
@@ -165,7 +167,18 @@ image_rows held image (name ∷ names) [] = []
 image_rows held image (name ∷ names) (sight ∷ sights) =
     image_row name sight (disputed_on held image) ++ image_rows held (image + 1) names sights
 
+-- the row of a file with this padding, or nothing if it has none
+abbrev pub padded_row : FileKey → Option Padding → List ℕ
+padded_row key None = []
+padded_row key (Some padding) = codes "PADDED\t" ++ (trimmed_text key.set_id ++ (codes "\t"
+    ++ (decimal key.file ++ (codes "\t" ++ (padding_text padding ++ codes "\n")))))
+
+-- the rows of the files with padding
+abbrev pub padded_rows : List Filed → List ℕ
+padded_rows notes = flat_map (λ f. padded_row f.0 f.1.padding) notes
+
 -- the rows of the survey of images with these names, on which this was found
 abbrev pub survey_rows : List (List ℕ) → List (Option ImageSurvey) → Found → List ℕ
 survey_rows names sights d = image_rows (disputed d.copies) 0 names sights
-    ++ (flat_map section_row d.sections ++ (sets_rows d ++ copies_rows names d.copies.notes))
+    ++ (flat_map section_row d.sections ++ (sets_rows d
+    ++ (copies_rows names d.copies.notes ++ padded_rows d.files.notes)))

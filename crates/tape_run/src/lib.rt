@@ -106,6 +106,7 @@ pub use survey::files::FileKey;
 pub use survey::files::FileNote;
 pub use survey::glance::First;
 pub use survey::locations::Locations;
+pub use survey::padding::Padding;
 pub use survey::survey_to;
 pub use survey::view::ImageSurvey;
 pub use text::flush;

@@ -18,6 +18,7 @@ pub(crate) mod gaps;
 pub(crate) mod glance;
 pub(crate) mod locations;
 mod onward;
+pub(crate) mod padding;
 mod problems;
 mod rows;
 mod sets;

@@ -112,6 +112,14 @@ const SURVEY_ROWS: &RowTable = &RowTable {
             ],
         ),
         RowKind(
+            "PADDED",
+            &[
+                Column("set", Shape::Text, Span::Cell),
+                Column("file", Shape::Number, Span::Cell),
+                Column("padding", Shape::Text, Span::Cell),
+            ],
+        ),
+        RowKind(
             "UNCOUNTED",
             &[
                 Column("set", Shape::Text, Span::Cell),

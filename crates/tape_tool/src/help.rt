@@ -277,6 +277,10 @@ With --tsv these rows; a column whose value is not known is empty:
            for a section with several good copies: how many agree with the
            first one, on the image NAME. If one differs, its image is OTHER, and
            the last column of this row and of the file is CONFLICT
+  PADDED set file PADDING
+           for a file with padding: NUL or SPACE, which is left out after the
+           records of its blocks, or CIRCUMFLEX: its last record has only ^, so
+           it may be padding
   UNCOUNTED set file section
            for a section without a block count
 With --json each row is a JSON object on a line. Its member 'row' is the first

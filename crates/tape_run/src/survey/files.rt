@@ -10,6 +10,7 @@ ghost use Rattle.tape_run.specs.declared.fault.RunFault.TheVariants as faults;
 
 use super::fits::{Fit, Misfit};
 use super::forms::FirstForms;
+use super::padding::Padding;
 use crate::fault::RunFault;
 use crate::section::SectionKey;
 use indexmap::IndexMap;
@@ -39,6 +40,8 @@ pub struct FileNote {
     pub trailers: bool,
     /// The first block that was found of a complete section that is not in its format, if any.
     pub misfit: Option<Misfit>,
+    /// The padding of the blocks of its complete sections that was found first, if any.
+    pub padding: Option<Padding>,
     /// The numbers of the first two images with labels of different files, if there are any.
     pub conflict: Option<(usize, usize)>,
 }
@@ -98,6 +101,7 @@ impl Files {
                 form: None,
                 begun: None,
                 misfit: None,
+                padding: None,
             },
         }
     }
@@ -139,6 +143,7 @@ fn note_of(note: Option<FileNote>, first: Option<FirstHead>, image: usize, head:
             absent: false,
             trailers: false,
             misfit: None,
+            padding: None,
             conflict: None,
         };
     };

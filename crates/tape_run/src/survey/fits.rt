@@ -2,13 +2,14 @@
 ghost use Rattle.std.specs.{Result.IsOkUnless, Prelude.◌≡◌, Prelude.OnOk};
 ghost use Rattle.std.specs.Map.{lookup};
 ghost use Rattle.tape_image.specs.Reader.{tape_item};
-ghost use Rattle.tape_run.specs.SurveyFiles.{same_file, with_misfit, with_misfit_of, with_fit};
+ghost use Rattle.tape_run.specs.SurveyFiles.{same_file, with_blocks, with_blocks_of, with_fit};
 ghost use Rattle.tape_run.specs.SurveyFiles.{any_misfit, flaw_of, flaw_section};
 ghost use Rattle.tape_run.specs.SurveyFits.{end_of, end_at, either_end, form_at, fit_from};
-ghost use Rattle.tape_run.specs.SurveyFits.{with_block, fit_in, misfit_of};
+ghost use Rattle.tape_run.specs.SurveyFits.{with_block, fit_in, misfit_of, misfit_in};
 ghost use Rattle.tape_run.specs.declared.fault.RunFault.TheVariants as faults;
 
 use super::files::{FileKey, FileNote, FileNotes, Files, file_of, is_unclear};
+use super::padding::{Padding, padding_after, padding_in};
 use crate::fault::RunFault;
 use crate::met::{Met, Told};
 use crate::passing::Phase;
@@ -28,6 +29,17 @@ pub(crate) struct Fit {
     pub(crate) begun: Option<bool>,
     /// The number of the first block that is not in this format, counted from 0.
     pub(crate) misfit: Option<u32>,
+    /// The padding of the blocks so far, if they have any.
+    pub(crate) padding: Option<Padding>,
+}
+
+/// How a block in the format of its second label ends.
+#[derive(Clone, Copy)]
+pub(crate) struct BlockEnd {
+    /// Whether a record is unfinished, if that is known.
+    pub(crate) begun: Option<bool>,
+    /// Whether padding of NULs or spaces was left out.
+    pub(crate) padded: bool,
 }
 
 /// A block of a complete section that is not in the format that the second label states.
@@ -50,46 +62,54 @@ pub(crate) enum Flaw {
     Misfits(Misfit),
 }
 
-/// Returns whether a record is unfinished after a block in the wider reading, in which a record is
-/// unfinished before it or not; `None` if the block is not in this format.
-fn end_of(form: &Head2, begun: bool, block: &[u8]) -> Option<bool>
+/// Returns how a block ends in the wider reading if a record is unfinished before it or not; `None`
+/// if the block is not in this format.
+fn end_of(form: &Head2, begun: bool, block: &[u8]) -> Option<BlockEnd>
     ensures { result ≡ end_of form.now begun block.now }
 {
     if let (Format::Fixed, 0) = (form.format, form.rec_len) {
         return None;
     }
     let shape = Shape::of(form);
-    match check_block(&shape, begun, block) {
-        Ok(end) => Some(end),
-        Err(_) => check_block(&shape, begun, content(&shape, block)).ok(),
+    if let Ok(end) = check_block(&shape, begun, block) {
+        return Some(BlockEnd {
+            begun: Some(end),
+            padded: false,
+        });
+    }
+    match check_block(&shape, begun, content(&shape, block)) {
+        Ok(end) => Some(BlockEnd {
+            begun: Some(end),
+            padded: true,
+        }),
+        Err(_) => None,
     }
 }
 
-/// Returns whether a record is unfinished after a block, if that is known, by what follows from
-/// each possible beginning.
-fn either_end(whole: Option<bool>, begun: Option<bool>) -> Option<Option<bool>>
+/// Returns how a block ends by what follows from each possible beginning.
+fn either_end(whole: Option<BlockEnd>, begun: Option<BlockEnd>) -> Option<BlockEnd>
     ensures { result ≡ either_end whole begun }
 {
     match (whole, begun) {
         (None, None) => None,
-        (Some(_), Some(_)) => Some(None),
-        (Some(end), None) => Some(Some(end)),
-        (None, Some(end)) => Some(Some(end)),
+        (Some(whole), Some(begun)) => Some(BlockEnd {
+            begun: None,
+            padded: whole.padded && begun.padded,
+        }),
+        (Some(end), None) => Some(end),
+        (None, Some(end)) => Some(end),
     }
 }
 
-/// Returns whether a record is unfinished after a block, if that is known, or `None` if the block
-/// is not in this format. `begun` says whether a record is unfinished before it, if that is known.
-fn end_at(form: &Head2, begun: Option<bool>, block: &[u8]) -> Option<Option<bool>>
+/// Returns how a block ends, or `None` if it is not in this format. `begun` says whether a record
+/// is unfinished before it, if that is known.
+fn end_at(form: &Head2, begun: Option<bool>, block: &[u8]) -> Option<BlockEnd>
     ensures { result ≡ end_at form.now begun block.now }
 {
     let Some(begun) = begun else {
         return either_end(end_of(form, false, block), end_of(form, true, block));
     };
-    match end_of(form, begun, block) {
-        Some(end) => Some(Some(end)),
-        None => None,
-    }
+    end_of(form, begun, block)
 }
 
 /// Returns the second label of a section, if the item after its first label says how its blocks are
@@ -117,6 +137,7 @@ fn fit_from(met: &Met, item: Item<'_>) -> Fit
         form: form_at(item),
         begun,
         misfit: None,
+        padding: None,
     }
 }
 
@@ -128,7 +149,11 @@ fn with_block(fit: Fit, number: u32, block: &[u8]) -> Fit
         return fit;
     };
     match end_at(&form, fit.begun, block) {
-        Some(begun) => Fit { begun, ..fit },
+        Some(end) => Fit {
+            begun: end.begun,
+            padding: padding_after(fit.padding, end.padded, &form, block),
+            ..fit
+        },
         None => Fit {
             misfit: Some(number),
             ..fit
@@ -158,29 +183,45 @@ fn misfit_of(fit: &Fit, entry: &Entry) -> Option<u32>
     }
 }
 
-/// Records that a block of a section is not in its format, unless one of the file was recorded
-/// before.
-fn note_misfit_of(notes: &mut FileNotes, key: FileKey, misfit: Misfit) -> Result<(), RunFault>
+/// Returns the same block, with the number of its section.
+fn misfit_in(sect: u16, block: Option<u32>) -> Option<Misfit>
+    ensures { result ≡ misfit_in sect block }
+{
+    match block {
+        Some(block) => Some(Misfit { sect, block }),
+        None => None,
+    }
+}
+
+/// Records that a block of a section is not in its format, and its padding, if it is so; what was
+/// recorded of the file before is kept.
+fn note_blocks_of(
+    notes: &mut FileNotes,
+    key: FileKey,
+    misfit: Option<Misfit>,
+    padding: Option<Padding>,
+) -> Result<(), RunFault>
     ensures fault { IsOkUnless result faults.OutOfMemory }
-    ensures ok { OnOk result (notes.new.entries ≡ with_misfit_of notes.old.entries key
-        (lookup (same_file key) notes.old.entries) misfit) }
+    ensures ok { OnOk result (notes.new.entries ≡ with_blocks_of notes.old.entries key
+        (lookup (same_file key) notes.old.entries) misfit padding) }
 {
     let Some(note) = notes.get(&key).copied() else {
         return Ok(());
     };
     let note = FileNote {
-        misfit: note.misfit.or(Some(misfit)),
+        misfit: note.misfit.or(misfit),
+        padding: note.padding.or(padding),
         ..note
     };
     notes.insert(key, note)?;
     Ok(())
 }
 
-/// Records the first block of the section that was completed that is not in its format, if the
-/// section is complete.
-fn note_misfit(notes: &mut FileNotes, told: Option<Told>, fit: &Fit) -> Result<(), RunFault>
+/// Records the first block of the section that was completed that is not in its format, and its
+/// padding, if the section is complete.
+fn note_blocks(notes: &mut FileNotes, told: Option<Told>, fit: &Fit) -> Result<(), RunFault>
     ensures fault { IsOkUnless result faults.OutOfMemory }
-    ensures ok { OnOk result (notes.new.entries ≡ with_misfit notes.old.entries told fit.now) }
+    ensures ok { OnOk result (notes.new.entries ≡ with_blocks notes.old.entries told fit.now) }
 {
     let Some((key, entry)) = told else {
         return Ok(());
@@ -188,11 +229,8 @@ fn note_misfit(notes: &mut FileNotes, told: Option<Told>, fit: &Fit) -> Result<(
     if !entry.state.is_good() {
         return Ok(());
     }
-    let Some(block) = misfit_of(fit, &entry) else {
-        return Ok(());
-    };
-    let sect = key.sect;
-    note_misfit_of(notes, file_of(&key), Misfit { sect, block })
+    let misfit = misfit_in(key.sect, misfit_of(fit, &entry));
+    note_blocks_of(notes, file_of(&key), misfit, padding_in(fit, &entry))
 }
 
 /// Records what an item says about the blocks of sections, and about the section that it completes,
@@ -208,7 +246,7 @@ pub(crate) fn note_fit(
         ≡ with_fit files.old phase.now (tape_item item.entry) told) }
 {
     files.fit = fit_in(files.fit, phase, item);
-    note_misfit(&mut files.notes, told, &files.fit)
+    note_blocks(&mut files.notes, told, &files.fit)
 }
 
 /// Returns whether a block of a complete section of any file is not in its format.

@@ -3,13 +3,13 @@ ghost use Rattle.std.specs.Prelude.{◌≡◌, ◌<◌, ◌++◌, length, map, I
 ghost use Rattle.std.specs.List.{flat_map};
 ghost use Rattle.tape_run.specs.SurveyCompared.{name_at, copy_row, copies_rows};
 ghost use Rattle.tape_run.specs.SurveyRows.{problem_cell, file_row, found_row, file_rows, sets_rows};
-ghost use Rattle.tape_run.specs.SurveyRows.{section_row, image_rows, survey_rows};
+ghost use Rattle.tape_run.specs.SurveyRows.{section_row, image_rows, survey_rows, padded_rows};
 ghost use Rattle.tape_run.specs.SurveySets.{file_problems};
 
 mod cells;
 
 use super::copies::{CopyNote, CopyNotes, Held, disputed_on};
-use super::files::FileKey;
+use super::files::{FileKey, FileNotes};
 use super::gaps::{gap_first, is_found};
 use super::sets::file_problems;
 use super::view::{Findings, ImageSurvey};
@@ -18,12 +18,12 @@ use crate::report::sets_of;
 use crate::section::SectionKey;
 use crate::sections::Sections;
 use crate::text::Trimmed;
-use cells::{file_cells, form_cells, gap_row, image_row, problem_cell, section_row};
+use cells::{file_cells, form_cells, gap_row, image_row, padded_row, problem_cell, section_row};
 use std::alloc::AllocError;
 use tape_label::Field;
 
-/// Returns the rows of images that were read: those of the images, the sections, the files, and the
-/// sections with more than one complete copy.
+/// Returns the rows of images that were read: those of the images, the sections, the files, the
+/// sections with more than one complete copy, and the files with padding.
 pub(super) fn rows(
     findings: &Findings,
     sights: &[Option<ImageSurvey>],
@@ -39,6 +39,7 @@ pub(super) fn rows(
     add_sections(&mut rows, &findings.sections)?;
     add_sets(&mut rows, findings)?;
     add_copies(&mut rows, names, &findings.copies.notes)?;
+    add_padded(&mut rows, &findings.files.notes)?;
     Ok(rows)
 }
 
@@ -210,6 +211,18 @@ fn add_copies(rows: &mut Vec<u8>, names: &[&str], notes: &CopyNotes) -> Result<(
         if note.copies != 1 || note.opponent().is_some() {
             add_copy(rows, names, key, note)?;
         }
+    }
+    Ok(())
+}
+
+/// Appends the row of each file with padding.
+fn add_padded(rows: &mut Vec<u8>, notes: &FileNotes) -> Result<(), AllocError>
+    ensures { OnOk result (rows.new.items ≡ rows.old.items ++ padded_rows notes.now.entries) }
+{
+    let alloc = *rows.allocator();
+    for (key, note) in notes {
+        let row = padded_row(alloc, key, note.padding)?;
+        rows.extend_from_slice(row.as_bytes())?;
     }
     Ok(())
 }

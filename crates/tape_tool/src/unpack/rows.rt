@@ -181,11 +181,11 @@ pub fn recorded_file(
     add_head(&mut writer, note.map(|note| &note.head))?;
     add_form(&mut writer, note.and_then(|note| note.form))?;
     add_text(&mut writer, "form", written.form)?;
-    add_member(
-        &mut writer,
-        "blocks_counted",
-        JsonCell::Flag(written.blocks_counted),
-    )?;
+    let is_counted = JsonCell::Flag(written.blocks_counted);
+    add_member(&mut writer, "blocks_counted", is_counted)?;
+    let padding = note.and_then(|note| note.padding);
+    let padding = padding.map_or("", |padding| padding.name());
+    add_text(&mut writer, "padding", padding)?;
     add_sum(alloc, &mut writer, written.size, &written.sum)?;
     add_program(&mut writer, build)?;
     ended(writer)

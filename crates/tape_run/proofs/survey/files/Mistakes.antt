@@ -45,6 +45,7 @@ noted = record {
   absent = false;
   trailers = false;
   misfit = None;
+  padding = None;
   conflict = None;
 }
 

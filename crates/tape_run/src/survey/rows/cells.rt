@@ -3,7 +3,7 @@ ghost use Rattle.std.specs.Prelude.{◌≡◌, ◌||◌, IfOk, option_map, strin
 ghost use Rattle.tape_run.specs.SurveyRows.{whole_cell, head_cells, sight_cells, section_row};
 ghost use Rattle.tape_run.specs.SurveyRows.{known_cells, standing_cells, file_cells, form_cells};
 ghost use Rattle.tape_run.specs.SurveyRows.{image_row, conflict_cell, found_cells, file_text};
-ghost use Rattle.tape_run.specs.SurveyRows.{gap_row, problem_cell};
+ghost use Rattle.tape_run.specs.SurveyRows.{gap_row, problem_cell, padded_row};
 ghost use Rattle.tape_run.specs.SurveyLine.{trimmed_text};
 
 use crate::check_line::state_text;
@@ -14,6 +14,7 @@ use crate::survey::facts::seen_text;
 use crate::survey::files::{FileKey, FileNote};
 use crate::survey::gaps::Numbers;
 use crate::survey::glance::First;
+use crate::survey::padding::Padding;
 use crate::survey::problems::Problem;
 use crate::survey::sets::{Standing, clear_standing, flaw_in, is_mixed, standing_of};
 use crate::survey::view::{Findings, ImageSurvey};
@@ -258,4 +259,19 @@ pub(crate) fn problem_cell(alloc: Global, problem: &Problem) -> Result<String, A
             format!(in alloc; "{numbers}:MISSING;")
         }
     }
+}
+
+/// Returns the row of a file with this padding, or nothing if it has none.
+pub(crate) fn padded_row(
+    alloc: Global,
+    key: &FileKey,
+    padding: Option<Padding>,
+) -> Result<String, AllocError>
+    ensures { IfOk result (λ row. string_bytes row ≡ padded_row key.now padding) }
+{
+    let Some(padding) = padding else {
+        return Ok(String::new(alloc));
+    };
+    let (set_id, file, name) = (Trimmed(&key.set_id), key.file, padding.name());
+    format!(in alloc; "PADDED\t{set_id}\t{file}\t{name}\n")
 }

@@ -6,6 +6,7 @@ use super::page::Page;
 use crate::survey::dates::date_of;
 use crate::survey::files::{FileKey, FileNote};
 use crate::survey::fits::flaw_of;
+use crate::survey::padding::Padding;
 use crate::survey::sets::is_whole_file;
 use crate::survey::view::Findings;
 use crate::survey::volumes::VolumeItem;
@@ -150,6 +151,19 @@ fn form_word(note: Option<&FileNote>) -> &'static str {
     }
 }
 
+/// Returns what is to be known of the padding of a file, if it has any.
+fn padding_word(note: Option<&FileNote>) -> &'static str {
+    let Some(note) = note else {
+        return "";
+    };
+    match note.padding {
+        Some(Padding::Nuls) => ", padded with NULs",
+        Some(Padding::Spaces) => ", padded with spaces",
+        Some(Padding::Circumflexes) => ", the last records may be padding (^)",
+        None => "",
+    }
+}
+
 /// Appends the line of a file.
 pub(super) fn add_file(page: &mut Page<'_>, findings: &Findings, set_id: Field<6>, file: u16) {
     let alloc = page.alloc();
@@ -166,5 +180,6 @@ pub(super) fn add_file(page: &mut Page<'_>, findings: &Findings, set_id: Field<6
     );
     page.add(format!(in alloc; "{indent}{file} "));
     page.add(known_text(alloc, note));
-    page.add(format!(in alloc; "  {word}{form}\n"));
+    let padding = padding_word(note);
+    page.add(format!(in alloc; "  {word}{form}{padding}\n"));
 }
