@@ -20,10 +20,8 @@ const FIVE_BEHIND: &str = "HDR2F0002000005                                   02"
 
 /// HDR2, blocks, and the number of the first block that is not in its format, if there is one.
 const ROWS: &[(&str, &[&[u8]], Option<u32>)] = &[
-    // Format F: whole records, and padding of circumflexes or, behind a record without them, of
-    // NULs or spaces.
-    (FIVE, &[b"first", b"firstsecon"], None),
-    (FIVE, &[b"first^^^^", b"first\0\0\0", b"first    "], None),
+    // Format F: whole records, and padding of circumflexes.
+    (FIVE, &[b"first", b"firstsecon", b"first^^^^"], None),
     (FIVE_BEHIND, &[b"..first", b"..", b"..first^"], None),
     (FIVE, &[b"firs"], Some(0)),
     (FIVE, &[b"first", b"firsts", b"firs"], Some(1)),
@@ -33,11 +31,7 @@ const ROWS: &[(&str, &[&[u8]], Option<u32>)] = &[
     (FIVE_BEHIND, &[b"first"], Some(0)),
     (FIVE_BEHIND, &[b"."], Some(0)),
     // Format D: counts that are met exactly, and padding.
-    (
-        HDR2_D,
-        &[b"0005x", b"0005x0004^^^", b"0006xy\0\0\0", b"0005x     "],
-        None,
-    ),
+    (HDR2_D, &[b"0005x", b"0005x0004^^^"], None),
     (HDR2_D, &[b"x"], Some(0)),
     (HDR2_D, &[b"0005x", b"0007xy"], Some(1)),
     (HDR2_D, &[b"0005x", b"0005x", b"0005x?"], Some(2)),
@@ -65,6 +59,35 @@ const ROWS: &[(&str, &[&[u8]], Option<u32>)] = &[
     // Format U: any block that has its buffer offset.
     (HDR2_U, &[b"....", b"....?", b"0005x"], None),
     (HDR2_U, &[b"....", b"..."], Some(1)),
+];
+
+/// What the line of a file says about its padding.
+const NULS: &str = ", padded with NULs";
+
+const SPACES: &str = ", padded with spaces";
+
+const CIRCUMFLEXES: &str = ", the last records may be padding (^)";
+
+/// HDR2, blocks in its format, and what the line of the file says about padding.
+const PADDED: &[(&str, &[&[u8]], &str)] = &[
+    // NULs or spaces after the last record of a block: the first of them count.
+    (FIVE, &[b"first^^^^", b"first\0\0\0", b"first    "], NULS),
+    (FIVE, &[b"first ", b"first\0", b"first^^^^^"], SPACES),
+    (FIVE_BEHIND, &[b"..first\0", b"..first"], NULS),
+    (HDR2_D, &[b"0005x", b"0006xy\0\0\0", b"0005x     "], NULS),
+    (HDR2_D, &[b"0005x     "], SPACES),
+    // Records that end with them have no padding.
+    (FIVE, &[b"firs\0", b"firs "], ""),
+    (HDR2_D, &[b"0006x ", b"0006x\0"], ""),
+    // The last record has only circumflexes.
+    (FIVE, &[b"first^^^^^"], CIRCUMFLEXES),
+    (FIVE, &[b"first", b"first^^^^^^^^"], CIRCUMFLEXES),
+    (FIVE_BEHIND, &[b"..^^^^^"], CIRCUMFLEXES),
+    // Not the last record, less than a record, and another format.
+    (FIVE, &[b"first^^^^^", b"first"], ""),
+    (FIVE, &[b"first^^^^"], ""),
+    (FIVE_BEHIND, &[b"..first", b"^^"], ""),
+    (HDR2_D, &[b"0009^^^^^"], ""),
 ];
 
 /// Returns a volume of one section with these labels and blocks, fewer than ten.
@@ -134,8 +157,13 @@ fn word_of(label: &str) -> &'static str {
     }
 }
 
-/// Returns the survey of one image with one file.
-fn lines_of(alloc: Global, label: &str, misfit: Option<u32>) -> Result<String, AllocError> {
+/// Returns the survey of one image with one file; `padding` says how it is padded.
+fn lines_of(
+    alloc: Global,
+    label: &str,
+    misfit: Option<u32>,
+    padding: &str,
+) -> Result<String, AllocError> {
     let (first, state, number, word, last) = match misfit {
         None => (
             String::new(alloc),
@@ -162,7 +190,7 @@ fn lines_of(alloc: Global, label: &str, misfit: Option<u32>) -> Result<String, A
     let image = "one.tap                   ok           volume ABC001, 1 section";
     let set = format!(in alloc; "Set ABC001: {number} of 1 files complete\n  Volumes: ABC001")?;
     let file = format!(in alloc;
-        "   1 PAYROLL                        {word}{}",
+        "   1 PAYROLL                        {word}{}{padding}",
         word_of(label)
     )?;
     format!(in alloc; "{counts}\n{image}\n{set}\n{file}\n")
@@ -175,9 +203,22 @@ fn blocks_in_the_format_of_hdr2(rt: HostRuntime) -> Result<(), Fail> {
     for (label, blocks, misfit) in ROWS {
         let image = volume(alloc, &[VOL1, HDR1, *label], *blocks, EOF1)?;
         let images = [Some(image.bytes.as_slice())];
-        let lines = lines_of(alloc, *label, *misfit)?;
+        let lines = lines_of(alloc, *label, *misfit, "")?;
         survey(&rt, &images, &["one.tap"], misfit.is_none(), &lines)?;
         lacks(&rt, &images, misfit.map(|_| 1))?;
+    }
+    Ok(())
+}
+
+/// The line of a file says whether it is padded, or may be.
+#[test]
+fn padding_in_the_line_of_a_file(rt: HostRuntime) -> Result<(), Fail> {
+    let alloc = rt.alloc();
+    for (label, blocks, padding) in PADDED {
+        let image = volume(alloc, &[VOL1, HDR1, *label], *blocks, EOF1)?;
+        let lines = lines_of(alloc, *label, None, *padding)?;
+        let images = [Some(image.bytes.as_slice())];
+        survey(&rt, &images, &["one.tap"], true, &lines)?;
     }
     Ok(())
 }
@@ -237,5 +278,29 @@ fn rows_of_a_file_that_is_not_readable(rt: HostRuntime) -> Result<(), Fail> {
         Wording::Rows,
         false,
         ROWS_OF_ONE,
+    )
+}
+
+/// The rows about a file of which a block is padded with NULs.
+const ROWS_OF_PADDED: &str =
+    "IMAGE\tone.tap\tWHOLE\tABC001\tABC001\t\t9\t1\t0\tMARKED\t\tvolume ABC001, \
+         1 section
+SECTION\tABC001\t1\t1\tABC001\t1\tGOOD\tEOF
+FILE\tABC001\t1\tPAYROLL\t\tCOMPLETE\t\t\t\t\tF\t20\t5
+PADDED\tABC001\t1\tNUL
+";
+
+/// A padded file has its own row.
+#[test]
+fn rows_of_a_padded_file(rt: HostRuntime) -> Result<(), Fail> {
+    let image = volume(rt.alloc(), &[VOL1, HDR1, FIVE], &[b"first\0"], EOF1)?;
+    let images = [Some(image.bytes.as_slice())];
+    told(
+        &rt,
+        &images,
+        &["one.tap"],
+        Wording::Rows,
+        true,
+        ROWS_OF_PADDED,
     )
 }

@@ -81,7 +81,7 @@ const UNCOUNTED: &str = "
     > FILE ABC001 1 UNCOUNTED 1
     > TOTAL 1 complete 0 existing 0 incomplete 0 in conflict 0 not found 0 failed
     !   image 2: a file has no block count
-    at out/MANIFEST.jsonl 232 \"blocks_counted\":false,
+    at out/MANIFEST.jsonl 232 \"blocks_counted\":false,\"padding\":null,
     $ unpack out uncounted.tap
     > FILE ABC001 1 EXISTS out/ABC001.1.PAYROLL
     > FILE ABC001 1 UNCOUNTED 1
@@ -91,7 +91,7 @@ const UNCOUNTED: &str = "
     $ unpack --manifest other worked.tap
     > FILE ABC001 1 COMPLETE 25 other/ABC001.1.PAYROLL
     > TOTAL 1 complete 0 existing 0 incomplete 0 in conflict 0 not found 0 failed
-    at other/MANIFEST.jsonl 232 \"blocks_counted\":true,
+    at other/MANIFEST.jsonl 232 \"blocks_counted\":true,\"padding\":null,
     $ extract --again ABC001 1 again.txt uncounted.tap
     > REEL 1 COMPLETE
     > COMPLETE 25
@@ -103,7 +103,7 @@ const UNCOUNTED: &str = "
     > UNCOUNTED 1
     !   image 1: a file has no block count
     0: salvage ABC001 1 kept.txt uncounted.tap --provenance kept.jsonl
-    at kept.jsonl 224 \"blocks_counted\":false,
+    at kept.jsonl 224 \"blocks_counted\":false,\"padding\":null,
     # Of many images only their number is printed, unless all is wanted.
     0: survey uncounted.tap worked.tap worked.tap worked.tap worked.tap worked.tap
     | 1 section whose blocks are not counted
@@ -128,4 +128,25 @@ fn blocks_that_are_not_counted_are_reported(rt: HostRuntime) -> Result<(), Fail>
 #[test]
 fn tapes_of_other_systems_are_read(rt: HostRuntime) -> Result<(), Fail> {
     follow_in(&rt, &Tape, "normal_form", READ)
+}
+
+const PADDED: &str = "
+    # A file that ends with a record of circumflexes, which may be padding.
+    put circumflexes.bin recordrecordrecord^^^^^^^^^^^^^^^^^^
+    0: write . PAD 100000 A=circumflexes.bin --format F --block 36 --record 18 --form raw
+    0: survey PAD001.tap
+    | complete, the last records may be padding (^)
+    0: survey --tsv PAD001.tap
+    | PADDED\tPAD001\t1\tCIRCUMFLEX
+    0: survey --json PAD001.tap
+    | {\"row\":\"PADDED\",\"set\":\"PAD001\",\"file\":1,\"padding\":\"CIRCUMFLEX\"}
+    folder padded
+    0: unpack --form raw --manifest padded PAD001.tap
+    at padded/MANIFEST.jsonl 217 \"blocks_counted\":true,\"padding\":\"CIRCUMFLEX\",
+    length padded/PAD001.1.A 36
+";
+
+#[test]
+fn padding_is_reported(rt: HostRuntime) -> Result<(), Fail> {
+    follow_in(&rt, "padded", PADDED)
 }

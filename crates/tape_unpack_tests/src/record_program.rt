@@ -13,7 +13,7 @@ const RECORDED: &str = "
         \"identifier\":\"PAYROLL\",\"generation\":\"0001\",\"version\":\"00\",\"created\":null,\
         \"expires\":null,\"access\":null,\"system\":null,\"format\":\"F\",\"block\":800,\
         \"record\":80,\
-        \"form\":\"lines\",\"blocks_counted\":true,\"size\":2025,\
+        \"form\":\"lines\",\"blocks_counted\":true,\"padding\":null,\"size\":2025,\
         \"sha256\":\"0ea04722dfc11a313781113712bafecee4beb63c00c2448f7cc86ff88949bdcb\",\
         \"program\":\"0.1.0\",\"proved\":null,\"build\":null}\\0A\
         {\"row\":\"BLOCKS\",\"name\":\"ABC001.1.PAYROLL\",\"section\":1,\"block\":0,\"part\":0,\
@@ -33,7 +33,7 @@ const RECORDED: &str = "
         \"identifier\":\"PAYROLL\",\"generation\":\"0001\",\"version\":\"00\",\"created\":null,\
         \"expires\":null,\"access\":null,\"system\":null,\"format\":\"F\",\"block\":400,\
         \"record\":80,\
-        \"form\":\"raw\",\"blocks_counted\":true,\"size\":2000,\
+        \"form\":\"raw\",\"blocks_counted\":true,\"padding\":null,\"size\":2000,\
         \"sha256\":\"9ca721bb0fceb366d3809a5da8042c523cf671155b6366a74de5b02d2f163684\",\
         \"program\":\"0.1.0\",\"proved\":null,\"build\":null}\\0A\
         {\"row\":\"BLOCKS\",\"name\":\"ABC001.1.PAYROLL\",\"section\":1,\"block\":0,\"part\":0,\
@@ -78,13 +78,13 @@ const RECORDED: &str = "
         \"sha256\":\"daf61a346b32d5f3b5ed4c59a4513114b6388172932a914eab267ae0bd4839a2\",\
         \"volume\":\"ABC001\",\"owner\":null,\"system\":null}\\0A
     0: unpack days rec2.tap --manifest --form raw
-    length days/MANIFEST.jsonl 1739
+    length days/MANIFEST.jsonl 1754
     at days/MANIFEST.jsonl 1050 \
         {\"row\":\"FILE\",\"name\":\"ABC001.1.PAYROLL\",\"set\":\"ABC001\",\"file\":1,\
         \"identifier\":\"PAYROLL\",\"generation\":\"0001\",\"version\":\"00\",\"created\":null,\
         \"expires\":null,\"access\":null,\"system\":null,\"format\":\"F\",\"block\":400,\
         \"record\":80,\
-        \"form\":\"raw\",\"blocks_counted\":true,\"size\":2000,\
+        \"form\":\"raw\",\"blocks_counted\":true,\"padding\":null,\"size\":2000,\
         \"sha256\":\"9ca721bb0fceb366d3809a5da8042c523cf671155b6366a74de5b02d2f163684\",\
         \"program\":\"0.1.0\",\"proved\":null,\"build\":null}\\0A\
         {\"row\":\"BLOCKS\",\"name\":\"ABC001.1.PAYROLL\",\"section\":1,\"block\":0,\"part\":0,\
@@ -95,7 +95,7 @@ const RECORDED: &str = "
         \"offset\":1084}\\0A
     # A file that exists and is recorded is not recorded again, and otherwise as if it was joined.
     0: unpack days rec2.tap rec3.tap --manifest --form raw
-    length days/MANIFEST.jsonl 1739
+    length days/MANIFEST.jsonl 1754
     remove days/MANIFEST.jsonl
     0: unpack days rec2.tap rec3.tap --manifest --form raw
     has days/MANIFEST.jsonl \
@@ -103,7 +103,7 @@ const RECORDED: &str = "
         \"identifier\":\"PAYROLL\",\"generation\":\"0001\",\"version\":\"00\",\"created\":null,\
         \"expires\":null,\"access\":null,\"system\":null,\"format\":\"F\",\"block\":400,\
         \"record\":80,\
-        \"form\":\"raw\",\"blocks_counted\":true,\"size\":2000,\
+        \"form\":\"raw\",\"blocks_counted\":true,\"padding\":null,\"size\":2000,\
         \"sha256\":\"9ca721bb0fceb366d3809a5da8042c523cf671155b6366a74de5b02d2f163684\",\
         \"program\":\"0.1.0\",\"proved\":null,\"build\":null}\\0A\
         {\"row\":\"BLOCKS\",\"name\":\"ABC001.1.PAYROLL\",\"section\":1,\"block\":0,\"part\":0,\
@@ -163,7 +163,7 @@ const KEPT: &str = "
     missing held1/.tape-1.part
     0: unpack held1 held.tap --manifest
     at held1/MANIFEST.jsonl 0 {\"row\":\"MINE\"}\\0A{\"row\":\"FILE\",\"name\":\"ABC001.1.PAYROLL\",
-    length held1/MANIFEST.jsonl 729
+    length held1/MANIFEST.jsonl 744
     # With --list, and without --manifest, nothing is recorded.
     folder held3
     0: unpack held3 held.tap --manifest --list | unpack held3 held.tap
@@ -184,7 +184,7 @@ const ONE_OUTPUT: &str = "
         {\"row\":\"FILE\",\"name\":\"one.txt\",\"set\":\"ABC001\",\"file\":1,\
         \"identifier\":\"PAYROLL\",\"generation\":\"0001\",\"version\":\"00\",\"created\":null,\
         \"expires\":null,\"access\":null,\"system\":null,\"format\":\"F\",\"block\":400,\
-        \"record\":80,\"form\":\"raw\",\"blocks_counted\":true,\"size\":2000,\
+        \"record\":80,\"form\":\"raw\",\"blocks_counted\":true,\"padding\":null,\"size\":2000,\
         \"sha256\":\"9ca721bb0fceb366d3809a5da8042c523cf671155b6366a74de5b02d2f163684\",\
         \"program\":\"0.1.0\",\"proved\":null,\"build\":null}\\0A\
         {\"row\":\"BLOCKS\",\"name\":\"one.txt\",\"section\":1,\"block\":0,\"part\":0,\
@@ -244,7 +244,7 @@ const ONE_OUTPUT: &str = "
         {\"row\":\"FILE\",\"name\":\"full.txt\",\"set\":\"ABC001\",\"file\":1,\
         \"identifier\":\"PAYROLL\",\"generation\":\"0001\",\"version\":\"00\",\"created\":null,\
         \"expires\":null,\"access\":null,\"system\":null,\"format\":\"F\",\"block\":400,\
-        \"record\":80,\"form\":\"lines\",\"blocks_counted\":true,\"size\":2025,\
+        \"record\":80,\"form\":\"lines\",\"blocks_counted\":true,\"padding\":null,\"size\":2025,\
         \"sha256\":\"0ea04722dfc11a313781113712bafecee4beb63c00c2448f7cc86ff88949bdcb\",\
         \"program\":\"0.1.0\",\"proved\":null,\"build\":null}\\0A\
         {\"row\":\"BLOCKS\",\"name\":\"full.txt\",\"section\":1,\"block\":0,\"part\":0,\
