@@ -140,6 +140,9 @@ class Trial(Results):
         want = [[printed(set_id).rstrip(), str(file), str(section)]
                 for set_id, file, section in self.uncounted]
         self.same(told, want, "survey: not counted")
+        told = sorted(row[1:] for row in rows if row[0] == "PADDED")
+        self.same(told, self.found.padded_rows(), "survey: padding")
+        self.told.update(f"padded with {padding}" for *_, padding in told)
         states = {(row[1], row[2]): row[5] for row in rows if row[0] == "FILE"}
         for (set_id, file), reader in self.readers.items():
             if reader and reader.done and self.found.is_complete(set_id, file):

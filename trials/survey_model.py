@@ -81,6 +81,17 @@ class Survey:
                  printed(each["volume"]).rstrip(), str(len(each["blocks"])), each["state"],
                  "EOF" if each["eof"] else ""] for each in self.sections.values()]
 
+    def padded_rows(self):
+        """The columns of the rows PADDED, in any order."""
+        found = {}
+        for each in sum((volume.sections for volume in self.volumes), []):
+            key = each["set"], each["file"]
+            shape = model.ABSENT if each["shape"] is None else each["shape"]
+            if each["state"] == "GOOD" and isinstance(shape, tuple) and not found.get(key):
+                found[key] = model.padding_of(shape, each["blocks"], each["eof"])
+        return sorted([printed(set_id).rstrip(), str(file), padding]
+                      for (set_id, file), padding in found.items() if padding)
+
     def is_complete(self, set_id, file):
         """Whether each section of a file is GOOD on an image."""
         for at in range(1, 10000):

@@ -202,6 +202,22 @@ def content(shape, block):
     return block if is_ambiguous or not rest else block[:end]
 
 
+def padding_of(shape, blocks, eof):
+    """What the blocks of a section have after their records that is, or may be, padding."""
+    found = None
+    for block in blocks if shape[0] in "FD" else []:
+        kept, inside = found if found != "CIRCUMFLEX" else None, content(shape, block)
+        if parts_of(shape, inside, False)[1]:
+            return kept
+        if len(inside) < len(block):
+            found = kept or ("SPACE" if block[-1] else "NUL")
+        else:
+            parts = parts_of(shape, block, False)[0]
+            is_last = shape[0] == "F" and parts and not parts[-1][1].strip(b"^")
+            found = kept or ("CIRCUMFLEX" if is_last else None)
+    return None if found == "CIRCUMFLEX" and not eof else found
+
+
 def joined(parts):
     """The records of some parts; an unfinished one is left out."""
     records, begun = [], b""
