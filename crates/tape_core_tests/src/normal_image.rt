@@ -116,7 +116,7 @@ const IMAGES: [(&str, &str); 19] = [
     ("VHXmDmEmm.", "VHXmDmEmm."),
     ("VHmDmEmm.", "VHmDmEmm."),
     ("VHSmDmEmmDbm.", "VHSmDmEmm."),
-    ("vhsmDmbemhsm.", "VHSmDmbemhsm."),
+    ("vhsmDmbemhsm.", "VHSmDmbEmHSm."),
     ("bvhsm.", "bvhsm."),
     ("VHc", "VHc"),
     ("VLc", "V0"),

@@ -111,4 +111,4 @@ misfit_of fit entry = option_or fit.misfit (open_end entry.eof entry.blocks fit.
 
 -- the same block, with the number of its section
 abbrev pub misfit_in : ℕ → Option ℕ → Option Misfit
-misfit_in sect block = option_map (λ b. record { sect = sect; block = b }) block
+misfit_in sect found = option_map (λ b. record { sect = sect; block = b }) found
