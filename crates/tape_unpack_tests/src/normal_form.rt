@@ -148,5 +148,5 @@ const PADDED: &str = "
 
 #[test]
 fn padding_is_reported(rt: HostRuntime) -> Result<(), Fail> {
-    follow_in(&rt, "padded", PADDED)
+    follow_in(&rt, &Tape, "padded", PADDED)
 }
