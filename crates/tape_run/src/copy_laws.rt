@@ -24,8 +24,8 @@ use std::io::Read;
 
 /// A reel that is a copy of a volume of a valid set, or belongs to another set, is not suspect, at
 /// any position in a file of the set: its trailer label does not give another number of blocks, and
-/// nothing that is no label stands in place of the trailer label of blocks that it gave. The copy may
-/// be truncated, and any of its items unreadable.
+/// after the blocks that it delivered no block that is not a label replaces the trailer label. The
+/// copy may be truncated, and any of its items unreadable.
 pub fn no_copy_is_suspect()
     ensures { (set : FileSet) (h : MountEvent) (bytes left : List ℕ) (wide again : Bool)
         (core new : State) (answer : ReelAnswer)
@@ -51,7 +51,7 @@ pub fn no_copies_are_suspect()
 
 /// Each item of the data of the section needed, on such a reel, agrees with what was delivered
 /// before: blocks that a reading skips have the parts that were delivered of them, and the block at
-/// which it goes on begins with those that were delivered of it.
+/// which it continues begins with those that were delivered of it.
 pub fn each_item_agrees()
     ensures { (set : FileSet) (h : MountEvent) (items more : List TapeItem) (item : TapeItem)
         (wide : Bool) (core : State) (heading : Heading) (form : FileForm) (count : ℕ)
@@ -63,7 +63,7 @@ pub fn each_item_agrees()
         → Agrees set (behind_items wide (mount_of core) items) form count item }
 {}
 
-/// On any reel: a section that a reading ends is there, between two tape marks, with the blocks that
+/// On any reel: a section that a reading ends is on it, between two tape marks, with the blocks that
 /// were skipped because they were delivered before, and those that were delivered; and the trailer
 /// label that follows counts all of them.
 pub fn ended_sections_stand()

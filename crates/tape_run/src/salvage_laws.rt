@@ -16,7 +16,7 @@ use crate::extract::images::ImageSource;
 use std::io::{Read, Write};
 
 /// If the parts of a file are in order, and any of its blocks are missing, the recovered records
-/// are exactly those that lie entirely in blocks that were read.
+/// are exactly those of which each part is in a block that was read.
 #[tactic(auto, using(crate::proofs::SalvageWhole::gives_whole))]
 pub fn whole_records_are_recovered()
     ensures { RecoversWhole }
@@ -91,8 +91,8 @@ pub fn sections_make_a_file()
     ensures { RecoversBlocks }
 {}
 
-/// So the recovered records of a file are exactly those that lie entirely in blocks that were read.
-/// If nothing is missing, all parts of the file are recovered.
+/// So the recovered records of a file are exactly those of which each part is in a block that was
+/// read. If nothing is missing, all parts of the file are recovered.
 pub fn files_are_recovered()
     ensures { RecoversFile }
 {}

@@ -72,7 +72,7 @@ pub(crate) fn note_told(sections: &mut Sections, told: Option<Told>) -> Result<(
 }
 
 /// Adds the section that an item completes, and returns what is expected next. Memory for the entry
-/// of a section is reserved at its headers, so lack of memory is reported there.
+/// of a section is reserved at its headers, so it is reported there if there is no memory.
 pub(crate) fn take(sections: &mut Sections, phase: Phase, item: Item<'_>) -> Result<Phase, RunFault>
     requires { blocks_of phase < most_blocks }
     ensures fault { IsOkUnless result faults.OutOfMemory }

@@ -250,7 +250,7 @@ impl<S: PartSink> Session<S> {
     }
 
     /// Adds a checkpoint of the session's position to its list only, and stores nothing in the
-    /// sink: for a sink in which this state is already durable, such as one that was just opened.
+    /// sink: for a sink in which this state is already durable, such as one that was opened now.
     ///
     /// # Errors
     ///

@@ -42,11 +42,11 @@ pub struct SetFile {
     pub differs: bool,
     /// The numbers of two images with such labels or copies, if there are any.
     pub conflict: Option<(usize, usize)>,
-    /// The first section that is complete on no image or, if there is none, one that is not
-    /// readable: its second label is lost or not supported, or a block is not in its format.
+    /// The first section that is complete on no image or, if each is complete on one, one that is
+    /// not readable: its second label is lost or not supported, or a block is not in its format.
     pub lacks: Option<u16>,
     /// Whether it may be read in the wider reading ([`Session::widen`](crate::Session::widen)):
-    /// no section lacks its second header label, or no section has one, nor a second trailer
+    /// each section has its second header label, or no section has one, nor a second trailer
     /// label. Otherwise that label is lost, and the blocks are not records.
     pub wide: bool,
 }

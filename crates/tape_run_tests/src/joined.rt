@@ -186,8 +186,8 @@ pub fn joins(
     Ok(answer == Ok(complete) && report.as_slice() == lines.as_bytes() && written == Some(length))
 }
 
-/// A block that one copy lacks is taken from another one, if its number is certain and no blocks
-/// differ.
+/// A block that one copy does not have is taken from another, if its number is certain and no
+/// blocks differ.
 #[test]
 fn copies_complete_each_other(rt: HostRuntime) -> Result<(), Fail> {
     for (number, (images, complete, lines, length)) in ROWS.iter().enumerate() {

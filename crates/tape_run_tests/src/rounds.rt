@@ -1,4 +1,4 @@
-//! Tests of files recovered in several passes over the images.
+//! Tests of files for which the images are read several times.
 ghost use Rattle.std.specs.Prelude.{⊤, length};
 
 use crate::extract::shelf_of;

@@ -64,7 +64,7 @@ impl<R: Read> ImageSource<R> for Vec<Option<R>> {
 }
 
 /// Opens the images in their order by `opener`, once or, if they are read `again`, pass by pass
-/// until a pass was the last. `back` says whether the session rolls back after a suspect reel.
+/// until the last pass. `back` says whether the session rolls back after a suspect reel.
 pub fn read_rounds<S: PartSink, R: Read + Drop, L: ImageSource<R>, M: Opener<S, R, L>, P: Write>(
     session: &mut Session<S>,
     images: &mut L,

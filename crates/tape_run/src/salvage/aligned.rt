@@ -243,8 +243,8 @@ fn ask_all<R: Read>(
     Ok(held)
 }
 
-/// Compares the blocks of the copies. Adds to `fills` the runs of blocks that the first copy lacks,
-/// and that another one has.
+/// Compares the blocks of the copies. Adds to `fills` the runs of blocks that the first copy does
+/// not have, and that another one has.
 ///
 /// # Errors
 ///
@@ -282,7 +282,7 @@ pub fn compare<R: Read>(
     Ok(compared)
 }
 
-/// Returns the block with this number, which `base` lacks, and `source` has.
+/// Returns the block with this number, which `source` has, and `base` does not.
 fn fill_of<R: Read>(number: u32, base: &Aligned<'_, R>, source: &Aligned<'_, R>) -> Fill {
     Fill {
         sect: base.copy.section.key.sect,

@@ -13,7 +13,7 @@ pub struct Stretch {
     pub to: u64,
 }
 
-/// A run of blocks of a section that an image lacks, and that are taken from another one.
+/// A run of blocks of a section that an image does not have, and that are taken from another one.
 #[derive(Clone, Copy)]
 pub struct Fill {
     /// The section's number.
@@ -22,7 +22,7 @@ pub struct Fill {
     pub first: u32,
     /// The number of its last block.
     pub last: u32,
-    /// The blocks on the image that lacks them.
+    /// The blocks on the image that does not have them.
     pub gap: Stretch,
     /// The blocks on the image that has them.
     pub source: Stretch,

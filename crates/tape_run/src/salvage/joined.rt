@@ -84,7 +84,7 @@ impl<'f, R: Read> JoinedImage<'f, R> {
         Err(io::Error::from(ErrorKind::UnexpectedEof))
     }
 
-    /// Reads the next bytes. Returns 0 behind a run of blocks, and at the end of the image.
+    /// Reads the next bytes. Returns 0 after a run of blocks, and at the end of the image.
     fn give(&mut self, buf: &mut [u8]) -> io::Result<usize>
         ensures { IfOk result (λ count. count ≤ length buf.new) }
     {
@@ -125,7 +125,8 @@ impl<R: Read> Read for JoinedImage<'_, R> {
 pub struct JoinedImages<'a, L> {
     alloc: Global,
     images: &'a mut L,
-    /// The runs of blocks, in the order of the images that lack them, and of their places there.
+    /// The runs of blocks, in the order of the images that do not have them, and of their places
+    /// there.
     fills: &'a [Fill],
 }
 
@@ -139,7 +140,7 @@ impl<'a, L> JoinedImages<'a, L> {
         }
     }
 
-    /// Returns the runs of blocks that an image lacks.
+    /// Returns the runs of blocks that an image does not have.
     fn fills_of(&self, number: usize) -> &'a [Fill] {
         let fills = self.fills;
         let before = fills.iter().filter(|fill| fill.gap.image < number);

@@ -19,8 +19,8 @@ use tape_label::Field;
 /// How the copies of a file's sections complete each other.
 #[derive(Drop)]
 pub struct Joins {
-    /// The runs of blocks that are taken from other images, in the order of the images that lack
-    /// them, and of their places there.
+    /// The runs of blocks that are taken from other images, in the order of the images that do not
+    /// have them, and of their places there.
     pub fills: Vec<Fill>,
     /// The lines about them, and about copies that contradict each other.
     pub lines: Vec<u8>,

@@ -11,7 +11,7 @@ use indexmap::IndexMap;
 use tape_label::Head1;
 
 /// For each section the number of an image on which it begins: the first one on which it is
-/// complete or, if there is none, the last one.
+/// complete, or else the last one.
 pub type Locations = IndexMap<SectionKey, usize>;
 
 /// Records the image on which a section begins, unless a complete copy of that section was found
