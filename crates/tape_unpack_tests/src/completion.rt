@@ -1,4 +1,5 @@
-//! Tests of files that `unpack` recovers although labels of them are unreadable or lost.
+//! Tests of files that `unpack` recovers although labels of them are unreadable or lost, and of
+//! `salvage`.
 //!
 //! The items of the example image: 0 is VOL1, 1 HDR1, 2 HDR2, 3 a tape mark, 4 to 6 blocks, 7 a
 //! mark, 8 EOF1, 9 EOF2, 10 and 11 marks. The first mark ends at byte 268. The file has 25 records
@@ -237,4 +238,54 @@ const CONTRARY: &str = "
 #[test]
 fn contradictions_are_told(rt: HostRuntime) -> Result<(), Fail> {
     follow_in(&rt, &Tape, "contrary", CONTRARY)
+}
+
+const SALVAGED: &str = "
+    # If nothing is missing, the output is the complete file, and an existing file is never
+    # overwritten.
+    worked salvage1.tap
+    0: salvage ABC001 1 salvaged.txt salvage1.tap
+    length salvaged.txt 2025
+    missing salvaged.txt.part
+    put salvaged.old kept
+    file fault 1: salvage ABC001 1 salvaged.old salvage1.tap
+    has salvaged.old kept
+    0: salvage ABC001 1 salvaged.raw salvage1.tap --form raw
+    length salvaged.raw 2000
+    0: salvage ABC001 1 salvaged.blocks salvage1.tap --form blocks
+    length salvaged.blocks 2000
+    # The records of the readable blocks are recovered: the first ten, and the last ten.
+    damaged salvage2.tap 2
+    3: salvage ABC001 1 salvaged.two salvage2.tap
+    length salvaged.two 1620
+    at salvaged.two 1539 0025 \\20
+    # The other copy has all blocks of the section.
+    worked salvage3.tap
+    worked salvage6.tap
+    spoil salvage6.tap 5
+    0: salvage ABC001 1 salvaged.three salvage6.tap salvage3.tap
+    length salvaged.three 2025
+    # An image with another number of blocks, which its trailer label counts, is no copy.
+    3: salvage ABC001 1 salvaged.six salvage2.tap salvage3.tap
+    | CONFLICT 1 2 1
+    length salvaged.six 2025
+    # If a block is lost, everything in the other blocks is recovered.
+    lost salvage4.tap
+    3: salvage ABC001 1 salvaged.four salvage4.tap
+    length salvaged.four 1215
+    # Images that cannot be opened, and files that no image contains.
+    worked salvage5.tap
+    3: salvage ABC001 2 salvaged.none salvage5.tap
+    length salvaged.none 0
+    3: salvage ABC001 1 salvaged.lost lost.tap
+    file fault 2: salvage ABC001 1 missing/salvaged.txt salvage5.tap
+    2: salvage | salvage ABC001 1 salvaged.word
+    2: salvage ABC001 1 - x.tap => the report goes to standard output: write './-'
+    2: salvage ABC001 1 salvaged.word x.tap --form tap
+    missing salvaged.word
+";
+
+#[test]
+fn files_are_salvaged(rt: HostRuntime) -> Result<(), Fail> {
+    follow_in(&rt, &Tape, "salvaged_files", SALVAGED)
 }
