@@ -1,5 +1,6 @@
 //! Explanations of faults, printed after the line of the fault if `--explain` is specified.
 mod container;
+mod differing;
 mod files;
 mod missing;
 

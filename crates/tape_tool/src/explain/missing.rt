@@ -1,5 +1,6 @@
 //! What is missing when a command ends with exit status 3, and where to look for it.
 use super::container::name_unread;
+use super::differing::difference_text;
 use super::{FaultSite, NEVER};
 use crate::command_line::Order;
 use crate::images::Images;
@@ -35,6 +36,7 @@ fn text_by_images<R: Progress>(rt: &R, order: &Order<'_>, awaited: Option<Want>)
         Order::Extract(order) => &order.images,
         Order::Salvage(order) => &order.images,
         Order::Unpack(order) => &order.images,
+        Order::Merge(order) => &order.images,
         _ => return None,
     };
     if let Some(list) = named.list {
@@ -53,6 +55,12 @@ fn text_by_names<R: Progress>(
     awaited: Option<Want>,
     names: &[&str],
 ) -> Option<String> {
+    if let Order::Merge(_) = order {
+        return match are_files(rt.host(), names) {
+            true => difference_text(rt, names).ok()?,
+            false => None,
+        };
+    }
     let as_they_are = matches!(order, Order::Extract(order) if !order.task.again);
     name_unread(rt, names, as_they_are);
     if !are_files(rt.host(), names) {

@@ -1,5 +1,6 @@
 //! The fields of labels, by their names.
 
+use std::alloc::{AllocError, Global};
 use std::fmt;
 use std::io::Write;
 use tape_core::normal::to_ascii;
@@ -140,6 +141,56 @@ pub fn write_fields<W: Write>(
     Ok(())
 }
 
+/// Adds to `text` a line for each field in which two labels in the code `code` differ, by the names of
+/// the fields of the first.
+pub fn push_differences(
+    alloc: Global,
+    text: &mut String,
+    code: TextCode,
+    label: &[u8; SIZE],
+    other: &[u8; SIZE],
+) -> Result<(), AllocError> {
+    let [a, b, c, d, ..] = label;
+    let name = [a, b, c, d].map(|byte| in_code(code, *byte));
+    let (mut rest, mut others) = (label.as_slice(), other.as_slice());
+    for (name, width) in fields_of(name) {
+        let Some((value, behind)) = rest.split_at_checked(*width) else {
+            break;
+        };
+        let Some((other, after)) = others.split_at_checked(*width) else {
+            break;
+        };
+        if value != other {
+            let (value, other) = (Quoted { value, code }, Quoted { value: other, code });
+            let line = format!(in alloc; "\n    {name}: {value} and {other}")?;
+            text.push_str(line.as_str())?;
+        }
+        (rest, others) = (behind, after);
+    }
+    Ok(())
+}
+
+/// Characters in quotation marks.
+#[derive(Clone, Copy)]
+struct Quoted<'a> {
+    value: &'a [u8],
+    code: TextCode,
+}
+
+impl fmt::Display for Quoted<'_> {
+    fn fmt<W: fmt::Write>(&self, f: &mut fmt::Formatter<W>) -> fmt::Result {
+        f.write_str("\"")?;
+        for byte in self.value {
+            match shown_char(self.code, *byte) {
+                Some('\\') => f.write_str("\\\\")?,
+                Some(c) => f.write_char(c)?,
+                None => write!(f, "\\x{byte:02X}")?,
+            }
+        }
+        f.write_str("\"")
+    }
+}
+
 /// The line of a field: its positions in the label, counted from 1, its name and its characters. A
 /// date is followed by the day in the calendar.
 #[derive(Clone, Copy)]
@@ -161,15 +212,8 @@ impl fmt::Display for FieldLine<'_> {
             true => write!(f, "  {first:>2}-{last:<2}")?,
             false => write!(f, "  {first:>2}   ")?,
         }
-        write!(f, "  {:<23} \"", self.name)?;
-        for byte in self.value {
-            match shown_char(self.code, *byte) {
-                Some('\\') => f.write_str("\\\\")?,
-                Some(c) => f.write_char(c)?,
-                None => write!(f, "\\x{byte:02X}")?,
-            }
-        }
-        f.write_str("\"")?;
+        let FieldLine { value, code, .. } = *self;
+        write!(f, "  {:<23} {}", self.name, Quoted { value, code })?;
         if self.name == CREATED || self.name == EXPIRES {
             self.write_day(f)?;
         }
