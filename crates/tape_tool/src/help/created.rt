@@ -179,8 +179,8 @@ pub const AFTER_COMPARE: &str = "Examples:
 
 Reads the images side by side, as 'tape merge' does, and prints the same lines,
 but creates nothing. MERGED describes the image that they would make together,
-DIFFER the first item in which two of them differ. 'tape merge --help'
-explains the lines.
+DIFFER the first item in which two of them differ; of two images, --explain says
+how they differ. 'tape merge --help' explains the lines.
 
 An image without items, or with bad items only, agrees with every image. The
 IMAGE lines show how many items each has.
