@@ -218,6 +218,8 @@ enum Held {
 /// The result of comparing copies.
 #[derive(Clone, Copy)]
 pub struct Compared {
+    /// Whether others can complete the first copy: it is certain where its data begin.
+    pub is_base: bool,
     /// Whether the first copy is complete with the blocks of the others.
     pub completes: bool,
     /// The number of blocks of the first copy that one of them has.
@@ -255,6 +257,7 @@ pub fn compare<R: Read>(
     fills: &mut Vec<Fill>,
 ) -> Result<Compared, AllocError> {
     let mut compared = Compared {
+        is_base: false,
         completes: false,
         read: 0,
         differ: None,
@@ -264,6 +267,7 @@ pub fn compare<R: Read>(
         let Some(base) = copies.first().filter(|base| base.is_base()) else {
             break;
         };
+        compared.is_base = true;
         match held {
             Held::Differ(one, other) => {
                 compared.differ = Some((one, other));

@@ -8,8 +8,7 @@ use crate::fault::{EngineFault, NO_MEMORY};
 use crate::merge::candidate::Candidate;
 use crate::salvage::aligned::Aligned;
 use crate::salvage::copies::{SectionCopy, best_copy, last_section};
-use crate::salvage::joinable::joinable;
-use crate::salvage::joining::{compare_copies, find_again};
+use crate::salvage::joining::{compare_section, find_again};
 use crate::salvage::walk::OpenSection;
 use std::alloc::{AllocError, Global};
 use std::io::Read;
@@ -117,8 +116,7 @@ fn find_conflict<R: Read + Drop, L: ImageSource<R>>(
         let sect = before + 1;
         if let Some(best) = best_copy(copies, sect) {
             if !best.is_complete() {
-                let own = joinable(alloc, copies, sect)?;
-                let pair = conflict_of(alloc, own.as_slice(), images, &mut block)?;
+                let pair = conflict_of(alloc, copies, sect, images, &mut block)?;
                 conflict = pair.or(conflict);
             }
         }
@@ -126,17 +124,19 @@ fn find_conflict<R: Read + Drop, L: ImageSource<R>>(
     Ok(conflict)
 }
 
-/// Compares the copies of a section. Returns the numbers of two images that contradict each other.
+/// Compares the copies of section `sect`. Returns the numbers of two images that contradict each
+/// other.
 fn conflict_of<R: Read + Drop, L: ImageSource<R>>(
     alloc: Global,
     copies: &[SectionCopy],
+    sect: u16,
     images: &mut L,
     block: &mut Candidate,
 ) -> Result<Option<(usize, usize)>, AllocError> {
     let mut fills = Vec::new(alloc);
-    let compared = compare_copies(alloc, copies, images, block, &mut fills)?;
+    let (own, compared) = compare_section(alloc, copies, sect, images, block, &mut fills)?;
     match compared.differ {
-        Some((one, other)) => Ok(pair_of(copies, one, other)),
+        Some((one, other)) => Ok(pair_of(own.as_slice(), one, other)),
         None => Ok(None),
     }
 }

@@ -29,20 +29,20 @@ fn base_rank(copy: &SectionCopy) -> u64 {
     }
 }
 
-/// Returns the index of the first copy with the greatest `base_rank`.
-fn best_base(copies: &[SectionCopy]) -> usize {
-    let (mut base, mut rank) = (0, 0);
-    for (number, copy) in copies.iter().enumerate() {
-        if rank < base_rank(copy) {
-            (base, rank) = (number, base_rank(copy));
+/// Returns the first copy with the greatest `base_rank` that is on none of the images `passed`.
+fn best_base(copies: &[SectionCopy], passed: &[usize]) -> Option<SectionCopy> {
+    let (mut base, mut rank) = (None, 0);
+    for copy in copies {
+        if rank < base_rank(copy) && !passed.contains(&copy.image) {
+            (base, rank) = (Some(*copy), base_rank(copy));
         }
     }
     base
 }
 
 /// Returns the copies of section `sect` that may complete each other, with the one first that the
-/// others complete. Of each image only the first copy is considered, since that is the one that is
-/// read.
+/// others complete: none on the images `passed`. Of each image only the first copy is considered,
+/// since that is the one that is read.
 ///
 /// # Errors
 ///
@@ -51,6 +51,7 @@ pub fn joinable(
     alloc: Global,
     copies: &[SectionCopy],
     sect: u16,
+    passed: &[usize],
 ) -> Result<Vec<SectionCopy>, AllocError> {
     let mut found = Vec::new(alloc);
     let mut last = None;
@@ -62,12 +63,11 @@ pub fn joinable(
             }
         }
     }
-    let base = best_base(found.as_slice());
     let mut joined = Vec::new(alloc);
-    if let Some(base) = found.get(base) {
-        joined.push(*base)?;
+    if let Some(base) = best_base(found.as_slice(), passed) {
+        joined.push(base)?;
         for copy in found.as_slice() {
-            if copy.image != base.image && are_alike(base, copy) {
+            if copy.image != base.image && are_alike(&base, copy) {
                 joined.push(*copy)?;
             }
         }

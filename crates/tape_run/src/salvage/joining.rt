@@ -86,8 +86,7 @@ fn joins_of<R: Read + Drop, L: ImageSource<R>>(
         let sect = before + 1;
         if let Some(best) = best_copy(copies, sect) {
             if is_wanting(&best) {
-                let own = joinable(alloc, copies, sect)?;
-                join_section(alloc, own.as_slice(), &best, images, &mut block, &mut joins)?;
+                join_section(alloc, copies, &best, images, &mut block, &mut joins)?;
             }
         }
     }
@@ -97,8 +96,8 @@ fn joins_of<R: Read + Drop, L: ImageSource<R>>(
     Ok(joins)
 }
 
-/// Finds the blocks that complete the first of the copies of a section, or with which it has more
-/// than the best one. If two of the copies contradict each other, none completes another.
+/// Finds the blocks that complete a copy of the section of `best`, or with which it has more than
+/// that one. If two of the copies contradict each other, none completes another.
 fn join_section<R: Read + Drop, L: ImageSource<R>>(
     alloc: Global,
     copies: &[SectionCopy],
@@ -107,15 +106,17 @@ fn join_section<R: Read + Drop, L: ImageSource<R>>(
     block: &mut Candidate,
     joins: &mut Joins,
 ) -> Result<(), AllocError> {
+    let sect = best.section.key.sect;
     let mut fills = Vec::new(alloc);
-    let compared = compare_copies(alloc, copies, images, block, &mut fills)?;
+    let (joined, compared) = compare_section(alloc, copies, sect, images, block, &mut fills)?;
+    let own = joined.as_slice();
     if let Some((one, other)) = compared.differ {
         // What closes otherwise than the best copy is reported with the other conflicts.
-        let is_best = copies.first().is_some_and(|base| base.image == best.image);
-        if is_best && contrary(copies).is_some() {
+        let is_best = own.first().is_some_and(|base| base.image == best.image);
+        if is_best && contrary(own).is_some() {
             return Ok(());
         }
-        return push_contrary(alloc, copies, one, other, &mut joins.lines);
+        return push_contrary(alloc, own, one, other, &mut joins.lines);
     }
     if compared.completes || u64::from(compared.read) > best.rank() {
         push_fills(alloc, fills.as_slice(), &mut joins.lines)?;
@@ -124,9 +125,37 @@ fn join_section<R: Read + Drop, L: ImageSource<R>>(
     Ok(())
 }
 
+/// Compares the copies of section `sect` that may complete each other. Returns them, the one first
+/// that the others complete, and the result. If they cannot complete one, since it does not close
+/// and its data may begin elsewhere, they are compared again to complete the next.
+pub fn compare_section<R: Read + Drop, L: ImageSource<R>>(
+    alloc: Global,
+    copies: &[SectionCopy],
+    sect: u16,
+    images: &mut L,
+    block: &mut Candidate,
+    fills: &mut Vec<Fill>,
+) -> Result<(Vec<SectionCopy>, Compared), AllocError> {
+    let mut passed = Vec::new(alloc);
+    let mut own = joinable(alloc, copies, sect, passed.as_slice())?;
+    let mut compared = compare_copies(alloc, own.as_slice(), images, block, fills)?;
+    for _ in copies {
+        if compared.is_base {
+            break;
+        }
+        let Some(base) = own.first() else {
+            break;
+        };
+        passed.push(base.image)?;
+        own = joinable(alloc, copies, sect, passed.as_slice())?;
+        compared = compare_copies(alloc, own.as_slice(), images, block, fills)?;
+    }
+    Ok((own, compared))
+}
+
 /// Compares the copies of a section, each read from its image. Adds to `fills` the blocks that
 /// complete the first. What cannot be opened again completes nothing.
-pub fn compare_copies<R: Read + Drop, L: ImageSource<R>>(
+fn compare_copies<R: Read + Drop, L: ImageSource<R>>(
     alloc: Global,
     copies: &[SectionCopy],
     images: &mut L,
@@ -134,6 +163,7 @@ pub fn compare_copies<R: Read + Drop, L: ImageSource<R>>(
     fills: &mut Vec<Fill>,
 ) -> Result<Compared, AllocError> {
     let compared = Compared {
+        is_base: true,
         completes: false,
         read: 0,
         differ: contrary(copies).map(|number| (0, number)),
