@@ -47,6 +47,9 @@ const CUT_NO_HDR2: Items = &[HDR1, "?", "|", "aaaaa", "bbbbb"];
 
 const CUT_NO_FIRST: Items = &[HDR1, "?", "|", "?", "bbbbb"];
 
+/// The image is truncated after block 0, which is unreadable.
+const CUT_AT_1: Items = &[HDR1, FIVE, "|", "?"];
+
 /// HDR2 and block 2 are unreadable.
 const NO_HDR2: Items = &[
     HDR1, "?", "|", "aaaaa", "bbbbb", "?", "|", EOF_THREE, END_FIVE, "|",
@@ -136,6 +139,19 @@ const ROWS: &[(&[Items], bool, &str, usize)] = &[
         false,
         "SECTION 1 2 3\nGAP 1 1 1 1\nSALVAGED 2\n",
         12,
+    ),
+    // Such a copy has block 0 of a shorter one, but is not completed itself.
+    (
+        &[CUT_NO_HDR2, CUT_AT_1],
+        false,
+        "FILLED 1 1 0 0\nSECTION 1 2 1\nGAP 1 1 - 1\nSALVAGED 1\n",
+        6,
+    ),
+    (
+        &[CUT_AT_1, CUT_NO_HDR2],
+        false,
+        "FILLED 1 2 0 0\nSECTION 1 1 1\nGAP 1 1 - 1\nSALVAGED 1\n",
+        6,
     ),
     // A trailer label that counts the items makes them certain.
     (
