@@ -294,7 +294,11 @@ def unnamed_at(items, first, image):
 def joinable(copies):
     """The copies of a section that may complete each other, with the one first that the others complete."""
     numbered = [it for it in copies if it.possible() and it.miscount() is None and it.is_named()]
-    base = max(numbered, key=lambda it: (bool(it.closing), it.rank() if it.closing else it.possible(), -it.image), default=None)
+    # A copy that only completes others is not the one that they complete, even if it has the most data items.
+    bases = [it for it in numbered if it.is_base()]
+    if not bases:
+        return []
+    base = max(bases, key=lambda it: (bool(it.closing), it.rank() if it.closing else it.possible(), -it.image))
     alike = [it for it in numbered if it is not base and it.recording() == base.recording()
         and (None in (it.form, base.form) or it.form == base.form)]
     return [base, *alike] if alike else []
