@@ -39,7 +39,7 @@ pub struct DoubtfulCopy {
 
 /// Finds what the copies of a file's sections on the images say against each other.
 ///
-/// Each image is read once, and once more for each section of it that is compared. Allocates
+/// Each image is read once, and again for each section of it that is compared. Allocates
 /// 100,000 bytes for each image that is read then, and for a block.
 ///
 /// # Errors

@@ -29,7 +29,7 @@ pub struct Joins {
 /// Finds the blocks that complete the copies of a file's sections. If copies of a section
 /// contradict each other, none completes another.
 ///
-/// Each image is read once, and once more for each section that it may complete. Allocates 100,000
+/// Each image is read once, and again for each section that it may complete. Allocates 100,000
 /// bytes for each image that is read then, and for a block.
 ///
 /// # Errors
