@@ -117,7 +117,11 @@ fn item_text(
         push_differences(alloc, &mut text, code, label, other)?;
         return Ok(text);
     }
-    let mut differing = one.iter().zip(other).enumerate().filter(|(_, (x, y))| x != y);
+    let mut differing = one
+        .iter()
+        .zip(other)
+        .enumerate()
+        .filter(|(_, (x, y))| x != y);
     match differing.next() {
         Some((at, (x, y))) if one.len() == other.len() => {
             let (at, count) = (at.saturating_add(1), differing.count().saturating_add(1));
