@@ -42,6 +42,22 @@ def one_by_one(lines):
     return made
 
 
+def is_in_form(section):
+    """Whether the blocks of a section are in the format of its HDR2, if it is GOOD. In a later
+    section of a file, a record may be unfinished before the first block."""
+    shape = model.ABSENT if section["shape"] is None else section["shape"]
+    if section["state"] != "GOOD" or not isinstance(shape, tuple):
+        return True
+    begun = {False} if section["section"] == 1 else {False, True}
+    for block in section["blocks"]:
+        inside, ends = model.content(shape, block), set()
+        for each in begun:
+            parts, fault, _ = model.parts_of(shape, inside, each)
+            ends |= set() if fault else {model.begins_record(parts[-1][0]) if parts else each}
+        begun = ends
+    return bool(begun) and not (section["eof"] and begun == {True})
+
+
 class Survey:
     """The files on some images, each in normal form."""
 
@@ -145,9 +161,19 @@ class Survey:
         others = range(len(self.volumes)) if strangers else self.of_set[set_id]
         return [*(order | dict.fromkeys(others))]
 
+    def is_readable(self, set_id, file):
+        """Whether the HDR2 of a file is not lost on each image, and each GOOD copy of its sections
+        is in the format of its HDR2. An unsupported HDR2 counts only if no other one was read."""
+        found = self.found[set_id, file]
+        shapes = [each["shape"] for each in found]
+        is_known = any(each is None or isinstance(each, tuple) for each in shapes)
+        is_found = any(shapes) or not self.is_lost(set_id, file)
+        return is_known and is_found and all(map(is_in_form, found))
+
     def reader(self, set_id, file):
         """A reader of a file. If the file is not complete, its reader is wary."""
-        is_wide, is_wary = self.is_wide(set_id, file), not self.is_complete(set_id, file)
+        is_whole = self.is_complete(set_id, file) and self.is_readable(set_id, file)
+        is_wide, is_wary = self.is_wide(set_id, file), not is_whole
         return Reader(set_id, file, is_wide, is_wary)
 
     def again(self, set_id, file, strangers):
