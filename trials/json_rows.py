@@ -4,7 +4,8 @@
     ./json_rows.py [--program PATH] [--images N] [--damaged N] [--seed N]
 
 Writes N images whose names and identifiers contain quotation marks, backslashes, control characters, DEL, invisible
-characters, and characters of one to four bytes, and copies of some of them, which agree or differ. Each line that
+characters, and characters of one to four bytes, and copies of some of them, which agree or differ. Some have padding after
+their record, which rows PADDED must name. Each line that
 `survey --json`, `list --json` and `compare --json` print must be an object of the keys of docs/JSON.md, in their
 order. Its values must be the cells of the same row of `survey --tsv`, `list --offsets` and `compare`, and the names
 and identifiers those that were written. So must those of N damaged copies of the worked image, except for the
@@ -70,14 +71,24 @@ class Reel:
         self.set = b"%04d" % number + odd_bytes(chance, 2)
         self.file, self.system = (odd_bytes(chance, n) for n in (17, 13))
         self.block = chance.randbytes(chance.randint(1, 99)) or b"x"
+        padding = chance.choice([b"", b"", b"\0", b" "]) * chance.randint(1, 9)
+        self.padding = padding[:len(self.block) - 1]
+
+    @property
+    def padded(self):
+        """The padding that a row PADDED says: none where the only record may be padding too."""
+        if self.padding:
+            return {0: "NUL", 32: "SPACE"}[self.padding[0]] if self.block.strip(self.padding[:1]) else None
+        return None if self.block.strip(b"^") else "CIRCUMFLEX"
 
     def image(self, block_of=None):
         data = block_of or self.block
         head = lambda kind, count: label(kind, self.file, self.set, b"00010001000100 00000 00000 ", b"%06d" % count,
                                          self.system, b" " * 7)
-        second = lambda kind: label(kind, b"F%05d%05d" % (len(data), len(data)), b" " * 35, b"00", b" " * 28)
+        lengths = len(data + self.padding), len(data)
+        second = lambda kind: label(kind, b"F%05d%05d" % lengths, b" " * 35, b"00", b" " * 28)
         return (label(b"VOL1", self.volume, b" " * 27, self.owner, b" " * 28, b"4") + head(b"HDR1", 0) + second(b"HDR2")
-                + mark() + block(data) + mark() + head(b"EOF1", 1) + second(b"EOF2") + mark() + mark() + END)
+                + mark() + block(data + self.padding) + mark() + head(b"EOF1", 1) + second(b"EOF2") + mark() + mark() + END)
 
 
 def odd_bytes(chance, width):
@@ -181,7 +192,7 @@ class Trial(Results):
         self.read_by_csv(lines)
         for row, line in zip(rows, lines):
             word, *cells = line.split("\t")
-            self.same(row, ["row", *keys[word]], [word, *cells], line)
+            self.same(row, ["row", *keys.get(word, [])], [word, *cells], line)
         images = [row for row in rows if row["row"] == "IMAGE"]
         self.expect([row["name"] for row in images] == names, "the names of images are others")
         for row, reel in zip(images, shelf.values()):
@@ -191,6 +202,9 @@ class Trial(Results):
         files = {row["set"]: row["identifier"] or "" for row in rows if row["row"] == "FILE"}
         for reel in shelf.values():
             self.expect(files.get(shown(reel.set)) == shown(reel.file), f"{reel.file}: {files.get(shown(reel.set))}")
+        have = {(row["set"], row["file"], row["padding"]) for row in rows if row["row"] == "PADDED"}
+        want = {(shown(reel.set), 1, reel.padded) for reel in shelf.values() if reel.padded}
+        self.expect(have == want, f"padding of {have ^ want}")
         for row in rows:
             if row["row"] == "COPIES":
                 self.expect({row["name"], row["other"]} <= {*names, None}, f"{row}: not a name")
