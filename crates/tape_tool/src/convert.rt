@@ -143,7 +143,7 @@ fn copy_image<'a, R: Progress, W: Write>(
 ) -> Result<(), ToolFault> {
     *site = order
         .image
-        .map_or(FaultSite::Stdin, |path| FaultSite::Image(path));
+        .map_or(FaultSite::Stdin, |path| FaultSite::Converted(path));
     let names = [order.image.unwrap_or("-")];
     let images = &mut Images::new(rt, &names);
     images.input = order.image.is_none().then_some(0);

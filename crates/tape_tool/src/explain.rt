@@ -38,6 +38,8 @@ pub enum FaultSite<'a> {
     Stdin,
     /// The image at a path.
     Image(&'a str),
+    /// The image at a path that `convert` reads.
+    Converted(&'a str),
     /// The image of a volume, by its directory and number.
     Volume(&'a str, Prefix, u16),
     /// The input of `write` that this argument names.
@@ -97,7 +99,7 @@ impl<'a> FaultSite<'a> {
             FaultSite::Unknown => ("", "", FILE_OF_IMAGES),
             FaultSite::Lines => ("Output", "standard output", FILE_OF_LINES),
             FaultSite::Stdin => ("Image", "standard input", FILE_OF_IMAGE),
-            FaultSite::Image(path) => ("Image", path, FILE_OF_IMAGE),
+            FaultSite::Image(path) | FaultSite::Converted(path) => ("Image", path, FILE_OF_IMAGE),
             FaultSite::Listed(_) => ("Image", "", FILE_OF_IMAGE),
             FaultSite::Conflict(_, _) => ("Image", "", FILE_OF_IMAGES),
             FaultSite::Volume(_, _, _) => ("Image", "", FILE_OF_VOLUME),
@@ -200,9 +202,10 @@ fn reason_of<R: Runtime>(rt: &R, fault: ToolFault, site: FaultSite<'_>) -> Optio
         _ => return None,
     }
     match site {
-        FaultSite::Image(path) | FaultSite::List(Some(path)) | FaultSite::Stage(path) => {
-            unread(rt, path)
-        }
+        FaultSite::Image(path)
+        | FaultSite::Converted(path)
+        | FaultSite::List(Some(path))
+        | FaultSite::Stage(path) => unread(rt, path),
         FaultSite::Input(word) => unread(rt, split(word).1),
         FaultSite::Out(path)
         | FaultSite::New(path)

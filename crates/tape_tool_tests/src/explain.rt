@@ -267,6 +267,11 @@ const MISSING: &str = "
     3: stage ABC001.1.PAYROLL.stage --explain
     !   The stage has only a part of the file, or is damaged. After AWAITS, 'tape
     !   extract --stage' continues from it; after TRUNCATED AT, start a new stage.
+    put missing.tap \\01\\02\\03\\04\\02\\00\\00\\00ab\\02\\00\\00\\00
+    3: convert --resync found.tap missing.tap --explain
+    !   reading broke off at byte 0 and continued at byte 4
+    !   The bytes between the two places are lost: one unreadable item replaces them.
+    !   With other images of the same tape, 'tape merge' may restore its blocks.
     3: compare missing1.tap missing2.tap missing1.tap --explain
     !   The images differ (after DIFFER, 'tape show IMAGE N' shows the item), or the
     !   image that they form has unreadable items, wrong block counts (COUNT) or no

@@ -320,8 +320,10 @@ fn general_text(order: &Order<'_>) -> &'static str {
             "The images differ (after DIFFER, 'tape show IMAGE N' shows the item), or the
   image that they form has unreadable items, wrong block counts (COUNT) or no
   end (CUT): the lines say which.",
+        Order::Convert(_) =>
+            "The bytes between the two places are lost: one unreadable item replaces them.
+  With other images of the same tape, 'tape merge' may restore its blocks.",
         // They do not end so.
-        Order::List(_) | Order::Show(_) | Order::Init(_) | Order::Write(_) | Order::Convert(_) =>
-            NEVER,
+        Order::List(_) | Order::Show(_) | Order::Init(_) | Order::Write(_) => NEVER,
     }
 }
