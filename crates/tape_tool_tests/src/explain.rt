@@ -291,28 +291,29 @@ const DIFFERING: &str = "
     omit lost.tap 5
     3: compare whole.tap lost.tap --explain
     !   The blocks of item 6 have 800 and 400 bytes.
-    !   The second image has all later items of the first, one item earlier: it may
-    !   have lost this item, or the first image has an item twice.
+    !   From here on the second image agrees with the first one item later: it may have
+    !   lost this item, or the first image has an item twice.
     !   'tape show IMAGE 6' shows this item.
     3: merge merged.tap lost.tap whole.tap --explain
     !   The blocks of item 6 have 400 and 800 bytes.
-    !   The first image has all later items of the second, one item earlier: it may
-    !   have lost an item, or the second image has this item twice.
+    !   From here on the first image agrees with the second one item later: it may have
+    !   lost an item, or the second image has this item twice.
     !   'tape show IMAGE 6' shows this item.
     missing merged.tap
     # An unreadable item may be any other.
     spoil lost.tap 7
     3: compare whole.tap lost.tap --explain
     !   The blocks of item 6 have 800 and 400 bytes.
-    !   The second image has all later items of the first, one item earlier: it may
-    !   have lost this item, or the first image has an item twice.
+    !   From here on the second image agrees with the first one item later: it may have
+    !   lost this item, or the first image has an item twice.
     !   'tape show IMAGE 6' shows this item.
-    # A tape mark instead of a block, and an image that ends.
+    # The second image has a tape mark instead of the last block, which it lost too.
     omit whole.tap 6
     omit whole.tap 5
     3: compare lost.tap whole.tap --explain
-    !   One image has another kind of item 6, or ends there.
-    !   Later items differ too, even if one of the images lost an item here.
+    !   Item 6 is of another kind in each image.
+    !   From here on the second image agrees with the first one item later: it may have
+    !   lost this item, or the first image has an item twice.
     !   'tape show IMAGE 6' shows this item.
     folder one
     folder other
@@ -323,11 +324,13 @@ const DIFFERING: &str = "
     3: compare one/DEF001.tap other/DEF001.tap --explain
     !   Bytes of item 6 that differ: 2 of 18. The first is byte 10,
     !   in hexadecimal 42 and 58.
-    !   All later items agree.
+    !   All later items that both images have agree.
     !   'tape show IMAGE 6' shows this item.
-    # Nothing differs, but an item is unreadable in both.
-    spoil one/DEF001.tap 5
-    3: compare one/DEF001.tap one/DEF001.tap --explain
+    # No item differs: one image ends early, and an item of the other is unreadable.
+    front early.tap 176
+    worked spoiled.tap
+    spoil spoiled.tap 2
+    3: compare early.tap spoiled.tap --explain
     !   The images differ (after DIFFER, 'tape show IMAGE N' shows the item), or the
     !   image that they form has unreadable items, wrong block counts (COUNT) or no
     !   end (CUT): the lines say which.

@@ -32,11 +32,11 @@ impl Kept {
         }
     }
 
-    /// Returns whether two items may be readings of one: an unreadable item may be any other.
+    /// Returns whether two items may be readings of one: an unreadable item may be any other, and
+    /// an image that ends may have ended too early.
     fn agrees(self, other: Kept) -> bool {
         match (self, other) {
-            (Kept::End, _) | (_, Kept::End) => self == other,
-            (Kept::Bad, _) | (_, Kept::Bad) => true,
+            (Kept::End | Kept::Bad, _) | (_, Kept::End | Kept::Bad) => true,
             _ => self == other,
         }
     }
@@ -86,7 +86,7 @@ fn first_difference<R: Read>(
             )?;
             return Ok(Some(shown));
         }
-        if kept.0 == Kept::End {
+        if kept.0 == Kept::End || kept.1 == Kept::End {
             break;
         }
     }
@@ -106,7 +106,7 @@ fn item_text(
     second: Option<Item<'_>>,
 ) -> Result<String, AllocError> {
     let (Some(Item::Block(one)), Some(Item::Block(other))) = (first, second) else {
-        return format!(in alloc; "One image has another kind of item {number}, or ends there.");
+        return format!(in alloc; "Item {number} is of another kind in each image.");
     };
     if let Some(label) = label_of(one)
         && let Some(other) = label_of(other)
@@ -145,9 +145,6 @@ fn rest_text<R: Read>(
     other: &mut ImageReader<'_, R>,
     kept: (Kept, Kept),
 ) -> &'static str {
-    if kept.0 == Kept::End || kept.1 == Kept::End {
-        return "Until then they agree.";
-    }
     let mut before = kept;
     let (mut same, mut lost, mut added) = (true, true, true);
     for _ in 0..u64::MAX {
@@ -161,13 +158,13 @@ fn rest_text<R: Read>(
         before = (first, second);
     }
     if same {
-        "All later items agree."
+        "All later items that both images have agree."
     } else if lost {
-        "The second image has all later items of the first, one item earlier: it may
-  have lost this item, or the first image has an item twice."
+        "From here on the second image agrees with the first one item later: it may have
+  lost this item, or the first image has an item twice."
     } else if added {
-        "The first image has all later items of the second, one item earlier: it may
-  have lost an item, or the second image has this item twice."
+        "From here on the first image agrees with the second one item later: it may have
+  lost an item, or the second image has this item twice."
     } else {
         "Later items differ too, even if one of the images lost an item here."
     }
