@@ -82,6 +82,17 @@ const ITEMS: &str = "
     |    5-10  volume identifier       \"E00001\"
     |   11     accessibility           \"\\x00\"
     |   80     label standard version  \" \"
+    # A label with padding, and one that is followed by other bytes.
+    put show_p.tap T\\00\\00\\00VOL1P00001...................................\
+        ...................................\\00\\00\\00\\00T\\00\\00\\00\
+        R\\00\\00\\00VOL1P00001...................................\
+        ...................................\\00\\01R\\00\\00\\00
+    0: show show_p.tap 1 2
+    | Item 1: label, 84 bytes at 4
+    |    1-4   label identifier        \"VOL1\"
+    |   81-84  padding                 \"\\x00\\x00\\x00\\x00\"
+    | Item 2: block, 82 bytes at 96
+    |   00000050  00 01                                            ..
     # Items up to the end, and none.
     $ show show_two.tap 3 9
     > Item 3: block, 4 bytes at 18

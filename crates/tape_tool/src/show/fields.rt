@@ -113,12 +113,14 @@ pub fn code_of(block: &[u8; SIZE]) -> Option<TextCode> {
     None
 }
 
-/// Writes a line for each field of a label, with all of its characters. A byte that is not a
-/// printable character of ASCII in the code `code` is shown in hexadecimal, after `\x`.
+/// Writes a line for each field of a label, and one for the padding after it, with all of its
+/// characters. A byte that is not a printable character of ASCII in the code `code` is shown in
+/// hexadecimal, after `\x`.
 pub fn write_fields<W: Write>(
     writer: &mut W,
     code: TextCode,
     label: &[u8; SIZE],
+    padding: &[u8],
 ) -> Result<(), WriteFailed> {
     let [a, b, c, d, ..] = label;
     let name = [a, b, c, d].map(|byte| in_code(code, *byte));
@@ -138,7 +140,18 @@ pub fn write_fields<W: Write>(
         )?;
         (first, rest) = (first.saturating_add(*width), behind);
     }
-    Ok(())
+    if padding.is_empty() {
+        return Ok(());
+    }
+    write_line(
+        writer,
+        &FieldLine {
+            first,
+            name: "padding",
+            value: padding,
+            code,
+        },
+    )
 }
 
 /// Adds to `text` a line for each field in which two labels in the code `code` differ, by the names of

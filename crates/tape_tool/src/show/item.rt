@@ -71,10 +71,15 @@ pub fn show_item<F: Read + Seek, W: Write>(
         return show_bytes(file, length, None, writer);
     }
     let bytes = (sort != Sort::Mark).then_some((place, length));
-    if sort == Sort::Block && length == SIZE as u64 {
-        let mut label = [0; SIZE];
+    let padded = length.checked_sub(SIZE as u64);
+    if let (Sort::Block, Some(count @ 0..=MOST_PADDING)) = (sort, padded) {
+        let (mut label, mut padding) = ([0; SIZE], [0; MOST_PADDING as usize]);
         read(file, &mut label)?;
-        if let Some(code) = code_of(&label) {
+        read(file, &mut padding[..count as usize])?;
+        let padding = &padding[..count as usize];
+        if let Some(code) = code_of(&label)
+            && is_padding(padding)
+        {
             let name = match code {
                 TextCode::Ascii => "label",
                 TextCode::Ebcdic => "label in EBCDIC",
@@ -87,7 +92,7 @@ pub fn show_item<F: Read + Seek, W: Write>(
                     bytes,
                 },
             )?;
-            return Ok(write_fields(writer, code, &label)?);
+            return Ok(write_fields(writer, code, &label, padding)?);
         }
         seek(file, place)?;
     }
@@ -101,6 +106,17 @@ pub fn show_item<F: Read + Seek, W: Write>(
         },
     )?;
     show_bytes(file, length, Some(look.code), writer)
+}
+
+/// The maximum number of bytes after a label in one block.
+const MOST_PADDING: u64 = 40;
+
+/// Returns whether bytes after a label are padding: all are the same.
+fn is_padding(bytes: &[u8]) -> bool {
+    match bytes {
+        [first, rest @ ..] => rest.iter().all(|byte| byte == first),
+        [] => true,
+    }
 }
 
 /// Returns what the heading of an item calls it.
