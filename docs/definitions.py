@@ -96,7 +96,7 @@ READ = [
         "Table": Main(["Outcome", "step_of", "restart_of"]),
         "Labels": Main([]), "Parts": Main(["parts_in", "other_front"]),
         "Stands": ["weight_of"], "Weight": ["IsFront"], "Place": Names(["rest_of"])}),
-    ("For any tape: where the table leads over reels and steps", "tape_run", {
+    ("For any tape: what the table delivers from a list of reels", "tape_run", {
         "Reels": Names(["behind_items"]), "ByTable": Main(["parts_at", "IsLed"]),
         "Lead": Main(["Lead", "lead", "LeadsBy", "StopsBy"])}),
 ]

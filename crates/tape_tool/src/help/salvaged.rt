@@ -77,8 +77,8 @@ pub const AFTER_STAGE: &str =
   AWAITS 1 1 2
 
 OUT receives the records recovered so far, from the start of the file and
-without gaps. An incomplete last record is left out. The same files are refused
-as OUT as by 'extract'.
+without gaps. An incomplete last record is left out. A file that 'extract'
+refuses as OUT is refused here too.
 
 'tape: stage fault 2' means that the stage is damaged. With --damaged, tape uses
 the part before the damage:
