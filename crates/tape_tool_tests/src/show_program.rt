@@ -92,7 +92,7 @@ const ITEMS: &str = "
     |    1-4   label identifier        \"VOL1\"
     |   81-84  padding                 \"\\x00\\x00\\x00\\x00\"
     | Item 2: block, 82 bytes at 96
-    |   00000050  00 01                                            ..
+    |   00000080  00 01                                            ..
     # Items up to the end, and none.
     $ show show_two.tap 3 9
     > Item 3: block, 4 bytes at 18
