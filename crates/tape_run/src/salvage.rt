@@ -19,6 +19,7 @@ mod image;
 mod joinable;
 pub(crate) mod joined;
 mod joining;
+mod labels;
 mod mender;
 mod outside;
 mod recovery;

@@ -4,6 +4,7 @@ use crate::merge::candidate::Candidate;
 use crate::salvage::copies::SectionCopy;
 use crate::salvage::fill::{Fill, Stretch, add_fill};
 use crate::salvage::image::number_in;
+use crate::salvage::labels::{is_label, is_other_trailer, is_trailer};
 use crate::salvage::walk::{Expected, step};
 use std::alloc::AllocError;
 use std::io::Read;
@@ -21,6 +22,10 @@ enum Answer {
     Differs,
     /// No item of the copy is certain to be this block.
     Unsure,
+    /// The section ended before this block, at a tape mark.
+    Ended,
+    /// The section ended at a tape mark with the trailer label of another section.
+    EndedByOther,
 }
 
 /// A copy of a section, of which the blocks up to some number have been read.
@@ -37,6 +42,8 @@ pub struct Aligned<'r, R: Read> {
     is_unsure: bool,
     /// Whether the numbers of its further items are not certain.
     is_over: bool,
+    /// Whether its data ended with a tape mark.
+    is_ended: bool,
 }
 
 /// Returns whether an item after HDR1 is neither a further header label nor a tape mark.
@@ -48,29 +55,11 @@ fn is_other(item: Item<'_>) -> bool {
     }
 }
 
-/// Returns whether a block reads as a trailer label, in ASCII or EBCDIC.
-fn is_trailer(block: &[u8]) -> bool {
-    match kind(block) {
-        Some(Kind::Eof1 | Kind::Eof2 | Kind::Eov1 | Kind::Eov2) => true,
-        Some(_) => false,
-        None => {
-            block.len() == 80
-                && matches!(
-                    &block[..4],
-                    b"\xC5\xD6\xC6\xF1"
-                        | b"\xC5\xD6\xC6\xF2"
-                        | b"\xC5\xD6\xE5\xF1"
-                        | b"\xC5\xD6\xE5\xF2"
-                )
-        }
-    }
-}
-
 /// Returns whether a data item ends those with certain numbers: a mark, a label in a section that
 /// does not close, or an unreadable item if it is unsure that the data begin there.
 fn ends(item: Item<'_>, is_open: bool, is_unsure: bool) -> bool {
     match item {
-        Item::Block(block) => is_open && (kind(block).is_some() || is_trailer(block)),
+        Item::Block(block) => is_open && is_label(block),
         Item::Bad => is_unsure,
         Item::Mark => true,
     }
@@ -87,6 +76,7 @@ impl<'r, R: Read> Aligned<'r, R> {
             is_doubted: false,
             is_unsure: false,
             is_over: false,
+            is_ended: false,
         }
     }
 
@@ -125,7 +115,8 @@ impl<'r, R: Read> Aligned<'r, R> {
     }
 
     /// Returns whether labels may be among the data of a section that does not close: it is not
-    /// certain where they begin, or one of the blocks reads as a trailer label. Reads the data.
+    /// certain where they begin, one of the blocks reads as a trailer label, or the trailer label
+    /// of another section follows. Reads the data.
     pub fn may_have_labels(&mut self) -> bool {
         if self.is_over {
             return true;
@@ -138,6 +129,7 @@ impl<'r, R: Read> Aligned<'r, R> {
                     }
                 }
                 Ok(Some(Item::Bad)) => {}
+                Ok(Some(Item::Mark)) => return is_other_trailer(self.image.next()),
                 _ => return false,
             }
         }
@@ -151,6 +143,9 @@ impl<'r, R: Read> Aligned<'r, R> {
 
     /// Reads the next block, and compares it with the one of the copies before.
     fn ask(&mut self, best: &mut Candidate) -> Result<Answer, AllocError> {
+        if self.is_ended {
+            return Ok(Answer::Ended);
+        }
         if self.is_over || !self.is_at_data() {
             self.is_over = true;
             return Ok(Answer::Unsure);
@@ -164,9 +159,17 @@ impl<'r, R: Read> Aligned<'r, R> {
             }
         };
         self.expected = step(self.expected, item).0;
-        if ends(item, self.copy.closed.is_none(), self.is_unsure) {
+        let is_open = self.copy.closed.is_none();
+        if ends(item, is_open, self.is_unsure) {
             self.is_over = true;
-            return Ok(Answer::Unsure);
+            self.is_ended = item == Item::Mark;
+            return Ok(if !self.is_ended {
+                Answer::Unsure
+            } else if is_open && is_other_trailer(self.image.next()) {
+                Answer::EndedByOther
+            } else {
+                Answer::Ended
+            });
         }
         self.is_unsure = false;
         match item {
@@ -228,21 +231,36 @@ pub struct Compared {
     pub differ: Option<(usize, usize)>,
 }
 
-/// Asks each copy for its next block.
+/// Asks each copy for its next block. A copy that ended before a block that another one has, or
+/// with the trailer label of another section, differs from the others.
 fn ask_all<R: Read>(
     copies: &mut [Aligned<'_, R>],
     best: &mut Candidate,
 ) -> Result<Held, AllocError> {
     best.clear();
     let mut held = Held::Nowhere;
+    let (mut ended, mut other) = (None, None);
     for number in 0..copies.len() {
         match (copies[number].ask(best)?, held) {
             (Answer::Has, Held::Nowhere) => held = Held::First(number),
             (Answer::Differs, Held::First(first)) => return Ok(Held::Differ(first, number)),
+            (Answer::Ended, _) => ended = Some(number),
+            (Answer::EndedByOther, _) => other = Some(number),
             _ => {}
         }
     }
-    Ok(held)
+    if let Some(number) = other
+        && copies.len() > 1
+    {
+        return Ok(Held::Differ(if number == 0 { 1 } else { 0 }, number));
+    }
+    let Held::First(first) = held else {
+        return Ok(held);
+    };
+    Ok(match ended {
+        Some(number) => Held::Differ(first, number),
+        None => held,
+    })
 }
 
 /// Compares the blocks of the copies. Adds to `fills` the runs of blocks that the first copy does
@@ -264,15 +282,19 @@ pub fn compare<R: Read>(
     };
     for number in 0..u32::MAX {
         let held = ask_all(copies, best)?;
-        let Some(base) = copies.first().filter(|base| base.is_base()) else {
+        let base = copies.first().filter(|base| base.is_base());
+        compared.is_base = compared.is_base || base.is_some();
+        if let Held::Differ(one, other) = held
+            && compared.is_base
+        {
+            compared.differ = Some((one, other));
+            break;
+        }
+        let Some(base) = base else {
             break;
         };
-        compared.is_base = true;
         match held {
-            Held::Differ(one, other) => {
-                compared.differ = Some((one, other));
-                break;
-            }
+            Held::Differ(_, _) => break,
             Held::Nowhere => doubt_all(copies),
             Held::First(first) => {
                 compared.read = compared.read.saturating_add(1);

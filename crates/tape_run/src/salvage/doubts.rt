@@ -26,7 +26,8 @@ pub struct Doubts {
 }
 
 /// A copy of a section that has unreadable blocks, and whose trailer label counts another number of
-/// blocks; or one that does not close, and may have labels among its data.
+/// blocks; or one that does not close, and may have labels among its data, or is followed by the
+/// trailer label of another section.
 #[derive(Clone, Copy)]
 pub struct DoubtfulCopy {
     /// The number of its image, counted from 0.
@@ -142,7 +143,8 @@ fn conflict_of<R: Read + Drop, L: ImageSource<R>>(
 }
 
 /// Returns the byte offset at which the data of a copy begin on its image, which is opened again.
-/// Returns `None` if it does not close, and no labels are among its data.
+/// Returns `None` if it does not close, no labels are among its data, and no trailer label of another
+/// section follows them.
 fn doubtful_place<R: Read + Drop, L: ImageSource<R>>(
     alloc: Global,
     copy: &SectionCopy,
