@@ -176,6 +176,11 @@ enum Stop {
     Out,
 }
 
+/// What is said of an image in which reading continued: the numbers of its items are not those of
+/// the tape.
+const NOT_ALIGNED: &str =
+    "blocks and tape marks may be lost there: do not join it with other copies";
+
 /// An image in which reading continues after a wrong word. The place is named on standard error.
 #[derive(Drop)]
 struct Resync<'t, R: Progress> {
@@ -195,6 +200,7 @@ impl<R: Progress> Read for Resync<'_, R> {
                 let _ = self.rt.eprint(format_args!(
                     "  reading broke off at byte {from} and continued at byte {to}\n"
                 ));
+                let _ = self.rt.eprint(format_args!("  {NOT_ALIGNED}\n"));
             }
         }
         read

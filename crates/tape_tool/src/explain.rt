@@ -285,9 +285,9 @@ const MERGED_TOO_LONG: &str =
   created. Leave out an image whose good blocks replace short bad ones.";
 
 const IMAGE: &str = "
-#1  The image ends in the middle of a block: it was cut off. All items before
-  that block were listed. Copy the image again from its source, or use
-  'extract' with this and other copies.
+#1  The image ends in the middle of a block: it was cut off, or the length there
+  is wrong. All items before that block were listed. Copy it again from its
+  source, or use 'extract' with this and other copies.
 #2  The lengths before and after a block differ: damage, no pad bytes (E11), a
   copy made as text, or an older recording after the end. All items before that
   were listed. Copy it again, use other copies, or see 'tape convert --resync'.

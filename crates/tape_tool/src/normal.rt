@@ -14,9 +14,9 @@ use std::alloc::{AllocError, Global};
 use std::io;
 use std::io::Read;
 use tape_core::normal::{NormalImage, Rules};
-use tape_image::SimhImage;
+use tape_image::{ImageFormat, SimhImage};
 use tape_label::Head1;
-use tape_run::{ImageSource, container_of};
+use tape_run::{Container, ImageSource, container_of};
 
 /// The rules that may be applied to an image, in the order in which they are named.
 const TEXTS: [&str; 9] = [
@@ -44,6 +44,15 @@ fn applied(rules: Rules) -> [bool; 9] {
         rules.before > 0,
         rules.after > 0,
     ]
+}
+
+/// Returns the name of a format by which an image is read as a SIMH image.
+fn format_text(format: ImageFormat) -> &'static str {
+    match format {
+        ImageFormat::Aws => "an AWS image",
+        ImageFormat::E11 => "an E11 image",
+        ImageFormat::Extended => "an image in SIMH's extended format",
+    }
 }
 
 /// An open image in normal form. On its first reading it names each rule on standard error when
@@ -77,9 +86,8 @@ enum Form<R: Progress> {
 }
 
 impl<R: Progress> Form<R> {
-    /// Chooses the form by the first bytes of the image, which is unread.
-    fn new(alloc: Global, mut image: Image<R>) -> Form<R> {
-        let kind = container_of(image.front());
+    /// Returns the form of an unread image of this kind.
+    fn new(alloc: Global, image: Image<R>, kind: Container) -> Form<R> {
         match format_of(kind) {
             Some(format) => Form::Converted(NormalImage::new(SimhImage::new(alloc, image, format))),
             None if is_simh(kind) => Form::Normal(NormalImage::new(image)),
@@ -278,13 +286,20 @@ impl<'a, R: Progress> ImageSource<Normal<R>> for NormalImages<'a, R> {
         let Some(image) = self.images.mount(number)? else {
             return Ok(None);
         };
-        let inner = Form::new(rt.alloc(), image);
+        let mut image = image;
+        let kind = container_of(image.front());
+        let inner = Form::new(rt.alloc(), image, kind);
         // Nothing fails from here on: the source changes only if the image is mounted.
         let is_first = number >= self.read;
         self.read = self.read.max(number.saturating_add(1));
+        let image = number.saturating_add(1);
+        if let (true, Some(format)) = (is_first, format_of(kind)) {
+            let text = format_text(format);
+            let _ = rt.eprint(format_args!("  image {image}: read as {text}\n"));
+        }
         Ok(Some(Normal {
             rt,
-            image: number.saturating_add(1),
+            image,
             is_first,
             front: is_first.then_some(Followed::START),
             named: Rules::NONE,

@@ -19,7 +19,7 @@ const SITES: &str = "
     folder told
     put told/ABC001.1.PAYROLL.stage no stage
     1: list --explain told_cut.tap =>   Image: told_cut.tap
-    ~   The image ends in the middle of a block: it was cut off.
+    ~   The image ends in the middle of a block: it was cut off, or the length there
     1: list told.gz --explain =>   This does not look like a .tap image.
     ~   It is compressed with gzip: 'gunzip -k' decompresses it.
     put told.bz2 BZh91AY&SY
@@ -176,6 +176,9 @@ const MISSING: &str = "
     !   Give one of them as SET, or add the images of set DEF001.
     3: extract ABC001 1 missing.txt missing_noise.txt --explain
     !   REEL 1: missing_noise.txt
+    !   No file of any set was found on these images as they are. With --again,
+    !   tape also reads labels in EBCDIC or with padding, and other formats.
+    3: salvage ABC001 1 missing.txt missing_noise.txt --explain
     !   No file of any set was found on these images.
     !   'tape survey' says what they are.
     3: extract ABC001 2 missing.txt missing1.tap --explain
@@ -270,76 +273,15 @@ const MISSING: &str = "
     put missing.tap \\01\\02\\03\\04\\02\\00\\00\\00ab\\02\\00\\00\\00
     3: convert --resync found.tap missing.tap --explain
     !   reading broke off at byte 0 and continued at byte 4
-    !   The bytes between the two places are lost: one unreadable item replaces them.
-    !   With other images of the same tape, 'tape merge' may restore its blocks.
+    !   blocks and tape marks may be lost there: do not join it with other copies
+    !   The bytes between the two places are lost: one unreadable item replaces them,
+    !   though they may have been more. Use this image alone: 'tape survey' shows what
+    !   it has, 'tape salvage' writes the records that are certain.
     3: compare missing1.tap missing2.tap missing1.tap --explain
     !   The images differ (after DIFFER, 'tape show IMAGE N' shows the item), or the
     !   image that they form has unreadable items, wrong block counts (COUNT) or no
     !   end (CUT): the lines say which.
 ";
-
-/// Comparisons of two images, and what is printed on standard error about the first difference.
-const DIFFERING: &str = "
-    first first.tap
-    second second.tap
-    3: compare first.tap second.tap --explain
-    !   Item 1, a label, differs in
-    !     volume identifier: \"ABC001\" and \"ABC002\"
-    !   Later items differ too, even if one of the images lost an item here.
-    !   'tape show IMAGE 1' shows this item.
-    worked whole.tap lost.tap
-    omit lost.tap 5
-    3: compare whole.tap lost.tap --explain
-    !   The blocks of item 6 have 800 and 400 bytes.
-    !   From here on the second image agrees with the first one item later: it may have
-    !   lost this item, or the first image has an item twice.
-    !   'tape show IMAGE 6' shows this item.
-    3: merge merged.tap lost.tap whole.tap --explain
-    !   The blocks of item 6 have 400 and 800 bytes.
-    !   From here on the first image agrees with the second one item later: it may have
-    !   lost an item, or the second image has this item twice.
-    !   'tape show IMAGE 6' shows this item.
-    missing merged.tap
-    # An unreadable item may be any other.
-    spoil lost.tap 7
-    3: compare whole.tap lost.tap --explain
-    !   The blocks of item 6 have 800 and 400 bytes.
-    !   From here on the second image agrees with the first one item later: it may have
-    !   lost this item, or the first image has an item twice.
-    !   'tape show IMAGE 6' shows this item.
-    # The second image has a tape mark instead of the last block, which it lost too.
-    omit whole.tap 6
-    omit whole.tap 5
-    3: compare lost.tap whole.tap --explain
-    !   Item 6 is of another kind in each image.
-    !   From here on the second image agrees with the first one item later: it may have
-    !   lost this item, or the first image has an item twice.
-    !   'tape show IMAGE 6' shows this item.
-    folder one
-    folder other
-    put one.bin AAAAAAAAAAAAAAAAAABBBBBBBBBBBBBBBBBBCCCCCCCCCCCCCCCCCC
-    put other.bin AAAAAAAAAAAAAAAAAABBBBBBBBBXBBBBXBBBCCCCCCCCCCCCCCCCCC
-    0: write one DEF 10000 A=one.bin --format F --block 18 --record 18 --form raw
-    0: write other DEF 10000 A=other.bin --format F --block 18 --record 18 --form raw
-    3: compare one/DEF001.tap other/DEF001.tap --explain
-    !   Bytes of item 6 that differ: 2 of 18. The first is byte 10,
-    !   in hexadecimal 42 and 58.
-    !   All later items that both images have agree.
-    !   'tape show IMAGE 6' shows this item.
-    # No item differs: one image ends early, and an item of the other is unreadable.
-    front early.tap 176
-    worked spoiled.tap
-    spoil spoiled.tap 2
-    3: compare early.tap spoiled.tap --explain
-    !   The images differ (after DIFFER, 'tape show IMAGE N' shows the item), or the
-    !   image that they form has unreadable items, wrong block counts (COUNT) or no
-    !   end (CUT): the lines say which.
-";
-
-#[test]
-fn differences_are_explained(rt: HostRuntime) -> Result<(), Fail> {
-    follow_in(&rt, &Tape, "differing", DIFFERING)
-}
 
 #[test]
 fn missing_parts_are_explained(rt: HostRuntime) -> Result<(), Fail> {

@@ -158,9 +158,9 @@ const SHOWN: &str = "
     ! image 1 of 1: 0 MB<
     ! tape: image fault 1 at 1884
     !   Image: progress_cut.tap
-    !   The image ends in the middle of a block: it was cut off. All items before
-    !   that block were listed. Copy the image again from its source, or use
-    !   'extract' with this and other copies.
+    !   The image ends in the middle of a block: it was cut off, or the length there
+    !   is wrong. All items before that block were listed. Copy it again from its
+    !   source, or use 'extract' with this and other copies.
     1: list progress_cut.tap --no-explain
     * terminal 9
     ! image 1 of 1: 0 MB<

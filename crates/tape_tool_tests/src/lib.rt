@@ -4,6 +4,8 @@
 #[cfg(test)]
 mod contrary;
 #[cfg(test)]
+mod differing;
+#[cfg(test)]
 mod explain;
 #[cfg(test)]
 mod extract_program;

@@ -145,6 +145,9 @@ const CONVERTED: &str = "
     has again.tap \\03\\00\\00\\00odd\\00\\03\\00\\00\\00\\00\\00\\00\\00
     # Lists read SIMH images alone; a survey reads all of these.
     image fault 2 at 0: list odd.e11 | list one.aws
+    3: survey odd.e11
+    !   image 1: read as an E11 image
+    !   image 1: something before the first file is ignored
 ";
 
 #[test]

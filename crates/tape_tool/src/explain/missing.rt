@@ -134,11 +134,14 @@ impl Shelf<'_> {
     fn no_set_text(&self, set_id: Field<6>) -> Result<String, AllocError> {
         let (set, sets) = (shown(self.alloc, &set_id)?, self.list_of(None)?);
         if sets.is_empty() {
-            return String::from_str(
-                self.alloc,
-                "No file of any set was found on these images.
+            let is_strict = self.awaited.is_some() && !self.again;
+            let text = match is_strict {
+                true => "No file of any set was found on these images as they are. With --again,
+  tape also reads labels in EBCDIC or with padding, and other formats.",
+                false => "No file of any set was found on these images.
   'tape survey' says what they are.",
-            );
+            };
+            return String::from_str(self.alloc, text);
         }
         format!(in self.alloc;
             "No label of set {set} was found on these images.
@@ -321,8 +324,9 @@ fn general_text(order: &Order<'_>) -> &'static str {
   image that they form has unreadable items, wrong block counts (COUNT) or no
   end (CUT): the lines say which.",
         Order::Convert(_) =>
-            "The bytes between the two places are lost: one unreadable item replaces them.
-  With other images of the same tape, 'tape merge' may restore its blocks.",
+            "The bytes between the two places are lost: one unreadable item replaces them,
+  though they may have been more. Use this image alone: 'tape survey' shows what
+  it has, 'tape salvage' writes the records that are certain.",
         // They do not end so.
         Order::List(_) | Order::Show(_) | Order::Init(_) | Order::Write(_) => NEVER,
     }

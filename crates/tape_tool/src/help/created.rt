@@ -230,7 +230,8 @@ With --resync, reading of a SIMH image continues after a wrong word at the next
 block that another one, a tape mark, a gap or the end follows. OUT has one
 unreadable block for the bytes before it, and standard error names them:
   reading broke off at byte 268 and continued at byte 512
-Bytes in a damaged block that look like blocks are taken for blocks.
+These bytes may have been several blocks and tape marks: use OUT alone, not with
+other copies. What looks like a block in a damaged block is taken for one.
 
 An existing OUT is never overwritten ('tape: file fault 1'), and OUT appears
 only when it is complete.

@@ -20,7 +20,7 @@ pub const NO_ITEM: &str = "the image ends before item N: 'tape list' shows its i
 
 pub const AFTER_SHOW: &str =
     "A block of 80 characters that begins as a label, in ASCII or in EBCDIC, is shown
-by its fields: positions, name and characters. A byte that is not a printable
+by its fields: positions, name and characters; so is one with padding. A byte that is not a printable
 character is shown in hexadecimal, after '\\x'; dates are shown as days, too.
   Item 1: label, 80 bytes at 4
      1-4   label identifier        \"VOL1\"

@@ -113,8 +113,8 @@ is complete, and is removed otherwise; the next run removes one that a killed
 run left. An OUT that is the stage, the list or one of the images is refused,
 and so is one that may be a tape ('tape: file fault 1'): an existing file that
 is not empty and has a name ending in .tap, begins like an image, or is
-compressed, an archive or a stage. If OUT is a pipe, a link or a device, the
-records are written to it at the end.
+compressed, an archive or a stage. If OUT is a pipe, a device or a link to
+nothing, the records are written to it at the end.
 
 Exit status: 0 complete, 1 error, 2 usage error, 3 incomplete
 
