@@ -86,6 +86,14 @@ impl<'r, R: Read> Aligned<'r, R> {
         number_in(key, self.copy.possible(), &self.expected).is_some()
     }
 
+    /// Returns whether all data items of the section were read that may be its blocks.
+    fn is_past_data(&self) -> bool {
+        match &self.expected {
+            Expected::Data(section) => section.key == self.copy.section.key && !self.is_at_data(),
+            _ => false,
+        }
+    }
+
     /// Reads up to the section's data. If the section does not close, the mark found may not be the
     /// one before them: the numbers of the items are certain only if no item before the mark is
     /// other than a header label, or one that is unreadable, and a block that is no label follows.
@@ -146,7 +154,8 @@ impl<'r, R: Read> Aligned<'r, R> {
         if self.is_ended {
             return Ok(Answer::Ended);
         }
-        if self.is_over || !self.is_at_data() {
+        let is_at_data = self.is_at_data();
+        if self.is_over || !(is_at_data || self.is_past_data()) {
             self.is_over = true;
             return Ok(Answer::Unsure);
         }
@@ -160,7 +169,7 @@ impl<'r, R: Read> Aligned<'r, R> {
         };
         self.expected = step(self.expected, item).0;
         let is_open = self.copy.closed.is_none();
-        if ends(item, is_open, self.is_unsure) {
+        if !is_at_data || ends(item, is_open, self.is_unsure) {
             self.is_over = true;
             self.is_ended = item == Item::Mark;
             return Ok(if !self.is_ended {
