@@ -289,3 +289,55 @@ const SALVAGED: &str = "
 fn files_are_salvaged(rt: HostRuntime) -> Result<(), Fail> {
     follow_in(&rt, &Tape, "salvaged_files", SALVAGED)
 }
+
+const OTHER_END: &str = "
+    # A reel that lost the end of its first file and the beginning of the second. Its blocks complete
+    # no other copy, although they are as many as the trailer label of the first file says.
+    put one.bin AAAAAAAAAAAAAAAAAABBBBBBBBBBBBBBBBBB
+    put two.bin CCCCCCCCCCCCCCCCCCDDDDDDDDDDDDDDDDDD
+    folder good
+    folder over
+    0: write good DEF 10000 A=one.bin B=two.bin --format F --block 18 --record 18 --form raw
+    0: write over DEF 10000 A=one.bin B=two.bin --format F --block 18 --record 18 --form raw
+    spoil good/DEF001.tap 5
+    omit over/DEF001.tap 5
+    omit over/DEF001.tap 5
+    omit over/DEF001.tap 5
+    omit over/DEF001.tap 5
+    omit over/DEF001.tap 5
+    omit over/DEF001.tap 5
+    omit over/DEF001.tap 5
+    omit over/DEF001.tap 5
+    omit over/DEF001.tap 5
+    $ list over/DEF001.tap
+    > 000001 VOL1 DEF001
+    > 000002 HDR1 A                 DEF001 0001 0001
+    > 000003 HDR2 F 00018 00018 00
+    > 000004 MARK
+    > 000005 BLOCK 00018
+    > 000006 BLOCK 00018
+    > 000007 MARK
+    > 000008 EOF1 B                 DEF001 0001 0002 000002
+    > 000009 EOF2 F 00018 00018 00
+    > 000010 MARK
+    > 000011 MARK
+    > END MARKED
+    3: salvage DEF001 1 s.txt over/DEF001.tap good/DEF001.tap
+    | CONFLICT 1 1 2
+    | SALVAGED 1
+    3: salvage DEF001 1 s.txt good/DEF001.tap over/DEF001.tap
+    | CONFLICT 1 1 2
+    | SALVAGED 1
+    3: extract DEF001 1 e.txt over/DEF001.tap good/DEF001.tap --again
+    3: extract DEF001 1 e.txt good/DEF001.tap over/DEF001.tap --again
+    missing e.txt
+    folder days
+    3: unpack days over/DEF001.tap
+    3: unpack days good/DEF001.tap
+    missing days/DEF001.1.A
+";
+
+#[test]
+fn another_trailer_label_completes_nothing(rt: HostRuntime) -> Result<(), Fail> {
+    follow_in(&rt, &Tape, "other_end", OTHER_END)
+}
