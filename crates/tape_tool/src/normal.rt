@@ -46,12 +46,12 @@ fn applied(rules: Rules) -> [bool; 9] {
     ]
 }
 
-/// Returns the name of a format by which an image is read as a SIMH image.
-fn format_text(format: ImageFormat) -> &'static str {
+/// Returns the name of a format by which an image is read as a SIMH image. SIMH's own has none.
+fn format_text(format: Option<ImageFormat>) -> Option<&'static str> {
     match format {
-        ImageFormat::Aws => "an AWS image",
-        ImageFormat::E11 => "an E11 image",
-        ImageFormat::Extended => "an image in SIMH's extended format",
+        Some(ImageFormat::Aws) => Some("an AWS image"),
+        Some(ImageFormat::E11) => Some("an E11 image"),
+        Some(ImageFormat::Extended) | None => None,
     }
 }
 
@@ -293,8 +293,9 @@ impl<'a, R: Progress> ImageSource<Normal<R>> for NormalImages<'a, R> {
         let is_first = number >= self.read;
         self.read = self.read.max(number.saturating_add(1));
         let image = number.saturating_add(1);
-        if let (true, Some(format)) = (is_first, format_of(kind)) {
-            let text = format_text(format);
+        if let Some(text) = format_text(format_of(kind))
+            && is_first
+        {
             let _ = rt.eprint(format_args!("  image {image}: read as {text}\n"));
         }
         Ok(Some(Normal {

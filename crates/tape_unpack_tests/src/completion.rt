@@ -323,11 +323,9 @@ const OTHER_END: &str = "
     > 000011 MARK
     > END MARKED
     3: salvage DEF001 1 s.txt over/DEF001.tap good/DEF001.tap
-    | CONFLICT 1 1 2
-    | SALVAGED 1
+    | CONFLICT 1 2 1
     3: salvage DEF001 1 s.txt good/DEF001.tap over/DEF001.tap
     | CONFLICT 1 1 2
-    | SALVAGED 1
     3: extract DEF001 1 e.txt over/DEF001.tap good/DEF001.tap --again
     3: extract DEF001 1 e.txt good/DEF001.tap over/DEF001.tap --again
     missing e.txt
