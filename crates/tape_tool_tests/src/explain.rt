@@ -178,7 +178,7 @@ const MISSING: &str = "
     !   REEL 1: missing_noise.txt
     !   No file of any set was found on these images as they are. With --again,
     !   tape also reads labels in EBCDIC or with padding, and other formats.
-    3: salvage ABC001 1 missing.txt missing_noise.txt --explain
+    3: salvage ABC001 1 missing_none.txt missing_noise.txt --explain
     !   No file of any set was found on these images.
     !   'tape survey' says what they are.
     3: extract ABC001 2 missing.txt missing1.tap --explain
