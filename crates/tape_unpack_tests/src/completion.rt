@@ -324,7 +324,7 @@ const OTHER_END: &str = "
     > END MARKED
     3: salvage DEF001 1 s.txt over/DEF001.tap good/DEF001.tap
     | CONFLICT 1 2 1
-    3: salvage DEF001 1 s.txt good/DEF001.tap over/DEF001.tap
+    3: salvage DEF001 1 t.txt good/DEF001.tap over/DEF001.tap
     | CONFLICT 1 1 2
     3: extract DEF001 1 e.txt over/DEF001.tap good/DEF001.tap --again
     3: extract DEF001 1 e.txt good/DEF001.tap over/DEF001.tap --again

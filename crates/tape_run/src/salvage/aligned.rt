@@ -4,15 +4,14 @@ use crate::merge::candidate::Candidate;
 use crate::salvage::copies::SectionCopy;
 use crate::salvage::fill::{Fill, Stretch, add_fill};
 use crate::salvage::image::number_in;
-use crate::salvage::labels::{is_label, is_other_trailer, is_trailer};
+use crate::salvage::labels::{is_label, is_other, is_other_trailer, is_trailer};
 use crate::salvage::walk::{Expected, step};
 use std::alloc::AllocError;
 use std::io::Read;
-use tape_image::{ImageReader, Item};
-use tape_label::{Kind, is_further_header, kind};
+use tape_image::{ImageFault, ImageReader, Item};
 
 /// What a copy has of a block.
-#[derive(Clone, Copy)]
+#[derive(Clone, Copy, PartialEq, Eq)]
 enum Answer {
     /// It is readable, and the same as in the copies before it that have it.
     Has,
@@ -22,7 +21,7 @@ enum Answer {
     Differs,
     /// No item of the copy is certain to be this block.
     Unsure,
-    /// The section ended before this block, at a tape mark.
+    /// The section ended before this block, at a tape mark that something follows.
     Ended,
     /// The section ended at a tape mark with the trailer label of another section.
     EndedByOther,
@@ -42,16 +41,22 @@ pub struct Aligned<'r, R: Read> {
     is_unsure: bool,
     /// Whether the numbers of its further items are not certain.
     is_over: bool,
-    /// Whether its data ended with a tape mark.
+    /// Whether its data ended with a tape mark that something follows.
     is_ended: bool,
 }
 
-/// Returns whether an item after HDR1 is neither a further header label nor a tape mark.
-fn is_other(item: Item<'_>) -> bool {
+/// Returns what the item after the tape mark that ends a section says. An image may have been cut
+/// off, and ended with marks; `is_open` says whether the section does not close.
+fn end_by(item: Result<Option<Item<'_>>, ImageFault>, is_open: bool) -> Answer {
     match item {
-        Item::Block(block) => kind(block) != Some(Kind::Hdr2) && !is_further_header(block),
-        Item::Bad => true,
-        Item::Mark => false,
+        Ok(Some(Item::Block(block))) => {
+            if is_open && is_other_trailer(block) {
+                return Answer::EndedByOther;
+            }
+            Answer::Ended
+        }
+        Ok(Some(Item::Bad)) => Answer::Ended,
+        _ => Answer::Unsure,
     }
 }
 
@@ -137,7 +142,9 @@ impl<'r, R: Read> Aligned<'r, R> {
                     }
                 }
                 Ok(Some(Item::Bad)) => {}
-                Ok(Some(Item::Mark)) => return is_other_trailer(self.image.next()),
+                Ok(Some(Item::Mark)) => {
+                    return end_by(self.image.next(), true) == Answer::EndedByOther;
+                }
                 _ => return false,
             }
         }
@@ -171,14 +178,12 @@ impl<'r, R: Read> Aligned<'r, R> {
         let is_open = self.copy.closed.is_none();
         if !is_at_data || ends(item, is_open, self.is_unsure) {
             self.is_over = true;
-            self.is_ended = item == Item::Mark;
-            return Ok(if !self.is_ended {
-                Answer::Unsure
-            } else if is_open && is_other_trailer(self.image.next()) {
-                Answer::EndedByOther
-            } else {
-                Answer::Ended
-            });
+            if item != Item::Mark {
+                return Ok(Answer::Unsure);
+            }
+            let answer = end_by(self.image.next(), is_open);
+            self.is_ended = answer != Answer::Unsure;
+            return Ok(answer);
         }
         self.is_unsure = false;
         match item {

@@ -1,7 +1,7 @@
-//! Blocks in place of a section's data, or after them, that read as labels.
+//! Items between HDR1 and a section's data, among these or after them, that read as labels.
 
-use tape_image::{ImageFault, Item};
-use tape_label::{Kind, kind, read_trail1};
+use tape_image::Item;
+use tape_label::{Kind, is_further_header, kind, read_trail1};
 
 /// The maximum number of bytes after a label in one block.
 const MOST_PADDING: usize = 40;
@@ -15,13 +15,10 @@ fn unpadded(block: &[u8]) -> &[u8] {
     }
 }
 
-/// Returns whether what follows a section that does not close is a trailer label: of another
+/// Returns whether the block after a section that does not close is a trailer label: of another
 /// section.
-pub fn is_other_trailer(item: Result<Option<Item<'_>>, ImageFault>) -> bool {
-    match item {
-        Ok(Some(Item::Block(block))) => read_trail1(block).is_ok(),
-        _ => false,
-    }
+pub fn is_other_trailer(block: &[u8]) -> bool {
+    read_trail1(block).is_ok()
 }
 
 /// Returns whether a block reads as a trailer label, in ASCII or EBCDIC, with padding or without.
@@ -46,4 +43,13 @@ pub fn is_trailer(block: &[u8]) -> bool {
 /// Returns whether a block reads as a label, with padding or without.
 pub fn is_label(block: &[u8]) -> bool {
     kind(unpadded(block)).is_some() || is_trailer(block)
+}
+
+/// Returns whether an item after HDR1 is neither a further header label nor a tape mark.
+pub fn is_other(item: Item<'_>) -> bool {
+    match item {
+        Item::Block(block) => kind(block) != Some(Kind::Hdr2) && !is_further_header(block),
+        Item::Bad => true,
+        Item::Mark => false,
+    }
 }
