@@ -275,8 +275,8 @@ const MISSING: &str = "
     !   reading broke off at byte 0 and continued at byte 4
     !   blocks and tape marks may be lost there: do not join it with other copies
     !   The bytes between the two places are lost: one unreadable item replaces them,
-    !   though they may have been more. Use this image alone: 'tape survey' shows what
-    !   it has, 'tape salvage' writes the records that are certain.
+    !   though they may have been more. Use this image alone: 'tape survey' shows
+    !   what it has, 'tape salvage' writes the records that are certain.
     3: compare missing1.tap missing2.tap missing1.tap --explain
     !   The images differ (after DIFFER, 'tape show IMAGE N' shows the item), or the
     !   image that they form has unreadable items, wrong block counts (COUNT) or no

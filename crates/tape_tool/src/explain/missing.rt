@@ -325,8 +325,8 @@ fn general_text(order: &Order<'_>) -> &'static str {
   end (CUT): the lines say which.",
         Order::Convert(_) =>
             "The bytes between the two places are lost: one unreadable item replaces them,
-  though they may have been more. Use this image alone: 'tape survey' shows what
-  it has, 'tape salvage' writes the records that are certain.",
+  though they may have been more. Use this image alone: 'tape survey' shows
+  what it has, 'tape salvage' writes the records that are certain.",
         // They do not end so.
         Order::List(_) | Order::Show(_) | Order::Init(_) | Order::Write(_) => NEVER,
     }
