@@ -37,9 +37,15 @@ def is_header(item):
     return model.kind_of(block_of(item)) == "HDR2" or model.is_further_header(block_of(item))
 
 
+def unpadded(block):
+    """The label in a block with padding: up to 40 bytes after it, all of them the same."""
+    rest = block[80:]
+    return block[:80] if rest and len(rest) <= 40 and len(set(rest)) == 1 else block
+
+
 def is_trailer(item):
-    """Whether an item reads as a trailer label in ASCII or EBCDIC."""
-    block = block_of(item)
+    """Whether an item reads as a trailer label in ASCII or EBCDIC, with padding or without."""
+    block = unpadded(block_of(item))
     return model.kind_of(block) in FIRST + SECOND or len(block) == 80 and block[:4] in EBCDIC
 
 
@@ -50,6 +56,7 @@ class Section:
         self.head, self.image, self.shape, self.begin = head, image, None, begin
         self.labels, self.data = [], []
         self.trailer, self.is_absent, self.is_doubtful = None, False, False
+        self.is_followed = False
 
     def close(self, trailer, items, at):
         """Closes the section with the label at an index: the index after the mark behind it."""
@@ -68,11 +75,12 @@ class Section:
     @property
     def may_have_labels(self):
         """Whether labels may be among its data: it does not close, and a block reads as a trailer
-        label, or an item before the data is no header label; one may be unreadable."""
+        label, the trailer label of another section follows the data, or an item before the data is
+        no header label; one may be unreadable."""
         others = sum(not is_header(item) for item in self.labels)
         is_unsure = others > any(kind == "bad" for kind, _ in self.labels)
         return not self.trailer and bool(self.data) and (
-            is_unsure or any(map(is_trailer, self.data)))
+            is_unsure or self.is_followed or any(map(is_trailer, self.data)))
 
     @property
     def is_left_out(self):
@@ -154,6 +162,7 @@ class Search:
         trailer = label_of(self.items[end + 1], FIRST)
         if trailer and is_same(trailer, head):
             return self.closed(section, trailer, end + 1)
+        section.is_followed = bool(trailer)
         return end + 1
 
     def unnamed(self, first):
