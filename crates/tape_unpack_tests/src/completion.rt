@@ -326,8 +326,8 @@ const OTHER_END: &str = "
     | CONFLICT 1 2 1
     3: salvage DEF001 1 t.txt good/DEF001.tap over/DEF001.tap
     | CONFLICT 1 1 2
-    3: extract DEF001 1 e.txt over/DEF001.tap good/DEF001.tap --again
-    3: extract DEF001 1 e.txt good/DEF001.tap over/DEF001.tap --again
+    set fault 1: extract DEF001 1 e.txt over/DEF001.tap good/DEF001.tap --again
+    set fault 1: extract DEF001 1 e.txt good/DEF001.tap over/DEF001.tap --again
     missing e.txt
     folder days
     3: unpack days over/DEF001.tap
