@@ -19,6 +19,9 @@ const EOF_ONE: &str = "EOF1PAYROLL          ABC00100010001000100 00000 00000 000
 
 const EOF_TWO: &str = "EOF1PAYROLL          ABC00100010001000100 00000 00000 000002";
 
+/// The trailer label of file 2, with three blocks.
+const EOF_OTHER: &str = "EOF1PAYROLL          ABC00100010002000100 00000 00000 000003";
+
 /// The items of an image between VOL1 and its last mark: `|` is a tape mark, `?` an unreadable
 /// item, a longer text a block or a label.
 type Items = &'static [&'static str];
@@ -69,6 +72,13 @@ const TWO_NO_HDR2: Items = &[
 ];
 
 const TWO_NO_1: Items = &[HDR1, FIVE, "|", "aaaaa", "?", "|", EOF_TWO, END_FIVE, "|"];
+
+/// Three blocks before the trailer label of another file, and one before an unreadable label.
+const OTHER_FILE: Items = &[
+    HDR1, FIVE, "|", "aaaaa", "xxxxx", "ccccc", "|", EOF_OTHER, END_FIVE, "|",
+];
+
+const ENDS_AT_1: Items = &[HDR1, FIVE, "|", "aaaaa", "|", "?", END_FIVE, "|"];
 
 /// The same labels before and after other data, without HDR2.
 const OTHER_NO_HDR2: Items = &[
@@ -188,6 +198,26 @@ const ROWS: &[(&[Items], bool, &str, usize)] = &[
         &[TWO_NO_1, NO_1],
         false,
         "CONFLICT 1 2 1\nSECTION 1 2 3\nGAP 1 1 1 1\nSALVAGED 2\n",
+        12,
+    ),
+    // The blocks before another file's trailer label are not this file's, even if they are as many.
+    (
+        &[NO_1, OTHER_FILE],
+        false,
+        "CONFLICT 1 1 2\nSECTION 1 1 3\nGAP 1 1 1 1\nSALVAGED 2\n",
+        12,
+    ),
+    (
+        &[OTHER_FILE, NO_1],
+        false,
+        "CONFLICT 1 2 1\nSECTION 1 2 3\nGAP 1 1 1 1\nSALVAGED 2\n",
+        12,
+    ),
+    // A copy that ends before a block of another one lost some.
+    (
+        &[NO_1, ENDS_AT_1],
+        false,
+        "CONFLICT 1 1 2\nSECTION 1 1 3\nGAP 1 1 1 1\nSALVAGED 2\n",
         12,
     ),
     // The copy that is used records no form, and the others two: it is read in the first of these.
