@@ -200,18 +200,19 @@ const ROWS: &[(&[Items], bool, &str, usize)] = &[
         "CONFLICT 1 2 1\nSECTION 1 2 3\nGAP 1 1 1 1\nSALVAGED 2\n",
         12,
     ),
-    // The blocks before another file's trailer label are not this file's, even if they are as many.
+    // The blocks before another file's trailer label complete no other copy, even if they are as
+    // many. The copy with the most blocks is used: this one, and its end is not known.
     (
         &[NO_1, OTHER_FILE],
         false,
-        "CONFLICT 1 1 2\nSECTION 1 1 3\nGAP 1 1 1 1\nSALVAGED 2\n",
-        12,
+        "CONFLICT 1 1 2\nSECTION 1 2 3\nGAP 1 3 - 3\nSALVAGED 3\n",
+        18,
     ),
     (
         &[OTHER_FILE, NO_1],
         false,
-        "CONFLICT 1 2 1\nSECTION 1 2 3\nGAP 1 1 1 1\nSALVAGED 2\n",
-        12,
+        "CONFLICT 1 2 1\nSECTION 1 1 3\nGAP 1 3 - 3\nSALVAGED 3\n",
+        18,
     ),
     // A copy that ends before a block of another one lost some.
     (
