@@ -291,6 +291,16 @@ fn shown(alloc: Global, field: &Field<6>) -> Result<String, AllocError> {
     text.as_str().trim_end().to_string(alloc)
 }
 
+const NOT_MERGED: &str =
+    "The images differ (after DIFFER, 'tape show IMAGE N' shows the item), or the
+  image that they form has unreadable items, wrong block counts (COUNT) or no
+  end (CUT): the lines say which.";
+
+const RESYNCED: &str =
+    "The bytes between the two places are lost: one unreadable item replaces them,
+  though they may have been more. Use this image alone: 'tape survey' shows
+  what it has, 'tape salvage' writes the records that are certain.";
+
 /// Returns the explanation that is true whatever the images contain.
 fn general_text(order: &Order<'_>) -> &'static str {
     match order {
@@ -319,14 +329,8 @@ fn general_text(order: &Order<'_>) -> &'static str {
         Order::Stage(_) =>
             "The stage has only a part of the file, or is damaged. After AWAITS, 'tape
   extract --stage' continues from it; after TRUNCATED AT, start a new stage.",
-        Order::Merge(_) =>
-            "The images differ (after DIFFER, 'tape show IMAGE N' shows the item), or the
-  image that they form has unreadable items, wrong block counts (COUNT) or no
-  end (CUT): the lines say which.",
-        Order::Convert(_) =>
-            "The bytes between the two places are lost: one unreadable item replaces them,
-  though they may have been more. Use this image alone: 'tape survey' shows
-  what it has, 'tape salvage' writes the records that are certain.",
+        Order::Merge(_) => NOT_MERGED,
+        Order::Convert(_) => RESYNCED,
         // They do not end so.
         Order::List(_) | Order::Show(_) | Order::Init(_) | Order::Write(_) => NEVER,
     }

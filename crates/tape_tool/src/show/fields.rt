@@ -154,8 +154,8 @@ pub fn write_fields<W: Write>(
     )
 }
 
-/// Adds to `text` a line for each field in which two labels in the code `code` differ, by the names of
-/// the fields of the first.
+/// Adds to `text` a line for each field in which two labels in the code `code` differ. The fields are
+/// those of the first label.
 pub fn push_differences(
     alloc: Global,
     text: &mut String,

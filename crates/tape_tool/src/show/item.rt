@@ -71,30 +71,8 @@ pub fn show_item<F: Read + Seek, W: Write>(
         return show_bytes(file, length, None, writer);
     }
     let bytes = (sort != Sort::Mark).then_some((place, length));
-    let padded = length.checked_sub(SIZE as u64);
-    if let (Sort::Block, Some(count @ 0..=MOST_PADDING)) = (sort, padded) {
-        let (mut label, mut padding) = ([0; SIZE], [0; MOST_PADDING as usize]);
-        read(file, &mut label)?;
-        read(file, &mut padding[..count as usize])?;
-        let padding = &padding[..count as usize];
-        if let Some(code) = code_of(&label)
-            && is_padding(padding)
-        {
-            let name = match code {
-                TextCode::Ascii => "label",
-                TextCode::Ebcdic => "label in EBCDIC",
-            };
-            write_line(
-                writer,
-                &Heading {
-                    number,
-                    name,
-                    bytes,
-                },
-            )?;
-            return Ok(write_fields(writer, code, &label, padding)?);
-        }
-        seek(file, place)?;
+    if sort == Sort::Block && show_label(file, (place, length), number, writer)? {
+        return Ok(());
     }
     let name = name_of(sort);
     write_line(
@@ -106,6 +84,41 @@ pub fn show_item<F: Read + Seek, W: Write>(
         },
     )?;
     show_bytes(file, length, Some(look.code), writer)
+}
+
+/// Shows a block of a number of bytes at a byte offset as a label, if it is one, with padding or
+/// without. Otherwise shows nothing, and the file is read from that offset on again.
+fn show_label<F: Read + Seek, W: Write>(
+    file: &mut F,
+    (place, length): (u64, u64),
+    number: u64,
+    writer: &mut W,
+) -> Result<bool, ToolFault> {
+    let Some(count @ 0..=MOST_PADDING) = length.checked_sub(SIZE as u64) else {
+        return Ok(false);
+    };
+    let (mut label, mut padding) = ([0; SIZE], [0; MOST_PADDING as usize]);
+    read(file, &mut label)?;
+    read(file, &mut padding[..count as usize])?;
+    let padding = &padding[..count as usize];
+    let Some(code) = code_of(&label).filter(|_| is_padding(padding)) else {
+        seek(file, place)?;
+        return Ok(false);
+    };
+    let name = match code {
+        TextCode::Ascii => "label",
+        TextCode::Ebcdic => "label in EBCDIC",
+    };
+    write_line(
+        writer,
+        &Heading {
+            number,
+            name,
+            bytes: Some((place, length)),
+        },
+    )?;
+    write_fields(writer, code, &label, padding)?;
+    Ok(true)
 }
 
 /// The maximum number of bytes after a label in one block.
