@@ -18,6 +18,7 @@ KINDS = {
     "IMAGE": "image", "LIST": "file", "ID=PATH": "file", "OUT": "other", "PATH": "other", "LOG": "other",
     "JSONL": "other",
     "DIR": "directory", "SET": "text", "FILE": "text", "N": "text", "N|NAME": "text", "PRE": "text",
+    "SET=OTHER": "text",
     "COUNT": "text", "CAPACITY": "text", "DATE": "text", "M": "text",
 }
 MADE = "Made by docs/completions.py from the program's help."

@@ -160,11 +160,11 @@ MORE = {
         "of `tape_image` Reader, Step, Calls; of `tape_run` Merging, `HasRead` (MergeSteps), "
         "MergeLaws, MergedCopies",
     "salvage_to":
-        "of `tape_image` Step; of `tape_blocks` `longest_block` (Packing); of `tape_core` Known and "
-        "Range; of `tape_run` `same_key` (Noted), `StopsBehind` (Added), Checked, RecordText, "
-        "Reeling, SurveyDigest, SalvageWalk, SalvageCopies, SalvageRecords, SalvageLine, "
-        "SalvageBlocks, SalvageImage, SalvageEnds, SalvageChoice, SalvageTaking, SalvageConflicts, "
-        "Salvaging",
+        "of `tape_image` Step; of `tape_blocks` `longest_block` (Packing); of `tape_core` Known, "
+        "Range, `to_ascii` and `unpadded` (NormalForm); of `tape_run` `same_key` (Noted), "
+        "`StopsBehind` (Added), Checked, RecordText, Reeling, SurveyDigest, SalvageTrailers, "
+        "SalvageWalk, SalvageCopies, SalvageRecords, SalvageLine, SalvageBlocks, SalvageImage, "
+        "SalvageEnds, SalvageChoice, SalvageTaking, SalvageConflicts, Salvaging",
     "salvage_laws":
         "those of `salvage_to`; of `tape_run` `IsNoDevice` (WholeSet), SalvageGaps, SalvageClosed, "
         "SalvagedSets, SalvageWhole, SalvageSections, SalvageFile, SalvageReadings, SalvageSets, "

@@ -19,13 +19,14 @@ _tape() {
     check:--files-from | survey:--files-from | compare:--files-from | \
         merge:--files-from | extract:--files-from | unpack:--files-from | \
         salvage:--files-from) kind='file' ;;
+    survey:--join | extract:--join | unpack:--set | unpack:--file | \
+        unpack:--join | salvage:--join | write:--block | write:--record | \
+        write:--offset | write:--date) kind='text' ;;
     merge:--log | extract:--stage | extract:--provenance | \
         salvage:--provenance) kind='other' ;;
     convert:--format) kind='auto aws e11 simh' ;;
     extract:--form | stage:--form) kind='lines raw counted' ;;
     unpack:--form) kind='lines raw counted auto' ;;
-    unpack:--set | unpack:--file | write:--block | write:--record | \
-        write:--offset | write:--date) kind='text' ;;
     salvage:--form) kind='lines raw counted blocks' ;;
     write:--format) kind='F D S' ;;
     write:--form) kind='lines raw' ;;
@@ -35,13 +36,13 @@ _tape() {
         list) word='--offsets --json' ;;
         show) word='--raw --ebcdic' ;;
         check) word='--files-from --null' ;;
-        survey) word='--files-from --null --all --tsv --json' ;;
+        survey) word='--files-from --null --all --join --renumber --tsv --json' ;;
         compare) word='--files-from --null --json' ;;
         merge) word='--log --files-from --null' ;;
         convert) word='--format --resync' ;;
-        extract) word='--files-from --null --form --stage --again --now --provenance' ;;
-        unpack) word='--files-from --null --form --set --file --list --salvage --now --manifest --verify' ;;
-        salvage) word='--files-from --null --form --now --provenance' ;;
+        extract) word='--files-from --null --form --text --stage --again --join --renumber --now --provenance' ;;
+        unpack) word='--files-from --null --form --text --set --file --list --salvage --join --renumber --now --manifest --verify' ;;
+        salvage) word='--files-from --null --form --text --now --join --renumber --provenance' ;;
         stage) word='--form --damaged' ;;
         write) word='--format --block --record --offset --pad-full --form --date --dry-run' ;;
         *) word='' ;;
@@ -56,8 +57,9 @@ _tape() {
     # An argument: which of them.
     for ((at = start + 1; at < COMP_CWORD; at++)); do
         case ${COMP_WORDS[at]} in
-        --block | --date | --file | --files-from | --form | --format | --log \
-            | --offset | --provenance | --record | --set | --stage)
+        --block | --date | --file | --files-from | --form | --format | \
+            --join | --log | --offset | --provenance | --record | --set | \
+            --stage)
             at=$((at + 1))
             [ "${COMP_WORDS[at]}" = '=' ] && at=$((at + 1)) ;;
         -*) ;;

@@ -12,7 +12,7 @@ function __tape_at
             continue
         end
         switch $word
-            case --block --date --file --files-from --form --format --log --offset --provenance --record --set --stage
+            case --block --date --file --files-from --form --format --join --log --offset --provenance --record --set --stage
                 set is_value true
             case '-*'
             case '*'
@@ -70,6 +70,8 @@ complete -c tape -n '__tape_at check 1 +' -F
 complete -c tape -n '__tape_in survey' -l files-from -r -F -d 'More names, one per line ('\''-'\'': standard input)'
 complete -c tape -n '__tape_in survey' -l null -d 'Names in LIST end with NUL ('\''find -print0'\'')'
 complete -c tape -n '__tape_in survey' -l all -d 'Print each image, set, file and copy too, of any number of images'
+complete -c tape -n '__tape_in survey' -l join -x -d 'Read the set identifier OTHER in labels as SET (may be repeated)'
+complete -c tape -n '__tape_in survey' -l renumber -d 'Number files and sections by their order, if the labels do not: name the images in order'
 complete -c tape -n '__tape_in survey' -l tsv -d 'Print tab-separated values, for scripts'
 complete -c tape -n '__tape_in survey' -l json -d 'Print the same rows as JSON, one object per line'
 complete -c tape -n '__tape_at survey 1 +' -F
@@ -89,8 +91,11 @@ complete -c tape -n '__tape_at convert 2 +' -F
 complete -c tape -n '__tape_in extract' -l files-from -r -F -d 'More names, one per line ('\''-'\'': standard input)'
 complete -c tape -n '__tape_in extract' -l null -d 'Names in LIST end with NUL ('\''find -print0'\'')'
 complete -c tape -n '__tape_in extract' -l form -x -a 'lines raw counted' -d 'lines: end each record with a line feed; raw: do not; counted: begin each with its length'
+complete -c tape -n '__tape_in extract' -l text -d 'Translate records from EBCDIC (code page 037) to ISO 8859-1, which begins with ASCII'
 complete -c tape -n '__tape_in extract' -l stage -x -a '(__tape_other)' -d 'Save recovered data here, and continue from it'
 complete -c tape -n '__tape_in extract' -l again -d 'Repeat until a pass recovers nothing new'
+complete -c tape -n '__tape_in extract' -l join -x -d 'Read the set identifier OTHER in labels as SET (may be repeated)'
+complete -c tape -n '__tape_in extract' -l renumber -d 'Number files and sections by their order, if the labels do not: name the images in order'
 complete -c tape -n '__tape_in extract' -l now -d 'Keep the present as the time of OUT, instead of noon (UTC) of the creation date in its labels'
 complete -c tape -n '__tape_in extract' -l provenance -x -a '(__tape_other)' -d 'Also create JSONL, with lines of JSON about OUT: its labels and its checksum, and the images and blocks it was made of; JSONL must not exist'
 complete -c tape -n '__tape_at extract 3' -a '(__tape_other)'
@@ -98,10 +103,13 @@ complete -c tape -n '__tape_at extract 4 +' -F
 complete -c tape -n '__tape_in unpack' -l files-from -r -F -d 'More names, one per line ('\''-'\'': standard input)'
 complete -c tape -n '__tape_in unpack' -l null -d 'Names in LIST end with NUL ('\''find -print0'\'')'
 complete -c tape -n '__tape_in unpack' -l form -x -a 'lines raw counted auto' -d 'lines: end each record with a line feed; raw: do not; counted: begin each with its length; auto: lines for a file whose bytes are all text, raw for any other'
+complete -c tape -n '__tape_in unpack' -l text -d 'Translate records from EBCDIC (code page 037) to ISO 8859-1, which begins with ASCII'
 complete -c tape -n '__tape_in unpack' -l set -x -d 'Only files of this set'
 complete -c tape -n '__tape_in unpack' -l file -x -d 'Only files with this number or name; '\''*'\'' in a name represents any characters'
 complete -c tape -n '__tape_in unpack' -l list -d 'Print what would be done, and create nothing'
 complete -c tape -n '__tape_in unpack' -l salvage -d 'Write what is readable of each incomplete file as NAME.salvaged, and where it has gaps as NAME.gaps'
+complete -c tape -n '__tape_in unpack' -l join -x -d 'Read the set identifier OTHER in labels as SET (may be repeated)'
+complete -c tape -n '__tape_in unpack' -l renumber -d 'Number files and sections by their order, if the labels do not: name the images in order'
 complete -c tape -n '__tape_in unpack' -l now -d 'Keep the present as the time of the files, instead of noon (UTC) of the creation date in their labels'
 complete -c tape -n '__tape_in unpack' -l manifest -d 'List the SHA-256 checksum of each complete file in MANIFEST.sha256, as '\''sha256sum'\'' does, and in MANIFEST.jsonl also which images its blocks came from'
 complete -c tape -n '__tape_in unpack' -l verify -d 'Check the files of DIR against MANIFEST.sha256 and, if IMAGEs are named, against these; recover nothing'
@@ -110,7 +118,10 @@ complete -c tape -n '__tape_at unpack 2 +' -F
 complete -c tape -n '__tape_in salvage' -l files-from -r -F -d 'More names, one per line ('\''-'\'': standard input)'
 complete -c tape -n '__tape_in salvage' -l null -d 'Names in LIST end with NUL ('\''find -print0'\'')'
 complete -c tape -n '__tape_in salvage' -l form -x -a 'lines raw counted blocks' -d 'lines: end each record with a line feed; raw: do not; counted: begin each with its length; blocks: whole blocks'
+complete -c tape -n '__tape_in salvage' -l text -d 'Translate records from EBCDIC (code page 037) to ISO 8859-1, which begins with ASCII'
 complete -c tape -n '__tape_in salvage' -l now -d 'Keep the present as the time of OUT, instead of noon (UTC) of the creation date in its labels'
+complete -c tape -n '__tape_in salvage' -l join -x -d 'Read the set identifier OTHER in labels as SET (may be repeated)'
+complete -c tape -n '__tape_in salvage' -l renumber -d 'Number files and sections by their order, if the labels do not: name the images in order'
 complete -c tape -n '__tape_in salvage' -l provenance -x -a '(__tape_other)' -d 'Also create JSONL, with lines of JSON about OUT: its labels and its checksum, and the images and blocks it was made of; JSONL must not exist'
 complete -c tape -n '__tape_at salvage 3' -a '(__tape_other)'
 complete -c tape -n '__tape_at salvage 4 +' -F

@@ -16,6 +16,7 @@ RULES = {
     "after": "something after the end of the volume is ignored",
 }
 NO_VOLUME = b"VOL1".ljust(80)
+KINDS = ("VOL1", "HDR1", "HDR2", "EOV1", "EOV2", "EOF1", "EOF2")
 MOST, SHORTEST, LONGEST = 64, 14, 120
 ITEMS = ("mark", "gap", "bad", "block")
 # the ways in which labels are written: whether they are in EBCDIC, and whether they have padding
@@ -26,6 +27,12 @@ def unpadded(block):
     """The 80 characters of a label, without the padding behind them; any other block as it is."""
     is_padded = 80 <= len(block) <= LONGEST and len(set(block[80:])) < 2
     return block[:80] if is_padded else block
+
+
+def seems_label(label):
+    """Whether a block seems to be a label that is not known: three capital letters and a digit."""
+    begins = label[:3].isalpha() and label[:3].isupper() and label[3:4].isdigit()
+    return len(label) == 80 and begins and kind_of(label) not in KINDS
 
 
 def in_ascii(code, block):
@@ -151,8 +158,11 @@ class Normal:
             self.file = fields["file"]
         return label
 
-    def blank(self, kind, *_):
-        self.place = "ended" if kind == "mark" else "over"
+    def blank(self, kind, _, label):
+        if kind != "mark":
+            return self.left("trailer") if kind == "bad" else self.other(label)
+        self.place = "ended"
+        return None
 
     def second(self, kind, _, label):
         if kind == "bad":
@@ -184,7 +194,7 @@ class Normal:
         if kind == "mark":
             self.place = "data"
             return None
-        is_header = kind_of(label) == "HDR2" or model.is_further_header(label)
+        is_header = kind_of(label) == "HDR2" or model.is_further_header(label) or seems_label(label)
         return [("block", label)] if is_header or self.code == CODES[0] else self.other(label)
 
     def data(self, kind, *_):

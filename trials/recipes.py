@@ -11,6 +11,8 @@ The lines are taken from the page. The images are made here, and the expected va
 - rows with names and identifiers that begin with a quotation mark, as Python, SQLite (if it is installed) and
   `docs/page.py` read them.
 - records of any bytes in formats F, D and S, on several volumes, as Python splits the output in the form counted.
+- the same records translated by `--text` of `extract`, `extract --again`, `salvage` and `unpack` in each form, as
+  Python's codecs translate them from code page 037 to ISO 8859-1.
 
 Prints each wrong result, what is not installed, and the counts. Exit status 1 if something was wrong.
 """
@@ -18,6 +20,7 @@ Prints each wrong result, what is not installed, and the counts. Exit status 1 i
 import html
 import os
 import re
+import shutil
 import subprocess
 import sys
 
@@ -160,6 +163,24 @@ def try_counted(trial):
         exec("\n".join(lines), scope)  # pylint: disable=exec-used
         lengths = [len(record) for record in records], [len(record) for record in scope["records"]]
         trial.expect(scope["records"] == records, f"records {case}, {shape}: {done}, {lengths}")
+        try_translated(trial, folder / "counted", names, records, f"{case}, {shape}")
+
+
+def try_translated(trial, folder, names, records, case):
+    """The records of a file, translated."""
+    records = [record.decode("cp037").encode("latin-1") for record in records]
+    dues = {"lines": b"".join(record + b"\n" for record in records), "raw": b"".join(records),
+            "counted": b"".join(len(record).to_bytes(4, "big") + record for record in records)}
+    for form, due in dues.items():
+        for words in (["extract"], ["extract", "--again"], ["salvage"], ["unpack"]):
+            out = folder / "translated"
+            shutil.rmtree(out, ignore_errors=True)
+            out.mkdir()
+            place = ["CNT001", "1", out / "CNT001.1.COUNTED"] if words != ["unpack"] else [out]
+            done = subprocess.run([trial.options.program, *words, "--text", "--form", form, *place, *names], cwd=folder,
+                capture_output=True, check=False)
+            found = {path.name: path.read_bytes() for path in out.iterdir()}
+            trial.expect(found == {"CNT001.1.COUNTED": due}, f"translated {case}, {words} {form}: {done}, {found}, {due}")
 
 
 def main():

@@ -5,11 +5,11 @@
 
 A labelled tape of three files is drawn for each image from its own seed and encoded as a SIMH
 image. Then some of its words are changed, bytes are changed, removed or put in, or parts are filled
-with zeros. The model, written from docs/FORMATS.md, says which bytes stay, where reading breaks off
-and where it continues. If the image that results can be read to its end, `convert --resync` must
-create exactly that image, print the number of its items, name each place on standard error, and end
-with status 3, or 0 if nothing was lost; otherwise it must end with status 1 and create nothing. An
-image without damage must stay as it is, byte for byte up to its end.
+with zeros. The model, written from docs/FORMATS.md, says where reading breaks off and where it
+continues. `convert --resync` must create an image of each reading that has items, with exactly its
+bytes, print the number of its items, name each place on standard error, and end with status 3, or 0
+if nothing was lost. If no reading has items, it must end with status 1 and create nothing. An image
+without damage must stay as it is, byte for byte up to its end.
 
 Prints each wrong result with the seed of its image, and counts; exit status 1 if there is one.
 --plant replaces a part of the model by a wrong one, for which there must be wrong results: FAULT is
@@ -28,10 +28,10 @@ import containers
 import tape_model as model
 from common import Results
 from containers import number
-from tape_model import MARK, encoded, word
+from tape_model import word
 
 SEARCHED = 262_144
-BAD_BLOCK = encoded(b"\0", flag=0x80000000)
+MOST = 99
 ALONE = (0, model.GAP, model.END)
 PLANTED = None
 
@@ -60,36 +60,44 @@ def again(data, at):
     return number(data, end) in ALONE or whole(data, end) is not None
 
 
-def resynced(data):
-    """The image in which reading continues, and the places."""
-    out, places, at = bytearray(), [], 0
-    while True:
+def reading(data, start):
+    """The place at which a reading ends, the number of its items, whether it is whole, and where the next begins, or None."""
+    at, items = start, 0
+    while at < len(data):
         if at + 4 > len(data):
-            return bytes(out + data[at:]), places
+            return at, items, False, None
         lead = number(data, at)
         length, to = length_in(lead), None
         if lead == model.END:
-            return bytes(out + data[at:]), places
+            return at + 4, items, True, None
         if length is not None:
             end = at + 8 + length + length % 2
             if end > len(data):
-                return bytes(out + data[at:]), places
+                return at, items, False, None
             if data[end - 4:end] == data[at:at + 4]:
-                out, at = out + data[at:end], end
+                items, at = items + 1, end
                 continue
             is_mark = data[end:end + 4] == bytes(4) and PLANTED != "mark"
             if again(data, end + 4 if is_mark else end):
                 to = end
         elif lead in ALONE:
-            out, at = out + data[at:at + 4], at + 4
+            items, at = items + (lead == 0), at + 4
             continue
         if to is None:
             places_left = range(at + 1, min(len(data), at + SEARCHED))
             to = next((each for each in places_left if again(data, each)), None)
-        if to is None:
-            return bytes(out + data[at:]), places
-        places.append((at, to))
-        out, at = out + BAD_BLOCK, to
+        return at, items, False, to
+    return at, items, True, None
+
+
+def readings(data):
+    """The readings of an image: each its start, its end, the number of its items, and whether it is whole."""
+    found, start = [], 0
+    while start is not None and len(found) < MOST:
+        end, items, is_whole, to = reading(data, start)
+        found.append((start, end, items, is_whole))
+        start = to
+    return found
 
 
 def damaged(rng, image):
@@ -126,25 +134,30 @@ class Trial(containers.Trial):
             self.told["extended"] += 1
             return
         (self.folder / "image").write_bytes(image)
-        out = self.folder / "out.tap"
-        out.unlink(missing_ok=True)
+        for old in self.folder.glob("out*.tap"):
+            old.unlink()
         done = self.run("convert", "--resync", "--format", "simh", "out.tap", "image")
-        found, places = resynced(image)
-        want, told = containers.items_in("simh", found), f"image {seed} ({len(places)} places)"
-        told_places = [f"  reading broke off at byte {a} and continued at byte {b}" for a, b in places]
-        lines = [each for each in done.stderr.decode().splitlines() if each.startswith("  reading")]
-        self.expect(lines == told_places, f"{told}: {lines}, expected {told_places}")
-        self.told["read" if want is not None else "not read"] += 1
-        self.told["places"] += len(places)
-        if want is None:
-            is_fault = done.returncode == 1 and b"image fault" in done.stderr and not out.exists()
-            self.expect(is_fault, f"{told}: status {done.returncode}, {done.stdout}, {done.stderr}")
-            return
-        got = model.items_of(out.read_bytes())[0] if out.exists() else None
-        self.expect(got == want, f"{told}: {len(got or [])} items, expected {len(want)}; {done.stderr}")
-        line = f"CONVERTED {len(want)}\n".encode()
-        status = 3 if places else 0
-        self.expect(done.stdout == line and done.returncode == status, f"{told}: {done}")
+        found, told = readings(image), f"image {seed}"
+        parts = [each for each in found if each[2] or each[3]]
+        names = ["out.tap", *(f"out-{number}.tap" for number in range(2, len(parts) + 1))]
+        made = {path.name: path.read_bytes() for path in self.folder.glob("out*.tap")}
+        want = {name: image[start:end] for name, (start, end, _, _) in zip(names, parts)}
+        self.expect(made == want, f"{told}: {[*made]}, expected {[*want]}; {done.stderr}")
+        lines, before = [], None
+        for name, (start, end, _, is_whole) in zip(names, parts):
+            if before is not None:
+                lines.append(f"  reading broke off at byte {before} and continued at byte {start}: {name}")
+            elif start:
+                lines.append(f"  reading began at byte {start}")
+            before = None if is_whole else end
+        lines += [f"  reading broke off at byte {before}"] if before is not None and parts else []
+        got = [each for each in done.stderr.decode().splitlines() if each.startswith("  reading")]
+        self.expect(got == lines, f"{told}: {got}, expected {lines}")
+        self.told["readings"] += len(found)
+        self.told["read" if parts else "not read"] += 1
+        line = "".join(f"CONVERTED {each[2]}{' ' + name if at else ''}\n" for at, (name, each) in enumerate(zip(names, parts)))
+        status = 1 if not parts else 3 if lines else 0
+        self.expect(done.stdout == line.encode() and done.returncode == status, f"{told}: {done}, expected {status} {line}")
 
 
 def main():

@@ -125,6 +125,29 @@ def is_further(item):
     return is_label and (item[:3] == b"UHL" or item[:3] == b"HDR" and item[3:4] in b"3456789")
 
 
+def may_be_own(item, head):
+    """Whether an item is a first trailer label without another section or file number: in ASCII or EBCDIC, with padding of up
+    to 40 bytes or without."""
+    if not is_block(item):
+        return False
+    item = item[:80] if 80 < len(item) <= 120 and len(set(item[80:])) == 1 else item
+    for text in item, item.decode("cp037").encode("latin-1"):
+        numbers = ((text[27:31], head["section"]), (text[31:35], head["file"]))
+        if len(item) == 80 and text[:4] in (b"EOF1", b"EOV1") and all(
+                not field.isdigit() or int(field) in (0, number) for field, number in numbers):
+            return True
+    return False
+
+
+def own_items(section, item):
+    """How many data items are certainly not the last ones of another section, whose trailer label may be the item after the
+    mark behind them; None if it is no such label."""
+    if not is_label(item, (b"EOF1", b"EOV1")) or may_be_own(item, section.head):
+        return None
+    count = int(item[54:60]) if item[54:60].isdigit() else 0
+    return max(0, len(section.data) - count) if count else 0
+
+
 LABELS = (b"VOL1", b"HDR1", b"HDR2", b"EOF1", b"EOF2", b"EOV1", b"EOV2")
 
 
@@ -139,9 +162,7 @@ class Section:
         """How many of its data items may be its blocks."""
         if self.closing:
             return len(self.data)
-        labels = [first_label(item, (b"EOF1", b"EOV1")) for item in self.data]
-        own = (self.head["section"], self.head["file"])
-        trailers = [at for at, it in enumerate(labels) if it and (it["section"], it["file"]) == own]
+        trailers = [at for at, item in enumerate(self.data) if may_be_own(item, self.head)]
         return min([len(self.data), *trailers[:1]])
 
     def believed(self):
@@ -261,6 +282,9 @@ def sections_on(items, image):
         if trailer and (trailer["section"], trailer["file"]) == (head["section"], head["file"]):
             at = close(section, trailer, items, at)
             is_next = at <= len(items) and items[at - 1] is MARK
+        else:
+            certain = [it for it in (section.doubt, own_items(section, items[at])) if it is not None]
+            section.doubt = min(certain, default=None)
     return found
 
 
@@ -769,7 +793,14 @@ def traps(trial):
 
     whole = [*head(first), block(a), block(b), *tail(first, 2)]
     lost = [bad, *head(first)[1:], block(a), block(b), *tail(first, 2)]
+    uncounted = [tail(first, 2)[1].replace(b"000002", b"      "), tail(first, 2)[2], mark, mark]
     rows = [
+        ("no mark after the data, and no count", [vol, *head(first), block(a), block(b), *uncounted], 1,
+            ["SECTION 1 1 4", "GAP 1 2 - 4", "UNSURE 1 2 3", "SALVAGED 4"], a + b),
+        ("no mark before the data, and no count", [vol, *head(first)[:2], block(a), block(b), mark, *uncounted], 1,
+            ["SECTION 1 1 2", "GAP 1 0 - 0", "UNSURE 1 0 1", "SALVAGED 0"], b""),
+        ("recorded over: the last two blocks may be of the second file", [vol, *head(first), block(a), block(b), block(c),
+            *tail(second, 2), mark], 1, ["SECTION 1 1 3", "GAP 1 1 - 2", "UNSURE 1 1 2", "SALVAGED 2"], a),
         ("all is readable", [vol, *whole, mark], 1, ["SECTION 1 1 2", "COMPLETE 4"], a + b),
         ("the mark after the data", [vol, *head(first), block(a), block(b), bad, *tail(first, 2)[1:], mark], 1,
             ["SECTION 1 1 5", "GAP 1 2 - 4", "UNSURE 1 2 4", "SALVAGED 4"], a + b),

@@ -43,6 +43,18 @@ def unpadded(block):
     return block[:80] if rest and len(rest) <= 40 and len(set(rest)) == 1 else block
 
 
+def may_be_own(block, head):
+    """Whether a block of 80 bytes is a first trailer label without another section or file number,
+    in ASCII or EBCDIC."""
+    for text in block, block.decode("cp037").encode("latin-1"):
+        numbers = text[27:31], text[31:35]
+        if len(block) == 80 and text[:4].decode("latin-1") in FIRST and all(
+                not field.isdigit() or int(field) in (0, head[key])
+                for field, key in zip(numbers, ("section", "file"))):
+            return True
+    return False
+
+
 def is_trailer(item):
     """Whether an item reads as a trailer label in ASCII or EBCDIC, with padding or without."""
     block = unpadded(block_of(item))
@@ -56,7 +68,7 @@ class Section:
         self.head, self.image, self.shape, self.begin = head, image, None, begin
         self.labels, self.data = [], []
         self.trailer, self.is_absent, self.is_doubtful = None, False, False
-        self.is_followed = False
+        self.other = None
 
     def close(self, trailer, items, at):
         """Closes the section with the label at an index: the index after the mark behind it."""
@@ -80,7 +92,7 @@ class Section:
         others = sum(not is_header(item) for item in self.labels)
         is_unsure = others > any(kind == "bad" for kind, _ in self.labels)
         return not self.trailer and bool(self.data) and (
-            is_unsure or self.is_followed or any(map(is_trailer, self.data)))
+            is_unsure or self.other is not None or any(map(is_trailer, self.data)))
 
     @property
     def is_left_out(self):
@@ -100,12 +112,14 @@ class Section:
         return (self.is_complete, good) if self.trailer else (False, self.believed())
 
     def believed(self):
-        """The number of blocks that are taken of a section that does not close."""
+        """The number of blocks that are taken of a section that does not close: if it is followed
+        by another section's trailer label, not the last ones, as many as that counts."""
+        count = len(self.data)
+        most = count if self.other is None else max(0, count - self.other) if self.other else 0
         for at, item in enumerate(self.data):
-            own = label_of(item, FIRST)
-            if item[0] == "bad" or (own and is_same(own, self.head)):
-                return at
-        return 0 if self.is_doubtful and not self.data else len(self.data)
+            if item[0] == "bad" or may_be_own(unpadded(block_of(item)), self.head):
+                return min(at, most)
+        return 0 if self.is_doubtful and not self.data else most
 
 
 def is_same(label, head):
@@ -162,7 +176,9 @@ class Search:
         trailer = label_of(self.items[end + 1], FIRST)
         if trailer and is_same(trailer, head):
             return self.closed(section, trailer, end + 1)
-        section.is_followed = bool(trailer)
+        block = block_of(self.items[end + 1])
+        if model.kind_of(block) in FIRST and not may_be_own(block, head):
+            section.other = model.number(block, 55, 60) or 0
         return end + 1
 
     def unnamed(self, first):

@@ -103,8 +103,10 @@ class Survey:
         for each in sum((volume.sections for volume in self.volumes), []):
             key = each["set"], each["file"]
             shape = model.ABSENT if each["shape"] is None else each["shape"]
-            if each["state"] == "GOOD" and isinstance(shape, tuple) and not found.get(key):
-                found[key] = model.padding_of(shape, each["blocks"], each["eof"])
+            is_good = each["state"] == "GOOD"
+            if (is_good or each["state"] == "BAD") and isinstance(shape, tuple) and not found.get(key):
+                readable = [block for block in each["blocks"] if block is not None]
+                found[key] = model.padding_of(shape, readable, each["eof"] and is_good)
         return sorted([printed(set_id).rstrip(), str(file), padding]
                       for (set_id, file), padding in found.items() if padding)
 

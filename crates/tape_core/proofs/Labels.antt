@@ -2,6 +2,7 @@
 use Rattle.std.proofs.Common.{◌≡◌, ◌≢◌, ℕ, ◌≤◌, List, length, ◌==◌, Bool, cond, false, true, Some}
 use Rattle.std.proofs.Common.{None, refl, arith, ap, sym, subst, ◌∙◌, map, drop, take, nat_le, ◌<◌}
 use Rattle.std.proofs.Common.{◌-◌, length-drop}
+use Rattle.std.specs.Prelude.{◌||◌}
 use lib.Seq.{take_all}
 use Rattle.std.proofs.lemmas.{Bool.Decides.nat_tests, List.length-map, List.length-take-le}
 use Rattle.tape_label.specs.{Kinds.kind_at, VolumeLabels.is_volume_label}
@@ -13,7 +14,7 @@ use Rattle.tape_core.specs.declared.normal.code.Code.TheVariants.{Ascii, Ebcdic,
 use Rattle.tape_core.specs.declared.normal.code.Code.TheVariants.{PaddedEbcdic}
 use Rattle.tape_core.specs.NormalForm.Codes.{in_ascii, is_label_length, turned, unpadded, to_ascii}
 use Rattle.tape_core.specs.NormalForm.Codes.{is_padding}
-use Rattle.tape_core.specs.NormalForm.{begins_tape, code_of, Mended.lost}
+use Rattle.tape_core.specs.NormalForm.{begins_tape, code_of, seems_label, Mended.lost}
 use Rattle.tape_core.specs.NormalForm.Steps.{second_at, trailer_at, next_at, other_at, headers_at}
 use Rattle.tape_core.specs.NormalForm.Steps.{trailers_at, left_at, same}
 use Rattle.tape_core.specs.declared.normal.machine.{TapePlace.TapePlace}
@@ -33,6 +34,12 @@ no_volume_label t n = rw (not_80 t n) refl
 pub not_further : (t : List ℕ) → length t ≢ 80 → is_further_header t ≡ false
 not_further t n = rw (not_80 t n) refl
 
+pub no_label : (t : List ℕ) → length t ≢ 80 → seems_label t ≡ false
+no_label t n = rw (not_80 t n) refl
+
+pub none_next : (t : List ℕ) → length t ≢ 80 → (is_further_header t || seems_label t) ≡ false
+none_next t n = rw (no_label t n, not_further t n) refl
+
 -- such a block is not the label expected there
 pub second_other : (code : Code) (seen : FileSeen) (t : List ℕ) → length t ≢ 80
     → second_at code seen t ≡ other_at code seen t
@@ -43,7 +50,7 @@ pub next_other : (code : Code) (before : FileSeen) (t : List ℕ) → length t �
 next_other code before t n = rw (no_kind t n) refl
 
 -- no label, so data, if labels are looked for
-other_data : (code : Code) (seen : FileSeen) (t : List ℕ) → length t ≢ 80
+pub other_data : (code : Code) (seen : FileSeen) (t : List ℕ) → length t ≢ 80
     → other_at code seen t ≡ (left_at code (Data code (lost seen)), same)
 other_data Ascii seen t n = refl
 other_data code seen t n = rw (no_kind t n) refl
@@ -70,7 +77,7 @@ behind_header code seen = Data code (lost seen)
 pub headers_data : (code : Code) (seen : FileSeen) (t : List ℕ) → length t ≢ 80
     → headers_at code seen t ≡ (behind_header code seen, same)
 headers_data Ascii seen t n = rw (not_80 t n) refl
-headers_data code seen t n = rw (no_kind t n, not_further t n) refl
+headers_data code seen t n = rw (no_label t n, no_kind t n, not_further t n) refl
 
 pub trailers_same : (code : Code) (seen : FileSeen) (t : List ℕ) → length t ≢ 80
     → trailers_at code seen t ≡ (Trailers code seen, same)

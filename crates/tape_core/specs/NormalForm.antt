@@ -12,7 +12,8 @@ pub mod Steps
 pub mod Bytes
 pub mod Image
 use Rattle.std.specs.Prelude.{ℕ, ◌+◌, nat_lt, ◌&&◌, ◌||◌, not, Bool, true, false, List, [], ◌∷◌}
-use Rattle.std.specs.Prelude.{length, if◌then◌else◌, Option, Some, None, is_some}
+use Rattle.std.specs.Prelude.{length, if◌then◌else◌, Option, Some, None, is_some, nat_le, ◌==◌}
+use Rattle.std.specs.Prelude.{slice_index}
 use Rattle.std.specs.{List.find}
 use Rattle.tape_image.specs.Tape.{TapeItem, block, bad, mark}
 use Rattle.tape_label.specs.{Kinds.kind_at, VolumeLabels.is_volume_label}
@@ -38,6 +39,12 @@ is_noise bytes = nat_lt (length bytes) 14
 -- a label with which a tape begins, in this code
 abbrev pub begins_tape : Code → List ℕ → Bool
 begins_tape code b = is_vol1 (kind_at (in_ascii code b)) || is_hdr1 (kind_at (in_ascii code b))
+
+abbrev pub is_capital : ℕ → Bool
+is_capital c = nat_le 65 c && nat_le c 90
+
+abbrev pub is_digit : ℕ → Bool
+is_digit c = nat_le 48 c && nat_le c 57
 
 -- the code in which a block is such a label
 abbrev pub code_of : List ℕ → Option Code
@@ -66,10 +73,18 @@ abbrev pub is_lost_header : Code → List ℕ → Bool
 is_lost_header Ascii text = false
 is_lost_header code text = is_hdr1 (kind_at text)
 
+-- whether a block seems to be a label that is not known here: 80 characters, of which the first are
+-- three capital letters and a digit
+abbrev pub seems_label : List ℕ → Bool
+seems_label text =
+    (length text == 80) && (not (is_some (kind_at text)) && (is_capital (slice_index text 0)
+    && (is_capital (slice_index text 1) && (is_capital (slice_index text 2)
+    && is_digit (slice_index text 3)))))
+
 -- whether header labels go on with this one
 abbrev pub is_next_header : Code → List ℕ → Bool
 is_next_header Ascii text = true
-is_next_header code text = is_hdr2 (kind_at text) || is_further_header text
+is_next_header code text = is_hdr2 (kind_at text) || (is_further_header text || seems_label text)
 
 -- a block that is not the label expected there, and the rest, which is `second` if the block begins
 -- a file; any other is taken for data in another code than ASCII
@@ -102,15 +117,17 @@ abbrev mutual
       then block (headed no_file (in_ascii code b)).0 ∷ of_second code (headed no_file (in_ascii code b)).1 xs
       else if nat_lt n most_dropped then of_labels code (n + 1) xs
       else block b ∷ xs
-  of_labels code n (mark ∷ xs) = mark ∷ of_blank xs
+  of_labels code n (mark ∷ xs) = mark ∷ of_blank code xs
   of_labels code n (bad ∷ xs) = bad ∷ of_left code no_file xs (λ s. of_headers code s xs)
 
-  -- the second mark of a volume without files
-  pub of_blank : List TapeItem → List TapeItem
-  of_blank [] = []
-  of_blank (block b ∷ xs) = block b ∷ xs
-  of_blank (mark ∷ xs) = mark ∷ of_ended xs
-  of_blank (bad ∷ xs) = bad ∷ xs
+  -- The second mark of a volume without files. If another item follows, the HDR1 of the first file
+  -- was lost, or stands after the mark.
+  pub of_blank : Code → List TapeItem → List TapeItem
+  of_blank code [] = []
+  of_blank code (block b ∷ xs) =
+      of_other code no_file b xs (λ s. of_second code s xs) (λ s. of_data code s xs)
+  of_blank code (mark ∷ xs) = mark ∷ of_ended xs
+  of_blank code (bad ∷ xs) = bad ∷ of_left code no_file xs (λ s. of_trailer code s xs)
 
   -- HDR2; if another header label or the mark was read there, the file has none
   pub of_second : Code → FileSeen → List TapeItem → List TapeItem

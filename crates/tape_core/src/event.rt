@@ -27,9 +27,8 @@ pub enum Event<'a> {
 pub enum Answer {
     /// The item was expected, and contains no part that is needed.
     Passed,
-    /// The block just passed in is the expected one, and its contents were checked: its parts,
-    /// beginning with the expected one, are the next parts of the file. The position is now after
-    /// the block.
+    /// The block is the expected one, and its contents were checked: its parts, beginning with the
+    /// expected one, are the next parts of the file. The position is now after the block.
     Deliver,
     /// The section is complete, and the file continues in the next section.
     SectionDone,

@@ -34,6 +34,10 @@ const NO_NUMBER2: &[u8; 80] =
 const HDR3: &[u8; 80] =
     b"HDR3                                                                            ";
 
+/// A header label that no standard has.
+const LBL1: &[u8; 80] =
+    b"LBL1 OF ANOTHER SYSTEM                                                          ";
+
 pub(crate) const EOF1: &[u8; 80] =
     b"EOF1PAYROLL          ABC00100010001000100 85113 00000 000002SYSTEM              ";
 
@@ -127,6 +131,7 @@ pub(crate) fn label(letter: u8) -> Option<[u8; 80]> {
         b's' => ebcdic(HDR2),
         b'p' => ebcdic(BLANK2),
         b'e' => ebcdic(EOF1),
+        b'l' => ebcdic(LBL1),
         _ => return None,
     })
 }
@@ -140,6 +145,7 @@ fn ascii(letter: u8) -> &'static [u8; 80] {
         b'K' | b'k' | b'R' | b'J' | b'j' => COUNTED,
         b's' | b'P' | b'p' => HDR2,
         b'U' => WIDE2,
+        b'l' => LBL1,
         _ => EOF1,
     }
 }
@@ -241,6 +247,20 @@ fn tapes_and_their_normal_forms(rt: HostRuntime) {
         ("vhsmDmemDmhsm", "AAA===A===AA="),
         ("vhsmDbbmbmism", "AAA=======aA="),
         ("vhbmDmkm", "AA====a="),
+        // a header label that is not known, before data that begin like a label
+        ("vhslmhDmem", "AAAA====A="),
+        // the first HDR1 is lost, or a mark is before it
+        ("vsmDmemhsm", "A-===A=AA="),
+        ("vsmbmemhsm", "A-===A=AA="),
+        ("vmDDmemhsm", "A====A=AA="),
+        ("vmhsmDmem", "A=AA===A="),
+        ("vmbhsmDmem", "A==AA===A="),
+        ("vmbmhsm", "A===AA="),
+        ("vmism", "A=aA="),
+        ("vmmDemh", "A==---="),
+        ("VSmDmEmHSm", "=-========"),
+        // a later HDR1 is lost
+        ("vhsmmemsmDmemhs", "AAA==A=====A=AA"),
         // labels without numbers
         ("VNSmDmFmm", "=A====A=="),
         ("VHSmDmEmNSmDmFmm", "========B====B=="),

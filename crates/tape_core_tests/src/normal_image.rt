@@ -103,7 +103,7 @@ fn all_of<R: Read>(alloc: Global, reader: &mut R) -> Result<Vec<u8>, AllocError>
 }
 
 /// The images, and what they become.
-const IMAGES: [(&str, &str); 19] = [
+const IMAGES: [(&str, &str); 23] = [
     ("VHSmDOgbdmEmm.", "VHSmDOgbdmEmm."),
     ("gVgHSgmgDmEmm", "gVgHSgmgDmEmm"),
     ("vhsmDdmemm.", "VHSmDdmEmm."),
@@ -118,11 +118,15 @@ const IMAGES: [(&str, &str); 19] = [
     ("VHSmDmEmmDbm.", "VHSmDmEmm."),
     ("vhsmDmbemhsm.", "VHSmDmbEmHSm."),
     ("bvhsm.", "bvhsm."),
+    ("vsmDmemhsmDmemm.", "VmDmEmHSmDmEmm."),
+    ("vmhsmDmemm.", "VmHSmDmEmm."),
     ("VHc", "VHc"),
     ("VLc", "V0"),
     ("BAmDAmCmm.", "VHmDAmEmm."),
     ("gBgAgmOmCmmA.", "gVgHgmOmEmmA."),
     ("BAmDmCmmDD.", "VHmDmEmm."),
+    ("BmDmCmAmDmCmm.", "VmDmEmHmDmEmm."),
+    ("BmAmDmCmm.", "VmHmDmEmm."),
 ];
 
 #[test]
@@ -201,6 +205,12 @@ fn rules_are_known(rt: HostRuntime) -> Result<(), AllocError> {
         ..Rules::NONE
     };
     assert_eq!(rt; rules_of(rt.alloc(), "BAmDmCmm.")?, padded);
+    let no_header = Rules {
+        ebcdic: true,
+        before: 1,
+        ..Rules::NONE
+    };
+    assert_eq!(rt; rules_of(rt.alloc(), "vsmDmemm.")?, no_header);
     let unnamed = Rules {
         no_volume_label: true,
         ..numbered

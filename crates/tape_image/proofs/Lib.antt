@@ -24,5 +24,6 @@ pub mod FormatsAgree
 pub mod FormatAws
 pub mod Copies
 pub mod Resyncs
+pub mod Again
 pub mod Unharmed
 mod MistakesOfReading

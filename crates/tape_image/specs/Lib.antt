@@ -27,4 +27,3 @@ pub mod Front
 pub mod State
 pub mod Standing
 pub mod FormatState
-pub mod ResyncState

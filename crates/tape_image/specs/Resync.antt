@@ -1,16 +1,11 @@
--- A SIMH image in which reading continues after a wrong word: a bad block replaces the bytes from
--- which no item can be read.
+-- Where the items of a damaged SIMH image begin again, counted from its wrong word or from the
+-- block that the word begins or ends.
 use Rattle.std.specs.Prelude.{◌≤◌, ℕ, zero, suc, ◌-◌, ◌==◌, ◌&&◌, ◌||◌, nat_le, nat_lt, min}
-use Rattle.std.specs.Prelude.{if◌then◌else◌, List, [], ◌++◌, length, take, drop, Option, Some}
-use Rattle.std.specs.Prelude.{None, Bool, true, false, is_some, ⊤}
+use Rattle.std.specs.Prelude.{if◌then◌else◌, List, length, take, drop, Option, Some}
+use Rattle.std.specs.Prelude.{None, Bool, true, false, is_some}
 use Rattle.byteorder.specs.Endian.{little_number}
 use Rattle.tape_image.specs.Word.{mark_word, gap_word, end_word, block_len, block_extent}
 use Rattle.tape_image.specs.Word.{longest_block}
-use Rattle.tape_image.specs.{Tape.bad, Written.written}
-use Rattle.tape_image.specs.declared.resync.front.Front.{Front}
-use Rattle.tape_image.specs.declared.resync.front.Front.TheVariants.{Item, Lost, Rest}
-
--- ---- where items begin again
 
 -- the word with which these n bytes end is that with which they begin
 abbrev pub same_words : ℕ → List ℕ → Bool
@@ -49,58 +44,39 @@ again_behind xs =
     else begins_again xs
 
 -- the first of n places from `at` on
-abbrev pub place_from : ℕ → ℕ → List ℕ → Front
-place_from at zero xs = Rest
+abbrev pub place_from : ℕ → ℕ → List ℕ → Option ℕ
+place_from at zero xs = None
 place_from at (suc n) xs =
-    if begins_again (drop at xs) then Lost at else place_from (suc at) n xs
+    if begins_again (drop at xs) then Some at else place_from (suc at) n xs
 
 -- among the first 262,144 bytes, but for the first of them
-abbrev pub found : List ℕ → Front
+abbrev pub found : List ℕ → Option ℕ
 found xs = place_from 1 (min (length xs) 262144 - 1) xs
 
--- ---- what the bytes begin with
+-- directly after a block of `size` bytes with different words, or the first place that is found
+abbrev pub behind_block : ℕ → List ℕ → Option ℕ
+behind_block size xs =
+    if nat_lt (length xs) size then None
+    else if same_words size xs then None
+    else if again_behind (drop size xs) then Some size else found xs
 
-abbrev pub block_front : ℕ → List ℕ → Front
-block_front size xs =
-    if nat_lt (length xs) size then Rest
-    else if same_words size xs then Item size
-    else if again_behind (drop size xs) then Lost size else found xs
+-- after the word w, with which a block of so many bytes begins
+abbrev pub behind_word : Option ℕ → ℕ → List ℕ → Option ℕ
+behind_word None w xs =
+    if (w == mark_word) || ((w == gap_word) || (w == end_word)) then None else found xs
+behind_word (Some n) w xs = behind_block (block_extent n) xs
 
-abbrev pub front_at : Option ℕ → ℕ → List ℕ → Front
-front_at None w xs =
-    if (w == mark_word) || (w == gap_word) then Item 4
-    else if w == end_word then Rest else found xs
-front_at (Some n) w xs = block_front (block_extent n) xs
-
-abbrev pub front_of : List ℕ → Front
-front_of xs =
-    if nat_lt (length xs) 4 then Rest
-    else front_at (block_len (little_number 4 xs)) (little_number 4 xs) xs
-
--- what is taken is there, and is at least a byte
-abbrev pub IsInside : List ℕ → Front → Type 0
-IsInside xs (Item n) = (1 ≤ n) × (n ≤ length xs)
-IsInside xs (Lost n) = (1 ≤ n) × (n ≤ length xs)
-IsInside xs Rest = ⊤
-
--- ---- images
+abbrev pub place_again : List ℕ → Option ℕ
+place_again xs =
+    if nat_lt (length xs) 4 then None
+    else behind_word (block_len (little_number 4 xs)) (little_number 4 xs) xs
 
 -- The bytes that are looked at: the longest block that a word may announce, those behind it among
 -- which its end is sought, and more.
 abbrev pub window : ℕ
 window = 17301504
 
--- what stands for the first bytes, and the others
-abbrev pub by_front : Front → List ℕ → (List ℕ → List ℕ) → List ℕ
-by_front (Item n) xs others = take n xs ++ others (drop n xs)
-by_front (Lost n) xs others = written bad ++ others (drop n xs)
-by_front Rest xs others = xs
-
--- Each item takes a byte at least, so one step more than there are bytes is enough.
-abbrev pub resynced_in : ℕ → List ℕ → List ℕ
-resynced_in zero xs = []
-resynced_in (suc steps) xs = by_front (front_of (take window xs)) xs (resynced_in steps)
-
--- the bytes of the image in which reading continues
-abbrev pub resynced : List ℕ → List ℕ
-resynced xs = resynced_in (suc (length xs)) xs
+-- The number of bytes before the place at which items begin again; `None` if no word is wrong here,
+-- or no such place is near.
+abbrev pub items_again : List ℕ → Option ℕ
+items_again xs = place_again (take window xs)

@@ -1,15 +1,28 @@
--- Laws about images in which reading continues after a wrong word.
-use Rattle.std.specs.Prelude.{◌≡◌, ℕ, List, ◌++◌}
-use Rattle.std.specs.{List.flat_map}
-use Rattle.tape_image.specs.{Tape.TapeItem, Resync.resynced}
-use Rattle.tape_image.specs.Spelling.{Leads, Spells}
+-- Laws about the places at which items begin again.
+use Rattle.std.specs.Prelude.{◌≡◌, ℕ, ◌≤◌, List, ◌++◌, length, drop, Some, None}
+use Rattle.tape_image.specs.{Tape.TapeItem, declared.item.Ending.Ending, Resync.items_again}
+use Rattle.tape_image.specs.Spelling.{IsSpelling, EndsHere}
 
--- the items before the damage stay as they are
-abbrev pub FrontStays : Type 0
-FrontStays =
-    (xs : List ℕ) (items : List TapeItem) (rest : List ℕ) (h : Leads xs items rest)
-    → resynced xs ≡ flat_map (λ s. s.bytes) h.spellings ++ resynced rest
+-- no place is sought where an item or an erase gap begins
+abbrev pub NoneAtItems : Type 0
+NoneAtItems =
+    (s rest : List ℕ) (given : List TapeItem) → IsSpelling s given → items_again (s ++ rest) ≡ None
 
--- an image that can be read to its end stays as it is
-abbrev pub WholeImagesStay : Type 0
-WholeImagesStay = (xs : List ℕ) (items : List TapeItem) → Spells xs items → resynced xs ≡ xs
+-- nor where the medium ends: so none is in an image that can be read to its end
+abbrev pub NoneAtEnds : Type 0
+NoneAtEnds =
+    (ending : Ending) (rest : List ℕ) → EndsHere ending rest → items_again rest ≡ None
+
+-- bytes that begin with an item or an erase gap
+pub record BeginsItem (xs : List ℕ) : Type 0 where
+  pub bytes : List ℕ
+  pub given : List TapeItem
+  pub rest : List ℕ
+  pub spelled : IsSpelling bytes given
+  pub whole : xs ≡ bytes ++ rest
+
+-- each place is farther on, within the bytes, and begins an item
+abbrev pub PlacesBeginItems : Type 0
+PlacesBeginItems =
+    (xs : List ℕ) (n : ℕ) → items_again xs ≡ Some n
+    → (1 ≤ n) × (n ≤ length xs) × BeginsItem (drop n xs)

@@ -11,7 +11,7 @@ ghost use Rattle.tape_image.specs.FormatItems.{SimhImagesKeepItems};
 ghost use Rattle.tape_image.specs.FormatLaws.{ItemsAreUnique, EncodingsAreUnique};
 ghost use Rattle.tape_image.specs.FormatLaws.{NoEncodingBeginsAnother, SimhIsExtended};
 ghost use Rattle.tape_image.specs.FormatLaws.{E11AndSimhAgree, E11AndSimhAreApart, EvenE11IsSimh};
-ghost use Rattle.tape_image.specs.ResyncLaws.{FrontStays, WholeImagesStay};
+ghost use Rattle.tape_image.specs.ResyncLaws.{NoneAtItems, NoneAtEnds, PlacesBeginItems};
 ghost use Rattle.tape_image.specs.Examples.{ImagesAreHeld, AnswersAreHeld, TakingIsHeld};
 ghost use Rattle.tape_image.specs.Examples.{LawsAreHeld, WritingIsHeld};
 
@@ -88,11 +88,12 @@ pub fn simh_formats_agree()
     ensures even { EvenE11IsSimh }
 {}
 
-/// Where reading continues after a wrong word, the items before that word stay as they are. An
-/// image that can be read to its end stays as it is.
-pub fn resynced_images_keep_items()
-    ensures front { FrontStays }
-    ensures whole { WholeImagesStay }
+/// No place is sought where an item or an erase gap begins, nor where the medium ends: so none is
+/// found in an image that can be read to its end. Each place that is found begins an item.
+pub fn items_begin_again_after_wrong_words()
+    ensures items { NoneAtItems }
+    ensures ends { NoneAtEnds }
+    ensures places { PlacesBeginItems }
 {}
 
 /// Test cases for the definitions: small images and results.

@@ -18,5 +18,5 @@ pub use format::{ImageFormat, SimhImage};
 pub use item::{Ending, ImageCause, ImageFault, ImageWriteFault, Item};
 pub use put::write_bytes;
 pub use reader::ImageReader;
-pub use resync::{Lost, Resynced};
+pub use resync::items_again;
 pub use writer::ImageWriter;

@@ -1,7 +1,7 @@
 -- A block of a reading, compared with the parts that a walk over a sink returns.
-use Rattle.std.proofs.Common.{◌≡◌, ℕ, ◌≤◌, ◌++◌, Bool, true, false, List, Option, Some}
+use Rattle.std.proofs.Common.{◌≡◌, ℕ, ◌<◌, ◌≤◌, refl, ◌++◌, Bool, true, false, List, Option, Some}
 use Rattle.std.proofs.Common.{sym, ap, subst, ◌∙◌, inl, inr, take, length, arith}
-use Rattle.tape_image.specs.{Tape.TapeItem, Tape.block}
+use Rattle.tape_image.specs.{Tape.TapeItem, Tape.block, Tape.mark}
 use Rattle.tape_blocks.specs.{declared.parts.Shape.Shape, Block.Portion}
 use Rattle.tape_set.specs.Lawful.{FileForm}
 use Rattle.tape_core.specs.{State.State, Overlap.Contains, Expects.Expects, Table.IsShapeOf}
@@ -88,27 +88,36 @@ module _ (wide : Bool) (from : ℕ) (core : State) (came : Option TapeItem) (byt
       ]
 
   pub other_next : (o : Overlap) (ahead : List Portion) → o.from ≡ from
-      → from ≤ seen
+      → from ≤ seen → seen < o.block
       → ((parts left : List Portion) → Reads shape content parts → ahead ≡ parts ++ left → ⊥)
       → (item : TapeItem) × (came ≡ Some item) × IsOther wide o core item ahead
-  other_next o ahead same le never = (
+  other_next o ahead same le early never = (
     block bytes,
     is,
-    inl (λ left m.
-        let (parts, r, q) = next_back ahead left le
-        (subst (λ z. Meets z core.phase (read_as wide core (block bytes)) ahead left) same m) in
-        never parts left r q),
+    inl (
+      bytes,
+      refl,
+      λ behind. let n = subst (λ z. IsBehind o.block z) there.is behind in omega (arith, n, early),
+      λ left m.
+          let (parts, r, q) = next_back ahead left le
+          (subst (λ z. Meets z core.phase (read_as wide core (block bytes)) ahead left) same m) in
+          never parts left r q,
+    ),
   )
 
-  pub other_front : (o : Overlap) (ahead : List Portion) → o.block ≤ seen
+  pub other_front : (o : Overlap) (ahead : List Portion) → o.block ≤ seen → o.from ≤ seen
+      → 0 < o.part
       → ((parts left : List Portion) → Reads shape content parts → o.part ≤ length parts
       → ahead ≡ take o.part parts ++ left → ⊥)
       → (item : TapeItem) × (came ≡ Some item) × IsOther wide o core item ahead
-  other_front o ahead last never = (
+  other_front o ahead last from_there some never = (
     block bytes,
     is,
     inr (
       subst (λ z. IsBehind o.block z) (sym there.is) last,
+      subst (λ z. IsBehind o.from z) (sym there.is) from_there,
+      some,
+      λ e. cc e,
       λ left m.
           let (parts, c, few, q) =
           subst (λ z. MeetsFront o.part z (block content) ahead left) there.is
@@ -116,6 +125,34 @@ module _ (wide : Bool) (from : ℕ) (core : State) (came : Option TapeItem) (byt
           never parts left (in_shape there.form shape content parts there.shown c) few q,
     ),
   )
+
+read_mark : (wide : Bool) (core : State) → read_as wide core mark ≡ mark
+read_mark false core = refl
+read_mark true core = refl
+
+no_front : (part : ℕ) (phase : Phase) (ahead left : List Portion)
+    → MeetsFront part phase mark ahead left → ⊥
+no_front part (DataWanted heading form seen) ahead left f = f
+no_front part _ ahead left f = f
+
+-- a mark in place of the block of which the session has the first parts
+pub other_mark : (wide : Bool) (core : State) (o : Overlap) (seen : ℕ) (shape : Shape)
+    (came : Option TapeItem) (ahead : List Portion) → Expects core.phase (Data seen shape)
+    → came ≡ Some mark → o.block ≤ seen → o.from ≤ seen → 0 < o.part
+    → (item : TapeItem) × (came ≡ Some item) × IsOther wide o core item ahead
+other_mark wide core o seen shape came ahead e is last from_there some =
+    let there = in_phase core.phase seen shape e in (
+      mark,
+      is,
+      inr (
+        subst (λ z. IsBehind o.block z) (sym there.is) last,
+        subst (λ z. IsBehind o.from z) (sym there.is) from_there,
+        some,
+        λ e. cc e,
+        λ left m. no_front o.part core.phase ahead left
+            (subst (λ z. MeetsFront o.part core.phase z ahead left) (read_mark wide core) m),
+      ),
+    )
 
 -- in this phase the block is expected
 pub is_behind : (number seen : ℕ) (core : State) (shape : Shape)

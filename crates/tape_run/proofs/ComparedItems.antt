@@ -1,31 +1,36 @@
 -- The items of a reading, compared with the parts that a walk over a sink returns.
 use Rattle.std.proofs.Common.{◌≡◌, ◌≢◌, ℕ, Bool, List, [], ◌∷◌, ◌++◌, Option, Some}
-use Rattle.std.proofs.Common.{None, Result, Ok, Err, refl, sym, subst, inl, inr}
+use Rattle.std.proofs.Common.{None, Result, Ok, Err, refl, sym, ap, subst, inl, inr}
 use Rattle.tape_image.specs.{Tape.TapeItem, Tape.bad, Begins.Walks, Reader.Reader, Reader.IfKnown}
 use Rattle.tape_image.specs.Step.{Meets as Met, GivesItem}
 use Rattle.tape_image.specs.declared.item.ImageFault.{ImageFault}
 use Rattle.tape_image.proofs.Walks.{Walks-nil, TakesEnd-behind, TakesFault-behind}
 use Rattle.tape_image.proofs.Walks.{known_then, known_same}
 use Rattle.tape_blocks.specs.Block.{Portion}
-use Rattle.tape_core.specs.{State.State, declared.event.Answer.Answer}
-use Rattle.tape_core.specs.{Wide.step_by, Wide.read_as}
+use Rattle.tape_core.specs.{State.State, Table.Outcome, Wide.step_by, Wide.read_as}
 use Rattle.tape_core.specs.declared.event.Answer.TheVariants.{Passed}
 use Rattle.tape_run.specs.declared.session.compared.overlap.{Overlap.Overlap, Found.Found}
-use Rattle.tape_run.specs.declared.session.compared.overlap.Found.TheVariants.{Same, Other, Unknown}
+use Rattle.tape_run.specs.declared.session.compared.overlap.Found.TheVariants.{Same, Other}
+use Rattle.tape_run.specs.declared.session.compared.overlap.Found.TheVariants.{Unknown, Ended}
 use Rattle.tape_run.specs.{Reels.behind_items, Taking.came_of}
 use Rattle.tape_run.specs.Comparing.{Meets, CameMeets, MeetAll, IsThere, IsOther, IsBehind, IsUnlike}
-use Rattle.tape_run.specs.Comparing.{IsSameFront, Finds}
+use Rattle.tape_run.specs.Comparing.{IsSameTo, IsCut, IsOver, Finds}
 use Rattle.tape_run.proofs.{ByTable.core_more, Reels.walks_on}
 
 meets_more : (wide : Bool) (from : ℕ) (core : State) (xs : List TapeItem) (x : TapeItem)
     (ahead mid left : List Portion) → MeetAll wide from core xs ahead mid
+    → (step_by wide (behind_items wide core xs) (Some x)).0 ≡ Passed
     → Meets from (behind_items wide core xs).phase (read_as wide (behind_items wide core xs) x) mid
     left
     → MeetAll wide from core (xs ++ x ∷ []) ahead left
-meets_more wide from core [] x ahead mid left is m =
-    (left, subst (λ z. Meets from core.phase (read_as wide core x) z left) is m, refl)
-meets_more wide from core (y ∷ xs) x ahead mid left (next, a, b) m =
-    (next, a, meets_more wide from (step_by wide core (Some y)).1 xs x next mid left b m)
+meets_more wide from core [] x ahead mid left is passed m =
+    (passed, left, subst (λ z. Meets from core.phase (read_as wide core x) z left) is m, refl)
+meets_more wide from core (y ∷ xs) x ahead mid left (first, next, a, b) passed m = (
+  first,
+  next,
+  a,
+  meets_more wide from (step_by wide core (Some y)).1 xs x next mid left b passed m,
+)
 
 -- So far the bytes up to an offset encode these items, and a walk has returned their parts.
 pub record MetSoFar (wide : Bool) (from : ℕ) (old new : State) (at : ℕ)
@@ -47,25 +52,26 @@ none_met wide from core left place now first = known_same left left _ refl (λ x
 })
 
 pub met_on : (wide : Bool) (from : ℕ) (core mid : State) (all : Option (List ℕ)) {new : State}
-    {old next : Reader} {item : TapeItem} {answer : Answer}
+    {old next : Reader} {item : TapeItem}
     (before here now : List Portion → Type 0)
     → IfKnown all old.left (MetSoFar wide from core mid old.place before here)
-    → GivesItem old item next → (answer, new) ≡ step_by wide mid (Some item)
+    → GivesItem old item next → (Passed, new) ≡ step_by wide mid (Some item)
     → ((ahead : List Portion) → here ahead → (left : List Portion)
     × CameMeets wide from mid (Some item) ahead left × now left)
     → IfKnown all next.left (MetSoFar wide from core new next.place before now)
-met_on wide from core mid all {new} {old} {next} {item} {answer} before here now known gives step
-    one =
+met_on wide from core mid all {new} {old} {next} {item} before here now known gives step one =
     known_then all old.left next.left _ _ (MetSoFar wide from core new next.place before now)
     (λ xs ys zs s k. record {
       items = s.items ++ item ∷ [];
       taken = walks_on old.place next.place xs ys zs s.items item s.taken k;
-      core = core_more wide core mid new answer s.items item step s.core;
+      core = core_more wide core mid new Passed s.items item step s.core;
       met = λ ahead was.
           let (more, m, h) = s.met ahead was in
           let (left, n, h') = one more h in (
             left,
             meets_more wide from core s.items item ahead more left m
+                (subst (λ z. (step_by wide z (Some item)).0 ≡ Passed) s.core
+                (ap (λ (z : Outcome). z.0) (sym step)))
                 (subst (λ z. Meets from z.phase (read_as wide z item) more left) s.core n),
             h',
           );
@@ -192,9 +198,9 @@ module _ (wide : Bool) (o : Overlap) (core mid : State) (all : Option (List ℕ)
   -- the end of the reading
   pub met_over : (told : Result (Option TapeItem) ImageFault) → Met old told next
       → ((step_by wide mid (came_of told)).0 ≢ Passed)
-      → IfKnown all next.left (λ bytes l. IsSameFront wide o core bytes ahead)
+      → IfKnown all next.left (λ bytes l. IsSameTo IsOver wide o core bytes ahead)
   met_over (Ok (Some item)) m ends =
-      known_then all old.left next.left _ _ (λ bytes l. IsSameFront wide o core bytes ahead)
+      known_then all old.left next.left _ _ (λ bytes l. IsSameTo IsOver wide o core bytes ahead)
       (λ xs ys zs s k.
       let (more, met, h) = s.met ahead was in
       record {
@@ -204,16 +210,16 @@ module _ (wide : Bool) (o : Overlap) (core mid : State) (all : Option (List ℕ)
         taken = s.taken;
         left = more;
         met = met;
-        cut = inl (
+        ends = inl (
           item,
           next.place,
           zs,
           walks_on old.place next.place xs ys zs s.items item s.taken k,
-          inr (subst (λ z. (step_by wide z (Some item)).0 ≢ Passed) s.core ends),
+          subst (λ z. (step_by wide z (Some item)).0 ≢ Passed) s.core ends,
         );
       }) known m.takes
   met_over (Ok None) m ends =
-      known_then all old.left next.left _ _ (λ bytes l. IsSameFront wide o core bytes ahead)
+      known_then all old.left next.left _ _ (λ bytes l. IsSameTo IsOver wide o core bytes ahead)
       (λ xs ys zs s k.
       let (more, met, h) = s.met ahead was in
       record {
@@ -223,7 +229,7 @@ module _ (wide : Bool) (o : Overlap) (core mid : State) (all : Option (List ℕ)
         taken = s.taken;
         left = more;
         met = met;
-        cut = inr (inl (
+        ends = inr (inl (
           m.ending,
           next.place,
           zs,
@@ -231,7 +237,7 @@ module _ (wide : Bool) (o : Overlap) (core mid : State) (all : Option (List ℕ)
         ));
       }) known m.takes
   met_over (Err fault) m ends =
-      known_then all old.left next.left _ _ (λ bytes l. IsSameFront wide o core bytes ahead)
+      known_then all old.left next.left _ _ (λ bytes l. IsSameTo IsOver wide o core bytes ahead)
       (λ xs ys zs s k.
       let (more, met, h) = s.met ahead was in
       record {
@@ -241,7 +247,7 @@ module _ (wide : Bool) (o : Overlap) (core mid : State) (all : Option (List ℕ)
         taken = s.taken;
         left = more;
         met = met;
-        cut = inr (inr (
+        ends = inr (inr (
           fault,
           zs,
           TakesFault-behind 0 old.place xs ys zs s.items fault s.taken k,
@@ -251,9 +257,9 @@ module _ (wide : Bool) (o : Overlap) (core mid : State) (all : Option (List ℕ)
   -- an unreadable item
   pub met_bad : (told : Result (Option TapeItem) ImageFault) → Met old told next
       → (came_of told ≡ Some bad) × IsBehind o.from mid.phase
-      → IfKnown all next.left (λ bytes l. IsSameFront wide o core bytes ahead)
+      → IfKnown all next.left (λ bytes l. IsSameTo IsCut wide o core bytes ahead)
   met_bad (Ok (Some item)) m (is, b) =
-      known_then all old.left next.left _ _ (λ bytes l. IsSameFront wide o core bytes ahead)
+      known_then all old.left next.left _ _ (λ bytes l. IsSameTo IsCut wide o core bytes ahead)
       (λ xs ys zs s k.
       let (more, met, h) = s.met ahead was in
       record {
@@ -263,12 +269,13 @@ module _ (wide : Bool) (o : Overlap) (core mid : State) (all : Option (List ℕ)
         taken = s.taken;
         left = more;
         met = met;
-        cut = inl (
-          item,
+        ends = (
           next.place,
           zs,
-          walks_on old.place next.place xs ys zs s.items item s.taken k,
-          inl (cc is, subst (λ z. IsBehind o.from z.phase) s.core b),
+          subst (λ z. Walks 0 xs (s.items ++ z ∷ []) next.place zs)
+              (let e : item ≡ bad = cc is in e)
+              (walks_on old.place next.place xs ys zs s.items item s.taken k),
+          subst (λ z. IsBehind o.from z.phase) s.core b,
         );
       }) known m.takes
   met_bad (Ok None) m (is, b) = absurd (cc is)
@@ -285,11 +292,12 @@ module _ (wide : Bool) (o : Overlap) (core mid : State) (all : Option (List ℕ)
       → (Some found ≡ Some Other → (more : List Portion) → here more
       → (item : TapeItem) × (came_of told ≡ Some item) × IsOther wide o mid item more)
       → (Some found ≡ Some Unknown → (came_of told ≡ Some bad) × IsBehind o.from mid.phase)
-      → (ahead : List Portion) → before ahead
+      → (Some found ≢ Some Ended) → (ahead : List Portion) → before ahead
       → IfKnown all next.left (λ bytes l. Finds wide o core bytes found now ahead)
-  said Same there other cut ahead was =
+  said Same there other cut ends ahead was =
       met_there wide o core mid all old next before here known ahead was told now m (there refl)
-  said Other there other cut ahead was =
+  said Other there other cut ends ahead was =
       met_other wide o core mid all old next before here known ahead was told m (other refl)
-  said Unknown there other cut ahead was =
+  said Unknown there other cut ends ahead was =
       met_bad wide o core mid all old next before here known ahead was told m (cut refl)
+  said Ended there other cut ends ahead was = absurd (ends refl)

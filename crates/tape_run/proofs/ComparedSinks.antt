@@ -7,7 +7,8 @@ use Rattle.tape_core.proofs.Weights.{weight_of-append}
 use Rattle.tape_image.specs.Reader.{IfKnown}
 use Rattle.tape_image.proofs.Walks.{IfKnown-map}
 use Rattle.tape_run.specs.declared.session.compared.overlap.{Overlap.Overlap, Found.Found}
-use Rattle.tape_run.specs.declared.session.compared.overlap.Found.TheVariants.{Same, Other, Unknown}
+use Rattle.tape_run.specs.declared.session.compared.overlap.Found.TheVariants.{Same, Other}
+use Rattle.tape_run.specs.declared.session.compared.overlap.Found.TheVariants.{Unknown, Ended}
 use Rattle.tape_run.specs.Comparing.{IsSame, IsSameFront, Finds, FindsAll}
 
 -- what follows first parts of the same weight is the same
@@ -39,6 +40,7 @@ module _ (wide : Bool) (o : Overlap) (core : State) (all rest : Option (List ℕ
   found_before Same other k = absurd (other refl)
   found_before Other other k = IfKnown-map all rest _ _ (λ xs ys x. inl x) k
   found_before Unknown other k = k
+  found_before Ended other k = k
 
   -- the walk has returned all parts
   pub found_all : (found : Found) → found ≡ Same → ((left : List Portion) → now left → left ≡ [])
@@ -48,6 +50,7 @@ module _ (wide : Bool) (o : Overlap) (core : State) (all rest : Option (List ℕ
       subst (λ z. IsSame wide o core xs ahead z) (none left at) same) k
   found_all Other is none k = absurd (cc is)
   found_all Unknown is none k = absurd (cc is)
+  found_all Ended is none k = absurd (cc is)
 
   -- it has more
   pub found_more : (found : Found) → found ≡ Same → (now [] → ⊥)
@@ -57,6 +60,7 @@ module _ (wide : Bool) (o : Overlap) (core : State) (all rest : Option (List ℕ
       inr (left, (λ e. some (subst now e at)), same)) k
   found_more Other is some k = absurd (cc is)
   found_more Unknown is some k = absurd (cc is)
+  found_more Ended is some k = absurd (cc is)
 
 -- the image that was read is this one, and the core that read it this one
 pub read_by : (P : State → List ℕ → Type 0) (from core : State)
@@ -98,4 +102,6 @@ pub same_or_front : (wide : Bool) (o : Overlap) (core : State) (all rest : Optio
 same_or_front wide o core all rest last Same not k = IfKnown-map all rest _ _ (λ xs ys x. inl x) k
 same_or_front wide o core all rest last Other not k = absurd (not refl)
 same_or_front wide o core all rest last Unknown not k =
-    IfKnown-map all rest _ _ (λ xs ys x. inr x) k
+    IfKnown-map all rest _ _ (λ xs ys x. inr (inl x)) k
+same_or_front wide o core all rest last Ended not k =
+    IfKnown-map all rest _ _ (λ xs ys x. inr (inr x)) k

@@ -45,7 +45,7 @@ module _ (set : FileSet) (xs : List TapeItem) (l : IsLawful set) (p : Position) 
   not_here rest Finished waits f = waits refl
   not_here rest (Awaits sect b part) waits f = f
 
-  agrees : (h : MountEvent) → IsMount set xs h → Along set p xs h core (item ∷ more)
+  pub agrees : (h : MountEvent) → IsMount set xs h → Along set p xs h core (item ∷ more)
       → Agrees set core form count item
   agrees (reads r) m a =
       elim (item_at set xs r a.index item more m (first_of xs a.index item more a.left)) [

@@ -22,17 +22,19 @@ use Rattle.tape_run.specs.declared.survey.{forms.FormNote.FormNote, fits.Misfit.
 use Rattle.tape_run.specs.declared.survey.padding.Padding.{Padding}
 use Rattle.tape_run.specs.declared.survey.forms.FormNote.TheVariants.{Stated, Absent, Trailer}
 use Rattle.tape_run.specs.declared.passing.Phase.{Phase}
-use Rattle.tape_run.specs.{Passing.Told, Noted.same_key, Noted.is_good, Onward.step}
+use Rattle.tape_run.specs.{Passing.Told, Noted.same_key, Onward.step}
 use Rattle.tape_run.specs.SurveyFiles.{Filed, Labelled, same_file, file_key, is_other}
 use Rattle.tape_run.specs.SurveyFiles.{other_section, note_of, note_at, first_in, with_first}
 use Rattle.tape_run.specs.SurveyFiles.{with_met, form_conflict, is_other_form}
 use Rattle.tape_run.specs.SurveyFiles.{first_form, with_first_form, with_form_of, with_absent}
 use Rattle.tape_run.specs.SurveyFiles.{with_trailer_of, with_trailer, with_form, with_blocks_of}
-use Rattle.tape_run.specs.SurveyFiles.{with_blocks_in, with_blocks, with_fit, any_differs}
+use Rattle.tape_run.specs.SurveyFiles.{with_blocks, with_fit, any_differs}
 use Rattle.tape_run.specs.SurveyFiles.{with_label}
 use Rattle.tape_run.specs.SurveyFiles.{form_in, section_of as key_of}
 use Rattle.tape_run.specs.{SurveyFits.misfit_of, SurveyFits.fit_in, SurveyGlance.label_in}
-use Rattle.tape_run.specs.{SurveyFits.misfit_in, SurveyPadding.padding_in}
+use Rattle.tape_run.specs.{SurveyFits.misfit_in, SurveyPadding.padding_in, SurveyPadding.padding_if}
+use Rattle.tape_run.specs.declared.section.SectionState.{SectionState}
+use Rattle.tape_run.specs.declared.section.SectionState.TheVariants.{Good, Bad, Count, Cut}
 use Rattle.tape_run.specs.SurveyCopies.{Copy, Copied, copy_note, noted_at, with_agreed}
 use Rattle.tape_run.specs.SurveyCopies.{with_good, with_conflict, with_copies, opponent_of}
 use Rattle.tape_run.specs.SurveyDigest.{digest_of}
@@ -264,17 +266,19 @@ module _ (set : FileSet) (lawful : IsLawful set) where
       noted key None m p is = fine.notes
       noted key (Some n) m p is = same_note files.notes key n _ is fine.notes refl (λ e. e)
 
-      if_good : (b : Bool) (t : Told) (fit : Fit) → AllByRecursion (λ e. IsFineNote e.0 e.1)
-          (if b then with_blocks_in files.notes t.0 (misfit_in t.0.sect (misfit_of fit t.1))
-          (padding_in fit t.1) else files.notes)
-      if_good true t fit = noted (file_key t.0.set_id t.0.file) _
-          (misfit_in t.0.sect (misfit_of fit t.1)) (padding_in fit t.1) refl
-      if_good false t fit = fine.notes
+      by_state : (s : SectionState) (t : Told) (fit : Fit) → t.1.state ≡ s
+          → AllByRecursion (λ e. IsFineNote e.0 e.1) (with_blocks files.notes (Some t) fit)
+      by_state Good t fit is = rw (is) (noted (file_key t.0.set_id t.0.file) _
+          (misfit_in t.0.sect (misfit_of fit t.1)) (padding_in fit t.1) refl)
+      by_state Bad t fit is = rw (is) (noted (file_key t.0.set_id t.0.file) _
+          None (padding_if false fit.padding) refl)
+      by_state Count t fit is = rw (is) fine.notes
+      by_state Cut t fit is = rw (is) fine.notes
 
       fitted : (t : Option Told) (fit : Fit)
           → AllByRecursion (λ e. IsFineNote e.0 e.1) (with_blocks files.notes t fit)
       fitted None fit = fine.notes
-      fitted (Some t) fit = if_good (is_good t.1.state) t fit
+      fitted (Some t) fit = by_state t.1.state t fit refl
 
   pub fine_label : (files : Labelled) (image : ℕ) (p : Phase) (x : TapeItem) → FineFiles files
       → IsFineLabel set (label_in p x) → IsFineForm set (form_in p x)

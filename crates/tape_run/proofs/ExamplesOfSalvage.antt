@@ -7,7 +7,7 @@ use Rattle.std.specs.Fmt.{digits}
 use Rattle.tape_image.specs.Tape.{TapeItem, block, bad, mark}
 use Rattle.tape_label.proofs.First.{head1_found, trail1_found}
 use Rattle.tape_set.specs.{Layout.all_numbered, Reading.Reading, Reach.passes}
-use Rattle.tape_run.specs.CasesOfSalvage.{CasesOfConflicts, CasesOfGaps, CasesOfClosed}
+use Rattle.tape_run.specs.CasesOfSalvage.{CasesOfConflicts, CasesOfGaps, CasesOfClosed, CasesOfEnds}
 use Rattle.tape_run.specs.CasesOfSalvage.{CasesOfDamaged, CasesOfSalvagedSets, CasesOfSalvage}
 use Rattle.tape_run.specs.{declared.salvage.copies.SectionCopy.SectionCopy, SalvageChoice.IsBest}
 use Rattle.tape_run.specs.{SalvageCopies.rank, SalvageBlocks.Salvaged, SalvageBlocks.none_salvaged}
@@ -107,6 +107,16 @@ only_image : (n : ℕ) (r q : Reading) → slice_get (Some r ∷ []) n ≡ Some 
 only_image zero r q e = cc e
 only_image (suc n) r q e = absurd (cc e)
 
+cases_of_ends : CasesOfEnds
+cases_of_ends = record {
+  own = refl;
+  other = refl;
+  before = refl;
+  too_few = refl;
+  no_count = refl;
+  own_follows = refl;
+}
+
 cases_of_closed : CasesOfClosed
 cases_of_closed = record {
   no_mark = λ h. h;
@@ -193,6 +203,7 @@ pub cases_of_salvage : CasesOfSalvage
 cases_of_salvage = record {
   conflicts = cases_of_conflicts;
   gaps = cases_of_gaps;
+  ends = cases_of_ends;
   closed = cases_of_closed;
   damaged = cases_of_damaged;
   sets = cases_of_sets;

@@ -87,6 +87,7 @@ mod UnpackedNames
 pub mod Patterns
 mod WholeReports
 pub mod RecordTexts
+pub mod Translations
 mod MenderLaws
 mod RecordWrites
 mod PartWrites
@@ -198,10 +199,15 @@ mod CopyTold
 mod CopyAlong
 mod CopySuspects
 mod CopyAgrees
+mod CopyHad
+mod CopyOverlaps
+mod CopyDiffers
 mod CopyTurns
 mod SectionOpens
 mod SectionSteps
 mod SectionStands
+mod HeldBlocks
+mod SectionsHeld
 mod CopyComing
 mod CopySteps
 mod CopyFindings

@@ -19,7 +19,7 @@ use Rattle.tape_run.specs.declared.salvage.walk.Expected.TheVariants.{UnnamedTra
 use Rattle.tape_run.specs.SalvageWalk.{with_second}
 use Rattle.tape_run.specs.SalvageWalk.{step, begun_by, closed_by, unnamed_by, goes_on_by}
 use Rattle.tape_run.specs.SalvageWalk.{unnamed_after, one_read, section_by, second_by, closes}
-use Rattle.tape_run.specs.SalvageWalk.{named_by, FoundAt, unclosed_by, and_read}
+use Rattle.tape_run.specs.SalvageWalk.{named_by, FoundAt, unclosed_by, and_read, followed_by}
 use Rattle.tape_run.specs.SalvageWalk.{and_unreadable, one_unreadable}
 use Rattle.tape_run.specs.SalvageClosed.{IsClosedIn, IsThere, ClosedAreThere}
 use Rattle.tape_run.proofs.SalvageLater.{PAt, all_found, either}
@@ -108,17 +108,17 @@ second u (Some kinds.Hdr2) r b xs v k h = with_label _ _ _ _ (block b) xs v k tt
 second u _ r b xs v k h = with_label _ _ _ _ (block b) xs v k tt h
 
 -- a block in place of the trailer label
-trailer_item : (u : OpenSection) (b : List ℕ) (r : Result Trail1 LabelFault) (xs : List TapeItem)
+trailer_item : (u w : OpenSection) (b : List ℕ) (r : Result Trail1 LabelFault) (xs : List TapeItem)
     (v : OpenSection) (k : Closing) → trail1_at b ≡ r → v.after ≡ None
-    → IsClosedIn xs v k ⊎ Open (closed_by u r (head1_at b)).0 xs v k
+    → IsClosedIn xs v k ⊎ Open (closed_by u w r (head1_at b)).0 xs v k
     → IsClosedIn (block b ∷ xs) v k ⊎ Open (Trailer u) (block b ∷ xs) v k
-trailer_item u b (Err f) xs v k is none h = inl (begun b _ _ _ _ _ refl (λ o. o) h)
-trailer_item u b (Ok t) xs v k is none h = chosen (closes u t) refl h
+trailer_item u w b (Err f) xs v k is none h = inl (begun b _ _ _ _ _ refl (λ o. o) h)
+trailer_item u w b (Ok t) xs v k is none h = chosen (closes u t) refl h
   where
     chosen : (c : Bool) → closes u t ≡ c
         → IsClosedIn xs v k ⊎ Open (if c
         then (Trailers u (closing_of u t), None)
-        else unclosed_by u (head1_at b)).0 xs v k
+        else unclosed_by w (head1_at b)).0 xs v k
         → IsClosedIn (block b ∷ xs) v k ⊎ Open (Trailer u) (block b ∷ xs) v k
     chosen false e h = inl (begun b (head1_at b) (Outside 0) xs v k refl (λ o. o) h)
     chosen true e (inl h) = inl (further (block b) xs v k h)
@@ -206,7 +206,8 @@ back (Data u) bad xs v k h none = either (h none) (further bad xs v k) (λ o. re
 })
 back (Data u) mark xs v k h none =
     either (h none) (further mark xs v k) (at_data_mark u.key u.blocks u.digest u.certain xs v k)
-back (Trailer u) (block b) xs v k h none = trailer_item u b (trail1_at b) xs v k refl none (h none)
+back (Trailer u) (block b) xs v k h none =
+    trailer_item u (followed_by b u) b (trail1_at b) xs v k refl none (h none)
 back (Trailer u) bad xs v k h none = inl (only_closed bad (Outside 0) xs v k (λ o. o) (h none))
 back (Trailer u) mark xs v k h none = inl (only_closed mark (Outside 1) xs v k (λ o. o) (h none))
 back (Trailers u l) (block b) xs v k h none = either (h none) (further (block b) xs v k)

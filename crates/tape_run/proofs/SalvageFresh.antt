@@ -17,7 +17,7 @@ use Rattle.tape_run.specs.declared.salvage.walk.Expected.TheVariants.{Outside, S
 use Rattle.tape_run.specs.declared.salvage.walk.Expected.TheVariants.{Data, Trailer, Trailers, Next}
 use Rattle.tape_run.specs.declared.salvage.walk.Expected.TheVariants.{Over, Skipping, Unnamed}
 use Rattle.tape_run.specs.declared.salvage.walk.Expected.TheVariants.{UnnamedTrailer}
-use Rattle.tape_run.specs.SalvageWalk.{with_second}
+use Rattle.tape_run.specs.SalvageWalk.{with_second, followed_by}
 use Rattle.tape_run.specs.SalvageWalk.{step, begun_by, closed_by, unnamed_by, goes_on_by, skipping}
 use Rattle.tape_run.specs.SalvageWalk.{unnamed_after, one_read, closes, named_by, unclosed_by}
 use Rattle.tape_run.specs.SalvageImage.{is_in, read_in}
@@ -68,14 +68,14 @@ module _ (key : SectionKey) where
   skips n u e = either (n == 0) (Data u) (Skipping n u)
       (tt, none_if (same_key u.key key) u.blocks e) (e, refl)
 
-  closed : (u : OpenSection) (r : Result Trail1 LabelFault) (h : Result Head1 LabelFault)
-      → Begins (closed_by u r h).0
-  closed u (Err f) h = begun h (Outside 0) (tt, refl)
-  closed u (Ok t) h = chosen (closes u t)
+  closed : (u w : OpenSection) (r : Result Trail1 LabelFault) (h : Result Head1 LabelFault)
+      → Begins (closed_by u w r h).0
+  closed u w (Err f) h = begun h (Outside 0) (tt, refl)
+  closed u w (Ok t) h = chosen (closes u t)
     where
       chosen : (b : Bool) → Begins (if b
           then (Trailers u (closing_of u t), None)
-          else unclosed_by u h).0
+          else unclosed_by w h).0
       chosen true = (tt, refl)
       chosen false = begun h (Outside 0) (tt, refl)
 
@@ -107,7 +107,7 @@ module _ (key : SectionKey) where
   enters (Data u) (block b) fresh off = (tt, none_off (same_key u.key key) _ off)
   enters (Data u) bad fresh off = (tt, none_off (same_key u.key key) _ off)
   enters (Data u) mark fresh off = (off, none_off (same_key u.key key) u.blocks off)
-  enters (Trailer u) (block b) fresh off = closed u (trail1_at b) (head1_at b)
+  enters (Trailer u) (block b) fresh off = closed u (followed_by b u) (trail1_at b) (head1_at b)
   enters (Trailer u) bad fresh off = (tt, refl)
   enters (Trailers u k) (block b) fresh off = (tt, refl)
   enters Next (block b) fresh off = begun (head1_at b) (Outside 0) (tt, refl)

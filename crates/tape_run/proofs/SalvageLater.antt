@@ -14,7 +14,7 @@ use Rattle.tape_run.specs.declared.salvage.walk.Expected.TheVariants.{Skipping, 
 use Rattle.tape_run.specs.declared.salvage.walk.Expected.TheVariants.{UnnamedTrailer}
 use Rattle.tape_run.specs.SalvageWalk.{step, expected_after, closed_by, closes, found_from, in_list}
 use Rattle.tape_run.specs.SalvageWalk.{FoundAt, FoundSection, one_further, open_section, read_after}
-use Rattle.tape_run.specs.SalvageWalk.{sections_in, unclosed_by, with_second}
+use Rattle.tape_run.specs.SalvageWalk.{sections_in, unclosed_by, with_second, followed_by}
 use Rattle.tape_run.specs.SalvageWalk.{closing_of}
 
 -- parts of a section that was found
@@ -36,13 +36,13 @@ closing_or d None = d
 closing_or d (Some (u, None)) = d
 closing_or d (Some (u, Some k)) = k
 
-no_end : (u : OpenSection) (r : Result Trail1 LabelFault) (h : Result Head1 LabelFault)
-    (v : OpenSection) (k : Closing) → (closed_by u r h).1 ≡ Some (v, Some k) → ⊥
-no_end u (Err f) h v k e = absurd (not_closed _ v k e refl)
-no_end u (Ok t) h v k e = chosen (closes u t) e
+no_end : (u w : OpenSection) (r : Result Trail1 LabelFault) (h : Result Head1 LabelFault)
+    (v : OpenSection) (k : Closing) → (closed_by u w r h).1 ≡ Some (v, Some k) → ⊥
+no_end u w (Err f) h v k e = absurd (not_closed _ v k e refl)
+no_end u w (Ok t) h v k e = chosen (closes u t) e
   where
     chosen : (c : Bool) → (if c then (Trailers u (closing_of u t), None)
-        else unclosed_by u h).1 ≡ Some (v, Some k) → ⊥
+        else unclosed_by w h).1 ≡ Some (v, Some k) → ⊥
     chosen true e = absurd (not_closed _ v k e refl)
     chosen false e = absurd (not_closed _ v k e refl)
 
@@ -86,7 +86,8 @@ module _ (P : Expected → List TapeItem → OpenSection → Closing → Type 0)
       let same : u ≡ v = ap (section_or u) e in
       let alike : l ≡ k = ap (closing_or l) e in named u v l k (mark ∷ xs) same alike
   ends_here (Trailers u l) (block b) xs v k e = absurd (not_closed _ v k e refl)
-  ends_here (Trailer u) (block b) xs v k e = absurd (no_end u (trail1_at b) (head1_at b) v k e)
+  ends_here (Trailer u) (block b) xs v k e =
+      absurd (no_end u (followed_by b u) (trail1_at b) (head1_at b) v k e)
   ends_here (Outside n) (block b) xs v k e = absurd (not_closed _ v k e refl)
   ends_here (Second u) (block b) xs v k e = absurd (not_closed _ v k e refl)
   ends_here (Headers u) (block b) xs v k e = absurd (not_closed _ v k e refl)

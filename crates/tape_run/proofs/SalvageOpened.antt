@@ -17,7 +17,7 @@ use Rattle.tape_run.specs.declared.salvage.walk.Expected.TheVariants.{Trailer, T
 use Rattle.tape_run.specs.SalvageWalk.{step, section_by, begun_by, with_item, with_data}
 use Rattle.tape_run.specs.SalvageWalk.{with_unreadable, doubted, closes, closed_by, second_by}
 use Rattle.tape_run.specs.SalvageWalk.{unclosed_by, with_trailer, unnamed_after, one_read, form_by}
-use Rattle.tape_run.specs.SalvageWalk.{trailer_form}
+use Rattle.tape_run.specs.SalvageWalk.{trailer_form, followed_by}
 use Rattle.tape_run.specs.SalvageWalk.{form_or, with_second}
 use Rattle.tape_run.specs.SalvageWhole.{Blocks, not_read}
 use Rattle.tape_run.specs.SalvageSections.{Labels, filled_of, MayBegin, after_trailers}
@@ -84,9 +84,9 @@ closes_it u t s f =
 pub trailer_step : (u : OpenSection) (b : List ℕ) (t : Trail1) → trail1_at b ≡ Ok t
     → closes u t ≡ true → step (Trailer u) (block b) ≡ (Trailers u (closing_of u t), None)
 trailer_step u b t is closed =
-    ap (λ (r : Result Trail1 LabelFault). closed_by u r (head1_at b)) is
+    ap (λ (r : Result Trail1 LabelFault). closed_by u (followed_by b u) r (head1_at b)) is
     ∙ ap (λ (c : Bool). (if c then (Trailers u (closing_of u t), None)
-    else unclosed_by u (head1_at b))) closed
+    else unclosed_by (followed_by b u) (head1_at b))) closed
 
 pub key_is : (h : Head1) (set_id : List ℕ) (file sect : ℕ) → h.set_id ≡ set_id → h.sequence ≡ file
     → h.sect ≡ sect

@@ -20,7 +20,7 @@ use Rattle.tape_run.specs.declared.salvage.walk.Expected.TheVariants.{UnnamedTra
 use Rattle.tape_run.specs.SalvageWalk.{with_second}
 use Rattle.tape_run.specs.SalvageWalk.{step, begun_by, closed_by, unnamed_by, goes_on_by, one_read}
 use Rattle.tape_run.specs.SalvageWalk.{one_unreadable, second_by, closes, named_by, unclosed_by}
-use Rattle.tape_run.specs.SalvageWalk.{FoundAt, and_read}
+use Rattle.tape_run.specs.SalvageWalk.{FoundAt, and_read, followed_by}
 use Rattle.tape_run.specs.SalvageSections.{IsNoHead}
 use Rattle.tape_run.specs.SalvageUnnamed.{IsUnnamedIn, IsThereUnnamed, UnnamedAreThere}
 use Rattle.tape_run.proofs.SalvageLater.{PAt, all_found, either}
@@ -97,16 +97,16 @@ second u None r xs v k h = h
 second u (Some kinds.Hdr2) r xs v k h = h
 second u _ r xs v k h = h
 
-trailer_item : (u : OpenSection) (b : List ℕ) (r : Result Trail1 LabelFault) (xs : List TapeItem)
-    (v : OpenSection) (k : Closing)
-    → IsUnnamedIn xs v k ⊎ Open (closed_by u r (head1_at b)).0 xs v k
+trailer_item : (u w : OpenSection) (b : List ℕ) (r : Result Trail1 LabelFault)
+    (xs : List TapeItem) (v : OpenSection) (k : Closing)
+    → IsUnnamedIn xs v k ⊎ Open (closed_by u w r (head1_at b)).0 xs v k
     → IsUnnamedIn (block b ∷ xs) v k ⊎ NoHdr1 u.after
-trailer_item u b (Err f) xs v k h = begun b _ _ _ _ _ refl (λ none o. absurd o) h
-trailer_item u b (Ok t) xs v k h = chosen (closes u t) h
+trailer_item u w b (Err f) xs v k h = begun b _ _ _ _ _ refl (λ none o. absurd o) h
+trailer_item u w b (Ok t) xs v k h = chosen (closes u t) h
   where
     chosen : (c : Bool) → IsUnnamedIn xs v k ⊎ Open (if c
         then (Trailers u (closing_of u t), None)
-        else unclosed_by u (head1_at b)).0 xs v k
+        else unclosed_by w (head1_at b)).0 xs v k
         → IsUnnamedIn (block b ∷ xs) v k ⊎ NoHdr1 u.after
     chosen false h = begun b (head1_at b) (Outside 0) xs v k refl (λ none o. absurd o) h
     chosen true (inl h) = inl (further (block b) xs v k h)
@@ -159,7 +159,8 @@ back (Headers u) mark xs v k h own = either (h own) (further mark xs v k) (λ o.
 back (Data u) (block b) xs v k h own = either (h own) (further (block b) xs v k) (λ o. o)
 back (Data u) bad xs v k h own = either (h own) (further bad xs v k) (λ o. o)
 back (Data u) mark xs v k h own = either (h own) (further mark xs v k) (λ o. o)
-back (Trailer u) (block b) xs v k h own = trailer_item u b (trail1_at b) xs v k (h own)
+back (Trailer u) (block b) xs v k h own =
+    trailer_item u (followed_by b u) b (trail1_at b) xs v k (h own)
 back (Trailer u) bad xs v k h own = inl (only bad (Outside 0) xs v k (λ o. o) (h own))
 back (Trailer u) mark xs v k h own = elim (h own) [
   | inl c ↦ inl (further mark xs v k c)

@@ -162,7 +162,7 @@ without_block p begun all end front (x ∷ xs) rest t o none (c, i) =
 -- ---- blocks
 
 -- in format F a block that contains its parts has records of at least one byte
-some_holds : (format : Format) (rec_len offset : ℕ) (block : List ℕ) (ps : List Portion)
+pub some_holds : (format : Format) (rec_len offset : ℕ) (block : List ℕ) (ps : List Portion)
     → Holds format rec_len offset block ps → format ≡ Fixed → 1 ≤ rec_len
 some_holds Fixed rec_len offset block ps h e = let l = h.2.1 in omega (arith, l)
 some_holds Counted rec_len offset block ps h e = absurd cc

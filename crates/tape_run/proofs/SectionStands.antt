@@ -68,21 +68,21 @@ record Next (p : Position) (xs : List TapeItem) (n : ℕ) (x : TapeItem) (out : 
   delivers : out.0 ≡ Deliver → Stood p (xs ++ x ∷ []) (n + 1) out.1 out.1.phase
   waits : GoesOn out.0 → out.1.position ≢ Finished
 
-map_push : (bs : List (List ℕ)) (b : List ℕ) → map block bs ++ (block b ∷ []) ≡ map block (bs ++ b ∷ [])
+pub map_push : (bs : List (List ℕ)) (b : List ℕ) → map block bs ++ (block b ∷ []) ≡ map block (bs ++ b ∷ [])
 map_push [] b = refl
 map_push (c ∷ bs) b = ap (λ z. block c ∷ z) (map_push bs b)
 
-push : (front skipped more : List TapeItem) (x : TapeItem)
+pub push : (front skipped more : List TapeItem) (x : TapeItem)
     → (front ++ (mark ∷ (skipped ++ more))) ++ (x ∷ [])
     ≡ front ++ (mark ∷ (skipped ++ (more ++ (x ∷ []))))
 push front skipped more x = simp append_assoc
 
-all_more : (P : TapeItem → Type 0) (xs : List TapeItem) (x : TapeItem) → AllByRecursion P xs → P x
+pub all_more : (P : TapeItem → Type 0) (xs : List TapeItem) (x : TapeItem) → AllByRecursion P xs → P x
     → AllByRecursion P (xs ++ x ∷ [])
 all_more P [] x all h = (h, tt)
 all_more P (y ∷ xs) x (here, all) h = (here, all_more P xs x all h)
 
-next_number : (p : Position) → p ≢ Finished
+pub next_number : (p : Position) → p ≢ Finished
     → (block_of (next_block p) ≡ block_of p + 1) × (next_block p ≢ Finished)
 next_number Finished waits = absurd (waits refl)
 next_number (Awaits sect b part) waits = (refl, λ e. cc e)
@@ -249,7 +249,7 @@ read_all wide p (x ∷ its) core xs n waits h (g, on) =
           )
     ]
 
-starts_out : (phase : Phase) (p : Position) → p ≢ Finished → IsOutside (mounted phase p)
+pub starts_out : (phase : Phase) (p : Position) → p ≢ Finished → IsOutside (mounted phase p)
 starts_out Broken p waits = tt
 starts_out _ Finished waits = absurd (waits refl)
 starts_out _ (Awaits sect b part) waits = tt

@@ -8,6 +8,7 @@ use Rattle.tape_set.specs.Layout.{FileSet, Placed, Entry, nth, entries, is_data}
 use Rattle.tape_set.specs.Reading.{Reading}
 use Rattle.tape_run.specs.SalvageSets.{copies_on, HasVolume, IsReadAgain, HasBlocks, IsOnNone}
 use Rattle.tape_run.specs.{declared.salvage.copies.SectionCopy.SectionCopy, SalvageWhole.Blocks}
+use Rattle.tape_run.specs.SalvageWalk.{followed_by, with_data}
 use Rattle.tape_run.specs.{declared.salvage.walk.Closing.Closing, SurveyDigest.digest_with}
 use Rattle.tape_run.specs.{declared.salvage.walk.OpenSection.OpenSection, SalvageSections.filled_of}
 use Rattle.tape_run.specs.declared.salvage.walk.Expected.TheVariants.{Data}
@@ -92,7 +93,31 @@ pub record CasesOfGaps : Type 0 where
       (Data (section_with 1 0 0)) (bad ∷ mark ∷ block a ∷ []) ≡ bad ∷ []
   pub starts : StartsReadable (bad ∷ []) → ⊥
 
--- ---- sections that close
+-- ---- sections that close, and ends of those that do not
+
+-- the trailer label of section 1 of file 1, without a block count
+abbrev pub uncounted : List ℕ
+uncounted =
+    codes "EOF1PAYROLL          ABC00100010001000100 00000 00000                           "
+
+-- the trailer label of section 1 of file 2, with three blocks, and without a block count
+abbrev pub of_file_2 : List ℕ
+of_file_2 =
+    codes "EOF1STOCK            ABC00100010002000100 00000 00000 000003                    "
+
+abbrev pub uncounted_of_file_2 : List ℕ
+uncounted_of_file_2 =
+    codes "EOF1STOCK            ABC00100010002000100 00000 00000                           "
+
+-- A first trailer label among the data ends those that are certain, unless it is another section's;
+-- before another section's label, those that it does not count are certain.
+pub record CasesOfEnds : Type 0 where
+  pub own : (with_data uncounted (section_with 1 2 0)).trailer ≡ Some 2
+  pub other : (with_data of_file_2 (section_with 1 2 0)).trailer ≡ None
+  pub before : (followed_by of_file_2 (section_with 1 5 0)).certain ≡ Some 2
+  pub too_few : (followed_by of_file_2 (section_with 1 2 0)).certain ≡ Some 0
+  pub no_count : (followed_by uncounted_of_file_2 (section_with 1 5 0)).certain ≡ Some 0
+  pub own_follows : (followed_by uncounted (section_with 1 5 0)).certain ≡ None
 
 pub record CasesOfClosed : Type 0 where
   pub no_mark : IsNoMark mark → ⊥
@@ -195,6 +220,7 @@ pub record CasesOfSalvagedSets : Type 0 where
 pub record CasesOfSalvage : Type 0 where
   pub conflicts : CasesOfConflicts
   pub gaps : CasesOfGaps
+  pub ends : CasesOfEnds
   pub closed : CasesOfClosed
   pub damaged : CasesOfDamaged
   pub sets : CasesOfSalvagedSets

@@ -1,12 +1,14 @@
 -- A reel, compared with the data delivered before it.
 use Rattle.std.specs.Prelude.{◌≡◌, ◌⊎◌, ℕ, ◌<◌, ◌≤◌, ◌++◌, ◌∷◌, [], List, Bool, Option, Some, None}
-use Rattle.std.specs.Prelude.{◌≢◌, take, length}
+use Rattle.std.specs.Prelude.{◌≢◌, take, length, nat_lt, if◌then◌else◌}
 use Rattle.tape_image.specs.{Tape.TapeItem, Tape.block, Tape.bad, Begins.Walks}
 use Rattle.tape_image.specs.{declared.item.ImageFault.ImageFault, declared.item.Ending.Ending}
 use Rattle.tape_image.specs.Step.{TakesEnd, TakesFault}
 use Rattle.tape_blocks.specs.{declared.parts.Shape.Shape, Block.Portion, Block.Holds}
 use Rattle.tape_blocks.specs.Spans.{InOrder}
+use Rattle.tape_set.specs.Layout.{Section}
 use Rattle.tape_core.specs.{Parts.goes_on_at, State.State, Overlap.Contains, Wide.step_by}
+use Rattle.tape_core.specs.Overlap.{delivered_after}
 use Rattle.tape_core.specs.{Place.place_of, Table.saved, Table.mount_of}
 use Rattle.tape_core.specs.{Wide.read_as, declared.event.Phase.Phase}
 use Rattle.tape_core.specs.declared.event.Phase.TheVariants.{DataWanted}
@@ -25,12 +27,13 @@ abbrev pub core_before : State → State
 core_before core = mount_of (place_of (saved core 0))
 
 -- An item of a reading in this phase, compared with the parts that are to come: if it is a block of
--- the section needed, with the number `from` or a greater one, they begin with its parts. `left`
--- are to come after it.
+-- the section needed, with the number `from` or a greater one, they begin with its parts. No
+-- unreadable item is in place of such a block. `left` are to come after the item.
 abbrev pub Meets : ℕ → Phase → TapeItem → List Portion → List Portion → Type 0
 Meets from (DataWanted heading form seen) (block content) ahead left =
     ((seen < from) × (left ≡ ahead)) ⊎ ((from ≤ seen) × ((parts : List Portion)
     × Contains form content parts × (ahead ≡ parts ++ left)))
+Meets from (DataWanted heading form seen) bad ahead left = (seen < from) × (left ≡ ahead)
 Meets from phase item ahead left = left ≡ ahead
 
 -- The same for an item that a core takes next, if there is one.
@@ -39,10 +42,11 @@ CameMeets wide from core (Some item) ahead left =
     Meets from core.phase (read_as wide core item) ahead left
 CameMeets wide from core None ahead left = left ≡ ahead
 
--- The same for items that a core takes, one after another.
+-- The same for items that a core takes, one after another, and passes.
 abbrev pub MeetAll : Bool → ℕ → State → List TapeItem → List Portion → List Portion → Type 0
 MeetAll wide from core [] ahead left = left ≡ ahead
-MeetAll wide from core (x ∷ xs) ahead left = (mid : List Portion)
+MeetAll wide from core (x ∷ xs) ahead left = ((step_by wide core (Some x)).0 ≡ Passed)
+    × (mid : List Portion)
     × Meets from core.phase (read_as wide core x) ahead mid
     × MeetAll wide from (step_by wide core (Some x)).1 xs mid left
 
@@ -67,25 +71,15 @@ IsThere wide o core came ahead left = IsBehind o.block core.phase
     × (((o.part ≡ 0) × (left ≡ ahead)) ⊎ ((item : TapeItem) × (came ≡ Some item)
     × MeetsFront o.part core.phase (read_as wide core item) ahead left))
 
--- The item has other parts than those that are to come.
+-- The item is a block that has other parts than those that are to come; or the session has first
+-- parts of a block, and the item in its place is a block that does not begin with them, or a mark.
 abbrev pub IsOther : Bool → Overlap → State → TapeItem → List Portion → Type 0
-IsOther wide o core item ahead =
-    ((left : List Portion) → Meets o.from core.phase (read_as wide core item) ahead left → ⊥)
-    ⊎ (IsBehind o.block core.phase × ((left : List Portion)
+IsOther wide o core item ahead = ((content : List ℕ) × (item ≡ block content)
+    × (IsBehind o.block core.phase → ⊥) × ((left : List Portion)
+    → Meets o.from core.phase (read_as wide core item) ahead left → ⊥))
+    ⊎ (IsBehind o.block core.phase × IsBehind o.from core.phase × (0 < o.part) × (item ≢ bad)
+    × ((left : List Portion)
     → MeetsFront o.part core.phase (read_as wide core item) ahead left → ⊥))
-
--- What a comparison found of the item that comes next: nothing yet, if the parts that are to come
--- begin with its parts; `now` relates to what is to come after them.
-abbrev pub Compares : Bool → Overlap → State → Option TapeItem → Option Found
-    → (List Portion → Type 0) → List Portion → Type 0
-Compares wide o core came None now ahead =
-    (left : List Portion) × CameMeets wide o.from core came ahead left × now left
-Compares wide o core came (Some founds.Same) now ahead =
-    (left : List Portion) × IsThere wide o core came ahead left × now left
-Compares wide o core came (Some founds.Other) now ahead =
-    (item : TapeItem) × (came ≡ Some item) × IsOther wide o core item ahead
-Compares wide o core came (Some founds.Unknown) now ahead =
-    (came ≡ Some bad) × IsBehind o.from core.phase
 
 -- The items of a reading by this core, with which the bytes begin, have the parts that are to come:
 -- up to the block at which the session continues, with those of its parts that the session has.
@@ -117,26 +111,37 @@ pub record IsUnlike (wide : Bool) (o : Overlap) (core : State) (bytes : List ℕ
   pub met : MeetAll wide o.from core items ahead left
   pub other : IsOther wide o (behind_items wide core items) item left
 
--- A reading by this core cannot be compared after these items, with which the bytes begin: the next
--- one is unreadable, in place of a block that would be compared, or the reading ends.
+-- After these items, with which the bytes begin, an unreadable one takes the place of a block that
+-- would be compared.
 abbrev pub IsCut : Bool → ℕ → State → List ℕ → List TapeItem → Type 0
-IsCut wide from core bytes items =
+IsCut wide from core bytes items = (end : ℕ) × (rest : List ℕ)
+    × Walks 0 bytes (items ++ bad ∷ []) end rest
+    × IsBehind from (behind_items wide core items).phase
+
+-- A reading by this core ends after these items, with which the bytes begin: by the next item, at
+-- the end of the medium, or at a fault.
+abbrev pub IsOver : Bool → ℕ → State → List ℕ → List TapeItem → Type 0
+IsOver wide from core bytes items =
     ((item : TapeItem) × (end : ℕ) × (rest : List ℕ) × Walks 0 bytes (items ++ item ∷ []) end rest
-    × (((item ≡ bad) × IsBehind from (behind_items wide core items).phase)
-    ⊎ ((step_by wide (behind_items wide core items) (Some item)).0 ≢ Passed)))
+    × ((step_by wide (behind_items wide core items) (Some item)).0 ≢ Passed))
     ⊎ (((ending : Ending) × (end : ℕ) × (rest : List ℕ) × TakesEnd 0 items ending end bytes rest)
     ⊎ ((fault : ImageFault) × (rest : List ℕ) × TakesFault 0 items fault bytes rest))
 
--- The items of the reading have the parts that are to come, as far as they can be compared.
-pub record IsSameFront (wide : Bool) (o : Overlap) (core : State) (bytes : List ℕ)
-    (ahead : List Portion) : Type 0 where
+-- The items of the reading have the parts that are to come, up to where `so` is true of them.
+pub record IsSameTo (so : Bool → ℕ → State → List ℕ → List TapeItem → Type 0) (wide : Bool)
+    (o : Overlap) (core : State) (bytes : List ℕ) (ahead : List Portion) : Type 0 where
   pub items : List TapeItem
   pub at : ℕ
   pub rest : List ℕ
   pub taken : Walks 0 bytes items at rest
   pub left : List Portion
   pub met : MeetAll wide o.from core items ahead left
-  pub cut : IsCut wide o.from core bytes items
+  pub ends : so wide o.from core bytes items
+
+-- The same up to an unreadable block, or up to the end of the reading.
+abbrev pub IsSameFront : Bool → Overlap → State → List ℕ → List Portion → Type 0
+IsSameFront wide o core bytes ahead =
+    IsSameTo IsCut wide o core bytes ahead ⊎ IsSameTo IsOver wide o core bytes ahead
 
 -- What a comparison of the items of a reading with the parts that are to come found; `now` relates
 -- to what is to come after them.
@@ -145,14 +150,22 @@ abbrev pub Finds : Bool → Overlap → State → List ℕ → Found → (List P
 Finds wide o core bytes founds.Same now ahead =
     (left : List Portion) × IsSame wide o core bytes ahead left × now left
 Finds wide o core bytes founds.Other now ahead = IsUnlike wide o core bytes ahead
-Finds wide o core bytes founds.Unknown now ahead = IsSameFront wide o core bytes ahead
+Finds wide o core bytes founds.Unknown now ahead = IsSameTo IsCut wide o core bytes ahead
+Finds wide o core bytes founds.Ended now ahead = IsSameTo IsOver wide o core bytes ahead
 
 -- What a comparison of the items of a reading with all of these parts found.
 abbrev pub FindsAll : Bool → Overlap → State → List ℕ → Found → List Portion → Type 0
 FindsAll wide o core bytes founds.Same parts = IsSame wide o core bytes parts []
 FindsAll wide o core bytes founds.Other parts = IsUnlike wide o core bytes parts
     ⊎ ((left : List Portion) × (left ≢ []) × IsSame wide o core bytes parts left)
-FindsAll wide o core bytes founds.Unknown parts = IsSameFront wide o core bytes parts
+FindsAll wide o core bytes founds.Unknown parts = IsSameTo IsCut wide o core bytes parts
+FindsAll wide o core bytes founds.Ended parts = IsSameTo IsOver wide o core bytes parts
+
+-- the parts that a session at the overlap's position has of the section, from the overlap's first
+-- block on
+abbrev pub had_from : Section → Overlap → List Portion
+had_from section o =
+    if nat_lt o.block o.from then [] else delivered_after section o.from o.block o.part
 
 -- the overlap in which each block of the section is compared, up to a position
 abbrev pub up_to : ℕ → ℕ → Overlap

@@ -92,6 +92,7 @@ pub mod UnpackLaws
 -- Recovered files, and reports of that: definitions to trust, in reading order.
 pub mod ReelLine
 pub mod RecordText
+pub mod Translating
 pub mod OutSinks
 pub mod Causes
 pub mod Comparing
@@ -122,6 +123,7 @@ pub mod SalvageImage
 pub mod SalvageEnds
 pub mod SalvageChoice
 pub mod SalvageTaking
+pub mod SalvageTrailers
 pub mod SalvageLabels
 pub mod SalvageConflicts
 pub mod SalvageGaps
@@ -156,3 +158,5 @@ pub mod CasesOfSalvage
 pub mod WidePassing
 pub mod Onward
 pub mod WideShown
+-- Labels that are changed on request.
+pub mod Relabel

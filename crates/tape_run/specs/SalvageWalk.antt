@@ -17,7 +17,8 @@ use Rattle.tape_label.specs.{Reading.wide_head2_at, WideHead2.absent_head2}
 use Rattle.tape_label.specs.WideHead2.{is_further_header}
 use Rattle.tape_set.specs.Lawful.{FileForm, binding_len, label_count}
 use Rattle.tape_core.specs.{Known.known_of, Range.form_in_range}
-use Rattle.tape_run.specs.SurveyDigest.{digest_with}
+use Rattle.tape_run.specs.{SurveyDigest.digest_with, SalvageTrailers.is_own_trailer}
+use Rattle.tape_run.specs.SalvageTrailers.{is_other_trailer, count_in}
 use Rattle.tape_run.specs.declared.salvage.walk.{OpenSection.OpenSection, Closing.Closing}
 use Rattle.tape_run.specs.declared.salvage.walk.{UnnamedItems.UnnamedItems, Expected.Expected}
 use Rattle.tape_run.specs.declared.salvage.walk.Expected.TheVariants.{Outside, Second, Headers}
@@ -51,16 +52,15 @@ is_named u t = bytes_eq t.head.file_id u.file_id
 abbrev pub closing_of : OpenSection → Trail1 → Closing
 closing_of u t = record { eof = t.eof; count = t.blocks; named = is_named u t }
 
--- the number of data items before the first that reads as the section's own trailer label, if the
--- next one is read like this
-abbrev pub trailer_by : OpenSection → Result Trail1 LabelFault → Option ℕ
-trailer_by u (Ok t) = if closes u t then first_of u.trailer u.blocks else u.trailer
-trailer_by u (Err _) = u.trailer
+-- the number of data items before the first that may be the section's own trailer label, if the
+-- next one may be it or not
+abbrev pub trailer_by : OpenSection → Bool → Option ℕ
+trailer_by u may_end = if may_end then first_of u.trailer u.blocks else u.trailer
 
 -- one more data block that was read
 abbrev pub with_data : List ℕ → OpenSection → OpenSection
 with_data b u = record (with_item u) {
-  trailer = trailer_by u (trail1_at b);
+  trailer = trailer_by u (is_own_trailer u.key b);
   digest = digest_with u.digest b;
 }
 
@@ -140,14 +140,30 @@ with_trailer u kind g = record u {
   after = option_map (λ n. min (n + 1) 4294967295) u.after;
 }
 
--- after a block at which a trailer label is expected
-abbrev pub closed_by : OpenSection → Result Trail1 LabelFault → Result Head1 LabelFault
-    → Expected × Option FoundSection
-closed_by u (Ok t) h =
+-- the data items that are not the last of another section, which has so many blocks; 0: not known
+abbrev pub items_before : ℕ → ℕ → ℕ
+items_before n blocks = if n == 0 then 0 else blocks - n
+
+abbrev pub least_of : Option ℕ → ℕ → ℕ
+least_of None n = n
+least_of (Some m) n = min m n
+
+-- The section if this block follows its data and does not close it. If that is the trailer label of
+-- another section, the last data items may be blocks of that section: as many as the label counts.
+abbrev pub followed_by : List ℕ → OpenSection → OpenSection
+followed_by b u =
+    if is_other_trailer u.key b
+    then record u { certain = Some (least_of u.certain (items_before (count_in b) u.blocks)) }
+    else u
+
+-- after a block at which a trailer label is expected; v is the section if this is none
+abbrev pub closed_by : OpenSection → OpenSection → Result Trail1 LabelFault
+    → Result Head1 LabelFault → Expected × Option FoundSection
+closed_by u v (Ok t) h =
     if closes u t
     then (Trailers u (closing_of u t), None)
-    else unclosed_by u h
-closed_by u (Err _) h = unclosed_by u h
+    else unclosed_by v h
+closed_by u v (Err _) h = unclosed_by v h
 
 -- ---- outside of sections
 
@@ -230,7 +246,7 @@ step (Headers u) mark = (Data u, None)
 step (Data u) (block b) = (Data (with_data b u), None)
 step (Data u) bad = (Data (with_item (with_unreadable u)), None)
 step (Data u) mark = (Trailer u, None)
-step (Trailer u) (block b) = closed_by u (trail1_at b) (head1_at b)
+step (Trailer u) (block b) = closed_by u (followed_by b u) (trail1_at b) (head1_at b)
 step (Trailer u) bad = (Outside 0, Some (u, None))
 step (Trailer u) mark = (Outside 1, Some (u, None))
 step (Trailers u k) (block b) =

@@ -15,9 +15,12 @@ use Rattle.tape_run.specs.{declared.survey.files.FileKey.FileKey, declared.passi
 use Rattle.tape_run.specs.declared.survey.{files.FileNote.FileNote, files.FirstHead.FirstHead}
 use Rattle.tape_run.specs.declared.survey.forms.FirstForm.{FirstForm}
 use Rattle.tape_label.specs.Formats.{letter}
-use Rattle.tape_run.specs.{Onward.step, Noted.same_key, Noted.is_good, Lacks.key_at}
+use Rattle.tape_run.specs.{Onward.step, Noted.same_key, Lacks.key_at}
 use Rattle.tape_run.specs.{Passing.Told, SurveyFits.no_fit, SurveyFits.fit_in}
 use Rattle.tape_run.specs.{SurveyFits.misfit_of, SurveyFits.misfit_in, SurveyPadding.padding_in}
+use Rattle.tape_run.specs.SurveyPadding.{padding_if}
+use Rattle.tape_run.specs.declared.section.SectionState.{SectionState}
+use Rattle.tape_run.specs.declared.section.SectionState.TheVariants.{Good, Bad, Count, Cut}
 use Rattle.tape_run.specs.declared.survey.{fits.Fit.Fit, padding.Padding.Padding}
 use Rattle.tape_run.specs.declared.survey.fits.{Misfit.Misfit, Flaw.Flaw}
 use Rattle.tape_run.specs.declared.survey.fits.Flaw.TheVariants.{Lost, Unsupported, Misfits}
@@ -271,13 +274,18 @@ with_blocks_in notes key misfit padding =
     let file = file_key key.set_id key.file in
     with_blocks_of notes file (lookup (same_file file) notes) misfit padding
 
--- the records after the section that was completed, if it is good
+-- the records after the section that was completed, if it is good; of one with unreadable blocks
+-- only what was left out of the others
 abbrev pub with_blocks : List Filed → Option Told → Fit → List Filed
 with_blocks notes None fit = notes
-with_blocks notes (Some t) fit =
-    if is_good t.1.state
-    then with_blocks_in notes t.0 (misfit_in t.0.sect (misfit_of fit t.1)) (padding_in fit t.1)
-    else notes
+with_blocks notes (Some t) fit = by_state t.1.state
+  where
+    by_state : SectionState → List Filed
+    by_state Good =
+        with_blocks_in notes t.0 (misfit_in t.0.sect (misfit_of fit t.1)) (padding_in fit t.1)
+    by_state Bad = with_blocks_in notes t.0 None (padding_if false fit.padding)
+    by_state Count = notes
+    by_state Cut = notes
 
 -- the files after an item in this phase, and the section that it completes
 abbrev pub with_fit : Labelled → Phase → TapeItem → Option Told → Labelled

@@ -9,6 +9,7 @@ mod now;
 pub mod opening;
 mod out_sink;
 mod records;
+mod translated;
 
 ghost use Rattle.std.specs.Prelude.{◌≡◌, ◌≢◌, None, List, OnOk, IfOk, OnErr, IfErr, true, false};
 ghost use Rattle.std.specs.Io.KnownBytes.{Appends};
@@ -39,6 +40,7 @@ use std::io::{Read, Write};
 use tape_blocks::Form;
 use tape_core::{PartSink, PartWalk, SinkFault};
 use tape_set::Want;
+pub use translated::Translated;
 
 /// Reads a file from its images, in their order, until it is complete, prints a line for each, and
 /// writes the file's records if it is complete. Otherwise returns the part that is still missing.

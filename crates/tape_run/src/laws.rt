@@ -28,11 +28,25 @@ ghost use Rattle.tape_run.specs.WholeReels.{WholeSetIsTold, GoodWasSeen};
 ghost use Rattle.tape_run.specs.UnpackLaws.{NamesDiffer, NamesStay, NamesFit};
 ghost use Rattle.tape_run.specs.QuotingLaws.{NamesShow, NamesTellApart, NamesKeep};
 ghost use Rattle.tape_run.specs.RecordText.{CountedKeepsRecords};
+ghost use Rattle.tape_run.specs.Translating.{TranslatesRecords, TranslatesInTurn};
 
 /// What is written in the counted form determines the records, their number and their boundaries.
 #[tactic(auto, using(crate::proofs::RecordTexts::keeps_records))]
 pub fn counted_keeps_records()
     ensures { CountedKeepsRecords }
+{}
+
+/// What [`Translated`](crate::Translated) writes for a file are its records in the form, each with
+/// its characters translated.
+#[tactic(auto, using(crate::proofs::Translations::records_spelled))]
+pub fn translates_records()
+    ensures { TranslatesRecords }
+{}
+
+/// What [`Translated`](crate::Translated) writes does not depend on how the bytes are divided.
+#[tactic(auto, using(crate::proofs::Translations::in_turn))]
+pub fn translates_in_turn()
+    ensures { TranslatesInTurn }
 {}
 
 /// Only a refusal can stop a run over a script with existing checkpoints and enough readers.

@@ -9,6 +9,7 @@ ghost use Rattle.tape_run.specs.Salvaging.{FindsOn, FindsAll, Salvages, StopsSal
 ghost use Rattle.tape_image.specs.Written.{AppendsFront};
 
 mod aligned;
+mod answer;
 mod conflicts;
 mod copies;
 mod doubts;

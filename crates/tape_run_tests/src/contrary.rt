@@ -22,6 +22,11 @@ const EOF_TWO: &str = "EOF1PAYROLL          ABC00100010001000100 00000 00000 000
 /// The trailer label of file 2, with three blocks.
 const EOF_OTHER: &str = "EOF1PAYROLL          ABC00100010002000100 00000 00000 000003";
 
+/// The header label of file 2, and a label of a user.
+const HDR_OTHER: &str = "HDR1PAYROLL          ABC00100010002000100 00000 00000 000000";
+
+const UTL1: &str = "UTL1 A LABEL THAT ANOTHER SYSTEM WROTE FOR ITSELF";
+
 /// The items of an image between VOL1 and its last mark: `|` is a tape mark, `?` an unreadable
 /// item, a longer text a block or a label.
 type Items = &'static [&'static str];
@@ -77,6 +82,13 @@ const TWO_NO_1: Items = &[HDR1, FIVE, "|", "aaaaa", "?", "|", EOF_TWO, END_FIVE,
 const OTHER_FILE: Items = &[
     HDR1, FIVE, "|", "aaaaa", "xxxxx", "ccccc", "|", EOF_OTHER, END_FIVE, "|",
 ];
+
+/// The same before the header label of that file, and before a user label.
+const NEXT_FILE: Items = &[
+    HDR1, FIVE, "|", "aaaaa", "xxxxx", "ccccc", "|", HDR_OTHER, FIVE, "|",
+];
+
+const USER_LABEL: Items = &[HDR1, FIVE, "|", "aaaaa", "xxxxx", "ccccc", "|", UTL1, "|"];
 
 const ENDS_AT_1: Items = &[HDR1, FIVE, "|", "aaaaa", "|", "?", END_FIVE, "|"];
 
@@ -201,15 +213,28 @@ const ROWS: &[(&[Items], bool, &str, usize)] = &[
         12,
     ),
     // The blocks before another file's trailer label complete no other copy, even if they are as
-    // many. The copy with the most blocks is used: this one, and its end is not known.
+    // many: they may be blocks of that file.
     (
         &[NO_1, OTHER_FILE],
+        false,
+        "CONFLICT 1 1 2\nSECTION 1 1 3\nGAP 1 1 1 1\nSALVAGED 2\n",
+        12,
+    ),
+    (
+        &[OTHER_FILE, NO_1],
+        false,
+        "CONFLICT 1 2 1\nSECTION 1 2 3\nGAP 1 1 1 1\nSALVAGED 2\n",
+        12,
+    ),
+    // So do those before another block that is none of its trailer labels.
+    (
+        &[NO_1, NEXT_FILE],
         false,
         "CONFLICT 1 1 2\nSECTION 1 2 3\nGAP 1 3 - 3\nSALVAGED 3\n",
         18,
     ),
     (
-        &[OTHER_FILE, NO_1],
+        &[USER_LABEL, NO_1],
         false,
         "CONFLICT 1 2 1\nSECTION 1 1 3\nGAP 1 3 - 3\nSALVAGED 3\n",
         18,

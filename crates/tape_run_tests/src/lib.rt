@@ -59,6 +59,8 @@ mod rounds;
 #[cfg(test)]
 mod salvaged;
 #[cfg(test)]
+mod salvaged_ends;
+#[cfg(test)]
 mod salvaged_formats;
 #[cfg(test)]
 mod salvaged_labels;
@@ -84,6 +86,8 @@ mod survey_onward;
 mod survey_rows;
 #[cfg(test)]
 mod survey_tasks;
+#[cfg(test)]
+mod survey_versions;
 #[cfg(test)]
 mod survey_wide;
 #[cfg(test)]

@@ -304,3 +304,32 @@ fn rows_of_a_padded_file(rt: HostRuntime) -> Result<(), Fail> {
         ROWS_OF_PADDED,
     )
 }
+
+/// The rows about the same file on an image with an unreadable block.
+const ROWS_OF_DAMAGED: &str = "IMAGE\tone.tap\tPARTIAL\tABC001\tABC001\t\t10\t1\t1\tMARKED\t\t\
+         volume ABC001, 1 section; 1 unreadable block; section 1 of file 1 has unreadable blocks, \
+         blocks found: 2
+SECTION\tABC001\t1\t1\tABC001\t2\tBAD\tEOF
+FILE\tABC001\t1\tPAYROLL\t\tBAD\t1\tABC001\t\t1:BAD;\tF\t20\t5
+PADDED\tABC001\t1\tNUL
+";
+
+/// The padding of a damaged copy counts, since other copies may complete it.
+#[test]
+fn rows_of_a_damaged_padded_file(rt: HostRuntime) -> Result<(), Fail> {
+    let mut image = Image::new(rt.alloc());
+    image.headers(&[VOL1, HDR1, FIVE])?;
+    image.block(b"first\0")?;
+    image.bad(b"first\0")?;
+    image.trailers(&["EOF1PAYROLL          ABC00100010001000100 00000 00000 000002"])?;
+    image.end()?;
+    let images = [Some(image.bytes.as_slice())];
+    told(
+        &rt,
+        &images,
+        &["one.tap"],
+        Wording::Rows,
+        false,
+        ROWS_OF_DAMAGED,
+    )
+}

@@ -2,7 +2,7 @@
 use Rattle.std.specs.Prelude.{ℕ, ◌==◌, ◌||◌, ◌&&◌, Bool, nat_le, true, false, List}
 use Rattle.std.specs.List.{list_all}
 use Rattle.tape_blocks.specs.declared.parts.Form.{Form}
-use Rattle.tape_blocks.specs.declared.parts.Form.TheVariants.{Lines, Raw}
+use Rattle.tape_blocks.specs.declared.parts.Form.TheVariants.{Lines, Raw, Counted}
 
 -- printable ASCII, a tab or a form feed: in particular no line feed
 abbrev pub is_text_byte : ℕ → Bool
@@ -16,3 +16,8 @@ is_text bytes = list_all is_text_byte bytes
 abbrev pub form_for : Bool → Form
 form_for true = Lines
 form_for false = Raw
+
+-- the form in which records are given to a translation, which writes them in their form
+abbrev pub given_form : Bool → Form → Form
+given_form true form = Counted
+given_form false form = form

@@ -8,7 +8,9 @@ use crate::json_rows::{Column, JsonRows, RowKind, RowTable, Shape, Span};
 use crate::names::{Named, names_of};
 use crate::normal::NormalImages;
 use crate::program::{End, check_end};
+use crate::readings::{all_readings, names_in, printed_names};
 use crate::refusal::Refusal;
+use crate::relabel::{JOIN, RENUMBER, Relabels, relabel};
 use crate::screen::Progress;
 use crate::unpack::printable;
 use clap::ArgMatches;
@@ -31,6 +33,8 @@ pub const SURVEY: &CommandSpec = &CommandSpec {
     words: &[
         Word("IMAGE", Kind::Images, help::IMAGES),
         Word("all", Kind::Flag, help::SURVEY_ALL),
+        JOIN,
+        RENUMBER,
         Word("tsv", Kind::Flag, help::ROWS),
         Word("json", Kind::Flag, help::SURVEY_JSON),
     ],
@@ -144,21 +148,27 @@ pub fn survey_form(matches: &ArgMatches<'_>) -> Result<SurveyForm, Refusal> {
     }
 }
 
-/// Reports on the images that the arguments name, on standard output: describes them in `form`
-/// or, if that is `None`, lists their sections. On error, `site` says where it occurred.
+/// Reports on the images that the arguments name, on standard output: describes them in `form`, with
+/// the labels that are requested, or, if that is `None`, lists their sections. On error, `site` says
+/// where it occurred.
 pub fn check<'a, R: Progress>(
     rt: &R,
     named: &Named<'a>,
     form: Option<SurveyForm>,
+    relabels: &Relabels,
     site: &mut FaultSite<'a>,
 ) -> Result<End, Refusal> {
     let mut text = String::new(rt.alloc());
     let names = names_of(rt.host(), named, &mut text, site)?;
     let names = names.as_slice();
-    *site = FaultSite::Lines;
-    let mut report = BufWriter::new(rt.alloc(), io::writer(rt)).map_err(|_| AllocError)?;
     // In a list, `-` is the name of a file.
     let input = named.words.iter().position(|word| *word == "-");
+    if relabels.is_wanted() && input.is_some() {
+        return Err(Refusal::Words(help::RELABELS_OF_INPUT));
+    }
+    relabel(rt, relabels, names)?;
+    *site = FaultSite::Lines;
+    let mut report = BufWriter::new(rt.alloc(), io::writer(rt)).map_err(|_| AllocError)?;
     Ok(check_end(match form {
         None => {
             let images = &mut Images::new(rt, names);
@@ -166,15 +176,61 @@ pub fn check<'a, R: Progress>(
             check_to(rt.alloc(), images, &mut report)
         }
         Some(form) => {
-            let images = &mut NormalImages::new(rt, names);
-            images.images.input = input;
-            survey(rt, images, names, form, &mut report)
+            let shelf = Shelf { names, input };
+            survey(rt, &shelf, form, &mut report)
         }
     }))
 }
 
-/// Describes the images named `names` in `form`.
+/// The images of a survey.
+#[derive(Clone, Copy)]
+struct Shelf<'n> {
+    names: &'n [&'n str],
+    /// The number of the image that is standard input, if any.
+    input: Option<usize>,
+}
+
+/// Describes the images in `form`. If one of them is not complete, looks for readings after wrong
+/// words, and describes these too.
 fn survey<R: Progress, W: Write>(
+    rt: &R,
+    shelf: &Shelf<'_>,
+    form: SurveyForm,
+    report: &mut W,
+) -> Result<bool, EngineFault> {
+    let mut lines = Vec::new(rt.alloc());
+    let images = &mut NormalImages::new(rt, shelf.names);
+    images.images.input = shelf.input;
+    let all = survey_as(rt, images, shelf.names, form, &mut lines)?;
+    if !all && shelf.input.is_none() {
+        let names = all_readings(rt, shelf.names)?;
+        if names.len() > shelf.names.len() {
+            return survey_further(rt, names.as_slice(), shelf.names.len(), form, report);
+        }
+    }
+    write_text(report, lines.as_slice())?;
+    flush(report)?;
+    Ok(all)
+}
+
+/// Describes these images and further readings, of which the first `count` were read before.
+fn survey_further<R: Progress, W: Write>(
+    rt: &R,
+    all: &[String],
+    count: usize,
+    form: SurveyForm,
+    report: &mut W,
+) -> Result<bool, EngineFault> {
+    let texts = printed_names(rt.alloc(), all)?;
+    let shown = names_in(rt.alloc(), texts.as_slice())?;
+    let names = names_in(rt.alloc(), all)?;
+    let images = &mut NormalImages::new(rt, names.as_slice());
+    images.are_told(count);
+    survey_as(rt, images, shown.as_slice(), form, report)
+}
+
+/// Describes the images named `names` in `form`.
+fn survey_as<R: Progress, W: Write>(
     rt: &R,
     images: &mut NormalImages<'_, R>,
     names: &[&str],

@@ -12,6 +12,7 @@ use crate::list::{LIST, ListOrder, list_order};
 use crate::merge::{COMPARE, MERGE, MergeOrder, compare_order, merge_order};
 use crate::names::Named;
 use crate::refusal::Refusal;
+use crate::relabel::{Relabels, relabels_of};
 use crate::salvage::{SALVAGE, SalvageOrder, salvage_order};
 use crate::show::{SHOW, ShowOrder, show_order};
 use crate::shown::Shown;
@@ -54,8 +55,9 @@ pub enum Order<'a> {
     Show(ShowOrder<'a>),
     /// `init`.
     Init(InitOrder<'a>),
-    /// `survey` in this form if there is one, and otherwise `check`.
-    Check(Named<'a>, Option<SurveyForm>),
+    /// `survey` in this form if there is one, with the labels that are requested, and otherwise
+    /// `check`.
+    Check(Named<'a>, Option<SurveyForm>, Relabels),
     /// `write`.
     Write(WriteOrder<'a>),
     /// `extract`.
@@ -200,12 +202,16 @@ fn order_of<'a>(alloc: Global, name: &str, words: &ArgMatches<'a>) -> Result<Ord
     Ok(match name {
         "list" => Order::List(list_order(words)?),
         "show" => Order::Show(show_order(words)?),
-        "check" => Order::Check(named_once(alloc, words, help::TOO_MANY_TO_CHECK)?, None),
+        "check" => {
+            let images = named_once(alloc, words, help::TOO_MANY_TO_CHECK)?;
+            Order::Check(images, None, Relabels::none(alloc))
+        }
         "survey" => {
             let form = survey_form(words)?;
             Order::Check(
                 named_once(alloc, words, help::TOO_MANY_TO_SURVEY)?,
                 Some(form),
+                relabels_of(alloc, words)?,
             )
         }
         "extract" => Order::Extract(extract_order(alloc, words)?),

@@ -21,7 +21,7 @@ use tape_set::Want;
 /// or of a doubtful copy, the image is read as if it ended with a tape mark before these data.
 #[derive(Drop)]
 pub struct Compared {
-    /// Whether images are compared: each is then opened up to three times more.
+    /// Whether images are compared: each is then opened up to four times more.
     is_on: bool,
     /// The numbers of the images that had other data.
     pub differing: Vec<usize>,

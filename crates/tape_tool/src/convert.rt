@@ -1,5 +1,7 @@
 //! `convert`: makes a SIMH image of an image of another format.
 
+mod parts;
+
 use crate::command_spec::{CommandSpec, Kind, Word};
 use crate::explain::FaultSite;
 use crate::extract::{Draft, no_draft};
@@ -11,11 +13,13 @@ use crate::refusal::{Refusal, open};
 use crate::screen::Progress;
 use crate::words::{at_most_one, out_of, text_of};
 use clap::ArgMatches;
+pub use parts::ShownPart;
+use parts::split;
 use std::alloc::Global;
 use std::fs::File;
 use std::io;
 use std::io::{BufWriter, Read, Write};
-use tape_image::{ConvertFault, ImageFormat, ImageReader, Lost, Resynced, convert_to};
+use tape_image::{ConvertFault, ImageFormat, ImageReader, convert_to, write_bytes};
 use tape_run::{Container, ImageSource, Place, container_of, write_text};
 
 /// The request to `convert`: the image to create, and the image at a path, or on standard input.
@@ -94,53 +98,57 @@ pub fn convert_image<'a, R: Progress>(
     *site = FaultSite::New(order.out);
     no_draft(&[order.out, order.image.unwrap_or(order.out)], None)?;
     let (mut draft, out) = Draft::new(rt, order.out)?;
-    let mut lost = None;
-    let end = match written(rt, order, &mut lost, &mut draft, out, site) {
-        Ok(items) => told(rt, items, lost.is_some(), site),
+    let end = match written(rt, order, &mut draft, out, site) {
+        Ok(Some(items)) => told(rt, items, site),
+        Ok(None) => split(rt, order, draft.path(), site),
         Err(fault) => End::Faulted(fault),
     };
     Ok(draft.ended(end))
 }
 
 /// Prints the number of items.
-fn told<R: Progress>(rt: &R, items: u64, is_broken: bool, site: &mut FaultSite<'_>) -> End {
+fn told<R: Progress>(rt: &R, items: u64, site: &mut FaultSite<'_>) -> End {
     *site = FaultSite::Lines;
     let Ok(line) = format!(in rt.alloc(); "CONVERTED {items}\n") else {
         return End::Faulted(OUT_OF_MEMORY);
     };
     match write_text(&mut io::writer(rt), line.as_bytes()) {
-        Ok(()) if is_broken => End::Incomplete,
         Ok(()) => End::Done,
         Err(fault) => End::Faulted(ToolFault::from(fault)),
     }
 }
 
 /// Writes the SIMH image to the draft, reads it again to its end, and gives it its name. Returns
-/// the number of its items, and in `lost` the bytes that were lost last.
+/// the number of its items. If reading is to continue after wrong words, only writes the image.
 fn written<'a, R: Progress>(
     rt: &R,
     order: ConvertOrder<'a>,
-    lost: &mut Option<Lost>,
     draft: &mut Draft<'_, R>,
     out: BufWriter<File>,
     site: &mut FaultSite<'a>,
-) -> Result<u64, ToolFault> {
+) -> Result<Option<u64>, ToolFault> {
     let mut out = out;
-    copy_image(rt, order, lost, &mut out, site)?;
+    let is_split = copy_image(rt, order, &mut out, site)?;
+    if is_split {
+        return match out.into_inner() {
+            Ok(_) => Ok(None),
+            Err(_) => Err(ToolFault::File(FileFault::WriteFailed)),
+        };
+    }
     let items = items_of(rt, draft.path())?;
     *site = FaultSite::New(order.out);
     draft.place(out)?;
-    Ok(items)
+    Ok(Some(items))
 }
 
-/// Writes the SIMH image of the image in `order`. On error, `site` says where it occurred.
+/// Writes the SIMH image of the image in `order`, and returns whether reading of it is to continue
+/// after wrong words. On error, `site` says where it occurred.
 fn copy_image<'a, R: Progress, W: Write>(
     rt: &R,
     order: ConvertOrder<'a>,
-    lost: &mut Option<Lost>,
     out: &mut W,
     site: &mut FaultSite<'a>,
-) -> Result<(), ToolFault> {
+) -> Result<bool, ToolFault> {
     *site = order
         .image
         .map_or(FaultSite::Stdin, |path| FaultSite::Converted(path));
@@ -150,8 +158,8 @@ fn copy_image<'a, R: Progress, W: Write>(
     let Some(image) = images.mount(0).map_err(|_| OUT_OF_MEMORY)? else {
         return Err(ToolFault::File(FileFault::NotOpened));
     };
-    match copied(rt, image, order, lost, out) {
-        Ok(()) => Ok(()),
+    match copied(rt, image, order, out) {
+        Ok(is_split) => Ok(is_split),
         Err(Stop::Image(fault)) => Err(fault),
         Err(Stop::Out) => {
             *site = FaultSite::New(order.out);
@@ -176,46 +184,15 @@ enum Stop {
     Out,
 }
 
-/// What is said of an image in which reading continued: the numbers of its items are not those of
-/// the tape.
-const NOT_ALIGNED: &str =
-    "blocks and tape marks may be lost there: do not join it with other copies";
-
-/// An image in which reading continues after a wrong word. The place is named on standard error.
-#[derive(Drop)]
-struct Resync<'t, R: Progress> {
-    rt: R,
-    image: Resynced<Image<R>>,
-    /// The bytes that were lost last.
-    lost: &'t mut Option<Lost>,
-}
-
-impl<R: Progress> Read for Resync<'_, R> {
-    fn read(&mut self, buf: &mut [u8]) -> io::Result<usize> {
-        let read = self.image.read(buf);
-        let lost = self.image.lost();
-        if lost != *self.lost {
-            *self.lost = lost;
-            if let Some(Lost { from, to }) = lost {
-                let _ = self.rt.eprint(format_args!(
-                    "  reading broke off at byte {from} and continued at byte {to}\n"
-                ));
-                let _ = self.rt.eprint(format_args!("  {NOT_ALIGNED}\n"));
-            }
-        }
-        read
-    }
-}
-
 /// Writes the SIMH image of an unread image of a format, or of one that is recognised. An image of
-/// a kind that is not read is refused with the fault that it has as a SIMH image.
+/// a kind that is not read is refused with the fault that it has as a SIMH image. Returns true if
+/// reading is to continue after wrong words: then the image was written as it is.
 fn copied<R: Progress, W: Write>(
     rt: &R,
     image: Image<R>,
     order: ConvertOrder<'_>,
-    lost: &mut Option<Lost>,
     out: &mut W,
-) -> Result<(), Stop> {
+) -> Result<bool, Stop> {
     let (mut image, alloc) = (image, rt.alloc());
     let kind = container_of(image.front());
     let format = match order.format.or(format_of(kind)) {
@@ -231,18 +208,34 @@ fn copied<R: Progress, W: Write>(
         }
     };
     let is_standard = format == ImageFormat::Extended && kind != Container::Extended;
-    let converted = if order.resync && is_standard {
-        let rt = rt.clone().map_err(|_| Stop::Image(OUT_OF_MEMORY))?;
-        let image = Resynced::new(alloc, image);
-        convert_to(alloc, Resync { rt, image, lost }, format, out)
+    let is_split = order.resync && is_standard;
+    let converted = if is_split {
+        copy_all(&mut image, out)
     } else {
         convert_to(alloc, image, format, out)
     };
     match converted {
-        Ok(()) => Ok(()),
+        Ok(()) => Ok(is_split),
         Err(ConvertFault::ReadFailed) => Err(Stop::Image(ToolFault::File(FileFault::ReadFailed))),
         Err(ConvertFault::WriteFailed) => Err(Stop::Out),
     }
+}
+
+/// Copies all bytes.
+fn copy_all<D: Read, W: Write>(from: &mut D, out: &mut W) -> Result<(), ConvertFault> {
+    let mut piece = [0u8; 4096];
+    for _ in 0..u64::MAX {
+        let read = match from.read(&mut piece) {
+            Ok(0) => break,
+            Ok(read) => read,
+            Err(_) => return Err(ConvertFault::ReadFailed),
+        };
+        let bytes = piece.get(..read).unwrap_or(&[]);
+        if write_bytes(out, bytes).is_err() {
+            return Err(ConvertFault::WriteFailed);
+        }
+    }
+    Ok(())
 }
 
 /// Returns the number of items of an image.

@@ -4,6 +4,7 @@ mod differing;
 mod files;
 mod missing;
 
+use crate::convert::ShownPart;
 use crate::fault::{
     FaultLine, FileFault, OUT_OF_MEMORY, ToolFault, number_of_file, number_of_write,
 };
@@ -58,8 +59,10 @@ pub enum FaultSite<'a> {
     Conflict(ImageName<'a>, ImageName<'a>),
     /// The output file for the records.
     Out(&'a str),
-    /// The output file for the merged image.
+    /// The output file for a new image.
     New(&'a str),
+    /// One of several new images, by the name of the first one and its number.
+    Part(&'a str, usize),
     /// The log of a merge.
     Log(&'a str),
     /// The stage, where recovered data is saved.
@@ -84,6 +87,7 @@ impl fmt::Display for FaultSite<'_> {
             }
             FaultSite::Listed(number) => write!(f, "  Image: {}", ImageName::Listed(*number)),
             FaultSite::Conflict(one, other) => write!(f, "  Image: {one}\n  Image: {other}"),
+            FaultSite::Part(out, number) => write!(f, "  OUT: {}", ShownPart(*out, *number)),
             _ => {
                 let (kind, name, _) = self.described();
                 write!(f, "  {kind}: {}", Shown(name))
@@ -108,7 +112,7 @@ impl<'a> FaultSite<'a> {
             FaultSite::Images(path) => ("DIR", path, FILE_OF_IMAGES),
             FaultSite::List(path) => ("List", path.unwrap_or("standard input"), FILE_OF_LIST),
             FaultSite::Out(path) => ("OUT", path, FILE_OF_OUT),
-            FaultSite::New(path) => ("OUT", path, FILE_OF_NEW),
+            FaultSite::New(path) | FaultSite::Part(path, _) => ("OUT", path, FILE_OF_NEW),
             FaultSite::Log(path) => ("LOG", path, FILE_OF_LOG),
             FaultSite::Stage(path) => ("Stage", path, FILE_OF_STAGE),
             FaultSite::Folder(path) => ("DIR", path, FILE_OF_FOLDER),
@@ -209,6 +213,7 @@ fn reason_of<R: Runtime>(rt: &R, fault: ToolFault, site: FaultSite<'_>) -> Optio
         FaultSite::Input(word) => unread(rt, split(word).1),
         FaultSite::Out(path)
         | FaultSite::New(path)
+        | FaultSite::Part(path, _)
         | FaultSite::Log(path)
         | FaultSite::Provenance(path) => fs::metadata(rt, folder_of(path)).err(),
         FaultSite::Folder(path)

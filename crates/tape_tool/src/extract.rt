@@ -1,5 +1,6 @@
 //! `extract`: recovers a file of a set from images.
 
+mod doubts;
 mod draft;
 mod out;
 mod recovery;
@@ -10,24 +11,26 @@ use crate::dates::date_output;
 use crate::explain::FaultSite;
 use crate::fault::ToolFault;
 use crate::help;
-use crate::images::{Images, in_reading_order, place_of};
+use crate::images::in_reading_order;
 use crate::names::{Named, names_of};
 use crate::normal::NormalImages;
 use crate::program::End;
+use crate::readings::{all_readings, image_of, names_in};
+use crate::record_form::RecordForm;
 use crate::recording::{PROVENANCE, ReadImages, new_record, provenance_of, record_extracted};
-use crate::refusal::{Refusal, are_files, is_file};
+use crate::refusal::{Refusal, is_file};
+use crate::relabel::{JOIN, RENUMBER, Relabels, relabel, relabels_of};
 use crate::screen::Progress;
 use crate::uncounted::report_uncounted;
 use crate::unpack::{Listed, Record};
-use crate::warned::Warned;
-use crate::words::{FORM, form_of, named, out_of, set_id_of, text_of};
+use crate::words::{FORM, TEXT, named, out_of, record_form_of, set_id_of, text_of};
 use clap::ArgMatches;
+use doubts::{doubt_copies, files_in};
 pub use draft::{Draft, no_draft};
 pub use out::{Output, Way, is_one_name, way_to_out};
 pub use recovery::end_as_written;
-use std::alloc::{AllocError, Global};
+use std::alloc::Global;
 use std::io;
-use tape_blocks::Form;
 use tape_label::Field;
 use tape_run::{AsTheyAre, FoundFiles, find_files};
 use tape_set::Want;
@@ -43,6 +46,8 @@ pub struct ExtractOrder<'a> {
     pub now: bool,
     /// The path of the record of how the file was recovered, if one is to be created.
     pub provenance: Option<&'a str>,
+    /// What is requested of labels.
+    pub relabels: Relabels,
 }
 
 /// The file of a set to recover, and how to recover it.
@@ -55,7 +60,7 @@ pub struct Task<'a> {
     /// The path of the output.
     pub out: &'a str,
     /// The form in which its records are written.
-    pub form: Form,
+    pub form: RecordForm,
     /// The path of the stage, where recovered data is saved.
     pub stage: Option<&'a str>,
     /// Whether the images are read again until a pass recovers nothing.
@@ -74,8 +79,11 @@ pub const EXTRACT: &CommandSpec = &CommandSpec {
         Word("OUT", Kind::Text, help::OUT),
         Word("IMAGE", Kind::Images, help::REELS),
         FORM,
+        TEXT,
         Word("stage", Kind::TextOption("PATH"), help::STAGE),
         Word("again", Kind::Flag, help::AGAIN),
+        JOIN,
+        RENUMBER,
         Word("now", Kind::Flag, help::NOW_OF_OUT),
         PROVENANCE,
     ],
@@ -92,7 +100,7 @@ pub fn extract_order<'a>(
         set_id,
         file: matches.get_one::<u16>("FILE").unwrap_or(0),
         out: out_of(matches, help::OUT_IS_DASH)?,
-        form: form_of(matches),
+        form: record_form_of(matches),
         stage: matches.get_str("stage"),
         again: matches.get_flag("again"),
         wide: false,
@@ -101,11 +109,16 @@ pub fn extract_order<'a>(
     if provenance.is_some() && !task.again {
         return Err(Refusal::Words(help::PROVENANCE_NEEDS_AGAIN));
     }
+    let relabels = relabels_of(alloc, matches)?;
+    if relabels.is_wanted() && !task.again {
+        return Err(Refusal::Words(help::RELABELS_NEED_AGAIN));
+    }
     Ok(ExtractOrder {
         task,
         images: named(alloc, matches, help::TOO_MANY_IMAGES)?,
         now: matches.get_flag("now"),
         provenance,
+        relabels,
     })
 }
 
@@ -139,12 +152,13 @@ fn extract_named<'n, 'a, R: Progress>(
     let way = way_to_out(host, task.out, task.stage, order.images.list, named, target)?;
     let outs = [task.out, task.stage.unwrap_or(task.out)];
     let mut record = new_record(host, order.provenance, &outs, named, site)?;
+    relabel(rt, &order.relabels, named)?;
     let mut listed = Listed::new(rt.alloc(), record.is_some());
     let end = if task.again {
         let (way, record, listed) = ((way, reels), &mut record, &mut listed);
-        extract_again(rt, order, named, way, record, listed, site)
+        extract_further(rt, order, named, way, record, listed, site)
     } else {
-        extract_in_order(rt, task, named, way, reels, &mut listed, site)
+        recovery::extract_in_order(rt, task, named, way, reels, &mut listed, site)
     };
     *awaited = listed.want;
     let end = end?;
@@ -152,26 +166,6 @@ fn extract_named<'n, 'a, R: Progress>(
         date_output(rt, task.out, named, task.set_id, task.file);
     }
     Ok(end)
-}
-
-/// Recovers the file from images that are read once, in their order and as they are.
-fn extract_in_order<'n, 'a, R: Progress>(
-    rt: &'n R,
-    task: &Task<'a>,
-    named: &'n [&'n str],
-    way: Way<'_>,
-    reels: Option<u64>,
-    listed: &mut Listed,
-    site: &mut FaultSite<'a>,
-) -> Result<End, ToolFault> {
-    let images = &mut Images::new(rt, named);
-    images.reels = reels;
-    let is_on = are_files(rt.host(), named);
-    let openers = (
-        &mut Warned::new(rt.alloc(), task, is_on),
-        &mut Warned::new(rt.alloc(), task, is_on),
-    );
-    recovery::recover(rt, task, images, openers, way, listed, site)
 }
 
 /// How the images of a file are read.
@@ -191,6 +185,21 @@ struct Plan<'n> {
     met: Option<FoundFiles>,
     /// What opens the images.
     opener: Compared,
+}
+
+/// Recovers the file from the images `named` and from the readings after their wrong words.
+fn extract_further<'a, R: Progress>(
+    rt: &R,
+    order: &ExtractOrder<'a>,
+    named: &[&str],
+    way: (Way<'_>, Option<u64>),
+    record: &mut Option<Record>,
+    listed: &mut Listed,
+    site: &mut FaultSite<'a>,
+) -> Result<End, ToolFault> {
+    let all = all_readings(rt, named)?;
+    let names = names_in(rt.alloc(), all.as_slice())?;
+    extract_again(rt, order, names.as_slice(), way, record, listed, site)
 }
 
 /// Recovers the file from images in normal form, in the wider reading if their survey permits it.
@@ -279,38 +288,6 @@ fn read_planned<'a, R: Progress>(
     recovery::recover(rt, task, images, openers, way, listed, site)
 }
 
-/// Returns the names with an empty one, which no file has, for each image that is read only once.
-fn files_in<'n, R: Progress>(rt: &R, names: &[&'n str]) -> Result<Vec<&'n str>, AllocError> {
-    let mut files = Vec::new(rt.alloc());
-    for name in names {
-        files.push(if is_file(rt.host(), name) { *name } else { "" })?;
-    }
-    Ok(files)
-}
-
-/// Compares the copies of the file's sections on the images of the plan; those on standard input
-/// are left out. Its opener remembers which copies are doubtful.
-///
-/// # Errors
-///
-/// Returns `Conflict` if two of the images contradict each other: `site` then names them.
-fn doubt_copies<'a, R: Progress>(
-    rt: &R,
-    order: &ExtractOrder<'a>,
-    plan: &mut Plan<'_>,
-    site: &mut FaultSite<'a>,
-) -> Result<(), ToolFault> {
-    let files = files_in(rt, plan.names.as_slice())?;
-    let Some((one, other)) = plan.opener.doubt(rt, &order.task, files.as_slice())? else {
-        return Ok(());
-    };
-    let (images, names) = (&order.images, plan.names.as_slice());
-    let one = place_of(plan.named, names, one).unwrap_or(0);
-    let other = place_of(plan.named, names, other).unwrap_or(0);
-    *site = FaultSite::Conflict(images.image(one), images.image(other));
-    Err(ToolFault::Conflict)
-}
-
 /// Surveys the images: those on which a section of the file begins are read first.
 /// An image that can be read only once is not surveyed.
 ///
@@ -336,6 +313,7 @@ fn plan_reading<'n, 'a, R: Progress>(
         if file.differs {
             *site = match file.conflict {
                 Some((one, other)) => {
+                    let (one, other) = (image_of(names, one), image_of(names, other));
                     FaultSite::Conflict(order.images.image(one), order.images.image(other))
                 }
                 None => FaultSite::Unknown,

@@ -5,7 +5,7 @@ ghost use Rattle.std.specs.Prelude.{IfOk};
 ghost use Rattle.std.specs.Io.Buffered.{reader_remaining};
 ghost use Rattle.tape_run.specs.ReadingOrder.{reading_order};
 
-use crate::refusal::open;
+use crate::readings::{opened_at, place_in};
 use crate::screen::{Host, Progress};
 use crate::shown::Shown;
 use std::alloc::{AllocError, Global};
@@ -184,6 +184,13 @@ impl<'a, R: Progress> Images<'a, R> {
             reels: None,
         }
     }
+
+    /// Returns whether image `number` is a reading that begins after a wrong word.
+    pub fn is_further(&self, number: usize) -> bool {
+        self.names
+            .get(number)
+            .is_some_and(|name| place_in(*name).1 > 0)
+    }
 }
 
 impl<'a, R: Progress> ImageSource<Image<R>> for Images<'a, R> {
@@ -202,7 +209,7 @@ impl<'a, R: Progress> ImageSource<Image<R>> for Images<'a, R> {
         let opened = if self.input == Some(number) {
             Some(InputBytes::Input(self.rt.host().reader()))
         } else {
-            match open(self.rt.host(), *name) {
+            match opened_at(self.rt.host(), *name) {
                 Ok(file) => Some(InputBytes::Named(file)),
                 Err(_) => None,
             }
@@ -222,10 +229,17 @@ impl<'a, R: Progress> ImageSource<Image<R>> for Images<'a, R> {
         };
         if let Some(reel) = &mut self.reels {
             *reel = reel.saturating_add(1);
-            let _ = self
-                .rt
-                .eprint(format_args!("  REEL {reel}: {}\n", Shown(*name)));
+            tell_reel(self.rt, *reel, *name);
         }
         Ok(image)
     }
+}
+
+/// Names the reading that is read as number `reel`.
+fn tell_reel<R: Progress>(rt: &R, reel: u64, name: &str) {
+    let (path, start) = place_in(name);
+    let _ = match start {
+        0 => rt.eprint(format_args!("  REEL {reel}: {}\n", Shown(path))),
+        _ => rt.eprint(format_args!("  REEL {reel}: {}@{start}\n", Shown(path))),
+    };
 }

@@ -4,12 +4,14 @@
 ghost use Rattle.std.specs.Prelude.{⊤, ◌≤◌, length, IfOk, IfSome};
 
 mod followed;
+mod labelled;
 
 use crate::convert::{format_of, is_simh};
 use crate::images::{Image, Images};
 use crate::refusal::is_file;
 use crate::screen::Progress;
 use followed::Followed;
+use labelled::Labelled;
 use std::alloc::{AllocError, Global};
 use std::io;
 use std::io::Read;
@@ -67,12 +69,14 @@ pub struct Normal<R: Progress> {
     /// The first bytes, which may be read before the items in them. A fault among these items ends
     /// the image for all who read it, so rules that are applied after it are not named.
     front: Option<Followed>,
+    /// Whether it begins after a wrong word.
+    is_further: bool,
     /// The rules that were named.
     named: Rules,
     /// The bytes before a tape mark with which the image ends, and those left of the mark, if it is
     /// not read to its own end.
     seam: Option<(u64, usize)>,
-    inner: Form<R>,
+    inner: Labelled<R>,
 }
 
 /// The bytes of an image: in normal form or, if the image is of a kind that `tape` does not read,
@@ -189,7 +193,12 @@ impl<R: Progress> Normal<R> {
         ensures bound { IfOk result (λ count. count ≤ length buf.new) }
     {
         let read = self.inner.read(buf);
-        let rules = self.inner.rules();
+        let rules = self.inner.form.rules();
+        if self.is_further && rules.no_file_numbers {
+            // Which number the file has depends on the files before it, which were not read.
+            self.seam = Some((0, 0));
+            return Ok(0);
+        }
         if self.is_first && rules != self.named {
             self.name_rules(rules);
         }
@@ -252,6 +261,11 @@ impl<'a, R: Progress> NormalImages<'a, R> {
         }
     }
 
+    /// Names no rules of the first `count` images, since they were read before.
+    pub fn are_told(&mut self, count: usize) {
+        self.read = count;
+    }
+
     /// Names no rules from now on, since the images were read before.
     pub fn is_told(&mut self) {
         self.read = self.images.names.len();
@@ -287,8 +301,18 @@ impl<'a, R: Progress> ImageSource<Normal<R>> for NormalImages<'a, R> {
             return Ok(None);
         };
         let mut image = image;
-        let kind = container_of(image.front());
-        let inner = Form::new(rt.alloc(), image, kind);
+        let is_further = self.images.is_further(number);
+        let kind = if is_further {
+            Container::Simh
+        } else {
+            container_of(image.front())
+        };
+        let labels = match self.images.names.get(number) {
+            Some(name) => rt.plans().of(rt.alloc(), name)?,
+            None => None,
+        };
+        let form = Form::new(rt.alloc(), image, kind);
+        let inner = Labelled { form, labels };
         // Nothing fails from here on: the source changes only if the image is mounted.
         let is_first = number >= self.read;
         self.read = self.read.max(number.saturating_add(1));
@@ -303,6 +327,7 @@ impl<'a, R: Progress> ImageSource<Normal<R>> for NormalImages<'a, R> {
             image,
             is_first,
             front: is_first.then_some(Followed::START),
+            is_further,
             named: Rules::NONE,
             seam: None,
             inner,

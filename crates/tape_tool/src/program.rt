@@ -18,6 +18,7 @@ use crate::init::init;
 use crate::list::list;
 use crate::merge::merge;
 use crate::refusal::Refusal;
+use crate::relabel::LabelPlans;
 use crate::salvage::salvage;
 use crate::screen::{Host, Line, Progress, Screen};
 use crate::show::show;
@@ -143,10 +144,12 @@ const CANNOT_WRITE: End = End::Faulted(ToolFault::File(FileFault::WriteFailed));
 pub fn run_on<R: Host>(rt: &R, is_terminal: bool) -> u8 {
     let line = Cell::new(Line::new(rt, is_terminal));
     let uncounted = &Uncounted::new(rt.alloc());
+    let plans = &LabelPlans::new(rt.alloc());
     let screen = &Screen {
         rt,
         line: &line,
         uncounted,
+        plans,
     };
     // These files stay open until the run ends.
     let kept = keep_numbers(rt);
@@ -305,7 +308,7 @@ fn execute<'a, R: Progress>(
         Order::List(order) => list(rt, *order, site),
         Order::Show(order) => show(rt, order, site),
         Order::Init(order) => Ok(end_of(init(rt, order, site))),
-        Order::Check(named, form) => check(rt, named, *form, site),
+        Order::Check(named, form, relabels) => check(rt, named, *form, relabels, site),
         Order::Write(order) => write(rt, order, site),
         Order::Extract(order) => extract(rt, order, names, awaited, site),
         Order::Unpack(order) => unpack(rt, order, site),

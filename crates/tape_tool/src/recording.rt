@@ -8,9 +8,10 @@ use crate::fault::{FileFault, OUT_OF_MEMORY, ToolFault};
 use crate::help;
 use crate::normal::NormalImages;
 use crate::program::End;
+use crate::record_form::RecordForm;
 use crate::refusal::{Refusal, are_files};
 use crate::screen::{Host, Progress};
-use crate::unpack::{Listed, Record, RecordedName, SectionLines, renumber, written_at};
+use crate::unpack::{Listed, Record, RecordedName, SectionLines, in_words, renumber, written_at};
 use crate::words::form_word;
 use clap::ArgMatches;
 use std::alloc::Global;
@@ -140,7 +141,7 @@ fn record_complete<R: Progress>(
     };
     let (set_id, file) = (task.set_id, task.file);
     let (output, note) = output_of(images.met, FileKey { set_id, file }, task.out);
-    let written = written_at(rt, task.out, output.key, form_word(task.form), sum)?;
+    let written = written_at(rt, task.out, output.key, in_words(task.form), sum)?;
     record.add_file(rt.alloc(), &output, written, note)?;
     record.add_runs(rt.host(), images.names, &output, runs)?;
     Ok(())
@@ -203,7 +204,7 @@ impl<P: Write> Write for RecordedReport<P> {
 pub fn record_salvaged<R: Progress, P>(
     rt: &R,
     record: &mut Record,
-    (task, out): (&SalvageTask, &str),
+    (task, form, out): (&SalvageTask, RecordForm, &str),
     names: &[&str],
     report: &RecordedReport<P>,
     sum: [u8; 32],
@@ -218,11 +219,11 @@ pub fn record_salvaged<R: Progress, P>(
     let met = find_files(rt.alloc(), &mut NormalImages::again(rt, names))?;
     let (set_id, file) = (task.set_id, task.file);
     let (output, note) = output_of(&met, FileKey { set_id, file }, out);
-    let form = match task.content {
+    let word = match task.content {
         Content::Blocks => "blocks",
-        Content::Records => form_word(task.form),
+        Content::Records => form_word(form.form),
     };
-    let written = written_at(rt, out, output.key, form, sum)?;
+    let written = written_at(rt, out, output.key, (word, form.is_text), sum)?;
     if end == End::Done {
         record.add_file(rt.alloc(), &output, written, note)?;
     } else {

@@ -5,6 +5,7 @@ ghost use Rattle.std.specs.Prelude.{◌≡◌, ◌⊎◌, None, Some, Ok, Err, I
 
 use crate::fault::{FileFault, OUT_OF_MEMORY, ToolFault};
 use crate::help;
+use crate::readings::place_in;
 use crate::screen::{Host, Progress};
 use crate::shown::Shown;
 use std::alloc::AllocError;
@@ -45,9 +46,9 @@ impl From<AllocError> for Refusal {
     }
 }
 
-/// Opens the file at `path` for reading.
+/// Opens the file at `path`, or of a reading with this name, for reading from its beginning on.
 pub fn open<R: Host>(rt: &R, path: &str) -> Result<File, FileFault> {
-    File::open(rt, path).map_err(|_| FileFault::NotOpened)
+    File::open(rt, place_in(path).0).map_err(|_| FileFault::NotOpened)
 }
 
 /// Returns whether `one` and `other` are the same file, whatever names or links led to them. On a
@@ -63,7 +64,7 @@ pub fn are_files<R: Host>(rt: &R, names: &[&str]) -> bool {
 
 /// Returns whether this is a plain file, or does not exist: only these can be read twice.
 pub fn is_file<R: Host>(rt: &R, name: &str) -> bool {
-    fs::metadata(rt, name).map_or(true, |found| found.is_file())
+    fs::metadata(rt, place_in(name).0).map_or(true, |found| found.is_file())
 }
 
 /// Refuses images that are opened more than once and are pipes: at the second opening a pipe gives

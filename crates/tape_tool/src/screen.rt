@@ -7,6 +7,7 @@
 
 ghost use Rattle.std.specs.Prelude.{◌≡◌, false, None};
 
+use crate::relabel::LabelPlans;
 use crate::uncounted::Uncounted;
 use std::alloc::Global;
 use std::cell::Cell;
@@ -30,6 +31,9 @@ pub trait Progress: Print + Eprint + AllocGlobal + Clone + Drop {
 
     /// Returns the sections, found so far, whose blocks are not counted.
     fn uncounted(&self) -> &Uncounted;
+
+    /// Returns how the labels of the images are changed.
+    fn plans(&self) -> &LabelPlans;
 }
 
 /// The time in milliseconds between two prints of the line, and before the first one.
@@ -75,6 +79,8 @@ pub struct Screen<'a, R> {
     pub line: &'a Cell<Line>,
     /// The sections whose blocks are not counted.
     pub uncounted: &'a Uncounted,
+    /// How labels are changed.
+    pub plans: &'a LabelPlans,
 }
 
 impl<R: Host> Screen<'_, R> {
@@ -116,6 +122,10 @@ impl<R: Host> Progress for Screen<'_, R> {
 
     fn uncounted(&self) -> &Uncounted {
         self.uncounted
+    }
+
+    fn plans(&self) -> &LabelPlans {
+        self.plans
     }
 
     fn show(&self, image: usize, count: usize, bytes: u64) {

@@ -42,6 +42,13 @@ impl Uncounted {
         }
     }
 
+    /// Contains no section any more.
+    pub fn clear(&self) {
+        if let Ok(mut sections) = self.sections.try_borrow_mut() {
+            sections.clear();
+        }
+    }
+
     /// Returns the sections.
     ///
     /// # Errors

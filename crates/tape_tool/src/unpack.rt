@@ -2,6 +2,7 @@
 mod chosen;
 mod completion;
 mod existing;
+mod image_row;
 mod labels;
 mod manifest;
 mod offsets;
@@ -22,10 +23,11 @@ use crate::command_spec::{CommandSpec, Kind, Word};
 use crate::help;
 use crate::names::Named;
 use crate::refusal::Refusal;
-use crate::words::{folder_of, form_of, named, set_id_of};
+use crate::relabel::{JOIN, RENUMBER, Relabels, relabels_of};
+use crate::words::{TEXT, folder_of, form_of, named, set_id_of};
 use clap::ArgMatches;
 pub use record::Record;
-pub use recorded::{RecordedName, written_at};
+pub use recorded::{RecordedName, in_words, written_at};
 pub use recovery::renumber;
 pub use rows::printable;
 pub use run::unpack;
@@ -43,6 +45,8 @@ pub struct UnpackOrder<'a> {
     pub images: Named<'a>,
     /// The form in which records are written, or `None` if each file gets the one for its records.
     pub form: Option<Form>,
+    /// Whether the characters of records are translated from EBCDIC.
+    pub is_text: bool,
     /// Only files of this set.
     pub set: Option<&'a str>,
     /// Only files that one of these numbers and names means, if there are any.
@@ -58,6 +62,8 @@ pub struct UnpackOrder<'a> {
     /// Whether nothing is recovered, and the files are checked against their list, and against the
     /// images if some are named.
     pub verify: bool,
+    /// What is requested of labels.
+    pub relabels: Relabels,
 }
 
 const FORMS_OF_FILES: &[&str] = &["lines", "raw", "counted", "auto"];
@@ -74,10 +80,13 @@ pub const UNPACK: &CommandSpec = &CommandSpec {
             Kind::NameOption("FORM", FORMS_OF_FILES, &["lines"]),
             help::FORM_OF_FILES,
         ),
+        TEXT,
         Word("set", Kind::TextOption("SET"), help::SET_TO_UNPACK),
         Word("file", Kind::TextOptions("N|NAME"), help::FILES_TO_UNPACK),
         Word("list", Kind::Flag, help::LIST_ONLY),
         Word("salvage", Kind::Flag, help::SALVAGE_FILES),
+        JOIN,
+        RENUMBER,
         Word("now", Kind::Flag, help::NOW),
         Word("manifest", Kind::Flag, help::MANIFEST),
         Word("verify", Kind::Flag, help::VERIFY),
@@ -99,6 +108,7 @@ pub fn unpack_order<'a>(
         folder,
         images: named(alloc, matches, help::TOO_MANY_TO_UNPACK)?,
         form: form_of_files(matches),
+        is_text: matches.get_flag("text"),
         set,
         files: Vec::from_slice(alloc, matches.get_strs("file").unwrap_or(&[]))?,
         list: matches.get_flag("list"),
@@ -106,6 +116,7 @@ pub fn unpack_order<'a>(
         now: matches.get_flag("now"),
         manifest: matches.get_flag("manifest"),
         verify: matches.get_flag("verify"),
+        relabels: relabels_of(alloc, matches)?,
     };
     if order.verify && !verifies(&order) {
         return Err(Refusal::Words(help::VERIFY_ALONE));

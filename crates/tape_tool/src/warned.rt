@@ -26,7 +26,7 @@ struct Turn {
 
 /// Opens images as they are. Before one is read that has blocks of the section needed which were
 /// recovered before, these are compared: with the stage, if there is one, otherwise with the images
-/// that gave them. The image is then opened up to two times more.
+/// that gave them. The image is then opened up to four times more.
 #[derive(Drop)]
 pub struct Warned<'a> {
     /// Whether images are compared.

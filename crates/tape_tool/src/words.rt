@@ -6,6 +6,7 @@ ghost use Rattle.tape_tool.specs.Words.{IsNoSet, padded_set};
 use crate::command_spec::{Kind, Word};
 use crate::help;
 use crate::names::{List, Named};
+use crate::record_form::RecordForm;
 use crate::refusal::Refusal;
 use clap::ArgMatches;
 use std::alloc::Global;
@@ -26,6 +27,9 @@ pub const FORM: Word = Word(
     help::FORM_OF_OUT,
 );
 
+/// The option for the translation of records.
+pub const TEXT: Word = Word("text", Kind::Flag, help::TEXT);
+
 /// Returns the value of argument `name`, which the parser guarantees to be present.
 pub fn text_of<'a>(matches: &ArgMatches<'a>, name: &str) -> &'a str {
     matches.get_str(name).unwrap_or("")
@@ -37,6 +41,14 @@ pub fn form_of(matches: &ArgMatches<'_>) -> Form {
         Some("raw") => Form::Raw,
         Some("counted") => Form::Counted,
         _ => Form::Lines,
+    }
+}
+
+/// Returns how records are to be written.
+pub fn record_form_of(matches: &ArgMatches<'_>) -> RecordForm {
+    RecordForm {
+        form: form_of(matches),
+        is_text: matches.get_flag("text"),
     }
 }
 

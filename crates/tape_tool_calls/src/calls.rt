@@ -24,7 +24,8 @@
 //!   the example file on two, `first_damaged FILE BLOCK` the first one with an unreadable block,
 //!   `records FILE` its records, and `second_file FILE` a volume without the first file of its set.
 //!   `ebcdic FILE`, `booted FILE`, `marked FILE`, `unnamed FILE` and `uncounted FILE` create the
-//!   example image as other systems write it: see `example`. `spoil FILE ITEM` makes an item of an
+//!   example image as other systems write it, and `own FILE`, `again FILE` and `twins FILE` others
+//!   with odd identifiers or numbers: see `example`. `spoil FILE ITEM` makes an item of an
 //!   image unreadable, and `omit FILE ITEM` takes it out; items are counted from 0.
 //! - `has FILE TEXT`, `at FILE OFFSET TEXT`, `length FILE COUNT`, `is_worked FILE`,
 //!   `missing FILE ..` and `allowed FILE MODE` check the contents of a file, the bytes at an

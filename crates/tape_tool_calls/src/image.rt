@@ -54,17 +54,27 @@ impl Volume<'_> {
     /// Appends all items of the volume, with these records. Block `bad` is unreadable if the
     /// records are in blocks of 400.
     fn push_all(&mut self, records: &[u8], bad: usize) -> Result<(), AllocError> {
-        let is_empty = self.section == b'2' || self.file == b'2';
+        self.push_front()?;
+        self.push_file(records, bad)?;
+        if self.name == "twins" {
+            self.image.extend_from_slice(MARK)?;
+            self.name = "twin";
+            self.push_file(records, bad)?;
+        }
+        self.image.extend_from_slice(END)
+    }
+
+    /// Appends the items of a file up to the mark after its trailer labels.
+    fn push_file(&mut self, records: &[u8], bad: usize) -> Result<(), AllocError> {
+        let is_empty = self.name == "second" || self.file == b'2';
         let full = if self.size == 400 { b'5' } else { b'3' };
         let count = if is_empty { b'0' } else { full };
         let is_first = self.name.starts_with("first");
-        self.push_front()?;
         self.push_labels(b"HDR", b'0')?;
         self.image.extend_from_slice(MARK)?;
         self.push_blocks(if is_empty { &[] } else { records }, bad)?;
         self.image.extend_from_slice(MARK)?;
-        self.push_labels(if is_first { b"EOV" } else { b"EOF" }, count)?;
-        self.image.extend_from_slice(END)
+        self.push_labels(if is_first { b"EOV" } else { b"EOF" }, count)
     }
 
     /// Appends what comes before the first header label.
@@ -88,10 +98,16 @@ impl Volume<'_> {
         let (mut first, mut second) = (*HDR1, *HDR2);
         first[..3].copy_from_slice(group);
         second[..3].copy_from_slice(group);
-        if self.file == b'2' {
+        if self.file == b'2' || self.name == "twin" {
             first[4..11].copy_from_slice(b"LEDGER ");
         }
-        first[30] = self.section;
+        match self.name {
+            "again" => {}
+            _ => first[30] = self.section,
+        }
+        if self.name == "own" {
+            first[26] = self.section;
+        }
         first[34] = self.file;
         first[59] = count;
         if self.name == "uncounted" {
@@ -141,12 +157,18 @@ impl Volume<'_> {
 /// - `second_file` has only the second file of its set, without records;
 /// - `ebcdic` has its labels in EBCDIC, `booted` a block of 512 bytes after its volume label,
 ///   `marked` a mark before it, `unnamed` no volume label, and `uncounted` blanks in place of its
-///   block counts.
+///   block counts;
+/// - `own` and `again` are the volume after `first`, with all 25 records. `own` has its own
+///   identifier as that of its set, and `again` has section number 1;
+/// - `twins` has two files with the sequence number 1.
 pub fn example(alloc: Global, name: &str, bad: usize) -> Result<Vec<u8>, AllocError> {
     let records = payroll(alloc)?;
     let mut volume = Volume {
         name,
-        section: if name == "second" { b'2' } else { b'1' },
+        section: match name {
+            "second" | "own" | "again" => b'2',
+            _ => b'1',
+        },
         file: if name == "second_file" { b'2' } else { b'1' },
         size: if name.ends_with("damaged") { 400 } else { 800 },
         image: Vec::new(alloc),

@@ -272,11 +272,10 @@ const MISSING: &str = "
     !   extract --stage' continues from it; after TRUNCATED AT, start a new stage.
     put missing.tap \\01\\02\\03\\04\\02\\00\\00\\00ab\\02\\00\\00\\00
     3: convert --resync found.tap missing.tap --explain
-    !   reading broke off at byte 0 and continued at byte 4
-    !   blocks and tape marks may be lost there: do not join it with other copies
-    !   The bytes between the two places are lost: one unreadable item replaces them,
-    !   though they may have been more. Use this image alone: 'tape survey' shows
-    !   what it has, 'tape salvage' writes the records that are certain.
+    !   reading began at byte 4
+    !   The bytes between the places are lost, and perhaps blocks and tape marks with
+    !   them. Each image is a reading of its own: name them together, and with other
+    !   copies, for 'tape survey', 'tape unpack' or 'tape salvage'.
     3: compare missing1.tap missing2.tap missing1.tap --explain
     !   The images differ (after DIFFER, 'tape show IMAGE N' shows the item), or the
     !   image that they form has unreadable items, wrong block counts (COUNT) or no

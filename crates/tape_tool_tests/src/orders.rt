@@ -128,8 +128,8 @@ impl fmt::Display for Request<'_> {
                 write!(f, "show {} {}-{} ", order.image, order.first, order.last)?;
                 write!(f, "raw={} ebcdic={}", order.raw, order.ebcdic)
             }
-            Order::Check(images, None) => write!(f, "check{}", Images(images)),
-            Order::Check(images, Some(form)) => write!(f, "survey {form:?}{}", Images(images)),
+            Order::Check(images, None, _) => write!(f, "check{}", Images(images)),
+            Order::Check(images, Some(form), _) => write!(f, "survey {form:?}{}", Images(images)),
             Order::Stage(order) => {
                 write!(f, "stage {} {:?} ", order.stage, order.form)?;
                 write!(
@@ -170,7 +170,7 @@ fn write_recovery<W: fmt::Write>(f: &mut fmt::Formatter<W>, order: &Order<'_>) -
             write!(
                 f,
                 "extract {set} {} {} {:?} ",
-                task.file, task.out, task.form
+                task.file, task.out, task.form.form
             )?;
             write!(f, "stage={stage} again={} ", task.again)?;
             write!(f, "now={}{}", order.now, Images(&order.images))

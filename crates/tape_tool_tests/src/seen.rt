@@ -59,7 +59,8 @@ const CALLS: &str = "
     > SECTION ABC001 1 2 ABC002 0 GOOD
     > LACKS ABC001 1 1
     ? seen2.tap
-    # A missing section, and an image that does not exist.
+    # A missing section, and an image that does not exist. What is missing may follow a wrong word:
+    # then each image is opened to see its format, and once more to look for one.
     3$ survey lost.tap seen1.tap
     > Not opened: check the names, and that you may read the files
     >   lost.tap
@@ -74,7 +75,7 @@ const CALLS: &str = "
     > Set ABC001: 0 of 1 files complete
     >   Volumes: ABC001, missing (follows ABC001)
     >    1 PAYROLL                        incomplete
-    ? lost.tap? seen1.tap
+    ? lost.tap? seen1.tap lost.tap? seen1.tap seen1.tap
     # A section after the one that ends its file.
     worked seen_whole.tap
     3: survey seen_whole.tap seen2.tap
@@ -164,24 +165,27 @@ fn notes(rt: HostRuntime) -> Result<(), Fail> {
     follow_in(&rt, &Tape, "noted", NOTED)
 }
 
-/// Commands that read images: the files opened before the images, and the end of the output for 300
-/// images that do not exist.
-const READERS: &[(&str, &str, &str)] = &[
-    ("check", "many.names ", "\nIMAGE 300 0 NOT OPENED\n"),
+/// Commands that read images: the files opened before the images, how often each image is then
+/// opened, and the end of the output for 300 images that do not exist.
+const READERS: &[(&str, &str, usize, &str)] = &[
+    ("check", "many.names ", 1, "\nIMAGE 300 0 NOT OPENED\n"),
     (
         "survey",
         "many.names ",
+        2,
         "\n  lost.tap\n\n300 images: 0 ok, 300 not opened\nNo files were found.\n\n\
             With --all: also each image, each set with its volumes and files, and copies.\n",
     ),
     (
         "extract ABC001 1 many.txt",
         "many.names .tape-1.part ",
+        1,
         "\nREEL 300 NOT OPENED\nAWAITS 1 1 0\n",
     ),
     (
         "unpack many",
         "many.names ",
+        2,
         "INCOMPLETE IMAGE lost.tap\n\
             TOTAL 0 complete 0 existing 0 incomplete 0 in conflict 0 not found 0 failed\n",
     ),
@@ -196,7 +200,7 @@ fn many_images(rt: HostRuntime) -> Result<(), Fail> {
         "many_images",
         "folder many\nfill many.names 44 lost.tap\\0A",
     )?;
-    for (line, first, last) in READERS {
+    for (line, first, times, last) in READERS {
         let mut line = line.to_string(rt.alloc())?;
         for _ in 0..256 {
             line.push_str(" lost.tap")?;
@@ -204,7 +208,7 @@ fn many_images(rt: HostRuntime) -> Result<(), Fail> {
         line.push_str(" --files-from many.names")?;
         let seen = called(&rt, &Tape, line.as_str(), Odd::Nothing)?;
         let (opened, out) = (seen.opened.as_str(), seen.out.as_str());
-        let looked_for = opened.len() == first.len() + 300 * "lost.tap? ".len();
+        let looked_for = opened.len() == first.len() + 300 * *times * "lost.tap? ".len();
         let is_last = opened.starts_with(*first) && looked_for && out.ends_with(*last);
         assert!(rt; seen.status == 3 && is_last, "{line}: {out}");
         line.push_str(" lost.tap")?;

@@ -14,7 +14,11 @@ mod normal_form;
 #[cfg(test)]
 mod record_program;
 #[cfg(test)]
+mod relabel_program;
+#[cfg(test)]
 mod tape;
+#[cfg(test)]
+mod text_program;
 #[cfg(test)]
 mod unpack_program;
 #[cfg(test)]

@@ -216,9 +216,10 @@ table_gives (Labels code n) (block b) xs =
 table_gives (Labels code n) mark xs = refl
 table_gives (Labels code n) bad xs =
     ap (λ v. bad ∷ v) (left_behind code no_file (λ s. Headers code s) xs)
-table_gives Blank (block b) xs = refl
-table_gives Blank mark xs = refl
-table_gives Blank bad xs = refl
+table_gives (Blank code) (block b) xs = other_gives b xs code no_file
+table_gives (Blank code) mark xs = refl
+table_gives (Blank code) bad xs =
+    ap (λ v. bad ∷ v) (left_behind code no_file (λ s. Trailer code s) xs)
 table_gives (Second code seen) (block b) xs =
     second_gives b xs code seen (is_hdr2 (kind_at (in_ascii code b)))
     (is_further_header (in_ascii code b))

@@ -78,7 +78,7 @@ by_phase core w p e place o h x = absurd h
 pub from_nil : (place : TapePlace) → from place [] ≡ []
 from_nil (places.Start n) = refl
 from_nil (places.Labels code n) = refl
-from_nil places.Blank = refl
+from_nil (places.Blank code) = refl
 from_nil (places.Second code seen) = refl
 from_nil (places.Headers code seen) = refl
 from_nil (places.Data code seen) = refl
@@ -106,7 +106,7 @@ not_over : (place : TapePlace) → (place ≡ places.Over) ⊎ IsNotOver place
 not_over places.Over = inl refl
 not_over (places.Start n) = inr tt
 not_over (places.Labels code n) = inr tt
-not_over places.Blank = inr tt
+not_over (places.Blank code) = inr tt
 not_over (places.Second code seen) = inr tt
 not_over (places.Headers code seen) = inr tt
 not_over (places.Data code seen) = inr tt

@@ -60,7 +60,7 @@ vol_kind = refl
 label_quiet : (place : TapePlace) → Quiet (step_of place (block no_volume_label))
 label_quiet (Start n) = quiet_start n no_volume_label vol_kind
 label_quiet (Labels code n) = quiet_of (Labels code n) (block no_volume_label) refl
-label_quiet Blank = quiet_of Blank (block no_volume_label) refl
+label_quiet (Blank code) = quiet_of (Blank code) (block no_volume_label) refl
 label_quiet (Second code seen) = quiet_of (Second code seen) (block no_volume_label) refl
 label_quiet (Headers code seen) = quiet_of (Headers code seen) (block no_volume_label) refl
 label_quiet (Data code seen) = quiet_of (Data code seen) (block no_volume_label) refl
@@ -131,7 +131,7 @@ stays place x rest e = go (step_of place x).1.missing refl
         subst (λ y. Quiet (step_of place y)) (sym is) (label_quiet place) in
         absurd (omega (arith, quiet.past, ap grown s))
     dropped (Labels code n) s t = absurd (omega (arith, ap length t, shorter (Labels code n) rest))
-    dropped Blank s t = absurd (omega (arith, ap length t, shorter Blank rest))
+    dropped (Blank code) s t = absurd (omega (arith, ap length t, shorter (Blank code) rest))
     dropped (Second code seen) s t =
         absurd (omega (arith, ap length t, shorter (Second code seen) rest))
     dropped (Headers code seen) s t =

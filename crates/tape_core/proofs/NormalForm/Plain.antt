@@ -33,7 +33,7 @@ use Rattle.tape_core.specs.NormalForm.Steps.{left_at, other_at, headers_at, trai
 use Rattle.tape_core.specs.NormalForm.Bytes.{unlabelled, unlabelled_instead}
 use Rattle.tape_core.proofs.Labels.{no_kind, no_volume_label, no_code, other_text}
 use Rattle.tape_core.proofs.Labels.{second_data, trailer_data, next_data, headers_data, code_80}
-use Rattle.tape_core.proofs.Labels.{trailers_same, behind_header}
+use Rattle.tape_core.proofs.Labels.{trailers_same, behind_header, other_data}
 use Rattle.tape_core.proofs.NormalForm.{KindKept.filled_alike, Numbers.headed_80}
 use Rattle.tape_core.proofs.NormalForm.{Numbers.trailed_80}
 
@@ -43,7 +43,7 @@ use Rattle.tape_core.proofs.NormalForm.{Numbers.trailed_80}
 abbrev pub plain_of : TapePlace → Bool → TapePlace × Change
 plain_of (Start n) z = cond z (drop_first n) (Over, same)
 plain_of (Labels code n) z = drop_block code n
-plain_of Blank z = (Over, same)
+plain_of (Blank code) z = (left_at code (Data code (lost no_file)), same)
 plain_of (Second code seen) z = (left_at code (Data code (lost seen)), same)
 plain_of (Headers code seen) z = (behind_header code seen, same)
 plain_of (Data code seen) z = (Data code (counted seen), same)
@@ -59,7 +59,7 @@ plain_step (Start n) b h = rw (no_code b h) refl
 plain_step (Labels code n) b h =
     let k = other_text code b h in
     rw (no_volume_label (in_ascii code b) k, no_kind (in_ascii code b) k) refl
-plain_step Blank b h = refl
+plain_step (Blank code) b h = other_data code no_file (in_ascii code b) (other_text code b h)
 plain_step (Second code seen) b h = second_data code seen (in_ascii code b) (other_text code b h)
 plain_step (Headers code seen) b h = headers_data code seen (in_ascii code b) (other_text code b h)
 plain_step (Data code seen) b h = refl
@@ -85,7 +85,7 @@ plain_unlabelled (Labels code n) z = go (nat_lt n most_dropped)
         ≡ cond t (Labels code (n + 1), dropped) (Over, same)
     go true = refl
     go false = refl
-plain_unlabelled Blank z = refl
+plain_unlabelled (Blank code) z = refl
 plain_unlabelled (Second code seen) z = refl
 plain_unlabelled (Headers code seen) z = refl
 plain_unlabelled (Data code seen) z = refl
@@ -99,7 +99,7 @@ plain_unlabelled Over z = refl
 pub bad_unlabelled : (place : TapePlace) → unlabelled (step_of place bad) ≡ step_of place bad
 bad_unlabelled (Start n) = refl
 bad_unlabelled (Labels code n) = refl
-bad_unlabelled Blank = refl
+bad_unlabelled (Blank code) = refl
 bad_unlabelled (Second code seen) = refl
 bad_unlabelled (Headers code seen) = refl
 bad_unlabelled (Data code seen) = refl
@@ -255,7 +255,9 @@ block_step_labelled (Labels code n) b =
     let t : List ℕ = in_ascii code b in
     by_size t (λ e. labels_labelled t e code n _ _ refl refl)
     (λ h. rw (no_volume_label t h, no_kind t h) (block_labelled code n))
-block_step_labelled Blank b = tt
+block_step_labelled (Blank code) b =
+    let t : List ℕ = in_ascii code b in
+    by_size t (λ e. other_labelled t e code no_file) (λ h. rw (other_data code no_file t h) tt)
 block_step_labelled (Second code seen) b =
     let t : List ℕ = in_ascii code b in
     by_size t (λ e. second_labelled t e code seen _ _ refl refl)
@@ -284,7 +286,7 @@ step_labelled place bad =
     plain_labelled _ (ap (λ (s : TapePlace × Change). s.1.instead) (bad_unlabelled place))
 step_labelled (Start n) mark = first_labelled n
 step_labelled (Labels code n) mark = tt
-step_labelled Blank mark = tt
+step_labelled (Blank code) mark = tt
 step_labelled (Second code seen) mark = tt
 step_labelled (Headers code seen) mark = tt
 step_labelled (Data code seen) mark = tt

@@ -1,17 +1,20 @@
 -- Laws about the normal form. Each is the contract of a function of the module `laws`.
-use Rattle.std.specs.Prelude.{◌≡◌, ◌≢◌, ◌≤◌, ℕ, Bool, List, [], ◌∷◌, ◌++◌, length, take, Some}
+use Rattle.std.specs.Prelude.{◌≡◌, ◌≢◌, ◌≤◌, ℕ, Bool, true, nat_lt, List, [], ◌∷◌, ◌++◌, length}
+use Rattle.std.specs.Prelude.{take, Some}
 use Rattle.std.specs.List.{AllByRecursion}
 use Rattle.tape_image.specs.Tape.{TapeItem, block, bad, mark}
 use Rattle.tape_image.specs.{Begins.image_limit, Spelling.Spells}
 use Rattle.tape_set.specs.Layout.{FileSet, items}
 use Rattle.tape_set.specs.Reading.{as_read}
-use Rattle.tape_label.specs.{Kinds.kind_at, declared.values.Kind.TheVariants.Hdr1}
+use Rattle.tape_label.specs.{Kinds.kind_at}
+use Rattle.tape_label.specs.declared.values.Kind.TheVariants.{Hdr1, Hdr2}
 use Rattle.tape_core.specs.declared.normal.code.Code.{Code}
 use Rattle.tape_core.specs.declared.normal.code.Code.TheVariants.{Ebcdic}
 use Rattle.tape_core.specs.declared.normal.numbers.FileSeen.{FileSeen}
-use Rattle.tape_core.specs.NormalForm.{normal, of_second, of_headers, of_data, of_trailer}
-use Rattle.tape_core.specs.NormalForm.{of_trailers, of_next, Codes.in_ascii, Bytes.normal_bytes}
-use Rattle.tape_core.specs.NormalForm.Mended.{counted, uncounted, lost, headed}
+use Rattle.tape_core.specs.NormalForm.{normal, of_labels, of_second, of_headers, of_data}
+use Rattle.tape_core.specs.NormalForm.{of_trailer, of_trailers, of_next, Codes.in_ascii}
+use Rattle.tape_core.specs.NormalForm.{most_dropped, Bytes.normal_bytes}
+use Rattle.tape_core.specs.NormalForm.Mended.{counted, uncounted, lost, headed, no_file}
 
 -- A copy of a volume of a valid set is its own normal form, however damaged it is, and wherever it
 -- ends.
@@ -46,8 +49,9 @@ file_found seen b rest =
     block (headed (lost seen) (in_ascii Ebcdic b)).0
     ∷ of_second Ebcdic (headed (lost seen) (in_ascii Ebcdic b)).1 rest
 
--- On a tape with labels in EBCDIC no unreadable or lost label or mark behind a file hides the next
--- file, and none before its data hides its trailer labels.
+-- On a tape with labels in EBCDIC no unreadable or lost label or mark behind VOL1 or a file hides
+-- the next file, and none before its data hides its trailer labels, unless a lost HDR1 leaves two
+-- marks together, which end the volume.
 pub record FilesFound (seen : FileSeen) (rest : List TapeItem) : Type 0 where
   pub behind_trailer : (b : List ℕ) → kind_at (in_ascii Ebcdic b) ≡ Some Hdr1
       → of_trailer Ebcdic seen (bad ∷ mark ∷ block b ∷ rest) ≡ bad ∷ mark ∷ file_found seen b rest
@@ -65,6 +69,20 @@ pub record FilesFound (seen : FileSeen) (rest : List TapeItem) : Type 0 where
       ≡ bad ∷ mark ∷ of_data Ebcdic (lost seen) rest
   pub no_data_mark : (b : List ℕ) → length b ≢ 80
       → of_headers Ebcdic seen (block b ∷ rest) ≡ block b ∷ of_data Ebcdic (lost seen) rest
+  pub lost_header : (h b : List ℕ) → kind_at (in_ascii Ebcdic h) ≡ Some Hdr2 → length b ≢ 80
+      → of_next Ebcdic seen (block h ∷ mark ∷ block b ∷ rest)
+      ≡ block h ∷ mark ∷ block b ∷ of_data Ebcdic (lost (lost seen)) rest
+  pub bad_first : (n : ℕ) → of_labels Ebcdic n (bad ∷ mark ∷ rest)
+      ≡ bad ∷ mark ∷ of_data Ebcdic (lost no_file) rest
+  pub lost_first : (n : ℕ) (h b : List ℕ) → nat_lt n most_dropped ≡ true
+      → kind_at (in_ascii Ebcdic h) ≡ Some Hdr2 → length b ≢ 80
+      → of_labels Ebcdic n (block h ∷ mark ∷ block b ∷ rest)
+      ≡ mark ∷ block b ∷ of_data Ebcdic (lost no_file) rest
+  pub mark_first : (n : ℕ) (b : List ℕ) → kind_at (in_ascii Ebcdic b) ≡ Some Hdr1
+      → of_labels Ebcdic n (mark ∷ block b ∷ rest) ≡ mark ∷ file_found no_file b rest
+  pub bad_behind_mark : (n : ℕ) (b : List ℕ) → kind_at (in_ascii Ebcdic b) ≡ Some Hdr1
+      → of_labels Ebcdic n (mark ∷ bad ∷ mark ∷ block b ∷ rest)
+      ≡ mark ∷ bad ∷ mark ∷ file_found (lost no_file) b rest
 
 -- An image of at most 4,294,967,295 bytes that encodes the items of a tape, up to the end of the
 -- medium, gives one that encodes those of the tape in normal form.

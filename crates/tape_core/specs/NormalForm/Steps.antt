@@ -34,7 +34,7 @@ use Rattle.tape_core.specs.declared.normal.numbers.FileSeen.{FileSeen}
 abbrev pub from : TapePlace → List TapeItem → List TapeItem
 from (Start n) items = of_start n items
 from (Labels code n) items = of_labels code n items
-from Blank items = of_blank items
+from (Blank code) items = of_blank code items
 from (Second code seen) items = of_second code seen items
 from (Headers code seen) items = of_headers code seen items
 from (Data code seen) items = of_data code seen items
@@ -194,10 +194,11 @@ step_of (Start n) (block b) = start_at n b (code_of b)
 step_of (Start n) mark = drop_first n
 step_of (Start n) bad = (Over, same)
 step_of (Labels code n) (block b) = labels_at code n (in_ascii code b)
-step_of (Labels code n) mark = (Blank, same)
+step_of (Labels code n) mark = (Blank code, same)
 step_of (Labels code n) bad = (left_at code (Headers code (lost no_file)), same)
-step_of Blank mark = (Ended, same)
-step_of Blank _ = (Over, same)
+step_of (Blank code) (block b) = other_at code no_file (in_ascii code b)
+step_of (Blank code) mark = (Ended, same)
+step_of (Blank code) bad = (left_at code (Trailer code (lost no_file)), same)
 step_of (Second code seen) (block b) = second_at code seen (in_ascii code b)
 step_of (Second code seen) mark = (Data code seen, record { missing = SecondLabel; instead = Same })
 step_of (Second code seen) bad = (left_at code (Headers code (lost seen)), same)

@@ -67,8 +67,8 @@ impl Counting {
 
 impl<R: Read> NormalImage<R> {
     /// Returns the labels of the section that ended last, if its blocks are not counted: its
-    /// trailer label has no block count, and got the number of the blocks that were read. It is
-    /// returned once, and no read goes on to the next trailer label.
+    /// trailer label has no block count, and got the number of the blocks that were read. They are
+    /// returned once. A single read never passes two trailer labels.
     pub fn take_uncounted(&mut self) -> Option<Head1>
         ensures { normal_remaining R.remaining self.new ≡ normal_remaining R.remaining self.old }
     {

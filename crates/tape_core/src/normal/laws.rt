@@ -21,7 +21,8 @@ pub fn data_kept()
     ensures { DataKept }
 {}
 
-/// On a tape with labels in EBCDIC no unreadable or lost label or mark hides the file after it.
+/// On a tape with labels in EBCDIC no unreadable or lost label or mark after `VOL1` hides the next
+/// file, unless a lost `HDR1` leaves two marks together, which end the volume.
 #[tactic(auto, using(crate::proofs::NormalForm::Found::files_found))]
 pub fn files_found()
     ensures { (seen : FileSeen) (rest : List TapeItem) → FilesFound seen rest }

@@ -24,7 +24,7 @@ pub enum TapePlace {
     /// A further volume label or the first file, after so many dropped blocks.
     Labels(Code, u8),
     /// The second mark of a volume without files.
-    Blank,
+    Blank(Code),
     /// The second label of a file.
     Second(Code, FileSeen),
     /// Further labels of a file, up to a mark.
@@ -304,7 +304,8 @@ fn step_at_block(place: TapePlace, bytes: &[u8]) -> (TapePlace, Change)
             Some(_) => (TapePlace::Over, SAME),
             None => (TapePlace::Ended, DROPPED),
         },
-        TapePlace::Blank | TapePlace::Over => (TapePlace::Over, SAME),
+        TapePlace::Blank(code) => other_block(code, NO_FILE, bytes),
+        TapePlace::Over => (TapePlace::Over, SAME),
     }
 }
 
@@ -321,7 +322,7 @@ pub fn step(place: TapePlace, item: Item<'_>) -> (TapePlace, Change)
         Item::Bad => step_at_bad(place),
         Item::Mark => match place {
             TapePlace::Start(dropped) => drop_first(dropped),
-            TapePlace::Labels(_, _) => (TapePlace::Blank, SAME),
+            TapePlace::Labels(code, _) => (TapePlace::Blank(code), SAME),
             TapePlace::Second(code, seen) => {
                 let change = Change {
                     missing: Missing::SecondLabel,
@@ -332,7 +333,7 @@ pub fn step(place: TapePlace, item: Item<'_>) -> (TapePlace, Change)
             TapePlace::Headers(code, seen) => (TapePlace::Data(code, seen), SAME),
             TapePlace::Data(code, seen) => (TapePlace::Trailer(code, seen), SAME),
             TapePlace::Trailers(code, seen) => (TapePlace::Next(code, seen), SAME),
-            TapePlace::Next(_, _) | TapePlace::Blank => (TapePlace::Ended, SAME),
+            TapePlace::Next(_, _) | TapePlace::Blank(_) => (TapePlace::Ended, SAME),
             TapePlace::Ended => (TapePlace::Ended, DROPPED),
             TapePlace::Trailer(code, seen) => {
                 (left(code, TapePlace::Trailer(code, seen.lost())), SAME)

@@ -5,7 +5,7 @@ ghost use Rattle.std.specs.Prelude.{◌≡◌, if◌then◌else◌};
 ghost use Rattle.tape_image.specs.Tape.{bad};
 ghost use Rattle.tape_label.specs.{Kinds.kind_at};
 ghost use Rattle.tape_core.specs.NormalForm.{Codes.in_ascii, Mended.is_hdr1, Mended.lost};
-ghost use Rattle.tape_core.specs.NormalForm.{is_next_header};
+ghost use Rattle.tape_core.specs.NormalForm.{is_next_header, seems_label};
 ghost use Rattle.tape_core.specs.NormalForm.Steps.{any_at, header_at, headers_at, left_at, other_at};
 ghost use Rattle.tape_core.specs.NormalForm.Steps.{same, step_of, trailers_at};
 
@@ -67,8 +67,20 @@ fn any_label(code: Code, bytes: &[u8]) -> Change
     }
 }
 
+/// Returns whether a block seems to be a label that is not known here: it begins with three capital
+/// letters and a digit.
+fn seems_label(text: &[u8; 80]) -> bool
+    ensures { result ≡ seems_label text.now }
+{
+    kind(text).is_none()
+        && text[0].is_ascii_uppercase()
+        && text[1].is_ascii_uppercase()
+        && text[2].is_ascii_uppercase()
+        && text[3].is_ascii_digit()
+}
+
 /// Returns whether a block continues the header labels. In ASCII any block does.
-#[tactic(auto, using(crate::proofs::Labels::no_kind, crate::proofs::Labels::not_further))]
+#[tactic(auto, using(crate::proofs::Labels::no_kind, crate::proofs::Labels::none_next))]
 fn is_next_header(code: Code, bytes: &[u8]) -> bool
     ensures { result ≡ is_next_header code (in_ascii code bytes.now) }
 {
@@ -78,7 +90,7 @@ fn is_next_header(code: Code, bytes: &[u8]) -> bool
     let Some(text) = label_in(code, bytes) else {
         return false;
     };
-    matches!(kind(&text), Some(Kind::Hdr2)) || is_further_header(&text)
+    matches!(kind(&text), Some(Kind::Hdr2)) || is_further_header(&text) || seems_label(&text)
 }
 
 /// Takes a block where a further header label may be.
@@ -112,12 +124,13 @@ pub(crate) fn step_at_bad(place: TapePlace) -> (TapePlace, Change)
         TapePlace::Ended => return (TapePlace::Ended, DROPPED),
         TapePlace::Data(code, seen) => TapePlace::Data(code, seen.uncounted()),
         TapePlace::Labels(code, _) => left(code, TapePlace::Headers(code, NO_FILE.lost())),
+        TapePlace::Blank(code) => left(code, TapePlace::Trailer(code, NO_FILE.lost())),
         TapePlace::Second(code, seen) => left(code, TapePlace::Headers(code, seen.lost())),
         TapePlace::Headers(code, seen) => left(code, TapePlace::Headers(code, seen.lost())),
         TapePlace::Trailer(code, seen) => left(code, TapePlace::Trailer(code, seen.lost())),
         TapePlace::Trailers(code, seen) => left(code, TapePlace::Trailers(code, seen.lost())),
         TapePlace::Next(code, seen) => left(code, TapePlace::Headers(code, seen.lost())),
-        TapePlace::Start(_) | TapePlace::Blank | TapePlace::Over => TapePlace::Over,
+        TapePlace::Start(_) | TapePlace::Over => TapePlace::Over,
     };
     (next, SAME)
 }

@@ -108,7 +108,7 @@ pub fn write_record<W: Write>(
 /// # Errors
 ///
 /// As `write_record`.
-fn write_head<W: Write>(out: &mut W, form: Form, len: usize) -> Result<(), EngineFault>
+pub fn write_head<W: Write>(out: &mut W, form: Form, len: usize) -> Result<(), EngineFault>
     ensures ok { OnOk result (Appends (W.contents out.old) (W.contents out.new)
         (record_head form len)) }
     ensures err { OnErr result (AppendsFront (W.contents out.old) (W.contents out.new)
@@ -125,7 +125,7 @@ fn write_head<W: Write>(out: &mut W, form: Form, len: usize) -> Result<(), Engin
 }
 
 /// Returns the terminator of each record.
-fn record_end(form: Form) -> &'static [u8]
+pub fn record_end(form: Form) -> &'static [u8]
     ensures { result.now ≡ record_end form }
 {
     match form {

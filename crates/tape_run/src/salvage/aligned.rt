@@ -1,31 +1,15 @@
 //! Copies of one section, read side by side block by block.
 
 use crate::merge::candidate::Candidate;
+use crate::salvage::answer::{Answer, end_by, ends};
 use crate::salvage::copies::SectionCopy;
 use crate::salvage::fill::{Fill, Stretch, add_fill};
 use crate::salvage::image::number_in;
-use crate::salvage::labels::{is_label, is_other, is_other_trailer, is_trailer};
+use crate::salvage::labels::{is_other, is_other_trailer, is_trailer};
 use crate::salvage::walk::{Expected, step};
 use std::alloc::AllocError;
 use std::io::Read;
-use tape_image::{ImageFault, ImageReader, Item};
-
-/// What a copy has of a block.
-#[derive(Clone, Copy, PartialEq, Eq)]
-enum Answer {
-    /// It is readable, and the same as in the copies before it that have it.
-    Has,
-    /// It is unreadable.
-    Lacks,
-    /// It is readable, and another one than in a copy before it.
-    Differs,
-    /// No item of the copy is certain to be this block.
-    Unsure,
-    /// The section ended before this block, at a tape mark that something follows.
-    Ended,
-    /// The section ended at a tape mark with the trailer label of another section.
-    EndedByOther,
-}
+use tape_image::{ImageReader, Item};
 
 /// A copy of a section, of which the blocks up to some number have been read.
 #[derive(Drop)]
@@ -43,31 +27,6 @@ pub struct Aligned<'r, R: Read> {
     is_over: bool,
     /// Whether its data ended with a tape mark that something follows.
     is_ended: bool,
-}
-
-/// Returns what the item after the tape mark that ends a section says. An image may have been cut
-/// off, and ended with marks; `is_open` says whether the section does not close.
-fn end_by(item: Result<Option<Item<'_>>, ImageFault>, is_open: bool) -> Answer {
-    match item {
-        Ok(Some(Item::Block(block))) => {
-            if is_open && is_other_trailer(block) {
-                return Answer::EndedByOther;
-            }
-            Answer::Ended
-        }
-        Ok(Some(Item::Bad)) => Answer::Ended,
-        _ => Answer::Unsure,
-    }
-}
-
-/// Returns whether a data item ends those with certain numbers: a mark, a label in a section that
-/// does not close, or an unreadable item if it is unsure that the data begin there.
-fn ends(item: Item<'_>, is_open: bool, is_unsure: bool) -> bool {
-    match item {
-        Item::Block(block) => is_open && is_label(block),
-        Item::Bad => is_unsure,
-        Item::Mark => true,
-    }
 }
 
 impl<'r, R: Read> Aligned<'r, R> {
@@ -143,12 +102,20 @@ impl<'r, R: Read> Aligned<'r, R> {
                 }
                 Ok(Some(Item::Bad)) => {}
                 Ok(Some(Item::Mark)) => {
-                    return end_by(self.image.next(), true) == Answer::EndedByOther;
+                    return self.is_before_other();
                 }
                 _ => return false,
             }
         }
         false
+    }
+
+    /// Reads the next item. Returns whether it is the trailer label of another section.
+    fn is_before_other(&mut self) -> bool {
+        match self.image.next() {
+            Ok(Some(Item::Block(block))) => is_other_trailer(&self.copy.section.key, block),
+            _ => false,
+        }
     }
 
     /// Returns the byte offset of the next item.
@@ -181,7 +148,7 @@ impl<'r, R: Read> Aligned<'r, R> {
             if item != Item::Mark {
                 return Ok(Answer::Unsure);
             }
-            let answer = end_by(self.image.next(), is_open);
+            let answer = end_by(self.image.next(), &self.copy, best)?;
             self.is_ended = answer != Answer::Unsure;
             return Ok(answer);
         }
@@ -245,8 +212,9 @@ pub struct Compared {
     pub differ: Option<(usize, usize)>,
 }
 
-/// Asks each copy for its next block. A copy that ended before a block that another one has, or
-/// with the trailer label of another section, differs from the others.
+/// Asks each copy for its next block. A copy that ended before a block that another one has differs
+/// from it, and so do copies that ended with a block that is not one of their trailer labels, unless
+/// all did.
 fn ask_all<R: Read>(
     copies: &mut [Aligned<'_, R>],
     best: &mut Candidate,
@@ -254,17 +222,22 @@ fn ask_all<R: Read>(
     best.clear();
     let mut held = Held::Nowhere;
     let (mut ended, mut other) = (None, None);
+    let mut others: usize = 0;
     for number in 0..copies.len() {
         match (copies[number].ask(best)?, held) {
             (Answer::Has, Held::Nowhere) => held = Held::First(number),
             (Answer::Differs, Held::First(first)) => return Ok(Held::Differ(first, number)),
             (Answer::Ended, _) => ended = Some(number),
-            (Answer::EndedByOther, _) => other = Some(number),
+            (Answer::EndedByOther, _) => {
+                other = Some(number);
+                others = others.saturating_add(1);
+            }
+            (Answer::Differs, _) => other = Some(number),
             _ => {}
         }
     }
     if let Some(number) = other
-        && copies.len() > 1
+        && others < copies.len()
     {
         return Ok(Held::Differ(if number == 0 { 1 } else { 0 }, number));
     }

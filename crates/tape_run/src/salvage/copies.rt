@@ -37,8 +37,8 @@ pub struct SectionCopy {
 
 impl SectionCopy {
     /// Returns how many of its data items are certainly its blocks: all if it closes, otherwise
-    /// those before the first unreadable item, and before the first that reads as its own trailer
-    /// label.
+    /// those before the first unreadable item, before the first that may be its own trailer
+    /// label, and before those that may be blocks of another section.
     pub fn believed(&self) -> u32
         ensures { result ≡ believed self.now }
     {
@@ -52,7 +52,7 @@ impl SectionCopy {
         }
     }
 
-    /// Returns how many of its data items may be its blocks: those before the first that reads as
+    /// Returns how many of its data items may be its blocks: those before the first that may be
     /// its own trailer label, if it does not close.
     pub fn possible(&self) -> u32 {
         match (self.closed, self.section.trailer) {

@@ -143,8 +143,8 @@ fn conflict_of<R: Read + Drop, L: ImageSource<R>>(
 }
 
 /// Returns the byte offset at which the data of a copy begin on its image, which is opened again.
-/// Returns `None` if it does not close, no labels are among its data, and no trailer label of another
-/// section follows them.
+/// Returns `None` if it does not close, no labels are among its data, and no trailer label of
+/// another section follows them.
 fn doubtful_place<R: Read + Drop, L: ImageSource<R>>(
     alloc: Global,
     copy: &SectionCopy,

@@ -5,6 +5,7 @@ ghost use Rattle.std.specs.Prelude.{◌≡◌};
 ghost use Rattle.tape_image.specs.{Reader.tape_item, Tape.block, Tape.bad, Tape.mark};
 ghost use Rattle.tape_run.specs.SalvageWalk as Walk;
 
+use crate::salvage::labels::is_own_trailer;
 use crate::salvage::outside::{begun_by, outside_by, unnamed_after};
 use crate::salvage::second::{second_by, trailer_form};
 use crate::section::SectionKey;
@@ -29,14 +30,15 @@ pub struct OpenSection {
     pub generation: Field<4>,
     /// The form of its blocks in its HDR2 or, if no HDR2 was read, in its EOF2 or EOV2.
     pub form: Option<Known>,
-    /// Whether its HDR1 was followed by a tape mark or a further header label, and its trailer label
-    /// by no unreadable item: it has no HDR2.
+    /// Whether its HDR1 was followed by a tape mark or a further header label, and its trailer
+    /// label by no unreadable item: it has no HDR2.
     pub has_no_second: bool,
     /// The number of data items so far, including unreadable ones.
     pub blocks: u32,
-    /// The number of data items before the first unreadable item after the section's HDR1.
+    /// The number of data items before the first unreadable item after the section's HDR1, or
+    /// before those that may be blocks of another section, whose trailer label follows.
     pub certain: Option<u32>,
-    /// The number of data items before the first that reads as its own trailer label.
+    /// The number of data items before the first that may be its own trailer label.
     pub trailer: Option<u32>,
     /// The number of unreadable data items.
     pub unreadable: u32,
@@ -115,7 +117,7 @@ impl OpenSection {
         ensures { result ≡ Walk.with_data block.now self }
     {
         let digest = digest_with(self.digest, block);
-        let trailer = self.trailer_by(read_trail1(block));
+        let trailer = self.trailer_by(is_own_trailer(&self.key, block));
         let counted = self.with_item();
         OpenSection {
             trailer,
@@ -124,13 +126,13 @@ impl OpenSection {
         }
     }
 
-    /// Returns the number of data items before the first that reads as its own trailer label, if
-    /// the next one is read like this.
-    fn trailer_by(&self, read: Result<Trail1, LabelFault>) -> Option<u32>
-        ensures { result ≡ Walk.trailer_by self.now read }
+    /// Returns the number of data items before the first that may be its own trailer label;
+    /// `may_end` says whether the next one may.
+    fn trailer_by(&self, may_end: bool) -> Option<u32>
+        ensures { result ≡ Walk.trailer_by self.now may_end }
     {
-        match (self.trailer, read) {
-            (None, Ok(trail)) if self.closes(&trail) => Some(self.blocks),
+        match self.trailer {
+            None if may_end => Some(self.blocks),
             _ => self.trailer,
         }
     }
@@ -207,13 +209,15 @@ impl OpenSection {
     }
 }
 
-/// Returns what is expected after a block in place of a section's trailer label.
+/// Returns what is expected after a block in place of a section's trailer label; `other` is the
+/// section if it does not close.
 fn closed_by(
     section: OpenSection,
+    other: OpenSection,
     read: Result<Trail1, LabelFault>,
     head: Result<Head1, LabelFault>,
 ) -> (Expected, Option<FoundSection>)
-    ensures { result ≡ Walk.closed_by section read head }
+    ensures { result ≡ Walk.closed_by section other read head }
 {
     match read {
         Ok(trail) if section.closes(&trail) => {
@@ -222,7 +226,7 @@ fn closed_by(
                 None,
             )
         }
-        _ => (begun_by(head, Expected::Outside(0)), Some((section, None))),
+        _ => (begun_by(head, Expected::Outside(0)), Some((other, None))),
     }
 }
 
@@ -250,7 +254,10 @@ fn block_step(expected: Expected, bytes: &[u8]) -> (Expected, Option<FoundSectio
         }
         Expected::Headers(section) => (Expected::Headers(section), None),
         Expected::Data(section) => (Expected::Data(section.with_data(bytes)), None),
-        Expected::Trailer(section) => closed_by(section, read_trail1(bytes), read_head1(bytes)),
+        Expected::Trailer(section) => {
+            let other = section.followed_by(bytes);
+            closed_by(section, other, read_trail1(bytes), read_head1(bytes))
+        }
         Expected::Trailers(section, closed) => {
             let section = section.with_trailer(kind(bytes), read_wide_head2(bytes));
             (Expected::Trailers(section, closed), None)

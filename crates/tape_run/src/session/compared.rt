@@ -16,7 +16,7 @@ ghost use Rattle.tape_set.specs.declared.position.Position.TheVariants.{Awaits};
 use super::Session;
 use crate::extract::images::ImageSource;
 use crate::fault::RunFault;
-use overlap::{Found, Overlap, compare_after, measure};
+use overlap::{Found, Overlap, compare_after, measure, number_in};
 use std::io::Read;
 use tape_core::{PartSink, PartWalk};
 use tape_image::{ImageBuffer, ImageReader};
@@ -67,8 +67,8 @@ fn mounted<R: Read, L: ImageSource<R>>(images: &mut L, number: usize) -> Result<
 
 impl<S: PartWalk> Session<S> {
     /// Returns the byte offset in image `number` of the data of the section that the session needs,
-    /// if they are other data than the session has. The image is opened up to three times: once if
-    /// it has all that the session has of section 1.
+    /// if they are other data than the session has. The image is opened up to four times: once if
+    /// it has all that the session has of section 1, or ends before that.
     ///
     /// # Errors
     ///
@@ -83,11 +83,8 @@ impl<S: PartWalk> Session<S> {
         ensures cause { IfErr result
             (λ fault. OpeningFails S.PartSink S.refuses fault self.old self.new) }
     {
-        let Some(mut image) = mounted(images, number)? else {
-            return Ok(None);
-        };
-        let found = self.compare(&mut image)?;
-        if found == Found::Same {
+        let found = self.compare_first(images, number)?;
+        if matches!(found, Found::Same | Found::Ended) {
             return Ok(None);
         }
         let Some(mut image) = mounted(images, number)? else {
@@ -106,14 +103,78 @@ impl<S: PartWalk> Session<S> {
         Ok(if differs { Some(overlap.place) } else { None })
     }
 
+    /// Compares the blocks that image `number` has of section 1 with the session's parts: those up
+    /// to an unreadable one and, if it is known where their parts begin, those after it. An image
+    /// that cannot be opened has none.
+    ///
+    /// # Errors
+    ///
+    /// The errors are those of `seam`.
+    fn compare_first<R: Read + Drop, L: ImageSource<R>>(
+        &mut self,
+        images: &mut L,
+        number: usize,
+    ) -> Result<Found, RunFault>
+        ensures same { IsWalked S.PartSink self.old self.new }
+        ensures calm { OnOk result (S.refusals self.new.sink ≡ S.refusals self.old.sink) }
+        ensures cause { IfErr result
+            (λ fault. OpeningFails S.PartSink S.refuses fault self.old self.new) }
+    {
+        let Some(mut image) = mounted(images, number)? else {
+            return Ok(Found::Ended);
+        };
+        let mut stop = 0;
+        let found = self.compare(&mut image, &mut stop)?;
+        match found {
+            Found::Unknown => {}
+            _ => return Ok(found),
+        }
+        let Some((rest, before)) = self.rest_after(stop) else {
+            return Ok(Found::Unknown);
+        };
+        if rest.is_empty() {
+            return Ok(Found::Same);
+        }
+        let Some(mut image) = mounted(images, number)? else {
+            return Ok(Found::Ended);
+        };
+        match self.compare_from(&mut image, &rest, before, &mut stop)? {
+            Found::Same => Ok(Found::Same),
+            _ => Ok(Found::Unknown),
+        }
+    }
+
+    /// Returns the overlap after block `bad` of section 1, and the weight of the session's parts
+    /// before it, if all blocks have parts of the same weight. Returns `None` if they cannot have,
+    /// or if the session needs another section. An overlap without blocks is returned in any case.
+    fn rest_after(&self, bad: u32) -> Option<(Overlap, u64)> {
+        match self.reel_reader.core.position() {
+            Position::Awaits {
+                sect: 1,
+                block,
+                part: 0,
+            } if bad < block => {
+                let (weight, from) = (self.reel_reader.sink.weight(), bad.saturating_add(1));
+                let each = weight / block as u64;
+                if from < block && each.saturating_mul(block as u64) != weight {
+                    return None;
+                }
+                let before = each.saturating_mul(from as u64);
+                Some((Overlap::behind(from, block), before))
+            }
+            _ => None,
+        }
+    }
+
     /// Compares the blocks that an unread image has of section 1 with the session's parts, if that
-    /// is the section that the session needs.
+    /// is the section that the session needs. `stop` gets the number of the block at which the
+    /// comparison ended, counted from 0.
     ///
     /// # Errors
     ///
     /// Returns `OutOfMemory` if the image reader's buffer was refused, and `Sink` with the fault of
     /// the walk over the sink's parts.
-    fn compare<R: Read>(&mut self, device: &mut R) -> Result<Found, RunFault>
+    fn compare<R: Read>(&mut self, device: &mut R, stop: &mut u32) -> Result<Found, RunFault>
         // What is found of all of the session's parts.
         ensures found { IfOk result (λ found. (number part : ℕ)
             → self.old.core.position ≡ Awaits 1 number part → (held : List Portion)
@@ -134,7 +195,7 @@ impl<S: PartWalk> Session<S> {
         if sect != 1 {
             return Ok(Found::Unknown);
         }
-        self.compare_from(device, &Overlap::up_to(block, part), 0)
+        self.compare_from(device, &Overlap::up_to(block, part), 0, stop)
     }
 
     /// Returns whether the overlap with an image has other parts on the image, which is read once
@@ -168,14 +229,15 @@ impl<S: PartWalk> Session<S> {
         if weight < overlap.weight {
             return Ok(true);
         }
-        match self.compare_from(device, overlap, weight - overlap.weight)? {
+        match self.compare_from(device, overlap, weight - overlap.weight, &mut 0)? {
             Found::Other => Ok(true),
             _ => Ok(false),
         }
     }
 
     /// Compares the blocks of the overlap with an image, which is read once more, with the
-    /// session's parts after those of weight `before`.
+    /// session's parts after those of weight `before`. `stop` gets the number of the block at which
+    /// the comparison ended.
     ///
     /// # Errors
     ///
@@ -186,6 +248,7 @@ impl<S: PartWalk> Session<S> {
         device: &mut R,
         overlap: &Overlap,
         before: u64,
+        stop: &mut u32,
     ) -> Result<Found, RunFault>
         ensures found { IfOk result (λ found. (front last : List Portion)
             → S.holds self.old.sink (front ++ last) → weight_of front ≡ before
@@ -208,6 +271,7 @@ impl<S: PartWalk> Session<S> {
         let sink = &mut self.reel_reader.sink;
         let found = compare_after(overlap, &mut core, wide, &mut image, sink, before);
         image.into_device();
+        *stop = number_in(&core);
         match found {
             Ok(found) => Ok(found),
             Err(cause) => Err(RunFault::Sink(cause)),

@@ -40,7 +40,8 @@ pub struct FileNote {
     pub trailers: bool,
     /// The first block that was found of a complete section that is not in its format, if any.
     pub misfit: Option<Misfit>,
-    /// The padding of the blocks of its complete sections that was found first, if any.
+    /// The padding that was found first, if any: of the blocks of its complete sections, or left
+    /// out of those of sections with unreadable blocks.
     pub padding: Option<Padding>,
     /// The numbers of the first two images with labels of different files, if there are any.
     pub conflict: Option<(usize, usize)>,

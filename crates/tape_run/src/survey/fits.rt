@@ -9,11 +9,11 @@ ghost use Rattle.tape_run.specs.SurveyFits.{with_block, fit_in, misfit_of, misfi
 ghost use Rattle.tape_run.specs.declared.fault.RunFault.TheVariants as faults;
 
 use super::files::{FileKey, FileNote, FileNotes, Files, file_of, is_unclear};
-use super::padding::{Padding, padding_after, padding_in};
+use super::padding::{Padding, padding_after, padding_in, padding_left_out};
 use crate::fault::RunFault;
 use crate::met::{Met, Told};
 use crate::passing::Phase;
-use crate::section::Entry;
+use crate::section::{Entry, SectionState};
 use tape_blocks::{Shape, check_block, content};
 use tape_image::Item;
 use tape_label::{Format, Head2, Kind, absent_head2, is_further_header, kind, read_wide_head2};
@@ -218,7 +218,8 @@ fn note_blocks_of(
 }
 
 /// Records the first block of the section that was completed that is not in its format, and its
-/// padding, if the section is complete.
+/// padding, if the section is complete. Of a section with unreadable blocks, only the padding that
+/// is left out of the others is recorded.
 fn note_blocks(notes: &mut FileNotes, told: Option<Told>, fit: &Fit) -> Result<(), RunFault>
     ensures fault { IsOkUnless result faults.OutOfMemory }
     ensures ok { OnOk result (notes.new.entries ≡ with_blocks notes.old.entries told fit.now) }
@@ -226,11 +227,14 @@ fn note_blocks(notes: &mut FileNotes, told: Option<Told>, fit: &Fit) -> Result<(
     let Some((key, entry)) = told else {
         return Ok(());
     };
-    if !entry.state.is_good() {
-        return Ok(());
+    match entry.state {
+        SectionState::Good => {
+            let misfit = misfit_in(key.sect, misfit_of(fit, &entry));
+            note_blocks_of(notes, file_of(&key), misfit, padding_in(fit, &entry))
+        }
+        SectionState::Bad => note_blocks_of(notes, file_of(&key), None, padding_left_out(fit)),
+        SectionState::Count | SectionState::Cut => Ok(()),
     }
-    let misfit = misfit_in(key.sect, misfit_of(fit, &entry));
-    note_blocks_of(notes, file_of(&key), misfit, padding_in(fit, &entry))
 }
 
 /// Records what an item says about the blocks of sections, and about the section that it completes,

@@ -1,8 +1,8 @@
 //! What follows the last records of blocks, and is or may be padding.
-ghost use Rattle.std.specs.Prelude.{◌≡◌, ◌-◌, length, slice_get};
+ghost use Rattle.std.specs.Prelude.{◌≡◌, ◌-◌, false, length, slice_get};
 ghost use Rattle.tape_blocks.specs.Block.{first_other};
 ghost use Rattle.tape_run.specs.SurveyPadding.{last_padding, padding_after, padding_in};
-ghost use Rattle.tape_run.specs.SurveyPadding.{ends_in_circumflexes, left_out};
+ghost use Rattle.tape_run.specs.SurveyPadding.{ends_in_circumflexes, left_out, padding_if};
 
 use super::fits::Fit;
 use crate::section::Entry;
@@ -85,6 +85,16 @@ pub(super) fn padding_in(fit: &Fit, entry: &Entry) -> Option<Padding>
 {
     match fit.padding {
         Some(Padding::Circumflexes) if !entry.eof || fit.misfit.is_some() => None,
+        padding => padding,
+    }
+}
+
+/// Returns the padding that is left out of the blocks of a section.
+pub(super) fn padding_left_out(fit: &Fit) -> Option<Padding>
+    ensures { result ≡ padding_if false fit.now.padding }
+{
+    match fit.padding {
+        Some(Padding::Circumflexes) => None,
         padding => padding,
     }
 }

@@ -2,8 +2,9 @@
 ghost use Rattle.std.specs.Prelude.{◌≡◌, ◌<◌, ◌++◌, length, map, IfOk, OnOk};
 ghost use Rattle.std.specs.List.{flat_map};
 ghost use Rattle.tape_run.specs.SurveyCompared.{name_at, copy_row, copies_rows};
-ghost use Rattle.tape_run.specs.SurveyRows.{problem_cell, file_row, found_row, file_rows, sets_rows};
+ghost use Rattle.tape_run.specs.SurveyRows.{problem_cell, file_row, found_row, file_rows};
 ghost use Rattle.tape_run.specs.SurveyRows.{section_row, image_rows, survey_rows, padded_rows};
+ghost use Rattle.tape_run.specs.SurveyRows.{sets_rows};
 ghost use Rattle.tape_run.specs.SurveySets.{file_problems};
 
 mod cells;

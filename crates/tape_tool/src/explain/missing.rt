@@ -297,18 +297,18 @@ const NOT_MERGED: &str =
   end (CUT): the lines say which.";
 
 const RESYNCED: &str =
-    "The bytes between the two places are lost: one unreadable item replaces them,
-  though they may have been more. Use this image alone: 'tape survey' shows
-  what it has, 'tape salvage' writes the records that are certain.";
+    "The bytes between the places are lost, and perhaps blocks and tape marks with
+  them. Each image is a reading of its own: name them together, and with other
+  copies, for 'tape survey', 'tape unpack' or 'tape salvage'.";
 
 /// Returns the explanation that is true whatever the images contain.
 fn general_text(order: &Order<'_>) -> &'static str {
     match order {
-        Order::Check(_, None) =>
+        Order::Check(_, None, _) =>
             "Each line LACKS names a set, a file and its first section that is complete on
   no image: look for another copy of that section. Without such a line, no
   section was found at all. 'tape survey' shows what the images are.",
-        Order::Check(_, Some(_)) =>
+        Order::Check(_, Some(_), _) =>
             "A section is missing, damaged or unreadable, copies differ, HDR2 is lost, or
   an image was not read to its end: the lines of files and images say which.",
         Order::Extract(order) if order.task.again =>

@@ -19,7 +19,7 @@ use tape_writer::system::{folder_of, found, is_unable, name_in_folder};
 /// The first bytes of files that might be tapes although they are not images, each with its offset.
 /// The last two are checkpoints in the slots of a stage.
 const FRONTS: &[(usize, &[u8])] = &[
-    // A volume label in ASCII or EBCDIC, behind a word that may be damaged.
+    // A volume label in ASCII or EBCDIC, after a word that may be damaged.
     (4, b"VOL1"),
     (4, b"\xe5\xd6\xd3\xf1"),
     // gzip, compress, bzip2, xz, Zstandard, zip, lz4, lzip, RAR.

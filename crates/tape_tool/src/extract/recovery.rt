@@ -5,16 +5,20 @@ use super::draft::Drafted;
 use super::out::{Output, Way};
 use crate::explain::FaultSite;
 use crate::fault::{OUT_OF_MEMORY, ToolFault};
+use crate::images::Images;
 use crate::program::{End, extract_end};
+use crate::record_form::Under;
+use crate::refusal::are_files;
 use crate::screen::Progress;
 use crate::staging::{StageSink, session_in};
 use crate::unpack::{Listed, Summed};
+use crate::warned::Warned;
 use std::fs::File;
 use std::io;
 use std::io::{BufWriter, Read};
 use tape_core::{MemorySink, PartWalk, SinkFault};
 use tape_run::{
-    EngineFault, ImageSource, Opener, OutSink, RunFault, Session, extract_in_passes,
+    EngineFault, ImageSource, Opener, OutSink, RunFault, Session, Translated, extract_in_passes,
     extract_watched,
 };
 use tape_set::Want;
@@ -37,7 +41,7 @@ where
     I: Read + Drop,
     L: ImageSource<I>,
     M: Opener<MemorySink, I, L> + Opener<StageSink, I, L>,
-    N: Opener<OutSink<BufWriter<File>>, I, L>,
+    N: Opener<OutSink<Translated<BufWriter<File>>>, I, L>,
 {
     let (opener, streamer) = openers;
     let Some(path) = task.stage else {
@@ -58,6 +62,26 @@ where
     Ok(end)
 }
 
+/// Recovers the file from images that are read once, in their order and as they are.
+pub fn extract_in_order<'n, 'a, R: Progress>(
+    rt: &'n R,
+    task: &Task<'a>,
+    named: &'n [&'n str],
+    way: Way<'_>,
+    reels: Option<u64>,
+    listed: &mut Listed,
+    site: &mut FaultSite<'a>,
+) -> Result<End, ToolFault> {
+    let images = &mut Images::new(rt, named);
+    images.reels = reels;
+    let is_on = are_files(rt.host(), named);
+    let openers = (
+        &mut Warned::new(rt.alloc(), task, is_on),
+        &mut Warned::new(rt.alloc(), task, is_on),
+    );
+    recover(rt, task, images, openers, way, listed, site)
+}
+
 /// Recovers a file without a stage. If the images are read once, writes the records as they are
 /// read, unless the output is written in place. `listed` gets the same as in `recover`.
 fn extract_now<R, I, L, M, N>(
@@ -73,7 +97,7 @@ where
     I: Read + Drop,
     L: ImageSource<I>,
     M: Opener<MemorySink, I, L>,
-    N: Opener<OutSink<BufWriter<File>>, I, L>,
+    N: Opener<OutSink<Translated<BufWriter<File>>>, I, L>,
 {
     let (opener, streamer) = openers;
     Ok(match Output::new(rt, way)? {
@@ -97,17 +121,19 @@ where
     R: Progress,
     I: Read + Drop,
     L: ImageSource<I>,
-    N: Opener<OutSink<BufWriter<File>>, I, L>,
+    N: Opener<OutSink<Translated<BufWriter<File>>>, I, L>,
 {
-    let (mut draft, out) = drafted;
-    let sink = OutSink::new(rt.alloc(), out, task.form);
+    let (draft, out) = drafted;
+    let mut place = Under(draft);
+    let form = task.form.given();
+    let sink = OutSink::new(rt.alloc(), task.form.over(out), form);
     let Ok(mut session) = Session::new(rt.alloc(), task.set_id, task.file, sink) else {
-        return draft.ended(End::WrongWords);
+        return place.0.ended(End::WrongWords);
     };
     let (session, report) = (&mut session, &mut io::writer(rt));
-    let answer = extract_watched(session, images, opener, task.form, &mut draft, report);
+    let answer = extract_watched(session, images, opener, form, &mut place, report);
     *awaited = session.want();
-    draft.ended(end_as_written(answer))
+    place.0.ended(end_as_written(answer))
 }
 
 /// Recovers a file whose data is held in memory. If the images are read repeatedly, the data of a
@@ -169,10 +195,11 @@ where
     M: Opener<S, I, L>,
     S: PartWalk + Drop,
 {
-    let (mut out, report) = (Summed::new(output, listed.is_wanted), &mut io::writer(rt));
-    let (again, form) = (task.again, task.form);
-    let answer = extract_in_passes(session, images, opener, again, form, &mut out, report);
-    listed.sum = out.sum();
+    let (mut summed, report) = (Summed::new(output, listed.is_wanted), &mut io::writer(rt));
+    let (again, form) = (task.again, task.form.given());
+    let out = &mut task.form.over(&mut summed);
+    let answer = extract_in_passes(session, images, opener, again, form, out, report);
+    listed.sum = summed.sum();
     listed.want = session.want();
     answer
 }

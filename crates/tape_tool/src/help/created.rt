@@ -226,14 +226,17 @@ the SIMH image, and there is no OUT.
   CONVERTED 1284
            the number of items of OUT
 
-With --resync, reading of a SIMH image continues after a wrong word at the next
-block that another one, a tape mark, a gap or the end follows. OUT has one
-unreadable block for the bytes before it, and standard error names them:
-  reading broke off at byte 268 and continued at byte 512
-These bytes may have been several blocks and tape marks: use OUT alone, not with
-other copies. What looks like a block in a damaged block is taken for one.
+With --resync, reading of a SIMH image continues after each wrong word at the
+next block that another one, a tape mark, a gap or the end follows. OUT has the
+items before the first wrong word. What is found after each becomes an image of
+its own, with a number before the extension, up to 99 in all:
+  CONVERTED 9 reel-2.tap
+and standard error says where:
+  reading broke off at byte 268 and continued at byte 512: reel-2.tap
+Blocks and tape marks may be lost between them. They can be named together, and
+with other copies. What looks like a block in a damaged block is taken for one.
 
-An existing OUT is never overwritten ('tape: file fault 1'), and OUT appears
-only when it is complete.
+No existing file is overwritten ('tape: file fault 1'), and OUT appears only
+when it is complete.
 
 Exit status: 0 OUT is complete, 1 error, 2 usage error, 3 bytes were lost";

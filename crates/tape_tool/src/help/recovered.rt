@@ -18,6 +18,26 @@ pub const STAGE: &str = "Save recovered data here, and continue from it";
 
 pub const AGAIN: &str = "Repeat until a pass recovers nothing new";
 
+pub const JOIN: &str = "Read the set identifier OTHER in labels as SET
+(may be repeated)";
+
+pub const RENUMBER: &str = "Number files and sections by their order, if the labels
+do not: name the images in order";
+
+pub const WRONG_JOIN: &str =
+    "--join needs two different set identifiers, each of 1 to 6 characters without '=':
+  --join OWN001=OWN002";
+
+pub const JOINED_TWICE: &str = "an identifier after '=' may be in no other --join";
+
+pub const RELABELS_NEED_AGAIN: &str = "--join and --renumber need --again";
+
+pub const RELABELS_OF_INPUT: &str =
+    "with --join or --renumber images are read twice: name a file instead of '-'";
+
+pub const TEXT: &str = "Translate records from EBCDIC (code page 037) to
+ISO 8859-1, which begins with ASCII";
+
 pub const NOW_OF_OUT: &str = "Keep the present as the time of OUT, instead of noon
 (UTC) of the creation date in its labels";
 
@@ -155,8 +175,8 @@ IMAGEs are named, against these; recover nothing";
 
 // `unpack`: errors in arguments.
 pub const VERIFY_ALONE: &str =
-    "--verify recovers nothing: it takes DIR, --form and IMAGEs, and with IMAGEs
-also --set and --file";
+    "--verify recovers nothing: it takes DIR, --form, --text and IMAGEs, and with
+IMAGEs also --set and --file";
 
 pub const TOO_MANY_TO_UNPACK: &str =
     "unpack takes up to 256 IMAGEs, and any number of names from a list:
@@ -211,6 +231,9 @@ format that HDR2 states. EXISTS then says only that a file of this name exists.
 With --form auto the form follows READY and the number of records: 'lines' if
 each byte of the records is printable ASCII, a tab or a form feed, otherwise
 'raw'.
+With --text the records of each chosen file are translated, even if its labels
+are in ASCII; --form auto looks at the translated ones. Stages keep the data of
+the tape.
 
 Further lines:
   NO SET ABC002            no file was found that --set or --file means

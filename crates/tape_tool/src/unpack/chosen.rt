@@ -8,6 +8,7 @@ use super::report::LastLine;
 use super::run::Run;
 use crate::fault::{OUT_OF_MEMORY, ToolFault};
 use crate::normal::NormalImages;
+use crate::record_form::{RecordForm, Under};
 use crate::screen::Progress;
 use std::io;
 use std::io::{Read, Write};
@@ -96,7 +97,7 @@ impl Place<TextCheck> for Chosen {
 }
 
 /// Recovers a file as `extract_in_passes` does, in the form `form` or, if it is `None`, in the one
-/// for its records, which `form` then gets.
+/// for its records, which `form` then gets. If `is_text`, its characters are translated.
 pub fn extract_in_form<
     S: PartWalk,
     R: Read + Drop,
@@ -109,30 +110,61 @@ pub fn extract_in_form<
     images: &mut L,
     opener: &mut M,
     form: &mut Option<Form>,
+    is_text: bool,
     out: &mut W,
     report: &mut P,
 ) -> Result<Option<Want>, EngineFault> {
     if let Some(form) = *form {
-        return extract_in_passes(session, images, opener, true, form, out, report);
+        let form = RecordForm { form, is_text };
+        let (given, mut out) = (form.given(), form.over(&mut *out));
+        return extract_in_passes(session, images, opener, true, given, &mut out, report);
     }
-    let check = &mut TextCheck::new();
-    let want = extract_in_passes(session, images, opener, true, Form::Raw, check, report)?;
+    let mut check = TextCheck::new();
+    let raw = raw(is_text);
+    let (given, mut out_of_check) = (raw.given(), raw.over(&mut check));
+    let want = extract_in_passes(
+        session,
+        images,
+        opener,
+        true,
+        given,
+        &mut out_of_check,
+        report,
+    )?;
     if want.is_none() {
         let chosen = check.form();
         *form = Some(chosen);
-        session.write_file(chosen, out)?;
+        let form = RecordForm {
+            form: chosen,
+            is_text,
+        };
+        session.write_file(form.given(), &mut form.over(&mut *out))?;
     }
     Ok(want)
+}
+
+/// Returns how records are written to find out the form for them.
+fn raw(is_text: bool) -> RecordForm {
+    RecordForm {
+        form: Form::Raw,
+        is_text,
+    }
 }
 
 impl<R: Progress, P: Write> Run<'_, R, P> {
     /// Begins with the form for the next file, at `out`: the recorded one or else the one that is
     /// asked for, or none yet.
     pub fn begin_form(&mut self, out: &str) {
-        self.form = self
-            .recorded
-            .form_of(name_in_folder(out))
-            .or(self.order.form);
+        match self.recorded.form_of(name_in_folder(out)) {
+            Some(RecordForm { form, is_text }) => {
+                self.form = Some(form);
+                self.is_text = is_text;
+            }
+            None => {
+                self.form = self.order.form;
+                self.is_text = self.order.is_text;
+            }
+        }
     }
 
     /// Chooses the form of a file if it is to be chosen, and all sections of the file are complete.
@@ -142,7 +174,9 @@ impl<R: Progress, P: Write> Run<'_, R, P> {
             return Ok(());
         }
         let rt = self.rt;
-        let sink = OutSink::new(rt.alloc(), TextCheck::new(), Form::Raw);
+        let raw = raw(self.is_text);
+        let form = raw.given();
+        let sink = OutSink::new(rt.alloc(), raw.over(TextCheck::new()), form);
         let Ok(mut session) = Session::new(rt.alloc(), file.set_id, file.file, sink) else {
             return Ok(());
         };
@@ -150,15 +184,14 @@ impl<R: Progress, P: Write> Run<'_, R, P> {
             session.widen();
         }
         let images = &mut NormalImages::again(rt, self.names);
-        let (met, checked, chosen) = (self.met, &mut self.checked, &mut Chosen(None));
+        let (met, checked, mut chosen) = (self.met, &mut self.checked, Under(Chosen(None)));
         let locations = &met.locations;
-        let form = Form::Raw;
-        match extract_located(&mut session, images, checked, locations, form, chosen) {
+        match extract_located(&mut session, images, checked, locations, form, &mut chosen) {
             Err(fault) if ToolFault::from(fault) == OUT_OF_MEMORY => return Err(OUT_OF_MEMORY),
             // Recovering the file will meet the same fault, and report it.
             Ok(_) | Err(_) => {}
         }
-        self.form = chosen.0;
+        self.form = chosen.0.0;
         Ok(())
     }
 
@@ -168,14 +201,15 @@ impl<R: Progress, P: Write> Run<'_, R, P> {
         if self.form.is_some() {
             return Ok(());
         }
-        let (rt, chosen) = (self.rt, &mut Chosen(None));
+        let (rt, mut chosen, raw) = (self.rt, Under(Chosen(None)), raw(self.is_text));
         let images = &mut NormalImages::again(rt, names);
-        let (task, told) = (salvage_task(file, Form::Raw), &mut LastLine::new());
-        match salvage_joined(rt.alloc(), &task, images, TextCheck::new(), chosen, told) {
+        let (task, told) = (salvage_task(file, raw), &mut LastLine::new());
+        let check = raw.over(TextCheck::new());
+        match salvage_joined(rt.alloc(), &task, images, check, &mut chosen, told) {
             Err(fault) if ToolFault::from(fault) == OUT_OF_MEMORY => return Err(OUT_OF_MEMORY),
             Ok(_) | Err(_) => {}
         }
-        self.form = chosen.0;
+        self.form = chosen.0.0;
         Ok(())
     }
 
@@ -188,7 +222,10 @@ impl<R: Progress, P: Write> Run<'_, R, P> {
     }
 
     /// Returns the form of the current file, or that of lines if none was chosen.
-    pub fn form(&self) -> Form {
-        self.form.unwrap_or(Form::Lines)
+    pub fn form(&self) -> RecordForm {
+        RecordForm {
+            form: self.form.unwrap_or(Form::Lines),
+            is_text: self.is_text,
+        }
     }
 }

@@ -15,11 +15,11 @@ use crate::extract::{Draft, Task};
 use crate::fault::{OUT_OF_MEMORY, ToolFault};
 use crate::normal::NormalImages;
 use crate::program::{End, end_of};
+use crate::record_form::{RecordForm, Under};
 use crate::screen::Progress;
 use std::cell::Cell;
 use std::io::Write;
 use std::mem;
-use tape_blocks::Form;
 use tape_run::{
     BlockRun, Content, Locations, Place, SalvageTask, SetFile, WriteFailed, salvage_joined, set_of,
 };
@@ -38,12 +38,12 @@ impl Place<SummedFile> for Kept {
 }
 
 /// Returns how the records of a file are salvaged.
-pub fn salvage_task(file: &SetFile, form: Form) -> SalvageTask {
+pub fn salvage_task(file: &SetFile, form: RecordForm) -> SalvageTask {
     SalvageTask {
         set_id: file.set_id,
         file: file.file,
         content: Content::Records,
-        form,
+        form: form.given(),
     }
 }
 
@@ -96,8 +96,9 @@ impl<'n, R: Progress, P: Write> Run<'n, R, P> {
         let differs = &Cell::new(false);
         let existing = Existing::open(rt.host(), out, differs)?;
         let images = &mut NormalImages::again(rt, names);
-        let task = salvage_task(file, self.form());
-        match salvage_joined(rt.alloc(), &task, images, existing, &mut Comparison, told) {
+        let (form, place) = (self.form(), &mut Under(Comparison));
+        let (task, out) = (salvage_task(file, form), form.over(existing));
+        match salvage_joined(rt.alloc(), &task, images, out, place, told) {
             Ok(true) => {
                 let images = &mut NormalImages::again(rt, names);
                 let same = are_of_one_file(rt.alloc(), images, file)?;
@@ -158,9 +159,9 @@ fn salvage_whole<'a, R: Progress>(
 ) -> Result<End, ToolFault> {
     let (draft, records) = Draft::over(rt, task.out, None)?;
     let mut place = SummedDraft { draft, found: None };
-    let mut kept = Kept(None);
+    let mut kept = Under(Kept(None));
     let images = &mut NormalImages::again(rt, names);
-    let records = Summed::new(records, listed.is_wanted);
+    let records = task.form.over(Summed::new(records, listed.is_wanted));
     let salvage = salvage_task(file, task.form);
     let done = match salvage_joined(rt.alloc(), &salvage, images, records, &mut kept, told) {
         Ok(_) if told.is_short => Err(OUT_OF_MEMORY),
@@ -168,8 +169,9 @@ fn salvage_whole<'a, R: Progress>(
         Ok(false) => Ok(false),
         Err(fault) => Err(ToolFault::from(fault)),
     };
+    let records = kept.0.0;
     let end = match done {
-        Ok(certain) => placed(&mut place, kept.0, certain),
+        Ok(certain) => placed(&mut place, records, certain),
         Err(fault) => End::Faulted(fault),
     };
     let end = place.draft.ended(end);

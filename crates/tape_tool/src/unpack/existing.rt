@@ -12,6 +12,7 @@ use crate::fault::{FileFault, OUT_OF_MEMORY, ToolFault};
 use crate::images::ReadAhead;
 use crate::normal::{Normal, NormalImages};
 use crate::program::{End, extract_end};
+use crate::record_form::Under;
 use crate::refusal::open;
 use crate::screen::{Host, Progress};
 use std::cell::Cell;
@@ -46,6 +47,14 @@ impl<'a> Existing<'a> {
     ) -> Result<Existing<'a>, ToolFault> {
         let file = ReadAhead::new(rt.alloc(), open(rt, path)?)?;
         Ok(Existing { file, differs })
+    }
+
+    /// Passes over the length of a record, which is not compared.
+    pub fn pass_length(&mut self) -> Result<(), FileFault> {
+        let mut length = [0; 4];
+        self.file
+            .read_exact(&mut length)
+            .map_err(|_| FileFault::ReadFailed)
     }
 
     /// Records a difference, and returns the error for it.
@@ -224,8 +233,8 @@ impl<R: Progress, P: Write> Run<'_, R, P> {
         }
         opener.is_recorded = self.manifest.is_some();
         let (session, last) = (&mut session, &mut LastLine::new());
-        let form = &mut self.form;
-        let answer = extract_in_form(session, images, opener, form, &mut existing, last);
+        let (form, is_text, out) = (&mut self.form, self.is_text, &mut existing);
+        let answer = extract_in_form(session, images, opener, form, is_text, out, last);
         let end = extract_end(answer);
         if end == End::Incomplete && opener.differing.is_empty() {
             let names = self.names_of_file(file)?;
@@ -250,15 +259,16 @@ fn compare_whole<R: Progress>(
     locations: &Locations,
     existing: Existing<'_>,
 ) -> End {
-    let sink = OutSink::new(rt.alloc(), existing, task.form);
+    let form = task.form.given();
+    let sink = OutSink::new(rt.alloc(), task.form.over(existing), form);
     let Ok(mut session) = Session::new(rt.alloc(), task.set_id, task.file, sink) else {
         return End::WrongWords;
     };
     if task.wide {
         session.widen();
     }
-    let place = &mut Comparison;
-    match extract_located(&mut session, images, mounted, locations, task.form, place) {
+    let place = &mut Under(Comparison);
+    match extract_located(&mut session, images, mounted, locations, form, place) {
         Ok(Some(_)) => End::Done,
         Ok(None) => End::Incomplete,
         Err(fault) => end_as_written(Err(fault)),

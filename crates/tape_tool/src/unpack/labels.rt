@@ -12,11 +12,14 @@ struct Labels<'f> {
     file: &'f SetFile,
     /// The first label that was read of each section.
     heads: Vec<Head1>,
-    /// The second label that was read first.
+    /// The second label that was read first, of those that have lengths or are header labels.
     second: Option<Head2>,
+    /// The second trailer label without lengths that was read first.
+    bare: Option<Head2>,
     /// Whether all labels can be those of one file.
     agree: bool,
-    /// Whether an unreadable item follows a first label: it may be a second label.
+    /// Whether an unreadable item, or a second trailer label that cannot be read, follows a first
+    /// label.
     is_doubted: bool,
 }
 
@@ -33,16 +36,38 @@ impl Labels<'_> {
         Ok(self.heads.push(head)?)
     }
 
-    /// Processes a block after a first label, which is a second label of the file or none.
+    /// Processes a block after a first label, which is a second label of the file or none. Many
+    /// systems wrote no lengths in the second trailer label.
     fn take_second(&mut self, block: &[u8]) {
-        let Some(Kind::Hdr2 | Kind::Eof2 | Kind::Eov2) = kind(block) else {
-            return;
+        let is_trailer = match kind(block) {
+            Some(Kind::Hdr2) => false,
+            Some(Kind::Eof2 | Kind::Eov2) => true,
+            _ => return,
         };
-        match (read_wide_head2(block), self.second) {
-            (Ok(head), None) => self.second = Some(head),
-            (Ok(head), Some(other)) => self.agree = self.agree && head == other,
-            (Err(_), _) => self.agree = false,
+        match read_wide_head2(block) {
+            Ok(head) if is_trailer && head.block_len == 0 && head.rec_len == 0 => {
+                let first = self.bare.unwrap_or(head);
+                self.agree = self.agree && head == first;
+                self.bare = Some(first);
+            }
+            Ok(head) => {
+                let first = self.second.unwrap_or(head);
+                self.agree = self.agree && head == first;
+                self.second = Some(first);
+            }
+            Err(_) if is_trailer => self.is_doubted = true,
+            Err(_) => self.agree = false,
         }
+    }
+
+    /// Returns whether all labels that were read can be those of one file.
+    fn are_of_one_file(&self) -> bool {
+        let second = match (self.second, self.bare) {
+            (Some(head), Some(bare)) => head.format == bare.format && head.offset == bare.offset,
+            (None, None) => !self.is_doubted,
+            _ => true,
+        };
+        self.agree && second
     }
 
     /// Reads the labels of the file on an image, as far as the image can be read.
@@ -92,7 +117,8 @@ fn label_in(block: &[u8], file: &SetFile) -> Option<Head1> {
 
 /// Returns whether the labels of a file on the images can be those of one file: every first header
 /// or trailer label with its number has its file identifier, those of one section have the same
-/// creation date and generation, and all second labels give the same format. If none is readable,
+/// creation date and generation, and all second labels give the same format; in a trailer the
+/// lengths may be missing, or the second label may be unreadable. If no second label is readable,
 /// none is unreadable. A block of data that reads as such a label counts as one.
 ///
 /// # Errors
@@ -107,6 +133,7 @@ pub fn are_of_one_file<R: Read + Drop, L: ImageSource<R>>(
         file,
         heads: Vec::new(alloc),
         second: None,
+        bare: None,
         agree: true,
         is_doubted: false,
     };
@@ -119,5 +146,5 @@ pub fn are_of_one_file<R: Read + Drop, L: ImageSource<R>>(
             labels.read_image(&mut image)?;
         }
     }
-    Ok(labels.agree && (labels.second.is_some() || !labels.is_doubted))
+    Ok(labels.are_of_one_file())
 }

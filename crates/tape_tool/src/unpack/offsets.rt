@@ -2,11 +2,11 @@
 
 use crate::convert::is_simh;
 use crate::images::ReadAhead;
-use crate::refusal::open;
+use crate::readings::{file_at, opened_at, place_in};
 use crate::screen::Host;
 use indexmap::IndexMap;
 use std::alloc::{AllocError, Global};
-use std::io::{Read, Seek, SeekFrom};
+use std::io::Read;
 use tape_image::{ImageReader, Item};
 use tape_label::read_head1;
 use tape_run::{SectionKey, container_of};
@@ -24,17 +24,17 @@ pub struct Start {
 /// section was read.
 pub type Starts = IndexMap<SectionKey, Option<Start>>;
 
-/// Returns where the data of the sections on the image at `path` begin: after the tape mark that
+/// Returns where the data of the sections on the image named `name` begin: after the tape mark that
 /// follows a header label. Labels in EBCDIC are not read. The starts are those up to a fault, and
-/// none of an image of another format.
-pub fn starts_in<R: Host>(rt: &R, path: &str) -> Result<Starts, AllocError> {
+/// none of an image of another format. The byte offsets are those from the beginning of the file.
+pub fn starts_in<R: Host>(rt: &R, name: &str) -> Result<Starts, AllocError> {
     let alloc = rt.alloc();
     let mut starts = Starts::new(alloc);
-    let Ok(file) = open(rt, path) else {
+    let (from, Ok(file)) = (place_in(name).1, opened_at(rt, name)) else {
         return Ok(starts);
     };
     let mut bytes = ReadAhead::new(alloc, file)?;
-    if !is_simh(container_of(bytes.front())) {
+    if from == 0 && !is_simh(container_of(bytes.front())) {
         return Ok(starts);
     }
     let mut image = reader_of(alloc, &mut bytes)?;
@@ -49,18 +49,15 @@ pub fn starts_in<R: Host>(rt: &R, path: &str) -> Result<Starts, AllocError> {
                 is_data = !is_data && head.is_some();
                 begun = if is_data { head } else { None };
                 head = None;
-                note_start(&mut starts, begun, image.place())?;
+                note_start(&mut starts, begun, from.saturating_add(image.place()))?;
                 continue;
             }
             _ => break,
         };
         head = label.or(head);
         if let (Some(key), Some(length)) = (begun.take(), length) {
-            note_first(
-                &mut starts,
-                key,
-                image.place().saturating_sub(size_of(length)),
-            )?;
+            let place = from.saturating_add(image.place());
+            note_first(&mut starts, key, place.saturating_sub(size_of(length)))?;
         }
     }
     Ok(starts)
@@ -119,19 +116,16 @@ fn reader_of<'r, D: Read>(
 }
 
 /// Returns the byte offset of block `number` of data that begin at byte offset `start` of the image
-/// at `path`, counted from 0: that of its first word. Returns `None` if it cannot be read there.
+/// named `name`, counted from 0: that of its first word. Returns `None` if it cannot be read there.
 pub fn block_offset<R: Host>(
     rt: &R,
-    path: &str,
+    name: &str,
     start: u64,
     number: u32,
 ) -> Result<Option<u64>, AllocError> {
-    let Ok(mut file) = open(rt, path) else {
+    let Ok(file) = file_at(rt, place_in(name).0, start) else {
         return Ok(None);
     };
-    if file.seek(SeekFrom::Start(start)).is_err() {
-        return Ok(None);
-    }
     let mut bytes = ReadAhead::new(rt.alloc(), file)?;
     let mut image = reader_of(rt.alloc(), &mut bytes)?;
     for _ in 0..number {

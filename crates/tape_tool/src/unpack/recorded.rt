@@ -1,12 +1,13 @@
 //! The lines that a run adds to a record.
 
+use super::image_row::recorded_image;
 use super::record::Record;
-use super::rows::{
-    awaited_file, recorded_blocks, recorded_file, recorded_image, reported_line, salvaged_file,
-};
+use super::rows::{awaited_file, recorded_blocks, recorded_file, reported_line, salvaged_file};
 use super::run::Run;
 use super::summed::{Listed, sum_of};
 use crate::fault::ToolFault;
+use crate::readings::place_in;
+use crate::record_form::RecordForm;
 use crate::refusal::open;
 use crate::screen::{Host, Progress};
 use crate::uncounted::uncounted_of;
@@ -24,6 +25,8 @@ use tape_writer::system::{found, name_in_folder};
 pub struct WrittenFile {
     /// The form of its records.
     pub form: &'static str,
+    /// Whether their characters were translated.
+    pub is_text: bool,
     pub size: u64,
     pub sum: [u8; 32],
     /// Whether the blocks of each of its sections are counted.
@@ -66,7 +69,7 @@ impl Record {
                 (Some(number), Some(image), Some(at)) => self.note_use(rt, number, image, at)?,
                 _ => None,
             };
-            let from = image.map(|image| (image, offset));
+            let from = image.map(|image| (place_in(image).0, offset));
             let line = recorded_blocks(rt.alloc(), output.name, *run, from)?;
             self.add(line.as_slice())?;
         }
@@ -126,7 +129,7 @@ impl Record {
         images: &[Option<ImageSurvey>],
     ) -> Result<(), AllocError> {
         for (number, name) in names.iter().enumerate() {
-            if !self.is_used(number) {
+            if place_in(*name).1 > 0 || !self.has_used(names, *name) {
                 continue;
             }
             let label = match images.get(number) {
@@ -139,6 +142,14 @@ impl Record {
             }
         }
         Ok(())
+    }
+}
+
+impl Record {
+    /// Returns whether blocks came from a reading of the image at `path`.
+    fn has_used(&self, names: &[&str], path: &str) -> bool {
+        let mut readings = names.iter().enumerate();
+        readings.any(|(number, name)| self.is_used(number) && place_in(*name).0 == path)
     }
 }
 
@@ -166,11 +177,11 @@ impl<R: Progress, P: Write> Run<'_, R, P> {
         sum: [u8; 32],
         runs: &[BlockRun],
     ) -> Result<(), ToolFault> {
-        let (rt, names, met, form) = (self.rt, self.names, self.met, form_word(self.form()));
+        let (rt, names, met, form) = (self.rt, self.names, self.met, self.form());
         let output = &recorded_name(file, path);
         let note = met.notes.get(&output.key);
         if let (Some(manifest), Some(_)) = (&mut self.manifest, note) {
-            let written = written_at(rt, path, output.key, form, sum)?;
+            let written = written_at(rt, path, output.key, in_words(form), sum)?;
             let record = &mut manifest.record;
             record.add_file(rt.alloc(), output, written, note)?;
             record.add_runs(rt.host(), names, output, runs)?;
@@ -203,10 +214,10 @@ impl<R: Progress, P: Write> Run<'_, R, P> {
         gaps: &str,
         sum: [u8; 32],
     ) -> Result<(), ToolFault> {
-        let (rt, form) = (self.rt, form_word(self.form()));
+        let (rt, form) = (self.rt, self.form());
         if let Some(manifest) = &mut self.manifest {
             let (output, gaps) = (&recorded_name(file, path), name_in_folder(gaps));
-            let written = written_at(rt, path, output.key, form, sum)?;
+            let written = written_at(rt, path, output.key, in_words(form), sum)?;
             let record = &mut manifest.record;
             record.add_salvaged(rt.alloc(), output, written, Some(gaps))?;
         }
@@ -236,13 +247,18 @@ fn recorded_name<'p>(file: &SetFile, path: &'p str) -> RecordedName<'p> {
     }
 }
 
+/// Returns the word for a form, and whether characters are translated.
+pub fn in_words(form: RecordForm) -> (&'static str, bool) {
+    (form_word(form.form), form.is_text)
+}
+
 /// Returns what is recorded about the file at `path`, which has the records of this file of a set,
-/// was written in this form and has this checksum.
+/// was written in this form, translated if `is_text`, and has this checksum.
 pub fn written_at<R: Progress>(
     rt: &R,
     path: &str,
     key: FileKey,
-    form: &'static str,
+    (form, is_text): (&'static str, bool),
     sum: [u8; 32],
 ) -> Result<WrittenFile, ToolFault> {
     let there = found(fs::metadata(rt.host(), path))?;
@@ -250,6 +266,7 @@ pub fn written_at<R: Progress>(
     let blocks_counted = uncounted_of(rt, key.set_id, key.file)?.is_empty();
     Ok(WrittenFile {
         form,
+        is_text,
         size,
         sum,
         blocks_counted,

@@ -10,6 +10,7 @@ use crate::fault::{FileFault, OUT_OF_MEMORY, ToolFault};
 use crate::images::place_of;
 use crate::normal::{Normal, NormalImages};
 use crate::program::{End, end_of, extract_end};
+use crate::record_form::Under;
 use crate::screen::Progress;
 use crate::staging::{StageSink, session_in};
 use std::alloc::AllocError;
@@ -170,8 +171,8 @@ impl<'n, R: Progress, P: Write> Run<'n, R, P> {
         let (draft, out) = Draft::over(rt, task.out, None)?;
         let mut output = SummedOutput::new(draft, out, listed.is_wanted);
         opener.is_recorded = listed.is_wanted;
-        let form = &mut self.form;
-        let answer = extract_in_form(session, images, opener, form, &mut output, last);
+        let (form, is_text, out) = (&mut self.form, self.is_text, &mut output);
+        let answer = extract_in_form(session, images, opener, form, is_text, out, last);
         let mut place = output.place;
         listed.sum = place.found.take();
         listed.want = session.want();
@@ -254,19 +255,19 @@ fn extract_whole<'a, R: Progress, P: Write>(
     report: &mut P,
 ) -> Result<End, ToolFault> {
     let (draft, out) = Draft::over(rt, task.out, None)?;
-    let mut place = SummedDraft { draft, found: None };
+    let mut place = Under(SummedDraft { draft, found: None });
     let summed = Summed::new(out, listed.is_wanted);
-    let sink = OutSink::new(rt.alloc(), summed, task.form);
+    let form = task.form.given();
+    let sink = OutSink::new(rt.alloc(), task.form.over(summed), form);
     let Ok(mut session) = Session::new(rt.alloc(), task.set_id, task.file, sink) else {
-        return Ok(place.draft.ended(End::WrongWords));
+        return Ok(place.0.draft.ended(End::WrongWords));
     };
     if task.wide {
         session.widen();
     }
-    let form = task.form;
     let answer = extract_located(&mut session, images, mounted, locations, form, &mut place);
     drop(session);
-    listed.sum = place.found.take();
+    listed.sum = place.0.found.take();
     let end = match answer {
         Ok(Some(records)) => {
             let told = write_text(report, last_line(None, records).as_bytes());
@@ -275,5 +276,5 @@ fn extract_whole<'a, R: Progress, P: Write>(
         Ok(None) => End::Incomplete,
         Err(fault) => end_as_written(Err(fault)),
     };
-    Ok(place.draft.ended(end))
+    Ok(place.0.draft.ended(end))
 }

@@ -3,6 +3,7 @@
 use super::run::Run;
 use crate::fault::{FaultLine, ToolFault};
 use crate::program::End;
+use crate::readings::{place_in, printed_name};
 use crate::screen::Progress;
 use crate::uncounted::uncounted_of;
 use crate::words::form_word;
@@ -46,7 +47,8 @@ impl<R: Progress, P: Write> Run<'_, R, P> {
     pub fn report_images(&mut self) -> Result<(), ToolFault> {
         let (names, met) = (self.names, self.met);
         for (name, image) in names.iter().zip(met.images.as_slice()) {
-            if !is_read(image) {
+            // Of a damaged image the first reading is reported.
+            if !is_read(image) && place_in(*name).1 == 0 {
                 self.notify(Notice::Unread, *name)?;
             }
         }
@@ -70,7 +72,8 @@ impl<R: Progress, P: Write> Run<'_, R, P> {
 
     /// Prints a line about a name.
     fn notify(&mut self, notice: Notice, name: &str) -> Result<(), ToolFault> {
-        let line = notice_line(self.rt.alloc(), notice, name)?;
+        let name = printed_name(self.rt.alloc(), name)?;
+        let line = notice_line(self.rt.alloc(), notice, name.as_str())?;
         Ok(write_text(&mut self.out, line.as_slice())?)
     }
 
@@ -96,7 +99,7 @@ impl<R: Progress, P: Write> Run<'_, R, P> {
         };
         if has_form && self.order.form.is_none() && self.form.is_some() {
             details.push(b' ')?;
-            details.extend_from_slice(form_word(self.form()).as_bytes())?;
+            details.extend_from_slice(form_word(self.form().form).as_bytes())?;
         }
         Ok(details)
     }
@@ -123,7 +126,8 @@ impl<R: Progress, P: Write> Run<'_, R, P> {
         let differing = mem::replace(&mut self.differing, Vec::new(self.rt.alloc()));
         for number in differing.as_slice() {
             if let Some(name) = names.get(*number) {
-                self.tell(file, UnpackOutcome::Differs, b"", *name)?;
+                let name = printed_name(self.rt.alloc(), *name)?;
+                self.tell(file, UnpackOutcome::Differs, b"", name.as_str())?;
             }
         }
         Ok(differing.is_empty())

@@ -1,4 +1,4 @@
-//! The lines of `MANIFEST.jsonl`: files, where their blocks came from, and images.
+//! The lines of `MANIFEST.jsonl` about files, and where their blocks came from.
 
 ghost use Rattle.std.specs.Prelude.{◌≡◌, [], IfOk, OnOk};
 ghost use Rattle.tape_tool.specs.JsonLine.{IsJsonLine};
@@ -10,12 +10,15 @@ use arrayvec::ArrayString;
 use json::Writer;
 use std::alloc::{AllocError, Global};
 use std::fmt::Write;
-use tape_label::{Field, Format, Head1, Head2, Vol1};
+use tape_label::{Field, Format, Head1, Head2};
 use tape_run::{BlockRun, FileNote, date_of, printed};
 use tape_set::{Position, Want};
 
+/// The code page from which records are translated.
+const CODE_PAGE: &str = "037";
+
 /// Begins a line, with its word.
-fn begun(alloc: Global, word: &str) -> Result<Writer, AllocError>
+pub fn begun(alloc: Global, word: &str) -> Result<Writer, AllocError>
     ensures { IfOk result (λ writer. writer.before ≡ []) }
 {
     let mut writer = Writer::new(Vec::with_capacity(alloc, 256)?);
@@ -25,7 +28,7 @@ fn begun(alloc: Global, word: &str) -> Result<Writer, AllocError>
 }
 
 /// Ends a line.
-fn ended(writer: Writer) -> Result<Vec<u8>, AllocError>
+pub fn ended(writer: Writer) -> Result<Vec<u8>, AllocError>
     ensures { writer.before ≡ [] → IfOk result (λ line. IsJsonLine line.items) }
 {
     let mut writer = writer;
@@ -58,7 +61,7 @@ pub fn printable(bytes: &[u8]) -> ArrayString<32> {
 }
 
 /// Writes a field of a label, with a question mark for each byte that is not printable.
-fn add_field(writer: &mut Writer, key: &str, bytes: &[u8]) -> Result<(), AllocError>
+pub fn add_field(writer: &mut Writer, key: &str, bytes: &[u8]) -> Result<(), AllocError>
     ensures { OnOk result (writer.new.before ≡ writer.old.before) }
 {
     add_text(writer, key, printable(bytes).as_str())
@@ -87,20 +90,17 @@ fn add_number(writer: &mut Writer, key: &str, number: Option<u64>) -> Result<(),
 }
 
 /// Writes a size and a checksum.
-fn add_sum(alloc: Global, writer: &mut Writer, size: u64, sum: &[u8; 32]) -> Result<(), AllocError>
+pub fn add_sum(
+    alloc: Global,
+    writer: &mut Writer,
+    size: u64,
+    sum: &[u8; 32],
+) -> Result<(), AllocError>
     ensures { OnOk result (writer.new.before ≡ writer.old.before) }
 {
     let digits = hex::encode(alloc, sum.as_slice())?;
     add_number(writer, "size", Some(size))?;
     add_text(writer, "sha256", digits.as_str())
-}
-
-/// Writes nulls for a size and a checksum that are unknown.
-fn add_unread(writer: &mut Writer) -> Result<(), AllocError>
-    ensures { OnOk result (writer.new.before ≡ writer.old.before) }
-{
-    add_member(writer, "size", JsonCell::Null)?;
-    add_member(writer, "sha256", JsonCell::Null)
 }
 
 /// Returns the letter of a record format.
@@ -151,6 +151,18 @@ fn add_form(writer: &mut Writer, form: Option<Head2>) -> Result<(), AllocError>
     add_number(writer, "record", record)
 }
 
+/// Writes the form in which records were written, and the code page from which they were
+/// translated, if they were.
+fn add_record_form(writer: &mut Writer, written: WrittenFile) -> Result<(), AllocError>
+    ensures { OnOk result (writer.new.before ≡ writer.old.before) }
+{
+    add_text(writer, "form", written.form)?;
+    if written.is_text {
+        add_text(writer, "text", CODE_PAGE)?;
+    }
+    Ok(())
+}
+
 /// Writes the program's version, and how it was built, if that is known.
 fn add_program(writer: &mut Writer, build: Option<&str>) -> Result<(), AllocError>
     ensures { OnOk result (writer.new.before ≡ writer.old.before) }
@@ -180,7 +192,7 @@ pub fn recorded_file(
     add_names(&mut writer, output)?;
     add_head(&mut writer, note.map(|note| &note.head))?;
     add_form(&mut writer, note.and_then(|note| note.form))?;
-    add_text(&mut writer, "form", written.form)?;
+    add_record_form(&mut writer, written)?;
     let is_counted = JsonCell::Flag(written.blocks_counted);
     add_member(&mut writer, "blocks_counted", is_counted)?;
     let padding = note.and_then(|note| note.padding);
@@ -263,7 +275,7 @@ pub fn salvaged_file(
 {
     let mut writer = begun(alloc, "SALVAGED")?;
     add_names(&mut writer, output)?;
-    add_text(&mut writer, "form", written.form)?;
+    add_record_form(&mut writer, written)?;
     add_member(
         &mut writer,
         "blocks_counted",
@@ -308,42 +320,5 @@ pub fn recorded_blocks(
     };
     add_member(&mut writer, "image", image)?;
     add_number(&mut writer, "offset", offset)?;
-    ended(writer)
-}
-
-/// Writes the fields of a volume label.
-fn add_volume(writer: &mut Writer, label: Option<Vol1>) -> Result<(), AllocError>
-    ensures { OnOk result (writer.new.before ≡ writer.old.before) }
-{
-    let Some(label) = label else {
-        add_member(writer, "volume", JsonCell::Null)?;
-        add_member(writer, "owner", JsonCell::Null)?;
-        return add_member(writer, "system", JsonCell::Null);
-    };
-    add_field(writer, "volume", label.volume.bytes())?;
-    add_field(writer, "owner", label.owner.bytes())?;
-    add_field(writer, "system", label.implementation.bytes())
-}
-
-/// Returns the line of the image named `name`: its size and its checksum, unless it could not be
-/// read, and the fields of its volume label, if it has one.
-pub fn recorded_image(
-    alloc: Global,
-    name: &str,
-    read: Option<(u64, [u8; 32])>,
-    label: Option<Vol1>,
-) -> Result<Vec<u8>, AllocError>
-    ensures { IfOk result (λ line. IsJsonLine line.items) }
-{
-    let mut writer = begun(alloc, "IMAGE")?;
-    add_member(&mut writer, "image", JsonCell::Text(name))?;
-    match read {
-        Some(read) => {
-            let sum = read.1;
-            add_sum(alloc, &mut writer, read.0, &sum)?;
-        }
-        None => add_unread(&mut writer)?,
-    }
-    add_volume(&mut writer, label)?;
     ended(writer)
 }

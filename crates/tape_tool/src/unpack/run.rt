@@ -1,6 +1,5 @@
 //! Recovers files from images into a directory.
 
-use super::completion::salvage_task;
 use super::manifest::{Manifest, verify};
 use super::report::{Ended, LastLine};
 use super::salvaged::Salvaged;
@@ -13,9 +12,11 @@ use crate::extract::no_draft;
 use crate::fault::{FileFault, OUT_OF_MEMORY, ToolFault};
 use crate::help;
 use crate::names::names_of;
-use crate::normal::{Normal, NormalImages};
+use crate::normal::Normal;
 use crate::program::{End, check_end};
+use crate::readings::{find_all, names_in};
 use crate::refusal::{Refusal, no_pipes};
+use crate::relabel::relabel;
 use crate::screen::{Host, Progress};
 use crate::words::set_id_of;
 use std::alloc::AllocError;
@@ -24,8 +25,8 @@ use std::{fs, io};
 use tape_blocks::Form;
 use tape_label::Field;
 use tape_run::{
-    FileChoice, FoundFiles, Mounted, SetFile, Tally, UnpackOutcome, file_line, file_name,
-    find_files, flush, is_of_set, report_numbers, write_text,
+    FileChoice, FoundFiles, Mounted, SetFile, Tally, UnpackOutcome, file_line, file_name, flush,
+    is_of_set, report_numbers, write_text,
 };
 use tape_writer::system::found;
 
@@ -50,6 +51,8 @@ pub struct Run<'n, R: Progress, P> {
     pub recorded: &'n Recorded,
     /// The form of the current file, unless it is not chosen yet.
     pub form: Option<Form>,
+    /// Whether the characters of its records are translated.
+    pub is_text: bool,
     /// The image that stays open from file to file whose forms are chosen.
     pub checked: Option<Mounted<Normal<R>>>,
     /// The lines of the report, and how many files they were about.
@@ -93,9 +96,11 @@ fn unpack_images<'a, R: Progress>(
     no_draft(names, order.images.list)?;
     no_pipes(rt.host(), names)?;
     let (manifest, recorded) = lists_of(rt.host(), order, site)?;
+    relabel(rt, &order.relabels, names)?;
     let out = BufWriter::new(rt.alloc(), io::writer(rt)).map_err(|_| AllocError)?;
-    let met = find_files(rt.alloc(), &mut NormalImages::new(rt, names));
-    let met = met.map_err(|fault| ToolFault::Run(fault))?;
+    let (all, met) = find_all(rt, names)?;
+    let names = names_in(rt.alloc(), all.as_slice())?;
+    let names = names.as_slice();
     let choice = FileChoice {
         set_id: order.set.and_then(set_id_of),
         words: order.files.as_slice(),
@@ -110,6 +115,7 @@ fn unpack_images<'a, R: Progress>(
         mounted: None,
         recorded: &recorded,
         form: None,
+        is_text: false,
         checked: None,
         out,
         tally: Tally::new(),
@@ -316,10 +322,10 @@ impl<R: Progress, P: Write> Run<'_, R, P> {
         let salvaged = Salvaged::of(rt.alloc(), out)?;
         let names = self.names_of_file(file)?;
         self.choose_salvaged(file, names.as_slice())?;
-        let task = salvage_task(file, self.form());
+        let task = (file, self.form());
         let path = salvaged.records.as_str();
         let mut last = LastLine::new();
-        let outcome = match salvaged.write(rt, &task, names.as_slice(), &mut last) {
+        let outcome = match salvaged.write(rt, task, names.as_slice(), &mut last) {
             Err(EXISTS) => UnpackOutcome::Exists,
             Err(OUT_OF_MEMORY) => return Err(OUT_OF_MEMORY),
             Err(fault) => return self.tell_failed(file, path, fault),

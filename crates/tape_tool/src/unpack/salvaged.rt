@@ -5,12 +5,15 @@
 
 ghost use Rattle.std.specs.Prelude.{None};
 
+use super::completion::salvage_task;
 use super::report::LastLine;
 use super::summed::sum_of;
 use crate::extract::Draft;
 use crate::fault::{FileFault, ToolFault};
 use crate::normal::NormalImages;
 use crate::program::{End, end_of};
+use crate::readings::printed_name;
+use crate::record_form::{RecordForm, Under};
 use crate::refusal::{FileId, open, remove};
 use crate::screen::{Host, Progress};
 use hex::encode;
@@ -19,7 +22,9 @@ use std::alloc::{AllocError, Global};
 use std::fs::File;
 use std::io::{BufWriter, Read, Write};
 use std::{fs, io};
-use tape_run::{Place, SalvageTask, WriteFailed, flush, name_text, salvage_joined, write_text};
+use tape_run::{
+    Place, SalvageTask, SetFile, WriteFailed, flush, name_text, salvage_joined, write_text,
+};
 use tape_writer::system::found;
 
 /// The length of the last line of a report: `SUMS`, two checksums of 64 digits, two spaces and a
@@ -92,8 +97,8 @@ impl Salvaged {
         })
     }
 
-    /// Writes the readable records of a file on the images named `names`, and returns their
-    /// checksum; `last` remembers the last line of `salvage`.
+    /// Writes the readable records of `file` on the images named `names`, in this form, and returns
+    /// their checksum; `last` remembers the last line of `salvage`.
     ///
     /// # Errors
     ///
@@ -102,7 +107,7 @@ impl Salvaged {
     pub fn write<R: Progress>(
         &self,
         rt: &R,
-        task: &SalvageTask,
+        (file, form): (&SetFile, RecordForm),
         names: &[&str],
         last: &mut LastLine,
     ) -> Result<[u8; 32], ToolFault> {
@@ -111,6 +116,7 @@ impl Salvaged {
         let mut sum = [0; 32];
         let end = match Draft::over(rt, self.report.as_str(), report) {
             Ok((mut of_report, lines)) => {
+                let task = (&salvage_task(file, form), form);
                 let done = written(rt, task, names, out, lines, &mut sum, last);
                 let placed = done.and_then(|(records, report)| {
                     self.clear(rt, before)?;
@@ -208,7 +214,7 @@ impl Salvaged {
 /// name yet.
 fn written<R: Progress>(
     rt: &R,
-    task: &SalvageTask,
+    (task, form): (&SalvageTask, RecordForm),
     names: &[&str],
     records: BufWriter<File>,
     lines: BufWriter<File>,
@@ -217,10 +223,10 @@ fn written<R: Progress>(
 ) -> Result<(BufWriter<File>, BufWriter<File>), ToolFault> {
     let mut report = Summed::new(lines);
     write_names(rt.alloc(), names, &mut report)?;
-    let (mut kept, images) = (Kept(None), &mut NormalImages::again(rt, names));
-    let records = Summed::new(records);
+    let (mut kept, images) = (Under(Kept(None)), &mut NormalImages::again(rt, names));
+    let records = form.over(Summed::new(records));
     salvage_joined(rt.alloc(), task, images, records, &mut kept, &mut report)?;
-    let Some(records) = kept.0 else {
+    let Some(records) = kept.0.0 else {
         return Err(ToolFault::File(FileFault::WriteFailed));
     };
     let Summed {
@@ -240,7 +246,8 @@ fn write_names(alloc: Global, names: &[&str], report: &mut Summed) -> Result<(),
     for (number, name) in names.iter().enumerate() {
         let front = format!(in alloc; "FROM {} ", number.saturating_add(1))?;
         write_text(report, front.as_bytes())?;
-        write_text(report, name_text(alloc, *name)?.as_slice())?;
+        let name = printed_name(alloc, *name)?;
+        write_text(report, name_text(alloc, name.as_str())?.as_slice())?;
         write_text(report, b"\n")?;
     }
     Ok(())

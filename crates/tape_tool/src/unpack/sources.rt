@@ -5,6 +5,7 @@ use super::record::RECORD;
 use super::recorded::read_sum;
 use super::run::Run;
 use crate::fault::{FileFault, OUT_OF_MEMORY, ToolFault};
+use crate::record_form::RecordForm;
 use crate::screen::{Host, Progress};
 use indexmap::IndexMap;
 use json::{Error, Scratch, Value};
@@ -28,7 +29,7 @@ struct Source {
 pub struct Recorded {
     sources: Vec<Source>,
     /// The form of each file by its name, where it was recovered last.
-    forms: IndexMap<Vec<u8>, Form>,
+    forms: IndexMap<Vec<u8>, RecordForm>,
 }
 
 /// Why a line of a record is not understood.
@@ -110,6 +111,8 @@ impl Recorded {
                     Some("counted") => Form::Counted,
                     _ => return Err(LineFault::NoLine),
                 };
+                let is_text = text_in(&value, "text").is_some();
+                let form = RecordForm { form, is_text };
                 self.forms.insert(name, form).map_err(|_| AllocError)?;
             }
             Some(_) => {}
@@ -119,7 +122,7 @@ impl Recorded {
     }
 
     /// Returns the form of the file with this name in the directory, if it is recorded.
-    pub fn form_of(&self, name: &str) -> Option<Form> {
+    pub fn form_of(&self, name: &str) -> Option<RecordForm> {
         self.forms.get(name.as_bytes()).copied()
     }
 }

@@ -4,6 +4,7 @@ use super::existing::Existing;
 use super::run::Run;
 use super::salvaged::Salvaged;
 use crate::fault::ToolFault;
+use crate::record_form::RecordForm;
 use crate::refusal::{open, remove};
 use crate::screen::{Host, Progress};
 use crate::stage::ReadOnly;
@@ -12,7 +13,7 @@ use std::alloc::Global;
 use std::cell::Cell;
 use std::fs;
 use std::io::Write;
-use tape_blocks::Form;
+use tape_blocks::{Form, Part, Span};
 use tape_core::PartWalk;
 use tape_run::{SetFile, UnpackOutcome, write_part};
 use tape_stage::{Disk, Stage, StageFault, buffered_file};
@@ -22,7 +23,7 @@ use tape_writer::system::found;
 /// beginning of the file at `out`. A file that is empty, or has only the beginning of a new stage,
 /// has no data. Returns false if that cannot be found out: `path` is not a plain file or not an
 /// intact stage, another run uses it, or a file cannot be read.
-pub fn is_front<R: Host>(rt: &R, file: &SetFile, path: &str, out: &str, form: Form) -> bool {
+pub fn is_front<R: Host>(rt: &R, file: &SetFile, path: &str, out: &str, form: RecordForm) -> bool {
     // A link is not followed to a stage.
     let is_plain = fs::symlink_metadata(rt, path).is_ok_and(|found| found.is_file());
     is_plain && compare(rt, file, path, out, form) == Ok(())
@@ -65,7 +66,7 @@ fn compare<R: Host>(
     file: &SetFile,
     path: &str,
     out: &str,
-    form: Form,
+    form: RecordForm,
 ) -> Result<(), ToolFault> {
     let kept = open(rt, path)?;
     locked_stage(kept.try_lock_shared())?;
@@ -96,17 +97,42 @@ fn compare_parts<D: Disk>(
     alloc: Global,
     stage: &mut Stage<D>,
     file: Existing<'_>,
-    form: Form,
+    form: RecordForm,
 ) -> Result<(), ToolFault> {
-    let mut bytes = file;
+    let (given, mut bytes) = (form.given(), form.over(file));
     let mut held = Vec::new(alloc);
     stage.rewind();
     for _ in 0..u64::MAX {
         match stage.next_part() {
-            Ok(Some(part)) => write_part(&mut bytes, part, form, &mut held)?,
-            Ok(None) => return Ok(()),
+            Ok(Some(part)) => write_part(&mut bytes, part, given, &mut held)?,
+            Ok(None) => return compare_begun(bytes.into_inner(), form, &mut held),
             Err(_) => break,
         }
     }
     Err(ToolFault::Stage(StageFault::Device))
+}
+
+/// Compares the bytes of an unfinished record, which are in `held`, with those that follow in a
+/// file, after the length of the record in the form `Counted`.
+fn compare_begun(
+    file: Existing<'_>,
+    form: RecordForm,
+    held: &mut Vec<u8>,
+) -> Result<(), ToolFault> {
+    if held.is_empty() {
+        return Ok(());
+    }
+    let mut file = file;
+    if form.form == Form::Counted {
+        file.pass_length()?;
+    }
+    let end = Part {
+        span: Span::Last,
+        bytes: b"",
+    };
+    let raw = RecordForm {
+        form: Form::Raw,
+        is_text: form.is_text,
+    };
+    Ok(write_part(&mut raw.over(file), end, raw.given(), held)?)
 }

@@ -21,11 +21,12 @@ use tape_image::{ImageFault, ImageReader, Item};
 pub(super) enum Found {
     /// The blocks up to the session's position have exactly the session's parts.
     Same,
-    /// A block has other parts, or the session has more.
+    /// A block has other parts, or is missing, or the session has more.
     Other,
-    /// The blocks have the session's parts, up to one that is unreadable, or up to the end of a
-    /// reading that does not come to the session's position.
+    /// The blocks up to an unreadable one have the session's parts.
     Unknown,
+    /// The reading ends before the session's position. Its blocks have the session's parts.
+    Ended,
 }
 
 /// The blocks that an image and a session have of one section: those that the session would skip on
@@ -58,6 +59,19 @@ impl Overlap {
             weight: 0,
             place: 0,
         }
+    }
+
+    /// Creates the overlap of the blocks `from` up to but not including `to`.
+    pub fn behind(from: u32, to: u32) -> Overlap {
+        Overlap {
+            from,
+            ..Overlap::up_to(to, 0)
+        }
+    }
+
+    /// Returns whether there is nothing in it.
+    pub fn is_empty(&self) -> bool {
+        self.block <= self.from && self.part == 0
     }
 
     /// Adds an item of an image, at a byte offset, before a core takes it. Returns whether nothing
@@ -115,6 +129,7 @@ impl Overlap {
             × (came_of (seen told.entry) ≡ Some item) × IsOther wide self.now core.now item ahead) }
         ensures unknown { IfOk result (λ found. found ≡ Some Found.Unknown
             → (came_of (seen told.entry) ≡ Some bad) × IsBehind self.now.from core.now.phase) }
+        ensures ended { IfOk result (λ found. found ≢ Some Found.Ended) }
         ensures kept { (parts : List Portion) → S.holds sink.old parts → S.holds sink.new parts }
         ensures crash { BringsNoMore S.PartSink sink.old sink.new }
         ensures calm { OnOk result (S.refusals sink.new ≡ S.refusals sink.old) }
@@ -124,26 +139,43 @@ impl Overlap {
         let Expected::Data { seen, shape } = core.expected() else {
             return Ok(None);
         };
-        let is_last = self.block <= seen;
-        if is_last && self.part == 0 {
-            return Ok(Some(Found::Same));
-        }
         if seen < self.from {
             return Ok(None);
         }
-        if matches!(told, Ok(Some(Item::Bad))) {
-            return Ok(Some(Found::Unknown));
+        if seen < self.block {
+            return match told {
+                Ok(Some(Item::Block(bytes))) => {
+                    let block = core.as_read(wide, bytes);
+                    let is_next = has_next(sink, &shape, block)?;
+                    Ok(if is_next { None } else { Some(Found::Other) })
+                }
+                Ok(Some(Item::Bad)) => Ok(Some(Found::Unknown)),
+                _ => Ok(None),
+            };
         }
-        let Ok(Some(Item::Block(bytes))) = told else {
-            return Ok(None);
-        };
-        let content = core.as_read(wide, bytes);
-        if is_last {
-            let is_same = has_front(sink, &shape, content, self.part)?;
-            return Ok(Some(if is_same { Found::Same } else { Found::Other }));
+        if self.part == 0 {
+            return Ok(Some(Found::Same));
         }
-        let is_same = has_next(sink, &shape, content)?;
-        Ok(if is_same { None } else { Some(Found::Other) })
+        match told {
+            Ok(Some(Item::Block(bytes))) => {
+                let content = core.as_read(wide, bytes);
+                let is_same = has_front(sink, &shape, content, self.part)?;
+                Ok(Some(if is_same { Found::Same } else { Found::Other }))
+            }
+            // The block of which the session has the first parts is not there.
+            Ok(Some(Item::Mark)) => Ok(Some(Found::Other)),
+            Ok(Some(Item::Bad)) => Ok(Some(Found::Unknown)),
+            _ => Ok(None),
+        }
+    }
+}
+
+/// Returns the number of the block of the section needed that a core expects, or 0 if it expects
+/// none.
+pub(super) fn number_in(core: &ReaderCore) -> u32 {
+    match core.expected() {
+        Expected::Data { seen, .. } => seen,
+        _ => 0,
     }
 }
 
@@ -225,7 +257,7 @@ fn compare_all<S: PartWalk, R: Read>(
         let (event, _) = event_of(told);
         match core.step_by(wide, event) {
             Answer::Passed => continue 'items,
-            _ => return Ok(Found::Unknown),
+            _ => return Ok(Found::Ended),
         }
     }
 }

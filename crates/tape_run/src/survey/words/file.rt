@@ -12,7 +12,7 @@ use crate::survey::view::Findings;
 use crate::survey::volumes::VolumeItem;
 use crate::text::{Identifier, Trimmed};
 use std::alloc::{AllocError, Global};
-use tape_label::{Field, Format};
+use tape_label::{Field, Format, digits_value};
 
 /// The column at which a line of volumes begins.
 const INDENT: usize = 11;
@@ -78,6 +78,30 @@ fn known_text(alloc: Global, note: Option<&FileNote>) -> Result<String, AllocErr
     match date_of(&note.head.created) {
         Some(date) => format!(in alloc; "{name}  {date}"),
         None => format!(in alloc; "{name}            "),
+    }
+}
+
+/// Returns the version of a file that its labels state, unless it is the first one: for files of
+/// OpenVMS the version in their names, for others the generation and its version.
+fn version_text(alloc: Global, note: Option<&FileNote>) -> Result<String, AllocError> {
+    let Some(note) = note else {
+        return Ok(String::new(alloc));
+    };
+    let head = &note.head;
+    let generation = digits_value(head.generation.bytes());
+    let version = digits_value(head.gen_version.bytes());
+    let is_vms = head.implementation.bytes().starts_with(b"DECFILE11");
+    match (generation, version) {
+        (Some(0 | 1), Some(0)) | (None, _) | (_, None) => Ok(String::new(alloc)),
+        (Some(generation), Some(version)) if is_vms => {
+            let before = generation.saturating_sub(1).saturating_mul(100);
+            let number = before.saturating_add(version).saturating_add(1);
+            format!(in alloc; ", version {number}")
+        }
+        (Some(generation), Some(0)) => format!(in alloc; ", generation {generation}"),
+        (Some(generation), Some(version)) => {
+            format!(in alloc; ", generation {generation} version {version}")
+        }
     }
 }
 
@@ -181,5 +205,7 @@ pub(super) fn add_file(page: &mut Page<'_>, findings: &Findings, set_id: Field<6
     page.add(format!(in alloc; "{indent}{file} "));
     page.add(known_text(alloc, note));
     let padding = padding_word(note);
-    page.add(format!(in alloc; "  {word}{form}{padding}\n"));
+    page.add(format!(in alloc; "  {word}{form}{padding}"));
+    page.add(version_text(alloc, note));
+    page.put(b"\n");
 }

@@ -31,7 +31,7 @@ items-preserved g c =
       same_device = c.next-told.follows.holds-at-none.same_device ∙ inv.same_device;
       walked = walked_on inv.walked c.in-Ok-None.ensures.kept c.in-Ok-None.ensures.crash
           c.in-Ok-None.ensures.calm;
-      met = met_on c.args.wide c.args.overlap.now.from _ _ _ {answer = Passed}
+      met = met_on c.args.wide c.args.overlap.now.from _ _ _
           (g.S.PartWalk.ahead c.args.sink.now) _ _ inv.met gives
           (ap (λ a. (a, c.step_by.new.self)) (sym c.in-Passed.is)
           ∙ (c.step_by.ensures.table ∙ ap (step_by c.args.wide c.items.core) is))
@@ -50,6 +50,7 @@ returns-in-Ok-Some-clause-found g c =
     (rw c.in-Ok-Some.field-0-is at c.in-Ok-Some.ensures.same)
     (rw c.in-Ok-Some.field-0-is at c.in-Ok-Some.ensures.other)
     (rw c.in-Ok-Some.field-0-is at c.in-Ok-Some.ensures.unknown)
+    (rw c.in-Ok-Some.field-0-is at c.in-Ok-Some.ensures.ended)
 
 pub returns-in_default-clause-found : goal.returns-in_default-clause-found
 returns-in_default-clause-found g c ahead was =
