@@ -297,6 +297,10 @@ impl<'a, R: Progress> ImageSource<Normal<R>> for NormalImages<'a, R> {
 
     fn mount(&mut self, number: usize) -> Result<Option<Normal<R>>, AllocError> {
         let rt = self.images.rt.clone()?;
+        let labels = match self.images.names.get(number) {
+            Some(name) => rt.plans().of(rt.alloc(), name)?,
+            None => None,
+        };
         let Some(image) = self.images.mount(number)? else {
             return Ok(None);
         };
@@ -306,10 +310,6 @@ impl<'a, R: Progress> ImageSource<Normal<R>> for NormalImages<'a, R> {
             Container::Simh
         } else {
             container_of(image.front())
-        };
-        let labels = match self.images.names.get(number) {
-            Some(name) => rt.plans().of(rt.alloc(), name)?,
-            None => None,
         };
         let form = Form::new(rt.alloc(), image, kind);
         let inner = Labelled { form, labels };
