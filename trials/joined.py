@@ -101,15 +101,16 @@ def held_by(copies):
 
 
 def closes_joined(copies, length):
-    """Whether the section is read from a copy with a trailer label: from the one with most blocks, or that which the others
-    complete if it has more blocks then, or is a whole copy."""
-    best = max(copies, key=lambda copy: (copy.is_whole(), copy.count()))
+    """Whether the section is read from a copy with a trailer label: from the one with most blocks, of equal ones from one
+    with a trailer label, or from that which the others complete if it is better then, or is a whole copy."""
+    best = max(copies, key=lambda copy: (copy.is_whole(), copy.count(), copy.closes))
     held, closing = held_by(copies), [copy for copy in copies if copy.closes]
     if best.is_whole() or not closing:
         return best.closes
     base = max(closing, key=lambda copy: copy.count())
     completes = len(held) == length and not base.doubted
-    return base.closes if completes or len(held) > best.count() else best.closes
+    has_more = (len(held), base.closes) > (best.count(), best.closes)
+    return base.closes if completes or has_more else best.closes
 
 
 def records_of(file, sections, held, closing):

@@ -209,10 +209,8 @@ class Section:
         return bool(self.closing) and self.doubt is None and self.miscount() is None
 
     def rank(self):
-        good = sum(is_block(item) for item in self.data)
-        if not self.closing:
-            return self.believed()
-        return good + (2**32 if self.is_complete() else 0)
+        good = sum(is_block(item) for item in self.data) if self.closing else self.believed()
+        return self.is_complete(), good, bool(self.closing)
 
 
 def notices(images):
@@ -322,7 +320,7 @@ def joinable(copies):
     bases = [it for it in numbered if it.is_base()]
     if not bases:
         return []
-    base = max(bases, key=lambda it: (bool(it.closing), it.rank() if it.closing else it.possible(), -it.image))
+    base = max(bases, key=lambda it: (bool(it.closing), it.rank() if it.closing else (it.possible(),), -it.image))
     alike = [it for it in numbered if it is not base and it.recording() == base.recording()
         and (None in (it.form, base.form) or it.form == base.form)]
     return [base, *alike] if alike else []
@@ -367,7 +365,8 @@ def joined_with(images, set_id, file):
         if differ and not (differ[0] is best and differ[1].closes_otherwise(best)):
             lines.append(f"CONFLICT {number} {differ[0].image + 1} {differ[1].image + 1}")
         is_whole = found and copies[0].closing and not copies[0].is_doubted and None not in found
-        if not is_whole and sum(it is not None for it in found) <= best.rank():
+        held = sum(it is not None for it in found)
+        if not is_whole and (False, held, bool(copies[0].closing)) <= best.rank():
             continue
         run = None
         for at, copy in enumerate([*found, None]):

@@ -109,7 +109,7 @@ class Section:
     @property
     def rank(self):
         good = sum(kind == "block" for kind, _ in self.data)
-        return (self.is_complete, good) if self.trailer else (False, self.believed())
+        return (self.is_complete, good, True) if self.trailer else (False, self.believed(), False)
 
     def believed(self):
         """The number of blocks that are taken of a section that does not close: if it is followed

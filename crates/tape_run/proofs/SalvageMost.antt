@@ -1,6 +1,6 @@
 -- No image has more of a section's blocks than the one from which it is recovered.
-use Rattle.std.proofs.Common.{◌≡◌, ◌<◌, ◌≤◌, ℕ, ◌+◌, ◌-◌, ◌==◌, ◌&&◌, Bool, true, false, List, []}
-use Rattle.std.proofs.Common.{◌∷◌, ◌++◌, length, Option, Some, None, refl, sym, ap, subst, ◌∙◌}
+use Rattle.std.proofs.Common.{◌≡◌, ◌<◌, ◌≤◌, ℕ, ◌+◌, ◌*◌, ◌-◌, ◌==◌, ◌&&◌, Bool, true, false, List}
+use Rattle.std.proofs.Common.{[], ◌∷◌, ◌++◌, length, Option, Some, None, refl, sym, ap, subst, ◌∙◌}
 use Rattle.std.proofs.Common.{arith, suc, zero, inl, inr, if◌then◌else◌, slice_get, not, ◌⊎◌}
 use Rattle.std.proofs.lemmas.Bool.Decides.{nat_tests}
 use Rattle.std.specs.List.{AllByRecursion}
@@ -92,9 +92,14 @@ few_missing [] = omega arith
 few_missing ((true, f) ∷ bs) = let r = few_missing bs in omega (arith, r)
 few_missing ((false, f) ∷ bs) = let r = few_missing bs in omega (arith, r)
 
+-- the rank of a copy with n blocks of which all but these were read
+abbrev rank_in : ℕ → ℕ → ℕ
+rank_in n missing = (if missing == 0 then 8589934592 else 0) + (2 * (n - missing) + 1)
+
 fewer_missing : (a b n : ℕ) (x y : Bool) → (a == 0) ≡ x → (b == 0) ≡ y → a ≤ n → b ≤ n
     → n ≤ 4294967295
-    → (if y then 4294967296 else 0) + (n - b) ≤ (if x then 4294967296 else 0) + (n - a) → a ≤ b
+    → (if y then 8589934592 else 0) + (2 * (n - b) + 1)
+    ≤ (if x then 8589934592 else 0) + (2 * (n - a) + 1) → a ≤ b
 fewer_missing a b n true y e f fa fb few le =
     let zero_a : a ≡ 0 = grind (arith, nat_tests, e) in omega (arith, zero_a)
 fewer_missing a b n false true e f fa fb few le = omega (arith, fa, fb, few, le)
@@ -217,12 +222,9 @@ none_has_more set file i w rs c r q n bs cs l complete found best at had there h
     let few = a.1 in
     let ranks : rank_of cs ≤ rank_of bs = subst (λ (z : ℕ). z ≤ rank_of bs) other
     (subst (λ (z : ℕ). rank y.copy ≤ z) mine le) in
-    let shown : (if not_read cs == 0 then 4294967296 else 0) + (length w.blocks - not_read cs)
-    ≤ (if not_read bs == 0 then 4294967296 else 0) + (length w.blocks - not_read bs) =
-    subst (λ (z : ℕ). (if not_read cs == 0 then 4294967296 else 0) + (z - not_read cs)
-    ≤ (if not_read bs == 0 then 4294967296 else 0) + (length w.blocks - not_read bs)) lb
-    (subst (λ (z : ℕ). rank_of cs
-    ≤ (if not_read bs == 0 then 4294967296 else 0) + (z - not_read bs)) la ranks) in
+    let shown : rank_in (length w.blocks) (not_read cs) ≤ rank_in (length w.blocks) (not_read bs) =
+    subst (λ (z : ℕ). rank_in z (not_read cs) ≤ rank_in (length w.blocks) (not_read bs)) lb
+    (subst (λ (z : ℕ). rank_of cs ≤ rank_in z (not_read bs)) la ranks) in
     fewer_missing (not_read bs) (not_read cs) (length w.blocks) (not_read bs == 0)
     (not_read cs == 0) refl refl (omega (arith, fa, la)) (omega (arith, fb, lb)) few shown
   where

@@ -1,7 +1,7 @@
 -- The form and the rank of a copy that was found as it is.
-use Rattle.std.proofs.Common.{◌≡◌, ◌≤◌, ℕ, ◌+◌, ◌-◌, ◌==◌, ◌&&◌, Bool, true, false, List, length}
-use Rattle.std.proofs.Common.{Option, Some, None, refl, sym, ap, ◌∙◌, arith, inl, inr, eq-eqb}
-use Rattle.std.proofs.Common.{if◌then◌else◌, nat_le, is_none}
+use Rattle.std.proofs.Common.{◌≡◌, ◌≤◌, ℕ, ◌+◌, ◌*◌, ◌-◌, ◌==◌, ◌&&◌, Bool, true, false, List}
+use Rattle.std.proofs.Common.{length, Option, Some, None, refl, sym, ap, ◌∙◌, arith, inl, inr}
+use Rattle.std.proofs.Common.{eq-eqb, if◌then◌else◌, nat_le, is_none}
 use Rattle.std.proofs.lemmas.Bool.Decides.{nat_tests}
 use Rattle.tape_label.specs.declared.values.Format.{Format}
 use Rattle.tape_label.specs.declared.values.Format.TheVariants.{Fixed, Counted, Spanned}
@@ -80,8 +80,8 @@ pub found_rank : (set_id : List ℕ) (n : ℕ) (s : SectionRead) (t : FoundAt) (
     → AllRead s.headers → rank (closed_copy n f.section f.closing) ≡ rank_of s.blocks
 found_rank set_id n s t f heads =
     let u = f.section in
-    ap (λ (b : Bool). (if b then 4294967296 else 0) + (u.blocks - u.unreadable))
+    ap (λ (b : Bool). (if b then 8589934592 else 0) + (2 * (u.blocks - u.unreadable) + 1))
     (all_known set_id n _ t f heads (not_read s.blocks == 0) refl) ∙ ap (λ (m : ℕ).
-    (if not_read s.blocks == 0 then 4294967296 else 0) + (m - u.unreadable)) f.has.blocks ∙ ap (λ
-    (m : ℕ). (if not_read s.blocks == 0 then 4294967296 else 0) + (length s.blocks - m))
-    f.has.unread
+    (if not_read s.blocks == 0 then 8589934592 else 0) + (2 * (m - u.unreadable) + 1)) f.has.blocks
+    ∙ ap (λ (m : ℕ). (if not_read s.blocks == 0 then 8589934592 else 0)
+    + (2 * (length s.blocks - m) + 1)) f.has.unread

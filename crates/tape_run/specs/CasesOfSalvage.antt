@@ -189,8 +189,8 @@ pub record CasesOfSalvagedSets : Type 0 where
       → r.volume ≡ p.section.volume → AreHad set (Some r ∷ []) cs (p ∷ []) (bs ∷ [])
       → HasBlocks set r p bs
   -- all blocks, then more blocks
-  pub complete_first : (a : Filled) → rank_of ((true, a) ∷ []) ≡ 4294967297
-  pub fewer : (a b : Filled) → rank_of ((true, a) ∷ (false, b) ∷ []) ≡ 1
+  pub complete_first : (a : Filled) → rank_of ((true, a) ∷ []) ≡ 8589934595
+  pub fewer : (a b : Filled) → rank_of ((true, a) ∷ (false, b) ∷ []) ≡ 3
   pub each_section : (set : FileSet) (rs : List (Option Reading)) (cs : List SectionCopy)
       (p : Placed) → AreHad set rs cs (p ∷ []) [] → ⊥
   pub in_order : (a b c : Bool × Filled) → joined ((a ∷ b ∷ []) ∷ [] ∷ (c ∷ []) ∷ [])

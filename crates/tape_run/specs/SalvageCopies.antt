@@ -1,5 +1,5 @@
 -- The copies of a file's sections on images, and how much of each is reliable.
-use Rattle.std.specs.Prelude.{◌≡◌, ℕ, ◌+◌, ◌-◌, min, ◌==◌, ◌&&◌, Bool, if◌then◌else◌, List, []}
+use Rattle.std.specs.Prelude.{◌≡◌, ℕ, ◌+◌, ◌*◌, ◌-◌, min, ◌==◌, ◌&&◌, Bool, if◌then◌else◌, List, []}
 use Rattle.std.specs.Prelude.{◌∷◌}
 use Rattle.std.specs.Prelude.{◌++◌, Option, Some, None, option_map, is_none, is_some}
 use Rattle.std.specs.Str.{bytes_eq}
@@ -77,9 +77,14 @@ blocks_read s = if is_some s.closed then s.section.blocks - s.section.unreadable
 abbrev pub is_complete : SectionCopy → Bool
 is_complete s = is_some s.closed && (is_none s.section.certain && is_none (wrong_count s))
 
+-- the rank of a copy that is not complete, if this number of its blocks were read: of those with
+-- equally many, the ones that close come first
+abbrev pub rank_with : SectionCopy → ℕ → ℕ
+rank_with s read = 2 * read + (if is_some s.closed then 1 else 0)
+
 -- complete copies come first, then those with more readable blocks
 abbrev pub rank : SectionCopy → ℕ
-rank s = (if is_complete s then 4294967296 else 0) + blocks_read s
+rank s = (if is_complete s then 8589934592 else 0) + rank_with s (blocks_read s)
 
 -- All items of an image were read up to this stop, and its sections of the file were appended to
 -- those found before.

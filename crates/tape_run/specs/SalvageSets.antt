@@ -1,7 +1,7 @@
 -- The records recovered of a file of a valid set from images of the set's volumes, which are
 -- complete copies of which only data blocks were unreadable.
 use Rattle.std.specs.Prelude.{◌≡◌, ◌≢◌, ◌⊎◌, ℕ, ◌+◌, true, false, List, [], ◌∷◌, ◌++◌, Option, Some}
-use Rattle.std.specs.Prelude.{None, slice_get, length, ◌-◌, ◌≤◌, ◌==◌, if◌then◌else◌}
+use Rattle.std.specs.Prelude.{None, slice_get, length, ◌*◌, ◌-◌, ◌≤◌, ◌==◌, if◌then◌else◌}
 use Rattle.std.specs.List.{AllByRecursion}
 use Rattle.tape_image.specs.Tape.{TapeItem}
 use Rattle.tape_blocks.specs.Block.{Portion}
@@ -89,10 +89,10 @@ pub record IsOnNone (rs : List (Option Reading)) (p : Placed) (bs : Blocks) : Ty
   pub blocks : filled_of bs ≡ p.section.blocks
   pub missing : AllByRecursion (λ b. b.0 ≡ false) bs
 
--- the rank of a copy of which these blocks were read: copies of which all were read come first,
--- then those of which more were read
+-- the rank of a copy that closes and of which these blocks were read: copies of which all were read
+-- come first, then those of which more were read
 abbrev pub rank_of : Blocks → ℕ
-rank_of bs = (if not_read bs == 0 then 4294967296 else 0) + (length bs - not_read bs)
+rank_of bs = (if not_read bs == 0 then 8589934592 else 0) + (2 * (length bs - not_read bs) + 1)
 
 -- A copy is a section that an image has, and its rank is that of the blocks that the image has.
 pub record IsRanked (set : FileSet) (rs : List (Option Reading)) (c : SectionCopy) : Type 0 where

@@ -45,6 +45,12 @@ const OTHER: &[(usize, u8)] = &[(300, b'#')];
 /// The trailer label counts four blocks.
 const COUNT: &[(usize, u8)] = &[(2359, b'4')];
 
+/// HDR2 cannot be read.
+const NO_HDR2: &[(usize, u8)] = &[(179, 128), (263, 128)];
+
+/// EOF1 cannot be read.
+const NO_EOF1: &[(usize, u8)] = &[(2299, 128), (2383, 128)];
+
 /// Images of one volume; whether nothing is missing, the report, and the number of bytes written.
 const ROWS: &[(&[Damaged], bool, &str, usize)] = &[
     // Two complete each other.
@@ -135,6 +141,32 @@ const ROWS: &[(&[Damaged], bool, &str, usize)] = &[
         false,
         "SECTION 1 2 3\nGAP 1 2 2 20\nCOUNT 1 4 3\nSALVAGED 20\n",
         1620,
+    ),
+    // Both have all blocks, and the one that closes is read, wherever it is named.
+    (
+        &[(2484, &[], NO_HDR2), (2484, &[], NO_EOF1)],
+        true,
+        "SECTION 1 1 3\nCOMPLETE 25\n",
+        2025,
+    ),
+    (
+        &[(2484, &[], NO_EOF1), (2484, &[], NO_HDR2)],
+        true,
+        "SECTION 1 2 3\nCOMPLETE 25\n",
+        2025,
+    ),
+    // The one that closes has as many blocks as the other one only when that completes it.
+    (
+        &[(2484, &[1], NO_HDR2), (2484, &[], NO_EOF1)],
+        true,
+        "FILLED 1 2 1 1\nSECTION 1 1 3\nCOMPLETE 25\n",
+        2025,
+    ),
+    (
+        &[(2484, &[], NO_EOF1), (2484, &[1], NO_HDR2)],
+        true,
+        "FILLED 1 1 1 1\nSECTION 1 2 3\nCOMPLETE 25\n",
+        2025,
     ),
 ];
 

@@ -61,6 +61,14 @@ const COMPLETED: &str = "
     length raw/MANIFEST.sha256 83
     0: unpack raw --verify
     missing raw/ABC001.1.PAYROLL.stage raw/ABC001.1.PAYROLL.salvaged raw/ABC001.1.PAYROLL.gaps
+    # Two copies have all blocks, and one a trailer label: the order of images does not matter.
+    worked eof1.tap
+    spoil eof1.tap 8
+    folder first
+    folder second
+    3: unpack first hdr2.tap eof1.tap | unpack second eof1.tap hdr2.tap
+    length first/ABC001.1.PAYROLL 2025
+    length second/ABC001.1.PAYROLL 2025
 ";
 
 #[test]

@@ -6,7 +6,7 @@ ghost use Rattle.tape_image.specs.Reader.{going};
 ghost use Rattle.tape_run.specs.SalvageCopies.{FindsCopies, believed, of_file, is_of, wrong_count};
 ghost use Rattle.tape_run.specs.SalvageChoice.{IsBest, firsts};
 ghost use Rattle.tape_run.specs.{Checked.IsCheckFault, SalvageWalk.in_list};
-ghost use Rattle.tape_run.specs.SalvageCopies.{rank, start_of, skip_of, is_complete};
+ghost use Rattle.tape_run.specs.SalvageCopies.{rank, rank_with, start_of, skip_of, is_complete};
 ghost use Rattle.tape_run.specs.SalvageChoice.{last_section, form_of_file, recorded_form};
 ghost use Rattle.tape_run.specs.SalvageChoice.{absent_form_in};
 ghost use Rattle.tape_run.specs.declared.salvage.copies.SectionCopy.{SectionCopy};
@@ -107,7 +107,7 @@ impl SectionCopy {
     }
 
     /// Returns a number that is greater for a better copy: complete ones are best, then those with
-    /// more readable blocks.
+    /// more readable blocks, and of these the ones that close.
     pub fn rank(&self) -> u64
         ensures { result ≡ rank self.now }
     {
@@ -115,10 +115,18 @@ impl SectionCopy {
             Some(_) => self.section.blocks.saturating_sub(self.section.unreadable),
             None => self.believed(),
         };
+        let rank = self.rank_with(read);
         if self.is_complete() {
-            return 4_294_967_296 + u64::from(read);
+            return 8_589_934_592 + rank;
         }
-        u64::from(read)
+        rank
+    }
+
+    /// Returns the rank of a copy that is not complete if `read` of its blocks are readable.
+    pub fn rank_with(&self, read: u32) -> u64
+        ensures { result ≡ rank_with self.now read }
+    {
+        2 * u64::from(read) + u64::from(self.closed.is_some())
     }
 }
 

@@ -118,7 +118,8 @@ fn join_section<R: Read + Drop, L: ImageSource<R>>(
         }
         return push_contrary(alloc, own, one, other, &mut joins.lines);
     }
-    if compared.completes || u64::from(compared.read) > best.rank() {
+    let joins_to = |base: &SectionCopy| base.rank_with(compared.read) > best.rank();
+    if compared.completes || own.first().is_some_and(joins_to) {
         push_fills(alloc, fills.as_slice(), &mut joins.lines)?;
         joins.fills.extend_from_slice(fills.as_slice())?;
     }
