@@ -140,9 +140,13 @@ class Volume:
         return "trailers"
 
     def trailers(self, kind, block):
-        # An unreadable item may be a second trailer label.
-        is_second = kind == "bad" or model.kind_of(block) in ("EOF2", "EOV2")
-        self.sections[-1]["has_second_trailer"] |= is_second
+        section = self.sections[-1]
+        if kind == "bad":
+            section["is_doubted"] = True  # it may be a second trailer label
+        elif kind == "mark":
+            section["is_bare"] = section["shape"] is None
+        else:
+            section["has_second_trailer"] |= model.kind_of(block) in ("EOF2", "EOV2")
         return {"mark": "next", "block": "trailers", "bad": None}[kind]
 
     def ended(self, *_):

@@ -128,7 +128,9 @@ class Survey:
         found = self.found[set_id, file]
         shapes = [each["shape"] for each in found]
         has_trailer = any(each["has_second_trailer"] for each in found)
-        return None in shapes and (any(shapes) or has_trailer)
+        is_doubted = any("is_doubted" in each for each in found)
+        is_bare = any(each.get("is_bare") for each in found)
+        return None in shapes and (any(shapes) or has_trailer or is_doubted and not is_bare)
 
     def in_conflict(self, set_id, file):
         """Whether labels of different files have this number, or copies of a section differ."""

@@ -21,6 +21,8 @@ use Rattle.tape_run.specs.declared.survey.{copies.CopyNote.CopyNote, fits.Fit.Fi
 use Rattle.tape_run.specs.declared.survey.{forms.FormNote.FormNote, fits.Misfit.Misfit}
 use Rattle.tape_run.specs.declared.survey.padding.Padding.{Padding}
 use Rattle.tape_run.specs.declared.survey.forms.FormNote.TheVariants.{Stated, Absent, Trailer}
+use Rattle.tape_run.specs.declared.survey.forms.Trailing.{Trailing}
+use Rattle.tape_run.specs.declared.survey.forms.Trailing.TheVariants as trailings
 use Rattle.tape_run.specs.declared.passing.Phase.{Phase}
 use Rattle.tape_run.specs.{Passing.Told, Noted.same_key, Onward.step}
 use Rattle.tape_run.specs.SurveyFiles.{Filed, Labelled, same_file, file_key, is_other}
@@ -28,6 +30,7 @@ use Rattle.tape_run.specs.SurveyFiles.{other_section, note_of, note_at, first_in
 use Rattle.tape_run.specs.SurveyFiles.{with_met, form_conflict, is_other_form}
 use Rattle.tape_run.specs.SurveyFiles.{first_form, with_first_form, with_form_of, with_absent}
 use Rattle.tape_run.specs.SurveyFiles.{with_trailer_of, with_trailer, with_form, with_blocks_of}
+use Rattle.tape_run.specs.SurveyFiles.{after_trailing}
 use Rattle.tape_run.specs.SurveyFiles.{with_blocks, with_fit, any_differs}
 use Rattle.tape_run.specs.SurveyFiles.{with_label}
 use Rattle.tape_run.specs.SurveyFiles.{form_in, section_of as key_of}
@@ -210,21 +213,30 @@ module _ (set : FileSet) (lawful : IsLawful set) where
           → AllByRecursion (λ e. IsFineNote e.0 e.1) (with_absent files.notes key o)
       absent None is = fine.notes
       absent (Some n) is = same_note files.notes key n _ is fine.notes refl (λ e. e)
-  fine_form files image (Some Trailer) fine h = record {
-    notes = trailed files.reading;
+  fine_form files image (Some (Trailer item)) fine h = record {
+    notes = behind files.reading;
     heads = fine.heads;
     forms = fine.forms;
   }
     where
-      named : (key : FileKey) (o : Option FileNote) → lookup (same_file key) files.notes ≡ o
-          → AllByRecursion (λ e. IsFineNote e.0 e.1) (with_trailer_of files.notes key o)
-      named key None is = fine.notes
-      named key (Some n) is = same_note files.notes key n _ is fine.notes refl (λ e. e)
+      same_label : (n : FileNote) (i : Trailing) → ((after_trailing n i files.fit).head ≡ n.head)
+          × (n.conflict ≡ None → (after_trailing n i files.fit).conflict ≡ None)
+      same_label n trailings.Found = (refl, λ e. e)
+      same_label n trailings.Doubted = (refl, λ e. e)
+      same_label n trailings.Closed = (refl, λ e. e)
 
-      trailed : (o : Option FileKey)
-          → AllByRecursion (λ e. IsFineNote e.0 e.1) (with_trailer files.notes o)
-      trailed None = fine.notes
-      trailed (Some key) = named key (lookup (same_file key) files.notes) refl
+      named : (key : FileKey) (o : Option FileNote) → lookup (same_file key) files.notes ≡ o
+          → AllByRecursion (λ e. IsFineNote e.0 e.1)
+          (with_trailer_of files.notes key o item files.fit)
+      named key None is = fine.notes
+      named key (Some n) is =
+          let (head, calm) = same_label n item in
+          same_note files.notes key n _ is fine.notes head calm
+
+      behind : (o : Option FileKey)
+          → AllByRecursion (λ e. IsFineNote e.0 e.1) (with_trailer files.notes o item files.fit)
+      behind None = fine.notes
+      behind (Some key) = named key (lookup (same_file key) files.notes) refl
   fine_form files image (Some (Stated key form)) fine h = record {
     notes = stated (note_at files (file_key key.set_id key.file)) refl;
     heads = fine.heads;

@@ -28,6 +28,8 @@ use Rattle.tape_run.specs.declared.section.SectionKey.{SectionKey}
 use Rattle.tape_run.specs.declared.passing.Phase.TheVariants.{Volume, Second, Trailers}
 use Rattle.tape_run.specs.declared.survey.forms.FormNote.{FormNote}
 use Rattle.tape_run.specs.declared.survey.forms.FormNote.TheVariants.{Stated, Absent, Trailer}
+use Rattle.tape_run.specs.declared.survey.forms.Trailing.{Trailing}
+use Rattle.tape_run.specs.declared.survey.forms.Trailing.TheVariants.{Found, Doubted, Closed}
 use Rattle.tape_run.specs.SurveyGlance.{label_in}
 use Rattle.std.specs.Option.{option_or}
 
@@ -87,6 +89,8 @@ note_of None first image head = record {
   form = None;
   absent = false;
   trailers = false;
+  doubted = false;
+  bare = false;
   misfit = None;
   padding = None;
   conflict = None;
@@ -155,19 +159,21 @@ form_by key _ _ is = absent_if key is
 
 -- a block of this kind behind a trailer label
 abbrev pub trailer_by : Option Kind → Option FormNote
-trailer_by (Some Eof2) = Some Trailer
-trailer_by (Some Eov2) = Some Trailer
+trailer_by (Some Eof2) = Some (Trailer Found)
+trailer_by (Some Eov2) = Some (Trailer Found)
 trailer_by _ = None
 
 -- What an item says about second labels: it is the second header label of a section, and supported;
 -- or a section has none, since a tape mark or a further header label is in its place; or it is an
--- EOF2 or EOV2 behind a trailer label, or an unreadable item there, which may be one.
+-- EOF2 or EOV2 behind a trailer label, or an unreadable item there, which may be one, or the tape
+-- mark there, before which no item was unreadable.
 abbrev pub form_in : Phase → TapeItem → Option FormNote
 form_in (Second met) mark = Some (Absent (file_key met.key.set_id met.key.file))
 form_in (Second met) (block b) =
     form_by met.key (kind_at b) (wide_head2_at b) (is_further_header b)
 form_in (Trailers volume) (block b) = trailer_by (kind_at b)
-form_in (Trailers volume) bad = Some Trailer
+form_in (Trailers volume) bad = Some (Trailer Doubted)
+form_in (Trailers volume) mark = Some (Trailer Closed)
 form_in _ _ = None
 
 -- Two second labels of one section say different things: the copies do not come from one recording.
@@ -209,16 +215,25 @@ with_absent notes key None = notes
 with_absent notes key (Some note) =
     insert_entry same_file notes key (record note { absent = true })
 
--- the record of a file of which a section has a second trailer label
-abbrev pub with_trailer_of : List Filed → FileKey → Option FileNote → List Filed
-with_trailer_of notes key None = notes
-with_trailer_of notes key (Some note) =
-    insert_entry same_file notes key (record note { trailers = true })
+-- The record of a file after such an item behind the trailer label of a section with these blocks.
+-- At the mark the form of the section is known if its HDR2 was read, which is recorded, or if it
+-- has none.
+abbrev pub after_trailing : FileNote → Trailing → Fit → FileNote
+after_trailing note Found fit = record note { trailers = true }
+after_trailing note Doubted fit = record note { doubted = true }
+after_trailing note Closed fit = record note { bare = note.bare || is_some fit.form }
+
+-- the same in the record of all files
+abbrev pub with_trailer_of : List Filed → FileKey → Option FileNote → Trailing → Fit → List Filed
+with_trailer_of notes key None item fit = notes
+with_trailer_of notes key (Some note) item fit =
+    insert_entry same_file notes key (after_trailing note item fit)
 
 -- the record of the file that is being read, if any
-abbrev pub with_trailer : List Filed → Option FileKey → List Filed
-with_trailer notes None = notes
-with_trailer notes (Some key) = with_trailer_of notes key (lookup (same_file key) notes)
+abbrev pub with_trailer : List Filed → Option FileKey → Trailing → Fit → List Filed
+with_trailer notes None item fit = notes
+with_trailer notes (Some key) item fit =
+    with_trailer_of notes key (lookup (same_file key) notes) item fit
 
 -- the files after one more second label, on this image
 abbrev pub with_stated : Labelled → ℕ → SectionKey → Head2 → Labelled
@@ -244,18 +259,23 @@ with_form files image (Some (Absent key)) = record {
   reading = files.reading;
   fit = files.fit;
 }
-with_form files image (Some Trailer) = record {
-  notes = with_trailer files.notes files.reading;
+with_form files image (Some (Trailer item)) = record {
+  notes = with_trailer files.notes files.reading item files.fit;
   heads = files.heads;
   forms = files.forms;
   reading = files.reading;
   fit = files.fit;
 }
 
+-- A section of the file has a second trailer label; or an unreadable item may be one, and no
+-- section without second labels has its trailer labels and the mark behind them readable.
+abbrev pub has_trailers : FileNote → Bool
+has_trailers note = note.trailers || (note.doubted && not note.bare)
+
 -- No section of the file lacks a second header label; or no section has one, nor a second trailer
 -- label.
 abbrev pub reads_wide : FileNote → Bool
-reads_wide note = not (note.absent && (is_some note.form || note.trailers))
+reads_wide note = not (note.absent && (is_some note.form || has_trailers note))
 
 -- the record of a file after a section of which a block is not in its format, or which has padding,
 -- if it is so; what was found before is kept
@@ -315,7 +335,7 @@ filed_in image files items = with_all image files Volume items
 -- no other section has one, and a section has a second trailer label: the header label is lost
 abbrev pub is_unclear : Option FileNote → Bool
 is_unclear None = false
-is_unclear (Some note) = note.absent && (not (is_some note.form) && note.trailers)
+is_unclear (Some note) = note.absent && (not (is_some note.form) && has_trailers note)
 
 -- why a file is not readable although all its sections are good, if there is a reason: its second
 -- label is lost, a block is not in the format, or no second label is supported

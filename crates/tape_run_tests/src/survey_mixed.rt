@@ -126,6 +126,54 @@ fn other_copies_and_sections_have_second_labels(rt: HostRuntime) -> Result<(), F
     files(&rt, &[second, first], &[(Some(1), false)])
 }
 
+/// Returns a volume with a section of one block, and without second labels. `second` and `behind`
+/// say whether an unreadable item follows its HDR1, and its EOF1 in place of the tape mark.
+fn unreadable(alloc: Global, second: bool, behind: bool) -> Result<Image, AllocError> {
+    let mut image = Image::new(alloc);
+    image.label(VOL1)?;
+    image.label(HDR1)?;
+    if second {
+        image.bad(HDR2.as_bytes())?;
+    }
+    image.mark()?;
+    image.label("0080")?;
+    image.mark()?;
+    image.label(EOF_ONE)?;
+    if behind {
+        image.bad(b"mark")?;
+    } else {
+        image.mark()?;
+    }
+    image.end()?;
+    Ok(image)
+}
+
+/// An unreadable item after a trailer label may be a second one, unless a copy without HDR2 has
+/// only readable items there.
+#[test]
+fn copies_that_end_without_second_labels(rt: HostRuntime) -> Result<(), Fail> {
+    let alloc = rt.alloc();
+    let bare = unreadable(alloc, false, false)?;
+    let doubted = unreadable(alloc, false, true)?;
+    let unread = unreadable(alloc, true, false)?;
+    let trailer = trailed(alloc, &[VOL1, HDR1], &[EOF_ONE, EOF2])?;
+    let [bare, doubted, unread, trailer] = [&bare, &doubted, &unread, &trailer].map(|image| Some(
+        image.bytes.as_slice(),
+    ));
+    files(&rt, &[doubted], &[(Some(1), false)])?;
+    for images in [[bare, doubted], [doubted, bare]] {
+        files(&rt, &images, &[(None, true)])?;
+    }
+    // The unreadable item after HDR1 may be an HDR2.
+    for images in [[unread, doubted], [doubted, unread]] {
+        files(&rt, &images, &[(Some(1), false)])?;
+    }
+    for images in [[bare, trailer, doubted], [doubted, trailer, bare]] {
+        files(&rt, &images, &[(Some(1), false)])?;
+    }
+    Ok(())
+}
+
 /// Second labels are looked for file by file, also on one volume.
 #[test]
 fn files_with_second_labels_and_without(rt: HostRuntime) -> Result<(), Fail> {

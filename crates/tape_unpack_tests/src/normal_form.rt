@@ -125,6 +125,31 @@ fn blocks_that_are_not_counted_are_reported(rt: HostRuntime) -> Result<(), Fail>
     follow_in(&rt, &Tape, "not_counted", UNCOUNTED)
 }
 
+const BARE: &str = "
+    # A reel without second labels: each of its three blocks is a record. On another copy of it an
+    # item is unreadable that follows EOF1, and may be an EOF2.
+    worked bare.tap
+    omit bare.tap 9
+    omit bare.tap 2
+    worked doubted.tap
+    spoil doubted.tap 9
+    omit doubted.tap 2
+    folder first
+    folder second
+    3: unpack first bare.tap doubted.tap | unpack second doubted.tap bare.tap
+    length first/ABC001.1.PAYROLL 2003
+    length second/ABC001.1.PAYROLL 2003
+    3: extract --again ABC001 1 alone.txt doubted.tap
+    0: extract --again ABC001 1 again.txt doubted.tap bare.tap
+    length again.txt 2003
+    missing alone.txt
+";
+
+#[test]
+fn good_copies_show_that_there_are_no_second_labels(rt: HostRuntime) -> Result<(), Fail> {
+    follow_in(&rt, &Tape, "bare", BARE)
+}
+
 #[test]
 fn tapes_of_other_systems_are_read(rt: HostRuntime) -> Result<(), Fail> {
     follow_in(&rt, &Tape, "normal_form", READ)

@@ -3,6 +3,7 @@ ghost use Rattle.std.specs.{Result.IsOkUnless, Prelude.◌≡◌, Prelude.OnOk, 
 ghost use Rattle.std.specs.Prelude.{Some};
 ghost use Rattle.tape_run.specs.SurveyFiles.{no_labels, is_other, opponent, note_of, with_met};
 ghost use Rattle.tape_run.specs.SurveyFiles.{file_key, reads_wide, is_unclear, any_lost};
+ghost use Rattle.tape_run.specs.SurveyFiles.{has_trailers};
 ghost use Rattle.tape_run.specs.SurveyFiles.{first_in, with_first, any_differs};
 ghost use Rattle.tape_run.specs.SurveyFiles.{same_file, with_note};
 ghost use Rattle.std.specs.Map.{lookup};
@@ -38,6 +39,11 @@ pub struct FileNote {
     pub absent: bool,
     /// Whether a section with a second trailer label was found.
     pub trailers: bool,
+    /// Whether an unreadable item may be a second trailer label.
+    pub doubted: bool,
+    /// Whether the trailer labels of a section with HDR2, or without a second header label, end
+    /// with a tape mark and none of them is unreadable.
+    pub bare: bool,
     /// The first block that was found of a complete section that is not in its format, if any.
     pub misfit: Option<Misfit>,
     /// The padding that was found first, if any: of the blocks of its complete sections, or left
@@ -143,6 +149,8 @@ fn note_of(note: Option<FileNote>, first: Option<FirstHead>, image: usize, head:
             form: None,
             absent: false,
             trailers: false,
+            doubted: false,
+            bare: false,
             misfit: None,
             padding: None,
             conflict: None,
@@ -225,19 +233,27 @@ pub(crate) fn file_of(section: &SectionKey) -> FileKey
     }
 }
 
+/// Returns whether a section of a file has a second trailer label, or may have one. An unreadable
+/// item does not count if the file has a section without second labels.
+fn has_trailers(note: &FileNote) -> bool
+    ensures { result ≡ has_trailers note.now }
+{
+    note.trailers || (note.doubted && !note.bare)
+}
+
 /// Returns whether a file may be read in the wider reading.
 pub(crate) fn reads_wide(note: &FileNote) -> bool
     ensures { result ≡ reads_wide note.now }
 {
-    !(note.absent && (note.form.is_some() || note.trailers))
+    !(note.absent && (note.form.is_some() || has_trailers(note)))
 }
 
 /// Returns whether the second header label of a section of a file is lost, since a section has a
-/// second trailer label, and no other header label says how the file was recorded.
+/// second trailer label or may have one, and no other header label says how the file was recorded.
 pub(crate) fn is_unclear(note: &FileNote) -> bool
     ensures { result ≡ is_unclear (Some note.now) }
 {
-    note.absent && note.form.is_none() && note.trailers
+    note.absent && note.form.is_none() && has_trailers(note)
 }
 
 /// Returns whether a second label of any file is lost.

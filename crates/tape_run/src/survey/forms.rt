@@ -4,10 +4,11 @@ ghost use Rattle.std.specs.Map.{lookup};
 ghost use Rattle.tape_image.specs.Reader.{tape_item};
 ghost use Rattle.tape_run.specs.SurveyFiles.{form_in, with_form, same_file, with_form_of};
 ghost use Rattle.tape_run.specs.SurveyFiles.{with_absent, is_other_form, form_conflict, first_form};
-ghost use Rattle.tape_run.specs.SurveyFiles.{with_first_form, with_trailer};
+ghost use Rattle.tape_run.specs.SurveyFiles.{with_first_form, with_trailer, after_trailing};
 ghost use Rattle.tape_run.specs.declared.fault.RunFault.TheVariants as faults;
 
 use super::files::{FileKey, FileNote, FileNotes, Files, file_of};
+use super::fits::Fit;
 use crate::fault::RunFault;
 use crate::passing::Phase;
 use crate::section::SectionKey;
@@ -22,8 +23,19 @@ pub(crate) enum FormNote {
     Stated(SectionKey, Head2),
     /// A section of the file has no second label.
     Absent(FileKey),
-    /// The section has a second trailer label, or an unreadable item may be it.
-    Trailer,
+    /// What follows the trailer label of a section.
+    Trailer(Trailing),
+}
+
+/// What an item after the trailer label of a section says about a second one.
+#[derive(Clone, Copy)]
+pub(crate) enum Trailing {
+    /// It is one.
+    Found,
+    /// It is unreadable, and may be one.
+    Doubted,
+    /// It is the next tape mark, and no item before it was unreadable.
+    Closed,
 }
 
 /// The second label of a section that was found first, and the number of its image.
@@ -50,11 +62,11 @@ pub(crate) fn form_in(phase: &Phase, item: Item<'_>) -> Option<FormNote>
             }
         }
         (Phase::Trailers(_), Item::Block(bytes)) => match kind(bytes) {
-            Some(Kind::Eof2 | Kind::Eov2) => Some(FormNote::Trailer),
+            Some(Kind::Eof2 | Kind::Eov2) => Some(FormNote::Trailer(Trailing::Found)),
             _ => None,
         },
-        // It may be an EOF2.
-        (Phase::Trailers(_), Item::Bad) => Some(FormNote::Trailer),
+        (Phase::Trailers(_), Item::Bad) => Some(FormNote::Trailer(Trailing::Doubted)),
+        (Phase::Trailers(_), Item::Mark) => Some(FormNote::Trailer(Trailing::Closed)),
         _ => None,
     }
 }
@@ -74,7 +86,9 @@ pub(crate) fn note_form(
             note_form_of(&mut files.notes, file_of(&key), first, image, form)
         }
         Some(FormNote::Absent(key)) => note_absent(&mut files.notes, key),
-        Some(FormNote::Trailer) => note_trailer(&mut files.notes, files.reading),
+        Some(FormNote::Trailer(item)) => {
+            note_trailer(&mut files.notes, files.reading, item, &files.fit)
+        }
         None => Ok(()),
     }
 }
@@ -116,10 +130,38 @@ fn note_absent(notes: &mut FileNotes, key: FileKey) -> Result<(), RunFault>
     Ok(())
 }
 
-/// Records that a section of the file that is being read has a second trailer label.
-fn note_trailer(notes: &mut FileNotes, reading: Option<FileKey>) -> Result<(), RunFault>
+/// Returns the record of a file after an item that follows the trailer label of a section, whose
+/// blocks are `fit`.
+fn after_trailing(note: FileNote, item: Trailing, fit: &Fit) -> FileNote
+    ensures { result ≡ after_trailing note item fit.now }
+{
+    match item {
+        Trailing::Found => FileNote {
+            trailers: true,
+            ..note
+        },
+        Trailing::Doubted => FileNote {
+            doubted: true,
+            ..note
+        },
+        // The form is that of an HDR2, which is recorded, or there is none.
+        Trailing::Closed => FileNote {
+            bare: note.bare || fit.form.is_some(),
+            ..note
+        },
+    }
+}
+
+/// Records what an item says that follows the trailer label of the section that is being read.
+fn note_trailer(
+    notes: &mut FileNotes,
+    reading: Option<FileKey>,
+    item: Trailing,
+    fit: &Fit,
+) -> Result<(), RunFault>
     ensures fault { IsOkUnless result faults.OutOfMemory }
-    ensures ok { OnOk result (notes.new.entries ≡ with_trailer notes.old.entries reading) }
+    ensures ok { OnOk result (notes.new.entries
+        ≡ with_trailer notes.old.entries reading item fit.now) }
 {
     let Some(key) = reading else {
         return Ok(());
@@ -127,11 +169,7 @@ fn note_trailer(notes: &mut FileNotes, reading: Option<FileKey>) -> Result<(), R
     let Some(note) = notes.get(&key).copied() else {
         return Ok(());
     };
-    let note = FileNote {
-        trailers: true,
-        ..note
-    };
-    notes.insert(key, note)?;
+    notes.insert(key, after_trailing(note, item, fit))?;
     Ok(())
 }
 
