@@ -32,15 +32,21 @@ trimmed_len bytes = length bytes - suffix_len is_space bytes
 abbrev pub trimmed_text : List ℕ → List ℕ
 trimmed_text bytes = map printed (take (trimmed_len bytes) bytes)
 
+-- an image without items
+abbrev pub none_text : ImageStop → List ℕ
+none_text Marked = codes "no items before the end-of-medium marker"
+none_text (Fault fault) = codes "no items"
+none_text Physical = codes "no items"
+
 -- the beginning of an image
-abbrev pub first_text : First → List ℕ
-first_text firsts.Nothing = codes "no items"
-first_text (firsts.Volume label) = codes "volume " ++ trimmed_text label.volume
-first_text firsts.Ebcdic = codes "labels in EBCDIC"
-first_text (firsts.Block n) =
+abbrev pub first_text : First → ImageStop → List ℕ
+first_text firsts.Nothing stop = none_text stop
+first_text (firsts.Volume label) stop = codes "volume " ++ trimmed_text label.volume
+first_text firsts.Ebcdic stop = codes "labels in EBCDIC"
+first_text (firsts.Block n) stop =
     codes "no labels; its first block has " ++ (decimal n ++ codes " bytes")
-first_text firsts.Bad = codes "does not begin with a label"
-first_text firsts.Mark = codes "begins with a tape mark"
+first_text firsts.Bad stop = codes "does not begin with a label"
+first_text firsts.Mark stop = codes "begins with a tape mark"
 
 -- the system that wrote it, if a header label names one
 abbrev pub system_text : Option Head1 → List ℕ
@@ -91,11 +97,11 @@ damaged_text between s =
 abbrev pub damages_text : List ℕ → List SectionLine → List ℕ
 damages_text between damaged = flat_map (damaged_text between) damaged
 
--- the text of the contents of an image
-abbrev pub glance_text : List ℕ → ImageSummary → List ℕ
-glance_text between g =
-    first_text g.first ++ (system_text g.head ++ (files_text g.files ++ (bad_text between g.bad
-    ++ (late_text between g.late ++ unread_text between g.unread))))
+-- the text of the contents of an image that ends so
+abbrev pub glance_text : List ℕ → ImageSummary → ImageStop → List ℕ
+glance_text between g stop =
+    first_text g.first stop ++ (system_text g.head ++ (files_text g.files
+    ++ (bad_text between g.bad ++ (late_text between g.late ++ unread_text between g.unread))))
 
 -- the text for the item that was expected where another item breaks the label order
 abbrev pub wanted_text : ExpectedItem → List ℕ
@@ -169,7 +175,7 @@ dispute_text between (Some key) = between ++ (codes "section " ++ (decimal key.s
 
 -- the description of an image with such a section, if any
 abbrev pub seen_text : List ℕ → ImageSurvey → Option SectionKey → List ℕ
-seen_text between s key = glance_text between s.glance
+seen_text between s key = glance_text between s.glance s.stop
     ++ (course_text between (course_shown s.glance.first s.glance.course) s.stop
     ++ (stop_text between s.kind s.stop
     ++ (damages_text between s.damaged ++ dispute_text between key)))

@@ -75,6 +75,8 @@ mod survey;
 #[cfg(test)]
 mod survey_copies;
 #[cfg(test)]
+mod survey_ends;
+#[cfg(test)]
 mod survey_fits;
 #[cfg(test)]
 mod survey_list;

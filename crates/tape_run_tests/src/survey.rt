@@ -194,7 +194,7 @@ Set ABC001: 0 of 1 files complete
 
 const NONE: &str = "Not opened: check the names, and that you may read the files
   lost.tap
-No images of tapes: copy them again, decompress or convert them
+Nothing was read: copy them again, decompress or convert them
   empty.tap                 no items
   text.tap                  no items
       image fault 3 at byte 0: not a SIMH image, or damaged in its first block

@@ -1,6 +1,6 @@
 //! The facts in a survey's description of an image.
 ghost use Rattle.std.specs.Prelude.{◌≡◌, IfOk, string_bytes};
-ghost use Rattle.tape_run.specs.SurveyLine.{first_text, system_text, files_text, bad_text};
+ghost use Rattle.tape_run.specs.SurveyLine.{first_text, none_text, system_text, files_text, bad_text};
 ghost use Rattle.tape_run.specs.SurveyLine.{late_text, unread_text, wanted_text, course_text};
 ghost use Rattle.tape_run.specs.SurveyLine.{rest_text};
 ghost use Rattle.tape_run.specs.SurveyLine.{course_shown, left_text, is_told, kind_text};
@@ -18,12 +18,22 @@ use std::alloc::{AllocError, Global};
 use tape_image::ImageFault;
 use tape_label::Head1;
 
-/// Returns the text for the item that an image begins with.
-fn first_text(alloc: Global, first: &First) -> Result<String, AllocError>
-    ensures { IfOk result (λ text. string_bytes text ≡ first_text first.now) }
+/// Returns the text for an image without items, which ends with `stop`.
+fn none_text(alloc: Global, stop: ImageStop) -> Result<String, AllocError>
+    ensures { IfOk result (λ text. string_bytes text ≡ none_text stop) }
+{
+    match stop {
+        ImageStop::Marked => format!(in alloc; "no items before the end-of-medium marker"),
+        ImageStop::Fault(_) | ImageStop::Physical => format!(in alloc; "no items"),
+    }
+}
+
+/// Returns the text for the item that an image begins with. It ends with `stop`.
+fn first_text(alloc: Global, first: &First, stop: ImageStop) -> Result<String, AllocError>
+    ensures { IfOk result (λ text. string_bytes text ≡ first_text first.now stop) }
 {
     match first {
-        First::Nothing => format!(in alloc; "no items"),
+        First::Nothing => none_text(alloc, stop),
         First::Volume(label) => format!(in alloc; "volume {}", Trimmed(&label.volume)),
         First::Ebcdic => format!(in alloc; "labels in EBCDIC"),
         First::Block(length) => format!(in alloc; "no labels; its first block has {length} bytes"),
@@ -88,11 +98,17 @@ fn unread_text(alloc: Global, between: &str, unread: Option<u16>) -> Result<Stri
     }
 }
 
-/// Returns the contents of an image, with the text `between` between two facts.
-fn glance_text(alloc: Global, between: &str, glance: &ImageSummary) -> Result<String, AllocError>
-    ensures { IfOk result (λ text. string_bytes text ≡ glance_text between.now glance.now) }
+/// Returns the contents of an image that ends with `stop`, with the text `between` between two
+/// facts.
+fn glance_text(
+    alloc: Global,
+    between: &str,
+    glance: &ImageSummary,
+    stop: ImageStop,
+) -> Result<String, AllocError>
+    ensures { IfOk result (λ text. string_bytes text ≡ glance_text between.now glance.now stop) }
 {
-    let first = first_text(alloc, &glance.first)?;
+    let first = first_text(alloc, &glance.first, stop)?;
     let system = system_text(alloc, &glance.head)?;
     let files = files_text(alloc, glance.files)?;
     let bad = bad_text(alloc, between, glance.bad)?;
@@ -252,7 +268,7 @@ pub(super) fn seen_text(
 ) -> Result<String, AllocError>
     ensures { IfOk result (λ text. string_bytes text ≡ seen_text between.now sight.now dispute) }
 {
-    let glance = glance_text(alloc, between, &sight.glance)?;
+    let glance = glance_text(alloc, between, &sight.glance, sight.stop)?;
     let course = course_text(alloc, between, course_shown(&sight.glance), sight.stop)?;
     let stop = stop_text(alloc, between, sight.kind, sight.stop)?;
     let damages = DamagesText(between, sight.damaged.as_slice());

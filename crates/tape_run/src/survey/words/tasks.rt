@@ -42,7 +42,7 @@ enum Task {
 pub(super) fn add_tasks(page: &mut Page<'_>, shelf: &Shelf<'_>) {
     page.begin_list("Not opened: check the names, and that you may read the files\n");
     add_images(page, shelf, Task::Open);
-    page.begin_list("No images of tapes: copy them again, decompress or convert them\n");
+    page.begin_list("Nothing was read: copy them again, decompress or convert them\n");
     add_images(page, shelf, Task::Convert);
     page.begin_list("In conflict: find out which is right ('tape compare', 'tape list')\n");
     let findings = shelf.findings;
@@ -74,6 +74,9 @@ fn task_of(shelf: &Shelf<'_>, sight: &Option<ImageSurvey>) -> Option<Task> {
     match (state_of(sight, false), sight) {
         (ImageState::NotOpened, _) => Some(Task::Open),
         (ImageState::Empty | ImageState::NotTape, _) => Some(Task::Convert),
+        (ImageState::Unsupported, Some(sight)) if matches!(sight.glance.first, First::Nothing) => {
+            Some(Task::Convert)
+        }
         (ImageState::Unsupported, _) => Some(Task::List),
         (ImageState::Damaged, Some(sight))
             if !is_in_order(sight) || sight.damaged.as_slice().is_empty() => {
@@ -121,12 +124,17 @@ fn damage_task(shelf: &Shelf<'_>, sight: &ImageSurvey) -> Task {
         LabelOrder::Leaves(_, ExpectedItem::End) if is_end(sight.stop) => return Task::Look,
         _ => {}
     }
+    let task = match sight.glance.course {
+        // Nothing of the volume is damaged, but what follows it.
+        LabelOrder::Ended => Task::Look,
+        _ => Task::Reread,
+    };
     let First::Volume(label) = &sight.glance.first else {
-        return Task::Reread;
+        return task;
     };
     let findings = shelf.findings;
     if !is_spare(&findings.sections, sight) {
-        return Task::Reread;
+        return task;
     }
     for other in shelf.sights {
         if let Some(other) = other
@@ -139,7 +147,7 @@ fn damage_task(shelf: &Shelf<'_>, sight: &ImageSurvey) -> Task {
             return Task::Nothing;
         }
     }
-    Task::Reread
+    task
 }
 
 /// Appends the images about which this is to be done.
@@ -280,16 +288,9 @@ fn add_missing_of(page: &mut Page<'_>, shelf: &Shelf<'_>, set_id: Field<6>, file
         Ok(problems) => {
             for problem in &problems {
                 if let Problem::Missing(first, next) = problem {
-                    add_missing_sections(
-                        page,
-                        shelf,
-                        SectionKey {
-                            set_id,
-                            file,
-                            sect: *first,
-                        },
-                        *next,
-                    );
+                    let sect = *first;
+                    let key = SectionKey { set_id, file, sect };
+                    add_missing_sections(page, shelf, key, *next);
                 }
             }
         }
