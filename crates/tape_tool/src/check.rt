@@ -8,7 +8,7 @@ use crate::json_rows::{Column, JsonRows, RowKind, RowTable, Shape, Span};
 use crate::names::{Named, names_of};
 use crate::normal::NormalImages;
 use crate::program::{End, check_end};
-use crate::readings::{all_readings, names_in, printed_names};
+use crate::readings::{all_readings, has_others, names_in, printed_names};
 use crate::refusal::Refusal;
 use crate::relabel::{JOIN, RENUMBER, Relabels, relabel};
 use crate::screen::Progress;
@@ -204,7 +204,7 @@ fn survey<R: Progress, W: Write>(
     let all = survey_as(rt, images, shelf.names, form, &mut lines)?;
     if !all && shelf.input.is_none() {
         let names = all_readings(rt, shelf.names)?;
-        if names.len() > shelf.names.len() {
+        if has_others(names.as_slice(), shelf.names.len()) {
             return survey_further(rt, names.as_slice(), shelf.names.len(), form, report);
         }
     }

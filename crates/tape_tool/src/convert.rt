@@ -239,7 +239,7 @@ fn copy_all<D: Read, W: Write>(from: &mut D, out: &mut W) -> Result<(), ConvertF
 }
 
 /// Returns the number of items of an image.
-fn count_items<D: Read>(alloc: Global, device: &mut D) -> Result<u64, ToolFault> {
+pub fn count_items<D: Read>(alloc: Global, device: &mut D) -> Result<u64, ToolFault> {
     let mut image = ImageReader::new(alloc, device).map_err(|fault| ToolFault::Image(fault))?;
     let mut items: u64 = 0;
     for _ in 0..u64::MAX {

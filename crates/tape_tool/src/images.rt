@@ -5,7 +5,7 @@ ghost use Rattle.std.specs.Prelude.{IfOk};
 ghost use Rattle.std.specs.Io.Buffered.{reader_remaining};
 ghost use Rattle.tape_run.specs.ReadingOrder.{reading_order};
 
-use crate::readings::{opened_at, place_in};
+use crate::readings::{is_extended_name, opened_at, place_in};
 use crate::screen::{Host, Progress};
 use crate::shown::Shown;
 use std::alloc::{AllocError, Global};
@@ -13,7 +13,7 @@ use std::fs::File;
 use std::io;
 use std::io::{BufRead, BufReader, Read};
 use tape_label::Field;
-use tape_run::{FoundFiles, ImageSource, KIND_BYTES};
+use tape_run::{Container, FoundFiles, ImageSource, KIND_BYTES, container_of};
 
 /// Returns the names in the order in which the images of file `key` are read
 /// (`FoundFiles::reading_order`).
@@ -190,6 +190,15 @@ impl<'a, R: Progress> Images<'a, R> {
         self.names
             .get(number)
             .is_some_and(|name| place_in(*name).1 > 0)
+    }
+
+    /// Returns the kind of the unread image `number`, by its name or else by its first bytes.
+    pub fn kind_of(&self, number: usize, image: &mut Image<R>) -> Container {
+        match self.names.get(number) {
+            Some(name) if place_in(*name).1 > 0 => Container::Simh,
+            Some(name) if is_extended_name(*name) => Container::Extended,
+            _ => container_of(image.front()),
+        }
     }
 }
 

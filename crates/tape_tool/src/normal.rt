@@ -18,7 +18,7 @@ use std::io::Read;
 use tape_core::normal::{NormalImage, Rules};
 use tape_image::{ImageFormat, SimhImage};
 use tape_label::Head1;
-use tape_run::{Container, ImageSource, container_of};
+use tape_run::{Container, ImageSource};
 
 /// The rules that may be applied to an image, in the order in which they are named.
 const TEXTS: [&str; 9] = [
@@ -306,11 +306,7 @@ impl<'a, R: Progress> ImageSource<Normal<R>> for NormalImages<'a, R> {
         };
         let mut image = image;
         let is_further = self.images.is_further(number);
-        let kind = if is_further {
-            Container::Simh
-        } else {
-            container_of(image.front())
-        };
+        let kind = self.images.kind_of(number, &mut image);
         let form = Form::new(rt.alloc(), image, kind);
         let inner = Labelled { form, labels };
         // Nothing fails from here on: the source changes only if the image is mounted.

@@ -1,12 +1,20 @@
 //! The readings of a damaged image: each is what can be read from a place up to the next wrong word.
 
+mod extended;
+mod names;
+
 use crate::fault::{FileFault, OUT_OF_MEMORY, ToolFault};
 use crate::images::ReadAhead;
 use crate::normal::NormalImages;
 use crate::refusal::{is_file, open};
 use crate::screen::{Host, Progress};
 use crate::shown::Shown;
-use std::alloc::{AllocError, Global};
+use extended::is_extended;
+use names::{name_extended, own};
+pub use names::{
+    has_others, image_of, is_extended_name, names_in, place_in, printed_name, printed_names,
+};
+use std::alloc::AllocError;
 use std::fs::File;
 use std::io::{Seek, SeekFrom};
 use tape_image::{ImageCause, ImageFault, ImageReader, Item, items_again};
@@ -179,18 +187,10 @@ fn reading_from<R: Host>(rt: &R, path: &str, start: u64) -> Result<Reading, Tool
     Ok(reading)
 }
 
-/// Splits the name of a reading into the path of its image and the byte offset at which it begins.
-/// The offset follows a NUL, which no path contains; without one the reading is the first.
-pub fn place_in(name: &str) -> (&str, u64) {
-    match name.split_once('\0') {
-        Some((path, digits)) => (path, digits.parse::<u64>().unwrap_or(0)),
-        None => (name, 0),
-    }
-}
-
 /// Returns the names of the images, followed by those of the readings after their wrong words, 999
 /// at most, and names these on standard error with their numbers. Images that can be read only once
-/// have none, nor have those of another format.
+/// have none, nor have those of another format. The name of an image of SIMH's extended format says
+/// so if its first bytes do not show it.
 pub fn all_readings<R: Progress>(rt: &R, names: &[&str]) -> Result<Vec<String>, AllocError> {
     readings_of(rt, names, true)
 }
@@ -240,6 +240,11 @@ fn add_further<R: Progress>(
         Err(OUT_OF_MEMORY) => return Err(AllocError),
         Err(_) => return Ok(()),
     };
+    if let Some(first) = readings.first()
+        && is_extended(rt.host(), path, first)?
+    {
+        return name_extended(all.as_mut_slice(), path);
+    }
     let mut from = 0;
     for reading in &readings {
         let end = from;
@@ -283,7 +288,7 @@ pub fn find_all<R: Progress>(
         return Ok((own(rt.alloc(), names)?, met));
     }
     let all = all_readings(rt, names)?;
-    if all.len() == names.len() {
+    if !has_others(all.as_slice(), names.len()) {
         return Ok((all, met));
     }
     let met = find_again(rt, all.as_slice(), names.len())?;
@@ -296,52 +301,4 @@ fn find_again<R: Progress>(rt: &R, all: &[String], count: usize) -> Result<Found
     let images = &mut NormalImages::new(rt, names.as_slice());
     images.are_told(count);
     find_files(rt.alloc(), images).map_err(|fault| ToolFault::Run(fault))
-}
-
-/// Returns copies of names.
-fn own(alloc: Global, names: &[&str]) -> Result<Vec<String>, AllocError> {
-    let mut all = Vec::new(alloc);
-    for name in names {
-        all.push(String::from_str(alloc, *name)?)?;
-    }
-    Ok(all)
-}
-
-/// Returns these names.
-pub fn names_in<'n>(alloc: Global, all: &'n [String]) -> Result<Vec<&'n str>, AllocError> {
-    let mut names = Vec::new(alloc);
-    for name in all {
-        names.push(name.as_str())?;
-    }
-    Ok(names)
-}
-
-/// Returns the number of the image of which the reading with number `number` is one.
-pub fn image_of(names: &[&str], number: usize) -> usize {
-    let Some(name) = names.get(number) else {
-        return number;
-    };
-    let path = place_in(*name).0;
-    names
-        .iter()
-        .position(|name| *name == path)
-        .unwrap_or(number)
-}
-
-/// Returns the name of a reading as it is printed: that of its image, with `@` and the byte offset
-/// at which it begins, unless that is 0.
-pub fn printed_name(alloc: Global, name: &str) -> Result<String, AllocError> {
-    match place_in(name) {
-        (path, 0) => String::from_str(alloc, path),
-        (path, start) => format!(in alloc; "{path}@{start}"),
-    }
-}
-
-/// Returns the names of readings as they are printed.
-pub fn printed_names(alloc: Global, names: &[String]) -> Result<Vec<String>, AllocError> {
-    let mut printed = Vec::new(alloc);
-    for name in names {
-        printed.push(printed_name(alloc, name.as_str())?)?;
-    }
-    Ok(printed)
 }

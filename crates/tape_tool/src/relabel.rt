@@ -3,7 +3,7 @@
 use crate::command_spec::{Kind, Word};
 use crate::help;
 use crate::normal::NormalImages;
-use crate::readings::{names_in, quiet_readings};
+use crate::readings::{names_in, place_in, quiet_readings};
 use crate::refusal::{Refusal, no_pipes};
 use crate::screen::Progress;
 use crate::unpack::printable;
@@ -63,7 +63,8 @@ impl LabelPlans {
         let Ok(plans) = self.plans.try_borrow() else {
             return Err(AllocError);
         };
-        match plans.iter().find(|plan| plan.0.as_str() == name) {
+        let place = place_in(name);
+        match plans.iter().find(|plan| place_in(plan.0.as_str()) == place) {
             Some((_, plan)) => Ok(Some(Relabelling::new(plan.copy(alloc)?))),
             None => Ok(None),
         }

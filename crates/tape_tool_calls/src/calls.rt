@@ -24,9 +24,10 @@
 //!   the example file on two, `first_damaged FILE BLOCK` the first one with an unreadable block,
 //!   `records FILE` its records, and `second_file FILE` a volume without the first file of its set.
 //!   `ebcdic FILE`, `booted FILE`, `marked FILE`, `unnamed FILE` and `uncounted FILE` create the
-//!   example image as other systems write it, and `own FILE`, `again FILE` and `twins FILE` others
-//!   with odd identifiers or numbers: see `example`. `spoil FILE ITEM` makes an item of an
-//!   image unreadable, and `omit FILE ITEM` takes it out; items are counted from 0.
+//!   example image as other systems write it, `late FILE CLASS` one with an item of SIMH's extended
+//!   format, and `own FILE`, `again FILE` and `twins FILE` others with odd identifiers or numbers:
+//!   see `example`. `spoil FILE ITEM` makes an item of an image unreadable, and `omit FILE ITEM`
+//!   takes it out; items are counted from 0.
 //! - `has FILE TEXT`, `at FILE OFFSET TEXT`, `length FILE COUNT`, `is_worked FILE`,
 //!   `missing FILE ..` and `allowed FILE MODE` check the contents of a file, the bytes at an
 //!   offset, the length, that it is the example image or does not exist, and its permissions.

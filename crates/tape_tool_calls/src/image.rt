@@ -25,6 +25,14 @@ fn push_block(image: &mut Vec<u8>, content: &[u8], high: u8) -> Result<(), Alloc
     image.extend_from_slice(&word)
 }
 
+/// Appends erase gaps of 36,864 bytes.
+fn push_gaps(image: &mut Vec<u8>) -> Result<(), AllocError> {
+    for _ in 0..9_216u16 {
+        image.extend_from_slice(&[0xFE, 0xFF, 0xFF, 0xFF])?;
+    }
+    Ok(())
+}
+
 /// Returns a capital letter, digit or space in EBCDIC. There the letters are in three runs.
 fn in_ebcdic(character: u8) -> u8 {
     match character {
@@ -89,6 +97,7 @@ impl Volume<'_> {
         self.push_label(label)?;
         match self.name {
             "booted" => push_block(&mut self.image, &[b'B'; 512], 0),
+            "late" => push_gaps(&mut self.image),
             _ => Ok(()),
         }
     }
@@ -140,6 +149,10 @@ impl Volume<'_> {
                 let is_bad = self.size == 400 && number == bad;
                 push_block(&mut self.image, block, if is_bad { 0x80 } else { 0 })?;
             }
+            if self.name == "late" && number == 0 {
+                self.image
+                    .extend_from_slice(&[0, 0, 0, (bad % 16) as u8 * 16])?;
+            }
         }
         Ok(())
     }
@@ -160,7 +173,9 @@ impl Volume<'_> {
 ///   block counts;
 /// - `own` and `again` are the volume after `first`, with all 25 records. `own` has its own
 ///   identifier as that of its set, and `again` has section number 1;
-/// - `twins` has two files with the sequence number 1.
+/// - `twins` has two files with the sequence number 1;
+/// - `late` has erase gaps of 36,864 bytes after its volume label, and after its first block of
+///   data the word of an item of SIMH's extended format: one of class `bad`, with the length 0.
 pub fn example(alloc: Global, name: &str, bad: usize) -> Result<Vec<u8>, AllocError> {
     let records = payroll(alloc)?;
     let mut volume = Volume {

@@ -62,6 +62,7 @@ const STEPS: &[(&str, Step)] = &[
     ("own", Step::Example),
     ("again", Step::Example),
     ("twins", Step::Example),
+    ("late", Step::Example),
     ("spoil", Step::Spoil),
     ("omit", Step::Omit),
     ("records", Step::Records),

@@ -155,6 +155,47 @@ fn images_are_converted(rt: HostRuntime) -> Result<(), Fail> {
     follow_in(&rt, &Tape, "converted", CONVERTED)
 }
 
+const EXTENDED: &str = "
+    # A marker of SIMH's extended format, at byte 37,940, which the first 36,864 bytes do not show.
+    late late.tap 7
+    late again.tap 15
+    image fault 3 at 37940: list late.tap
+    3: check late.tap | extract ABC001 1 none.txt late.tap
+    0: survey late.tap | survey late.tap again.tap | extract --again ABC001 1 again.txt late.tap
+    length again.txt 2025
+    at again.txt 0 0001
+    at again.txt 810 0011
+    at again.txt 1944 0025
+    0: salvage ABC001 1 salvaged.txt late.tap
+    0: extract --again OWN001 1 own.txt --join OWN001=ABC001 late.tap
+    at salvaged.txt 1944 0025
+    at own.txt 1944 0025
+    folder files
+    0: unpack files late.tap --manifest | unpack files late.tap --verify
+    at files/ABC001.1.PAYROLL 1944 0025
+    3: unpack files again.tap --verify
+    | IMAGE MISSING late.tap
+    # An unreadable record of the length 0 is a bad block.
+    late bad.tap 8
+    3: survey bad.tap
+    | 1 unreadable
+    # What is left of such an image.
+    late cut.tap 7
+    cut cut.tap 38000
+    3: extract --again ABC001 1 cut.txt cut.tap
+    | AWAITS 1 1 1
+    0: extract --again ABC001 1 both.txt cut.tap late.tap
+    # No record of the extended format: the word is not repeated.
+    late damaged.tap 9
+    3: survey damaged.tap
+    | image fault 3 at byte 37940
+";
+
+#[test]
+fn extended_images_are_read(rt: HostRuntime) -> Result<(), Fail> {
+    follow_in(&rt, &Tape, "extended", EXTENDED)
+}
+
 const WRITTEN: &str = "
     0: init . ABC 2
     # A label, two tape marks and the end-of-medium marker.

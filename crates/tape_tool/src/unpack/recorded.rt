@@ -129,14 +129,15 @@ impl Record {
         images: &[Option<ImageSurvey>],
     ) -> Result<(), AllocError> {
         for (number, name) in names.iter().enumerate() {
-            if place_in(*name).1 > 0 || !self.has_used(names, *name) {
+            let (path, start) = place_in(*name);
+            if start > 0 || !self.has_used(names, path) {
                 continue;
             }
             let label = match images.get(number) {
                 Some(Some(image)) => label_of(image),
                 _ => None,
             };
-            let line = recorded_image(rt.alloc(), *name, read_sum(rt, *name), label)?;
+            let line = recorded_image(rt.alloc(), path, read_sum(rt, path), label)?;
             if !self.has(line.as_slice()) {
                 self.add(line.as_slice())?;
             }

@@ -5,6 +5,7 @@ use super::record::RECORD;
 use super::recorded::read_sum;
 use super::run::Run;
 use crate::fault::{FileFault, OUT_OF_MEMORY, ToolFault};
+use crate::readings::place_in;
 use crate::record_form::RecordForm;
 use crate::screen::{Host, Progress};
 use indexmap::IndexMap;
@@ -160,7 +161,8 @@ impl<R: Progress, P: Write> Run<'_, R, P> {
             if source.read.is_some() && reads.contains(&source.read) {
                 continue;
             }
-            let number = names.iter().position(|name| *name == source.name.as_str());
+            let path = source.name.as_str();
+            let number = names.iter().position(|name| place_in(*name).0 == path);
             let found = number.map(|number| reads.get(number).copied().flatten());
             let word = match (source.read, found) {
                 (None, _) | (_, Some(None)) => "IMAGE NOT READ ",
