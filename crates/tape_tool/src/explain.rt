@@ -298,7 +298,8 @@ const IMAGE: &str = "
   were listed. Copy it again, use other copies, or see 'tape convert --resync'.
 #3  The bytes there are not a record length: damage, a record or marker of SIMH's
   extended format, or an older recording after the end. All items before that
-  were listed. Copy it again, use other copies, or see 'tape convert --resync'.
+  were listed. 'tape convert' reads that format. If the image is damaged, copy it
+  again, use other copies, or see 'tape convert --resync'.
 #4  The image is longer than 4,294,967,295 bytes; tape reads no further.
   All items before that were listed.
 #5  The image could not be read there: is it a directory, or is the disk failing?

@@ -207,7 +207,7 @@ pub const AFTER_SURVEY: &str =
 sections in lists, in the order in which to act, each with what to do.
   Not opened: check the names, and that you may read the files
     lost.tap
-  No images of tapes: copy them again, decompress or convert them
+  Nothing was read: copy them again, decompress or convert them
     zip.tap                   no items
         image fault 3 at byte 0: a zip archive: 'unzip' unpacks it
   In conflict: find out which is right ('tape compare', 'tape list')

@@ -51,6 +51,27 @@ const DIFFERING: &str = "
     !   in hexadecimal 42 and 58.
     !   All later items that both images have agree.
     !   'tape show IMAGE 6' shows this item.
+    # No item follows the one that differs.
+    put last.tap \\02\\00\\00\\00AA\\02\\00\\00\\00
+    put other.tap \\02\\00\\00\\00BB\\02\\00\\00\\00
+    3: compare last.tap other.tap --explain
+    !   Bytes of item 1 that differ: 2 of 2. The first is byte 1,
+    !   in hexadecimal 41 and 42.
+    !   No later item is on both images.
+    !   'tape show IMAGE 1' shows this item.
+    # EOF2, before two marks, may be lost or may have been replaced by a third mark.
+    worked marks.tap third.tap
+    omit third.tap 9
+    3: compare marks.tap third.tap --explain
+    !   Item 10 is of another kind in each image.
+    !   All later items that both images have agree, also if the second image lost this
+    !   item, or the first one has it twice.
+    !   'tape show IMAGE 10' shows this item.
+    3: compare third.tap marks.tap --explain
+    !   Item 10 is of another kind in each image.
+    !   All later items that both images have agree, also if the first image lost an
+    !   item here, or the second one has this item twice.
+    !   'tape show IMAGE 10' shows this item.
     # No item differs: one image ends early, and an item of the other is unreadable.
     front early.tap 176
     worked spoiled.tap

@@ -146,9 +146,10 @@ fn rest_text<R: Read>(
     kept: (Kept, Kept),
 ) -> &'static str {
     let mut before = kept;
-    let (mut same, mut lost, mut added) = (true, true, true);
+    let (mut common, mut same, mut lost, mut added) = (false, true, true, true);
     for _ in 0..u64::MAX {
         let (first, second) = (Kept::of(next_of(one)), Kept::of(next_of(other)));
+        common = common || (first != Kept::End && second != Kept::End);
         same = same && first.agrees(second);
         lost = lost && first.agrees(before.1);
         added = added && before.0.agrees(second);
@@ -157,7 +158,15 @@ fn rest_text<R: Read>(
         }
         before = (first, second);
     }
-    if same {
+    if !common {
+        "No later item is on both images."
+    } else if same && lost {
+        "All later items that both images have agree, also if the second image lost this
+  item, or the first one has it twice."
+    } else if same && added {
+        "All later items that both images have agree, also if the first image lost an
+  item here, or the second one has this item twice."
+    } else if same {
         "All later items that both images have agree."
     } else if lost {
         "From here on the second image agrees with the first one item later: it may have

@@ -143,7 +143,8 @@ are not needed. A block of more than 99,999 bytes counts as bad.
            end; CUT if all the longest images end with a fault
   MERGED 1283 0 0 MARKED COUNT 1
            the trailer label of one section gives a different number of blocks:
-           one may have been lost in every reading of that section
+           one may have been lost in every reading of that section. Labels in
+           EBCDIC, with padding or without HDR2 are not counted
 
 If two images have different readable items at the same place, one of them is
 wrong, and nothing says which. OUT is not created:
@@ -167,8 +168,8 @@ An existing OUT or LOG is never overwritten ('tape: file fault 1'), and
 OUT appears only when it is complete. It contains no erase gaps, nothing after
 an end-of-medium marker, and no data of bad blocks, so keep the images.
 
-Exit status: 0 OUT has no bad item and no wrong count, 1 error, 2 usage error,
-3 OUT has one or ends within an item, or the images differ. 'tape survey OUT'
+Exit status: 0 OUT has no bad item and no COUNT, 1 error, 2 usage error, 3 OUT
+has one or ends within an item, or the images differ. 'tape survey OUT'
 says whether the volume is complete";
 
 pub const COMPARE_JSON: &str = "Print the lines as JSON, one object per line";
@@ -189,8 +190,8 @@ With --json each line is an object with its parts by their names; 'row' is the
 first word.
 
 Exit status: 0 the images agree, and the image that they would make has no bad
-item and no wrong count, 1 error, 2 usage error, 3 they differ, or that image
-has one or ends within an item";
+item and no COUNT, 1 error, 2 usage error, 3 they differ, or that image has one
+or ends within an item";
 
 // `convert`.
 pub const ABOUT_CONVERT: &str = "Make a SIMH image of an image of another format";

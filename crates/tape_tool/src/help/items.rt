@@ -19,9 +19,10 @@ pub const WRONG_ITEM: &str = "M must be one number from N to 4294967295";
 pub const NO_ITEM: &str = "the image ends before item N: 'tape list' shows its items";
 
 pub const AFTER_SHOW: &str =
-    "A block of 80 characters that begins as a label, in ASCII or in EBCDIC, is shown
-by its fields: positions, name and characters; so is one with padding. A byte that is not a printable
-character is shown in hexadecimal, after '\\x'; dates are shown as days, too.
+    "A block of 80 characters that begins as a label, in ASCII or in EBCDIC, is
+shown by its fields: positions, name and characters; so is one with padding.
+A byte that is not a printable character is shown in hexadecimal,
+after '\\x'; dates are shown as days, too.
   Item 1: label, 80 bytes at 4
      1-4   label identifier        \"VOL1\"
      5-10  volume identifier       \"ABC001\"
