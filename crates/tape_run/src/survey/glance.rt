@@ -123,15 +123,18 @@ pub(crate) fn head_in(phase: &Phase, item: Item<'_>) -> Option<Head1>
 fn trailer_in(phase: &Phase, bytes: &[u8]) -> Option<Head1>
     ensures { result ≡ trailer_in phase.now (trail1_at bytes.now) }
 {
-    let Ok(trail) = read_trail1(bytes) else {
-        return None;
-    };
     match phase {
-        Phase::Trailer(met) if met.closes(&trail) => Some(Head1 {
-            set_id: met.key.set_id,
-            ..trail.head
-        }),
-        Phase::Labels(_) | Phase::Next(_) => Some(trail.head),
+        Phase::Trailer(met) => match read_trail1(bytes) {
+            Ok(trail) if met.closes(&trail) => Some(Head1 {
+                set_id: met.key.set_id,
+                ..trail.head
+            }),
+            _ => None,
+        },
+        Phase::Labels(_) | Phase::Next(_) => match read_trail1(bytes) {
+            Ok(trail) => Some(trail.head),
+            Err(_) => None,
+        },
         _ => None,
     }
 }
