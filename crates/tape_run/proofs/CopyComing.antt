@@ -58,7 +58,7 @@ IsFormOf set key form = (s : Section) × (section_of set key.file key.sect ≡ S
     × IsHead2 s.hdr2 kinds.Hdr2 form
 
 abbrev pub IsFineForm : FileSet → Option FormNote → Type 0
-IsFineForm set (Some (Stated key form)) = IsFormOf set key form
+IsFineForm set (Some (Stated key form blocking)) = IsFormOf set key form
 IsFineForm set _ = ⊤
 
 -- the good copy has exactly the blocks of a section of the set, and ends as it does

@@ -237,7 +237,7 @@ module _ (set : FileSet) (lawful : IsLawful set) where
           → AllByRecursion (λ e. IsFineNote e.0 e.1) (with_trailer files.notes o item files.fit)
       behind None = fine.notes
       behind (Some key) = named key (lookup (same_file key) files.notes) refl
-  fine_form files image (Some (Stated key form)) fine h = record {
+  fine_form files image (Some (Stated key form blocking)) fine h = record {
     notes = stated (note_at files (file_key key.set_id key.file)) refl;
     heads = fine.heads;
     forms = first_one (first_form files.forms key);
@@ -253,7 +253,7 @@ module _ (set : FileSet) (lawful : IsLawful set) where
 
       stated : (o : Option FileNote) → note_at files (file_key key.set_id key.file) ≡ o
           → AllByRecursion (λ e. IsFineNote e.0 e.1) (with_form_of files.notes
-          (file_key key.set_id key.file) o (first_form files.forms key) image form)
+          (file_key key.set_id key.file) o (first_form files.forms key) image form blocking)
       stated None is = fine.notes
       stated (Some n) is = same_note files.notes (file_key key.set_id key.file) n _ is fine.notes
           refl (λ e. rw (e, calm_form (first_form files.forms key) refl) refl)

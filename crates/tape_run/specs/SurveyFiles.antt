@@ -1,6 +1,6 @@
 -- The facts about files in their header labels.
 use Rattle.std.specs.Prelude.{ℕ, ◌==◌, ◌&&◌, ◌||◌, not, if◌then◌else◌, Bool, true, false, List, []}
-use Rattle.std.specs.Prelude.{◌∷◌}
+use Rattle.std.specs.Prelude.{◌∷◌, unwrap_or, slice_get}
 use Rattle.std.specs.Prelude.{Option, Some, None, is_some, option_map, Result, Ok}
 use Rattle.std.specs.{Map.lookup, Str.bytes_eq}
 use Rattle.indexmap.specs.IndexMap.{insert_entry}
@@ -87,6 +87,7 @@ note_of None first image head = record {
   head = head;
   image = image;
   form = None;
+  blocking = 32;
   absent = false;
   trailers = false;
   doubted = false;
@@ -151,11 +152,16 @@ with_met files image (Some head) = with_head files image head
 abbrev pub absent_if : SectionKey → Bool → Option FormNote
 absent_if key is = if is then Some (Absent (file_key key.set_id key.file)) else None
 
--- a second header label of this kind, if it could be read as one; or a further header label in its
--- place, if it is one
-abbrev pub form_by : SectionKey → Option Kind → Result Head2 LabelFault → Bool → Option FormNote
-form_by key (Some Hdr2) (Ok form) is = Some (Stated key form)
-form_by key _ _ is = absent_if key is
+-- the character at position 39 of a second label, or a space if the label is too short
+abbrev pub blocking_in : List ℕ → ℕ
+blocking_in label = unwrap_or (slice_get label 38) 32
+
+-- a second header label of this kind, if it could be read as one, with the character at its
+-- position 39; or a further header label in its place, if it is one
+abbrev pub form_by : SectionKey → Option Kind → Result Head2 LabelFault → ℕ → Bool
+    → Option FormNote
+form_by key (Some Hdr2) (Ok form) blocking is = Some (Stated key form blocking)
+form_by key _ _ blocking is = absent_if key is
 
 -- a block of this kind behind a trailer label
 abbrev pub trailer_by : Option Kind → Option FormNote
@@ -170,7 +176,7 @@ trailer_by _ = None
 abbrev pub form_in : Phase → TapeItem → Option FormNote
 form_in (Second met) mark = Some (Absent (file_key met.key.set_id met.key.file))
 form_in (Second met) (block b) =
-    form_by met.key (kind_at b) (wide_head2_at b) (is_further_header b)
+    form_by met.key (kind_at b) (wide_head2_at b) (blocking_in b) (is_further_header b)
 form_in (Trailers volume) (block b) = trailer_by (kind_at b)
 form_in (Trailers volume) bad = Some (Trailer Doubted)
 form_in (Trailers volume) mark = Some (Trailer Closed)
@@ -189,13 +195,15 @@ form_conflict (Some first) image form =
     if is_other_form first.form form then Some (first.image, image) else None
 
 -- the record of a file after one more second label, on this image, of a section whose first second
--- label is given: the label of the file that was found first is kept
+-- label is given: the label of the file that was found first is kept, with the character at its
+-- position 39
 abbrev pub with_form_of : List Filed → FileKey → Option FileNote → Option FirstForm → ℕ → Head2
-    → List Filed
-with_form_of notes key None first image form = notes
-with_form_of notes key (Some note) first image form =
+    → ℕ → List Filed
+with_form_of notes key None first image form blocking = notes
+with_form_of notes key (Some note) first image form blocking =
     insert_entry same_file notes key (record note {
       form = option_or note.form (Some form);
+      blocking = if is_some note.form then note.blocking else blocking;
       conflict = option_or note.conflict (form_conflict first image form);
     })
 
@@ -236,12 +244,12 @@ with_trailer notes (Some key) item fit =
     with_trailer_of notes key (lookup (same_file key) notes) item fit
 
 -- the files after one more second label, on this image
-abbrev pub with_stated : Labelled → ℕ → SectionKey → Head2 → Labelled
-with_stated files image key form =
+abbrev pub with_stated : Labelled → ℕ → SectionKey → Head2 → ℕ → Labelled
+with_stated files image key form blocking =
     let first = first_form files.forms key in
     let file = file_key key.set_id key.file in
     record {
-      notes = with_form_of files.notes file (note_at files file) first image form;
+      notes = with_form_of files.notes file (note_at files file) first image form blocking;
       heads = files.heads;
       forms = with_first_form files.forms image key form first;
       reading = files.reading;
@@ -251,7 +259,8 @@ with_stated files image key form =
 -- the files after what an item of this image says about second labels, if it says anything
 abbrev pub with_form : Labelled → ℕ → Option FormNote → Labelled
 with_form files image None = files
-with_form files image (Some (Stated key form)) = with_stated files image key form
+with_form files image (Some (Stated key form blocking)) =
+    with_stated files image key form blocking
 with_form files image (Some (Absent key)) = record {
   notes = with_absent files.notes key (note_at files key);
   heads = files.heads;

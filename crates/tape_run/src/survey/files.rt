@@ -35,6 +35,9 @@ pub struct FileNote {
     pub image: usize,
     /// The second label that was found first, if one was supported.
     pub form: Option<Head2>,
+    /// The character at position 39 of that label, which says in labels of IBM systems how records
+    /// are blocked; a space if there is none.
+    pub blocking: u8,
     /// Whether a section without a second header label was found.
     pub absent: bool,
     /// Whether a section with a second trailer label was found.
@@ -147,6 +150,7 @@ fn note_of(note: Option<FileNote>, first: Option<FirstHead>, image: usize, head:
             head,
             image,
             form: None,
+            blocking: b' ',
             absent: false,
             trailers: false,
             doubted: false,

@@ -5,6 +5,7 @@ ghost use Rattle.tape_image.specs.Reader.{tape_item};
 ghost use Rattle.tape_run.specs.SurveyFiles.{form_in, with_form, same_file, with_form_of};
 ghost use Rattle.tape_run.specs.SurveyFiles.{with_absent, is_other_form, form_conflict, first_form};
 ghost use Rattle.tape_run.specs.SurveyFiles.{with_first_form, with_trailer, after_trailing};
+ghost use Rattle.tape_run.specs.SurveyFiles.{blocking_in};
 ghost use Rattle.tape_run.specs.declared.fault.RunFault.TheVariants as faults;
 
 use super::files::{FileKey, FileNote, FileNotes, Files, file_of};
@@ -19,8 +20,8 @@ use tape_label::{Head2, Kind, is_further_header, kind, read_wide_head2};
 /// What an item says about the second labels of a file, or of its image.
 #[derive(Clone, Copy)]
 pub(crate) enum FormNote {
-    /// The second label of a section, if it is supported.
-    Stated(SectionKey, Head2),
+    /// The second label of a section, if it is supported, and the character at its position 39.
+    Stated(SectionKey, Head2, u8),
     /// A section of the file has no second label.
     Absent(FileKey),
     /// What follows the trailer label of a section.
@@ -56,7 +57,9 @@ pub(crate) fn form_in(phase: &Phase, item: Item<'_>) -> Option<FormNote>
         (Phase::Second(met), Item::Mark) => Some(FormNote::Absent(file_of(&met.key))),
         (Phase::Second(met), Item::Block(bytes)) => {
             match (kind(bytes), read_wide_head2(bytes)) {
-                (Some(Kind::Hdr2), Ok(form)) => Some(FormNote::Stated(met.key, form)),
+                (Some(Kind::Hdr2), Ok(form)) => {
+                    Some(FormNote::Stated(met.key, form, blocking_in(bytes)))
+                }
                 _ if is_further_header(bytes) => Some(FormNote::Absent(file_of(&met.key))),
                 _ => None,
             }
@@ -71,6 +74,13 @@ pub(crate) fn form_in(phase: &Phase, item: Item<'_>) -> Option<FormNote>
     }
 }
 
+/// Returns the character at position 39 of a second label, or a space if it is too short.
+fn blocking_in(label: &[u8]) -> u8
+    ensures { result ≡ blocking_in label.now }
+{
+    label.get(38).copied().unwrap_or(b' ')
+}
+
 /// Records what an item of image number `image` said about second labels, if anything.
 pub(crate) fn note_form(
     files: &mut Files,
@@ -81,9 +91,15 @@ pub(crate) fn note_form(
     ensures ok { OnOk result (files.new ≡ with_form files.old image found) }
 {
     match found {
-        Some(FormNote::Stated(key, form)) => {
+        Some(FormNote::Stated(key, form, blocking)) => {
             let first = note_first_form(&mut files.forms, image, key, form)?;
-            note_form_of(&mut files.notes, file_of(&key), first, image, form)
+            note_form_of(
+                &mut files.notes,
+                file_of(&key),
+                first,
+                image,
+                (form, blocking),
+            )
         }
         Some(FormNote::Absent(key)) => note_absent(&mut files.notes, key),
         Some(FormNote::Trailer(item)) => {
@@ -201,17 +217,23 @@ fn note_form_of(
     key: FileKey,
     first: Option<FirstForm>,
     image: usize,
-    form: Head2,
+    second: (Head2, u8),
 ) -> Result<(), RunFault>
     ensures fault { IsOkUnless result faults.OutOfMemory }
     ensures ok { OnOk result (notes.new.entries ≡ with_form_of notes.old.entries key
-        (lookup (same_file key) notes.old.entries) first image form) }
+        (lookup (same_file key) notes.old.entries) first image second.0 second.1) }
 {
     let Some(note) = notes.get(&key).copied() else {
         return Ok(());
     };
+    let (form, blocking) = second;
     let note = FileNote {
         form: note.form.or(Some(form)),
+        blocking: if note.form.is_some() {
+            note.blocking
+        } else {
+            blocking
+        },
         conflict: note.conflict.or(form_conflict(first, image, &form)),
         ..note
     };

@@ -42,6 +42,7 @@ noted = record {
   head = made_on 1 (codes " 85100");
   image = 0;
   form = None;
+  blocking = 32;
   absent = false;
   trailers = false;
   doubted = false;

@@ -167,7 +167,12 @@ fn form_word(note: Option<&FileNote>) -> &'static str {
     match note.form {
         Some(form) => match form.format {
             Format::Undefined => ", U",
-            Format::Variable => ", V",
+            Format::Variable => match note.blocking {
+                b'B' => ", VB",
+                b'S' => ", VS",
+                b'R' => ", VBS",
+                _ => ", V",
+            },
             _ => "",
         },
         None if note.absent => ", blocks (no HDR2)",
