@@ -1,10 +1,12 @@
 -- The values that `write` derives from its arguments: the shape of all files, each file's head, and
 -- its path.
-use Rattle.std.specs.Prelude.{◌≡◌, ◌≢◌, ◌⊎◌, ℕ, ◌-◌, min, Bool, true, List, codes, replicate}
-use Rattle.std.specs.Prelude.{Option, Some, None}
+use Rattle.std.specs.Prelude.{◌≡◌, ◌≢◌, ◌⊎◌, ℕ, zero, suc, ◌+◌, ◌-◌, min, Bool, true, List, [], ◌∷◌}
+use Rattle.std.specs.Prelude.{codes, map, replicate, Option, Some, None}
 use Rattle.tape_label.specs.{declared.values.Format.Format, declared.values.Head1.Head1}
 use Rattle.tape_label.specs.declared.values.Format.TheVariants.{Fixed, Counted, Spanned}
 use Rattle.tape_label.specs.declared.values.Format.TheVariants.{Undefined, Variable}
+use Rattle.tape_writer.specs.{Coded.ebcdic_table}
+use Rattle.tape_core.specs.{NormalForm.Codes.to_ascii}
 use Rattle.tape_run.specs.{Dates.date_of, Dates.day_text, declared.survey.dates.Date.Date}
 
 -- The record length: the number that was specified. Without one it is, with D, the greatest that
@@ -42,3 +44,12 @@ plain_head file_id created = record {
   access = 32;
   implementation = replicate 13 32;
 }
+
+-- so many numbers, from n on
+abbrev pub numbers_from : ℕ → ℕ → List ℕ
+numbers_from n zero = []
+numbers_from n (suc count) = n ∷ numbers_from (n + 1) count
+
+-- each byte is read as the character that it was written for
+abbrev pub EbcdicIsRead : Type 0
+EbcdicIsRead = map to_ascii ebcdic_table ≡ numbers_from 0 256

@@ -3,6 +3,7 @@
 ghost use Rattle.tape_tool.specs.Cases.{CasesOfEnds, CasesOfFaults, CasesOfLines, CasesOfNames};
 ghost use Rattle.tape_tool.specs.{Cases.CasesOfStaging, CasesOfShowing.CasesOfShowing};
 ghost use Rattle.tape_tool.specs.{CasesOfWriting.CasesOfWriting, CasesOfWords.CasesOfWords};
+ghost use Rattle.tape_tool.specs.{Writing.EbcdicIsRead};
 
 use tape_stage::Disk;
 
@@ -18,4 +19,9 @@ pub fn cases<D: Disk>()
     ensures showing { CasesOfShowing }
     ensures writing { CasesOfWriting }
     ensures words { CasesOfWords }
+{}
+
+/// Each character of a label that `write` puts in EBCDIC is read back as the same character.
+pub fn ebcdic_is_read()
+    ensures { EbcdicIsRead }
 {}

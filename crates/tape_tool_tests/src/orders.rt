@@ -66,6 +66,10 @@ const REQUESTS: &str = "
     => write dir ABC 3221225472 Spanned 2048 offset=0 full=false Lines record=None date= 00000 A=a
     write dir ABC 9000 A=a --format S --date 1985-12-31 --dry-run
     => dry: write dir ABC 9000 Spanned 2048 offset=0 full=false Lines record=None date= 85365 A=a
+    write dir ABC 9000 A=a --format S --labels ebcdic
+    => ebcdic: write dir ABC 9000 Spanned 2048 offset=0 full=false Lines record=None date= 00000 A=a
+    write dir ABC 9000 A=a --format S --labels ascii
+    => write dir ABC 9000 Spanned 2048 offset=0 full=false Lines record=None date= 00000 A=a
     write dir ABC 9000 A=a --format S --date 2000-02-29
     => write dir ABC 9000 Spanned 2048 offset=0 full=false Lines record=None date=000060 A=a
     merge out a.tap b.tap => merge out log=none a.tap b.tap
@@ -203,8 +207,9 @@ fn write_write<W: fmt::Write>(f: &mut fmt::Formatter<W>, order: &WriteOrder<'_>)
     let prefix = id(&order.prefix.characters);
     write!(
         f,
-        "{}write {} ",
+        "{}{}write {} ",
         if order.dry { "dry: " } else { "" },
+        if order.ebcdic { "ebcdic: " } else { "" },
         order.folder
     )?;
     write!(f, "{prefix} {} {:?} ", order.capacity, order.format)?;

@@ -175,3 +175,44 @@ const PADDED: &str = "
 fn padding_is_reported(rt: HostRuntime) -> Result<(), Fail> {
     follow_in(&rt, &Tape, "padded", PADDED)
 }
+
+const WRITTEN: &str = "
+    # Labels are written in EBCDIC (VOL1, HDR1, EOF1), and data as they are.
+    put r.bin recordrecordrecordRECORDRECORDRECORD
+    $ write . EBC 100000 A=r.bin --format F --block 36 --record 18 --form raw --labels ebcdic
+    > VOLUME EBC001 504
+    > FILES 1 VOLUMES 1
+    length EBC001.tap 504
+    at EBC001.tap 4 \\E5\\D6\\D3\\F1
+    at EBC001.tap 92 \\C8\\C4\\D9\\F1
+    at EBC001.tap 272 recordrecordrecordRECORD
+    at EBC001.tap 320 \\C5\\D6\\C6\\F1
+    # The set is read back.
+    0: survey EBC001.tap =>   image 1: labels in EBCDIC
+    folder written
+    $ unpack --form raw written EBC001.tap
+    > FILE EBC001 1 COMPLETE 2 written/EBC001.1.A
+    > TOTAL 1 complete 0 existing 0 incomplete 0 in conflict 0 not found 0 failed
+    !   image 1: labels in EBCDIC
+    length written/EBC001.1.A 36
+    at written/EBC001.1.A 0 recordrecordrecordRECORD
+    0: extract --again --form raw EBC001 1 again.bin EBC001.tap =>   image 1: labels in EBCDIC
+    length again.bin 36
+    3$ extract EBC001 1 plain.bin EBC001.tap
+    > REEL 1 NOT LABELLED
+    > AWAITS 1 1 0
+    # So is one of two volumes.
+    0: write . EBM 1060 A=r.bin B=r.bin --format F --block 36 --record 18 --form raw --labels ebcdic
+    folder both
+    0: unpack --form raw both EBM001.tap EBM002.tap
+    length both/EBM001.1.A 36
+    length both/EBM001.2.B 36
+    # An image that exists is not overwritten.
+    1: write . EBC 100000 A=r.bin --labels ebcdic => tape: file fault 1
+    length EBC001.tap 504
+";
+
+#[test]
+fn labels_in_ebcdic_are_written(rt: HostRuntime) -> Result<(), Fail> {
+    follow_in(&rt, &Tape, "written_in_ebcdic", WRITTEN)
+}

@@ -17,6 +17,7 @@ pub mod Calls
 pub mod Left
 pub mod Closing
 pub mod Written
+pub mod Recoded
 pub mod Examples
 pub mod ExamplesOfInputs
 pub mod ExamplesOfFronts

@@ -3,6 +3,8 @@ pub mod Answers
 pub mod Tapes
 pub mod Kept
 pub mod Images
+-- labels in EBCDIC:
+pub mod Coded
 pub mod Fields
 pub mod Labels
 pub mod Told

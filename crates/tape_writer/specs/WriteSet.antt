@@ -9,7 +9,8 @@ use Rattle.tape_blocks.specs.{declared.parts.Form.Form, declared.parts.Shape.Sha
 use Rattle.tape_writer.specs.{declared.inputs.cut.Cut.TheVariants.Length}
 use Rattle.tape_writer.specs.{declared.inputs.cut.Cut.TheVariants.Lines}
 use Rattle.tape_writer.specs.{declared.inputs.cut.Cut.TheVariants.Whole, Images.AreImages}
-use Rattle.tape_writer.specs.{Told.IsWrittenSet, Told.Told, declared.inputs.cut.Cut.Cut}
+use Rattle.tape_writer.specs.{Coded.coded_tapes, Told.IsWrittenSet, Told.Told}
+use Rattle.tape_writer.specs.{declared.inputs.cut.Cut.Cut}
 use Rattle.tape_blocks.specs.declared.parts.Form.TheVariants as forms
 
 -- The images passed to the store are exactly those of the volumes of a valid set without unused
@@ -19,6 +20,12 @@ abbrev pub IsSetOfImages :
     (Bool → List (List ℕ) → Type 0) → List Vol1 → ℕ → List ℕ → List Told → Type 0
 IsSetOfImages H volumes capacity set_id told =
     IsWrittenSet (λ tapes. AreImages H None tapes) volumes capacity set_id told
+
+-- the same with labels in EBCDIC
+abbrev pub IsSetInEbcdic :
+    (Bool → List (List ℕ) → Type 0) → List Vol1 → ℕ → List ℕ → List Told → Type 0
+IsSetInEbcdic H volumes capacity set_id told =
+    IsWrittenSet (λ tapes. AreImages H None (coded_tapes tapes)) volumes capacity set_id told
 
 -- raw inputs are cut into records in format F, and are one record in format S
 abbrev pub raw_cut : Format → ℕ → Option Cut

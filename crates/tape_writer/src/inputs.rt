@@ -9,4 +9,5 @@ pub use chunk::Chunk;
 pub use cut::{Cut, Piece, cut_of, longest};
 pub use files::{Input, write_files};
 pub use records::{InputFault, Records};
+pub(crate) use set::write_set_in_ebcdic;
 pub use set::{RefusedSet, SetPlan, WrittenSet, write_set};

@@ -3,6 +3,7 @@
 
 mod blank;
 mod course;
+mod ebcdic;
 mod fault;
 mod fields;
 mod images;
@@ -19,6 +20,7 @@ mod tape;
 
 pub use blank::{BLANK, BlankImage, Prefix, blank_image, blank_volume};
 pub use course::{Course, Opened};
+pub use ebcdic::EbcdicTapes;
 pub use fault::{OutFault, SetFault, WriteFault};
 pub use images::ImageTapes;
 pub use inputs::{

@@ -84,6 +84,7 @@ pub fn ended<R: Host>(
         capacity,
         shape,
         form: Form::Raw,
+        ebcdic: false,
         dry: false,
     };
     planned(rt, &plan, bytes)
@@ -252,6 +253,7 @@ fn a_dry_run(rt: HostRuntime) -> Result<(), Fail> {
         capacity: 100_000,
         shape: FIXED,
         form: Form::Raw,
+        ebcdic: false,
         dry: true,
     };
     for (blank, fault) in [

@@ -34,6 +34,8 @@ into records, S takes it as one record";
 pub const DATE: &str = "Creation date in the labels, such as 1985-04-23
 [default: none]";
 
+pub const LABELS: &str = "Code of labels: ascii or ebcdic";
+
 pub const DRY_RUN: &str = "Create nothing, only read the files and print the volumes";
 
 // `init` and `write`: errors in arguments.
@@ -68,6 +70,10 @@ any other is refused ('tape: file fault 1'). The set is named after its first
 volume. If writing fails, the images that were created are removed. Blank ones
 that were begun are no longer blank: remove them before you try again. With
 --explain the error names the input, and the line that is too long.
+
+With '--labels ebcdic' the labels are in EBCDIC (code page 037), as on tapes of
+IBM systems; the data are the same. 'tape survey', 'unpack', 'salvage' and
+'extract --again' read such labels; 'list', 'check' and plain 'extract' do not.
 
 Label faults:
   6  ID contains a character other than A to Z, 0 to 9, space and

@@ -46,6 +46,7 @@ pub fn write<'a, R: Progress>(
         capacity: order.capacity,
         shape: shape_of(order)?,
         form: order.form,
+        ebcdic: order.ebcdic,
         dry: order.dry,
     };
     // None of the heads is stored, since there may be thousands.

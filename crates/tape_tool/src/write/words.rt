@@ -18,6 +18,8 @@ const FORMATS: &[&str] = &["F", "D", "S"];
 
 const FORMS: &[&str] = &["lines", "raw"];
 
+const CODES: &[&str] = &["ascii", "ebcdic"];
+
 /// The maximum of a block length and a record length.
 const MOST: u64 = 4_294_967_295;
 
@@ -47,6 +49,8 @@ pub struct WriteOrder<'a> {
     pub form: Form,
     /// The creation date in the labels of all files.
     pub created: Field<6>,
+    /// Whether the labels are in EBCDIC.
+    pub ebcdic: bool,
     /// Whether the set is only measured.
     pub dry: bool,
 }
@@ -75,6 +79,11 @@ pub const WRITE: &CommandSpec = &CommandSpec {
             help::FORM,
         ),
         Word("date", Kind::TextOption("DATE"), help::DATE),
+        Word(
+            "labels",
+            Kind::NameOption("CODE", CODES, &["ascii"]),
+            help::LABELS,
+        ),
         Word("dry-run", Kind::Flag, help::DRY_RUN),
     ],
 };
@@ -98,6 +107,7 @@ pub fn write_order<'a>(alloc: Global, matches: &ArgMatches<'a>) -> Result<WriteO
         pad_full: matches.get_flag("pad-full"),
         form: form_of(matches),
         created,
+        ebcdic: text_of(matches, "labels") == "ebcdic",
         dry: matches.get_flag("dry-run"),
     };
     match wrong(&order) {

@@ -10,6 +10,8 @@ use Rattle.tape_writer.specs.{declared.phase.Phase.TheVariants.Finished, Tapes.T
 use Rattle.tape_writer.specs.{LeftOf.WroteBy, Told.Told, Told.IsWrittenSet, Told.opened_by}
 use Rattle.tape_writer.specs.{State.SameSet, State.SetState, State.IsWriting, Records.records_of}
 use Rattle.tape_writer.specs.ToldFiles.{IfAllKnown, told_files, InOne}
+use Rattle.tape_writer.specs.declared.ebcdic.EbcdicTapes.{EbcdicTapes}
+use Rattle.tape_writer.specs.{WriteSet.IsSetInEbcdic, Coded.HoldsCoded}
 use Rattle.tape_writer.specs.{WriteSet.IsSetOfImages, Images.Images, Images.AreImages, Images.Holds}
 
 -- ---- a finished writer of images, and known inputs
@@ -42,6 +44,26 @@ pub set_of_images : {S : Type 0} (H : S → Bool → List (List ℕ) → Type 0)
 set_of_images H w store vs d t told done a b e i h = rw (← i, ← e, ← b, ← a)
     (of_images (H w.out.store) w.out.image w.volumes w.capacity w.set_id told
     (finished_set (λ t. Holds H w.out t) w told done h))
+
+-- the same with labels in EBCDIC
+pub set_in_ebcdic : {S : Type 0} (H : S → Bool → List (List ℕ) → Type 0)
+    (w : SetState (EbcdicTapes (Images S))) (store : S) (vs : List Vol1) (d : ℕ) (t : List ℕ)
+    (told : List Told) → w.phase ≡ Finished → w.volumes ≡ vs → w.capacity ≡ d → w.set_id ≡ t
+    → w.out.out.store ≡ store
+    → IsWriting (λ t. HoldsCoded (λ u. Holds H w.out.out u) w.out.part t) w told
+    → IsSetInEbcdic (H store) vs d t told
+set_in_ebcdic H w store vs d t told done a b e i h =
+    let is = finished_set (λ t. HoldsCoded (λ u. Holds H w.out.out u) w.out.part t) w told done h in
+    rw (← i, ← e, ← b, ← a) (record {
+      layout = is.layout;
+      lawful = is.lawful;
+      tight = is.tight;
+      held = (refl, is.held.0.1);
+      within = is.within;
+      of_set = is.of_set;
+      of_volumes = is.of_volumes;
+      files = is.files;
+    })
 
 pub all_known : (xs : List (Head1 × Option (List ℕ))) (P Q : List (Head1 × List ℕ) → Type 0)
     → IfAllKnown xs P → ((fs : List (Head1 × List ℕ)) → P fs → Q fs) → IfAllKnown xs Q

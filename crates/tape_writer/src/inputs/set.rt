@@ -8,9 +8,10 @@ ghost use Rattle.tape_writer.specs.Fields.{IsText, IsTextVolume, IsTextHead};
 ghost use Rattle.tape_writer.specs.Images.{Holds, HasStopped};
 ghost use Rattle.tape_writer.specs.ToldFiles.{IfAllKnown, told_files};
 ghost use Rattle.tape_writer.specs.LeftOf.{HasNoVolume, IsLeftSet};
-ghost use Rattle.tape_writer.specs.WriteSet.{IsSetOfImages, cut_of as cut_by};
+ghost use Rattle.tape_writer.specs.WriteSet.{IsSetOfImages, IsSetInEbcdic, cut_of as cut_by};
 ghost use Rattle.tape_writer.specs.WriteFaults.{IsSetFault, IsOfInput};
 
+use crate::ebcdic::EbcdicTapes;
 use crate::fault::{SetFault, WriteFault};
 use crate::fields::is_text_head;
 use crate::images::ImageTapes;
@@ -140,6 +141,63 @@ pub fn write_set<R: Read, S: ImageStore + Drop>(
         return Err(left(SetFault::Write(fault), writer.into_out()));
     }
     let tapes = writer.into_out();
+    let (images, _) = tapes.into_parts();
+    Ok(WrittenSet {
+        files: files.len(),
+        images,
+    })
+}
+
+/// Writes files as a set, as `write_set` does, with the labels in EBCDIC.
+///
+/// # Errors
+///
+/// The errors are those of `write_set`.
+pub(crate) fn write_set_in_ebcdic<R: Read, S: ImageStore + Drop>(
+    alloc: Global,
+    plan: SetPlan,
+    files: &mut [Input<R>],
+    images: S,
+) -> Result<WrittenSet<S>, RefusedSet<S>>
+    ensures written { S.holds images false [] → IfOk result (λ done.
+        IfSome (cut_by plan.form plan.shape) (λ cut.
+        IfAllKnown (map (λ f. (f.head, R.remaining f.reader)) files.old) (λ fs.
+        IsSetInEbcdic (S.holds done.images) plan.volumes.items plan.capacity plan.set_id
+        (told_files plan.set_id plan.shape cut 1 fs)))) }
+    ensures files { IfOk result (λ done. done.files ≡ length files.old) }
+{
+    let SetPlan {
+        set_id,
+        volumes,
+        capacity,
+        shape,
+        form,
+    } = plan;
+    let out = ImageTapes::new(images);
+    let tapes = EbcdicTapes::new(out);
+    let Some(cut) = cut_of(form, &shape) else {
+        let fault = SetFault::Write(WriteFault::BadShape);
+        return Err(left(fault, tapes.into_out()));
+    };
+    let mut writer = match SetWriter::new(alloc, set_id, volumes, capacity, tapes) {
+        Ok(writer) => writer,
+        Err(refused) => {
+            let fault = SetFault::Write(refused.fault);
+            return Err(left(fault, refused.out.into_out()));
+        }
+    };
+    if !are_text_heads(files) {
+        let fault = SetFault::Write(WriteFault::BadField);
+        return Err(left(fault, writer.into_out().into_out()));
+    }
+    if let Err(fault) = write_files(alloc, &mut writer, files, shape, cut) {
+        return Err(left(fault, writer.into_out().into_out()));
+    }
+    if let Err(fault) = writer.finish() {
+        return Err(left(SetFault::Write(fault), writer.into_out().into_out()));
+    }
+    let coded = writer.into_out();
+    let tapes = coded.into_out();
     let (images, _) = tapes.into_parts();
     Ok(WrittenSet {
         files: files.len(),

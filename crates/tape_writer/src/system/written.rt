@@ -4,7 +4,7 @@ ghost use Rattle.tape_writer.specs.{Blank.blank_volumes, Blank.volume_id, System
 
 use crate::blank::{Prefix, blank_volume};
 use crate::fault::{SetFault, WriteFault};
-use crate::inputs::{Input, RefusedSet, SetPlan, write_set};
+use crate::inputs::{Input, RefusedSet, SetPlan, write_set, write_set_in_ebcdic};
 use crate::system::Host;
 use crate::system::fault::{FileFault, SystemFault};
 use crate::system::image_file::NO_MEMORY;
@@ -24,6 +24,8 @@ pub struct FolderPlan<'a> {
     pub capacity: u32,
     pub shape: Shape,
     pub form: Form,
+    /// Whether the labels are in EBCDIC.
+    pub ebcdic: bool,
     /// Whether the images are only measured: nothing is created or changed.
     pub dry: bool,
 }
@@ -66,7 +68,12 @@ pub fn write_in_folder<R: Host, I: Read>(
         shape: plan.shape,
         form: plan.form,
     };
-    match write_set(rt.alloc(), set, files, images) {
+    let written = if plan.ebcdic {
+        write_set_in_ebcdic(rt.alloc(), set, files, images)
+    } else {
+        write_set(rt.alloc(), set, files, images)
+    };
+    match written {
         Ok(done) => Ok(done.images.ended),
         Err(refused) => Err(told(refused)),
     }
