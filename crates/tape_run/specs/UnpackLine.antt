@@ -6,7 +6,7 @@ use Rattle.tape_run.specs.declared.unpack.line.UnpackOutcome.TheVariants.{Lacks,
 use Rattle.tape_run.specs.declared.unpack.line.UnpackOutcome.TheVariants.{NotFound, Failed}
 use Rattle.tape_run.specs.declared.unpack.line.UnpackOutcome.TheVariants.{Salvaged, StageKept}
 use Rattle.tape_run.specs.declared.unpack.line.UnpackOutcome.TheVariants.{Different, NotCompared}
-use Rattle.tape_run.specs.declared.unpack.line.UnpackOutcome.TheVariants.{Differs, Uncounted}
+use Rattle.tape_run.specs.declared.unpack.line.UnpackOutcome.TheVariants.{Differs, Uncounted, Staged}
 use Rattle.tape_run.specs.declared.unpack.line.Notice.TheVariants.{NoSet, NoFile, Unread, AfterEnd}
 use Rattle.tape_run.specs.{Identifier.identifier_text, Quoting.name_text}
 
@@ -26,6 +26,7 @@ unpack_outcome_text Salvaged = codes "SALVAGED"
 unpack_outcome_text StageKept = codes "STAGE KEPT"
 unpack_outcome_text Differs = codes "SECTION DIFFERS"
 unpack_outcome_text Uncounted = codes "UNCOUNTED"
+unpack_outcome_text Staged = codes "STAGED"
 
 -- a path, if there is one
 abbrev pub path_text : List ℕ → List ℕ

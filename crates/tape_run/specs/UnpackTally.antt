@@ -6,7 +6,7 @@ use Rattle.tape_run.specs.declared.unpack.line.UnpackOutcome.TheVariants.{Lacks,
 use Rattle.tape_run.specs.declared.unpack.line.UnpackOutcome.TheVariants.{NotFound, Failed}
 use Rattle.tape_run.specs.declared.unpack.line.UnpackOutcome.TheVariants.{Salvaged, StageKept}
 use Rattle.tape_run.specs.declared.unpack.line.UnpackOutcome.TheVariants.{Different, NotCompared}
-use Rattle.tape_run.specs.declared.unpack.line.UnpackOutcome.TheVariants.{Differs, Uncounted}
+use Rattle.tape_run.specs.declared.unpack.line.UnpackOutcome.TheVariants.{Differs, Uncounted, Staged}
 
 -- nothing was reported
 abbrev pub nothing_counted : Tally
@@ -39,6 +39,7 @@ counted t Salvaged files = t
 counted t StageKept files = t
 counted t Differs files = t
 counted t Uncounted files = t
+counted t Staged files = t
 
 -- the last line
 abbrev pub total_line : Tally → List ℕ

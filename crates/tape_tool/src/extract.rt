@@ -21,6 +21,7 @@ use crate::recording::{PROVENANCE, ReadImages, new_record, provenance_of, record
 use crate::refusal::{Refusal, is_file};
 use crate::relabel::{JOIN, RENUMBER, Relabels, relabel, relabels_of};
 use crate::screen::Progress;
+use crate::staged::note_staged;
 use crate::uncounted::report_uncounted;
 use crate::unpack::{Listed, Record};
 use crate::words::{FORM, TEXT, named, out_of, record_form_of, set_id_of, text_of};
@@ -32,7 +33,7 @@ pub use recovery::end_as_written;
 use std::alloc::Global;
 use std::io;
 use tape_label::Field;
-use tape_run::{AsTheyAre, FoundFiles, find_files};
+use tape_run::{AsTheyAre, FileKey, FoundFiles, find_files};
 use tape_set::Want;
 
 /// The request to `extract`: a file of a set, to be recovered from images in their order.
@@ -254,6 +255,10 @@ fn extract_planned<'n, 'a, R: Progress>(
         ..order.task
     };
     let end = read_planned(rt, task, plan, way, listed, site)?;
+    if end == End::Done {
+        let Task { set_id, file, .. } = *task;
+        note_staged(rt, plan.met.as_ref(), FileKey { set_id, file }, listed);
+    }
     let end = report_uncounted(rt, task.set_id, task.file, end, &mut io::writer(rt));
     let (Some(met), Some(path)) = (&plan.met, order.provenance) else {
         return Ok(end);

@@ -33,6 +33,7 @@ mod screen;
 mod show;
 mod shown;
 mod stage;
+mod staged;
 mod staging;
 mod uncounted;
 mod unpack;

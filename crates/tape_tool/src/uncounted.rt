@@ -3,15 +3,19 @@
 use crate::fault::ToolFault;
 use crate::program::End;
 use crate::screen::Progress;
+use crate::staged::{StagedRows, row_text};
 use std::alloc::{AllocError, Global};
 use std::cell::{Cell, RefCell};
 use std::io::Write;
 use tape_label::{Field, Head1};
-use tape_run::{SectionKey, write_text};
+use tape_run::{FileKey, SectionKey, write_text};
 
-/// The sections whose trailer labels have no block count, in the order in which those were read.
+/// The sections whose trailer labels have no block count, in the order in which those were read,
+/// and those of which the run cannot know it.
 #[derive(Drop)]
 pub struct Uncounted {
+    /// The sections of complete files of which this run cannot know it.
+    pub staged: StagedRows,
     sections: RefCell<Vec<SectionKey>>,
     /// Whether there was no memory for all of them.
     is_short: Cell<bool>,
@@ -21,6 +25,7 @@ impl Uncounted {
     /// Contains no section.
     pub fn new(alloc: Global) -> Uncounted {
         Uncounted {
+            staged: StagedRows::new(alloc),
             sections: RefCell::new(Vec::new(alloc)),
             is_short: Cell::new(false),
         }
@@ -78,8 +83,15 @@ pub fn uncounted_of<R: Progress>(
     Ok(numbers)
 }
 
-/// Prints a line for each section of a file whose blocks are not counted, with its number, unless
-/// the run ended with a fault. Returns how it ends now.
+/// Returns whether the blocks of all sections of a file are counted, as far as this run knows.
+pub fn are_counted<R: Progress>(rt: &R, key: FileKey) -> Result<bool, AllocError> {
+    let staged = rt.uncounted().staged.of(rt.alloc(), key)?;
+    Ok(staged.is_empty() && uncounted_of(rt, key.set_id, key.file)?.is_empty())
+}
+
+/// Prints a line for each section of a file whose blocks are not counted, with its number, and then
+/// one for each row of sections that came from its stage alone, unless the run ended with a fault.
+/// Returns how it ends now.
 pub fn report_uncounted<R: Progress, W: Write>(
     rt: &R,
     set_id: Field<6>,
@@ -90,20 +102,26 @@ pub fn report_uncounted<R: Progress, W: Write>(
     if !matches!(end, End::Done | End::Incomplete) {
         return end;
     }
-    let done = match uncounted_of(rt, set_id, file) {
-        Ok(numbers) => put_numbers(rt.alloc(), numbers.as_slice(), report),
-        Err(fault) => Err(ToolFault::from(fault)),
-    };
-    match done {
+    match put_uncounted(rt, FileKey { set_id, file }, report) {
         Ok(()) => end,
         Err(fault) => End::Faulted(fault),
     }
 }
 
-/// Prints the lines of the sections with these numbers.
-fn put_numbers<W: Write>(alloc: Global, numbers: &[u16], report: &mut W) -> Result<(), ToolFault> {
-    for number in numbers {
+/// Prints these lines of a file.
+fn put_uncounted<R: Progress, W: Write>(
+    rt: &R,
+    key: FileKey,
+    report: &mut W,
+) -> Result<(), ToolFault> {
+    let alloc = rt.alloc();
+    for number in &uncounted_of(rt, key.set_id, key.file)? {
         let line = format!(in alloc; "UNCOUNTED {number}\n")?;
+        write_text(report, line.as_bytes())?;
+    }
+    for row in &rt.uncounted().staged.of(alloc, key)? {
+        let numbers = row_text(alloc, *row)?;
+        let line = format!(in alloc; "STAGED{numbers}\n")?;
         write_text(report, line.as_bytes())?;
     }
     Ok(())

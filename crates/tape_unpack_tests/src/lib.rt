@@ -16,6 +16,8 @@ mod record_program;
 #[cfg(test)]
 mod relabel_program;
 #[cfg(test)]
+mod staged_program;
+#[cfg(test)]
 mod tape;
 #[cfg(test)]
 mod text_program;

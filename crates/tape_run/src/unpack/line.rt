@@ -43,6 +43,8 @@ pub enum UnpackOutcome {
     Differs,
     /// A further line about a file: the blocks of this section are not counted.
     Uncounted,
+    /// A further line about a complete file: these sections came from its stage alone.
+    Staged,
 }
 
 /// Returns the words that `unpack` prints for an outcome.
@@ -64,6 +66,7 @@ pub fn unpack_outcome_text(outcome: UnpackOutcome) -> &'static [u8]
         UnpackOutcome::StageKept => b"STAGE KEPT",
         UnpackOutcome::Differs => b"SECTION DIFFERS",
         UnpackOutcome::Uncounted => b"UNCOUNTED",
+        UnpackOutcome::Staged => b"STAGED",
     }
 }
 

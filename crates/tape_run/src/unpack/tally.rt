@@ -65,7 +65,8 @@ impl Tally {
             UnpackOutcome::Salvaged
             | UnpackOutcome::StageKept
             | UnpackOutcome::Differs
-            | UnpackOutcome::Uncounted => {}
+            | UnpackOutcome::Uncounted
+            | UnpackOutcome::Staged => {}
         }
     }
 }

@@ -10,6 +10,7 @@ use crate::program::{End, extract_end};
 use crate::record_form::Under;
 use crate::refusal::are_files;
 use crate::screen::Progress;
+use crate::staged::staged_before;
 use crate::staging::{StageSink, session_in};
 use crate::unpack::{Listed, Summed};
 use crate::warned::Warned;
@@ -49,6 +50,7 @@ where
     };
     *site = FaultSite::Stage(path);
     let mut session = session_in(rt.host(), path, task.set_id, task.file)?;
+    listed.staged = staged_before(session.want());
     if task.wide {
         session.widen();
     }

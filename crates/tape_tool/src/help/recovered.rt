@@ -109,7 +109,9 @@ followed by ' IMAGE CAUSE OFFSET' if the image itself ended the reading ('tape
 --help' lists the causes). The last line is 'COMPLETE n' (n records), or 'AWAITS
 FILE SECTION BLOCK', the first block that is missing, counted from 0, and the
 part of it if some of its parts were read. With --again 'UNCOUNTED n' follows if
-section n has no block count, so that a missing block would not be noticed.
+section n has no block count, so that a missing block would not be noticed, and
+'STAGED m n' if a complete file has sections m to n from its stage, and no image
+has their block counts: the runs that read them reported missing ones.
 
 With --again the numbering continues: the second pass over three images is
 REEL 4 to REEL 6. With --explain the name of each image precedes its line, on
@@ -210,6 +212,9 @@ One line per file:
            perhaps labels among its data
   FILE ABC001 2 UNCOUNTED 1
            section 1 has no block count: a missing block would not be noticed
+  FILE ABC001 2 STAGED 2 3
+           a complete file has sections 2 and 3 from its stage, and no image has
+           their block counts: the runs that read them reported missing ones
   FILE ABC001 3 EXISTS ../out/ABC001.3.TAXES
            a file of this name exists, and has exactly the records of this one
   FILE ABC001 3 DIFFERENT ../out/ABC001.3.TAXES

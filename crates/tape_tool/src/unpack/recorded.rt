@@ -10,7 +10,7 @@ use crate::readings::place_in;
 use crate::record_form::RecordForm;
 use crate::refusal::open;
 use crate::screen::{Host, Progress};
-use crate::uncounted::uncounted_of;
+use crate::uncounted::are_counted;
 use crate::words::form_word;
 use std::alloc::{AllocError, Global};
 use std::fs;
@@ -264,7 +264,7 @@ pub fn written_at<R: Progress>(
 ) -> Result<WrittenFile, ToolFault> {
     let there = found(fs::metadata(rt.host(), path))?;
     let size = there.map_or(0, |there| there.len());
-    let blocks_counted = uncounted_of(rt, key.set_id, key.file)?.is_empty();
+    let blocks_counted = are_counted(rt, key)?;
     Ok(WrittenFile {
         form,
         is_text,

@@ -12,13 +12,14 @@ use crate::normal::{Normal, NormalImages};
 use crate::program::{End, end_of, extract_end};
 use crate::record_form::Under;
 use crate::screen::Progress;
+use crate::staged::{note_staged, staged_before};
 use crate::staging::{StageSink, session_in};
 use std::alloc::AllocError;
 use std::fs;
 use std::io::Write;
 use tape_label::Field;
 use tape_run::{
-    BlockRun, Locations, Mounted, OutSink, Session, SetFile, extract_located, is_passed, last_line,
+    BlockRun, FileKey, Locations, Mounted, OutSink, Session, SetFile, extract_located, is_passed, last_line,
     position_of, runs_of, write_text,
 };
 use tape_set::Want;
@@ -166,6 +167,7 @@ impl<'n, R: Progress, P: Write> Run<'n, R, P> {
         last: &mut LastLine,
     ) -> Result<End, ToolFault> {
         let rt = self.rt;
+        listed.staged = staged_before(session.want());
         let names = self.names_for(task.set_id, session.want())?;
         let images = &mut NormalImages::again(rt, names.as_slice());
         let (draft, out) = Draft::over(rt, task.out, None)?;
@@ -177,6 +179,10 @@ impl<'n, R: Progress, P: Write> Run<'n, R, P> {
         listed.sum = place.found.take();
         listed.want = session.want();
         let end = place.draft.ended(extract_end(answer));
+        if end == End::Done {
+            let Task { set_id, file, .. } = *task;
+            note_staged(rt, Some(self.met), FileKey { set_id, file }, listed);
+        }
         self.note_passes(names.as_slice(), opener, listed)?;
         Ok(end)
     }

@@ -5,6 +5,7 @@ use crate::fault::{FaultLine, ToolFault};
 use crate::program::End;
 use crate::readings::{place_in, printed_name};
 use crate::screen::Progress;
+use crate::staged::row_text;
 use crate::uncounted::uncounted_of;
 use crate::words::form_word;
 use arrayvec::ArrayVec;
@@ -12,7 +13,7 @@ use std::alloc::AllocError;
 use std::io::Write;
 use std::{io, mem};
 use tape_run::{
-    Notice, SetFile, UnpackOutcome, is_of_set, is_read, means, notice_line, report_file,
+    FileKey, Notice, SetFile, UnpackOutcome, is_of_set, is_read, means, notice_line, report_file,
     total_line, write_text,
 };
 
@@ -104,17 +105,21 @@ impl<R: Progress, P: Write> Run<'_, R, P> {
         Ok(details)
     }
 
-    /// Prints the sections of a file whose blocks are not counted.
+    /// Prints the sections of a file whose blocks are not counted, and the rows of those that came
+    /// from its stage alone.
     pub fn tell_uncounted(&mut self, file: &SetFile) -> Result<(), ToolFault> {
-        let numbers = uncounted_of(self.rt, file.set_id, file.file)?;
-        self.tell_numbers(file, numbers.as_slice())
-    }
-
-    /// Prints the sections of a file with these numbers, whose blocks are not counted.
-    fn tell_numbers(&mut self, file: &SetFile, numbers: &[u16]) -> Result<(), ToolFault> {
-        for number in numbers {
-            let details = format!(in self.rt.alloc(); " {number}")?;
+        let (rt, alloc) = (self.rt, self.rt.alloc());
+        for number in &uncounted_of(rt, file.set_id, file.file)? {
+            let details = format!(in alloc; " {number}")?;
             self.tell(file, UnpackOutcome::Uncounted, details.as_bytes(), "")?;
+        }
+        let key = FileKey {
+            set_id: file.set_id,
+            file: file.file,
+        };
+        for row in &rt.uncounted().staged.of(alloc, key)? {
+            let details = row_text(alloc, *row)?;
+            self.tell(file, UnpackOutcome::Staged, details.as_bytes(), "")?;
         }
         Ok(())
     }

@@ -27,6 +27,8 @@ pub struct Listed {
     pub runs: Vec<BlockRun>,
     /// The first part of the file that is missing, after a recovery on its stage.
     pub want: Option<Want>,
+    /// The number of its sections that were complete on its stage before.
+    pub staged: u16,
     /// The numbers of the images with a doubtful copy of that section, counted from 0.
     pub doubtful: Vec<usize>,
 }
@@ -39,6 +41,7 @@ impl Listed {
             sum: None,
             runs: Vec::new(alloc),
             want: None,
+            staged: 0,
             doubtful: Vec::new(alloc),
         }
     }
