@@ -134,6 +134,8 @@ class Tape:
         self.images = [self.image(items) for items in self.volumes]
         if self.damage and rng.random() < .3:
             self.harm_image()
+        for _ in range(rng.choice([1, 1, 2, 3]) if rng.random() < .2 else 0):
+            self.harm_word()
 
     def arrange(self):
         """The items of each volume: as in the model, with the role of each. The second volume
@@ -226,3 +228,30 @@ class Tape:
             self.images[at] = data[:place] + byte + data[place + 1:]
             self.is_silent = True
         self.damage.append("image")
+
+    def harm_word(self):
+        at = self.rng.randrange(len(self.images))
+        self.images[at] = with_wrong_word(self.rng, self.images[at])
+        self.damage.append("word")
+        self.is_silent = True
+
+
+def with_wrong_word(rng, data):
+    """An image with a wrong word: it is changed or removed, or bytes around it are."""
+    place = rng.choice(words_of(data))
+    if rng.random() < .3:
+        new = model.word(rng.choice([80, 7, 0x80000050, 0x10000002, 100_000]))
+        return data[:place] + new + data[place + 4:]
+    start, size = max(0, place - rng.choice([0, 0, 1, 40])), rng.choice([1, 2, 4, 4, 60, 400])
+    new = rng.choice([b"", rng.randbytes(size), bytes(size), data[start:start + size] + b"?"])
+    return data[:start] + new + data[start + size:]
+
+
+def words_of(data):
+    """The places of the words of an image, up to its end or a fault."""
+    found, at, kind = [], 0, ""
+    while kind in ("", "mark", "gap", "bad", "block"):
+        kind, _, end = model.head_at(data, at)
+        found += [at] if end <= at + 4 else [at, end - 4]
+        at = end
+    return found

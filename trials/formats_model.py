@@ -6,21 +6,21 @@
 Each tape is a set of one to three files on one or two volumes, drawn (drawn_sets.py) from its own
 seed: formats F, D, S, U, V, VB and VBS, or no HDR2; buffer offsets; padding with circumflexes, NULs
 or spaces; gaps, pad bytes, user labels. More than half of the tapes are damaged: items that are
-unreadable, lost or doubled, wrong bytes, truncated images, faults of the image.
+unreadable, lost or doubled, wrong bytes, truncated images, wrong words.
 
-The model (tape_model.py, normal_form.py, read_model.py, survey_model.py, salvage_model.py) is written
-from docs/FORMATS.md and docs/REFERENCE.md. `survey --tsv` must print its sections; `unpack` in each
-form must report and write its files, byte for byte; `extract --again` of one file must print its
-lines; the stage of an incomplete file must have its records. And the records that were written are
-known: they must be those of the model if a tape is whole, and those of each file that is COMPLETE,
-unless the damage cannot be noticed, such as a wrong byte in a record. Of what was written in the
-form counted the records must come back by their lengths.
+The model (tape_model.py, normal_form.py, further_model.py, read_model.py, survey_model.py,
+salvage_model.py) is written from docs/FORMATS.md and docs/REFERENCE.md, with what is read after
+wrong words. `survey --tsv` must print its sections; `unpack` in each form must report and write its
+files, byte for byte; `extract --again` of one file must print its lines; the stage of an incomplete
+file must have its records. And the records that were written are known: they must be those of the
+model if a tape is whole, and those of each file that is COMPLETE, unless the damage cannot be
+noticed, such as a wrong byte in a record. Of what was written in the form counted the records must
+come back by their lengths.
 
 Prints each wrong result with the seed of its tape (PROGRAM 1 SEED repeats it), and counts; exit
 status 1 if there is one. --plant replaces a function of the model by a wrong one, for which there
 must be wrong results: FAULT is segments, record, padding, ambiguous, spans, sections, descriptor,
-length or miscounted.
-With TMPDIR=/dev/shm it takes half the time.
+length, miscounted or readings. With TMPDIR=/dev/shm it takes half the time.
 """
 
 import argparse
@@ -32,12 +32,12 @@ from collections import Counter
 from copy import copy
 from pathlib import Path
 
-import normal_form
+import further_model
 import read_model
 import tape_model as model
 from common import Results
-from containers import simh_image
 from drawn_sets import SET, Tape
+from further_model import images_of
 from survey_model import Survey, one_by_one, path_of, printed
 
 FORMS = ["raw", "lines", "counted"]
@@ -92,10 +92,11 @@ class Trial(Results):
         for name, data in zip(self.names, tape.images):
             (self.folder / name).write_bytes(data)
         self.what = f"seed {seed} ({', '.join(tape.damage) or 'whole'})"
-        # A damaged image may be taken for an image of another format.
-        forms = [normal_form.normal_form(simh_image(data)) for data in tape.images]
-        self.found = Survey([data for data, *_ in forms])
-        self.uncounted = list(dict.fromkeys(key for *_, keys in forms for key in keys))
+        images = images_of(self.names, tape.images)
+        self.told["further readings"] += len(images) - len(self.names)
+        self.images = [each.name for each in images]
+        self.found = Survey([each.data for each in images])
+        self.uncounted = list(dict.fromkeys(sum((each.uncounted for each in images), [])))
         self.readers = {key: self.reader(*key) for key in self.found.files}
         self.check_model()
         self.records = {key: self.whole(key[1], each) for key, each in self.readers.items()}
@@ -167,7 +168,7 @@ class Trial(Results):
             elif reader:
                 lines = [f"{self.found.last_line(reader)} {path}.stage"]
                 left_out = self.found.left_out(reader)
-                lines += [f"SECTION DIFFERS {self.names[at]}" for at in left_out]
+                lines += [f"SECTION DIFFERS {self.images[at]}" for at in left_out]
                 if form != "lines":
                     self.check_stage(form, path, file, reader)
             lines += [f"UNCOUNTED {section}" for section in self.sections_not_counted(set_id, file)]
@@ -256,7 +257,9 @@ def plant(fault):
         "descriptor": ("described", lambda block, at:
                        described(block, at) and not block[at] & 0x80),
     }
-    if fault == "length":  # the length counts its own four bytes
+    if fault == "readings":  # nothing is read after a wrong word
+        further_model.further = lambda name, data: []
+    elif fault == "length":  # the length counts its own four bytes
         globals()["length_of"] = lambda record: (len(record) + 4).to_bytes(4, "big")
     elif fault == "miscounted":  # a copy with a wrong block count, or with labels, is read
         read_model.Volume.left_out = frozenset()

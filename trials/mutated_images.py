@@ -3,6 +3,7 @@
 import random
 
 import tape_model as model
+from drawn_sets import with_wrong_word
 from normal_form import EBCDIC
 
 FORMATS = "FDUVN"
@@ -177,4 +178,6 @@ def image_of(seed, has_trailers):
         pad, flag = rng.randbytes(1), (kind == "bad") << 31
         data += model.word(0) if kind == "mark" else model.encoded(block or b"?" * 80, pad, flag)
     data = bytes(data) + rng.choice([model.word(model.END), b""])
+    for _ in range(rng.choice([1, 1, 2, 3]) if rng.random() < .15 else 0):
+        data = with_wrong_word(rng, data)
     return mutate_bytes(rng, data) if rng.random() < .3 else data

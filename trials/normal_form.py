@@ -94,8 +94,8 @@ class Normal:
         self.place = "over"
 
     def left(self, place):
-        """Leaves the rest unchanged; but labels in EBCDIC or with padding are still looked for, from
-        `place` on."""
+        """Leaves the rest unchanged; but labels in EBCDIC or with padding are still looked for,
+        from `place` on."""
         self.place = "over" if self.code == CODES[0] else place
         self.file, self.is_filled, self.blocks = 9999, False, None
 
@@ -261,9 +261,10 @@ def is_complete(data, at, kind, end):
     return kind in ("mark", "gap") or (end <= len(data) and model.is_same_word(data, at, end))
 
 
-def normal_form(data):
+def normal_form(data, is_further=False):
     """An image in normal form, the rules that were applied, and the sections that are not counted.
-    All is kept from a fault on."""
+    All is kept from a fault on. A further reading of an image ends before the first HDR1 whose
+    numbers are filled in."""
     machine, made, at = Normal(), bytearray(), 0
     while machine.place != "over":
         kind, length, end = model.head_at(data, at)
@@ -273,7 +274,10 @@ def normal_form(data):
             break
         # of a block that is cut off only the length matters: it is no label
         block = data[at + 4:at + 4 + length].ljust(length) if kind == "block" else None
+        before = set(machine.rules)
         given = [(kind, block)] if kind == "gap" else machine.step((kind, block))
+        if is_further and "file" in machine.rules:
+            return bytes(made), before, machine.uncounted
         if given and not is_right:
             break
         if not given and end > len(data):

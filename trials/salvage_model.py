@@ -225,23 +225,28 @@ class Salvage:
 
     def is_one_file(self):
         """Whether its labels are those of one file: first labels with one identifier, in a section
-        with one date and generation; and second labels that can be read and are the same, or none,
-        and no unreadable item where one may be."""
-        seen, names, is_doubted = set(), set(), False
+        with one date and generation; and second labels that can be read and are the same, but a
+        trailer's may be unreadable or without lengths. If none can be read, nothing unreadable
+        follows a first label."""
+        seen, names, is_doubted, is_wrong = [], set(), False, False
         for item, after in sum((list(zip(items, items[1:] + [model.MARK]))
                                 for items in self.images), []):
             own = label_of(item, ("HDR1", *FIRST))
             if own and (own["set"], own["file"]) == (self.set, self.file):
                 names.add((own["name"], own["section"], own["day"], own["gen"]))
-                is_doubted |= after[0] == "bad"
-                if model.kind_of(block_of(after)) in ("HDR2", *SECOND):
+                kind = model.kind_of(block_of(after))
+                shape = shape_of(after, ("HDR2", *SECOND))
+                is_doubted |= after[0] == "bad" or kind in SECOND and not shape
+                is_wrong |= kind == "HDR2" and not shape
+                if shape:
                     size = model.number(after[1], 6, 10) or 0
-                    seen.add((shape_of(after, ("HDR2", *SECOND)), size))
-        is_one = len({name for name, *_ in names}) == 1
+                    has_lengths = kind == "HDR2" or size or shape[1]
+                    seen.append((shape[0], shape[2], (size, shape[1]) if has_lengths else None))
+        is_one = len({name for name, *_ in names}) == 1 and not is_wrong
         is_one &= len({section for _, section, *_ in names}) == len(names)
-        if not seen:
-            return is_one and not is_doubted
-        return is_one and len(seen) == 1 and None not in [shape for shape, _ in seen]
+        sizes = {lengths for *_, lengths in seen if lengths}
+        is_same = len({each[:2] for each in seen}) == 1 and len(sizes) < 2
+        return is_one and (is_same if seen else not is_doubted)
 
     def form(self, section):
         letter, length, offset = section.shape or self.known or ("", 0, 0)
