@@ -9,6 +9,7 @@ from resync import readings
 from tape_model import head_at
 
 MOST, SHORTEST = 999, 80
+FORMATS = {"e11": "read as an E11 image", "aws": "read as an AWS image"}
 KINDS = ("HDR1", "VOL1", "EOF1", "EOV1")
 LABELS = [kind.encode(code) for code in ("ascii", "cp037") for kind in KINDS]
 
@@ -20,11 +21,13 @@ class Image:
     def __init__(self, name, data, at=None, lost=None):
         self.is_further, self.origin, self.at, self.lost = at is not None, name, at, lost
         self.name = f"{name}@{at}" if self.is_further else name
-        self.data, self.rules, self.uncounted = normal_form(data, self.is_further)
+        self.format = None if self.is_further else FORMATS.get(kind_of(data))
+        simh = data if self.is_further else simh_image(data)
+        self.data, self.rules, self.uncounted = normal_form(simh, self.is_further)
 
     def notices(self):
         """The ends of the lines about it."""
-        lines = [RULES[rule] for rule in self.rules]
+        lines = [RULES[rule] for rule in self.rules] + [self.format] * bool(self.format)
         if self.is_further:
             without = f"without bytes {self.lost} to {self.at - 1}"
             lines.append(f"{self.origin} from byte {self.at} on, {without}")
@@ -56,6 +59,6 @@ def further(name, data):
 
 def images_of(names, images):
     """The images in normal form, and then what is read of them after wrong words."""
-    made = [Image(name, simh_image(data)) for name, data in zip(names, images)]
+    made = [Image(name, data) for name, data in zip(names, images)]
     more = sum((further(name, data) for name, data in zip(names, images)), [])
     return made + more[:MOST]

@@ -265,7 +265,7 @@ def normal_form(data, is_further=False):
     """An image in normal form, the rules that were applied, and the sections that are not counted.
     All is kept from a fault on. A further reading of an image ends before the first HDR1 whose
     numbers are filled in."""
-    machine, made, at = Normal(), bytearray(), 0
+    machine, made, at, named = Normal(), bytearray(), 0, set()
     while machine.place != "over":
         kind, length, end = model.head_at(data, at)
         is_right = kind in ITEMS and is_complete(data, at, kind, end)
@@ -274,14 +274,14 @@ def normal_form(data, is_further=False):
             break
         # of a block that is cut off only the length matters: it is no label
         block = data[at + 4:at + 4 + length].ljust(length) if kind == "block" else None
-        before = set(machine.rules)
         given = [(kind, block)] if kind == "gap" else machine.step((kind, block))
         if is_further and "file" in machine.rules:
-            return bytes(made), before, machine.uncounted
+            return bytes(made), named, machine.uncounted
         if given and not is_right:
             break
         if not given and end > len(data):
             return bytes(made) + b"\0", machine.rules, machine.uncounted
+        named = set(machine.rules) if given else named
         for each in given:
             made += data[at:end] if each == (kind, block) else model.encoded(each[1])
         at = end

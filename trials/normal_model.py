@@ -119,14 +119,19 @@ class Trial(Results):
         self.told["uncounted"] += len(want)
 
     def may_be_uncounted(self, survey, told):
-        """Takes from the program which sections of further readings are not counted: what follows a
-        fault of an image may already be noted when the image is read."""
-        begin = sum(not each.is_further for each in self.forms.values())
-        for each in sum((volume.sections for volume in survey.volumes[begin:]), []):
-            row = [printed(each["set"]).rstrip(), str(each["file"]), str(each["section"])]
-            key = each["set"], each["file"], each["section"]
-            if row in told and key not in self.uncounted:
-                self.uncounted.insert(told.index(row), key)
+        """Takes from the program which other sections of damaged images are not counted, and their
+        order: labels that follow a fault may already be read with the image. The image of such a
+        section is found by its set."""
+        sets = {}
+        for form, volume in zip(self.forms.values(), survey.volumes):
+            if form.is_further or volume.stop.startswith("FAULT"):
+                found = [volume.set, *(each["set"] for each in volume.sections)]
+                sets |= {printed(each).rstrip(): each for each in found}
+        for at, (set_id, *numbers) in enumerate(told):
+            if set_id in sets:
+                key = sets[set_id], *map(int, numbers)
+                self.uncounted = [each for each in self.uncounted if each != key]
+                self.uncounted.insert(at, key)
 
     def image_row(self, volume, is_in_conflict):
         """The columns of an image after its name, up to the owner."""

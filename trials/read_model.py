@@ -23,6 +23,7 @@ class Volume:
         self.identifier = self.owner = self.system = self.set = b""
         self.has_wrong_second = self.is_astray = False
         self.named = []  # each HDR1, and each trailer label without one
+        self.forms = []  # each HDR1 with an HDR2 that can be read, and what that says
         for self.at, (kind, block) in enumerate(self.items):
             place = getattr(self, self.place)(kind, block or b"")
             if place is None:
@@ -33,8 +34,8 @@ class Volume:
     @property
     def is_read(self):
         """Whether it is a volume up to its end, with nothing after it."""
-        is_ended = self.place == "ended" and not self.is_astray and not self.stop.startswith("FAULT")
-        return is_ended and not self.has_wrong_second
+        is_ended = self.place == "ended" and not self.is_astray
+        return is_ended and not self.stop.startswith("FAULT") and not self.has_wrong_second
 
     @property
     def is_whole(self):
@@ -111,7 +112,7 @@ class Volume:
             self.has_wrong_second |= isinstance(shape, int)
             self.open["shape"] = shape
             if isinstance(shape, tuple):
-                self.open["form"] = shape, model.number(block, 6, 10) or 0
+                self.forms.append((self.open, (shape, model.number(block, 6, 10) or 0)))
             return "headers"
         is_absent = kind == "mark" or model.is_further_header(block)
         return self.headers(kind, block) if is_absent else None

@@ -65,7 +65,8 @@ class Survey:
         self.volumes = [Volume(data) for data in images]
         self.sections, self.names = {}, {}
         self.open = ()  # the set, the image that `unpack` reads on, and the next item
-        self.found, self.heads, self.begin, self.of_set = (defaultdict(list) for _ in range(4))
+        self.found, self.heads, self.forms = (defaultdict(list) for _ in range(3))
+        self.begin, self.of_set = defaultdict(list), defaultdict(list)
         for at, volume in enumerate(self.volumes):
             self.add(at, volume)
         most = {}
@@ -86,6 +87,8 @@ class Survey:
                 self.sections[key] = each
         for each in volume.first_labels:
             self.begin[each["set"], each["file"], each["section"]].append(at)
+        for head, form in volume.forms:
+            self.forms[head["set"], head["file"]].append((head["section"], form))
         for each in volume.named:
             self.names.setdefault((each["set"], each["file"]), each["name"])
         for head, each in [*zip(volume.named, volume.named), *volume.closing]:
@@ -104,7 +107,8 @@ class Survey:
             key = each["set"], each["file"]
             shape = model.ABSENT if each["shape"] is None else each["shape"]
             is_good = each["state"] == "GOOD"
-            if (is_good or each["state"] == "BAD") and isinstance(shape, tuple) and not found.get(key):
+            is_read = isinstance(shape, tuple) and (is_good or each["state"] == "BAD")
+            if is_read and not found.get(key):
                 readable = [block for block in each["blocks"] if block is not None]
                 found[key] = model.padding_of(shape, readable, each["eof"] and is_good)
         return sorted([printed(set_id).rstrip(), str(file), padding]
@@ -138,8 +142,7 @@ class Survey:
         good = [each for each in self.found[set_id, file] if each["state"] == "GOOD"]
         days = {(each["section"], each["day"], each["gen"]) for each in heads}
         data = {(each["section"], tuple(each["blocks"]), each["eof"]) for each in good}
-        forms = {(each["section"], each["form"]) for each in self.found[set_id, file]
-                 if "form" in each}
+        forms = set(self.forms[set_id, file])
         counts = [Counter(section for section, *_ in each) for each in (days, data, forms)]
         is_other = len({each["name"] for each in heads}) > 1
         return is_other or any(count > 1 for each in counts for count in each.values())
@@ -170,7 +173,9 @@ class Survey:
         is in the format of its HDR2. An unsupported HDR2 counts only if no other one was read."""
         found = self.found[set_id, file]
         shapes = [each["shape"] for each in found]
-        is_known = any(each is None or isinstance(each, tuple) for each in shapes)
+        is_wrong = any(each and not isinstance(each, tuple) for each in shapes)
+        is_known = any(isinstance(each, tuple) for each in shapes) or (
+            None in shapes and not is_wrong)
         is_found = any(shapes) or not self.is_lost(set_id, file)
         return is_known and is_found and all(map(is_in_form, found))
 
