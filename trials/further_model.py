@@ -12,6 +12,7 @@ MOST, SHORTEST = 999, 80
 FORMATS = {"e11": "read as an E11 image", "aws": "read as an AWS image"}
 KINDS = ("HDR1", "VOL1", "EOF1", "EOV1")
 LABELS = [kind.encode(code) for code in ("ascii", "cp037") for kind in KINDS]
+HEADERS = [kind.encode(code) for code in ("ascii", "cp037") for kind in ("HDR", "UHL")]
 
 
 class Image:
@@ -49,9 +50,27 @@ def begin_of(data, start, end):
     return start if has_label else None
 
 
+def is_over(data, at, end):
+    """Whether a volume ends in a reading: two consecutive marks that do not follow header labels."""
+    before, marks = "", 0
+    while at < end:
+        kind, length, after = head_at(data, at)
+        if kind == "mark":
+            marks += before != ""
+        elif kind != "gap":
+            is_header = kind == "block" and length >= SHORTEST and data[at + 4:at + 7] in HEADERS
+            before, marks = "header" if is_header else "block", 0
+        if marks == (3 if before == "header" else 2):
+            return True
+        at = after
+    return False
+
+
 def further(name, data):
-    """The further readings of an image."""
+    """The further readings of an image, up to the end of the volume."""
     found = readings(data) if kind_of(data) == "simh" else []
+    over = [is_over(data, start, end) for start, end, *_ in found]
+    found = found[:over.index(True) + 1] if True in over else found
     starts = zip(found[1:], (end for _, end, *_ in found))
     begins = [(begin_of(data, start, end), lost) for (start, end, *_), lost in starts]
     return [Image(name, data[at:], at, lost) for at, lost in begins if at is not None]

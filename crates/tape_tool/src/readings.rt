@@ -1,6 +1,7 @@
 //! The readings of a damaged image: each is what can be read from a place up to the next wrong word.
 
 mod extended;
+mod last;
 mod names;
 
 use crate::fault::{FileFault, OUT_OF_MEMORY, ToolFault};
@@ -10,6 +11,7 @@ use crate::refusal::{is_file, open};
 use crate::screen::{Host, Progress};
 use crate::shown::Shown;
 use extended::is_extended;
+use last::Last;
 use names::{name_extended, own};
 pub use names::{
     has_others, image_of, is_extended_name, names_in, place_in, printed_name, printed_names,
@@ -39,6 +41,8 @@ pub struct Reading {
     pub fault: Option<ImageFault>,
     /// What labels it has.
     labels: Labels,
+    /// What its last items were.
+    last: Last,
 }
 
 /// The labels among the first items of a reading.
@@ -165,11 +169,16 @@ fn reading_from<R: Host>(rt: &R, path: &str, start: u64) -> Result<Reading, Tool
             coded: None,
             has_header: false,
         },
+        last: Last::Nothing,
     };
     for _ in 0..u64::MAX {
         match image.next() {
-            Ok(Some(Item::Block(block))) => reading.labels.take(block, reading.end),
-            Ok(Some(_)) => {}
+            Ok(Some(item)) => {
+                reading.last = reading.last.then(item);
+                if let Item::Block(block) = item {
+                    reading.labels.take(block, reading.end);
+                }
+            }
             Ok(None) => break,
             Err(fault) if fault.cause == ImageCause::Device => {
                 return Err(ToolFault::File(FileFault::ReadFailed));
@@ -245,8 +254,13 @@ fn add_further<R: Progress>(
     {
         return name_extended(all.as_mut_slice(), path);
     }
-    let mut from = 0;
+    let (mut from, mut last) = (0, Last::Nothing);
     for reading in &readings {
+        // What follows the end of the volume is usually an older recording.
+        if last == Last::End {
+            return Ok(());
+        }
+        last = reading.last;
         let end = from;
         from = reading.end;
         let Some(start) = reading.labels_at().filter(|_| reading.start > 0) else {
