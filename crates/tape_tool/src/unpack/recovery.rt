@@ -19,8 +19,8 @@ use std::fs;
 use std::io::Write;
 use tape_label::Field;
 use tape_run::{
-    BlockRun, FileKey, Locations, Mounted, OutSink, Session, SetFile, extract_located, is_passed, last_line,
-    position_of, runs_of, write_text,
+    BlockRun, FileKey, Locations, Mounted, OutSink, Session, SetFile, extract_located, is_passed,
+    last_line, position_of, runs_of, write_text,
 };
 use tape_set::Want;
 use tape_writer::system::found;
