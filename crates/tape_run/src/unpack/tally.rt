@@ -65,8 +65,8 @@ impl Tally {
             UnpackOutcome::Salvaged
             | UnpackOutcome::StageKept
             | UnpackOutcome::Differs
-            | UnpackOutcome::Uncounted
-            | UnpackOutcome::Staged => {}
+            | UnpackOutcome::Staged
+            | UnpackOutcome::Uncounted => {}
         }
     }
 }

@@ -179,24 +179,25 @@ pub(crate) fn write_set_in_ebcdic<R: Read, S: ImageStore + Drop>(
         let fault = SetFault::Write(WriteFault::BadShape);
         return Err(left(fault, tapes.into_out()));
     };
-    let mut writer = match SetWriter::new(alloc, set_id, volumes, capacity, tapes) {
-        Ok(writer) => writer,
+    let mut set = match SetWriter::new(alloc, set_id, volumes, capacity, tapes) {
+        Ok(set) => set,
         Err(refused) => {
             let fault = SetFault::Write(refused.fault);
             return Err(left(fault, refused.out.into_out()));
         }
     };
-    if !are_text_heads(files) {
+    let is_text = are_text_heads(files);
+    if !is_text {
         let fault = SetFault::Write(WriteFault::BadField);
-        return Err(left(fault, writer.into_out().into_out()));
+        return Err(left(fault, set.into_out().into_out()));
     }
-    if let Err(fault) = write_files(alloc, &mut writer, files, shape, cut) {
-        return Err(left(fault, writer.into_out().into_out()));
+    if let Err(fault) = write_files(alloc, &mut set, files, shape, cut) {
+        return Err(left(fault, set.into_out().into_out()));
     }
-    if let Err(fault) = writer.finish() {
-        return Err(left(SetFault::Write(fault), writer.into_out().into_out()));
+    if let Err(fault) = set.finish() {
+        return Err(left(SetFault::Write(fault), set.into_out().into_out()));
     }
-    let coded = writer.into_out();
+    let coded = set.into_out();
     let tapes = coded.into_out();
     let (images, _) = tapes.into_parts();
     Ok(WrittenSet {
