@@ -18,6 +18,12 @@ pub mod Growing
 pub mod Made
 mod RunSoFar
 pub mod CrashRuns
+pub mod PlainSets
+pub mod PlainShape
+pub mod PlainSteps
+pub mod ReadableSteps
+pub mod ReadableMounts
+pub mod ReadableRuns
 pub mod SectionsMet
 pub mod Shown
 pub mod ShownSections

@@ -18,6 +18,7 @@ pub mod Steps
 pub mod Runs
 pub mod Crash
 pub mod CrashRuns
+pub mod ReadableRuns
 -- Of private functions only.
 pub mod Made
 pub mod Puts

@@ -27,7 +27,7 @@ ghost use Rattle.tape_run.specs.ListExamples.{ListingIsWorked, OutcomesSay};
 ghost use Rattle.tape_run.specs.WholeReels.{WholeSetIsTold, GoodWasSeen};
 ghost use Rattle.tape_run.specs.UnpackLaws.{NamesDiffer, NamesStay, NamesFit};
 ghost use Rattle.tape_run.specs.QuotingLaws.{NamesShow, NamesTellApart, NamesKeep};
-ghost use Rattle.tape_run.specs.RecordText.{CountedKeepsRecords};
+ghost use Rattle.tape_run.specs.{RecordText.CountedKeepsRecords, ReadableRuns.WideRunsRead};
 ghost use Rattle.tape_run.specs.Translating.{TranslatesRecords, TranslatesInTurn};
 
 /// What is written in the counted form determines the records, their number and their boundaries.
@@ -71,6 +71,13 @@ pub fn stands_across_crashes()
 /// there, with the parts before that position.
 pub fn resumed_goes_on()
     ensures { ResumedGoesOn }
+{}
+
+/// A session that reads a file from its start in the wider reading is where the history leads, with
+/// exactly the parts before that position. This holds for each set that the wider reading recovers,
+/// so also for formats U and V.
+pub fn wide_runs_read()
+    ensures { WideRunsRead }
 {}
 
 /// The bytes that a reader returned of a mount before it failed are a mount.
