@@ -30,6 +30,7 @@ _tape() {
     salvage:--form) kind='lines raw counted blocks' ;;
     write:--format) kind='F D S' ;;
     write:--form) kind='lines raw' ;;
+    write:--labels) kind='ascii ebcdic' ;;
     esac
     if [ -z "$kind" ] && [[ $cur == -* ]]; then
         case $command in
@@ -44,7 +45,7 @@ _tape() {
         unpack) word='--files-from --null --form --text --set --file --list --salvage --join --renumber --now --manifest --verify' ;;
         salvage) word='--files-from --null --form --text --now --join --renumber --provenance' ;;
         stage) word='--form --damaged' ;;
-        write) word='--format --block --record --offset --pad-full --form --date --dry-run' ;;
+        write) word='--format --block --record --offset --pad-full --form --date --labels --dry-run' ;;
         *) word='' ;;
         esac
         COMPREPLY=($(compgen -W "$word --explain --no-explain --help" -- "$cur"))
@@ -58,8 +59,8 @@ _tape() {
     for ((at = start + 1; at < COMP_CWORD; at++)); do
         case ${COMP_WORDS[at]} in
         --block | --date | --file | --files-from | --form | --format | \
-            --join | --log | --offset | --provenance | --record | --set | \
-            --stage)
+            --join | --labels | --log | --offset | --provenance | --record | \
+            --set | --stage)
             at=$((at + 1))
             [ "${COMP_WORDS[at]}" = '=' ] && at=$((at + 1)) ;;
         -*) ;;

@@ -12,7 +12,7 @@ function __tape_at
             continue
         end
         switch $word
-            case --block --date --file --files-from --form --format --join --log --offset --provenance --record --set --stage
+            case --block --date --file --files-from --form --format --join --labels --log --offset --provenance --record --set --stage
                 set is_value true
             case '-*'
             case '*'
@@ -137,6 +137,7 @@ complete -c tape -n '__tape_in write' -l offset -x -d 'Bytes before a block'\''s
 complete -c tape -n '__tape_in write' -l pad-full -d 'D: fill every block to --block with padding'
 complete -c tape -n '__tape_in write' -l form -x -a 'lines raw' -d 'lines: one record per line; raw: F cuts the input into records, S takes it as one record'
 complete -c tape -n '__tape_in write' -l date -x -d 'Creation date in the labels, such as 1985-04-23 [default: none]'
+complete -c tape -n '__tape_in write' -l labels -x -a 'ascii ebcdic' -d 'Code of labels: ascii or ebcdic'
 complete -c tape -n '__tape_in write' -l dry-run -d 'Create nothing, only read the files and print the volumes'
 complete -c tape -n '__tape_at write 1' -a '(__fish_complete_directories (commandline -ct))'
 complete -c tape -n '__tape_at write 4 +' -F
