@@ -19,7 +19,7 @@ pub struct StagedRow {
     pub key: FileKey,
     /// The number of the first of them.
     pub first: u16,
-    /// The number of the last, or 9,999 if no image tells where the file ends.
+    /// The number of the last, or 9,999 if no image shows the file's end.
     pub last: u16,
 }
 

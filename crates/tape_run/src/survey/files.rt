@@ -35,8 +35,8 @@ pub struct FileNote {
     pub image: usize,
     /// The second label that was found first, if one was supported.
     pub form: Option<Head2>,
-    /// The character at position 39 of that label, which says in labels of IBM systems how records
-    /// are blocked; a space if there is none.
+    /// The character at position 39 of that label, in labels of IBM systems the block attribute; a
+    /// space if there is none.
     pub blocking: u8,
     /// Whether a section without a second header label was found.
     pub absent: bool,
