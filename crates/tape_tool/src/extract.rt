@@ -257,7 +257,7 @@ fn extract_planned<'n, 'a, R: Progress>(
     let end = read_planned(rt, task, plan, way, listed, site)?;
     if end == End::Done {
         let Task { set_id, file, .. } = *task;
-        note_staged(rt, plan.met.as_ref(), FileKey { set_id, file }, listed);
+        note_staged(rt, plan.met.as_ref(), &FileKey { set_id, file }, listed);
     }
     let end = report_uncounted(rt, task.set_id, task.file, end, &mut io::writer(rt));
     let (Some(met), Some(path)) = (&plan.met, order.provenance) else {

@@ -6,6 +6,7 @@ use crate::screen::Progress;
 use crate::unpack::Listed;
 use std::alloc::{AllocError, Global};
 use std::cell::{Cell, RefCell};
+use tape_label::Field;
 use tape_run::{FileKey, FoundFiles, SectionKey, SectionState};
 use tape_set::Want;
 
@@ -16,7 +17,8 @@ const LAST_SECTION: u16 = 9_999;
 /// no trailer label was found on an image. The run cannot know whether their blocks are counted.
 #[derive(Clone, Copy)]
 pub struct StagedRow {
-    pub key: FileKey,
+    set_id: Field<6>,
+    file: u16,
     /// The number of the first of them.
     pub first: u16,
     /// The number of the last, or 9,999 if no image shows the file's end.
@@ -40,8 +42,14 @@ impl StagedRows {
         }
     }
 
-    /// Adds the row.
-    fn add(&self, row: StagedRow) {
+    /// Adds the row of a file from section `first` to `last`.
+    fn add(&self, key: &FileKey, first: u16, last: u16) {
+        let row = StagedRow {
+            set_id: key.set_id,
+            file: key.file,
+            first,
+            last,
+        };
         let is_kept = match self.rows.try_borrow_mut() {
             Ok(mut rows) => rows.push(row).is_ok(),
             Err(_) => false,
@@ -61,7 +69,7 @@ impl StagedRows {
         match self.rows.try_borrow() {
             Ok(rows) if !self.is_short.get() => {
                 for row in rows.as_slice() {
-                    if row.key == key {
+                    if row.set_id == key.set_id && row.file == key.file {
                         found.push(*row)?;
                     }
                 }
@@ -83,14 +91,13 @@ pub fn staged_before(want: Option<Want>) -> u16 {
 
 /// Remembers which sections of a complete file came from its stage alone. `met` is what was found
 /// on the images, if they were surveyed.
-pub fn note_staged<R: Progress>(rt: &R, met: Option<&FoundFiles>, key: FileKey, listed: &Listed) {
+pub fn note_staged<R: Progress>(rt: &R, met: Option<&FoundFiles>, key: &FileKey, listed: &Listed) {
     let mut first = 1;
     for before in 0..listed.staged {
         let sect = before.saturating_add(1);
         if let Some(is_last) = closed(met, key, sect) {
             if first <= before {
-                let last = before;
-                rt.uncounted().staged.add(StagedRow { key, first, last });
+                rt.uncounted().staged.add(key, first, before);
             }
             if is_last {
                 return;
@@ -99,15 +106,18 @@ pub fn note_staged<R: Progress>(rt: &R, met: Option<&FoundFiles>, key: FileKey, 
         }
     }
     if first <= listed.staged {
-        let last = listed.staged;
-        rt.uncounted().staged.add(StagedRow { key, first, last });
+        rt.uncounted().staged.add(key, first, listed.staged);
     }
 }
 
 /// Returns whether the file ends with this section, if a trailer label of it was found.
-fn closed(met: Option<&FoundFiles>, key: FileKey, sect: u16) -> Option<bool> {
-    let FileKey { set_id, file } = key;
-    let entry = met?.sections.get(&SectionKey { set_id, file, sect })?;
+fn closed(met: Option<&FoundFiles>, key: &FileKey, sect: u16) -> Option<bool> {
+    let key = SectionKey {
+        set_id: key.set_id,
+        file: key.file,
+        sect,
+    };
+    let entry = met?.sections.get(&key)?;
     (entry.state != SectionState::Cut).then_some(entry.eof)
 }
 

@@ -181,7 +181,7 @@ impl<'n, R: Progress, P: Write> Run<'n, R, P> {
         let end = place.draft.ended(extract_end(answer));
         if end == End::Done {
             let Task { set_id, file, .. } = *task;
-            note_staged(rt, Some(self.met), FileKey { set_id, file }, listed);
+            note_staged(rt, Some(self.met), &FileKey { set_id, file }, listed);
         }
         self.note_passes(names.as_slice(), opener, listed)?;
         Ok(end)
